@@ -1,9 +1,11 @@
 #!/bin/sh
-# The server beside a small desk in C over SQLite's library, with the same file, statements and requests: the replies of both are the
-# same bytes, and how long each took, over 100 and 100,000 bookings and for a member with 10,000 of its own.
+# The server beside a small desk in C over SQLite's library, with the same file, texts of statements and requests: the replies of both are
+# the same bytes, and how long each took, over 100 and 100,000 bookings, for a member with 10,000 of its own and for one with none. The C
+# desk runs two statements more: a key's costs under any spend limit, and the facility of a repeat.
 #
-# Prints for a booking, its repeat, an account, a slot, a refused pass and a forged one the medians in microseconds and their ratio. One client
-# asks both by turns. Not part of the gate.
+# Prints for a booking, its repeat, an account, a slot, a refused pass and a forged one the medians in microseconds and their ratio, and
+# then the ratios that are asked for: a booking under a slack limit of a key with 10,000 bookings over one of a key with none, a repeat
+# over C's, a booking at 100,000 over C's. One client asks both by turns. Not part of the gate.
 #   tests/beside_c.sh [COUNT [ROUNDS [ROWS ..]]]      COUNT requests of each kind in a round, at most 600; without: 500 7 100 100000
 # groups: speed alone
 set -eu

@@ -3,7 +3,8 @@
 usage: beside.py CLUBDESK DESK CLIENT COUNT ROUNDS ROWS..      in a folder of its own
 
 Each of ROWS is a number of bookings that the file holds before, under 1,000 keys; a member `big` has 10,000 more
-in the last of them. Replies are compared byte for byte.
+in the last of them, and a member `new` has none. Each pass has a spend limit that no key reaches. Replies are
+compared byte for byte. At the end come the ratios that are asked for, each with the most that it may be.
 """
 import base64, hashlib, hmac, os, shutil, statistics, subprocess, sys
 
@@ -93,6 +94,8 @@ def make_file(clubdesk, path, rows, has_big):
         sql += [
             "INSERT INTO members VALUES ('big', 900000, 99, 0);",
             f"INSERT INTO keys VALUES ('big', 'big', x'{ROOT.hex()}', 0);",
+            "INSERT INTO members VALUES ('new', 900000, 99, 0);",
+            f"INSERT INTO keys VALUES ('new', 'new', x'{ROOT.hex()}', 0);",
             f"{own(BIG_ROWS)} {book(chr(39) + 'big' + chr(39), 'i + 1', 'court-2')}",
         ]
     sql += [
@@ -153,6 +156,17 @@ def show(title, found):
         print(f"{title:>28} {kind:8} {mine:8.1f} {other:8.1f} {mine / other:6.2f}", flush=True)
 
 
+def show_ratio(title, ratio, most):
+    print(f"{title:>60} {ratio:6.2f}  at most {most}", flush=True)
+
+
+def show_ratios(size, found, big, new):
+    """The ratios that are asked for, over the last file."""
+    show_ratio(f"booking under a slack limit, {BIG_ROWS} own over none", big["booking"][0] / new["booking"][0], 1.2)
+    show_ratio("repeat, clubdesk over C", found["repeat"][0] / found["repeat"][1], 1.0)
+    show_ratio(f"booking at {size}, clubdesk over C", found["booking"][0] / found["booking"][1], 1.35)
+
+
 def main():
     *programs, count, rounds = sys.argv[1:6]
     count, rounds, sizes = int(count), int(rounds), [int(it) for it in sys.argv[6:]]
@@ -161,10 +175,15 @@ def main():
         is_last = size == sizes[-1]
         make_file(programs[0], f"club{size}", size, is_last)
         keys = [f"k{n:03}" for n in range(KEYS_ASKED)]
-        show(str(size), measure(programs, f"club{size}", Asker(keys, 1000, 0), count, rounds))
+        found = measure(programs, f"club{size}", Asker(keys, 1000, 0), count, rounds)
+        show(str(size), found)
         if is_last:
             few = max(1, min(count, 98 // rounds))
-            show(f"{size}, {BIG_ROWS} of them own", measure(programs, f"club{size}", Asker(["big"], 20_000, 0), few, rounds))
+            big = measure(programs, f"club{size}", Asker(["big"], 20_000, 0), few, rounds)
+            show(f"{size}, {BIG_ROWS} of them own", big)
+            new = measure(programs, f"club{size}", Asker(["new"], 20_000, 0), few, rounds)
+            show(f"{size}, none of them own", new)
+            show_ratios(size, found, big, new)
 
 
 main()

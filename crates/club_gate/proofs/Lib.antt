@@ -10,3 +10,5 @@ pub mod FollowedRuns
 pub mod Reading
 pub mod LookTexts
 pub mod Spending
+pub mod KindScans
+pub mod ShortViews

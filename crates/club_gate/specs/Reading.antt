@@ -1,10 +1,12 @@
 -- What the desk reads of the club to answer a signed pass (ours).
-use Rattle.std.specs.Prelude.{◌≡◌, ℕ, true, map, Option, Some, None, option_map, option_and_then, if◌then◌else◌}
+use Rattle.std.specs.Prelude.{◌≡◌, ◌⊎◌, ℕ, IsTrue, true, map, Option, Some, None, is_some, option_map, option_and_then, if◌then◌else◌}
 use Rattle.pass_caveats.specs.declared.ask.Ask.{Ask}
 use Rattle.pass_caveats.specs.declared.fault.CaveatFault.{CaveatFault}
 use Rattle.pass_caveats.specs.computed.CaveatOf.{caveat_of, first_fault_of}
+use Rattle.pass_caveats.specs.Kinds.{at_kind}
 use Rattle.pass_caveats.specs.Spending.{after_spending}
 use Rattle.pass_forms.specs.Pass.{Plain}
+use Rattle.club_values.specs.declared.kind.Kind.{Kind}
 use Rattle.club_values.specs.declared.slot.Slot.{Slot}
 use Rattle.club_rows.specs.declared.key.Key.{Key}
 use Rattle.club_core.specs.declared.account.MemberAccount.{MemberAccount}
@@ -25,6 +27,17 @@ first_view club key request = record (bare_view key) {
   facility = (state_of club (request_slot request)).facility;
   booking = option_and_then (λ (number : ℕ). booking_under key.name number club.bookings) (request_number request);
 }
+
+-- no caveat of the pass depends on the kind of the slot's facility
+abbrev pub IsBlindPass : Plain → Type 0
+IsBlindPass pass =
+    (ask : Ask) (kind : Option Kind)
+    → first_fault_of (map caveat_of pass.caveats) (at_kind kind ask) ≡ first_fault_of (map caveat_of pass.caveats) ask
+
+-- the view is the whole one; or it lacks the facility where neither the pass nor the decision looks at it, since the booking is there
+abbrev pub Suffices : Plain → View → View → Type 0
+Suffices pass whole view =
+    (view ≡ whole) ⊎ (IsBlindPass pass × IsTrue (is_some whole.booking) × (view ≡ (let part : View = record whole { facility = None } in part)))
 
 -- with the state of a slot
 abbrev pub with_slot : Club → Slot → View → View
@@ -68,11 +81,13 @@ abbrev pub fault_read : Club → Key → Plain → Request → ℕ → Option Ca
 fault_read club key pass request moment =
     fault_after pass (spent_under key.name club.bookings) (ask_of (first_view club key request) request moment)
 
+-- the answer by a view, to which the rest is added if no caveat refuses
+abbrev pub answer_from : Club → View → Request → ℕ → Option CaveatFault → Verdict
+answer_from club view request moment None = answer_by_view (last_view club request moment view) true None request moment
+answer_from club view request moment (Some fault) = answer_by_view (Some view) true (Some fault) request moment
+
 abbrev pub answer_read : Club → Key → Request → ℕ → Option CaveatFault → Verdict
-answer_read club key request moment None =
-    answer_by_view (last_view club request moment (first_view club key request)) true None request moment
-answer_read club key request moment (Some fault) =
-    answer_by_view (Some (first_view club key request)) true (Some fault) request moment
+answer_read club key request moment fault = answer_from club (first_view club key request) request moment fault
 
 -- the verdict on a pass that is signed under the key of a row
 abbrev pub verdict_read : Club → Key → Plain → Request → ℕ → Verdict

@@ -10,7 +10,7 @@ ghost use Rattle.club_gate.specs.Reading.{IsOnRecord};
 ghost use Rattle.club_gate.specs.Verify.{OfItsPass};
 
 use crate::desk::Desk;
-use crate::walk::{fault_after, unspent_fault};
+use crate::walk::{fault_after, has_kind, unspent_fault};
 use club_core::{ClubStore, Request, SlotUse, StoreFault, View};
 use club_laws::spending::{accounts_show_what_is_used, spends_within_its_member};
 use club_rows::Key;
@@ -19,11 +19,18 @@ use pass_caveats::{Ask, CaveatFault, Unspent};
 use pass_forms::FieldSource;
 
 impl<S: ClubStore> Desk<S> {
-    /// Reads what caveats depend on, except what the key has spent: the facility, and the booking
-    /// that has the number that is asked for.
-    pub(crate) fn first_view(&mut self, key: &Key, request: &Request) -> Result<View, StoreFault>
+    /// Reads what caveats depend on, except what the key has spent: the booking that has the number
+    /// that is asked for, and the facility. If there is such a booking, the facility is read only
+    /// where a caveat looks at its kind. The source yields the fields of the pass.
+    pub(crate) fn first_view<'a, F: FieldSource<'a> + Drop>(
+        &mut self,
+        source: &F,
+        key: &Key,
+        request: &Request,
+    ) -> Result<View, StoreFault>
         ensures reads { ReadsStore S.disk_is_clean S.represents self.old self.new result
-            (λ club view. view ≡ read.first_view club key.now request.now) }
+            (λ club view. OfItsPass (F.left source.now)
+            (λ pass. read.Suffices pass (read.first_view club key.now request.now) view)) }
         ensures failed { S.disk_is_clean self.new → ReadsOrFails S.fails self.old self.new result }
     {
         let mut view = View::of_key(key);
@@ -31,7 +38,9 @@ impl<S: ClubStore> Desk<S> {
             Request::View { slot } => view.facility = self.store.facility(&slot.facility)?,
             Request::Book { slot, number, .. } | Request::Cancel { slot, number } => {
                 view.booking = self.store.booking(&key.name, *number)?;
-                view.facility = self.store.facility(&slot.facility)?;
+                if view.booking.is_none() || has_kind(source) {
+                    view.facility = self.store.facility(&slot.facility)?;
+                }
             }
             Request::Account => (),
         }
@@ -39,7 +48,8 @@ impl<S: ClubStore> Desk<S> {
     }
 
     /// The first caveat that refuses a request with this key. The source yields the fields of the
-    /// pass. What the key has spent is read only if what its member has used leaves the result open.
+    /// pass. What the key has spent is read only where what its member has used leaves the result
+    /// open.
     pub(crate) fn caveat_fault<'a, F: FieldSource<'a> + Drop>(
         &mut self,
         source: &F,

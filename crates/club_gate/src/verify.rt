@@ -171,7 +171,7 @@ impl<S: ClubStore> Desk<S> {
             verdict ≡ verdict_read club key.now pass request.now moment)) }
         ensures failed { S.disk_is_clean self.new → ReadsOrFails S.fails self.old self.new result }
     {
-        let view = self.first_view(key, request)?;
+        let view = self.first_view(source, key, request)?;
         let fault = self.caveat_fault(source, key, &view.ask(request, moment))?;
         if fault.is_some() {
             return Ok(answer(Some(&view), true, fault, request, moment));

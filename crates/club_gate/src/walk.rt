@@ -1,15 +1,16 @@
-//! Scans of the fields of a pass: one for its signature, and one for its caveats.
+//! Scans of the fields of a pass: for its signature, and for its caveats.
 
-ghost use Rattle.std.specs.Prelude.{◌≡◌, ℕ, fold, map};
+ghost use Rattle.std.specs.Prelude.{◌≡◌, ℕ, false, fold, map};
 ghost use Rattle.pass_caveats.specs.computed.CaveatOf.{caveat_of, first_fault_of};
 ghost use Rattle.pass_caveats.specs.Spending.{IsWithin};
 ghost use Rattle.pass_forms.specs.Pass.{Plain};
 ghost use Rattle.club_gate.specs.Signing.{signing_with, is_one_of};
 ghost use Rattle.club_gate.specs.Reading as read;
+ghost use Rattle.club_gate.specs.Reading.{IsBlindPass};
 ghost use Rattle.club_gate.specs.Verify.{OfItsPass, fields_behind};
 
 use crate::signing::Signing;
-use pass_caveats::{Ask, CaveatFault, Unspent, fault_at, unspent_at};
+use pass_caveats::{Ask, CaveatFault, Unspent, fault_at, looks_at_kind, unspent_at};
 use pass_forms::{Field, FieldSource};
 
 /// Whether a pass is signed: extended by all its caveats, one of these chains has its signature.
@@ -101,4 +102,26 @@ pub(crate) fn unspent_fault<'a, F: FieldSource<'a> + Drop>(source: &F, ask: &Ask
 {
     let mut source = source.again();
     first_unspent(&mut source, ask)
+}
+
+/// Whether a caveat of a pass looks at the kind of the slot's facility.
+fn finds_kind<'a, F: FieldSource<'a>>(source: &mut F) -> bool
+    ensures { OfItsPass (F.left source.old) (λ pass. result ≡ false → IsBlindPass pass) }
+{
+    while let Some(field) = source.next() {
+        if let Field::Caveat(caveat) = field {
+            if looks_at_kind(caveat) {
+                return true;
+            }
+        }
+    }
+    false
+}
+
+/// As `finds_kind`, but leaves the source unchanged.
+pub(crate) fn has_kind<'a, F: FieldSource<'a> + Drop>(source: &F) -> bool
+    ensures { OfItsPass (F.left source.now) (λ pass. result ≡ false → IsBlindPass pass) }
+{
+    let mut source = source.again();
+    finds_kind(&mut source)
 }

@@ -37,7 +37,15 @@ const RECORD: Calls = Calls {
     ..KEY_AND_FACILITY
 };
 
+/// A repeat reads its facility only for a caveat on the kind.
+const REPEAT: Calls = Calls { records: 1, ..KEY };
+
 const CANCELLATION: Calls = Calls {
+    others: 1,
+    ..REPEAT
+};
+
+const CANCELLATION_BY_KIND: Calls = Calls {
     others: 1,
     ..RECORD
 };
@@ -119,6 +127,10 @@ const VIEWS_THEN_SPENDS: Shown = Shown::Of("amy-1", ROOT, &["actions = view", "s
 
 const SPENDS_700: Shown = Shown::Of("amy-1", ROOT, &["spend <= 700"]);
 
+const COURTS: Shown = Shown::Of("amy-1", ROOT, &["hours = 18-20", "kind = court"]);
+
+const BOATS: Shown = Shown::Of("amy-1", ROOT, &["kind = boat"]);
+
 /// A facility that the club lacks.
 const NOWHERE: PlainSlot = PlainSlot {
     facility: "court-9",
@@ -159,10 +171,14 @@ static FIRST: [Row; 10] = [
 ];
 
 // Number 7 is booked, for 600 points.
-static AGAIN: [Row; 6] = [
-    (AMY, BOOK_7, BOOKED_7, RECORD),
+static AGAIN: [Row; 10] = [
+    (AMY, BOOK_7, BOOKED_7, REPEAT),
     // A repeat costs nothing, so a spend limit doesn't matter.
-    (SPENDS_700, BOOK_7, BOOKED_7, RECORD),
+    (SPENDS_700, BOOK_7, BOOKED_7, REPEAT),
+    (COURTS, BOOK_7, BOOKED_7, RECORD),
+    (BOATS, BOOK_7, DENIED_1, RECORD),
+    (COURTS, CANCEL_7, CANCELLED_7, CANCELLATION_BY_KIND),
+    (BOATS, CANCEL_7, DENIED_1, RECORD),
     (AMY, CANCEL_7, CANCELLED_7, CANCELLATION),
     (SPENDS_700, CANCEL_7, CANCELLED_7, CANCELLATION),
     (AMY, ACCOUNT, ACCOUNT_AFTER, SUMS),

@@ -6,17 +6,13 @@ use Rattle.club_core.specs.Basis.{account_named}
 use Rattle.club_core.specs.Club.{Club, IsSound, bookings_of}
 use Rattle.club_core.specs.Sums.{cost_of, spent_under}
 
--- what the bookings of all keys of a member have cost
-abbrev pub used_by : List ℕ → Club → ℕ
-used_by member club = sum_by cost_of (bookings_of member club)
-
--- no key has spent more than its member has used
+-- no key has spent more than its member has used: what the bookings of all its keys have cost
 abbrev pub SpendsWithinItsMember : Type 0
 SpendsWithinItsMember =
-    (club : Club) (key : Key) → Contains club.keys key → spent_under key.name club.bookings ≤ used_by key.member club
+    (club : Club) (key : Key) → Contains club.keys key → spent_under key.name club.bookings ≤ sum_by cost_of (bookings_of key.member club)
 
 -- in a sound club, an account's credit less its balance is what the member has used
 abbrev pub AccountsShowWhatIsUsed : Type 0
 AccountsShowWhatIsUsed =
     (club : Club) (name : List ℕ) (account : MemberAccount) → IsSound club → account_named name club ≡ Some account
-    → account.member.credited - account.balance ≡ used_by name club
+    → account.member.credited - account.balance ≡ sum_by cost_of (bookings_of name club)

@@ -1,0 +1,7 @@
+use Rattle.club_gate.proofs.KindScans.{blind_at_last}
+use Rattle.club_gate.proofs.walk.finds_kind.Goals as goal
+
+pub returns : goal.returns
+returns g c = λ pass e short _.
+    blind_at_last (g.F.FieldSource.left c.args.source.now) (g.F.FieldSource.left c.loop-field.source) c.in_default.ensures.none.0 c.loop-field.invariant
+    pass e short

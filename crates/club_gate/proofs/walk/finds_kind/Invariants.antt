@@ -1,0 +1,10 @@
+-- If the fields from here on are blind to kinds, all are.
+use Rattle.std.proofs.Common.{length}
+use Rattle.club_gate.proofs.KindScans.{AreBlind}
+use Rattle.club_gate.proofs.walk.finds_kind.Given as goal
+
+abbrev pub invariant-loop-field : goal.invariant-loop-field
+invariant-loop-field g l = AreBlind (g.F.FieldSource.left l.source) → AreBlind (g.F.FieldSource.left l.initial.source)
+
+abbrev pub decreases-loop-field : goal.decreases-loop-field
+decreases-loop-field g l = length (g.F.FieldSource.left l.source)
