@@ -4,3 +4,4 @@ pub mod RootTexts
 pub mod ServerLemmas
 pub mod OrderLemmas
 pub mod OfficeDeskLemmas
+pub mod MachineLemmas

@@ -1,5 +1,5 @@
 -- What an order does at the desk of a server, by its parts.
-use Rattle.std.proofs.Common.{◌≡◌, ℕ, List, Option, Some, None, MatchOption, Result, Ok, Err, subst}
+use Rattle.std.proofs.Common.{◌≡◌, List, Option, Some, None, MatchOption, Result, Ok, subst}
 use Rattle.std.specs.Prelude.{String}
 use Rattle.clap.specs.Words.{Text}
 use Rattle.club_core.specs.Club.{Club}

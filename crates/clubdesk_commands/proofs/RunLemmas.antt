@@ -1,5 +1,5 @@
 -- How a run ends, and when it writes nothing.
-use Rattle.std.proofs.Common.{◌≡◌, ◌⊎◌, List, [], ◌∷◌, false, Option, Some, None, Result, Ok, Err, inl, inr, refl, subst, ℕ, Bool, arith, codes}
+use Rattle.std.proofs.Common.{◌≡◌, ◌⊎◌, List, [], ◌∷◌, false, Option, Some, None, Result, Ok, Err, inl, inr, refl, subst, ℕ, arith}
 use Rattle.std.proofs.lemmas.Bool.Decides.{nat_tests}
 use Rattle.std.specs.Prelude.{IsSome, IfErr}
 use Rattle.clap.specs.Words.{IsAmong, Kinds, Text}
@@ -152,7 +152,7 @@ of_read answer (Ok text) is = rw is tt
 of_read answer (Err fault) is = rw is (desk_faults fault)
 
 module _ {S : Type 0} (Clean : S → Type 0) (Represents : S → Club → List Club → Type 0) (old new : S) (answer : Result (List ℕ) Fault) where
-  of_order : (order : Command) (IsText : List ℕ → Type 0) → IsAnswered Represents (Clean new) old new order IsText answer → IfErr answer IsOfTask
+  of_order : (order : Command) (IsText : List ℕ → Type 0) → IsAnswered Represents Clean old new order IsText answer → IfErr answer IsOfTask
   of_order order IsText (office.out_of_memory memory) = rw memory.0 tt
   of_order order IsText (office.order_given text made h) = of_reply text answer h.reply h.answers
 
@@ -160,7 +160,7 @@ module _ {S : Type 0} (Clean : S → Type 0) (Represents : S → Club → List C
   of_task (Order given) h = of_order given _ h
   of_task (AddKey name member root form) h = of_order _ _ h
   of_task (RotateKey name root until form) h = of_order _ _ h
-  of_task (Sheet day) h = of_read answer h.1.read h.1.gives
+  of_task (Sheet day) h = of_read answer h.2.read h.2.gives
   of_task (Serve service) h = absurd h
   of_task (AddKeyByInput name member form) h = absurd h
   of_task (RotateKeyByInput name until form) h = absurd h
@@ -197,7 +197,7 @@ module _ {D S V : Type 0} (Opens : Opening D S) (Reaches : Reaching D S V) (Clos
     performs_well (spec.task_done answer store left between reaches does closes prints nothing) =
         prints_well written answer result (of_task Clean Represents store left answer job.task does) prints
     performs_well (spec.handed_over visit answer reaches of_it prints nothing) = prints_well written answer result (of_server_too answer of_it) prints
-    performs_well (spec.server_done service store left between is opens serves announces closes) = of_server service.port written result announces
+    performs_well (spec.server_done service store left between is opens serves follows announces closes) = of_server service.port written result announces
     performs_well (spec.no_door service store between is opens closes storage silent nothing) =
         rw storage (record { of_task = tt; silent = λ s. silent })
 
@@ -211,5 +211,5 @@ module _ {D S V : Type 0} (Opens : Opening D S) (Reaches : Reaching D S V) (Clos
     notes_nothing none noted (spec.task_done answer store left between reaches does closes prints nothing) =
         spec.task_done answer store left between reaches does closes prints noted
     notes_nothing none noted (spec.handed_over visit answer reaches of_it prints nothing) = spec.handed_over visit answer reaches of_it prints noted
-    notes_nothing none noted (spec.server_done service store left between is opens serves announces closes) = absurd (none service is)
+    notes_nothing none noted (spec.server_done service store left between is opens serves follows announces closes) = absurd (none service is)
     notes_nothing none noted (spec.no_door service store between is opens closes storage silent nothing) = absurd (none service is)

@@ -1,5 +1,5 @@
 -- What a run does, over databases, stores and a log whose traits say what their calls may do (ours).
-use Rattle.std.specs.Prelude.{◌≡◌, ℕ, List, Option, None, Result, IfErr, false}
+use Rattle.std.specs.Prelude.{◌≡◌, List, Option, None, Result, IfErr, false}
 use Rattle.club_core.specs.declared.store.ClubStore.{Ghosts as StoreWords}
 use Rattle.desk_server.specs.Served.{AreNoted, Turn}
 use Rattle.desk_server.specs.declared.databases.Databases.{Ghosts as DatabasesWords}

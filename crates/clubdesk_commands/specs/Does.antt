@@ -12,13 +12,13 @@ use Rattle.clubdesk_commands.specs.Office.{GivesText, IsAnswered, IsPassLine, Is
 
 -- What a task of the office answers, and how it changes a store, by the store's trait.
 abbrev pub Does : {S : Type 0} → (S → Type 0) → (S → Club → List Club → Type 0) → Task → Result (List ℕ) Fault → S → S → Type 0
-Does Clean Represents (Order given) answer old new = IsAnswered Represents (Clean new) old new given (λ line. line ≡ codes "done\n") answer
+Does Clean Represents (Order given) answer old new = IsAnswered Represents Clean old new given (λ line. line ≡ codes "done\n") answer
 Does Clean Represents (AddKey name member root form) answer old new =
-    IsAnswered Represents (Clean new) old new (order.AddKey name member root) (IsPassLine (pass_text name root form)) answer
+    IsAnswered Represents Clean old new (order.AddKey name member root) (IsPassLine (pass_text name root form)) answer
 Does Clean Represents (RotateKey name root until form) answer old new =
-    IsAnswered Represents (Clean new) old new (order.RotateKey name root until) (IsPassLine (pass_text name root form)) answer
+    IsAnswered Represents Clean old new (order.RotateKey name root until) (IsPassLine (pass_text name root form)) answer
 Does Clean Represents (Sheet day) answer old new =
-    (Clean new → KeepsClub Represents old new) × IsSheetRead Represents (Clean new) old day (GivesText answer)
+    (Clean new → Clean old) × (Clean new → KeepsClub Represents old new) × IsSheetRead Represents (Clean new) old day (GivesText answer)
 Does Clean Represents (Serve service) answer old new = ⊥
 Does Clean Represents (AddKeyByInput name member form) answer old new = ⊥
 Does Clean Represents (RotateKeyByInput name until form) answer old new = ⊥

@@ -4,6 +4,7 @@ pub mod Looks
 pub mod Does
 pub mod Order
 pub mod OfficeDesk
+pub mod Machine
 pub mod Input
 pub mod Run
 pub mod ByTraits

@@ -33,6 +33,7 @@ ShowsSlot slot club shown = (key : Key) → GivesLook (slot_look club slot key) 
 -- The desk was asked for a look at the club, which is unchanged, and what it returned was given.
 pub record Looks {S : Type 0} (Clean : S → Type 0) (Represents : S → Club → List Club → Type 0) (old new : S)
     (Shows : Club → Result (List ℕ) DeskFault → Type 0) (Gives : Result (List ℕ) DeskFault → Type 0) : Type 0 where
+  pub was_clean : Clean new → Clean old
   pub kept : Clean new → KeepsClub Represents old new
   pub shown : Result (List ℕ) DeskFault
   pub is : Clean new → (club : Club) (others : List Club) → Represents old club others → Shows club shown

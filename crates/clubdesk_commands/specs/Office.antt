@@ -30,10 +30,11 @@ GivesReply text answer (replies.Refused fault) = answer ≡ Err (fault_of_desk f
 GivesReply text answer reply = answer ≡ Ok text
 
 -- The desk got an order, and its reply was answered.
-pub record IsOrdered {S : Type 0} (Represents : S → Club → List Club → Type 0) (Clean : Type 0) (old new : S) (order : Command) (Answered : OfficeReply
+pub record IsOrdered {S : Type 0} (Represents : S → Club → List Club → Type 0) (Clean : S → Type 0) (old new : S) (order : Command) (Answered : OfficeReply
     → Type 0) : Type 0 where
   pub reply : OfficeReply
-  pub steps : Clean → Steps Represents old new (machine.Ordered order) (ToOffice reply)
+  pub was_clean : Clean new → Clean old
+  pub steps : Clean new → Steps Represents old new (machine.Ordered order) (ToOffice reply)
   pub answers : Answered reply
 
 -- the text of a key's pass under a root, in a form
@@ -52,7 +53,7 @@ pub data IsOrderedOnce (IsText : List ℕ → Type 0) (OutOfMemory : Type 0) (Or
   order_given : (text : List ℕ) → IsText text → Ordered text → IsOrderedOnce IsText OutOfMemory Ordered
 
 -- an order whose answer is such a text; out of memory leaves the desk unchanged
-abbrev pub IsAnswered : {S : Type 0} → (S → Club → List Club → Type 0) → Type 0 → S → S → Command → (List ℕ → Type 0) → Result (List ℕ) Fault → Type 0
+abbrev pub IsAnswered : {S : Type 0} → (S → Club → List Club → Type 0) → (S → Type 0) → S → S → Command → (List ℕ → Type 0) → Result (List ℕ) Fault → Type 0
 IsAnswered Represents Clean old new order IsText answer =
     IsOrderedOnce IsText ((answer ≡ Err Memory) × (new ≡ old)) (λ text. IsOrdered Represents Clean old new order (GivesReply text answer))
 

@@ -1,5 +1,5 @@
 -- What a run of the program does (ours).
-use Rattle.std.specs.Prelude.{◌≡◌, ◌⊎◌, ℕ, ◌≤◌, List, [], ◌∷◌, ◌++◌, length, Option, Some, None, Result, Ok, Err, IsSome, IfErr}
+use Rattle.std.specs.Prelude.{◌≡◌, ◌⊎◌, ℕ, ◌≤◌, List, [], ◌∷◌, ◌++◌, Option, Some, None, Result, Ok, Err, IsSome, IfErr}
 use Rattle.std.specs.Prelude.{Bool, true, false, codes, decimal}
 use Rattle.std.specs.Io.KnownBytes.{Appends}
 use Rattle.clap.specs.Words.{Text}
@@ -16,6 +16,7 @@ use Rattle.desk_server.specs.Databases.{Closing, Opening, Reaching}
 use Rattle.desk_server.specs.declared.databases.Reached.TheVariants.{Opened, Served}
 use Rattle.clubdesk_arguments.specs.JobModel.{JobModel}
 use Rattle.clubdesk_commands.specs.Does.{Does}
+use Rattle.clubdesk_commands.specs.Machine.{machine_answers, machine_orders}
 use Rattle.clubdesk_commands.specs.OfficeDesk.{Orders}
 use Rattle.clubdesk_commands.specs.Input.{IsWholeInput, TakesRoot, asks_root, awaits_root}
 use Rattle.clubdesk_commands.specs.Looks.{IsMomentOf}
@@ -109,6 +110,14 @@ IsOfServer NoAnswer = Unit {0}
 IsOfServer (Answered status line) = Unit {0}
 IsOfServer fault = ⊥
 
+module _ {Store : Type 0} (Clean : Store → Type 0) (Represents : Store → Club → List Club → Type 0) where
+  -- While the disk returned what was written, the server is also one over the club itself, whose machine makes each step: each reply and each
+  -- answer is the machine's, what failed changed nothing, and the store is left with the club that the machine leaves.
+  abbrev pub FollowsMachine : Service → Store → Store → (List Turn → Type 0) → Result Unit Fault → Type 0
+  FollowsMachine service store left Noted result =
+      Clean left → (club : Club) (others : List Club) → Represents store club others
+      → (last : Club) × (still : List Club) × Represents left last still × RunsServer machine_answers machine_orders service club last Noted result
+
 module _ {Databases Store Visit : Type 0} (Opens : Opening Databases Store) (Reaches : Reaching Databases Store Visit) (Closes : Closing Databases Store)
     (Clean : Store → Type 0) (Represents : Store → Club → List Club → Type 0) (Fails : Option Change → Store → StoreFault → Store → Type 0) where
   -- A run with a task. A server opened the database of the task's name, served clients and carried out orders at the one desk over that store,
@@ -127,8 +136,9 @@ module _ {Databases Store Visit : Type 0} (Opens : Opening Databases Store) (Rea
     handed_over : (visit : Visit) (answer : Result (List ℕ) Fault) → Reaches old job.file (Ok (Served visit)) new → IfErr answer IsOfServer
         → Prints answer written result → Noted [] → Performs job old new written Noted result
     server_done : (service : Service) (store left : Store) (between : Databases) → job.task ≡ Serve service → Opens old job.file (Ok store) between
-        → RunsServer (AnswersBy Clean Represents Fails) (Orders Clean Represents) service store left Noted result → Announces service.port written result
-        → Closes between left new → Performs job old new written Noted result
+        → RunsServer (AnswersBy Clean Represents Fails) (Orders Clean Represents) service store left Noted result
+        → FollowsMachine Clean Represents service store left Noted result → Announces service.port written result → Closes between left new
+        → Performs job old new written Noted result
     no_door : (service : Service) (store : Store) (between : Databases) → job.task ≡ Serve service → Opens old job.file (Ok store) between
         → Closes between store new → result ≡ Err Storage → written.no_change → Noted [] → Performs job old new written Noted result
 

@@ -31,7 +31,7 @@ pub fn give_order<S: ClubStore>(
     desk: &mut Desk<S>,
     order: &Command,
 ) -> Result<String, Fault>
-    ensures { spec.IsAnswered S.represents (S.disk_is_clean desk.new) desk.old desk.new order.now
+    ensures { spec.IsAnswered S.represents S.disk_is_clean desk.old desk.new order.now
         (λ line. line ≡ codes "done\n") (text_of result) }
 {
     match done_line(alloc) {
@@ -54,7 +54,7 @@ pub fn order_pass<S: ClubStore>(
     form: Form,
     order: &Command,
 ) -> Result<String, Fault>
-    ensures { spec.IsAnswered S.represents (S.disk_is_clean desk.new) desk.old desk.new order.now
+    ensures { spec.IsAnswered S.represents S.disk_is_clean desk.old desk.new order.now
         (spec.IsPassLine (spec.pass_text name.now root.now form)) (text_of result) }
 {
     match pass_line(alloc, name, root, form) {
@@ -69,6 +69,7 @@ pub fn order_pass<S: ClubStore>(
 ///
 /// `Memory` and `Storage` if the desk returns them. The club is unchanged.
 pub fn show_sheet<S: ClubStore>(desk: &mut Desk<S>, day: Day) -> Result<String, Fault>
+    ensures was_clean { S.disk_is_clean desk.new → S.disk_is_clean desk.old }
     ensures kept { S.disk_is_clean desk.new → KeepsClub S.represents desk.old desk.new }
     ensures returned { spec.IsSheetRead S.represents (S.disk_is_clean desk.new) desk.old day
         (spec.GivesText (text_of result)) }
@@ -104,7 +105,7 @@ fn carry_out<S: ClubStore>(
     order: &Command,
     text: String,
 ) -> Result<String, Fault>
-    ensures { spec.IsOrdered S.represents (S.disk_is_clean desk.new) desk.old desk.new order.now
+    ensures { spec.IsOrdered S.represents S.disk_is_clean desk.old desk.new order.now
         (spec.GivesReply (string_bytes text) (text_of result)) }
 {
     match desk.office(order) {

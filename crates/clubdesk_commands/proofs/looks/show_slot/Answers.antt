@@ -4,6 +4,7 @@ use Rattle.clubdesk_commands.proofs.looks.show_slot.Goals as goal
 
 pub returns-in-Ok : goal.returns-in-Ok
 returns-in-Ok g c = record {
+  was_clean = c.in-Ok.ensures.was_clean;
   kept = c.in-Ok.ensures.kept;
   shown = Ok (string_bytes c.in-Ok.text);
   is = c.in-Ok.ensures.shown;
@@ -12,6 +13,7 @@ returns-in-Ok g c = record {
 
 pub returns-in-Err : goal.returns-in-Err
 returns-in-Err g c = record {
+  was_clean = c.in-Err.ensures.was_clean;
   kept = c.in-Err.ensures.kept;
   shown = Err c.in-Err.fault;
   is = c.in-Err.ensures.shown;

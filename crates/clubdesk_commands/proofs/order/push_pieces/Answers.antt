@@ -1,4 +1,4 @@
-use Rattle.std.proofs.Common.{◌≡◌, ◌<◌, ◌∙◌, ◌++◌, List, ℕ, length, map, take, ap, append_assoc, sym, arith}
+use Rattle.std.proofs.Common.{◌<◌, length, map, take, append_assoc, arith}
 use Rattle.clubdesk_commands.specs.Order.{piece, pieces}
 use Rattle.clubdesk_commands.proofs.OrderLemmas.{pieces_more}
 use Rattle.clubdesk_commands.proofs.order.push_pieces.Goals as goal

@@ -1,6 +1,7 @@
 use Rattle.std.proofs.Common.{Err, ap, refl}
 use Rattle.desk_server.specs.Served as served
 use Rattle.clubdesk_commands.specs.Run as spec
+use Rattle.clubdesk_commands.proofs.MachineLemmas.{follows_machine}
 use Rattle.clubdesk_commands.proofs.server.serve_file.Goals as goal
 
 pub returns-in-Err-clause-done : goal.returns-in-Err-clause-done
@@ -12,5 +13,7 @@ returns-in_default-clause-done g c =
 
 pub returns-clause-done : goal.returns-clause-done
 returns-clause-done g c =
+    let served = rw c.new-desk.ensures at c.serve-outcome.ensures.served in
     spec.server_done c.args.service c.in-Ok.store c.serve-outcome.new.desk c.open.new.self refl c.in-Ok.ensures
-    (rw c.new-desk.ensures at c.serve-outcome.ensures.served) c.serve-outcome.ensures.announced (rw c.into_store.ensures at c.close-2.ensures)
+    served (follows_machine _ _ _ c.args.service _ _ _ c.serve-outcome.result served) c.serve-outcome.ensures.announced
+    (rw c.into_store.ensures at c.close-2.ensures)

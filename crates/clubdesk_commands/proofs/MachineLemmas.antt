@@ -1,0 +1,288 @@
+-- What a server does to its store, the machine does to the club that this represents.
+use Rattle.std.proofs.Common.{◌≡◌, ◌⊎◌, ℕ, List, ◌∷◌, Option, Some, None, Result, Ok, Err, inl, inr, refl}
+use Rattle.clap.specs.Words.{Text}
+use Rattle.club_core.specs.Club.{Club}
+use Rattle.club_core.specs.Run.{Event, step}
+use Rattle.club_core.specs.declared.change.Change.{Change}
+use Rattle.club_core.specs.declared.command.Command.{Command}
+use Rattle.club_core.specs.declared.reply.Reply.{Reply}
+use Rattle.club_core.specs.declared.store.StoreFault.{StoreFault}
+use Rattle.club_gate.specs.Desk.{IsAnsweredBy, IsRefusedBy, Steps}
+use Rattle.club_gate.specs.Response.{desk_presentation}
+use Rattle.club_gate.specs.declared.event.OfficeReply.{OfficeReply}
+use Rattle.club_gate.specs.declared.fault.Fault.{Fault as DeskFault}
+use Rattle.club_http.specs.Desk.{AnswersBy}
+use Rattle.club_http.specs.Replied.{IsReplied}
+use Rattle.club_http.specs.Replied as replied
+use Rattle.club_http.specs.declared.fault.AnswerFault.{AnswerFault}
+use Rattle.club_http.specs.declared.fault.AnswerFault.TheVariants.{Read, Write}
+use Rattle.club_laws.specs.Failed.{IsStep, Response}
+use Rattle.clubdesk_arguments.specs.declared.fault.Fault.{Fault}
+use Rattle.clubdesk_arguments.specs.declared.fault.Fault.TheVariants.{Refused, Words, BadValue, Memory, Storage, ClockOutOfRange, InputOutput}
+use Rattle.clubdesk_arguments.specs.declared.fault.Fault.TheVariants.{NoAnswer, Answered}
+use Rattle.clubdesk_arguments.specs.declared.task.Service.{Service}
+use Rattle.clubdesk_arguments.specs.declared.task.Task.{Task}
+use Rattle.clubdesk_arguments.specs.declared.task.Task.TheVariants.{Order, AddKey, AddKeyByInput, RotateKey, RotateKeyByInput}
+use Rattle.clubdesk_arguments.specs.declared.task.Task.TheVariants.{Sheet, Serve, ShowAccount, ShowSlot}
+use Rattle.clubdesk_arguments.specs.declared.words.Asked.{Asked}
+use Rattle.clubdesk_commands.specs.Does.{Does}
+use Rattle.clubdesk_commands.specs.Looks.{Looks}
+use Rattle.clubdesk_commands.specs.Looks as looks
+use Rattle.clubdesk_commands.specs.Machine.{Always, IsItself, machine_answers, machine_orders}
+use Rattle.clubdesk_commands.specs.Office.{IsAnswered}
+use Rattle.clubdesk_commands.specs.Office as office
+use Rattle.clubdesk_commands.specs.OfficeDesk.{DoesAsked, DoesWords, Orders}
+use Rattle.clubdesk_commands.specs.OfficeDesk as spec
+use Rattle.clubdesk_commands.specs.Run.{FollowsMachine, RunsServer, over_socket, showing}
+use Rattle.desk_server.specs.Served.{AreOrdered, AreServed, IsAttended, IsCarriedOut, IsExchanged, ServesOne, Turn}
+use Rattle.desk_server.specs.Served as served
+use Rattle.desk_server.specs.declared.log.Fate.{Fate}
+use Rattle.desk_server.specs.declared.log.Fate.TheVariants.{Absent, Overrun, Unanswered, Exchanged, Ordered}
+use Rattle.desk_server.specs.declared.office.Answer.{Answer}
+use Rattle.desk_server.specs.declared.office.Carried.{Carried}
+use Rattle.club_clock.specs.Moments.{GivesMoment}
+
+-- a step of the machine, as an event that a club answers in place of a store
+machine_steps : (club next : Club) (event : Event) (response : Response OfficeReply) → IsStep desk_presentation club event response next
+    → Steps IsItself club next event response
+machine_steps club next event response (inl answered) now others same =
+    rw (← same) (inl (record { success = answered.success; reply = answered.reply; represents = answered.steps_club }))
+machine_steps club next event response (inr failed) now others same =
+    rw (← same) (inr (record { failure = failed.failure; represents = inl failed.kept }))
+
+module _ {S : Type 0} (Clean : S → Type 0) (Represents : S → Club → List Club → Type 0) where
+  -- Of whichever club the store represented: it now represents one that is as `Gives` says.
+  pub record Simulates (old new : S) (Gives : Club → Club → Type 0) : Type 0 where
+    pub was_clean : Clean new → Clean old
+    pub follows : Clean new → (club : Club) (others : List Club) → Represents old club others
+        → (next : Club) × (still : List Club) × Represents new next still × Gives club next
+
+  same : (old new : S) (Gives : Club → Club → Type 0) → new ≡ old → ((club : Club) → Gives club club) → Simulates old new Gives
+  same old new Gives is gives = record {
+    was_clean = λ clean. rw (← is) clean;
+    follows = λ clean club others represents. (club, others, rw is represents, gives club);
+  }
+
+  -- the same, and what follows of it
+  so : (old new : S) (Gives Wanted : Club → Club → Type 0) → Simulates old new Gives → ((club next : Club) → Gives club next → Wanted club next)
+      → Simulates old new Wanted
+  so old new Gives Wanted simulates wants = record {
+    was_clean = simulates.was_clean;
+    follows = λ clean club others represents.
+        let next = simulates.follows clean club others represents in
+        (next.0, next.1, next.2, wants club next.0 next.3);
+  }
+
+  -- one after the other
+  after : (old mid new : S) (First Second Wanted : Club → Club → Type 0) → Simulates old mid First → Simulates mid new Second
+      → ((club now next : Club) → First club now → Second now next → Wanted club next) → Simulates old new Wanted
+  after old mid new First Second Wanted first second wants = record {
+    was_clean = λ clean. first.was_clean (second.was_clean clean);
+    follows = λ clean club others represents.
+        let now = first.follows (second.was_clean clean) club others represents in
+        let next = second.follows clean now.0 now.1 now.2 in
+        (next.0, next.1, next.2, wants club now.0 next.0 now.3 next.3);
+  }
+
+  -- ---- an event
+
+  one_step : (new : S) (club : Club) (others : List Club) (event : Event) (response : Response OfficeReply)
+      → IsAnsweredBy Represents new club others event response ⊎ IsRefusedBy Represents new club others event response
+      → (next : Club) × (still : List Club) × Represents new next still × IsStep desk_presentation club event response next
+  one_step new club others event response (inl answered) =
+      ((step club event).club, _, answered.represents, inl (record { success = answered.success; reply = answered.reply; steps_club = refl }))
+  one_step new club others event response (inr refused) =
+      let left : (still : List Club) × Represents new club still = elim refused.represents [
+        | inl kept ↦ (others, kept)
+        | inr kept ↦ ((step club event).club ∷ others, kept)
+      ] in
+      (club, left.0, left.1, inr (record { failure = refused.failure; kept = refl }))
+
+  stepped : (old new : S) (event : Event) (response : Response OfficeReply) → (Clean new → Clean old) → (Clean new → Steps Represents old new event response)
+      → Simulates old new (λ club next. IsStep desk_presentation club event response next)
+  stepped old new event response was steps = record {
+    was_clean = was;
+    follows = λ clean club others represents. one_step new club others event response (steps clean club others represents);
+  }
+
+  -- ---- a request
+
+  module _ (Fails : Option Change → S → StoreFault → S → Type 0) (moment : ℕ) (bytes : List ℕ) where
+    replies : (old new : S) (reply : Reply) → IsReplied (AnswersBy Clean Represents Fails moment) bytes old reply new
+        → Simulates old new (λ club next. IsReplied (machine_answers moment) bytes club reply next)
+    replies old new reply (replied.parser_refusal refusal reads is kept) = same old new _ kept (λ club. replied.parser_refusal refusal reads is refl)
+    replies old new reply (replied.desk_reply decoded reads answers) =
+        so old new _ _ (stepped old new _ _ answers.was_clean answers.steps) (λ club next steps. replied.desk_reply decoded reads steps)
+    replies old new reply (replied.out_of_memory holds is kept) = same old new _ kept (λ club. replied.out_of_memory holds is refl)
+
+    exchanges : (old new : S) (outcome : Result Reply AnswerFault) → IsExchanged (AnswersBy Clean Represents Fails moment) bytes old outcome new
+        → Simulates old new (λ club next. IsExchanged (machine_answers moment) bytes club outcome next)
+    exchanges old new (Ok reply) (is, written) = so old new _ _ (replies old new reply is) (λ club next gives. (gives, tt))
+    exchanges old new (Err Read) kept = same old new _ kept (λ club. refl)
+    exchanges old new (Err (Write n)) (reply, is, fewer, written) =
+        so old new _ _ (replies old new reply is) (λ club next gives. (reply, gives, fewer, tt))
+
+  -- ---- an order
+
+  answered : (old new : S) (order : Command) (IsText : List ℕ → Type 0) (answer : Result (List ℕ) Fault)
+      → IsAnswered Represents Clean old new order IsText answer → Simulates old new (λ club next. IsAnswered IsItself Always club next order IsText answer)
+  answered old new order IsText answer (office.out_of_memory memory) = same old new _ memory.1 (λ club. office.out_of_memory (memory.0, refl))
+  answered old new order IsText answer (office.order_given text is given) =
+      so old new _ _ (stepped old new _ _ given.was_clean given.steps)
+      (λ club next steps. office.order_given text is (record {
+        reply = given.reply;
+        was_clean = λ always. tt;
+        steps = λ always. machine_steps club next _ _ steps;
+        answers = given.answers;
+      }))
+
+  looked : (old new : S) (Shows : Club → Result (List ℕ) DeskFault → Type 0) (Gives : Result (List ℕ) DeskFault → Type 0)
+      → Looks Clean Represents old new Shows Gives → Simulates old new (λ club next. Looks Always IsItself club next Shows Gives)
+  looked old new Shows Gives look = record {
+    was_clean = look.was_clean;
+    follows = λ clean club others represents. (
+      club,
+      others,
+      look.kept clean club others represents,
+      record {
+        was_clean = λ always. tt;
+        kept = λ always now rest is. is;
+        shown = look.shown;
+        is = λ always now rest is. rw (← is) (look.is clean club others represents);
+        gives = look.gives;
+      },
+    );
+  }
+
+  done : (task : Task) (answer : Result (List ℕ) Fault) (old new : S) → Does Clean Represents task answer old new
+      → Simulates old new (λ club next. Does Always IsItself task answer club next)
+  done (Order given) answer old new does = answered old new given _ answer does
+  done (AddKey name member root form) answer old new does = answered old new _ _ answer does
+  done (RotateKey name root until form) answer old new does = answered old new _ _ answer does
+  done (Sheet day) answer old new (was, kept, sheet) = record {
+    was_clean = was;
+    follows = λ clean club others represents. (
+      club,
+      others,
+      kept clean club others represents,
+      (
+        λ always. tt,
+        λ always now rest is. is,
+        record {
+          read = sheet.read;
+          is = λ always now rest is. rw (← is) (sheet.is clean club others represents);
+          gives = sheet.gives;
+        },
+      ),
+    );
+  }
+  done (Serve service) answer old new does = absurd does
+  done (AddKeyByInput name member form) answer old new does = absurd does
+  done (RotateKeyByInput name until form) answer old new does = absurd does
+  done (ShowAccount key clock) answer old new (looks.at_moment moment shows look) =
+      so old new _ _ (looked old new _ _ look) (λ club next shown. looks.at_moment moment shows shown)
+  done (ShowAccount key clock) answer old new (looks.at_none shows stopped) =
+      same old new _ stopped.same (λ club. looks.at_none shows (record { out_of_range = stopped.out_of_range; same = refl }))
+  done (ShowSlot slot) answer old new look = looked old new _ _ look
+
+  asked : (root : Text) (it : Asked) (answer : Result (List ℕ) Fault) (old new : S) → DoesAsked Clean Represents root it answer old new
+      → Simulates old new (λ club next. DoesAsked Always IsItself root it answer club next)
+  asked root it answer old new (spec.task_done job whole is rooted of_office does) =
+      so old new _ _ (done whole.task answer old new does) (λ club next does. spec.task_done job whole is rooted of_office does)
+  asked root it answer old new (spec.root_refused job fault is takes refused kept) =
+      same old new _ kept (λ club. spec.root_refused job fault is takes refused refl)
+
+  worded : (root : Text) (words : List Text) (answer : Result (List ℕ) Fault) (old new : S) → DoesWords Clean Represents root words answer old new
+      → Simulates old new (λ club next. DoesWords Always IsItself root words answer club next)
+  worded root words answer old new (spec.words_done it reads does) =
+      so old new _ _ (asked root it answer old new does) (λ club next does. spec.words_done it reads does)
+  worded root words answer old new (spec.words_refused fault reads refused kept) = same old new _ kept (λ club. spec.words_refused fault reads refused refl)
+
+  ordered : (bytes : List ℕ) (answer : Answer) (old new : S) → Orders Clean Represents bytes old answer new
+      → Simulates old new (λ club next. machine_orders bytes club answer next)
+  ordered bytes answer old new (spec.order_done root words result is does answers) =
+      so old new _ _ (worded root words result old new does) (λ club next does. spec.order_done root words result is does answers)
+  ordered bytes answer old new (spec.no_order status kept) = same old new _ kept (λ club. spec.no_order status refl)
+  ordered bytes answer old new (spec.no_memory status kept) = same old new _ kept (λ club. spec.no_memory status refl)
+
+  carried_out : (carried : Option Carried) (old new : S) → IsCarriedOut (Orders Clean Represents) old carried new
+      → Simulates old new (λ club next. IsCarriedOut machine_orders club carried next)
+  carried_out None old new kept = same old new _ kept (λ club. refl)
+  carried_out (Some carried) old new (bytes, answer, carries, is) =
+      so old new _ _ (ordered bytes answer old new carries) (λ club next carries. (bytes, answer, carries, is))
+
+  -- ---- a server
+
+  module _ {Clock : Type 0} (Given : GivesMoment Clock) where
+    are_ordered : (clock : Clock) (old : S) (fates : List Fate) (clock' : Clock) (new : S)
+        → AreOrdered Given (Orders Clean Represents) clock old fates clock' new
+        → Simulates old new (λ club next. AreOrdered Given machine_orders clock club fates clock' next)
+    are_ordered clock old _ _ _ served.no_order = same old old _ refl (λ club. served.no_order)
+    are_ordered clock old _ _ _ (served.one_order fates moment carried c d c' new before gives is) =
+        after old d new _ _ _ (are_ordered clock old fates c d before) (carried_out carried d new is)
+        (λ club now next before is. served.one_order fates moment carried c now c' next before gives is)
+
+    module _ (Fails : Option Change → S → StoreFault → S → Type 0) where
+      attended : (meanwhile : List Fate) (moment : ℕ) (line : List ℕ) (outcome : Result Reply AnswerFault) (clock : Clock) (old : S) (clock' : Clock) (new : S)
+          → IsAttended Given (AnswersBy Clean Represents Fails) (Orders Clean Represents) over_socket meanwhile moment line outcome clock old clock' new
+          → Simulates old new
+          (λ club next. IsAttended Given machine_answers machine_orders over_socket meanwhile moment line outcome clock club clock' next)
+      attended meanwhile moment line outcome clock old clock' new client =
+          after old client.left new _ _ _ (are_ordered client.given old meanwhile clock' client.left client.ordered)
+          (exchanges Fails moment client.exchanged.0 client.left new outcome client.exchanged.2)
+          (λ club now next ordered exchanged. record {
+            given = client.given;
+            left = now;
+            gives = client.gives;
+            ordered = ordered;
+            exchanged = (client.exchanged.0, client.exchanged.1, exchanged);
+            ended = client.ended;
+          })
+
+      one : (clock : Clock) (old : S) (f : ℕ) (meanwhile : List Fate) (fate : Fate) (clock' : Clock) (new : S) (f' : ℕ)
+          → ServesOne Given (AnswersBy Clean Represents Fails) (Orders Clean Represents) over_socket clock old f meanwhile fate clock' new f'
+          → Simulates old new (λ club next. ServesOne Given machine_answers machine_orders over_socket clock club f meanwhile fate clock' next f')
+      one clock old f meanwhile Absent clock' new f' (none, counted, still, kept) = same old new _ kept (λ club. (none, counted, still, refl))
+      one clock old f meanwhile Overrun clock' new f' (none, counted, still, kept) = same old new _ kept (λ club. (none, counted, still, refl))
+      one clock old f meanwhile (Ordered moment carried) clock' new f' (none, counted, gives, is) =
+          so old new _ _ (carried_out carried old new is) (λ club next is. (none, counted, gives, is))
+      one clock old f meanwhile Unanswered clock' new f' never = absurd never
+      one clock old f meanwhile (Exchanged moment line outcome) clock' new f' (counted, client) =
+          so old new _ _ (attended meanwhile moment line outcome clock old clock' new client) (λ club next client. (counted, client))
+
+      all : (clock : Clock) (old : S) (f : ℕ) (turns : List Turn) (clock' : Clock) (new : S) (f' : ℕ)
+          → AreServed Given (AnswersBy Clean Represents Fails) (Orders Clean Represents) over_socket clock old f turns clock' new f'
+          → Simulates old new (λ club next. AreServed Given machine_answers machine_orders over_socket clock club f turns clock' next f')
+      all clock old f _ _ _ _ served.none = same old old _ refl (λ club. served.none)
+      all clock old f _ _ _ _ (served.more turns turn c d f1 c' new f' before it) =
+          after old d new _ _ _ (all clock old f turns c d f1 before) (one c d f1 turn.meanwhile turn.fate c' new f' it)
+          (λ club now next before it. served.more turns turn c now f1 c' next f' before it)
+
+  module _ (Fails : Option Change → S → StoreFault → S → Type 0) (service : Service) (store left : S) (Noted : List Turn → Type 0) where
+    -- a server over a store is one over the club that this represents
+    pub follows_machine : (result : Result Unit Fault) → RunsServer (AnswersBy Clean Represents Fails) (Orders Clean Represents) service store left Noted result
+        → FollowsMachine Clean Represents service store left Noted result
+    follows_machine (Ok done) (turns, failures, so_many, were, besides) =
+        (so store left _ _ (all (showing service.clock) Fails tt store 0 turns tt left failures were)
+        (λ club next were. (turns, failures, so_many, were, besides))).follows
+    follows_machine (Err ClockOutOfRange) (failures, stop) =
+        (so store left _ _ (all (showing service.clock) Fails tt store 0 stop.turns stop.last left failures stop.before)
+        (λ club next before. (
+          failures,
+          record {
+            turns = stop.turns;
+            last = stop.last;
+            fewer = stop.fewer;
+            before = before;
+            no_moment = stop.no_moment;
+            besides = stop.besides;
+          },
+        ))).follows
+    follows_machine (Err Memory) (kept, nothing) = (same store left _ kept (λ club. (refl, nothing))).follows
+    follows_machine (Err InputOutput) (kept, nothing) = (same store left _ kept (λ club. (refl, nothing))).follows
+    follows_machine (Err (Refused fault)) never = absurd never
+    follows_machine (Err (Words error)) never = absurd never
+    follows_machine (Err BadValue) never = absurd never
+    follows_machine (Err Storage) never = absurd never
+    follows_machine (Err NoAnswer) never = absurd never
+    follows_machine (Err (Answered status line)) never = absurd never

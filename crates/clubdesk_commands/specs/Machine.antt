@@ -1,0 +1,25 @@
+-- The club in place of a store: what its machine makes of requests and orders (ours).
+use Rattle.std.specs.Prelude.{◌≡◌, ℕ, List}
+use Rattle.club_core.specs.Club.{Club}
+use Rattle.club_core.specs.Run.{Asked}
+use Rattle.club_gate.specs.DecodedPass.{decoded_words}
+use Rattle.club_gate.specs.Response.{desk_presentation}
+use Rattle.club_http.specs.Replied.{AnswerRelation}
+use Rattle.club_laws.specs.Failed.{IsStep, ToMember}
+use Rattle.desk_server.specs.Served as served
+use Rattle.clubdesk_commands.specs.OfficeDesk.{Orders}
+
+-- a club represents itself alone, and is always clean
+abbrev pub IsItself : Club → Club → List Club → Type 0
+IsItself now club others = now ≡ club
+
+abbrev pub Always : Club → Type 0
+Always club = Unit {0}
+
+-- a reply is that of the machine's step; or the request failed, and the club is the same
+abbrev pub machine_answers : ℕ → AnswerRelation Club
+machine_answers moment text request club reply next = IsStep desk_presentation club (Asked (decoded_words text request) moment) (ToMember reply) next
+
+-- an order does to the club what it does to a store that represents it
+abbrev pub machine_orders : served.Orders Club
+machine_orders bytes club answer next = Orders Always IsItself bytes club answer next
