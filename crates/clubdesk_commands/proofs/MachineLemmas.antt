@@ -254,9 +254,9 @@ module _ {S : Type 0} (Clean : S → Type 0) (Represents : S → Club → List C
           → AreServed Given (AnswersBy Clean Represents Fails) (Orders Clean Represents) over_socket clock old f turns clock' new f'
           → Simulates old new (λ club next. AreServed Given machine_answers machine_orders over_socket clock club f turns clock' next f')
       all clock old f _ _ _ _ served.none = same old old _ refl (λ club. served.none)
-      all clock old f _ _ _ _ (served.more turns turn c d f1 c' new f' before it) =
+      all clock old f _ _ _ _ (served.more turns turn c d f1 c' new f' before due it) =
           after old d new _ _ _ (all clock old f turns c d f1 before) (one c d f1 turn.meanwhile turn.fate c' new f' it)
-          (λ club now next before it. served.more turns turn c now f1 c' next f' before it)
+          (λ club now next before it. served.more turns turn c now f1 c' next f' before due it)
 
   module _ (Fails : Option Change → S → StoreFault → S → Type 0) (service : Service) (store left : S) (Noted : List Turn → Type 0) where
     -- a server over a store is one over the club that this represents

@@ -3,7 +3,7 @@ use Rattle.std.proofs.Common.{◌≡◌, ◌∙◌, ℕ, List, [], ◌∷◌, �
 use Rattle.std.specs.Io.KnownBytes.{Appends}
 use Rattle.command_line.specs.Output.{AppendsFront}
 use Rattle.club_http.specs.Replied.{AnswerRelation}
-use Rattle.desk_server.specs.Served.{AreNoted, AreOrdered, AreServed, Ends, IsAttended, IsStopped, Notes, Orders, ServesOne, Turn, alone}
+use Rattle.desk_server.specs.Served.{AreNoted, AreOrdered, AreServed, Ends, IsAttended, IsDue, IsStopped, Notes, Orders, ServesOne, Turn, alone}
 use Rattle.club_clock.specs.Moments.{GivesMoment}
 use Rattle.desk_server.specs.Served as served
 use Rattle.club_clock.specs.Zone.{ShowsIn}
@@ -85,8 +85,8 @@ module _ {Clock Desk Connection : Type 0} (Gives : GivesMoment Clock) (Answers :
       → AreServed Gives Answers Carries Ended clock desk f turns clock' desk' f'
       → AreServed Gives Answers Carries over_socket clock desk f turns clock' desk' f'
   are_over_socket clock desk f _ _ _ _ served.none = served.none
-  are_over_socket clock desk f _ _ _ _ (served.more turns turn c d f1 c' d' f' before one) =
-      served.more turns turn c d f1 c' d' f' (are_over_socket clock desk f turns c d f1 before)
+  are_over_socket clock desk f _ _ _ _ (served.more turns turn c d f1 c' d' f' before due one) =
+      served.more turns turn c d f1 c' d' f' (are_over_socket clock desk f turns c d f1 before) due
       (one_over_socket c d f1 turn.meanwhile turn.fate c' d' f' one)
 
   module _ (count : ℕ) (clock : Clock) (desk : Desk) (clock' : Clock) (desk' : Desk) (failures : ℕ) (Besides Wanted : List Turn → Type 0)
@@ -146,30 +146,32 @@ module _ {Source Desk : Type 0} (Gives : GivesMoment Source) (clock : Clock) (An
   ByShowing turns last left failures = (last ≡ moments) × AreServed (showing clock) Answers Carries over_socket tt desk 0 turns tt left failures
 
   one_more : (turns : List Turn) (meanwhile : List Fate) (fate : Fate) (d : Desk) (f : ℕ) (next : Source) (d' : Desk) (f' : ℕ)
-      → AreServed (showing clock) Answers Carries over_socket tt desk 0 turns tt d f
+      → AreServed (showing clock) Answers Carries over_socket tt desk 0 turns tt d f → IsDue turns fate
       → ServesOne Gives Answers Carries over_socket moments d f meanwhile fate next d' f'
       → ByShowing (turns ++ record { meanwhile = meanwhile; fate = fate } ∷ []) next d' f'
-  one_more turns meanwhile Absent d f next d' f' before (none, counted, same, kept) =
-      (same, served.more turns (record { meanwhile = meanwhile; fate = Absent }) tt d f tt d' f' before (none, counted, refl, kept))
-  one_more turns meanwhile Overrun d f next d' f' before (none, counted, same, kept) =
-      (same, served.more turns (record { meanwhile = meanwhile; fate = Overrun }) tt d f tt d' f' before (none, counted, refl, kept))
-  one_more turns meanwhile (Ordered moment carried) d f next d' f' before (none, counted, returned, carries) =
+  one_more turns meanwhile Absent d f next d' f' before due (none, counted, same, kept) =
+      (same, served.more turns (record { meanwhile = meanwhile; fate = Absent }) tt d f tt d' f' before due (none, counted, refl, kept))
+  one_more turns meanwhile Overrun d f next d' f' before due (none, counted, same, kept) =
+      (same, served.more turns (record { meanwhile = meanwhile; fate = Overrun }) tt d f tt d' f' before due (none, counted, refl, kept))
+  one_more turns meanwhile (Ordered moment carried) d f next d' f' before due (none, counted, returned, carries) =
       let shows = stays moment next returned in (
         shows.0,
-        served.more turns (record { meanwhile = meanwhile; fate = Ordered moment carried }) tt d f tt d' f' before (none, counted, shows.1, carries),
+        served.more turns (record { meanwhile = meanwhile; fate = Ordered moment carried }) tt d f tt d' f' before due
+            (none, counted, shows.1, carries),
       )
-  one_more turns meanwhile Unanswered d f next d' f' before never = absurd never
-  one_more turns meanwhile (Exchanged moment line outcome) d f next d' f' before (counted, client) =
+  one_more turns meanwhile Unanswered d f next d' f' before due never = absurd never
+  one_more turns meanwhile (Exchanged moment line outcome) d f next d' f' before due (counted, client) =
       let shown = attended_by_showing meanwhile moment line outcome d next d' client in (
         shown.0,
-        served.more turns (record { meanwhile = meanwhile; fate = Exchanged moment line outcome }) tt d f tt d' f' before (counted, shown.1),
+        served.more turns (record { meanwhile = meanwhile; fate = Exchanged moment line outcome }) tt d f tt d' f' before due
+            (counted, shown.1),
       )
 
   by_showing : (turns : List Turn) (last : Source) (left : Desk) (failures : ℕ)
       → AreServed Gives Answers Carries over_socket moments desk 0 turns last left failures → ByShowing turns last left failures
   by_showing _ _ _ _ served.none = (refl, served.none)
-  by_showing _ _ _ _ (served.more turns turn c d f c' d' f' before one) =
-      let so_far = by_showing turns c d f before in one_more turns turn.meanwhile turn.fate d f c' d' f' so_far.1 (rw so_far.0 at one)
+  by_showing _ _ _ _ (served.more turns turn c d f c' d' f' before due one) =
+      let so_far = by_showing turns c d f before in one_more turns turn.meanwhile turn.fate d f c' d' f' so_far.1 due (rw so_far.0 at one)
 
   stopped : (count : ℕ) (last : Source) (left : Desk) (failures : ℕ)
       → IsStopped Gives Answers Carries over_socket count moments desk 0 last left failures Besides

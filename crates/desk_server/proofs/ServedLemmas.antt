@@ -4,9 +4,10 @@ use Rattle.std.specs.Prelude.{None, OnErr, OnOk, Result}
 use Rattle.club_clock.specs.Moments.{GivesMoment}
 use Rattle.club_http.specs.Replied.{AnswerRelation}
 use Rattle.club_http.specs.Ends.{one_more}
-use Rattle.desk_server.specs.Served.{AreNoted, AreServed, CountsOn, Ends, IsNoted, Notes, Orders, Serves, ServesOne, Turn, alone, clients_in}
+use Rattle.desk_server.specs.Served.{AreNoted, AreServed, CountsOn, Ends, IsDue, IsNoted, Notes, Orders, Serves, ServesOne, Turn, alone, clients_in}
 use Rattle.desk_server.specs.Served as spec
 use Rattle.desk_server.specs.Server.{IsOrdered, IsServed, ServesSome, StopsNext, calls}
+use Rattle.desk_server.specs.declared.log.Fate.{Fate}
 use Rattle.desk_server.specs.declared.log.Fate.TheVariants.{Absent, Overrun, Unanswered, Exchanged, Ordered}
 use Rattle.desk_server.specs.declared.serve.ClockOutOfRange.{ClockOutOfRange}
 
@@ -19,6 +20,14 @@ counts_on waited n m now new first second fits =
 pub clients_append : (first second : List Turn) → clients_in (first ++ second) ≡ clients_in first + clients_in second
 clients_append [] second = omega arith
 clients_append (turn ∷ first) second = omega (arith, clients_append first second)
+
+-- an overrun after more turns
+due_after : (first second : List Turn) (fate : Fate) → IsDue second fate → IsDue (first ++ second) fate
+due_after first second Absent due = tt
+due_after first second Overrun due = omega (arith, length-append first second, due)
+due_after first second Unanswered due = tt
+due_after first second (Ordered moment carried) due = tt
+due_after first second (Exchanged moment line outcome) due = tt
 
 -- what holds of an outcome, from what holds of it
 pub on_ok : {A E : Type 0} (result : Result A E) (P Q : Type 0) → (P → Q) → OnOk result P → OnOk result Q
@@ -42,9 +51,10 @@ module _ {Clock Desk Connection : Type 0} (Gives : GivesMoment Clock) (Answers :
       → AreServed Gives Answers Carries Ended clock desk f first c d f1 → AreServed Gives Answers Carries Ended c d f1 second c' d' f'
       → AreServed Gives Answers Carries Ended clock desk f (first ++ second) c' d' f'
   served_append clock desk f c d f1 _ _ _ first _ before spec.none = rw (append-nil first) before
-  served_append clock desk f c d f1 _ _ _ first _ before (spec.more second turn c2 d2 f2 c' d' f' so_far one) =
+  served_append clock desk f c d f1 _ _ _ first _ before (spec.more second turn c2 d2 f2 c' d' f' so_far due one) =
       rw (← append_assoc first second (turn ∷ []))
-      (spec.more (first ++ second) turn c2 d2 f2 c' d' f' (served_append clock desk f c d f1 c2 d2 f2 first second before so_far) one)
+      (spec.more (first ++ second) turn c2 d2 f2 c' d' f' (served_append clock desk f c d f1 c2 d2 f2 first second before so_far)
+      (due_after first second turn.fate due) one)
 
   -- the same server, with less that is said of its fates
   pub serves_besides : (Besides Wanted : List Turn → Type 0) (gives : (turns : List Turn) → Besides turns → Wanted turns) (count : ℕ)
@@ -87,14 +97,15 @@ module _ {Clock Desk Connection : Type 0} (Gives : GivesMoment Clock) (Answers :
       called = rw (length-append first.turns second.turns) (counts_on _ _ _ _ _ first.called second.called);
     }
 
-    -- one turn more, of any kind
-    abbrev pub serves_one : (n : ℕ) (s s1 s' : Source) (c c1 c' : Clock) (d d1 d' : Desk) (l l1 l' : Log) (turn : Turn) → Some n s s1 c d l c1 d1 l1
+    -- one turn more, of any kind but an overrun
+    abbrev pub serves_one : (n : ℕ) (s s1 s' : Source) (c c1 c' : Clock) (d d1 d' : Desk) (l l1 l' : Log) (turn : Turn)
+        → ((turns : List Turn) → IsDue turns turn.fate) → Some n s s1 c d l c1 d1 l1
         → ServesOne Gives Answers Carries Ended c1 d1 (failures s1) turn.meanwhile turn.fate c' d' (failures s') → IsNoted Begins Noted l1 turn l'
         → CountsOn (waited s1) 1 (waited s') → Some (n + clients_in (turn ∷ [])) s s' c d l c' d' l'
-    serves_one n s s1 s' c c1 c' d d1 d' l l1 l' turn first one noted waits = record {
+    serves_one n s s1 s' c c1 c' d d1 d' l l1 l' turn due first one noted waits = record {
       turns = first.turns ++ turn ∷ [];
       so_many = omega (arith, clients_append first.turns (turn ∷ []), first.so_many);
-      served = spec.more first.turns turn c1 d1 _ c' d' _ first.served one;
+      served = spec.more first.turns turn c1 d1 _ c' d' _ first.served (due first.turns) one;
       noted = spec.one_noted first.turns turn l1 l' first.noted noted;
       called = rw (length-append first.turns (turn ∷ [])) (counts_on _ _ 1 _ _ first.called waits);
     }
@@ -119,7 +130,7 @@ module _ {Clock Desk Connection : Type 0} (Gives : GivesMoment Clock) (Answers :
           some = record {
             turns = first.some.turns ++ turn ∷ [];
             so_many = omega (arith, clients_append first.some.turns (turn ∷ []), first.some.so_many);
-            served = spec.more first.some.turns turn c1 d1 _ c' d' _ first.some.served (refl, same, gives, is);
+            served = spec.more first.some.turns turn c1 d1 _ c' d' _ first.some.served tt (refl, same, gives, is);
             noted = spec.one_noted first.some.turns turn l1 l' first.some.noted
                 (record { begun = begun; awaited = begun; begins = begins; meanwhile = spec.no_note; notes = noted });
             called = rw (length-append first.some.turns (turn ∷ [])) (counts_on _ _ 1 _ _ first.some.called waits);
@@ -135,7 +146,7 @@ module _ {Clock Desk Connection : Type 0} (Gives : GivesMoment Clock) (Answers :
         record {
           turns = turns ++ alone Overrun ∷ [];
           so_many = omega (arith, clients_append turns (alone Overrun ∷ []), first.some.so_many);
-          served = spec.more turns (alone Overrun) c1 d1 _ c1 d1 _ first.some.served (refl, refl, refl, refl);
+          served = spec.more turns (alone Overrun) c1 d1 _ c1 d1 _ first.some.served (omega (arith, first.so_many)) (refl, refl, refl, refl);
           noted = spec.one_noted turns (alone Overrun) l1 l' first.some.noted
               (record { begun = l1; awaited = l1; begins = refl; meanwhile = spec.no_note; notes = noted });
           called = λ fits. absurd (omega (arith, length-append turns (alone Overrun ∷ []), first.so_many, fits));
@@ -145,7 +156,7 @@ module _ {Clock Desk Connection : Type 0} (Gives : GivesMoment Clock) (Answers :
     pub serves_nobody : (s s1 s' : Source) (c c1 : Clock) (d d1 : Desk) (l l1 l' : Log) → Some 0 s s1 c d l c1 d1 l1
         → failures s' ≡ one_more (failures s1) → CountsOn (waited s1) 1 (waited s') → Noted l1 Absent l' → Some 1 s s' c d l c1 d1 l'
     serves_nobody s s1 s' c c1 d d1 l l1 l' first counted waits noted =
-        serves_one 0 s s1 s' c c1 c1 d d1 d1 l l1 l' (alone Absent) first (refl, counted, refl, refl)
+        serves_one 0 s s1 s' c c1 c1 d d1 d1 l l1 l' (alone Absent) (λ turns. tt) first (refl, counted, refl, refl)
         (record { begun = l1; awaited = l1; begins = refl; meanwhile = spec.no_note; notes = noted }) waits
 
     -- a client
@@ -153,7 +164,8 @@ module _ {Clock Desk Connection : Type 0} (Gives : GivesMoment Clock) (Answers :
         → failures s' ≡ failures s1 → CountsOn (waited s1) 1 (waited s')
         → IsServed Gives Begins Noted Answers Carries Ended c1 d1 l1 c' d' l' → Some 1 s s' c d l c' d' l'
     serves_client s s1 s' c c1 c' d d1 d' l l1 l' first same waits one =
-        serves_one 0 s s1 s' c c1 c' d d1 d' l l1 l' (record { meanwhile = one.meanwhile; fate = Exchanged one.moment one.line one.outcome }) first
+        serves_one 0 s s1 s' c c1 c' d d1 d' l l1 l' (record { meanwhile = one.meanwhile; fate = Exchanged one.moment one.line one.outcome })
+        (λ turns. tt) first
         (same, one.attended) one.noted waits
 
     -- a client for whom the clock gave no moment

@@ -1,6 +1,6 @@
 -- A server: it serves what arrives, clients and orders of the office, one after the other, and orders also while a client's request is awaited
 -- (ours).
-use Rattle.std.specs.Prelude.{◌≡◌, ℕ, ◌+◌, ◌^◌, ◌<◌, List, [], ◌∷◌, ◌++◌, take, Option, Some, None, Result, Ok, Err}
+use Rattle.std.specs.Prelude.{◌≡◌, ℕ, suc, ◌+◌, ◌^◌, ◌<◌, ◌≤◌, length, List, [], ◌∷◌, ◌++◌, take, Option, Some, None, Result, Ok, Err}
 use Rattle.std.specs.Io.KnownBytes.{Appends}
 use Rattle.std.specs.String.{string_bytes}
 use Rattle.club_clock.specs.Moments.{GivesMoment}
@@ -75,6 +75,11 @@ abbrev pub clients_in : List Turn → ℕ
 clients_in [] = 0
 clients_in (turn ∷ turns) = client_in turn.fate + clients_in turns
 
+-- An overrun comes only after 2 ^ 64 - 1 turns.
+abbrev pub IsDue : List Turn → Fate → Type 0
+IsDue turns Overrun = 2 ^ 64 ≤ suc (length turns)
+IsDue turns fate = Unit {0}
+
 -- ---- the clock, the desk and what arrives
 
 module _ {Clock Desk : Type 0} (Gives : GivesMoment Clock) (Carries : Orders Desk) where
@@ -99,8 +104,7 @@ module _ {Clock Desk Connection : Type 0} (Gives : GivesMoment Clock) (Answers :
     pub ended : (connection : Connection) × Ended connection outcome
 
   -- What one arrival did to the clock, the desk and the count of failed calls. If waiting failed, only the count grew. An order is carried out,
-  -- whether or not the clock gives a moment. Only a client has orders meanwhile. After 2 ^ 64 - 1 orders in a row one client counts that never
-  -- came.
+  -- whether or not the clock gives a moment. Only a client has orders meanwhile. At an overrun one client counts that never came.
   abbrev pub ServesOne : Clock → Desk → ℕ → List Fate → Fate → Clock → Desk → ℕ → Type 0
   ServesOne clock desk failures meanwhile Absent clock' desk' failures' =
       (meanwhile ≡ []) × (failures' ≡ one_more failures) × (clock' ≡ clock) × (desk' ≡ desk)
@@ -116,7 +120,7 @@ module _ {Clock Desk Connection : Type 0} (Gives : GivesMoment Clock) (Answers :
   pub data AreServed (clock : Clock) (desk : Desk) (failures : ℕ) : List Turn → Clock → Desk → ℕ → Type 0 where
     none : AreServed clock desk failures [] clock desk failures
     more : (turns : List Turn) (turn : Turn) (c : Clock) (d : Desk) (f : ℕ) (c' : Clock) (d' : Desk) (f' : ℕ)
-        → AreServed clock desk failures turns c d f → ServesOne c d f turn.meanwhile turn.fate c' d' f'
+        → AreServed clock desk failures turns c d f → IsDue turns turn.fate → ServesOne c d f turn.meanwhile turn.fate c' d' f'
         → AreServed clock desk failures (turns ++ turn ∷ []) c' d' f'
 
   -- The server stopped early, at a client for whom the clock gave no moment.
