@@ -32,7 +32,7 @@ module _ (club : Club) (name : List ℕ) (sound : IsSound club) where
       let Covered : Member → Type 0 = λ m. sum_by cost_of (bookings_of m.name club) ≤ m.credited in
       let covered = at_found Covered (λ (m : Member). bytes_eq m.name name) club.members member sound.balances row in
       let named = bytes_same member.name name (found_passes (λ (m : Member). bytes_eq m.name name) club.members member row) in
-      let used : ℕ = sum_by cost_of (bookings_of member.name club) in
+      let used = sum_by cost_of (bookings_of member.name club) in
       let of_its : member.credited - (member.credited - used) ≡ used = omega (arith, covered) in
       ap (λ (a : MemberAccount). a.member.credited - a.balance) is ∙ (of_its ∙ ap (λ (n : List ℕ). sum_by cost_of (bookings_of n club)) named)
 
