@@ -14,6 +14,8 @@ WORDS = ("false", "goal", "names", "proved", "limit", "bad")
 FALSE = re.compile(r"the facts known there allow values at which this goal is false|may be false: the known facts allow")
 # What it says of a proof file that names what isn't there, and of what rests on that.
 NAMES = re.compile(r"has no field|is not in scope|has no `|was not admitted|no item `")
+# What goes on in the next line: the names that a record has are long.
+WRAPPED = re.compile(r"\n +(has no |is not in scope|was not admitted)")
 FAULT = re.compile(r"(?:note: )?(?:\./)?((?:src|specs|proofs)/\S+?):(\d+):\d+: (error: .*|it is not proved .*)")
 WANTED = re.compile(r"no proof: expected answers in (?:\./)?(\S+);")
 HEAD = re.compile(r"(?:pub )?([^\s:]+) : ")
@@ -63,7 +65,7 @@ def check(crate):
     """The lines of a check of the crate, and whether it is proved."""
     ran = subprocess.run(["rt", "check", "--jobs", "1"], cwd=crate, stdin=subprocess.DEVNULL, stdout=subprocess.PIPE,
                          stderr=subprocess.STDOUT, text=True, errors="replace")
-    lines = ran.stdout.split("\n")
+    lines = WRAPPED.sub(r" \1", ran.stdout).split("\n")
     reached = [line for line in lines if line.startswith("logic=")]
     if not reached:
         limit = next((line for line in lines if LIMIT.search(line)), None)
