@@ -49,6 +49,50 @@ const VERSION: u8 = 2;
 /// The version that has no older roots.
 const FIRST_VERSION: u8 = 1;
 
+/// The statements that make the tables of an empty club.
+const TABLE_STATEMENTS: [Statement<'static>; 10] = [
+    Statement {
+        text: texts::MAKE_DESK,
+        params: &[],
+    },
+    Statement {
+        text: texts::MAKE_MEMBERS,
+        params: &[],
+    },
+    Statement {
+        text: texts::MAKE_FACILITIES,
+        params: &[],
+    },
+    Statement {
+        text: texts::MAKE_KEYS,
+        params: &[],
+    },
+    Statement {
+        text: texts::MAKE_SLOTS,
+        params: &[],
+    },
+    Statement {
+        text: texts::MAKE_BOOKINGS,
+        params: &[],
+    },
+    Statement {
+        text: texts::MAKE_KEYS_BY_MEMBER,
+        params: &[],
+    },
+    Statement {
+        text: texts::MAKE_OLD_ROOTS,
+        params: &[],
+    },
+    Statement {
+        text: texts::MAKE_BOOKINGS_BY_KEY,
+        params: &[],
+    },
+    Statement {
+        text: texts::ADD_VERSION,
+        params: &[],
+    },
+];
+
 /// Reads the version of the tables. If it is read, tables of that version represent the club.
 fn version<S: Alter>(conn: &mut Connection<S>) -> Result<Vec<Row>, StoreFault>
     requires { conn.old.in_transaction ≡ false }
@@ -70,51 +114,7 @@ fn make_tables<S: Alter>(conn: &mut Connection<S>) -> Result<(), StoreFault>
     ensures opens { RunsBatch S.Store (found_in S.Store) table_batch conn.old conn.new result }
     ensures untouched { OnErr result (IsKept (state S.Store conn.old) (state S.Store conn.new)) }
 {
-    run(
-        conn,
-        &[
-            Statement {
-                text: texts::MAKE_DESK,
-                params: &[],
-            },
-            Statement {
-                text: texts::MAKE_MEMBERS,
-                params: &[],
-            },
-            Statement {
-                text: texts::MAKE_FACILITIES,
-                params: &[],
-            },
-            Statement {
-                text: texts::MAKE_KEYS,
-                params: &[],
-            },
-            Statement {
-                text: texts::MAKE_SLOTS,
-                params: &[],
-            },
-            Statement {
-                text: texts::MAKE_BOOKINGS,
-                params: &[],
-            },
-            Statement {
-                text: texts::MAKE_KEYS_BY_MEMBER,
-                params: &[],
-            },
-            Statement {
-                text: texts::MAKE_OLD_ROOTS,
-                params: &[],
-            },
-            Statement {
-                text: texts::MAKE_BOOKINGS_BY_KEY,
-                params: &[],
-            },
-            Statement {
-                text: texts::ADD_VERSION,
-                params: &[],
-            },
-        ],
-    )
+    run(conn, &TABLE_STATEMENTS)
 }
 
 /// Whether the rows hold this version, and nothing else.
