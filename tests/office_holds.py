@@ -357,7 +357,8 @@ def restores(server):
     book(server, text, "court-2", 8, 62, 0)
     done("add-member", "finn", "1")
     night, before = keep_copy(), everything()
-    balance = account(server, text)["balance"]
+    was = account(server, text)
+    balance = was["balance"]
     same("a cancellation after the copy", server.answer(text, "DELETE", f"/slots/court-2/{DAY}/19/bookings/61")[0], 200)
     book(server, text, "court-2", 9, 63, 0)
     done("credit", "amy", "50")
@@ -387,7 +388,12 @@ def restores(server):
     whole("a restore")
     undone = sorted(file for file in os.listdir(f"{HOME}/club-before") if file.endswith("-restore"))[-1]
     same("its own copy is listed", f"{undone},before a correction" in {line.rsplit(",", 1)[0] for line in done("copies", "--csv").splitlines()}, True)
-    same("the lines of what undoes it", len(done("restore", undone, *YES).splitlines()), len(shown) + 1)
+    same("what undoes it", done("restore", undone, *YES).splitlines(), [
+        "has the member dora again", f"balance of amy: {balance}, then {balance + 250}", "has the key dora-1 again, and its passes",
+        "takes passes of amy-3 of before it was rotated, and refuses those of after", "refuses passes of amy-5, which is revoked again",
+        "the facility boat-1 is as it was", f"closes court-2 {DAY} 11:00", f"loses court-2 {DAY} 19:00, 2 persons, 400 points: amy-6 61, amy",
+        f"books again court-2 {DAY} 09:00, 1 persons, 200 points: amy-6 63, amy", "done",
+    ])
     same("it is undone", everything(), after)
     refused(["restore", "2001-01-01T000000Z", *YES], 1, "refused: there is no copy 2001-01-01T000000Z")
     for wrong in ("../club", "club", "2026-04-20", f"{night}/..", "2026-04-20T12-00-00-debit;"):
@@ -403,7 +409,7 @@ def restores(server):
         refused(["restore", called, *YES], 1, "is no club that clubdesk opens" if not place else "isn't sound: member amy: used is")
         os.unlink(path)
     changed_while_asked(server, night)
-    damaged(server, text, night, before)
+    damaged(server, text, night, before, was)
 
 
 def changed_while_asked(server, night):
@@ -415,7 +421,7 @@ def changed_while_asked(server, night):
     same("a credit between the question and its answer", (asked.returncode, "has changed since" in errors), (1, True))
 
 
-def damaged(server, text, night, before):
+def damaged(server, text, night, before, was):
     """A file whose head is lost, all of whose pages are, or one of an index; one that is empty, and one that isn't there."""
     for what in ("head", "pages", "index", "empty", "gone"):
         server.stop()
@@ -447,7 +453,7 @@ def damaged(server, text, night, before):
         same(f"{what}: the club of the copy", everything(), before)
         same(f"{what}: its owner and mode", (os.stat(f"{HOME}/club").st_uid, oct(os.stat(f"{HOME}/club").st_mode)), (os.stat(HOME).st_uid, "0o100600"))
         server = Service("club", server.port)
-        same(f"{what}: the desk", account(server, text)["open"], 2)
+        same(f"{what}: the desk", account(server, text), was)
         time.sleep(1)
     server.stop()
 

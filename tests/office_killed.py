@@ -145,7 +145,7 @@ def restores():
         if found == copy:
             done("add-member", "after", "1")
             done("credit", "after", "5")
-        killed_after(chance.uniform(0, plain * 1.2), ["restore", night, "--yes"], chance)
+        killed_after(chance.uniform(0, plain * 2), ["restore", night, "--yes"], chance)
         found = everything()
         same("a club that is one or the other", found in (copy, later), True)
         outcomes["restored" if found == copy else "before"] += 1

@@ -208,8 +208,9 @@ LINES
 blocks TLS | gives TLS
 blocks 'The pages' | gives 'The pages'
 inside sh -c 'printf "Authorization: Bearer %s\n" "$(cat /root/amy-1)" >/root/field'
-# by_tls METHOD PATH [BODY]
+# by_tls METHOD PATH [BODY]: a request to the desk, once it is there.
 by_tls() {
+    answers 8080
     inside curl -sS --max-time 20 --cacert /etc/ssl/clubdesk/certificate.pem --resolve desk.example.org:443:127.0.0.1 -w ' %{http_code}' \
         -H @/root/field -X "$1" ${3:+-d "$3"} "https://desk.example.org/$2"
 }
@@ -324,8 +325,9 @@ if office carl credit eve 1000 >told 2>&1; then fail 'a credit by somebody who i
 
 # Her first week: what a club's office does, by nobody but her.
 week=$(date -u -d '+3 days' +%F)
-# asks PASS METHOD PATH [BODY]: a request to her desk under a pass in a file of hers.
+# asks PASS METHOD PATH [BODY]: a request to her desk, once it is there again, under a pass in a file of hers.
 asks() {
+    answers 8083
     inside sh -c 'curl -sS --max-time 20 -X "$2" ${4:+-d "$4"} -H "Authorization: Bearer $(cat "/home/anna/$1")" "http://127.0.0.1:8083/$3"' sh "$@"
 }
 printf '%s\n' 'name,quota,points' 'Amy,5,10000' '"Müller, Bob",2,3000' >"$root/home/anna/members.csv"
@@ -404,7 +406,7 @@ answers 8080
 same 'the desk after a power cut' '{"booking":"amy-1/7","charge":3,"left":47} 200' "$(by_tls PUT "slots/court-1/$day/18/bookings/7" '{"guests":2}')"
 
 # ---- An upgrade while a client books: each booking that was acknowledged is in the file, and the program is another process.
-inside sh -c 'runuser -u clubdesk -- clubdesk credit /var/lib/clubdesk/club amy 100000; cat >/root/client' <"$here/package_lives.py"
+inside sh -c 'runuser -u clubdesk -- clubdesk credit /var/lib/clubdesk/club amy 100000 >/dev/null; cat >/root/client' <"$here/package_lives.py"
 inside sh -c "rm -f /root/enough; exec python3 /root/client $day" >booked 2>client.log &
 client=$!
 pid_of() { inside systemctl show --value -p MainPID "$1"; }
