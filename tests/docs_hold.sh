@@ -18,14 +18,14 @@
 #   the command is refused.
 # - docs/AUDIT.md is what tests/audit.py makes, and each step of the tour's paths through definitions is cited by the one before it.
 # - What README tries unproved by `rt try` prints `signed`, and ends in proved=no.
-# - The logic that README.md and docs/TRUST.md name by its sum is this toolchain's, and bin/demo prints what tests/demo_tells.sh wants.
-# Programs are proved and built by bin/proved where they have to be. Installs Debian's curl, sqlite3 and openssl where they are
-# missing. Not part of the gate.
+# - The logic that README.md and docs/TRUST.md name by its sum is this toolchain's, and bin/demo prints what tests/demo_tells.bats wants.
+# Programs are proved and built by bin/proved where they have to be. Not part of the gate.
 #   tests/docs_hold.sh                 every page
 #   tests/docs_hold.sh docs/DESK.md    these pages
 #   tests/docs_hold.sh -n [PAGE ..]    what wants no program of ours: all but the commands and the demo
 # groups: pages
 # groups: quick: -n
+# wants: curl sqlite3 openssl
 # shellcheck disable=SC2016 # backquotes are Markdown's
 set -u
 here=$(CDPATH='' cd -P -- "$(dirname -- "$0")" && pwd)
@@ -382,7 +382,7 @@ hold_audit() {
 
 # The table of scripts in docs/TRUST.md says of each what `tests/run --list` says, where a page of docs/ is no link.
 hold_scripts() {
-    grep -E '^\| `tests/[a-z_0-9]+\.(sh|py)` \| [^|]* \|$' docs/TRUST.md | sort >"$work/rows"
+    grep -E '^\| `tests/[a-z_0-9]+\.(sh|py|bats)` \| [^|]* \|$' docs/TRUST.md | sort >"$work/rows"
     tests/run --list | sed -E -e 's/^([^ ]*) \([^)]*\): (.*)/| `\1` | \2 |/' -e 's,docs/([A-Z_]+)\.md,[\1](\1.md),g' \
         -e 's,docs/(vectors\.json|openapi\.yaml),[\1](\1),g' | sort | diff "$work/rows" - |
         sed -n 's/^\([<>]\)/docs\/TRUST.md: other rows than those of tests\/run --list (>): \1/p' >>"$faults"
@@ -408,9 +408,6 @@ hold_glossary() {
     sed 's/.*:://' "$work/words" | grep -xE '[A-Za-z_0-9]+' | sort -u | comm -23 - "$work/known" | sed 's/^/docs\/GLOSSARY.md: no name /' >>"$faults"
 }
 
-for package in curl sqlite3 openssl; do
-    [ -z "$runs" ] || command -v "$package" >/dev/null || apt-get install -y "$package" >/dev/null || exit 2
-done
 find crates -path '*/out/*' -prune -o \( -path '*/src/*.rt' -o -path '*/specs/*.antt' -o -path '*/proofs/*.antt' -o -path '*.edit' \) -print |
     tr '\n' ' ' >"$work/files"
 index_names
@@ -453,7 +450,7 @@ if [ -n "$whole" ]; then
         { [ "$(sh "$work/script" 2>"$work/said")" = signed ] && grep -q 'proved=no$' "$work/said"; } ||
             { echo 'README.md: what it tries unproved:'; cat "$work/script" "$work/said"; } >>"$faults"
     fi
-    [ -z "$runs" ] || tests/demo_tells.sh || echo 'tests/demo_tells.sh: bin/demo prints something else' >>"$faults"
+    [ -z "$runs" ] || tests/demo_tells.bats || echo 'tests/demo_tells.bats: bin/demo prints something else' >>"$faults"
 fi
 if [ -s "$faults" ]; then
     cat "$faults" >&2

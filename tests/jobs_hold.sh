@@ -4,13 +4,11 @@
 # reports.
 #
 # By hand and without systemd, with a mailer of the test's own. A job that is killed leaves nothing that the next one takes for its own.
-# Installs Debian's packages where they are missing. Not part of the gate.
+# Not part of the gate.
 # groups: package
+# wants: curl sqlite3 openssl procps
 set -eu
 . "$(dirname -- "$0")/serving.sh"
-wants curl curl
-wants sqlite3 sqlite3
-wants python3 python3
 deploy=$(CDPATH='' cd -P -- "$here/../deploy" && pwd)
 CLUBDESK=$desk
 SENDMAIL=$work/mailer

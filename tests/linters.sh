@@ -1,13 +1,11 @@
 #!/bin/sh
 # Pyflakes and shellcheck have nothing to say of the scripts, or the reason is noted in place.
 #
-# The shell scripts of tests/, bin/ and deploy/ are read by shellcheck, the Python there and in examples/ by pyflakes. Installs Debian's
-# packages where they are missing. Not part of the gate.
+# The shell scripts of tests/, bin/ and deploy/ are read by shellcheck, the Python there and in examples/ by pyflakes. Not part of the gate.
 # groups: quick
+# wants: shellcheck pyflakes3
 set -eu
 cd "$(dirname -- "$0")/.."
-command -v shellcheck >/dev/null || apt-get install -y shellcheck >/dev/null
-command -v pyflakes3 >/dev/null || apt-get install -y pyflakes3 >/dev/null
 
 # by_first_line PATTERN: the files whose first line says that they are of this language.
 by_first_line() {

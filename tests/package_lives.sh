@@ -9,18 +9,13 @@
 # other systems, below /usr/local. Wants root, and Debian's mirror for the fresh Debian: DEBIAN=FOLDER names one that is there already, made
 # by `debootstrap --variant=minbase --include=systemd,systemd-sysv bookworm FOLDER`, of which a copy is taken. Not part of the gate.
 # groups: package root
+# wants: debootstrap systemd-container lintian dpkg-dev xz-utils util-linux
 # shellcheck disable=SC2016 # a shell of the fresh Debian reads what is quoted
 set -eu
 . "$(dirname -- "$0")/serving.sh"
 [ "$(id -u)" = 0 ] || { echo "$0 wants root, for a fresh Debian" >&2; exit 2; }
 top=$(CDPATH='' cd -P -- "$here/.." && pwd)
 PATH=/usr/sbin:/sbin:$PATH
-wants debootstrap debootstrap
-wants systemd-nspawn systemd-container
-wants lintian lintian
-wants dpkg-shlibdeps dpkg-dev
-wants xz xz-utils
-wants nsenter util-linux
 CLUBDESK=$desk
 PASSTOOL=$tool
 export CLUBDESK PASSTOOL

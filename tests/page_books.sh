@@ -9,32 +9,18 @@
 # - the record on its way to another device; what deploy/record, deploy/club_json and deploy/letter print;
 # - the hall's screen; names for screen readers, contrasts, widths, less motion; that nothing goes to another origin, and nothing runs but
 #   what the page's policy names; how long a day takes, and how many bytes the pages are as they are sent.
-# Before that: the pages are those that bin/pages makes of web/src, and the modules pass their own tests, by node.
-# Installs Debian's packages where they are missing. Not part of the gate.
+# Not part of the gate.
 #   tests/page_books.sh            all of it
 #   tests/page_books.sh FOLDER     and pictures of the page into this folder
 #   CLUBDESK=PROGRAM PASSTOOL=PROGRAM tests/page_books.sh ..   by these programs, which are proved and built first where they aren't given
 #   KILLS=3 BOOKINGS=20 tests/page_books.sh ..   with fewer kills and bookings than 30 and 200
 # groups: browser
+# wants: openssl sqlite3 nginx-light nodejs qrencode zbar-tools curl tzdata chromium chromium-driver python3-selenium
 set -eu
 . "$(dirname -- "$0")/serving.sh"
 PATH=/usr/sbin:/sbin:$PATH
-wants openssl openssl
-wants sqlite3 sqlite3
-wants nginx nginx-light
-wants node nodejs
-wants qrencode qrencode
-wants zbarimg zbar-tools
-wants curl curl
-[ -e /usr/share/zoneinfo/Etc/GMT-5 ] || installs tzdata
 python=/usr/bin/python3
-command -v chromium >/dev/null && command -v chromedriver >/dev/null && "$python" -c 'import selenium' 2>/dev/null ||
-    installs chromium chromium-driver python3-selenium || exit 2
 top=$(CDPATH='' cd -P -- "$here/.." && pwd)
-"$top/bin/pages" --check
-for module in "$top"/web/src/*.mjs "$top"/web/tests/*.mjs; do node --check "$module"; done
-node --test "$top/web/tests/" >units 2>&1 || { grep -A 20 '^not ok' units >&2; exit 1; }
-echo "the pages are those of web/src, and $(sed -n 's/^# pass //p' units) tests of its modules pass"
 openssl req -x509 -newkey rsa:2048 -nodes -days 2 -subj /CN=desk.example.org -addext subjectAltName=DNS:desk.example.org \
     -keyout key.pem -out certificate.pem 2>said || { cat said >&2; exit 1; }
 mkdir pictures

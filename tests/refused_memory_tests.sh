@@ -12,6 +12,7 @@
 #   tests/refused_memory_tests.sh club_store_tests                                  those of one crate
 #   tests/refused_memory_tests.sh club_store_tests store::shows_what_a_key_sees ..  any tests of a crate
 # groups: proofs
+# wants: gcc libc6-dev
 set -eu
 here=$(CDPATH='' cd -P -- "$(dirname -- "$0")" && pwd)
 root=$(dirname -- "$here")
@@ -152,7 +153,6 @@ refuse() {
     allocations=$((allocations + count))
 }
 
-command -v cc >/dev/null || apt-get install -y gcc libc6-dev >/dev/null
 work=$(mktemp -d)
 # Files of the tests lie in memory, where a sync costs nothing.
 room=$work/room

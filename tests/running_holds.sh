@@ -2,22 +2,15 @@
 # What docs/RUNNING.md says: installations whole or not at all; the units, and that the desk makes no call that its unit forbids; the
 # desk behind nginx with TLS; copies of a club that is written to, and a restored one; a full disk.
 #
-# The units are tried by systemd's own tools, the proxy by its stored configuration. Wants root. Installs Debian's packages where they are
-# missing. Not part of the gate.
+# The units are tried by systemd's own tools, the proxy by its stored configuration. Wants root. Not part of
+# the gate.
 # groups: pages package root
+# wants: curl sqlite3 openssl nginx-light strace systemd util-linux tzdata qrencode
 set -eu
 . "$(dirname -- "$0")/serving.sh"
 [ "$(id -u)" = 0 ] || { echo "$0 wants root, for another user and a small disk" >&2; exit 2; }
 top=$(CDPATH='' cd -P -- "$here/.." && pwd)
 PATH=/usr/sbin:/sbin:$PATH
-wants curl curl
-wants sqlite3 sqlite3
-wants openssl openssl
-wants nginx nginx-light
-wants strace strace
-wants systemd-analyze systemd
-wants runuser util-linux
-[ -e /usr/share/zoneinfo/Europe/Berlin ] || installs tzdata
 checks=0
 proxy=
 disk=
@@ -206,7 +199,6 @@ same 'a health pass books nothing' '{"fault":12,"text":"caveat denies","caveat":
 same 'no TLS' 400 "$(curl -sS -o told -w '%{http_code}' "http://127.0.0.1:$front/account")"
 
 # The pages, put into place by the lines of docs/RUNNING.md, but for the package's and this test's folders.
-wants qrencode qrencode
 cp -r "$top/web" web
 mkdir etc www
 printf 'FILE=%s/club\nZONE="CET-1CEST,M3.5.0,M10.5.0/3"\nPORT=8080\n' "$PWD" >etc/club.conf

@@ -1,0 +1,11 @@
+#!/bin/sh
+# The pages are those that `bin/pages` makes of web/src, and its modules pass their own tests, those of web/tests, by Node's runner.
+#
+# Not part of the gate.
+# groups: browser quick
+# wants: nodejs
+set -eu
+cd "$(dirname -- "$0")/.."
+bin/pages --check
+for module in web/src/*.mjs web/tests/*.mjs; do node --check "$module"; done
+exec node --test web/tests/
