@@ -1,16 +1,34 @@
 """What the tests share that pytest runs: the programs, clubs in files, a server of its own for each request, and what it answers.
 
-A server that ends with another status than 0 fails its test with what it wrote on standard error."""
+Files lie in memory, where a sync costs nothing. What a server wrote on standard error is shown where its test fails."""
 
 import json
+import os
+import shutil
+import sqlite3
 import subprocess
+import tempfile
 from dataclasses import dataclass
 
 import pytest
 
 import desk
+import kinds
 
-NOON = "2026-04-20T12:00"
+
+def pytest_addoption(parser):
+    parser.addoption("--no-commands", action="store_const", const="not programs", dest="markexpr", help="what wants no program of ours")
+
+
+def pytest_configure(config):
+    config.addinivalue_line("filterwarnings", "ignore::DeprecationWarning")
+    config.addinivalue_line("markers", "programs: wants the built programs")
+    if config.option.basetemp is None:
+        config.option.basetemp = tempfile.mkdtemp(dir="/dev/shm" if os.access("/dev/shm", os.W_OK) else None)
+
+
+def pytest_unconfigure(config):
+    shutil.rmtree(config.option.basetemp)
 
 
 @dataclass
@@ -47,25 +65,25 @@ class Club:
         self.program, self.file = program, file
 
     def order(self, *words):
-        """A command of `clubdesk` with the club as its file, which has to end well; what it prints."""
+        """The status of a command of `clubdesk` with the club as its file, and what it prints on both outputs."""
         command, *rest = words
-        status, printed, fault = desk.order(self.program, command, self.file, *rest)
-        assert status == 0, f"clubdesk {' '.join(words)}: status {status}, {fault}"
+        return desk.order(self.program, command, self.file, *rest)
+
+    def does(self, words):
+        """A command that has to end well; what it prints."""
+        status, printed, fault = self.order(*words.split())
+        assert status == 0, f"clubdesk {words}: status {status}, {fault}"
         return printed.rstrip("\n")
+
+    def sql(self, statement):
+        with sqlite3.connect(self.file) as database:
+            found = database.execute(statement).fetchall()
+        database.close()
+        return found
 
     def copied_to(self, file):
         desk.copy(self.file, file)
         return Club(self.program, file)
-
-
-def request_bytes(method, path, body=None, passed=None, fields=()):
-    """A request, under a pass if there is one; `fields` are lines of its head."""
-    lines = [f"{method} {path} HTTP/1.1", "Host: club", *fields]
-    if passed is not None:
-        lines.append(f"Authorization: Bearer {passed}")
-    if body is not None:
-        lines.append(f"Content-Length: {len(body.encode())}")
-    return ("\r\n".join(lines) + "\r\n\r\n" + (body or "")).encode()
 
 
 @pytest.fixture(scope="session")
@@ -85,18 +103,72 @@ def passtool():
     return run
 
 
+@pytest.fixture(scope="session")
+def library(tmp_path_factory):
+    """The path of a library of tests/, built, that is loaded before the C library."""
+    folder = tmp_path_factory.mktemp("libraries")
+
+    def built(name):
+        if not (folder / name).exists():
+            subprocess.run(["cc", "-shared", "-fPIC", "-O1", "-o", folder / name, desk.TESTS / f"{name}.c", "-ldl"], check=True)
+        return str(folder / name)
+
+    return built
+
+
 @pytest.fixture
 def server(clubdesk):
     """Starts a server over a club: `with server(club, 2, "--at", MOMENT) as it:`. It has to end well with the block."""
-    return lambda club, count, *words: desk.Server(clubdesk, club.file, count, *words)
+    started = []
+
+    def start(club, count, *words, **more):
+        started.append(desk.Server(clubdesk, club.file, count, *words, **more))
+        return started[-1]
+
+    yield start
+    for it in started:
+        print(it.log.read_text())
 
 
 @pytest.fixture
 def ask(server):
     """What a server of its own answers to the bytes of a request."""
 
-    def reply_to(club, data, at=NOON):
-        with server(club, 1, "--at", at) as it:
+    def reply_to(club, data, at=kinds.NOON, **more):
+        with server(club, 1, "--at", at, **more) as it:
             return Reply(desk.exchange(it.port, data))
 
     return reply_to
+
+
+@pytest.fixture
+def play(ask):
+    """Plays the steps of a scene over a club, which answers as they say; its replies."""
+
+    def played(club, steps):
+        replies = []
+        for step in steps:
+            if isinstance(step, kinds.Sql):
+                club.sql(step.statement)
+            elif isinstance(step, kinds.Order):
+                wanted = (int(bool(step.refusal)), step.printed, step.refusal and step.refusal + "\n")
+                assert club.order(*step.words) == wanted, step
+            else:
+                replies.append(ask(club, step.data, step.moment, file_limit=step.file_limit))
+                assert replies[-1].whole == step.wanted, step
+        return replies
+
+    return played
+
+
+@pytest.fixture(scope="session")
+def club_of_scenes(clubdesk, tmp_path_factory):
+    club = Club(clubdesk, tmp_path_factory.mktemp("made") / "club")
+    for it in kinds.ORDERS:
+        assert club.order(*it.words) == (0, it.printed, "")
+    return club
+
+
+@pytest.fixture
+def club(club_of_scenes, tmp_path):
+    return club_of_scenes.copied_to(tmp_path / "club")

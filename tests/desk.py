@@ -2,8 +2,11 @@
 
 The programs are those of the variables CLUBDESK and PASSTOOL. One without a variable is proved and built first, if that isn't done."""
 
+import errno
 import os
+import resource
 import shutil
+import signal
 import socket
 import sqlite3
 import subprocess
@@ -23,22 +26,30 @@ def program(name):
     return str(ROOT / "crates" / name / "out" / name)
 
 
+def limit_files(size):
+    """Lets a file of this process have so many bytes; a write beyond them is a fault, and no signal."""
+    signal.signal(signal.SIGXFSZ, signal.SIG_IGN)
+    resource.setrlimit(resource.RLIMIT_FSIZE, (size, size))
+
+
 class Server:
     """A server of `clubdesk` over a file, as a context manager: it listens at `port` once the block begins, and has ended after it.
 
-    `words` are further options; `variables` further variables of its environment. At the end of a block without an exception its
-    status has to be 0, unless it was killed. `log` has what it wrote on standard error."""
+    `words` are further options; `by` is a command that runs it; `variables` further variables of its environment; `file_limit` the bytes
+    that a file of it may have. At the end of a block without an exception its status has to be `status`, unless it was killed. `log` has
+    what it wrote on standard error."""
 
-    def __init__(self, desk, file, count, *words, variables=None):
-        self.command = [desk, "serve", str(file), "--port", "0", "--count", str(count), *words]
+    def __init__(self, desk, file, count, *words, variables=None, file_limit=None, status=0, port=0, by=()):
+        self.command = [*by, desk, "serve", str(file), "--port", str(port), "--count", str(count), *words]
         self.log = Path(f"{file}.log")
         self.variables = {**os.environ, **(variables or {})}
-        self.is_killed = False
+        self.limits = (lambda: limit_files(file_limit)) if file_limit else None
+        self.status, self.is_killed = status, False
 
     def __enter__(self):
         with open(self.log, "ab") as log:
             self.process = subprocess.Popen(self.command, stdout=subprocess.PIPE, stderr=log, stdin=subprocess.DEVNULL,
-                                            env=self.variables)
+                                            env=self.variables, preexec_fn=self.limits, restore_signals=False)
         line = self.process.stdout.readline().decode()
         if not line.startswith("listening on 127.0.0.1:"):
             raise AssertionError(f"no server: status {self.process.wait()}, {self.log.read_text()}")
@@ -55,7 +66,7 @@ class Server:
             self.kill()
         status = self.process.wait(60)
         self.process.stdout.close()
-        if kind is None and status != 0 and not self.is_killed:
+        if kind is None and status != self.status and not self.is_killed:
             raise AssertionError(f"the server ended with status {status}: {self.log.read_text()}")
 
 
@@ -69,8 +80,10 @@ def exchange(port, data, seconds=30):
             while part := client.recv(4096):
                 reply += part
         return bytes(reply)
-    except ConnectionError:
-        return None
+    except OSError as fault:
+        if isinstance(fault, ConnectionError) or fault.errno == errno.ENOTCONN:
+            return None
+        raise
 
 
 def order(desk, *words, text=None):

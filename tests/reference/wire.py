@@ -114,21 +114,24 @@ def compact(body):
     return json.dumps(body, separators=(",", ":")).encode()
 
 
-def reply_bytes(reply, methods=None):
-    if isinstance(reply, Refused):
-        status = STATUSES[reply.fault]
-        body = {"fault": reply.fault, "text": TEXTS[reply.fault - 1]} | ({"caveat": reply.caveat} if reply.caveat else {})
-    else:
-        status, body = 200, dict(reply.body)
-        if "day" in body:
-            body["day"] = (EPOCH + timedelta(days=body["day"])).isoformat()
-    body = compact(body)
+def bytes_with(status, body, methods=None):
+    """The bytes of a reply with this body."""
     lines = [f"HTTP/1.1 {status} {PHRASES[status]}", "Content-Type: application/json", f"Content-Length: {len(body)}"]
     if status == 401:
         lines.append("WWW-Authenticate: Bearer")
     if status == 405:
         lines.append(f"Allow: {methods}")
     return "\r\n".join([*lines, "Connection: close", "", ""]).encode() + body
+
+
+def reply_bytes(reply, methods=None):
+    if isinstance(reply, Refused):
+        body = {"fault": reply.fault, "text": TEXTS[reply.fault - 1]} | ({"caveat": reply.caveat} if reply.caveat else {})
+        return bytes_with(STATUSES[reply.fault], compact(body), methods)
+    body = dict(reply.body)
+    if "day" in body:
+        body["day"] = (EPOCH + timedelta(days=body["day"])).isoformat()
+    return bytes_with(200, compact(body))
 
 
 def exchange(club, data, moment):

@@ -1,4 +1,12 @@
-"""Both programs against docs/vectors.json, run by vectors_hold.sh: a test for each pass, text, caveat and run of it."""
+#!/usr/bin/env -S /usr/bin/python3 -B -m pytest -q -p no:cacheprovider
+"""`passtool` and the server agree with docs/vectors.json: passes, texts that are none, verdicts on caveats, replies to requests.
+
+Each pass in each form, texts that are read as the same pass, the verdict of each caveat on each request, each reply byte for byte. The
+signatures are computed once more by Python's standard library, and V1 and V2 by pymacaroons, where it writes the pass as it is. Not part
+of the gate.
+"""
+# groups: pages quick
+# wants: python3-pytest python3-pymacaroons
 
 import hmac
 import json
@@ -7,7 +15,8 @@ import pytest
 from pymacaroons import Macaroon
 
 import desk
-from conftest import Club, request_bytes
+from conftest import Club
+from kinds import Row
 
 VECTORS = json.loads((desk.ROOT / "docs" / "vectors.json").read_text(encoding="utf-8"))
 FORMS = ["v1", "v2", "json"]
@@ -109,7 +118,7 @@ def test_text_that_is_no_pass(passtool, vector):
 def made(clubdesk, tmp_path_factory):
     """The club of the vectors, and amy's pass, the first that its commands print."""
     club = Club(clubdesk, tmp_path_factory.mktemp("made") / "club")
-    printed = [club.order(*(it for it in command.split()[1:] if it != "CLUB")) for command in VECTORS["club"]["commands"]]
+    printed = [club.does(command.removeprefix("clubdesk ").replace(" CLUB", "")) for command in VECTORS["club"]["commands"]]
     return club, next(it for it in printed if it != "done")
 
 
@@ -122,7 +131,7 @@ def verdict(passtool, ask, club, amy, caveat, asked):
     """Of the desk, on a pass with this caveat."""
     passed = passtool("narrow", "--any", "--", caveat, given=amy)[1].strip()
     body = f'{{"guests":{asked["guests"]}}}' if "guests" in asked else None
-    reply = ask(club, request_bytes(asked["method"], asked["path"], body, passed), asked["at"]).value
+    reply = ask(club, Row(asked["method"], asked["path"], body, passed).data, asked["at"]).value
     assert reply.get("caveat", 1) == 1
     return {11: "not understood", 12: "denies"}.get(reply.get("fault"), "allows")
 
@@ -141,6 +150,5 @@ def test_caveat_that_is_not_understood(passtool, ask, club, made, vector, name):
 
 
 @each(VECTORS["runs"])
-def test_replies_of_a_run(ask, club, vector):
-    for exchange in vector["exchanges"]:
-        assert ask(club, exchange["request"].encode(), exchange["at"]).whole.decode() == exchange["reply"]
+def test_replies_of_a_run(play, club, vector):
+    play(club, [Row(raw=it["request"].encode(), moment=it["at"], wanted=it["reply"].encode()) for it in vector["exchanges"]])
