@@ -1,0 +1,103 @@
+#!/usr/bin/env -S /usr/bin/python3 -B -m pytest -q -p no:cacheprovider
+"""Servers killed in the middle of 200 bookings: each that was acknowledged is in the file, once, and the same requests then get the same
+replies.
+
+They are killed at times drawn by a fixed seed. sqlite3, the day sheets and GETs find each acknowledged booking; the one under way may be
+there too, whole. The totals are the sums. At the end all 200 bookings are there, once. Not part of the gate. ROUNDS=N kills N servers.
+"""
+# groups: faults
+# wants: python3-pytest
+
+import copy
+import os
+import random
+import threading
+import time
+
+import pytest
+
+import desk
+from both import Both, expect, spelled_day
+from kinds import ACCOUNT, NOON, ONE, ROOT, TWO, Row, key_pass, text
+from reference import caveats, wire
+
+ROUNDS = int(os.environ.get("ROUNDS", "20"))
+MOMENT, MAY = caveats.moment_of(NOON), caveats.day_of("2026-05-01")
+DAYS = range(MAY, MAY + 8)
+KEYS = [text(key_pass(f"k{key}")) for key in range(1, 5)]
+SLOTS = [f"/slots/court-1/{spelled_day(MAY + slot // 14)}/{8 + slot % 14:02}" for slot in range(100)]
+# Of the two in a slot the first is for two persons and the second for one.
+PUTS = [Row("PUT", f"{SLOTS[it // 2]}/bookings/{it + 1}", ONE if it % 2 else TWO, KEYS[it % 4]).data for it in range(200)]
+GETS = [Row("GET", path, passed=KEYS[0]).data for path in SLOTS] + [ACCOUNT.under(it).data for it in KEYS]
+
+
+class Desk(Both):
+    """Four members, each with a key, and a court with 4 places for 7 points. 10,000 points are enough."""
+
+    def begin(self):
+        self.give(("add-facility", "court-1", "court", 4, 7, 8, 22))
+        for key in range(1, 5):
+            self.give(("add-member", f"m{key}", 99))
+            self.give(("credit", f"m{key}", 10_000))
+            self.give(("add-key", f"k{key}", f"m{key}", bytes.fromhex(ROOT)))
+
+    def copied_to(self, file):
+        desk.copy(self.file, file)
+        other = copy.deepcopy(self)
+        other.file = file
+        return other
+
+    def server(self, count):
+        return desk.Server(self.desk, self.file, count, "--at", NOON)
+
+    def asks(self, requests):
+        with self.server(len(requests)) as it:
+            for data in requests:
+                self.ask(it, data, MOMENT)
+
+    def holds(self):
+        """The file has the bookings of the reference, each once, and nothing else."""
+        expect("sound", desk.rows(self.file, "SELECT * FROM pragma_integrity_check"), [("ok",)])
+        expect("references", desk.rows(self.file, "SELECT * FROM pragma_foreign_key_check"), [])
+        self.compare_rows()
+        for day in DAYS:
+            self.compare_sheet(day)
+        self.asks(GETS)
+
+    def killed_after(self, seconds):
+        """The replies of a server that is killed so long after the first request began."""
+        replies = []
+        with self.server(1_000_000) as it:
+            client = threading.Thread(target=lambda: [replies.append(desk.exchange(it.port, data)) for data in PUTS])
+            client.start()
+            time.sleep(seconds)
+            it.kill()
+            client.join()
+        return replies
+
+
+@pytest.fixture(scope="module")
+def begun(clubdesk, tmp_path_factory):
+    """The club without bookings, and how long they take."""
+    club = Desk(clubdesk, tmp_path_factory.mktemp("begun") / "club")
+    club.begin()
+    whole = club.copied_to(club.file.with_name("whole"))
+    start = time.monotonic()
+    whole.asks(PUTS)
+    seconds = time.monotonic() - start
+    whole.holds()
+    return club, seconds
+
+
+@pytest.mark.parametrize("number", range(ROUNDS))
+def test_server_that_is_killed(begun, tmp_path, number):
+    club = begun[0].copied_to(tmp_path / "club")
+    replies = club.killed_after(random.Random(number).random() * begun[1])
+    acknowledged = [it for it in replies if it]
+    there = len(desk.rows(club.file, "SELECT * FROM bookings"))
+    assert there in (len(acknowledged), len(acknowledged) + 1)
+    wanted = [wire.exchange(club.club, data, MOMENT) for data in PUTS[:there]]
+    assert acknowledged == wanted[:len(acknowledged)]
+    club.holds()
+    club.asks(PUTS)
+    club.holds()

@@ -1,0 +1,225 @@
+#!/usr/bin/env -S /usr/bin/python3 -B -m pytest -q -p no:cacheprovider
+"""`examples/client.py` against a server that is killed and started again 100 times, and behind a proxy that fails: nothing is booked
+twice, and nothing that was acknowledged is lost.
+
+Every fifth time the client is killed too. It books slots, each asked for once, and cancels most of them. At the end the file has each
+booking once: those on the client's record, with the charges, places and refunds that were acknowledged, and no others. The totals are the
+sums. Then each command of client.py is called, with what it prints, and the proxy fails in several ways. Not part of the gate. KILLS=N kills
+N servers.
+"""
+# groups: programs faults
+# wants: python3-pytest
+
+import multiprocessing
+import os
+import random
+import re
+import socket
+import subprocess
+import sys
+import threading
+import time
+from datetime import date
+
+import pytest
+
+import desk
+from conftest import Club
+from kinds import NOON, ROOT
+
+sys.path.insert(0, str(desk.ROOT / "examples"))
+from client import Client, NoReply, Record
+
+KILLS = int(os.environ.get("KILLS", "100"))
+KEYS = range(8)
+# Facility, day, hour and guests, each slot once.
+SLOTS = [(f"court-{it % 10}", f"2026-05-{1 + it // 10 % 30:02}", f"{8 + it // 300 % 14:02}", it % 3) for it in range(10 * 30 * 14)]
+
+
+class Counting(Client):
+    """Writes a line for each request that got no reply, and so is sent again."""
+
+    def __init__(self, folder, port, key, file=None):
+        super().__init__(f"http://127.0.0.1:{port}", (folder / f"pass.{key}").read_text().strip(), Record(folder / f"record.{key}"))
+        self.file = file
+
+    def _exchange(self, *words):
+        try:
+            return super()._exchange(*words)
+        except NoReply:
+            print("again", file=self.file, flush=True)
+            raise
+
+
+def work(folder, port):
+    """Books each slot that isn't on the record yet, and cancels ten of eleven, so that no member reaches the quota of 99."""
+    with open(folder / "acknowledged", "a", encoding="utf-8") as file:
+        clients = [Counting(folder, port, key, file) for key in KEYS]
+        for client in clients:
+            client.repeat()
+        for place, (facility, day, hour, guests) in enumerate(SLOTS):
+            client = clients[place % 8]
+            asked = {(it["facility"], it["day"], it["hour"]): number for number, it in client.record.bookings.items()
+                     if it["book"] is None or it["book"].get("fault") != 13}
+            number = asked.get((facility, day, hour))
+            if number is None:
+                reply = client.book(facility, day, hour, guests)
+                assert "fault" not in reply, (facility, day, hour, reply)
+                number = int(reply["booking"].split("/")[1])
+                print(number, "book", reply["charge"], reply["left"], file=file, flush=True)
+            if place % 11 and "cancel" not in client.record.bookings[number]:
+                print(number, "cancel", client.cancel(number)["refund"], file=file, flush=True)
+
+
+def killed_and_killed(start, folder):
+    """Kills servers, and every fifth time the worker; the port of them all."""
+    draw, worker, port = random.Random(20260501), None, 0
+    for kill in range(1, KILLS + 1):
+        with start(port) as server:
+            port = server.port
+            if worker is None or not worker.is_alive():
+                assert worker is None or worker.exitcode <= 0, "the worker failed"
+                worker = multiprocessing.Process(target=work, args=(folder, port))
+                worker.start()
+            time.sleep(draw.uniform(0.05, 0.4))
+            server.kill()
+        if kill % 5 == 0:
+            worker.kill()
+            worker.join()
+        time.sleep(draw.uniform(0, 0.05))
+    return worker, port
+
+
+def recorded(folder, port):
+    """What the clients' records say of each booking, once nothing is unfinished."""
+    rows = {}
+    for key in KEYS:
+        client = Counting(folder, port, key, sys.stderr)
+        client.repeat()
+        for number, it in client.record.bookings.items():
+            reply, cancelled = it["book"], it.get("cancel")
+            assert reply.get("fault") in (None, 13), reply
+            if "fault" not in reply:
+                rows[f"k{key}", number] = (it["facility"], date.fromisoformat(it["day"]).toordinal() - 719163, int(it["hour"]), it["guests"], reply["charge"],
+                                           reply["left"], int(cancelled is not None), cancelled["refund"] if cancelled else 0)
+    return rows
+
+
+def test_servers_and_clients_that_are_killed(clubdesk, tmp_path):
+    club = Club(clubdesk, tmp_path / "club")
+    for court in range(10):
+        club.does(f"add-facility court-{court} court 4 7 8 22")
+    for key in KEYS:
+        club.does(f"add-member m{key} 99")
+        club.does(f"credit m{key} 1000000")
+        (tmp_path / f"pass.{key}").write_text(club.does(f"add-key k{key} m{key} {ROOT}"))
+
+    def start(port):
+        return desk.Server(clubdesk, club.file, 1_000_000, "--at", NOON, port=port)
+
+    worker, port = killed_and_killed(start, tmp_path)
+    with start(port) as server:
+        time.sleep(1)
+        worker.kill()
+        worker.join()
+        rows = recorded(tmp_path, port)
+        server.kill()
+    club.does("sheet 2026-05-01")
+    assert {row[:2]: row[2:] for row in club.sql("SELECT * FROM bookings")} == rows
+    assert len({row[:3] for row in rows.values()}) == len(rows) > KILLS, "a slot is booked twice, or few are"
+    by_number = {number: row for (_, number), row in rows.items()}
+    lines = [line.split() for line in (tmp_path / "acknowledged").read_text().splitlines(keepends=True) if line.endswith("\n")]
+    assert ["again"] in lines
+    for number, action, *numbers in (line for line in lines if line != ["again"]):
+        row = by_number[int(number)]
+        assert [int(it) for it in numbers] == (list(row[4:6]) if action == "book" else [row[7]]), number
+    for total in ("SELECT name FROM members WHERE used <> (SELECT total(charge - refund) FROM bookings JOIN keys ON keys.name = pass_key"
+                  " WHERE member = members.name)",
+                  "SELECT * FROM slots s WHERE taken <> (SELECT total(guests + 1) FROM bookings b WHERE cancelled = 0"
+                  " AND b.facility = s.facility AND b.day = s.day AND b.hour = s.hour)"):
+        assert club.sql(total) == []
+
+
+@pytest.fixture
+def own(clubdesk, tmp_path):
+    """A club of amy's, and her client."""
+    club = Club(clubdesk, tmp_path / "own")
+    for words in ("add-facility court-1 court 4 200 8 22", "add-member amy 2", "credit amy 10000"):
+        club.does(words)
+    (tmp_path / "pass").write_text(club.does(f"add-key amy-1 amy {ROOT}"))
+
+    def prints(port, words, patience=0):
+        """The status of the client, what it prints, with N for a number drawn, and the number."""
+        ended = subprocess.run([desk.ROOT / "examples" / "client.py", *words.split()], cwd=tmp_path, check=False, stdout=subprocess.PIPE, text=True,
+                               env={**os.environ, "DESK": f"http://127.0.0.1:{port}", "PATIENCE": str(patience)})
+        drawn = re.search(r"amy-1/(\d+)", ended.stdout)
+        return ended.returncode, re.sub(r'("number":|amy-1/)\d+', r"\1N", ended.stdout), drawn and drawn[1]
+
+    return club, prints
+
+
+def test_commands(own, server):
+    club, prints = own
+    with server(club, 8, "--at", NOON) as it:
+        status, printed, number = prints(it.port, "book court-1 2026-05-01 18 2")
+        assert (status, printed) == (0, '{"booking":"amy-1/N","charge":600,"left":1}\n')
+        for words, wanted, text in (
+                ("book court-1 2026-05-01 18 1", 1, '{"fault":18,"text":"no places"}\n'),
+                ("show court-1 2026-05-01 18", 0,
+                 '{"facility":"court-1","day":"2026-05-01","hour":18,"kind":"court","price":200,"places":4,"taken":3,"closed":false}\n'),
+                (f"cancel {number}", 0, '{"booking":"amy-1/N","refund":600}\n'), (f"cancel {number}", 0, '{"booking":"amy-1/N","refund":600}\n'),
+                ("account", 0, '{"member":"amy","balance":10000,"quota":2,"open":0,"spent":0}\n'), ("repeat", 0, ""),
+                ("list", 0, '{"number":N,"book":{"booking":"amy-1/N","charge":600,"left":1},"facility":"court-1","day":"2026-05-01","hour":"18","guests":2,'
+                 '"cancel":{"booking":"amy-1/N","refund":600}}\n'
+                 '{"number":N,"book":{"fault":18,"text":"no places"},"facility":"court-1","day":"2026-05-01","hour":"18","guests":1}\n')):
+            assert prints(it.port, words)[:2] == (wanted, text)
+        for _ in range(2):
+            prints(it.port, "account")
+    # Nobody listens: the request stays on record, and is finished once there is a server again.
+    assert prints(it.port, "book court-1 2026-05-02 18 0")[:2] == (3, "")
+    with server(club, 1, "--at", NOON) as it:
+        assert prints(it.port, "repeat")[:2] == (0, '{"booking":"amy-1/N","charge":200,"left":3}\n')
+    assert prints(it.port, "borrow")[:2] == (1, "")
+
+
+# ---- a proxy that fails in another way at each request
+
+REPLIES = {"bad-gateway": (502, "<html>bad gateway</html>"), "page": (200, "<html>a page</html>"), "json": (500, '{"error":"proxy"}'),
+           "unavailable": (503, '{"fault":22,"text":"unavailable"}')}
+CUT_AT = {"swallowed": 0, "head-cut": 40, "body-cut": -5, "whole": None}  # of the desk's reply
+
+
+def request_from(client):
+    """A head, and its body of as many bytes as it asks for."""
+    request = b""
+    while b"\r\n\r\n" not in request:
+        request += client.recv(4096)
+    head, body = request.split(b"\r\n\r\n", 1)
+    length = re.search(rb"(?i)content-length: (\d+)", head)
+    while len(body) < int(length[1] if length else 0):
+        body += client.recv(4096)
+    return head + b"\r\n\r\n" + body
+
+
+def fail_in_turn(listener, port):
+    for kind in ("silent", *REPLIES, *CUT_AT):
+        with listener.accept()[0] as client:
+            request = request_from(client)
+            if kind in REPLIES:
+                status, body = REPLIES[kind]
+                client.sendall(f"HTTP/1.1 {status} Failed\r\nContent-Length: {len(body)}\r\nConnection: close\r\n\r\n{body}".encode())
+            elif kind != "silent":
+                client.sendall(desk.exchange(port, request)[:CUT_AT[kind]])
+
+
+def test_proxy_that_fails(own, server):
+    club, prints = own
+    number = ""
+    for words, reply in (("book court-1 2026-05-03 18 0", '{"booking":"amy-1/N","charge":200,"left":3}\n'), ("cancel ", '{"booking":"amy-1/N","refund":200}\n')):
+        with server(club, len(CUT_AT), "--at", NOON) as it, socket.create_server(("127.0.0.1", 0)) as listener:
+            proxy = threading.Thread(target=fail_in_turn, args=(listener, it.port))
+            proxy.start()
+            status, printed, number = prints(listener.getsockname()[1], words + number * words.startswith("cancel"), 60)
+            assert (status, printed) == (0, reply)
+            proxy.join()
+    assert club.sql("SELECT count(*), sum(cancelled) FROM bookings") == [(1, 1)]

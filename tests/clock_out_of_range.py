@@ -1,0 +1,50 @@
+#!/usr/bin/env -S /usr/bin/python3 -B -m pytest -q -p no:cacheprovider
+"""Runs clubdesk's server under a clock that is set for it, at the first and the last minutes of the years 2000 to 2099 and beyond
+them, in three zones. Where the clock shows a moment of the club's, each client has its reply. Where it shows none, or can't be
+read, the first client has no byte, a second one isn't waited for, the server ends with status 6 and its line, and the club is
+as it was. Not part of the gate.
+"""
+# groups: faults
+# wants: python3-pytest gcc libc6-dev
+
+from datetime import datetime, timezone
+
+import pytest
+
+import desk
+from kinds import account
+
+CENTRAL, WESTERN = "CET-1CEST,M3.5.0,M10.5.0/3", "EST5"
+
+
+@pytest.fixture
+def clock(library, server, club):
+    """A server for two connections, whose clock stands at a time of UTC's, or can't be read."""
+
+    def server_at(zone, time, status=0):
+        second = "unreadable" if time is None else str(int(datetime.fromisoformat(time).replace(tzinfo=timezone.utc).timestamp()))
+        return server(club, 2, "--zone", zone, "--log", status=status, variables={"CLOCK_SECOND": second, "LD_PRELOAD": library("set_clock")})
+
+    return server_at
+
+
+@pytest.mark.parametrize("zone, time, minute", [
+    ("UTC0", "2000-01-01T00:00:00", "2000-01-01T00:00"), ("UTC0", "2099-12-31T23:59:59", "2099-12-31T23:59"),
+    (CENTRAL, "1999-12-31T23:00:00", "2000-01-01T00:00"), (CENTRAL, "2099-12-31T22:59:59", "2099-12-31T23:59"),
+    (WESTERN, "2100-01-01T04:59:59", "2099-12-31T23:59")])
+def test_moment_of_the_club(clock, zone, time, minute):
+    with clock(zone, time) as it:
+        for _ in range(2):
+            assert desk.exchange(it.port, account().data) == account().wanted
+    assert [line.startswith(f"{minute} GET /account 200 ") for line in it.log.read_text().splitlines()].count(True) == 2
+
+
+@pytest.mark.parametrize("zone, time", [
+    ("UTC0", "1999-12-31T23:59:59"), ("UTC0", "2100-01-01T00:00:00"), ("UTC0", "1970-01-01T00:00:00"), ("UTC0", "9999-12-31T23:59:59"),
+    (CENTRAL, "1999-12-31T22:59:59"), (CENTRAL, "2099-12-31T23:00:00"), (WESTERN, "2000-01-01T04:59:59"), ("UTC0", None)])
+def test_no_moment_of_the_club(clock, club, zone, time):
+    before = club.file.read_bytes()
+    with clock(zone, time, status=6) as it:
+        assert not desk.exchange(it.port, account().data)
+    assert it.log.read_text().splitlines()[-1] == "clock out of range"
+    assert club.file.read_bytes() == before

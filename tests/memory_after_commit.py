@@ -1,0 +1,31 @@
+#!/usr/bin/env -S /usr/bin/python3 -B -m pytest -q -p no:cacheprovider
+"""The server allocates nothing between a commit and its reply: six bookings and three cancellations in a file, under passes in V1, V2
+and JSON.
+
+A refused allocation that the server passes over would change no byte, so no test over bytes can see one. The commit is the last call that
+syncs the file before the reply is sent.
+"""
+# groups: faults
+# wants: python3-pytest gcc libc6-dev
+
+import pytest
+
+import desk
+from kinds import AMY, ONE, book, cancel, slot, text
+from conftest import Reply
+from reference import passes
+
+
+@pytest.mark.parametrize("form", passes.FORMS)
+def test_no_allocation_after_a_commit(club, server, library, tmp_path, form):
+    calls = tmp_path / "calls"
+    with server(club, 3, "--at", "2026-04-20T12:00", variables={"CALLS_TOLD": str(calls), "LD_PRELOAD": library("refused_memory")}) as it:
+        for row in (book(1, ONE), book(2, ONE, slot("19")), cancel(1)):
+            calls.write_text("")
+            assert Reply(desk.exchange(it.port, row.under(text(AMY, form=form)).data)).status == 200
+            lines = [line.split() for line in calls.read_text().splitlines()]
+            sent = [name for name, _ in lines].index("send")
+            assert sent > 0, "no commit before the reply"
+            assert {name for name, _ in lines[:sent]} == {"sync"}
+            assert int(lines[sent][1]) - int(lines[sent - 1][1]) == 0, "allocations after the commit"
+            assert int(lines[sent][1]) > 0, "no allocation was seen"

@@ -1,0 +1,36 @@
+#!/usr/bin/env -S /usr/bin/python3 -B -m pytest -q -p no:cacheprovider
+"""Each command of `passtool`, in each form, with each allocation refused in turn: it ends with status 4 and no output, or as if nothing
+had been refused.
+
+Each of the first 400 is refused, more than any command makes. Not part of the gate.
+"""
+# groups: faults
+# wants: python3-pytest gcc libc6-dev
+
+import os
+import subprocess
+
+import pytest
+
+import desk
+from kinds import ROOT, key_pass, text
+from reference import passes
+
+CAVEATS = ("kind = court", "guests <= 2")
+COMMANDS = [("mint", "--root", ROOT, "--id", "key:amy-1", "--location", "club-desk", "--form", "FORM", *CAVEATS), ("show",),
+            ("narrow", *CAVEATS), ("convert", "--form", "json"), ("convert", "--form", "v2"), ("verify", "--root", ROOT)]
+
+
+@pytest.mark.parametrize("words", COMMANDS, ids=" ".join)
+@pytest.mark.parametrize("form", passes.FORMS)
+def test_each_allocation_refused(library, form, words):
+    words = [desk.program("passtool"), *(it.replace("FORM", form) for it in words)]
+
+    def ended(variables):
+        run = subprocess.run(words, input=text(key_pass("amy-1"), form=form).encode(), capture_output=True, check=False, env={**os.environ, **variables})
+        return run.returncode, run.stdout, run.stderr
+
+    whole = ended({})
+    assert whole[0] == 0
+    found = [ended({"REFUSED_ALLOCATION": str(number), "LD_PRELOAD": library("refused_memory")}) for number in range(1, 401)]
+    assert set(found) == {whole, (4, b"", b"out of memory\n")}
