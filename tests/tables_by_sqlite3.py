@@ -1,0 +1,362 @@
+#!/usr/bin/env -S /usr/bin/python3 -B -m pytest -q -p no:cacheprovider
+"""What `clubdesk` puts into a file against SQLite's shell; the lists and corrections of docs/RUNNING.md; files that hold no club, and
+rows out of their limits, are a fault of storage.
+
+With the columns, keys, references and limits of docs/TABLES.md. What sqlite3 changes within them, clubdesk shows; a file that is refused
+stays as it was, byte for byte. Not part of the gate.
+"""
+# groups: programs
+# wants: python3-pytest sqlite3
+
+import re
+import shutil
+import sqlite3
+import subprocess
+
+import pytest
+
+import desk
+from conftest import Club
+from kinds import ACCOUNT, ONE, ROOM, THREE, book, booked, cancel, key_pass, order, shown, slot, text, view
+
+DAY = "2026-05-01"
+RUNNING = (desk.ROOT / "docs" / "RUNNING.md").read_text(encoding="utf-8")
+ROOT = "30313233343536373839616263646566"
+AMY = text(key_pass("amy-1", ROOT))
+UNAVAILABLE = '{"fault":22,"text":"unavailable"}'
+LINE_7 = "court-1                  18:00 amy-1                            7  3    600\n"
+LINE_9 = "court-1                  18:00 amy-1                            9  1    200\n"
+NO_BOOKINGS = order(f"sheet {DAY}", printed=f"Day sheet {DAY}\nNo bookings.\n")
+
+
+def tells(taken, balance, opened, spent, quota=5, sheet=LINE_7 + "Total bookings 1, persons 3, charge 600\n", nine=True, room=False):
+    """What shows a club: three slots, the account, and the day sheet. `nine` and `room` say whether these slots are closed."""
+    rows = [shown(0, 9, nine), shown(taken), view(ROOM).serves(facility="room-1", day=DAY, hour=18, kind="room", price=601, places=1, taken=0, closed=room),
+            ACCOUNT.serves(member="amy", balance=balance, quota=quota, open=opened, spent=spent)]
+    return [*(it.under(AMY) for it in rows), order(f"sheet {DAY}", printed=f"Day sheet {DAY}\n{sheet}")]
+
+
+FIRST = tells(3, 9099, 1, 901)
+
+
+@pytest.fixture(scope="module")
+def made(clubdesk, tmp_path_factory):
+    """A club with a booking, and one that was cancelled less than a day before its slot."""
+    club = Club(clubdesk, tmp_path_factory.mktemp("made") / "club")
+    for words in ("add-member amy 5", "credit amy 10000", "add-facility court-1 court 4 200 8 22", "add-facility room-1 room 1 601 8 22",
+                  f"add-key amy-1 amy {ROOT}", f"close-slot court-1 {DAY} 09"):
+        club.does(words)
+    rows = [booked(book(7, THREE), 600, 1), booked(book(8, ONE, ROOM), 601, 0), cancel(8, ROOM).at("2026-04-30T18:01").serves(booking="amy-1/8", refund=300)]
+    for row in rows:
+        with desk.Server(clubdesk, club.file, 1, "--at", row.moment) as server:
+            assert desk.exchange(server.port, row.under(AMY).data) == row.wanted
+    return club
+
+
+@pytest.fixture
+def club(made, tmp_path):
+    """A copy of that club's file without its log: the club lies in the one file."""
+    shutil.copy(made.file, tmp_path / "club")
+    return Club(made.program, tmp_path / "club")
+
+
+def shell(club, *words, given=None):
+    """What sqlite3 prints."""
+    return subprocess.run(["sqlite3", "-bail", club.file, *words], input=given, capture_output=True, check=True, text=True).stdout
+
+
+def sql(club, statements):
+    return shell(club, f"PRAGMA foreign_keys = ON; {statements}")
+
+
+def dump(club):
+    return subprocess.run(["sqlite3", club.file, ".dump"], capture_output=True, check=False).stdout
+
+
+def test_what_clubdesk_tells(club, play):
+    play(club, FIRST)
+
+
+def test_rows(club):
+    assert sql(club, """PRAGMA integrity_check; PRAGMA foreign_key_check; SELECT * FROM desk; SELECT * FROM members; SELECT * FROM facilities;
+        SELECT name, member, hex(root), revoked FROM keys; SELECT * FROM slots; SELECT * FROM bookings; SELECT * FROM old_roots""") == """\
+ok
+2
+amy|10000|5|901
+court-1|court|4|200|8|22
+room-1|room|1|601|8|22
+amy-1|amy|30313233343536373839616263646566|0
+court-1|20574|9|1|0
+court-1|20574|18|0|3
+room-1|20574|18|0|0
+amy-1|7|court-1|20574|18|2|600|1|0|0
+amy-1|8|room-1|20574|18|0|601|0|1|300
+"""
+
+
+def test_sums_of_an_auditor(club):
+    taken = "SELECT total(guests + 1) FROM bookings WHERE cancelled = 0 AND day = 20574 AND hour = 18 AND facility ="
+    assert sql(club, f"""SELECT total(charge - refund) FROM bookings WHERE pass_key = 'amy-1';
+        SELECT credited - (SELECT total(charge - refund) FROM bookings JOIN keys ON name = pass_key WHERE member = 'amy')
+            FROM members WHERE name = 'amy';
+        {taken} 'court-1'; {taken} 'room-1'; SELECT date(20574 * 86400, 'unixepoch')""").split() == ["901.0", "9099.0", "3.0", "0.0", DAY]
+    sound(club)
+
+
+# Of each table its columns: name, type, place in the key. None may be null, and all tables are STRICT.
+COLUMNS = """\
+bookings: pass_key TEXT 1, number INTEGER 2, facility TEXT, day INTEGER, hour INTEGER, guests INTEGER, charge INTEGER, remains INTEGER, cancelled INTEGER, refund INTEGER
+desk: version INTEGER
+facilities: name TEXT 1, kind TEXT, places INTEGER, price INTEGER, opens INTEGER, shuts INTEGER
+keys: name TEXT 1, member TEXT, root BLOB, revoked INTEGER
+members: name TEXT 1, credited INTEGER, quota INTEGER, used INTEGER
+old_roots: pass_key TEXT 1, root BLOB, until INTEGER
+slots: facility TEXT 1, day INTEGER 2, hour INTEGER 3, closed INTEGER, taken INTEGER
+"""
+
+
+def test_columns(club):
+    found = {}
+    for line in sql(club, """SELECT t.name, c.name || ' ' || c.type || iif(c.pk, ' ' || c.pk, '') FROM pragma_table_list t, pragma_table_info(t.name) c
+            WHERE t.strict AND c."notnull" ORDER BY t.name, c.cid""").splitlines():
+        found.setdefault(line.split("|")[0], []).append(line.split("|")[1])
+    assert "".join(f"{table}: {', '.join(columns)}\n" for table, columns in found.items()) == COLUMNS
+    assert sql(club, """SELECT count(*) FROM pragma_table_list t, pragma_table_info(t.name) c
+        WHERE t.name NOT LIKE 'sqlite%' AND NOT (t.strict AND c."notnull")""") == "0\n"
+
+
+def test_references(club):
+    assert sql(club, """SELECT t.name, f."from", f."table", f."to" FROM pragma_table_list t, pragma_foreign_key_list(t.name) f
+        ORDER BY t.name, f."from" """).split() == [
+        "bookings|facility|facilities|name", "bookings|pass_key|keys|name", "keys|member|members|name", "old_roots|pass_key|keys|name",
+        "slots|facility|facilities|name"]
+
+
+# Table, column, least, most. Each is taken, and the numbers beside them are refused.
+LIMITS = """
+members credited 0 999999999; members quota 0 99; members used 0 999999999; facilities places 1 50
+facilities price 0 9999; facilities opens 0 23; facilities shuts 1 24; keys revoked 0 1
+slots closed 0 1; bookings cancelled 0 1; slots day 10957 47481; bookings day 10957 47481
+slots hour 0 23; bookings hour 0 23; bookings number 1 999999999; bookings guests 0 49
+bookings remains 0 49; bookings charge 0 499950; bookings refund 0 499950; old_roots until 15778080 68374079"""
+
+
+@pytest.mark.parametrize("limit", re.split(r"[;\n] ?", LIMITS.strip()))
+def test_limit(club, limit):
+    table, column, least, most = limit.split()
+    sql(club, "INSERT INTO old_roots VALUES ('amy-1', zeroblob(16), 20000000)")
+    for value in (int(least) - 1, int(least), int(most), int(most) + 1):
+        ended = subprocess.run(["sqlite3", club.file, f"BEGIN; UPDATE {table} SET {column} = {value} WHERE rowid = 1"], capture_output=True, check=False, text=True)
+        is_refused = not int(least) <= value <= int(most)
+        assert (ended.returncode, "CHECK constraint failed" in ended.stderr) == (19 if is_refused else 0, is_refused), value
+
+
+def test_what_sqlite3_writes_is_told(club, play):
+    """Within the limits, beside the log that clubdesk left."""
+    club.does(f"sheet {DAY}")
+    sql(club, """UPDATE members SET credited = credited + 5, quota = 99, used = used + 200; DELETE FROM slots;
+        INSERT INTO slots VALUES ('room-1', 20574, 18, 1, 0), ('court-1', 20574, 9, 0, 0), ('court-1', 20574, 18, 0, 4);
+        INSERT INTO bookings VALUES ('amy-1', 9, 'court-1', 20574, 18, 0, 200, 0, 0, 0);
+        INSERT INTO old_roots VALUES ('amy-1', zeroblob(16), 20000000)""")
+    play(club, tells(4, 8904, 2, 1101, 99, LINE_7 + LINE_9 + "Total bookings 2, persons 4, charge 800\n", nine=False, room=True))
+    sql(club, "UPDATE keys SET revoked = 1")
+    play(club, [it.under(AMY).gets(10) for it in (view(slot("09")), view(), view(ROOM), ACCOUNT)])
+
+
+# ---- docs/RUNNING.md
+
+
+def by_recipe(club, heading):
+    """What the shell prints for the block under this heading."""
+    return shell(club, given=re.search(rf"^### {heading}\n[^#]*?```sql\n(.*?)^```", RUNNING, re.MULTILINE | re.DOTALL)[1])
+
+
+def sound(club):
+    """The totals are as they are to be."""
+    assert by_recipe(club, "Afterwards") + sql(club, "PRAGMA integrity_check") == "0\n0\n0\nok\n"
+
+
+def corrected(club, heading, again):
+    """The correction finds a row, and so many once more, where it changes nothing if it finds none."""
+    assert by_recipe(club, heading) == "1\n"
+    sound(club)
+    before = dump(club)
+    assert by_recipe(club, heading) == f"{again}\n"
+    sound(club)
+    assert again or dump(club) == before
+
+
+def test_lists(club, play):
+    club.does("rotate-key amy-1 40414243444546474849414243444546 2026-05-02T00:00")
+    club.does("add-member bob 1")
+    assert by_recipe(club, "Members") == "amy|9099|5\nbob|0|1\n"
+    assert by_recipe(club, "Keys of a member") == "amy-1|0|2026-05-02T00:00\n"
+    assert by_recipe(club, "Bookings of a member") == "2026-05-01|18|court-1|amy-1|7|3|600\n"
+    assert by_recipe(club, "Closed slots") == "court-1|2026-05-01|9\n"
+    play(club, FIRST)
+
+
+def test_corrections(club, play):
+    """The desk's answers are those of a club of which it has been so all the time."""
+    corrected(club, "A credit that was too high", 1)
+    corrected(club, "Another quota", 1)
+    corrected(club, "A slot that is open again", 0)
+    play(club, tells(3, 8099, 1, 901, 8, nine=False))
+    sql(club, "UPDATE members SET credited = used + 499")
+    before = dump(club)
+    assert by_recipe(club, "A credit that was too high") == "0\n"
+    assert dump(club) == before
+    sql(club, "UPDATE members SET credited = 10000, quota = 5")
+    club.does("revoke-key amy-1")
+    corrected(club, "Cancel for a revoked key", 0)
+    sql(club, "UPDATE keys SET revoked = 0")
+    play(club, [*tells(0, 9699, 0, 301, sheet="No bookings.\n", nine=False), cancel(7).under(AMY).serves(booking="amy-1/7", refund=600)])
+
+
+# ---- other files
+
+
+@pytest.mark.parametrize("is_there", [True, False])
+def test_file_that_becomes_a_club(clubdesk, play, tmp_path, is_there):
+    club = Club(clubdesk, tmp_path / "new")
+    if is_there:
+        club.file.touch()
+    play(club, [NO_BOOKINGS])
+    assert sql(club, """PRAGMA integrity_check; SELECT * FROM desk;
+        SELECT count(*) FROM members, facilities, keys, slots, bookings""") == "ok\n2\n0\n"
+
+
+@pytest.mark.parametrize("change", ["DROP TABLE old_roots; DROP INDEX bookings_by_key; UPDATE desk SET version = 1", "DROP INDEX bookings_by_key"])
+def test_file_of_before_is_migrated(club, play, change):
+    """The rows and the schema are the same, and no key has an older root."""
+    schema = sql(club, "SELECT type, name, sql FROM sqlite_schema")
+    sql(club, change)
+    play(club, FIRST)
+    assert sql(club, "PRAGMA integrity_check; SELECT * FROM desk; SELECT count(*) FROM old_roots") == "ok\n2\n0\n"
+    assert sql(club, "SELECT type, name, sql FROM sqlite_schema") == schema
+
+
+def test_tables_of_others_stay(clubdesk, play, tmp_path):
+    club = Club(clubdesk, tmp_path / "notes")
+    sql(club, "CREATE TABLE notes (text TEXT); INSERT INTO notes VALUES ('a')")
+    play(club, [NO_BOOKINGS])
+    assert sql(club, "SELECT * FROM notes; SELECT * FROM desk") == "a\n2\n"
+
+
+@pytest.fixture
+def refused(ask):
+    """Whether a sheet, or a request where the file is opened, meets a fault of storage; the file stays as it was, and so do its rows."""
+
+    def is_refused(club):
+        before = club.file.read_bytes(), dump(club)
+        status, _, fault = club.order("sheet", DAY)
+        if (status, fault) != (5, "storage failed\n"):
+            assert (status, fault) == (0, "")
+            assert UNAVAILABLE in [ask(club, it.under(AMY).data).body for it in (view(slot("09")), view(), view(ROOM), ACCOUNT)], "all is told"
+        assert (club.file.read_bytes(), dump(club)) == before
+
+    return is_refused
+
+
+def damaged(data):
+    return data[:16385] + b"\xff" * 4 + data[16389:]
+
+
+@pytest.mark.parametrize("spoil", [lambda _: b"x" * 100, lambda data: data[:20000], damaged], ids=["no database", "half a file", "a damaged page"])
+def test_bytes_that_are_no_club(club, refused, spoil):
+    club.file.write_bytes(spoil(club.file.read_bytes()))
+    refused(club)
+
+
+def test_order_that_is_refused_changes_nothing(club):
+    before = club.file.read_bytes(), dump(club)
+    assert club.order("add-member", "amy", "5") == (1, "", "refused: exists\n")
+    assert (club.file.read_bytes(), dump(club)) == before
+
+
+# What sqlite3 makes of a club by each line.
+SPOILED = """
+UPDATE desk SET version = 9
+UPDATE desk SET version = 0
+UPDATE desk SET version = -1
+DELETE FROM desk
+INSERT INTO desk VALUES (1)
+DROP TABLE desk
+DROP TABLE desk; CREATE TABLE desk (version TEXT) STRICT; INSERT INTO desk VALUES ('1')
+DROP TABLE desk; CREATE TABLE desk (number INTEGER NOT NULL) STRICT; INSERT INTO desk VALUES (1)
+DROP TABLE members
+DROP TABLE facilities
+DROP TABLE keys
+DROP TABLE slots
+DROP TABLE bookings
+DROP TABLE old_roots
+UPDATE desk SET version = 1
+UPDATE desk SET version = 3
+ALTER TABLE old_roots RENAME COLUMN until TO till
+INSERT INTO old_roots VALUES ('amy-1', zeroblob(15), 20000000)
+INSERT INTO old_roots VALUES ('amy-1', zeroblob(16), 15778079)
+INSERT INTO old_roots VALUES ('bob-1', zeroblob(16), 20000000)
+ALTER TABLE members RENAME COLUMN quota TO most
+ALTER TABLE members RENAME COLUMN used TO spent
+ALTER TABLE facilities RENAME COLUMN price TO points
+ALTER TABLE keys RENAME COLUMN root TO secret
+ALTER TABLE slots RENAME COLUMN closed TO shut
+ALTER TABLE slots RENAME COLUMN taken TO persons
+ALTER TABLE bookings RENAME COLUMN remains TO remaining
+UPDATE members SET credited = 1000000000
+UPDATE members SET used = 1000000000
+UPDATE members SET used = -1
+UPDATE slots SET taken = 51
+UPDATE slots SET taken = -1
+UPDATE members SET credited = -1
+UPDATE members SET quota = 100
+UPDATE members SET name = 'Amy'
+UPDATE members SET name = 'Amy'; UPDATE keys SET member = 'Amy'
+UPDATE facilities SET kind = 'pool' WHERE name = 'court-1'
+UPDATE facilities SET places = 0
+UPDATE facilities SET places = 51
+UPDATE facilities SET price = 10000
+UPDATE facilities SET opens = 22 WHERE name = 'room-1'
+UPDATE facilities SET opens = 24, shuts = 25
+UPDATE keys SET member = 'bob'
+UPDATE keys SET member = ''
+UPDATE keys SET root = x'00112233445566778899aabbccddee'
+UPDATE keys SET root = zeroblob(65)
+UPDATE keys SET revoked = 2
+UPDATE slots SET closed = 2
+UPDATE slots SET facility = 'court-2' WHERE hour = 9
+UPDATE slots SET day = 10956
+UPDATE slots SET hour = 24 WHERE hour = 9
+UPDATE bookings SET pass_key = 'amy-2'
+UPDATE bookings SET facility = 'room-2'
+UPDATE bookings SET number = 0 WHERE number = 7
+UPDATE bookings SET number = 1000000000 WHERE number = 7
+UPDATE bookings SET day = 47482
+UPDATE bookings SET guests = 50
+UPDATE bookings SET charge = 499951
+UPDATE bookings SET remains = -1
+UPDATE bookings SET cancelled = 2
+UPDATE bookings SET refund = -1
+UPDATE bookings SET refund = 602 WHERE number = 8
+UPDATE bookings SET refund = 1 WHERE number = 7
+UPDATE facilities SET name = 'Court-1' WHERE name = 'court-1'; UPDATE bookings SET facility = 'Court-1' WHERE number = 7; UPDATE slots SET facility = 'Court-1' WHERE facility = 'court-1'
+"""
+
+
+@pytest.mark.parametrize("statements", SPOILED.strip().splitlines())
+def test_tables_that_hold_no_club(club, refused, statements):
+    shell(club, f"PRAGMA foreign_keys = OFF; PRAGMA ignore_check_constraints = ON; {statements}")
+    refused(club)
+
+
+@pytest.mark.parametrize("path", ["no/club", ".", ""])
+def test_path_where_no_file_can_lie(clubdesk, tmp_path, monkeypatch, path):
+    monkeypatch.chdir(tmp_path)
+    assert Club(clubdesk, path).order("sheet", DAY) == (5, "", "storage failed\n")
+
+
+def test_file_that_sqlite3_locked(club):
+    with sqlite3.connect(club.file, isolation_level=None) as database:
+        database.execute("BEGIN EXCLUSIVE")
+        assert club.order("sheet", DAY) == (5, "", "storage failed\n")
+    database.close()
