@@ -1,5 +1,5 @@
 # Read by the scripts beside it that run the desk's server: its programs, a folder to work in, and a server at a fixed moment.
-here=$(CDPATH='' cd -P -- "$(dirname -- "$0")" && pwd)
+here=${BATS_TEST_DIRNAME:-$(CDPATH='' cd -P -- "$(dirname -- "$0")" && pwd)}
 
 # Installs Debian's packages, after a look at what there is where they aren't known.
 installs() {
@@ -19,6 +19,9 @@ desk=${CLUBDESK-}
 tool=${PASSTOOL-}
 [ -n "$desk" ] || { "$here/../bin/clubdesk" --help >/dev/null && desk=$here/../crates/clubdesk/out/clubdesk; } || exit 2
 [ -n "$tool" ] || { "$here/../bin/passtool" --help >/dev/null && tool=$here/../crates/passtool/out/passtool; } || exit 2
+
+# Bats has a folder for each test, and traps of its own.
+[ -z "${BATS_TEST_DIRNAME-}" ] || return 0
 
 work=$(mktemp -d)
 files=

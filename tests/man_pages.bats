@@ -1,12 +1,17 @@
-#!/bin/sh
+#!/usr/bin/env bats
 # The manual pages are clean to `mandoc`, and have the commands, options and statuses of `--help`.
 #
-# They have no others. That of office is only held against `mandoc` here, and against its `--help` by tests/office_holds.py. Installs
-# Debian's mandoc where it is missing. Not part of the gate.
+# They have no others. That of office is only held against `mandoc` here, and against its `--help` by tests/office_holds.py. Not part of
+# the gate.
 # groups: package quick
-set -eu
-. "$(dirname -- "$0")/serving.sh"
-wants mandoc mandoc
+# wants: bats mandoc
+
+setup() {
+    bats_require_minimum_version 1.5.0
+    load serving.sh
+    cd "$BATS_TEST_TMPDIR"
+    man=$here/../man
+}
 
 # by_help PROGRAM: of each command its name, its words and its options, one a line, as `--help` has them; then each status.
 by_help() {
@@ -50,28 +55,22 @@ by_page() {
 explained() { sed -n '/^The options are:/,/^\.El/s/^\.It .*Fl -\([a-z-]*\).*/\1/p' "$1" | grep -vxE 'help|version' | sort -u; }
 had() { by_page "$1" | sed -n 's/.* --//p' | sort -u; }
 
-faults=0
-fail() {
-    echo "$1" >&2
-    faults=1
+# agrees NAME PROGRAM: the page is what the program's --help shows.
+agrees() {
+    by_help "$2" | sort -u >wanted
+    [ "$(wc -l <wanted)" -gt 20 ]
+    by_page "$man/$1.1" | sort -u | diff wanted -
+    diff <(had "$man/$1.1") <(explained "$man/$1.1")
 }
 
 # In the pages' folder, where they find one another.
 # That the machine's own index of pages is older than its pages is nothing that these have to mend.
-(cd "$here/../man" && mandoc -T lint clubdesk.1 passtool.1 office.1) 2>&1 | grep -v 'outdated mandoc.db' >said || :
-[ ! -s said ] || fail "$(cat said)"
-for program in "$desk" "$tool"; do
-    name=$(basename "$program")
-    page=$here/../man/$name.1
-    by_help "$program" | sort -u >wanted
-    by_page "$page" | sort -u >found
-    [ "$(wc -l <wanted)" -gt 20 ] || fail "$name --help shows little: $(cat wanted)"
-    diff wanted found >differs || fail "man/$name.1: --help (<) and the page (>) differ
-$(cat differs)"
-    had "$page" >wanted
-    explained "$page" >found
-    diff wanted found >differs || fail "man/$name.1: options of the commands (<) and those that it explains (>) differ
-$(cat differs)"
-done
-[ "$faults" = 0 ] || exit 1
-echo "the manual pages hold"
+@test 'mandoc has nothing to say' {
+    cd "$man"
+    mandoc -T lint clubdesk.1 passtool.1 office.1 >"$BATS_TEST_TMPDIR/said" 2>&1 || :
+    run ! grep -v 'outdated mandoc.db' "$BATS_TEST_TMPDIR/said"
+}
+
+@test 'the page of clubdesk has what its help shows' { agrees clubdesk "$desk"; }
+
+@test 'the page of passtool has what its help shows' { agrees passtool "$tool"; }
