@@ -1,20 +1,28 @@
-#!/usr/bin/env python3
-"""Asks bash, zsh and fish for completions, with the files NAME.bash, NAME.zsh and NAME.fish of this folder, and compares them with what
-`--help` of the programs shows: completions_hold.py PROGRAM.. A program whose help Python prints has a club before its command, as office.
-Read by tests/completions_hold.sh."""
+#!/usr/bin/env -S /usr/bin/python3 -B -m pytest -q -p no:cacheprovider
+"""bash, zsh and fish complete the commands, options and values of `--help`, and nothing else.
+
+In real shells, with what bin/completions makes, against `--help` of both programs and of office: for each command those words that begin
+so, its options, the values of its options, files for FILE; of office, which has a club before its command, the clubs that are configured.
+Not part of the gate.
+"""
+# groups: package
+# wants: python3-pytest zsh fish
 
 import os
 import pty
 import re
 import select
+import shutil
 import subprocess
-import sys
 import time
 from pathlib import Path
 
+import pytest
+
+import desk
+
+COMPLETIONS = desk.ROOT / "bin" / "completions"
 FORMS = {"v1", "v2", "json"}
-
-
 CLUBS = {"rowing", "tennis"}
 
 
@@ -110,7 +118,7 @@ print READY
             if select.select([self.terminal], [], [], 0.02)[0]:
                 self.seen += os.read(self.terminal, 65536)
             if time.monotonic() > end:
-                raise SystemExit(f"zsh offers nothing: {self.seen[-2000:]!r}")
+                raise AssertionError(f"zsh offers nothing: {self.seen[-2000:]!r}")
 
     def offers(self, *words):
         self.out.write_text("")
@@ -119,73 +127,77 @@ print READY
         return set(self.out.read_text().split()) - {"END"}
 
 
-checks = 0
-
-
-def same(what, wanted, found):
-    global checks
-    checks += 1
-    if wanted != found:
-        raise SystemExit(f"{what}: wanted and found\n{sorted(wanted)}\n{sorted(found)}")
-
-
 def longs(found):
     """Without the short ones, which some shells offer beside the long ones."""
     return {it for it in found if it.startswith("--")}
 
 
-def hold(shell, program, folder):
-    kind = f"{type(shell).__name__.lower()}, {Path(program).name}"
-    top = printed(program, "--help")
+def shorts(found):
+    return {it for it in found if not it.startswith("-")}
+
+
+def names(found):
+    """Of files and folders."""
+    return {it.rstrip("/") for it in found}
+
+
+def hold_command(shell, before, text, files):
+    """What is offered behind these words is what the help of their command shows."""
+    options, words = options_of(text), words_of(text)
+    assert longs(shell.offers(*before, "--")) == {f"--{it}" for it in options}, before
+    for option, value in options.items():
+        if value in ("FILE", "FOLDER"):
+            assert names(shell.offers(*before, f"--{option}", "club")) == files, (before, option)
+        elif value:
+            assert shell.offers(*before, f"--{option}", "") - {"--"} == (FORMS if option == "form" else set()), (before, option)
+    for at, word in enumerate(words):
+        given = [*before, *["x"] * at]
+        if word == "KIND":
+            assert shell.offers(*given, "") == {"court", "boat", "room"}, given
+        else:
+            assert names(shell.offers(*given, "club")) == (files if word == "FILE" else set()), (given, word)
+        if word != "FILE" and "form" in options:
+            assert shell.offers(*given, "--form", "") == FORMS, (given, word)
+
+
+@pytest.fixture(params=["clubdesk", "passtool", "office"])
+def program(request, tmp_path, monkeypatch):
+    """A program by its name, its completions, the files that are offered, and the clubs."""
+    monkeypatch.chdir(tmp_path)
+    monkeypatch.setenv("OFFICE_CONF", str(tmp_path / "conf"))
+    (tmp_path / "conf").mkdir()
+    for name in ("club", "club-other", *(f"conf/{it}.conf" for it in CLUBS), "conf/rowing.health"):
+        (tmp_path / name).touch()
+    path = desk.ROOT / "deploy" / "office" if request.param == "office" else desk.program(request.param)
+    (tmp_path / request.param).symlink_to(shutil.which(path))
+    for shell in ("bash", "zsh", "fish"):
+        (tmp_path / f"{request.param}.{shell}").write_text(printed(COMPLETIONS, shell, tmp_path / request.param))
+    return tmp_path / request.param
+
+
+@pytest.mark.parametrize("kind", [Bash, Zsh, Fish])
+def test_completions(program, kind):
+    shell = kind.__name__.lower()
+    subprocess.run([shell, "--no-execute" if kind is Fish else "-n", f"{program}.{shell}"], check=True)
+    files = {it.name for it in program.parent.iterdir() if it.name.startswith("club")}
+    shell, top = kind(program.name, program.parent), printed(program, "--help")
     club = ["rowing"] if top.startswith("usage: ") else []
     commands = names_of(top)
     if club:
-        same(f"{kind}: clubs", CLUBS, {it for it in shell.offers("") if not it.startswith("-")})
-        same(f"{kind}: options before a club", {f"--{it}" for it in options_of(top)}, longs(shell.offers("--")))
-    same(f"{kind}: commands", commands, {it for it in shell.offers(*club, "") if not it.startswith("-")})
-    first = sorted(commands)[0]
-    same(f"{kind}: commands that begin with {first[:2]}", {it for it in commands if it.startswith(first[:2])}, shell.offers(*club, first[:2]))
-    same(f"{kind}: options", {f"--{it}" for it in options_of(top)}, longs(shell.offers(*club, "--")))
-    files = {it.name + ("/" if it.is_dir() else "") for it in Path(folder).iterdir()}
-    of_club = {it.rstrip("/") for it in files if it.startswith("club")}
+        assert shorts(shell.offers("")) == CLUBS
+        assert longs(shell.offers("--")) == {f"--{it}" for it in options_of(top)}
+    assert shorts(shell.offers(*club, "")) == commands
+    first = min(commands)[:2]
+    assert shell.offers(*club, first) == {it for it in commands if it.startswith(first)}
+    assert longs(shell.offers(*club, "--")) == {f"--{it}" for it in options_of(top)}
     for command in sorted(commands - {"help"}):
-        text = printed(program, *club, command, "--help") if club else printed(program, "help", command)
-        options, words = options_of(text), words_of(text)
-        before = [*club, command]
-        same(f"{kind}: options of {command}", {f"--{it}" for it in options}, longs(shell.offers(*before, "--")))
-        for option, value in options.items():
-            if value in ("FILE", "FOLDER"):
-                same(f"{kind}: files for --{option} of {command}", of_club, {it.rstrip("/") for it in shell.offers(*before, f"--{option}", "club")})
-            elif value:
-                wanted = FORMS if option == "form" else set()
-                same(f"{kind}: values of --{option} of {command}", wanted, {it for it in shell.offers(*before, f"--{option}", "") if it != "--"})
-        for at, word in enumerate(words):
-            given = [*before, *["x"] * at]
-            found = {it.rstrip("/") for it in shell.offers(*given, "club")}
-            wanted = of_club if word == "FILE" else set()
-            if word == "KIND":
-                found, wanted = shell.offers(*given, ""), {"court", "boat", "room"}
-            same(f"{kind}: {word} of {command}", wanted, found)
-            if word != "FILE" and "form" in options:
-                same(f"{kind}: a form before {word} of {command}", FORMS, shell.offers(*given, "--form", ""))
+        hold_command(shell, [*club, command], printed(program, *club, command, "--help") if club else printed(program, "help", command), files)
     if not club:
-        same(f"{kind}: commands behind help", commands - {"help"}, shell.offers("help", ""))
-    same(f"{kind}: an unknown command", set(), {it for it in shell.offers(*club, "no-such", "x") if not it.startswith("-")})
+        assert shell.offers("help", "") == commands - {"help"}
+    assert not shorts(shell.offers(*club, "no-such", "x"))
 
 
-def main(programs):
-    folder = os.getcwd()
-    Path("club").touch()
-    Path("club-other").touch()
-    os.environ["OFFICE_CONF"] = os.path.join(folder, "conf")
-    Path("conf").mkdir()
-    for it in [*(f"{it}.conf" for it in CLUBS), "rowing.health"]:
-        Path("conf", it).touch()
-    for program in programs:
-        for make in (Bash, Zsh, Fish):
-            hold(make(Path(program).name, folder), program, folder)
-    print(f"{checks} completions hold")
-
-
-if __name__ == "__main__":
-    main(sys.argv[1:])
+@pytest.mark.parametrize("words", [[], ["bash"], ["csh", "x"], ["bash", "x", "y"], ["bash", "none"]])
+def test_words_that_completions_refuse(tmp_path, words):
+    ended = subprocess.run([COMPLETIONS, *words], cwd=tmp_path, capture_output=True, check=False)
+    assert ended.returncode != 0 and ended.stdout == b""

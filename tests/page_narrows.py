@@ -1,9 +1,21 @@
-"""Drives the page that narrows a pass, and compares it with passtool and with the formats, which are written here once more.
+#!/usr/bin/env -S /usr/bin/python3 -B
+"""`web/pass.html` in Debian's chromium: 1,000 passes that it narrows in V1, V2 and JSON are byte for byte those of `passtool narrow`; it
+reads 2,000 spoiled passes and 2,000 texts of caveats as `passtool` does, and says of each faulty text what is wrong; it is worked by
+keyboard alone, fits a phone, and loads and sends nothing.
 
-Run by page_narrows.sh: PAGE PASSTOOL FOLDER, the folder for pictures."""
+The formats are those of tests/reference:
+- texts that are no pass, those of the formats' examples and the spoiled ones: each has its own answer, the one that passtool has;
+- what each choice says and adds, addresses, copying and sharing, a browser that doesn't sign;
+- names for a screen reader, contrasts; that nothing runs but what the page's policy names.
+Not part of the gate.
+  tests/page_narrows.py            all of it
+  tests/page_narrows.py FOLDER     and pictures of the page into this folder
+"""
+# groups: browser
+# wants: chromium chromium-driver python3-selenium
+
 import base64
 import hashlib
-import hmac
 import http.server
 import json
 import pathlib
@@ -11,6 +23,7 @@ import random
 import re
 import subprocess
 import sys
+import tempfile
 import threading
 from collections import Counter
 from datetime import date, timedelta
@@ -18,76 +31,52 @@ from datetime import date, timedelta
 from selenium.webdriver.common.action_chains import ActionChains
 from selenium.webdriver.common.keys import Keys
 
+import desk
 from page_browser import Browser, check, CONTRASTS, SMALL_TARGETS
+from reference import passes
+from reference.caveats import ACTIONS, WEEKDAYS
+from reference.passes import Pass, packet, v2_field as field
 
-PAGE = pathlib.Path(sys.argv[1]).resolve()
-TOOL, PICTURES = sys.argv[2:]
+PAGE = desk.ROOT / "web" / "pass.html"
+TOOL = desk.program("passtool")
+ROOM = tempfile.TemporaryDirectory()
+PICTURES = sys.argv[1] if sys.argv[1:] else ROOM.name
 PASSES = 1000
 SPOILED = 2000
 CAVEATS = 2000
 FORMS = ["v1", "v2", "json"]
 FAULTS = {"This text is too long for a pass.": 1, "This text isn't a whole pass.": 2, "This pass has a third-party caveat.": 3,
           "This pass has too many limits.": 4}
-ACTIONS = ["view", "book", "cancel", "account"]
-WEEKDAYS = ["mon", "tue", "wed", "thu", "fri", "sat", "sun"]
 # The page's choices, in the order in which it adds them.
 CHOICES = ["kind", "facility", "actions", "days", "weekday", "hours", "until", "guests", "spend"]
 AMY = "AgEJY2x1Yi1kZXNrAglrZXk6YW15LTEAAAYgDsU-vMVpq3Ex5_BQk6D5VX6TimC0IfCk7Dn6nv7TIJk"
 draw = random.Random(20260501)
 
 
-# ---- The formats
+# ---- The formats; the parts of a pass are its four values
 
 
 def unpadded(data):
-    return base64.urlsafe_b64encode(data).decode().rstrip("=")
+    return passes.to_base64(data).decode()
 
 
-def packet(key, data):
-    return b"%04x%s %s\n" % (4 + len(key) + 1 + len(data) + 1, key, data)
+def bytes_v1(*parts):
+    return passes.v1_bytes(Pass(*parts))
 
 
-def bytes_v1(location, identifier, caveats, signature):
-    packets = [packet(b"cid", caveat) for caveat in caveats]
-    return packet(b"location", location) + packet(b"identifier", identifier) + b"".join(packets) + packet(b"signature", signature)
-
-
-def varint(number):
-    return bytes([number]) if number < 128 else bytes([number % 128 + 128]) + varint(number // 128)
-
-
-def field(kind, data):
-    return bytes([kind]) + varint(len(data)) + data
-
-
-def bytes_v2(location, identifier, caveats, signature):
-    header = (field(1, location) if location else b"") + field(2, identifier) + b"\0"
-    return b"\2" + header + b"".join(field(2, caveat) + b"\0" for caveat in caveats) + b"\0" + field(6, signature)
-
-
-def named(name, data):
-    try:
-        return {name: data.decode()}
-    except UnicodeDecodeError:
-        return {f"{name}64": unpadded(data)}
-
-
-def object_of(location, identifier, caveats, signature):
-    where = named("l", location) if location else {}
-    return {"c": [named("i", each) for each in caveats], **named("i", identifier), **where, "s64": unpadded(signature), "v": 2}
+def bytes_v2(*parts):
+    return passes.v2_bytes(Pass(*parts))
 
 
 def written(form, parts):
-    if form == "json":
-        return json.dumps(object_of(*parts), separators=(",", ":"), sort_keys=True, ensure_ascii=False)
-    return unpadded((bytes_v1 if form == "v1" else bytes_v2)(*parts))
+    return passes.text_of(Pass(*parts), form).decode()
 
 
 def narrowed(parts, lines):
-    location, identifier, caveats, signature = parts
+    it = Pass(*parts)
     for line in lines:
-        signature = hmac.new(signature, line.encode(), hashlib.sha256).digest()
-    return location, identifier, [*caveats, *(line.encode() for line in lines)], signature
+        it = it.narrowed(line.encode())
+    return it.location, it.identifier, it.caveats, it.signature
 
 
 # ---- What passtool answers
@@ -249,7 +238,7 @@ def drawn_spelling(form, parts):
     """A text of the pass that a reader takes, mostly not the writer's."""
     text = written(form, parts)
     if form == "json":
-        names = object_of(*parts)
+        names = json.loads(text)
         if draw.random() < 0.3:
             del names["v"]
         if draw.random() < 0.3:

@@ -1,9 +1,16 @@
-"""Requests drawn by a fixed seed under passes that pymacaroons and passtool narrowed, against the rules of tests/reference.
+#!/usr/bin/env -S /usr/bin/python3 -B
+"""1,000 requests to the server, every second one under a pass that pymacaroons narrowed, in V1, V2 and JSON: each reply is that of the
+rules in Python.
 
-Run by passes_by_pymacaroons.sh in a folder of its own."""
+The rules are those of tests/reference, and requests and caveats are drawn by a fixed seed. The others come with passes that passtool
+narrowed; pymacaroons reads and writes these too. Not part of the gate.
+"""
+# groups: programs
+# wants: python3-pymacaroons
 
 import random
 import subprocess
+import tempfile
 from collections import Counter
 from pathlib import Path
 
@@ -12,6 +19,7 @@ from pymacaroons.serializers import JsonSerializer
 
 import desk as programs
 from both import Both, expect, spelled_day
+from kinds import Row
 from reference import caveats, passes, wire
 
 DESK, TOOL = programs.program("clubdesk"), programs.program("passtool")
@@ -114,13 +122,8 @@ def drawn_request(club, key):
         number, booking = draw.choice(known)
         slot, guests = booking.slot, booking.guests if draw.random() < 0.8 else guests
     path = f"/slots/{slot[0]}/{spelled_day(slot[1])}/{slot[2]:02d}"
-    return {"account": ("GET", "/account", ""), "view": ("GET", path, ""), "cancel": ("DELETE", f"{path}/bookings/{number}", ""),
+    return {"account": ("GET", "/account"), "view": ("GET", path), "cancel": ("DELETE", f"{path}/bookings/{number}"),
             "book": ("PUT", f"{path}/bookings/{number}", f'{{"guests":{guests}}}')}[action]
-
-
-def bytes_of(method, path, body, text):
-    length = f"Content-Length: {len(body)}\r\n" if body else ""
-    return f"{method} {path} HTTP/1.1\r\nHost: club\r\nAuthorization: Bearer {text}\r\n{length}\r\n{body}".encode()
 
 
 def made(both):
@@ -154,8 +157,8 @@ def fault_of(reply):
     return wire.json_value(reply.partition(b"\r\n\r\n")[2]).get("fault", 0)
 
 
-def main():
-    both = Both(DESK, Path("club"))
+def main(folder):
+    both = Both(DESK, Path(folder) / "club")
     narrowable = made(both)
     counted = Counter()
     for moment in MOMENTS:
@@ -166,7 +169,7 @@ def main():
                 form, maker = FORMS[index // 2 % 3], ("passtool", "pymacaroons")[index % 2]
                 texts = [caveat() for _ in range(draw.choice([0, 0, 1, 1, 2, 3]))]
                 text, spoil = NARROWERS[maker](narrowable[key, form], texts, form)
-                data = bytes_of(*drawn_request(both.club, key), text)
+                data = Row(*drawn_request(both.club, key)).under(text).data
                 fault = fault_of(both.ask(server, data, caveats.moment_of(moment)))
                 expect(data, spoil in (None, fault), True)
                 counted[maker, form, fault] += 1
@@ -179,4 +182,5 @@ def main():
     print(f"{sum(counted.values())} replies are those of the rules")
 
 
-main()
+with tempfile.TemporaryDirectory() as room:
+    main(room)
