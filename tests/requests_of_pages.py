@@ -3,7 +3,7 @@
 
 Runs the commands of a page's console blocks, and asks each request of its tables under the pass and at the moment of the table's head. The
 commands in front of a section's first table make the club, without bookings; the section's requests, and the commands behind them, meet a
-copy. Blocks with a server of their own are left to tests/docs_hold.sh. Not part of the gate.
+copy. Blocks with a server of their own are left to tests/docs_hold.py. Not part of the gate.
 """
 # groups: pages
 # wants: python3-pytest openssl

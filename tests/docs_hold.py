@@ -1,0 +1,371 @@
+#!/usr/bin/env -S /usr/bin/python3 -B -m pytest -q -p no:cacheprovider
+"""The commands, outputs, links and names of the pages hold.
+
+Holds README.md, CONTRIBUTING.md, docs/, and the README.md of each crate against the repository.
+- Each ```console block is run, the blocks of a page one after the other in a folder of its own, with bin/ on the path: a line
+  that begins with `$ ` is a command, the lines behind it are what it prints, on standard output or standard error. Empty lines
+  and spaces at the end of a line don't count, and another port may stand for 8080.
+- Each ```rust, ```antt and ```text block is in a file of crates/, but for how far it is indented.
+- Each link leads to a page, and to a heading of it. Each page of docs/ is in docs/INDEX.md.
+- Each contract that docs/PROMISES.md names is there: the function in the section's crate, and its clause; each definition, and of
+  `RECORD.FIELD` the field of that record. So are the clauses of the desk's law, there and in README.md.
+- Each file that a page names is there, in a crate's page also each of its own folders, and each name `crate::..::name` or
+  `Type::name` is defined. So is each name of a list of definitions (`Definitions: NAME, .. in FILE; NAME, .. in FILE`), in its file.
+- docs/LAYERS.md has the layers and crates of crates.txt in their order, each with what it stands on; TRUST names each crate.
+- TRUST's table of scripts has what `tests/run --list` says of each.
+- docs/TOUR.md gives each answer as a path of three to six steps, each a file with a name that it defines.
+- No command writes a pass into a file but under a temporary name (`> pass.new && mv pass.new pass`): the shell empties the file before
+  the command is refused.
+- docs/AUDIT.md is what tests/audit.py makes, and each step of the tour's paths through definitions is cited by the one before it.
+- What README tries unproved by `rt try` prints `signed`, and ends in proved=no.
+- The logic that README.md and docs/TRUST.md name by its sum is this toolchain's.
+Programs are proved and built by bin/proved where they have to be. Not part of the gate.
+  tests/docs_hold.py                    every page
+  tests/docs_hold.py -k DESK            the pages whose names have this word
+  tests/docs_hold.py --no-commands ..   what wants no program of ours
+"""
+# groups: pages
+# groups: quick: --no-commands
+# wants: python3-pytest curl sqlite3 openssl
+
+import os
+import re
+import shlex
+import subprocess
+from pathlib import Path
+
+import pytest
+
+import desk
+
+os.chdir(desk.ROOT)
+PAGES = ["README.md", "CONTRIBUTING.md", *(str(it) for pattern in ("docs/*.md", "crates/*/README.md") for it in sorted(Path().glob(pattern)))]
+TEXTS = {page: Path(page).read_text(encoding="utf-8") for page in PAGES}
+CODE = {str(it): it.read_text(encoding="utf-8") for it in sorted(Path("crates").glob("*/**/*"))
+        if re.fullmatch(r"(?!.*/out/).*(/src/.*\.rt|/(specs|proofs)/.*\.antt|\.edit)", str(it))}
+WORD = re.compile(r"[^A-Za-z0-9_]+")
+each_page = pytest.mark.parametrize("page", PAGES)
+
+
+def blocks(page, language):
+    return re.findall(rf"^```{language}\n(.*?)^```", TEXTS[page], re.MULTILINE | re.DOTALL)
+
+
+def prose(page):
+    """The page without its blocks."""
+    return re.sub(r"^```.*?^```.*?\n", "", TEXTS[page], flags=re.MULTILINE | re.DOTALL)
+
+
+def ticked(text):
+    """What stands within backticks and has no space."""
+    return sorted(set(re.findall(r"`([^` \n]+)`", text)))
+
+
+# ---- what crates/ defines
+
+
+class Index:
+    """Names by what they are: of a file, of a crate, and of any."""
+
+    def __init__(self):
+        self.crates, self.defined, self.in_file = set(), set(), set()
+        self.functions, self.homes, self.clauses, self.fields, self.impls = set(), set(), set(), set(), {}
+        for file, text in CODE.items():
+            self.file, self.crate = file, file.split("/")[1]
+            self.crates.add(self.crate)
+            self.name = self.record = ""
+            for line in text.splitlines():
+                (self.code if file.endswith(".rt") else self.statement)(line)
+        self.anywhere = {name for _, name in self.defined}
+
+    def item(self, name):
+        self.defined.add((self.crate, name))
+        self.in_file.add((self.file, name))
+
+    def code(self, whole):
+        line = re.sub(r"^ *(pub(\([a-z]+\))? )?(final )?(const )?", "", whole)
+        words = WORD.split(line)
+        if line.startswith("fn "):
+            self.name = words[1]
+            self.item(self.name)
+            self.functions.add((self.crate, self.name))
+            self.homes.add((self.crate, Path(self.file).stem, self.name))
+        if re.match(r"(struct|enum|trait|type|mod|static|abbrev) |ghost [A-Za-z_]+( =|:)", line):
+            self.item(words[1])
+        if re.match(r" *(pub )?const [A-Z]|    pub [a-z_]+: ", whole) or re.match(r"[A-Z][A-Za-z]+( \{|\(|,|$)", line):
+            self.item(words[0])
+        if line.startswith("impl"):
+            self.impls[self.crate] = self.impls.get(self.crate, "") + "\n" + whole
+        if clause := re.match(r"ensures ([a-z_0-9]+) ", line):
+            self.clauses.add((self.crate, self.name, clause[1]))
+            self.in_file.add((self.file, clause[1]))
+
+    def statement(self, whole):
+        line = re.sub(r"^ *(abbrev |unfoldable )?(pub )?(record |data )?", "", whole)
+        words = [*line.split(), "", ""]
+        if re.match(r" *(pub )?record ", whole):
+            self.record = words[0]
+        elif re.match(r"[^ -]", whole):
+            self.record = ""
+        elif re.match(r" +pub [A-Za-z_0-9]+ :", whole) and self.record:
+            self.fields.add((self.crate, self.record, words[0]))
+            self.in_file.add((self.file, words[0]))
+        if words[1] in (":", "where") or re.search(r"(record|data) ", whole):
+            self.item(words[0])
+
+
+INDEX = Index()
+
+
+# ---- every page
+
+
+@each_page
+def test_quoted_lines_are_in_a_file(page):
+    """Each paragraph in one piece."""
+    texts = [re.sub(r"^ +", "", text, flags=re.MULTILINE) for text in CODE.values()]
+    for language in ("rust", "antt", "text"):
+        for quote in (it for block in blocks(page, language) for it in re.split(r"\n\n+", re.sub(r"^ +", "", block, flags=re.MULTILINE))):
+            assert any(quote in text for text in texts), f"in no file of crates/:\n{quote}"
+
+
+def anchors(page):
+    """As they are made of headings: lower case, spaces as dashes, and of the other signs only `-` and `_`."""
+    text = re.sub(r"^```.*?^```.*?\n", "", Path(page).read_text(encoding="utf-8"), flags=re.MULTILINE | re.DOTALL)
+    return {re.sub(r"[^a-z0-9 _-]", "", it.lower()).replace(" ", "-") for it in re.findall(r"^#+ (.*)", text, re.MULTILINE)}
+
+
+@each_page
+def test_links_lead_to_pages_and_headings(page):
+    for link in re.findall(r"\]\(((?!https?:)[^)]+)\)", prose(page)):
+        path, _, heading = link.partition("#")
+        file = Path(page).parent / path if path else Path(page)
+        assert file.exists(), f"no file {link}"
+        assert not heading or heading in anchors(file), f"no heading {link}"
+
+
+@each_page
+def test_files_and_names_are_there(page):
+    words = ticked(prose(page))
+    scripts = [it for block in blocks(page, "sh") for it in re.findall(r"^(?:bin|tests|deploy)/[a-z_.]+", block, re.MULTILINE)]
+    for path in [*words, *scripts]:
+        if re.match(r"(crates|docs|tests|bin|deploy|man)/", path) and not re.search(r"[*<]|NAME|CRATE|(^|/)out(/|$)", path):
+            assert Path(path.split(":")[0]).exists(), f"no file {path}"
+        if page.startswith("crates/") and re.match(r"(src|specs|proofs|must-fail|more-edits)/", path):
+            assert (Path(page).parent / path).exists(), f"no file {path}"
+    if page in ("docs/PROMISES.md", "docs/AUDIT.md"):
+        return  # promises are named within their crate, and held below; the audit is made of the sources, and names calls of libraries
+    for word in words:
+        if re.fullmatch(r"[A-Za-z_]+(::[A-Za-z_0-9]+)+", word):
+            crate, *_, name = word.split("::")
+            assert (crate, name) in INDEX.defined if crate in INDEX.crates else name in INDEX.anywhere, f"no {word}"
+
+
+@each_page
+def test_definitions_are_in_their_files(page):
+    """One without a folder is in the folder named last; a folder of specs/ stands for its files."""
+    for line in re.findall(r"Definitions?: (`.*)", prose(page)):
+        pieces, names, folder = line.split("`"), [], ""
+        for before, piece in zip(pieces[::2], pieces[1::2]):
+            if not before.endswith(" in "):
+                names.append(piece)
+                continue
+            place = piece if "/" in piece else f"{folder}/{piece}"
+            folder = re.sub(r"/[A-Za-z0-9_]*\.antt$", "", place)
+            for name in names:
+                assert any(name == it and (file == place or file.startswith(place + "/")) for file, it in INDEX.in_file), f"no definition {name} in {place}"
+            names = []
+        assert not names, f"no file of the definitions {names}"
+
+
+@each_page
+def test_passes_are_written_under_temporary_names(page):
+    """A command that prints a pass writes to no file but one whose name ends in .new."""
+    commands = [it for block in blocks(page, "console") for it in re.findall(r"^\$ (.*)", block, re.MULTILINE)]
+    for command in [*commands, *(line for block in blocks(page, "sh") for line in block.splitlines())]:
+        if re.search(r"(^|[ |])(passtool|clubdesk|office [a-z]+) (mint|narrow|convert|add-key|rotate-key) ", command):
+            assert not re.search(r">|[|] *tee ", re.sub(r'"[^"]*"|>&?[ ]*[^ ]*\.new', "", command)), command
+
+
+# ---- single pages
+
+
+def cited_promises():
+    """The second cells of a section's table: `NAME`, .. `:` `CLAUSE`, .. `by` `DEFINITION`, ..; groups end at `;`."""
+    crate = ""
+    for line in TEXTS["docs/PROMISES.md"].splitlines():
+        if line.startswith("## "):
+            crate = line.split()[1].strip("`")
+        if not line.startswith("|") or re.fullmatch(r"\|[-|]+", line) or line.startswith("| Promise"):
+            continue
+        for group in line.replace("\\|", "/").split("|")[2].split(";"):
+            mode, names = "name", []
+            for at, piece in enumerate(group.split("`")):
+                if at % 2 == 0:
+                    mode = "definition" if re.search(r"(^|[ ,])by ", piece) else "clause" if ":" in piece else mode
+                elif mode == "clause":
+                    yield from ((crate, mode, name, piece) for name in names)
+                else:
+                    names += [piece] if mode == "name" else []
+                    yield crate, mode, piece, ""
+
+
+def test_promises():
+    cited = list(cited_promises())
+    assert len(cited) > 800
+    for crate, mode, cited_name, clause in cited:
+        name, *above = cited_name.split("::")[::-1]
+        above = above[0] if above else ""
+        if mode == "clause":
+            assert (crate, name, clause) in INDEX.clauses, f"{crate}: no clause {clause} of {cited_name}"
+        elif mode == "definition":
+            record, _, field = cited_name.partition(".")
+            owner, name = record.split("::")[-2:] if "::" in record else (crate, record)
+            assert (owner, name) in INDEX.defined, f"{crate}: no definition {cited_name}"
+            assert not field or (owner, name, field) in INDEX.fields, f"{crate}: no field {cited_name}"
+        elif " for " in cited_name:
+            assert re.search(rf"(^|[^A-Za-z]){re.escape(cited_name)}([^A-Za-z]|$)", INDEX.impls[crate], re.MULTILINE), f"{crate}: no impl {cited_name}"
+        else:
+            assert (crate, name) in INDEX.functions or (not above and (crate, name) in INDEX.defined), f"{crate}: no function {cited_name}"
+            if re.match("[a-z]", above):
+                assert (crate, above, name) in INDEX.homes, f"{crate}: no function {cited_name} in its module"
+            elif above:
+                assert (crate, above) in INDEX.defined, f"{crate}: no type of {cited_name}"
+
+
+def test_laws():
+    """The lines of the law in docs/PROMISES.md: behind the last colon a function and names of its clauses, or of other functions. README's
+    table has the same laws in the same order, in its last cell a function, and of it a clause."""
+    clauses = {it[1:] for it in INDEX.clauses}
+    functions = {name for _, name in INDEX.functions}
+    laws = re.findall(r"^\d+\. \*\*(.*)\.\*\*.*: (`.*)", TEXTS["docs/PROMISES.md"], re.MULTILINE)
+    table = re.search(r"^\| Law \|.*?\n\n", TEXTS["README.md"], re.MULTILINE | re.DOTALL)[0]
+    rows = re.findall(r"^\| ([A-Z][a-z ]*) \|.*\| (`.*) \|$", table, re.MULTILINE)
+    assert [law for law, _ in rows] == [law for law, _ in laws]
+    for _, cell in rows:
+        function, *its_clauses = re.findall("`([^`]*)`", cell)
+        assert function in functions and all((function, it) in clauses for it in its_clauses[:1]), cell
+    for _, cell in laws:
+        function, *its_clauses = re.findall("`([^`]*)`", cell)
+        assert all("::" in it or (function.split("::")[-1], it) in clauses for it in its_clauses), cell
+
+
+def test_layers():
+    """The table of docs/LAYERS.md is crates.txt: its layers (`# NAME: WHAT`) and its crates, in that order, each with what it stands on."""
+    crates, page = Path("crates.txt").read_text(encoding="utf-8"), TEXTS["docs/LAYERS.md"]
+    order = re.findall(r"^# ([^:\n]*):|^([a-z][a-z_0-9]*)[ :]", crates, re.MULTILINE)
+    assert re.findall(r"^\| \*\*([^*]*)\*\* \||^\| `([a-z_0-9]+)` \|", page, re.MULTILINE) == order
+    uses = {(line.split(":")[0].split()[0], it) for line in crates.splitlines() if line and line[0] != "#" for it in line.split()[1:]}
+    for line in re.findall(r"^\| `.*", page, re.MULTILINE):
+        cells = line.split("|")
+        crate = cells[1].strip(" `")
+        has_engine = "the crates that `sqlite` stands on" in cells[3]
+        cell = cells[3].replace("the crates that `sqlite` stands on", "").replace("`club_core` and below", "`club_core` `club_rows` `club_values` `pass_caveats`")
+        named = set(re.findall("`([^`]*)`", cell))
+        used = {it for its_crate, it in uses if its_crate == crate}
+        assert named <= used, f"{crate} does not stand on {named - used}"
+        assert all(has_engine and it.startswith("sqlite_") for it in used - named), f"{crate} stands on {used - named}"
+
+
+def test_tour():
+    """Under each heading that asks, three to six steps, each `PATH`: `NAME`, .., where that file defines NAME, or has it as a word where it is
+    no file of code."""
+    questions = re.split(r"^## ", TEXTS["docs/TOUR.md"], flags=re.MULTILINE)[1:]
+    assert len(questions) == 24
+    for question in questions:
+        steps = re.findall(r"^\d+\. (.*)", question, re.MULTILINE)
+        assert 3 <= len(steps) <= 6, question
+        for step in steps:
+            path, name = re.match(r"`([^`]*)`: `([^`]*)`", step).groups()
+            assert (path, name.split("::")[-1]) in INDEX.in_file if path in CODE else name in Path(path).read_text(encoding="utf-8"), step
+
+
+def test_audit_is_made_of_the_sources():
+    """docs/AUDIT.md, and the tour's paths through definitions."""
+    subprocess.run(["tests/audit.py", "--check"], check=True, stdout=subprocess.DEVNULL)
+
+
+def test_table_of_scripts():
+    """It says of each what `tests/run --list` says, where a page of docs/ is no link."""
+    listed = subprocess.run(["tests/run", "--list"], check=True, capture_output=True, text=True).stdout
+    listed = re.sub(r"docs/([A-Z_]+)\.md", r"[\1](\1.md)", re.sub(r"docs/(vectors\.json|openapi\.yaml)", r"[\1](\1)", listed))
+    rows = [f"| `{name}` | {shown} |" for name, shown in re.findall(r"^(\S+) \([^)]*\): (.*)$", listed, re.MULTILINE)]
+    assert sorted(re.findall(r"^\| `tests/[a-z_0-9]+\.(?:sh|py|bats)` \| [^|\n]* \|$", TEXTS["docs/TRUST.md"], re.MULTILINE)) == sorted(rows)
+
+
+def test_trust_names_each_crate():
+    for crate in re.findall(r"^([a-z][a-z_0-9]*)[ :]", Path("crates.txt").read_text(encoding="utf-8"), re.MULTILINE):
+        assert f"`{crate}`" in TEXTS["docs/TRUST.md"], crate
+
+
+def test_glossary_gives_words_of_code():
+    known = {word for text in CODE.values() for word in WORD.split(text)}
+    cells = "\n".join(re.findall(r"^\|.*", TEXTS["docs/GLOSSARY.md"], re.MULTILINE))
+    words = {it.split("::")[-1] for it in ticked(cells)}
+    assert not {it for it in words if re.fullmatch("[A-Za-z_0-9]+", it)} - known
+
+
+def test_index_names_each_page():
+    for page in PAGES:
+        assert not page.startswith("docs/") or page == "docs/INDEX.md" or f"({Path(page).name})" in TEXTS["docs/INDEX.md"], page
+
+
+@pytest.mark.parametrize("page", ["README.md", "docs/TRUST.md"])
+def test_logic_is_that_of_the_toolchain(page):
+    version = subprocess.run(["rt", "version"], check=True, capture_output=True, text=True).stdout
+    assert version.strip().rpartition(" logic ")[2] in TEXTS[page]
+
+
+# ---- commands
+
+
+def squeezed(text):
+    """Without carriage returns, spaces at the end of a line, and empty lines."""
+    return [line.rstrip(" ") for line in text.replace("\r", "").split("\n") if line.rstrip(" ")]
+
+
+def script_of(text):
+    """The commands of a page as a script that prints each before it runs it. `$?` is that of the command before. After a command that ends in
+    `&` the script waits until something more was printed."""
+    lines = ["trap 'kill $(jobs -p) 2>/dev/null' EXIT", 'again() { return "$1"; }']
+    for command in re.findall(r"^\$ (.*)", text, re.MULTILINE):
+        is_behind = command.endswith(" &")
+        lines += [f'ended=$?; printf "%s\\n" {shlex.quote("$ " + command)}', *(['printed=$(wc -c <"$OUT")'] if is_behind else []), 'again "$ended"', command]
+        if is_behind:
+            lines.append('for wait in $(seq 100); do [ "$(wc -c <"$OUT")" = "$printed" ] || break; sleep 0.1; done')
+    return "\n".join(lines)
+
+
+def free_port(number):
+    """One that nothing uses, nor used a moment ago."""
+    is_used = any(f":{number:04X} " in it.read_text() for it in (Path("/proc/net/tcp"), Path("/proc/net/tcp6")) if it.exists())
+    return free_port(number + 1) if is_used else number
+
+
+@pytest.mark.programs
+@pytest.mark.parametrize("page", [it for it in PAGES if blocks(it, "console")])
+def test_commands(page, tmp_path):
+    port = free_port(8080 + PAGES.index(page))
+    text = re.sub(r"(:|--port )8080", rf"\g<1>{port}", "\n".join(blocks(page, "console")))
+    room, out = tmp_path / "room", tmp_path / "out"
+    room.mkdir()
+    # A page's commands may be those of the repository's top.
+    for folder in ("bin", "deploy"):
+        (room / folder).symlink_to(desk.ROOT / folder)
+    # Bodies of replies end without a line feed, which a terminal shows as a prompt behind them.
+    (tmp_path / ".curlrc").write_text('silent\nshow-error\nnoproxy = "*"\nwrite-out = "\\n"\n')
+    for program in ("passtool", "clubdesk"):
+        # It is built first, so that what its build prints isn't taken for what it prints.
+        if program in text:
+            subprocess.run([f"bin/{program}", "--help"], check=True, stdout=subprocess.DEVNULL)
+    with open(out, "wb") as printed:
+        subprocess.run(["sh", "-c", script_of(text)], cwd=room, stdin=subprocess.DEVNULL, stdout=printed, stderr=printed, timeout=600, check=False,
+                       env={**os.environ, "PATH": f"{desk.ROOT}/bin:{os.environ['PATH']}", "CURL_HOME": str(tmp_path), "OUT": str(out)})
+    assert squeezed(out.read_text(encoding="utf-8")) == squeezed(text)
+
+
+@pytest.mark.programs
+def test_what_readme_tries_unproved():
+    script = next(re.search(r"^cd crates.*?rt try.*?$", it, re.MULTILINE | re.DOTALL) for it in blocks("README.md", "sh") if "rt try" in it)[0]
+    tried = subprocess.run(["sh", "-c", script], capture_output=True, text=True, check=False)
+    assert tried.stdout == "signed\n" and tried.stderr.endswith("proved=no\n")
