@@ -1,0 +1,92 @@
+"""A fault for each test, on which it has to fail: read by `tests/run --planted`.
+
+A fault is one change of bytes in a copy of a built program or of a file of the repository, or a shell script in place of a program, in which
+$PROGRAM stands for it. The log of the failed test has some words, so that one that fails for another reason isn't taken for it."""
+
+import os
+import shutil
+import subprocess
+from pathlib import Path
+
+import desk
+
+PROGRAMS = ("clubdesk", "passtool")
+BY_HAND = "#!/bin/sh\n"
+# test: file, bytes, what stands for them, words of the log
+PLANTS = {
+    "beside_c": ("tests/beside_c/desk.c", "left", "lost", "the replies differ"),
+    "bookings_survive_kill": ("clubdesk", BY_HAND, '[ "$1" != sheet ] || rm -f "$2-wal"; exec "$PROGRAM" "$@"', "'sheet "),
+    "builds_side_by_side": ("bin/proved", '[ ! -e "$out/build.started" ] || return 0', ":", "not ok 8 a build that is killed"),
+    "client_survives": ("examples/client.py", "        self.file.flush()\n        os.fsync(self.file.fileno())\n", "", "test_servers_and_clients_that_are_killed"),
+    "clock_out_of_range": ("clubdesk", BY_HAND, '"$PROGRAM" "$@" || exit 0', "the server ended with status 0"),
+    "club_stays_whole": ("tests/club_stays_whole.py", "VALUES ('amy', 0, 5, 0)", "VALUES ('amy', 0, 4, 0)", "assert found in wanted"),
+    "completions_hold": ("bin/completions", 'compgen -W "$values"', 'compgen -W ""', "test_completions[clubdesk-Bash]"),
+    "demo_tells": ("bin/demo", 'kill "$server" 2>/dev/null', "true", "not ok 6 a signal"),
+    "docs_hold-quick": ("docs/PROMISES.md", "`opens`", "`openz`", "no clause openz"),
+    "hostile-quick": ("clubdesk", "quota reached", "quota reachex", "quota reachex"),
+    "jobs_hold": ("deploy/old_copies", "now - its_day < 14", "now - its_day < 13", "too few"),
+    "lint": ("VERSION", "0.1.0", "0.1.1", "another version"),
+    "linters": ("tests/desk.py", "import errno\n", "import errno\nimport ast\n", "'ast' imported but unused"),
+    "man_pages": ("man/clubdesk.1", ".It Cm revoke-key Ar FILE KEY", ".It Cm revoke-key Ar FILE", "< revoke-key KEY"),
+    "memory_after_commit": ("tests/refused_memory.c", 'tell("send");', 'seen++; tell("send");', "allocations after the commit"),
+    "modules_hold": ("web/src/dates.mjs", '"mon", "tue"', '"tue", "mon"', "not ok"),
+    "narrowing_elsewhere": ("examples/narrow.mjs", "signature = await hmac(signature, data)", "await hmac(signature, data)", "Node.js, v2: passtool has"),
+    "office_holds": ("deploy/office", "SET credited = credited - ?", "SET credited = credited + ?", "wanted"),
+    "openapi": ("docs/openapi.yaml", '"charge":600,"left":1}', '"charge":600,"left":2}', "test_each_example_is_a_reply"),
+    "page_narrows": ("web/src/caveats.mjs", '[1-4][0-9])", (most)', '[1-5][0-9])", (most)', "understood otherwise"),
+    "passes_by_pymacaroons": ("clubdesk", "caveat denies", "caveat deniex", "caveat deniex"),
+    "proxy_holds": ("deploy/nginx.conf", "burst=200", "burst=2", "429"),
+    "refused_memory": ("tests/refused_memory.c", "errno = ENOMEM;", "abort();", "(-6, "),
+    "replies": ("clubdesk", "no places", "no placex", "no placex"),
+    "requests_of_pages": ("docs/CLIENT.md", '"refund":300', '"refund":301', "test_page[CLIENT.md]"),
+    "running_holds": ("deploy/back_up", 'cp -- "$1-wal" "$work/copy-wal"', ":", "a lost list"),
+    "slow_clients": ("clubdesk", BY_HAND, 'exec "$PROGRAM" $(echo "$@" | sed "s/--patience 2/--patience 6/")', "test_client_behind_one_that_dawdles[silent]"),
+    "tables_by_sqlite3": ("clubdesk", "quota BETWEEN 0 AND 99)", "quota BETWEEN 0 AND 98)", "test_limit[members quota 0 99]"),
+    "vectors": ("docs/vectors.json", '\\"left\\":1}', '\\"left\\":2}', "test_replies_of_a_run"),
+    "year-quick": ("clubdesk", "quota reached", "quota reachex", "quota reachex"),
+}
+
+
+def copied_tree(folder):
+    """The files of the repository as they are, without what is built."""
+    names = subprocess.run(["git", "-C", desk.ROOT, "ls-files", "-co", "--exclude-standard", "-z"], check=True, capture_output=True, text=True).stdout
+    for name in filter(None, names.split("\0")):
+        if (desk.ROOT / name).is_file():
+            (folder / name).parent.mkdir(parents=True, exist_ok=True)
+            shutil.copy2(desk.ROOT / name, folder / name)
+
+
+def spoil(path, old, new):
+    if old == BY_HAND:
+        path.rename(path.with_suffix(".whole"))
+        path.write_text(f"{BY_HAND}PROGRAM={path.with_suffix('.whole')}\n{new}\n", encoding="utf-8")
+        path.chmod(0o755)
+        return
+    data = path.read_bytes()
+    if old.encode() not in data:
+        raise ValueError(f"{path.name} has no {old}")
+    path.write_bytes(data.replace(old.encode(), new.encode()))
+
+
+def plant(name, folder):
+    """Makes a copy of the tree with the fault of a test; the variables that name its programs."""
+    file, old, new, _ = PLANTS[name]
+    folder.chmod(0o755)  # for tests with other users
+    copied_tree(folder)
+    variables = {}
+    for program in PROGRAMS:
+        copy = folder / "crates" / program / "out" / program
+        copy.parent.mkdir(parents=True)
+        shutil.copy(desk.program(program), copy)
+        variables[program.upper()] = str(copy)
+    spoil(Path(variables[file.upper()]) if file in PROGRAMS else folder / file, old, new)
+    if file.startswith("web/src/"):
+        subprocess.run([folder / "bin" / "pages"], check=True)
+    for program in PROGRAMS:
+        os.utime(variables[program.upper()])
+    return variables
+
+
+def is_found(name, status, log):
+    """Whether a test failed for its fault."""
+    return status not in (0, 77) and PLANTS[name][3] in log
