@@ -7,7 +7,6 @@
 # wants: bats mandoc
 
 setup() {
-    bats_require_minimum_version 1.5.0
     load serving.sh
     cd "$BATS_TEST_TMPDIR"
     man=$here/../man
@@ -68,7 +67,9 @@ agrees() {
 @test 'mandoc has nothing to say' {
     cd "$man"
     mandoc -T lint clubdesk.1 passtool.1 office.1 >"$BATS_TEST_TMPDIR/said" 2>&1 || :
-    run ! grep -v 'outdated mandoc.db' "$BATS_TEST_TMPDIR/said"
+    run grep -v 'outdated mandoc.db' "$BATS_TEST_TMPDIR/said"
+    echo "$output"
+    [ "$status" != 0 ]
 }
 
 @test 'the page of clubdesk has what its help shows' { agrees clubdesk "$desk"; }
