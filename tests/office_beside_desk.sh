@@ -6,11 +6,9 @@
 # with a server without orders. Not part of the gate.
 #   tests/office_beside_desk.sh
 # groups: programs faults
+# wants: curl sqlite3 util-linux
 set -eu
 . "$(dirname -- "$0")/serving.sh"
-wants python3 python3
-wants curl curl
-wants sqlite3 sqlite3
 noon=2026-04-20T12:00
 root=00112233445566778899aabbccddeeff
 
@@ -109,10 +107,7 @@ ends '5 storage failed' 2000 "$desk" serve club --port 0 --count 1
 rmdir club-office
 
 # ---- a client that is silent, and one that sends a byte a second, keep no order
-"$desk" serve club --port 0 --count 1000000 --at "$noon" --patience 4 >listening 2>fault &
-server=$!
-read -r line <listening
-port=${line##*:}
+serve club 1000000 "$noon" --patience 4
 python3 "$here/office_beside_desk.py" "$desk" club "$port" slow
 kill "$server"
 wait "$server" || :

@@ -5,6 +5,7 @@
 # place, also of a file that is damaged or gone. Wants root, for a machine of its own (tests/office_room.sh). Not part of the gate.
 #   tests/office_holds.sh
 # groups: package root
+# wants: sudo sqlite3 openssl util-linux bsdutils iproute2 systemd
 set -eu
 . "$(dirname -- "$0")/office_room.sh"
 ROOM=$room python3 "$here/office_holds.py"

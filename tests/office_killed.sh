@@ -6,6 +6,7 @@
 # the gate.
 #   tests/office_killed.sh [KILLS [SEED]]
 # groups: package faults root
+# wants: sudo sqlite3 openssl util-linux bsdutils iproute2 systemd
 set -eu
 . "$(dirname -- "$0")/office_room.sh"
 number "${1-100}" 1 10000

@@ -2,15 +2,10 @@
 # those of the machine; what bin/package packs of deploy/, web/ and the programs lies there as a package puts it; the clerk anna is made
 # by the lines of docs/RUNNING.md under "The clerks", ben is another one, and carl is none. `systemctl` knows one word, `kill`, and hands
 # it to a small manager of services (tests/office_room.py). Wants root.
-# Before it is read, `room_wants` may have COMMAND:PACKAGE pairs more, and `room_net` be not empty: then the room has a network of its own.
+# Before it is read, `room_net` may be not empty: then the room has a network of its own.
 PATH=/usr/sbin:/sbin:$PATH
 [ "$(id -u)" = 0 ] || { echo "$0 wants root, for other users and folders of its own" >&2; exit 2; }
 if [ -z "${OFFICE_ROOM-}" ]; then
-    for pair in sudo:sudo sqlite3:sqlite3 python3:python3 openssl:openssl setpriv:util-linux logger:bsdutils ip:iproute2 ${room_wants-}; do
-        command -v "${pair%%:*}" >/dev/null || apt-get install -y "${pair##*:}" >/dev/null 2>&1 ||
-            { apt-get update >/dev/null && apt-get install -y "${pair##*:}" >/dev/null; } || exit 2
-    done
-    [ -x /lib/systemd/systemd-journald ] || apt-get install -y systemd >/dev/null || exit 2
     OFFICE_ROOM=yes exec unshare --mount ${room_net:+--net} --propagation private sh "$0" "$@"
 fi
 [ -z "${room_net-}" ] || ip link set lo up

@@ -5,6 +5,7 @@
 # club or the new one. Wants root, for a machine of its own (tests/office_room.sh). Not part of the gate.
 #   tests/office_year.sh [REQUESTS]
 # groups: package root
+# wants: sudo sqlite3 openssl util-linux bsdutils iproute2 systemd
 set -eu
 . "$(dirname -- "$0")/office_room.sh"
 number "${1-1500}" 10 100000

@@ -4,8 +4,8 @@
 # (tests/acme_stand_in.py), and renews it, after which the site has the new one. Then two clubs at one proxy, that nothing else is answered
 # at the port of the challenges, and the limit of requests, with its sentence. Wants root. Not part of the gate.
 # groups: package root
+# wants: sudo sqlite3 openssl util-linux bsdutils iproute2 systemd curl nginx-light certbot qrencode
 set -eu
-room_wants='curl:curl nginx:nginx-light certbot:certbot qrencode:qrencode'
 room_net=yes
 . "$(dirname -- "$0")/office_room.sh"
 [ -e /etc/nginx/sites-enabled/default ] || ln -s ../sites-available/default /etc/nginx/sites-enabled/default

@@ -1,18 +1,6 @@
 # Read by the scripts beside it that run the desk's server: its programs, a folder to work in, and a server at a fixed moment.
 here=${BATS_TEST_DIRNAME:-$(CDPATH='' cd -P -- "$(dirname -- "$0")" && pwd)}
 
-# Installs Debian's packages, after a look at what there is where they aren't known.
-installs() {
-    apt-get install -y "$@" >/dev/null 2>&1 || { apt-get update >/dev/null && apt-get install -y "$@" >/dev/null; }
-}
-
-# wants COMMAND PACKAGE..: installs Debian's packages where the command is missing.
-wants() {
-    command=$1
-    shift
-    command -v "$command" >/dev/null || installs "$@" || exit 2
-}
-
 # The programs are those of the variables CLUBDESK and PASSTOOL. One without a variable is proved and built first, where that isn't
 # done. Then it is run itself, so that a signal meets the server.
 desk=${CLUBDESK-}
@@ -50,10 +38,12 @@ number() {
     exit 2
 }
 
-# serve FILE COUNT MOMENT [--log]: starts a server, which listens at $port once this is done. What it tells on standard error lies
-# in `fault`. `finish` waits for its end.
+# serve FILE COUNT MOMENT [WORD..]: starts a server, with further options, which listens at $port once this is done. What it tells on
+# standard error lies in `fault`. `finish` waits for its end.
 serve() {
-    "$desk" serve "$1" --port 0 --count "$2" --at "$3" ${4:+"$4"} >listening 2>fault &
+    file=$1 count=$2 moment=$3
+    shift 3
+    "$desk" serve "$file" --port 0 --count "$count" --at "$moment" "$@" >listening 2>fault &
     server=$!
     read -r line <listening || { cat fault >&2; exit 1; }
     port=${line##*:}
