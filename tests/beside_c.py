@@ -134,7 +134,8 @@ def measure(clubdesk, path, asker, count, rounds):
     for copy in ("ours", "theirs"):
         desk.copy(path, copy)
     medians = {kind: ([], [], []) for kind in KINDS}
-    with desk.Server(clubdesk, "ours", count * rounds * len(KINDS), "--at", NOON) as ours, InC("./desk", "theirs", str(MINUTE)) as theirs, InC("./plain") as plain:
+    total = count * rounds * len(KINDS)
+    with desk.Server(clubdesk, "ours", total, "--at", NOON) as ours, InC("./desk", "theirs", str(MINUTE)) as theirs, InC("./plain") as plain:
         for number in range(rounds):
             for kind, requests in asker.round(count).items():
                 turns, replies = list(enumerate((ours, theirs, plain))), {}

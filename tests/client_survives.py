@@ -215,7 +215,8 @@ def fail_in_turn(listener, port):
 def test_proxy_that_fails(own, server):
     club, prints = own
     number = ""
-    for words, reply in (("book court-1 2026-05-03 18 0", '{"booking":"amy-1/N","charge":200,"left":3}\n'), ("cancel ", '{"booking":"amy-1/N","refund":200}\n')):
+    for words, reply in (("book court-1 2026-05-03 18 0", '{"booking":"amy-1/N","charge":200,"left":3}\n'),
+                         ("cancel ", '{"booking":"amy-1/N","refund":200}\n')):
         with server(club, len(CUT_AT), "--at", NOON) as it, socket.create_server(("127.0.0.1", 0)) as listener:
             proxy = threading.Thread(target=fail_in_turn, args=(listener, it.port))
             proxy.start()

@@ -260,7 +260,8 @@ def test_layers():
         cells = line.split("|")
         crate = cells[1].strip(" `")
         has_engine = "the crates that `sqlite` stands on" in cells[3]
-        cell = cells[3].replace("the crates that `sqlite` stands on", "").replace("`club_core` and below", "`club_core` `club_rows` `club_values` `pass_caveats`")
+        cell = cells[3].replace("the crates that `sqlite` stands on", "")
+        cell = cell.replace("`club_core` and below", "`club_core` `club_rows` `club_values` `pass_caveats`")
         named = set(re.findall("`([^`]*)`", cell))
         used = {it for its_crate, it in uses if its_crate == crate}
         assert named <= used, f"{crate} does not stand on {named - used}"

@@ -16,8 +16,10 @@ BY_HAND = "#!/bin/sh\n"
 PLANTS = {
     "beside_c": ("tests/beside_c/desk.c", "left", "lost", "the replies differ"),
     "bookings_survive_kill": ("clubdesk", BY_HAND, '[ "$1" != sheet ] || rm -f "$2-wal"; exec "$PROGRAM" "$@"', "'sheet "),
+    "audit": ("docs/AUDIT.md", "| 1. Depends only on |", "| 1. Depends on |", "isn't current"),
     "builds_side_by_side": ("bin/proved", '[ ! -e "$out/build.started" ] || return 0', ":", "not ok 8 a build that is killed"),
-    "client_survives": ("examples/client.py", "        self.file.flush()\n        os.fsync(self.file.fileno())\n", "", "test_servers_and_clients_that_are_killed"),
+    "client_survives": ("examples/client.py", "        self.file.flush()\n        os.fsync(self.file.fileno())\n", "",
+                        "test_servers_and_clients_that_are_killed"),
     "clock_out_of_range": ("clubdesk", BY_HAND, '"$PROGRAM" "$@" || exit 0', "the server ended with status 0"),
     "club_stays_whole": ("tests/club_stays_whole.py", "VALUES ('amy', 0, 5, 0)", "VALUES ('amy', 0, 4, 0)", "assert found in wanted"),
     "completions_hold": ("bin/completions", 'compgen -W "$values"', 'compgen -W ""', "test_completions[clubdesk-Bash]"),

@@ -105,7 +105,8 @@ def test_sums_of_an_auditor(club):
 
 # Of each table its columns: name, type, place in the key. None may be null, and all tables are STRICT.
 COLUMNS = """\
-bookings: pass_key TEXT 1, number INTEGER 2, facility TEXT, day INTEGER, hour INTEGER, guests INTEGER, charge INTEGER, remains INTEGER, cancelled INTEGER, refund INTEGER
+bookings: pass_key TEXT 1, number INTEGER 2, facility TEXT, day INTEGER, hour INTEGER, guests INTEGER, \
+charge INTEGER, remains INTEGER, cancelled INTEGER, refund INTEGER
 desk: version INTEGER
 facilities: name TEXT 1, kind TEXT, places INTEGER, price INTEGER, opens INTEGER, shuts INTEGER
 keys: name TEXT 1, member TEXT, root BLOB, revoked INTEGER
@@ -146,7 +147,8 @@ def test_limit(club, limit):
     table, column, least, most = limit.split()
     sql(club, "INSERT INTO old_roots VALUES ('amy-1', zeroblob(16), 20000000)")
     for value in (int(least) - 1, int(least), int(most), int(most) + 1):
-        ended = subprocess.run(["sqlite3", club.file, f"BEGIN; UPDATE {table} SET {column} = {value} WHERE rowid = 1"], capture_output=True, check=False, text=True)
+        update = f"BEGIN; UPDATE {table} SET {column} = {value} WHERE rowid = 1"
+        ended = subprocess.run(["sqlite3", club.file, update], capture_output=True, check=False, text=True)
         is_refused = not int(least) <= value <= int(most)
         assert (ended.returncode, "CHECK constraint failed" in ended.stderr) == (19 if is_refused else 0, is_refused), value
 
