@@ -37,7 +37,7 @@ PLANTS = {
     "openapi": ("docs/openapi.yaml", '"charge":600,"left":1}', '"charge":600,"left":2}', "test_each_example_is_a_reply"),
     "page_narrows": ("web/src/caveats.mjs", '[1-4][0-9])", (most)', '[1-5][0-9])", (most)', "understood otherwise"),
     "passes_by_pymacaroons": ("clubdesk", "caveat denies", "caveat deniex", "caveat deniex"),
-    "proxy_holds": ("deploy/nginx.conf", "burst=200", "burst=2", "429"),
+    "proxy_holds": ("deploy/nginx.conf", "burst=200", "burst=2", "were limited"),
     "refused_memory": ("tests/refused_memory.c", "errno = ENOMEM;", "abort();", "(-6, "),
     "replies": ("clubdesk", "no places", "no placex", "no placex"),
     "requests_of_pages": ("docs/CLIENT.md", '"refund":300', '"refund":301', "test_page[CLIENT.md]"),
