@@ -1,0 +1,191 @@
+#!/usr/bin/env -S /usr/bin/python3 -B -m pytest -q -p no:cacheprovider
+"""The door of a running desk, as a hostile or an unlucky office meets it: an order that is cut at each byte, of 70,000 bytes, with
+another count than its words, of words that are no UTF-8, of no command, and of `serve`; a sender that goes before it is greeted, in
+its words, or before its answer; 50 orders at once; root's order at another user's desk, a folder that a server can't write, and a
+full disk. What isn't a whole order changes nothing, each whole one is carried out once, and the server goes on. Wants root for the
+last three. Not part of the gate.
+"""
+# groups: faults
+# wants: python3-pytest sqlite3
+
+import os
+import shutil
+import socket
+import subprocess
+
+import pytest
+
+import desk
+import kinds
+
+ANOTHER = 65_534  # the user `nobody`
+CREDIT = ("clubdesk", "credit", "club", "amy", "1")
+needs_root = pytest.mark.skipif(os.geteuid() != 0, reason="wants root")
+
+
+def order_bytes(*words, root="", count=None):
+    """The bytes of an order: how many words it has, the root that was read for it, and the words, with a zero byte after each."""
+    pieces = [str(len(words) if count is None else count), root, *words]
+    return b"".join(it.encode() + b"\0" for it in pieces)
+
+
+@pytest.fixture
+def serving(server, club):
+    """A server over the club, for many clients; it is killed at the end."""
+    with server(club, 1000, "--at", kinds.NOON) as it:
+        yield it
+        it.kill()
+
+
+def visitor(club):
+    it = socket.socket(socket.AF_UNIX)
+    it.settimeout(30)
+    it.connect(f"{club.file}-office")
+    return it
+
+
+def answer(club, data):
+    """What the door answers to bytes: a status and a text, or None."""
+    with visitor(club) as it:
+        assert it.recv(1) == b"!"
+        it.sendall(data)
+        it.shutdown(socket.SHUT_WR)
+        found = b"".join(iter(lambda: it.recv(4096), b""))
+    return (found[0], found[1:].decode()) if found else None
+
+
+def credited(club):
+    """The points that Amy was credited, by a look through the door."""
+    account = club.does(f"show-account amy-1 --at {kinds.NOON}")
+    return int(dict(line.split(" ", 1) for line in account.splitlines())["balance"])
+
+
+def test_a_whole_order(club, serving):
+    before = credited(club)
+    assert answer(club, order_bytes(*CREDIT)) == (0, "done\n")
+    assert credited(club) == before + 1
+
+
+def test_cut_at_each_byte(club, serving):
+    before, whole = credited(club), order_bytes(*CREDIT)
+    for length in range(len(whole)):
+        assert answer(club, whole[:length]) == (2, ""), whole[:length]
+    assert credited(club) == before
+
+
+@pytest.mark.parametrize("data", [
+    order_bytes(*CREDIT, count=4), order_bytes(*CREDIT, count=6), b"05\0\0" + b"".join(it.encode() + b"\0" for it in CREDIT),
+    order_bytes(*CREDIT) + b"\0", order_bytes(*CREDIT)[:-1] + b"\0\0", b"5\0\0clubdesk\0credit\0club\0amy\xff\0" + b"1\0",
+    order_bytes("clubdesk", "serve", "club", "--port", "0", "--count", "1"), order_bytes("clubdesk", "--help"), order_bytes(), b"\0" * 100])
+def test_no_order(club, serving, data):
+    before = credited(club)
+    assert answer(club, data)[0] == 2
+    assert credited(club) == before
+
+
+def test_words_that_are_refused(club, serving):
+    assert answer(club, order_bytes("clubdesk", "credits", "club"))[0] == 2
+    assert answer(club, order_bytes("clubdesk", "credit", "club", "amy", "none")) == (3, "bad value")
+    assert answer(club, order_bytes("clubdesk", "credit", "club", "zed", "1")) == (1, "refused: unknown")
+
+
+def test_too_long(club, serving):
+    before = credited(club)
+    with visitor(club) as it:
+        assert it.recv(1) == b"!"
+        try:
+            it.sendall(order_bytes("clubdesk", "credit", "club", "a" * 70_000, "1"))
+            it.shutdown(socket.SHUT_WR)
+            assert it.recv(1) == b""
+        except (BrokenPipeError, ConnectionResetError):
+            pass
+    assert credited(club) == before
+
+
+def test_a_sender_that_goes(club, serving):
+    before, whole = credited(club), order_bytes(*CREDIT)
+    for length in (0, 1, len(whole) // 2, len(whole)):
+        visitor(club).close()  # before the greeting
+        with visitor(club) as it:
+            assert it.recv(1) == b"!"
+            it.sendall(whole[:length])
+        assert desk.exchange(serving.port, kinds.account().data).startswith(b"HTTP/1.1 200 ")
+    assert credited(club) == before + 1
+
+
+def test_a_silent_sender(club, serving):
+    with visitor(club) as it:
+        assert it.recv(1) == b"!"
+        assert it.recv(1) == b""  # cut off after a second
+    assert desk.exchange(serving.port, kinds.account().data).startswith(b"HTTP/1.1 200 ")
+
+
+def test_fifty_at_once(club, serving, clubdesk):
+    before = credited(club)
+    orders = [subprocess.Popen([clubdesk, "credit", club.file, "amy", "1"], stdout=subprocess.PIPE, stderr=subprocess.PIPE) for _ in range(50)]
+    assert {(*it.communicate(), it.returncode) for it in orders} == {(b"done\n", b"", 0)}
+    assert credited(club) == before + 50
+
+
+@pytest.fixture
+def of_another(club):
+    """The club, in a folder of another user."""
+    for parent in club.file.parents:
+        if parent.stat().st_mode & 0o5 != 0o5:
+            parent.chmod(0o755)
+    for it in club.file.parent.iterdir():
+        shutil.chown(it, ANOTHER, ANOTHER)
+    shutil.chown(club.file.parent, ANOTHER, ANOTHER)
+    return club
+
+
+AS_ANOTHER = ("setpriv", f"--reuid={ANOTHER}", f"--regid={ANOTHER}", "--clear-groups")
+
+
+@needs_root
+def test_an_order_of_root(server, of_another):
+    with server(of_another, 1000, "--at", kinds.NOON, by=AS_ANOTHER) as it:
+        before = credited(of_another)
+        assert of_another.order("credit", "amy", "1") == (0, "done\n", "")
+        assert credited(of_another) == before + 1
+        assert {path.stat().st_uid for path in of_another.file.parent.iterdir() if path.name.startswith("club")} <= {ANOTHER, 0}
+        it.kill()
+    assert of_another.file.stat().st_uid == ANOTHER
+
+
+@needs_root
+def test_a_folder_that_cannot_be_written(of_another, clubdesk):
+    of_another.file.parent.chmod(0o555)
+    shutil.chown(of_another.file.parent, 0, 0)
+    ended = subprocess.run([*AS_ANOTHER, clubdesk, "serve", of_another.file, "--port", "0", "--count", "1"], capture_output=True, check=False)
+    assert (ended.returncode, ended.stdout) == (5, b"")
+    assert not of_another.file.with_name("club-office").exists()
+
+
+@pytest.fixture
+def small_disk(tmp_path):
+    """The folder of a disk of eight megabytes."""
+    disk = tmp_path / "disk"
+    disk.mkdir()
+    subprocess.run(["mount", "-t", "tmpfs", "-o", "size=8m", "none", disk], check=True)
+    yield disk
+    subprocess.run(["umount", disk], check=True)
+
+
+@needs_root
+def test_a_full_disk(club, small_disk, server):
+    full = club.copied_to(small_disk / "club")
+    with server(full, 1000, "--at", kinds.NOON) as it:
+        before = credited(full)
+        with open(small_disk / "rest", "wb", buffering=0) as rest, pytest.raises(OSError):
+            while True:
+                rest.write(bytes(4096))
+        ended = [full.order("credit", "amy", "1") for _ in range(50)]
+        assert ended[-1] == (5, "", "storage failed\n")
+        done = ended.count((0, "done\n", ""))
+        assert done + ended.count(ended[-1]) == len(ended)
+        os.unlink(small_disk / "rest")
+        assert credited(full) == before + done
+        assert full.order("credit", "amy", "1") == (0, "done\n", "")
+        assert credited(full) == before + done + 1
+        it.kill()
