@@ -5,3 +5,4 @@ pub mod TreeLemmas
 pub mod OptionLemmas
 pub mod WordsLemmas
 pub mod NamedLemmas
+pub mod TableLemmas

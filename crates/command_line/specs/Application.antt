@@ -4,7 +4,7 @@ use Rattle.clap.specs.Words.{App, Rule, Shape, Text, app_of, new_app, new_rule}
 use Rattle.clap.specs.Simple.{on_top}
 use Rattle.clap.specs.declared.builder.command.Command.{Command}
 use Rattle.clap.specs.declared.builder.command.Command.TheViews.{out-Command}
-use Rattle.clap.specs.declared.builder.action.ArgAction.TheVariants.{SetTrue}
+use Rattle.clap.specs.declared.builder.action.ArgAction.TheVariants.{Append, SetTrue}
 
 -- `--NAME VALUE`
 abbrev pub option_named : Text → Rule
@@ -13,6 +13,10 @@ option_named name = record (new_rule name) { long = Some name; value_names = 1 }
 -- `--NAME`
 abbrev pub flag_named : Text → Rule
 flag_named name = record (new_rule name) { long = Some name; action = Some SetTrue }
+
+-- any number of words
+abbrev pub words_named : Text → Rule
+words_named name = record (new_rule name) { action = Some Append; value_names = 1 }
 
 abbrev pub as_required : Rule → Rule
 as_required rule = record rule { required = true }

@@ -5,3 +5,4 @@ pub mod Input
 pub mod Output
 pub mod Words
 pub mod Laws
+pub mod Table

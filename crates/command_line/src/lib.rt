@@ -11,7 +11,9 @@ mod output;
 mod process;
 mod root;
 mod signal;
+mod table;
 mod tree;
+mod value;
 mod words;
 
 pub use errors::{WordsFault, form_fault, text_fault, words_fault};
@@ -21,5 +23,7 @@ pub use options::{is_set, make_flag, make_form, make_form_or_v2, make_option, va
 pub use output::{flush, write_text};
 pub use process::report;
 pub use root::Root;
+pub use table::{Argument, Asked, Program, Row, make_application, read_words};
 pub use tree::{make_program, new_command, with_argument, with_command};
+pub use value::{Value, read_value};
 pub use words::{Parsed, parse};

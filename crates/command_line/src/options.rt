@@ -30,6 +30,17 @@ pub fn make_flag<'a>(alloc: Global, name: &'a str, help: &'a str) -> Arg<'a>
         .help(help)
 }
 
+/// Any number of words
+pub fn make_words<'a>(alloc: Global, name: &'a str, value: &'a str, help: &'a str) -> Arg<'a>
+    ensures rule { rule_of result ≡ spec.words_named name.entry.now }
+    ensures local { result.global ≡ false }
+{
+    Arg::new(alloc, name)
+        .value_name(value)
+        .action(ArgAction::Append)
+        .help(help)
+}
+
 /// `--form FORM`
 pub fn make_form<'a>(alloc: Global) -> Arg<'a>
     ensures rule { rule_of result ≡ spec.form_option }

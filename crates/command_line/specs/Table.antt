@@ -1,0 +1,87 @@
+-- A program's commands as the rows of a table, and what arguments ask of them (ours).
+use Rattle.std.specs.Prelude.{◌≡◌, List, [], Option, Some, Result, Ok, Err, fold, map, find, option_map, option_and_then, true}
+use Rattle.std.specs.Str.{bytes_eq}
+use Rattle.clap.specs.Words.{App, Kinds, Row as Found, Rule, Shape, Text, fault_of, found_of, is_simple_and_free, kind_of, new_app, rows_of}
+use Rattle.clap.specs.Words.{subcommand_of, with_rule, with_subcommand}
+use Rattle.command_line.specs.Application.{as_required, flag_named, option_named, program_named, with_default, words_named}
+use Rattle.command_line.specs.Laws.{HasCommands}
+use Rattle.command_line.specs.Words.{HasText, IsRefusedAs}
+use Rattle.command_line.specs.declared.errors.WordsFault.{WordsFault}
+use Rattle.command_line.specs.declared.errors.WordsFault.TheVariants.{Refused, Memory}
+use Rattle.command_line.specs.declared.table.Argument.{Argument}
+use Rattle.command_line.specs.declared.table.Argument.TheVariants.{Value, Needed, Or, Flag, Words, NeededWords}
+use Rattle.command_line.specs.declared.table.Asked.{Asked}
+use Rattle.command_line.specs.declared.table.Asked.TheVariants.{ShowText, Perform}
+use Rattle.command_line.specs.declared.table.Program.{Program}
+use Rattle.command_line.specs.declared.table.Row.{Row}
+
+-- what a row asks for, its name, and the rules of its arguments in their order
+pub record Entry (C : Type 0) : Type 0 where
+  pub command : C
+  pub name : Text
+  pub rules : List Rule
+
+pub record Table (C : Type 0) : Type 0 where
+  pub title : Text
+  pub entries : List (Entry C)
+
+abbrev pub rule_for : Argument → Rule
+rule_for (Value name value help) = option_named name.now
+rule_for (Needed name value help) = as_required (option_named name.now)
+rule_for (Or name value help default) = with_default default.now (option_named name.now)
+rule_for (Flag name help) = flag_named name.now
+rule_for (Words name value help) = words_named name.now
+rule_for (NeededWords name value help) = as_required (words_named name.now)
+
+abbrev pub entry_of : {C : Type 0} → Row C → Entry C
+entry_of row = record { command = row.command; name = row.name.now; rules = map rule_for row.arguments.now }
+
+abbrev pub table_of : {C : Type 0} → Program C → Table C
+table_of program = record { title = program.name.now; entries = map entry_of program.rows.now }
+
+-- the command of an entry, and the program of a table, as clap reads them
+abbrev pub entry_app : {C : Type 0} → Entry C → App
+entry_app entry = fold with_rule (new_app entry.name) entry.rules
+
+abbrev pub with_entries : {C : Type 0} → App → List (Entry C) → App
+with_entries app entries = fold with_subcommand app (map (λ entry. (entry_app entry).top) entries)
+
+abbrev pub app_of_table : {C : Type 0} → Table C → App
+app_of_table table = with_entries (program_named table.title) table.entries
+
+-- clap's errors for the arguments, the program's name first; empty if it accepts them
+unfoldable pub refusals : {C : Type 0} → Table C → List Text → Kinds
+refusals table words = fault_of (app_of_table table) words
+
+abbrev pub entry_named : {C : Type 0} → Text → List (Entry C) → Option (Entry C)
+entry_named name entries = find (λ entry. bytes_eq entry.name name) entries
+
+-- the row that clap found, with what it found of the row's arguments
+abbrev pub asked_in : {C : Type 0} → Table C → Option (Text × List Found) → Option (C × List Found)
+asked_in table found = option_and_then (λ found. option_map (λ entry. (entry.command, found.1))
+    (entry_named found.0 table.entries)) found
+
+unfoldable pub asked : {C : Type 0} → Table C → List Text → Option (C × List Found)
+asked table words = asked_in table (subcommand_of (app_of_table table) words)
+
+-- What clap has to make of a table, which each program's table computes to: it reads the arguments of any row by rules that
+-- don't speak of one another, and has the rows as its commands.
+pub record IsGood {C : Type 0} (table : Table C) : Type 0 where
+  pub free : is_simple_and_free (app_of_table table) ≡ true
+  pub shapes : List Shape
+  pub help : Shape
+  pub has : HasCommands (app_of_table table) shapes help
+  pub names : map (λ shape. shape.name) shapes ≡ map (λ entry. entry.name) table.entries
+
+-- the row is the one that the arguments ask for
+abbrev pub IsRow : {C : Type 0} → Option (C × List Found) → Asked C → Type 0
+IsRow row (ShowText text) = ⊥
+IsRow row (Perform command options) = row ≡ Some (command, rows_of (found_of options))
+
+-- What arguments may ask for: a text, or a row of the table, or clap refuses them.
+abbrev pub IsAsked : {C : Type 0} → Table C → List Text → Result (Asked C) WordsFault → Type 0
+IsAsked table words (Ok (ShowText text)) = HasText (refusals table words)
+IsAsked table words (Ok (Perform command options)) =
+    (refusals table words ≡ []) × (asked table words ≡ Some (command, rows_of (found_of options)))
+IsAsked table words (Err (Refused error)) = IsRefusedAs (refusals table words) (kind_of error)
+IsAsked table words (Err Memory) = Unit {0}

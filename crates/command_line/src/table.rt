@@ -1,0 +1,149 @@
+//! A program's commands as the rows of a table.
+
+ghost use Rattle.std.specs.Prelude.{◌≡◌, IfOk, IsSome, Some, false, map, option_map};
+ghost use Rattle.clap.specs.Words.{app_of, found_of, rows_of, rule_of, subcommand_rows_of};
+ghost use Rattle.command_line.specs.Application.{IsMade};
+ghost use Rattle.command_line.specs.Table.{IsAsked, IsGood, IsRow, app_of_table, asked_in, entry_app, entry_named, entry_of, rule_for, table_of};
+
+use crate::errors::WordsFault;
+use crate::laws::words_name_a_row;
+use crate::options::{make_flag, make_option, make_words};
+use crate::tree::{make_program, new_command, with_argument, with_command};
+use crate::words::{Parsed, parse};
+use clap::{Arg, ArgMatches, Command, Error};
+use std::alloc::{AllocError, Global};
+use std::convert::AsStr;
+
+/// An argument of a command: its name, what its help calls the value, and the help.
+#[derive(Clone, Copy)]
+pub enum Argument {
+    /// `--NAME VALUE`
+    Value(&'static str, &'static str, &'static str),
+    /// The same, which must be given.
+    Needed(&'static str, &'static str, &'static str),
+    /// The same, with a default as its last part.
+    Or(&'static str, &'static str, &'static str, &'static str),
+    /// `--NAME`
+    Flag(&'static str, &'static str),
+    /// Any number of words.
+    Words(&'static str, &'static str, &'static str),
+    /// One word or more.
+    NeededWords(&'static str, &'static str, &'static str),
+}
+
+/// A command: what it asks for, its name, its help, which ends with a text, and its arguments.
+pub struct Row<C: Copy> {
+    pub command: C,
+    pub name: &'static str,
+    pub about: &'static str,
+    pub help: &'static str,
+    pub arguments: &'static [Argument],
+}
+
+/// A program with its commands. Its long help ends with its exit statuses.
+pub struct Program<C: Copy + 'static> {
+    pub name: &'static str,
+    pub about: &'static str,
+    pub statuses: &'static str,
+    pub rows: &'static [Row<C>],
+}
+
+/// What arguments ask for.
+#[derive(Drop)]
+pub enum Asked<'a, C> {
+    /// The help text or the version.
+    ShowText(Error),
+    /// A command, with what `clap` found of its arguments.
+    Perform(C, ArgMatches<'a>),
+}
+
+/// The program as `clap` takes it.
+pub fn make_application<'a, C: Copy>(
+    alloc: Global,
+    program: &Program<C>,
+) -> Result<Command<'a>, AllocError>
+    ensures { IfOk result (λ made. app_of made ≡ app_of_table (table_of program.now)) }
+{
+    let mut made = Ok(make_program(alloc, program.name, program.about, program.statuses));
+    for row in program.rows {
+        made = with_command(made, make_command(alloc, row));
+    }
+    made
+}
+
+fn make_command<'a, C: Copy>(alloc: Global, row: &Row<C>) -> Result<Command<'a>, AllocError>
+    ensures { IfOk result (IsMade (entry_app (entry_of row.now))) }
+{
+    let mut made = Ok(new_command(alloc, row.name, row.about, row.help));
+    for argument in row.arguments {
+        made = with_argument(made, make_argument(alloc, *argument));
+    }
+    made
+}
+
+fn make_argument<'a>(alloc: Global, argument: Argument) -> Arg<'a>
+    ensures rule { rule_of result ≡ rule_for argument }
+    ensures local { result.global ≡ false }
+{
+    match argument {
+        Argument::Value(name, value, help) => make_option(alloc, name, value, help),
+        Argument::Needed(name, value, help) => make_option(alloc, name, value, help).required(true),
+        Argument::Or(name, value, help, default) => {
+            make_option(alloc, name, value, help).default_value(default)
+        }
+        Argument::Flag(name, help) => make_flag(alloc, name, help),
+        Argument::Words(name, value, help) => make_words(alloc, name, value, help),
+        Argument::NeededWords(name, value, help) => {
+            make_words(alloc, name, value, help).required(true)
+        }
+    }
+}
+
+/// What the arguments ask of the program. The first is its name.
+///
+/// # Errors
+///
+/// `Refused` if `clap` refuses the arguments; `Memory` only if an allocation fails.
+pub fn read_words<'a, C: Copy, S: AsStr>(
+    alloc: Global,
+    program: &Program<C>,
+    words: &'a [S],
+) -> Result<Asked<'a, C>, WordsFault>
+    requires { IsGood (table_of program.now) }
+    ensures { IsAsked (table_of program.now) (map S.text words.entry.now) result }
+{
+    // By this law the arguments that are accepted name a row.
+    words_name_a_row::<C>();
+    match parse(make_application(alloc, program), words) {
+        Ok(Parsed::Matches(matches)) => Ok(asked_row(program, matches)),
+        Ok(Parsed::ShowText(text)) => Ok(Asked::ShowText(text)),
+        Err(fault) => Err(fault),
+    }
+}
+
+// The row that the arguments name, with what they give it.
+fn asked_row<'a, C: Copy>(program: &Program<C>, mut matches: ArgMatches<'a>) -> Asked<'a, C>
+    requires { IsSome (asked_in (table_of program.now) (subcommand_rows_of matches)) }
+    ensures { IsRow (asked_in (table_of program.now) (subcommand_rows_of matches.entry)) result }
+{
+    let Some((name, options)) = matches.remove_subcommand() else {
+        unreachable!()
+    };
+    let Some(command) = command_named(program.rows, name) else {
+        unreachable!()
+    };
+    Asked::Perform(command, options)
+}
+
+// What the first row of this name asks for.
+fn command_named<C: Copy>(rows: &[Row<C>], name: &str) -> Option<C>
+    ensures { result ≡ option_map (λ entry. entry.command)
+        (entry_named name.now (map entry_of rows.now)) }
+{
+    for row in rows {
+        if row.name == name {
+            return Some(row.command);
+        }
+    }
+    None
+}

@@ -1,0 +1,45 @@
+//! Values that arguments spell.
+
+ghost use Rattle.std.specs.Prelude.{◌≡◌, ℕ, List, Option};
+ghost use Rattle.clap.specs.Words.{found_of, rows_of};
+ghost use Rattle.command_line.specs.FormName.{form_named as form_of};
+ghost use Rattle.command_line.specs.Root.{root_of};
+ghost use Rattle.command_line.specs.Words.{value_in};
+
+use crate::form_names::form_named;
+use crate::options::value_of;
+use crate::root::Root;
+use clap::ArgMatches;
+use pass_forms::Form;
+
+/// A value that a text may spell.
+pub trait Value {
+    ghost spelled: { List ℕ → Option Self };
+
+    /// The value that the text spells.
+    fn read(text: &str) -> Option<Self>
+        ensures { result ≡ spelled text.now };
+}
+
+impl Value for Root {
+    ghost spelled = { root_of };
+
+    fn read(text: &str) -> Option<Root> {
+        Root::from_hex(text)
+    }
+}
+
+impl Value for Form {
+    ghost spelled = { form_of };
+
+    fn read(text: &str) -> Option<Form> {
+        form_named(text)
+    }
+}
+
+/// The value of an option; `None` if its text spells none, or is left out.
+pub fn read_value<V: Value>(options: &ArgMatches<'_>, id: &str) -> Option<V>
+    ensures { result ≡ V.spelled (value_in id.now (rows_of (found_of options.now))) }
+{
+    V::read(value_of(options, id))
+}
