@@ -2,7 +2,6 @@ pub mod OptionLemmas
 pub mod NarrowLemmas
 pub mod ShownLemmas
 pub mod WordsLemmas
-pub mod NamedLemmas
 pub mod RunLemmas
 pub mod AnswerLaws
 pub mod MadeLemmas

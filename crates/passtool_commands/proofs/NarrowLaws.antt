@@ -2,7 +2,7 @@
 use Rattle.std.proofs.Common.{◌≡◌, ◌∙◌, Bool, true, false, not, ◌&&◌, List, [], ◌∷◌, ◌++◌, Some, Ok, fold, length, refl, ap, ap₂, codes, arith}
 use Rattle.std.proofs.lemmas.Bool.{le-ltb}
 use Rattle.std.specs.List.{list_all, prefix_len, slice_index_or}
-use Rattle.clap.specs.Words.{Row, Shape, Text}
+use Rattle.clap.specs.Words.{App, Row, Shape, Text}
 use Rattle.clap.specs.Faults.{defaults_fault, entered_fault, level_fault, turn_fault, walk_fault}
 use Rattle.clap.specs.Kinds.{or_else}
 use Rattle.clap.specs.Simple.{built, entered, help_shape, names_of}
@@ -12,10 +12,13 @@ use Rattle.clap.proofs.OnLiterals.{clap_on_literals}
 use Rattle.command_line.specs.FormName.{form_name, form_named}
 use Rattle.pass_forms.specs.declared.form.Form.{Form}
 use Rattle.pass_forms.specs.declared.form.Form.TheVariants.{V1, V2, Json}
-use Rattle.passtool_commands.specs.Application.{application, refusals, subcommand}
+use Rattle.command_line.specs.Table.{app_of_table, asked, asked_in, refusals}
+use Rattle.passtool_commands.specs.Application.{passtool}
 use Rattle.passtool_commands.specs.Laws.{MintTakesDefaults, MintTakesItsParts, NarrowTakesItsCaveats}
 use Rattle.passtool_commands.specs.Words.{asked_command, asked_by, is_understood, checked_caveats}
 use Rattle.passtool_commands.specs.declared.command.Command.{Command}
+use Rattle.passtool_commands.specs.declared.table.Name.{Name}
+use Rattle.passtool_commands.specs.declared.table.Name.TheVariants.{Mint, Narrow}
 use Rattle.passtool_commands.proofs.CaveatWalk.{at_command, caveats_clear, given, rows_are, words_kept, words_pass}
 use Rattle.passtool_commands.proofs.WordLaws.{asked_is}
 
@@ -25,20 +28,24 @@ default_of id value = record (given id (value ∷ [])) { source = Some DefaultVa
 
 -- ---- the words behind the name of a command
 
+abbrev app : App
+app = built (app_of_table passtool)
+
 abbrev top : Shape
-top = (built application).top
+top = app.top
 
 abbrev names : Names
-names = names_of (built application)
+names = names_of app
 
 -- a command's name is met at once, and its own arguments decide all else
-record IsCommand (command : Text) (shape : Shape) : Type 0 where
+record IsCommand (row : Name) (command : Text) (shape : Shape) : Type 0 where
   meets : walked top.rules names (walk_from nothing_held) command ≡ at_command command []
   passes : turn_fault top names (walk_from nothing_held) command ≡ []
-  enters : (words : List Text) → entered (built application) (Some (command, words)) ≡ Some (command, rows_after shape.rules [] words)
-  fails : (words : List Text) → entered_fault (built application) (Some (command, words)) ≡ level_fault shape [] nothing_held words false []
+  enters : (words : List Text) → entered app (Some (command, words)) ≡ Some (command, rows_after shape.rules [] words)
+  asks : (rows : List Row) → asked_in passtool (Some (command, rows)) ≡ Some (row, rows)
+  fails : (words : List Text) → entered_fault app (Some (command, words)) ≡ level_fault shape [] nothing_held words false []
 
-module _ (command : Text) (shape : Shape) (is : IsCommand command shape) (words : List Text) where
+module _ (row : Name) (command : Text) (shape : Shape) (is : IsCommand row command shape) (words : List Text) where
   walks : walk top.rules names nothing_held (command ∷ words) ≡ at_command command words
   walks = ap (λ (w : Walk). fold (walked top.rules names) w words) is.meets ∙ words_kept top.rules names command [] words
 
@@ -46,28 +53,28 @@ module _ (command : Text) (shape : Shape) (is : IsCommand command shape) (words 
   unfolding walk_fault
   walks_clear = ap₂ or_else is.passes (ap (λ (w : Walk). walk_fault top names w words) is.meets ∙ words_pass top names command [] words)
 
-  found : (name : Text) → subcommand (name ∷ command ∷ words) ≡ Some (command, rows_after shape.rules [] words)
-  unfolding application subcommand
-  found name = ap (λ (w : Walk). entered (built application) w.stopped) walks ∙ is.enters words
+  found : (name : Text) → asked passtool (name ∷ command ∷ words) ≡ Some (row, rows_after shape.rules [] words)
+  unfolding passtool asked
+  found name = ap (asked_in passtool) (ap (λ (w : Walk). entered app w.stopped) walks ∙ is.enters words) ∙ is.asks _
 
-  clear : (name : Text) → level_fault shape [] nothing_held words false [] ≡ [] → refusals (name ∷ command ∷ words) ≡ []
-  unfolding application refusals defaults_fault
+  clear : (name : Text) → level_fault shape [] nothing_held words false [] ≡ [] → refusals passtool (name ∷ command ∷ words) ≡ []
+  unfolding passtool refusals defaults_fault
   clear name below = rw (walks_clear, walks, is.enters words, is.fails words, below) refl
 
   -- arguments for which clap finds these rows ask for what the rows say
   asked_by_rows : (name : Text) (rows : List Row) (answer : Command) → level_fault shape [] nothing_held words false [] ≡ []
-      → rows_after shape.rules [] words ≡ rows → asked_by (Some (command, rows)) ≡ Ok answer → asked_command (name ∷ command ∷ words) ≡ Some answer
+      → rows_after shape.rules [] words ≡ rows → asked_by (Some (row, rows)) ≡ Ok answer → asked_command (name ∷ command ∷ words) ≡ Some answer
   asked_by_rows name rows answer below rows_are asks =
-      asked_is _ _ _ (clear name below) (found name ∙ ap (λ (rows : List Row). Some (command, rows)) rows_are) asks
+      asked_is _ _ _ (clear name below) (found name ∙ ap (λ (rows : List Row). Some (row, rows)) rows_are) asks
 
 -- ---- mint
 
 abbrev mint_shape : Shape
-mint_shape = slice_index_or (built application).subs 0 help_shape
+mint_shape = slice_index_or app.subs 0 help_shape
 
-is_mint : IsCommand (codes "mint") mint_shape
-unfolding clap_on_literals application
-is_mint = record { meets = refl; passes = refl; enters = λ words. refl; fails = λ words. refl }
+is_mint : IsCommand Mint (codes "mint") mint_shape
+unfolding clap_on_literals passtool
+is_mint = record { meets = refl; passes = refl; enters = λ words. refl; asks = λ rows. refl; fails = λ words. refl }
 
 abbrev options_of : Text → Text → Text → Form → List Text → List Text
 options_of hex id location form caveats =
@@ -80,7 +87,7 @@ option_rows hex id location form =
 
 options_clear : (hex id location : Text) (form : Form) (caveats : List Text)
     → level_fault mint_shape [] nothing_held (options_of hex id location form caveats) false [] ≡ []
-unfolding clap_on_literals application
+unfolding clap_on_literals passtool
 options_clear hex id location form [] = refl
 options_clear hex id location form (first ∷ more) =
     caveats_clear mint_shape false refl refl (option_rows hex id location form) (λ change missing tail. refl) first more refl
@@ -88,12 +95,12 @@ options_clear hex id location form (first ∷ more) =
 options_found : (hex id location : Text) (form : Form) (first : Text) (more : List Text)
     → rows_after mint_shape.rules [] (options_of hex id location form (first ∷ more))
     ≡ option_rows hex id location form ++ given (codes "caveat") (first ∷ more) ∷ []
-unfolding clap_on_literals application
+unfolding clap_on_literals passtool
 options_found hex id location form first more =
     rows_are mint_shape false refl refl (option_rows hex id location form) (λ change missing tail. refl) first more
 
 options_alone : (hex id location : Text) (form : Form) → rows_after mint_shape.rules [] (options_of hex id location form []) ≡ option_rows hex id location form
-unfolding clap_on_literals application
+unfolding clap_on_literals passtool
 options_alone hex id location form = refl
 
 named_by_itself : (form : Form) → form_named (form_name form) ≡ Some form
@@ -103,10 +110,10 @@ named_by_itself Json = refl
 
 pub mint_takes_its_parts : MintTakesItsParts
 mint_takes_its_parts name hex root id location form [] is =
-    asked_by_rows (codes "mint") mint_shape is_mint _ name _ _ (options_clear hex id location form [])
+    asked_by_rows Mint (codes "mint") mint_shape is_mint _ name _ _ (options_clear hex id location form [])
     (options_alone hex id location form) (rw (named_by_itself form, is) refl)
 mint_takes_its_parts name hex root id location form (first ∷ more) is =
-    asked_by_rows (codes "mint") mint_shape is_mint _ name _ _ (options_clear hex id location form (first ∷ more))
+    asked_by_rows Mint (codes "mint") mint_shape is_mint _ name _ _ (options_clear hex id location form (first ∷ more))
     (options_found hex id location form first more) (rw (named_by_itself form, is) refl)
 
 -- ---- mint with a root and an identifier alone
@@ -115,25 +122,25 @@ abbrev few_options : Text → Text → List Text
 few_options hex id = (codes "--root=" ++ hex) ∷ (codes "--id=" ++ id) ∷ []
 
 few_clear : (hex id : Text) → level_fault mint_shape [] nothing_held (few_options hex id) false [] ≡ []
-unfolding clap_on_literals application
+unfolding clap_on_literals passtool
 few_clear hex id = refl
 
 few_found : (hex id : Text) → rows_after mint_shape.rules [] (few_options hex id)
     ≡ given (codes "root") (hex ∷ []) ∷ given (codes "id") (id ∷ []) ∷ default_of (codes "form") (codes "v2") ∷ []
-unfolding clap_on_literals application
+unfolding clap_on_literals passtool
 few_found hex id = refl
 
 pub mint_takes_defaults : MintTakesDefaults
-mint_takes_defaults name hex root id is = asked_by_rows (codes "mint") mint_shape is_mint _ name _ _ (few_clear hex id) (few_found hex id) (rw is refl)
+mint_takes_defaults name hex root id is = asked_by_rows Mint (codes "mint") mint_shape is_mint _ name _ _ (few_clear hex id) (few_found hex id) (rw is refl)
 
 -- ---- narrow
 
 abbrev narrow_shape : Shape
-narrow_shape = slice_index_or (built application).subs 2 help_shape
+narrow_shape = slice_index_or app.subs 2 help_shape
 
-is_narrow : IsCommand (codes "narrow") narrow_shape
-unfolding clap_on_literals application
-is_narrow = record { meets = refl; passes = refl; enters = λ words. refl; fails = λ words. refl }
+is_narrow : IsCommand Narrow (codes "narrow") narrow_shape
+unfolding clap_on_literals passtool
+is_narrow = record { meets = refl; passes = refl; enters = λ words. refl; asks = λ rows. refl; fails = λ words. refl }
 
 -- where each text passes, no place is that of one that doesn't
 all_pass : (p : Text → Bool) (texts : List Text) → list_all p texts ≡ true → prefix_len (λ text. not (not (p text))) texts ≡ length texts
@@ -156,21 +163,21 @@ abbrev any_rows : List Row
 any_rows = given (codes "any") (codes "true" ∷ []) ∷ []
 
 caveats_alone_clear : (first : Text) (more : List Text) → level_fault narrow_shape [] nothing_held (codes "--" ∷ first ∷ more) false [] ≡ []
-unfolding clap_on_literals application
+unfolding clap_on_literals passtool
 caveats_alone_clear first more = caveats_clear narrow_shape true refl refl [] (λ change missing tail. refl) first more refl
 
 caveats_alone : (first : Text) (more : List Text) → rows_after narrow_shape.rules [] (codes "--" ∷ first ∷ more)
     ≡ given (codes "caveat") (first ∷ more) ∷ default_of (codes "any") (codes "false") ∷ []
-unfolding clap_on_literals application
+unfolding clap_on_literals passtool
 caveats_alone first more = rows_are narrow_shape true refl refl [] (λ change missing tail. refl) first more
 
 any_clear : (first : Text) (more : List Text) → level_fault narrow_shape [] nothing_held (codes "--any" ∷ codes "--" ∷ first ∷ more) false [] ≡ []
-unfolding clap_on_literals application
+unfolding clap_on_literals passtool
 any_clear first more = caveats_clear narrow_shape true refl refl any_rows (λ change missing tail. refl) first more refl
 
 any_found : (first : Text) (more : List Text) → rows_after narrow_shape.rules [] (codes "--any" ∷ codes "--" ∷ first ∷ more)
     ≡ any_rows ++ given (codes "caveat") (first ∷ more) ∷ []
-unfolding clap_on_literals application
+unfolding clap_on_literals passtool
 any_found first more = rows_are narrow_shape true refl refl any_rows (λ change missing tail. refl) first more
 
 any_taken : (caveats : List Text) → checked_caveats true caveats ≡ Ok caveats
@@ -179,7 +186,7 @@ any_taken caveats = refl
 
 pub narrow_takes_its_caveats : NarrowTakesItsCaveats
 narrow_takes_its_caveats name first more = (
-  λ understood. asked_by_rows (codes "narrow") narrow_shape is_narrow _ name _ _ (caveats_alone_clear first more)
+  λ understood. asked_by_rows Narrow (codes "narrow") narrow_shape is_narrow _ name _ _ (caveats_alone_clear first more)
       (caveats_alone first more) (rw (all_understood (first ∷ more) understood) refl),
-  asked_by_rows (codes "narrow") narrow_shape is_narrow _ name _ _ (any_clear first more) (any_found first more) (rw (any_taken (first ∷ more)) refl),
+  asked_by_rows Narrow (codes "narrow") narrow_shape is_narrow _ name _ _ (any_clear first more) (any_found first more) (rw (any_taken (first ∷ more)) refl),
 )

@@ -13,14 +13,17 @@ use Rattle.hex.specs.Hex.{decode_of, is_hex_digit}
 use Rattle.hex.specs.declared.error.FromHexError.{FromHexError}
 use Rattle.hex.proofs.HexLemmas.{decode_of-ok}
 use Rattle.pass_forms.specs.declared.form.Form.TheVariants.{V1, V2, Json}
-use Rattle.passtool_commands.specs.Application.{application, refusals, subcommand}
+use Rattle.command_line.specs.Table.{asked, refusals}
+use Rattle.passtool_commands.specs.Application.{passtool}
 use Rattle.passtool_commands.specs.Laws.{ConvertTakesItsForm, ShowTakesNothing, VerifyTakesItsRoot}
 use Rattle.passtool_commands.specs.Words.{asked_command, asked_by, command_of}
 use Rattle.passtool_commands.specs.declared.command.Command.{Command}
 use Rattle.passtool_commands.specs.declared.command.Command.TheVariants.{Verify}
+use Rattle.passtool_commands.specs.declared.table.Name.{Name}
+use Rattle.passtool_commands.specs.declared.table.Name.TheVariants as row
 
 -- words that clap reads ask for the command that it found
-pub asked_is : (words : List Text) (found : Option (Text × List Row)) (command : Command) → refusals words ≡ [] → subcommand words ≡ found
+pub asked_is : (words : List Text) (found : Option (Name × List Row)) (command : Command) → refusals passtool words ≡ [] → asked passtool words ≡ found
     → asked_by found ≡ Ok command → asked_command words ≡ Some command
 unfolding command_of
 asked_is words found command clear same is = rw (clear, same, is) refl
@@ -28,13 +31,13 @@ asked_is words found command clear same is = rw (clear, same, is) refl
 -- ---- show
 
 pub show_takes_nothing : ShowTakesNothing
-unfolding clap_on_literals application refusals subcommand command_of
+unfolding clap_on_literals passtool refusals asked command_of
 show_takes_nothing name = refl
 
 -- ---- convert
 
 pub convert_takes_its_form : ConvertTakesItsForm
-unfolding clap_on_literals application refusals subcommand command_of
+unfolding clap_on_literals passtool refusals asked command_of
 convert_takes_its_form name V1 = refl
 convert_takes_its_form name V2 = refl
 convert_takes_its_form name Json = refl
@@ -43,16 +46,16 @@ convert_takes_its_form name Json = refl
 
 -- a word that doesn't begin with a dash is the root's
 nothing_against : (name : Text) (first : ℕ) (rest : Text) → eqb first 45 ≡ false
-    → refusals (name ∷ codes "verify" ∷ codes "--root" ∷ (first ∷ rest) ∷ []) ≡ []
-unfolding clap_on_literals application refusals
+    → refusals passtool (name ∷ codes "verify" ∷ codes "--root" ∷ (first ∷ rest) ∷ []) ≡ []
+unfolding clap_on_literals passtool refusals
 nothing_against name first rest no_dash = simp (no_dash, strip_byte, long_of, short_of, flag_word_fault, walked_from, word_met)
 
-abbrev named_root : Text × List Row → Text × Option Text
+abbrev named_root : Name × List Row → Name × Option Text
 named_root found = (found.0, first_of (codes "root") found.1)
 
 found_root : (name : Text) (first : ℕ) (rest : Text) → eqb first 45 ≡ false
-    → option_map named_root (subcommand (name ∷ codes "verify" ∷ codes "--root" ∷ (first ∷ rest) ∷ [])) ≡ Some (codes "verify", Some (first ∷ rest))
-unfolding clap_on_literals application subcommand
+    → option_map named_root (asked passtool (name ∷ codes "verify" ∷ codes "--root" ∷ (first ∷ rest) ∷ [])) ≡ Some (row.Verify, Some (first ∷ rest))
+unfolding clap_on_literals passtool asked
 found_root name first rest no_dash = simp (no_dash, strip_byte, long_of, short_of, walked_from, word_met)
 
 -- no digit is a dash
@@ -81,13 +84,13 @@ no_digit_no_root root h = go (decode_of []) refl h
         cc
     go (Err e) same is = cc
 
-asked_for : (found : Option (Text × List Row)) (text root : Text) → option_map named_root found ≡ Some (codes "verify", Some text)
+asked_for : (found : Option (Name × List Row)) (text root : Text) → option_map named_root found ≡ Some (row.Verify, Some text)
     → root_of text ≡ Some root → asked_by found ≡ Ok (Verify root)
 asked_for None text root h is = cc
 asked_for (Some p) text root h is =
-    let pair : named_root p ≡ (codes "verify", Some text) = ap (λ (o : Option (Text × Option Text)). unwrap_or o (named_root p)) h in
-    let name : p.0 ≡ codes "verify" = ap (λ (q : Text × Option Text). q.0) pair in
-    let given : first_of (codes "root") p.1 ≡ Some text = ap (λ (q : Text × Option Text). q.1) pair in
+    let pair : named_root p ≡ (row.Verify, Some text) = ap (λ (o : Option (Name × Option Text)). unwrap_or o (named_root p)) h in
+    let name : p.0 ≡ row.Verify = ap (λ (q : Name × Option Text). q.0) pair in
+    let given : first_of (codes "root") p.1 ≡ Some text = ap (λ (q : Name × Option Text). q.1) pair in
     rw (name, given, is) refl
 
 pub verify_takes_its_root : VerifyTakesItsRoot

@@ -1,17 +1,18 @@
 -- Laws of the definitions.
-use Rattle.std.specs.Prelude.{◌≡◌, ◌↔◌, ℕ, List, [], ◌∷◌, ◌++◌, Some, Ok, true, codes}
+use Rattle.std.specs.Prelude.{◌≡◌, ◌↔◌, ℕ, List, [], ◌∷◌, ◌++◌, Some, Ok, IsSome, true, codes}
 use Rattle.std.specs.List.{list_all}
 use Rattle.clap.specs.Words.{Text}
 use Rattle.pass_forms.specs.declared.form.Form.{Form}
 use Rattle.pass_forms.specs.declared.form.Form.TheVariants.{V2}
 use Rattle.pass_forms.specs.Pass.{IsSigned, Plain}
 use Rattle.passtool_commands.specs.Answer.{command_answer, narrowing, new_pass, pass_in}
-use Rattle.passtool_commands.specs.Application.{refusals, subcommand}
+use Rattle.command_line.specs.Table.{asked, refusals}
+use Rattle.passtool_commands.specs.Application.{passtool}
 use Rattle.command_line.specs.FormName.{form_name}
 use Rattle.passtool_commands.specs.Minting.{Minting}
 use Rattle.command_line.specs.Root.{root_of}
 use Rattle.passtool_commands.specs.Shown.{with_line_feed}
-use Rattle.passtool_commands.specs.Words.{FindsCommand, asked_command, is_understood}
+use Rattle.passtool_commands.specs.Words.{asked_command, is_understood}
 use Rattle.passtool_commands.specs.declared.answer.Outcome.TheVariants.{Done}
 use Rattle.passtool_commands.specs.declared.command.Command.TheVariants.{Mint, Show, Narrow, Convert, Verify}
 
@@ -19,7 +20,7 @@ use Rattle.passtool_commands.specs.declared.command.Command.TheVariants.{Mint, S
 
 -- Arguments that clap accepts name a command.
 abbrev pub WordsNameACommand : Type 0
-WordsNameACommand = (words : List Text) → refusals words ≡ [] → FindsCommand (subcommand words)
+WordsNameACommand = (words : List Text) → refusals passtool words ≡ [] → IsSome (asked passtool words)
 
 -- `mint`, under any name of the program, with all its options and any caveats, in their order
 abbrev pub MintTakesItsParts : Type 0

@@ -1,10 +1,9 @@
 -- What the arguments ask for (ours).
-use Rattle.std.specs.Prelude.{◌≡◌, ◌⊎◌, ℕ, ◌+◌, Bool, not, IsSomeAnd, if◌then◌else◌, List, [], Option, Some, None, is_some, Result, Ok, Err, codes}
+use Rattle.std.specs.Prelude.{◌≡◌, ◌⊎◌, ℕ, ◌+◌, Bool, not, if◌then◌else◌, List, [], Option, Some, None, is_some, Result, Ok, Err, codes}
 use Rattle.std.specs.Prelude.{position}
 use Rattle.std.specs.Prelude.{unwrap_or}
 use Rattle.std.specs.Option.{ok_or}
 use Rattle.std.specs.Result.{result_ok}
-use Rattle.std.specs.Str.{bytes_eq}
 use Rattle.clap.specs.Words.{Row, Text, all_of, kind_of}
 use Rattle.clap.specs.declared.error.kind.ErrorKind.TheVariants as kind
 use Rattle.clap.specs.Walk.{is_empty}
@@ -14,12 +13,15 @@ use Rattle.command_line.specs.Words.{HasText, IsRefusedAs, is_set, value_in}
 use Rattle.pass_caveats.specs.computed.CaveatOf.{caveat_of}
 use Rattle.pass_forms.specs.declared.fault.FormFault.TheVariants.{Memory}
 use Rattle.pass_forms.specs.declared.form.Form.{Form}
-use Rattle.passtool_commands.specs.Application.{refusals, subcommand}
+use Rattle.command_line.specs.Table.{asked, refusals}
+use Rattle.passtool_commands.specs.Application.{passtool}
 use Rattle.passtool_commands.specs.declared.answer.Fault.{Fault}
 use Rattle.passtool_commands.specs.declared.answer.Fault.TheVariants.{Words, BadRoot, CaveatNotUnderstood, Pass}
 use Rattle.passtool_commands.specs.declared.command.Command.{Command}
 use Rattle.passtool_commands.specs.declared.command.Command.TheVariants.{Mint, Show, Narrow, Convert, Verify}
 use Rattle.passtool_commands.specs.declared.command.Request.{Request}
+use Rattle.passtool_commands.specs.declared.table.Name.{Name}
+use Rattle.passtool_commands.specs.declared.table.Name.TheVariants as name
 use Rattle.passtool_commands.specs.declared.command.Request.TheVariants.{Perform, ShowText}
 
 -- why arguments that clap accepts ask for no command
@@ -96,39 +98,30 @@ verify_of rows = do
   root ← root_in rows
   Ok (Verify root)
 
--- the command of this name with its options
-abbrev pub command_named : Text → List Row → Result Command ArgumentRefusal
-command_named name rows =
-    if bytes_eq name (codes "mint") then mint_of rows
-    else (if bytes_eq name (codes "show") then Ok Show
-    else (if bytes_eq name (codes "narrow") then narrow_of rows
-    else (if bytes_eq name (codes "convert") then convert_of rows
-    else (if bytes_eq name (codes "verify") then verify_of rows else Err no_command))))
+-- the command of a row with its options
+abbrev pub command_named : Name → List Row → Result Command ArgumentRefusal
+command_named name.Mint rows = mint_of rows
+command_named name.Show rows = Ok Show
+command_named name.Narrow rows = narrow_of rows
+command_named name.Convert rows = convert_of rows
+command_named name.Verify rows = verify_of rows
 
 -- the command that clap found
-abbrev pub asked_by : Option (Text × List Row) → Result Command ArgumentRefusal
+abbrev pub asked_by : Option (Name × List Row) → Result Command ArgumentRefusal
 asked_by None = Err no_command
 asked_by (Some found) = command_named found.0 found.1
 
-abbrev pub IsCommandName : Text → Type 0
-IsCommandName name = (name ≡ codes "mint") ⊎ (name ≡ codes "show") ⊎ (name ≡ codes "narrow")
-    ⊎ (name ≡ codes "convert") ⊎ (name ≡ codes "verify")
-
--- clap found one of the commands
-abbrev pub FindsCommand : Option (Text × List Row) → Type 0
-FindsCommand found = IsSomeAnd found (λ named. IsCommandName named.0)
-
 -- what the arguments ask for, if clap accepts them: the form is checked first, then the root, then the caveats
 unfoldable pub command_of : List Text → Result Command ArgumentRefusal
-command_of words = asked_by (subcommand words)
+command_of words = asked_by (asked passtool words)
 
 -- the command that the arguments ask for, if clap accepts them
 abbrev pub asked_command : List Text → Option Command
-asked_command words = if is_empty (refusals words) then result_ok (command_of words) else None
+asked_command words = if is_empty (refusals passtool words) then result_ok (command_of words) else None
 
 -- arguments that ask for a text: help, or the version
 abbrev pub AsksText : List Text → Type 0
-AsksText words = HasText (refusals words)
+AsksText words = HasText (refusals passtool words)
 
 -- A call returns what is asked for, or the fault that applies, or out of memory in place of either.
 abbrev pub AnswersAsked : {A : Type 0} → Result A ArgumentRefusal → Result A Fault → Type 0
@@ -141,16 +134,16 @@ AnswersAsked expected (Err _) = ⊥
 
 -- The fault of the arguments: clap decides first.
 abbrev pub IsFaultOf : List Text → Fault → Type 0
-IsFaultOf words (Words error) = IsRefusedAs (refusals words) (kind_of error)
-    ⊎ ((refusals words ≡ []) × (command_of words ≡ Err bad_form) × (kind_of error ≡ kind.InvalidValue))
-IsFaultOf words BadRoot = (refusals words ≡ []) × (command_of words ≡ Err bad_root)
+IsFaultOf words (Words error) = IsRefusedAs (refusals passtool words) (kind_of error)
+    ⊎ ((refusals passtool words ≡ []) × (command_of words ≡ Err bad_form) × (kind_of error ≡ kind.InvalidValue))
+IsFaultOf words BadRoot = (refusals passtool words ≡ []) × (command_of words ≡ Err bad_root)
 IsFaultOf words (CaveatNotUnderstood number) =
-    (refusals words ≡ []) × (command_of words ≡ Err (not_understood number))
+    (refusals passtool words ≡ []) × (command_of words ≡ Err (not_understood number))
 IsFaultOf words (Pass Memory) = Unit {0}
 IsFaultOf words _ = ⊥
 
 -- the results of parsing the arguments
 abbrev pub ReadsWords : List Text → Result Request Fault → Type 0
 ReadsWords words (Ok (ShowText text)) = AsksText words
-ReadsWords words (Ok (Perform command)) = (refusals words ≡ []) × (command_of words ≡ Ok command)
+ReadsWords words (Ok (Perform command)) = (refusals passtool words ≡ []) × (command_of words ≡ Ok command)
 ReadsWords words (Err fault) = IsFaultOf words fault

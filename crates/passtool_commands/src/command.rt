@@ -1,22 +1,21 @@
 //! The commands.
 
 ghost use Rattle.std.specs.Prelude.{◌≡◌, ◌≢◌, ◌≤◌, IfErr, IfOk, false, length, map, take};
-ghost use Rattle.clap.specs.Words.{found_of, rows_of, subcommand_rows_of};
+ghost use Rattle.clap.specs.Words.{found_of, rows_of};
 ghost use Rattle.passtool_commands.specs.Words.{AnswersAsked, checked_caveats};
 
 use crate::answer::{Answer, Fault, Outcome};
-use crate::application::make_application;
 use crate::caveats::Caveats;
 use crate::convert::convert;
 use crate::input::MAX_READ;
-use crate::laws::words_name_a_command;
 use crate::mint::Mint;
 use crate::narrow::narrow;
 use crate::options::{caveats_of, form_of, root_of};
 use crate::show::show;
+use crate::table::{Name, PASSTOOL};
 use crate::verify::verify;
 use clap::ArgMatches;
-use command_line::{Parsed, Root, fill, is_set, parse, value_of, write_text};
+use command_line::{Asked, Root, fill, is_set, read_words, value_of, write_text};
 use pass_forms::{Form, FormFault};
 use std::alloc::Global;
 use std::convert::AsStr;
@@ -52,14 +51,12 @@ impl<'a> Request<'a> {
     pub fn from_words<S: AsStr>(alloc: Global, words: &'a [S]) -> Result<Request<'a>, Fault>
         ensures { ReadsWords (map S.text words.entry.now) result }
     {
-        // By this law the arguments that are accepted name a command.
-        words_name_a_command();
-        match parse(make_application(alloc), words) {
-            Ok(Parsed::Matches(matches)) => match Command::from_matches(alloc, &matches) {
+        match read_words(alloc, &PASSTOOL, words) {
+            Ok(Asked::Perform(name, options)) => match Command::read(alloc, name, &options) {
                 Ok(command) => Ok(Request::Perform(command)),
                 Err(fault) => Err(fault),
             },
-            Ok(Parsed::ShowText(text)) => Ok(Request::ShowText(text)),
+            Ok(Asked::ShowText(text)) => Ok(Request::ShowText(text)),
             Err(fault) => Err(Fault::from(fault)),
         }
     }
@@ -69,20 +66,18 @@ impl<'a> Command<'a> {
     ghost use Rattle.pass_forms.specs.Reading.{UnlessMemory};
     ghost use Rattle.passtool_commands.specs.Answer as spec;
     ghost use Rattle.passtool_commands.specs.Run.{Performs, ReadsInput};
-    ghost use Rattle.passtool_commands.specs.Words.{FindsCommand, asked_by, convert_of, mint_of, narrow_of, takes_any, verify_of};
+    ghost use Rattle.passtool_commands.specs.Words.{command_named, mint_of, narrow_of, takes_any};
 
-    // The command that clap found in the arguments, or the fault of its options.
-    fn from_matches(alloc: Global, matches: &ArgMatches<'a>) -> Result<Command<'a>, Fault>
-        requires { FindsCommand (subcommand_rows_of matches.now) }
-        ensures { AnswersAsked (asked_by (subcommand_rows_of matches.now)) result }
+    // The command of this name with its options, or the fault of these.
+    fn read(alloc: Global, name: Name, options: &ArgMatches<'a>) -> Result<Command<'a>, Fault>
+        ensures { AnswersAsked (command_named name (rows_of (found_of options.now))) result }
     {
-        match matches.subcommand() {
-            Some(("mint", options)) => Command::mint_from(alloc, options),
-            Some(("show", _)) => Ok(Command::Show),
-            Some(("narrow", options)) => Command::narrow_from(alloc, options),
-            Some(("convert", options)) => Command::convert_from(alloc, options),
-            Some(("verify", options)) => Command::verify_from(options),
-            _ => unreachable!(),
+        match name {
+            Name::Mint => Command::mint_from(alloc, options),
+            Name::Show => Ok(Command::Show),
+            Name::Narrow => Command::narrow_from(alloc, options),
+            Name::Convert => Ok(Command::Convert(form_of(alloc, options)?)),
+            Name::Verify => Ok(Command::Verify(root_of(options)?)),
         }
     }
 
@@ -103,20 +98,6 @@ impl<'a> Command<'a> {
         let caveats = caveats_of(alloc, options)?;
         let checked_caveats = checked_caveats(caveats, is_set(options, "any"))?;
         Ok(Command::Narrow(checked_caveats))
-    }
-
-    fn convert_from(alloc: Global, options: &ArgMatches<'a>) -> Result<Command<'a>, Fault>
-        ensures { AnswersAsked (convert_of (rows_of (found_of options.now))) result }
-    {
-        let form = form_of(alloc, options)?;
-        Ok(Command::Convert(form))
-    }
-
-    fn verify_from(options: &ArgMatches<'a>) -> Result<Command<'a>, Fault>
-        ensures { AnswersAsked (verify_of (rows_of (found_of options.now))) result }
-    {
-        let root = root_of(options)?;
-        Ok(Command::Verify(root))
     }
 
     /// Whether the command reads input.

@@ -3,7 +3,6 @@
 #![tactic(auto)]
 
 mod answer;
-mod application;
 mod caveats;
 mod command;
 mod convert;
@@ -14,9 +13,10 @@ mod narrow;
 mod options;
 mod output;
 mod show;
+mod table;
 mod tool;
 mod verify;
 
 pub use answer::{Fault, Outcome};
-pub use application::not_text;
+pub use table::not_text;
 pub use tool::run;

@@ -5,10 +5,10 @@ ghost use Rattle.clap.specs.Words.{found_of, rows_of};
 ghost use Rattle.passtool_commands.specs.Words.{AnswersAsked, caveats_in, form_or_refusal, root_in};
 
 use crate::answer::Fault;
-use crate::application::make_application;
 use crate::caveats::Caveats;
+use crate::table::PASSTOOL;
 use clap::ArgMatches;
-use command_line::{Root, form_fault, form_named, value_of};
+use command_line::{Root, form_fault, make_application, read_value, value_of};
 use pass_forms::Form;
 use std::alloc::{AllocError, Global};
 
@@ -16,20 +16,22 @@ use std::alloc::{AllocError, Global};
 pub fn root_of(options: &ArgMatches<'_>) -> Result<Root, Fault>
     ensures { AnswersAsked (root_in (rows_of (found_of options.now))) result }
 {
-    match Root::from_hex(value_of(options, "root")) {
-        Some(root) => Ok(root),
-        None => Err(Fault::BadRoot),
-    }
+    read_value(options, "root").ok_or(Fault::BadRoot)
 }
 
 /// The form that `--form` names.
 pub fn form_of(alloc: Global, options: &ArgMatches<'_>) -> Result<Form, Fault>
     ensures { AnswersAsked (form_or_refusal (rows_of (found_of options.now))) result }
 {
-    let name = value_of(options, "form");
-    match form_named(name) {
+    match read_value(options, "form") {
         Some(form) => Ok(form),
-        None => Err(Fault::from(form_fault(alloc, make_application(alloc), name))),
+        None => {
+            let (application, name) = (
+                make_application(alloc, &PASSTOOL),
+                value_of(options, "form"),
+            );
+            Err(Fault::from(form_fault(alloc, application, name)))
+        }
     }
 }
 

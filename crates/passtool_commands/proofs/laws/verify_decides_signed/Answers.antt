@@ -1,5 +1,0 @@
-use Rattle.passtool_commands.proofs.AnswerLaws as laws
-use Rattle.passtool_commands.proofs.laws.verify_decides_signed.Goals as goal
-
-pub returns : goal.returns
-returns c = laws.verify_decides_signed

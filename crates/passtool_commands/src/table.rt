@@ -1,0 +1,125 @@
+//! The commands and their arguments, with their help texts.
+
+ghost use Rattle.passtool_commands.specs.Fault.{IsNotText};
+
+use crate::answer::Fault;
+use command_line::{Argument, Program, Row, make_application, text_fault};
+use std::alloc::Global;
+
+/// The commands by their names.
+#[derive(Clone, Copy)]
+pub enum Name {
+    Mint,
+    Show,
+    Narrow,
+    Convert,
+    Verify,
+}
+
+const STATUSES: &str = "Exit status:
+  0  done
+  1  verify: not signed
+  2  the words
+  3  the pass: too long, malformed, with a third-party caveat, or with too many caveats
+  4  out of memory
+  5  a caveat that isn't understood
+  6  a bad root
+  7  input or output failed";
+
+const NARROW_HELP: &str = "Caveats that the desk understands, each with an example:
+  facility = NAME,..        facility = court-1,court-2
+  kind = KIND               kind = court (or boat, or room)
+  hours = HH-HH             hours = 18-20
+  days = DAY..DAY           days = 2026-05-01..2026-05-31
+  until < DAYTHH:MM         until < 2026-05-01T18:00
+  guests <= N               guests <= 2
+  spend <= N                spend <= 600
+  actions = ACTION,..       actions = view,book (of view,book,cancel,account, in this order)
+  weekday = DAY,..          weekday = sat,sun (of mon,tue,wed,thu,fri,sat,sun, in this order)
+
+Example:
+  passtool narrow \"guests <= 2\" \"until < 2026-05-01T18:00\" < pass";
+
+const VERIFY_HELP: &str = "Caveats are not tested; the desk does that.
+
+Example:
+  passtool verify --root 00ff < pass";
+
+const CAVEAT_HELP: &str = "Caveats to add, in this order; behind -- they may begin with a dash";
+
+const ROOT: Argument = Argument::Needed(
+    "root",
+    "ROOT",
+    "1 to 64 bytes in hexadecimal; other users may see it in the list of processes",
+);
+
+const MINT_ARGUMENTS: &[Argument] = &[
+    ROOT,
+    Argument::Needed("id", "ID", "The identifier"),
+    Argument::Value(
+        "location",
+        "LOCATION",
+        "A hint at who made the pass; not signed, not checked; empty where it is left out",
+    ),
+    Argument::Or("form", "FORM", "v1, v2 or json", "v2"),
+    Argument::Words("caveat", "CAVEAT", CAVEAT_HELP),
+];
+
+const NARROW_ARGUMENTS: &[Argument] = &[
+    Argument::Flag(
+        "any",
+        "Takes any caveats, not only those that the desk understands",
+    ),
+    Argument::NeededWords("caveat", "CAVEAT", CAVEAT_HELP),
+];
+
+/// The program.
+pub static PASSTOOL: Program<Name> = Program {
+    name: "passtool",
+    about: "Passes on the command line",
+    statuses: STATUSES,
+    rows: &[
+        Row {
+            command: Name::Mint,
+            name: "mint",
+            about: "Prints a new pass, signed under a root; reads no input",
+            help: "Example:\n  passtool mint --root 00ff --id key:amy-1 --form v1 \"kind = court\"",
+            arguments: MINT_ARGUMENTS,
+        },
+        Row {
+            command: Name::Show,
+            name: "show",
+            about: "Prints the fields of the pass on standard input, one a line",
+            help: "Example:\n  passtool show < pass",
+            arguments: &[],
+        },
+        Row {
+            command: Name::Narrow,
+            name: "narrow",
+            about: "Prints the pass on standard input with caveats added, in the form it came in",
+            help: NARROW_HELP,
+            arguments: NARROW_ARGUMENTS,
+        },
+        Row {
+            command: Name::Convert,
+            name: "convert",
+            about: "Prints the pass on standard input in a form",
+            help: "Example:\n  passtool convert --form json < pass",
+            arguments: &[Argument::Needed("form", "FORM", "v1, v2 or json")],
+        },
+        Row {
+            command: Name::Verify,
+            name: "verify",
+            about: "Tells whether the pass on standard input is signed under a root",
+            help: VERIFY_HELP,
+            arguments: &[ROOT],
+        },
+    ],
+};
+
+/// The fault of arguments that aren't UTF-8. `clap` isn't given these.
+pub fn not_text(alloc: Global) -> Fault
+    ensures { IsNotText result }
+{
+    Fault::from(text_fault(make_application(alloc, &PASSTOOL)))
+}
