@@ -1,11 +1,13 @@
 -- Lemmas on the rows of a table.
-use Rattle.std.proofs.Common.{◌≡◌, ◌∙◌, ℕ, ◌+◌, ◌<◌, List, [], ◌∷◌, ◌++◌, map, take, drop, ap, get_or, length, refl, sym, cond, Bool, true, false, Option, None, Some, IsSome, IsSomeAnd, inl, inr, option_map, Result, Ok, Err}
+use Rattle.std.proofs.Common.{◌≡◌, ◌∙◌, ℕ, ◌+◌, ◌<◌, List, [], ◌∷◌, ◌++◌, map, take, drop, ap, get_or, length, refl}
+use Rattle.std.proofs.Common.{sym, cond, Bool, true, false, Option, None, Some, IsSome, IsSomeAnd, inl, inr, option_map, Result, Ok, Err}
 use Rattle.std.proofs.lemmas.List.{drop_more, take_more}
 use Rattle.std.specs.Str.{bytes_eq}
 use Rattle.std.proofs.lemmas.Slice.Eq.{bytes_eq-Decides}
 use Rattle.clap.specs.Words.{App, Row as Found, Shape, Text, fault_of, subcommand_of, with_subcommand}
 use Rattle.command_line.specs.Laws.{IsNameAmong, WordsEnterACommand}
-use Rattle.command_line.specs.Table.{Entry, IsAsked, IsGood, IsRow, Table, app_of_table, asked, asked_in, refusals, entry_app, entry_named, entry_of, with_entries}
+use Rattle.command_line.specs.Table.{Entry, IsAsked, IsGood, IsRow, Table, app_of_table, asked}
+use Rattle.command_line.specs.Table.{asked_in, refusals, entry_app, entry_named, entry_of, with_entries}
 use Rattle.command_line.specs.Words.{IsParsed}
 use Rattle.command_line.specs.declared.errors.WordsFault.{WordsFault}
 use Rattle.command_line.specs.declared.errors.WordsFault.TheVariants.{Refused, Memory}
