@@ -198,8 +198,7 @@ module _ {D S V : Type 0} (Opens : Opening D S) (Reaches : Reaching D S V) (Clos
         prints_well written answer result (of_task Clean Represents store left answer job.task does) prints
     performs_well (spec.handed_over visit answer reaches of_it prints nothing) = prints_well written answer result (of_server_too answer of_it) prints
     performs_well (spec.server_done service store left between is opens serves follows announces closes) = of_server service.port written result announces
-    performs_well (spec.no_door service store between is opens closes storage silent nothing) =
-        rw storage (record { of_task = tt; silent = λ s. silent })
+    performs_well (spec.no_door service fault store between serves opens closes is silent nothing) = of_opening written.no_change fault result is silent
 
     -- what isn't a server's task notes nothing, whatever a log would note
     pub notes_nothing : ((service : Service) → job.task ≡ Serve service → ⊥) → Noted []
@@ -212,4 +211,4 @@ module _ {D S V : Type 0} (Opens : Opening D S) (Reaches : Reaching D S V) (Clos
         spec.task_done answer store left between reaches does closes prints noted
     notes_nothing none noted (spec.handed_over visit answer reaches of_it prints nothing) = spec.handed_over visit answer reaches of_it prints noted
     notes_nothing none noted (spec.server_done service store left between is opens serves follows announces closes) = absurd (none service is)
-    notes_nothing none noted (spec.no_door service store between is opens closes storage silent nothing) = absurd (none service is)
+    notes_nothing none noted (spec.no_door service fault store between serves opens closes is silent nothing) = absurd (none service serves)

@@ -139,8 +139,9 @@ module _ {Databases Store Visit : Type 0} (Opens : Opening Databases Store) (Rea
         → RunsServer (AnswersBy Clean Represents Fails) (Orders Clean Represents) service store left Noted result
         → FollowsMachine Clean Represents service store left Noted result → Announces service.port written result → Closes between left new
         → Performs job old new written Noted result
-    no_door : (service : Service) (store : Store) (between : Databases) → job.task ≡ Serve service → Opens old job.file (Ok store) between
-        → Closes between store new → result ≡ Err Storage → written.no_change → Noted [] → Performs job old new written Noted result
+    no_door : (service : Service) (fault : StoreFault) (store : Store) (between : Databases) → job.task ≡ Serve service
+        → Opens old job.file (Ok store) between → Closes between store new → result ≡ Err (fault_of_opening fault)
+        → written.no_change → Noted [] → Performs job old new written Noted result
 
   -- The same of a task that may await a root of the input: it was read before the database was opened; or it is no root, or couldn't be
   -- read, and nothing was done; or memory was refused before.

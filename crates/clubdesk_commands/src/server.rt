@@ -51,9 +51,12 @@ pub fn serve_file<C: time::Clock, D: Databases, W: Write, G: Log>(
         Ok(store) => store,
         Err(fault) => return Err(Fault::from(fault)),
     };
-    let Some(door) = databases.make_door(file) else {
-        databases.close(store);
-        return Err(Fault::Storage);
+    let door = match databases.make_door(file) {
+        Ok(door) => door,
+        Err(fault) => {
+            databases.close(store);
+            return Err(Fault::from(fault));
+        }
     };
     let mut desk = OfficeDesk::new(rt.alloc(), machine, store);
     let outcome = serve(

@@ -1,5 +1,6 @@
 //! The files beside a database.
 
+use club_core::StoreFault;
 use std::alloc::AllocError;
 use std::fs::{File, OpenOptions};
 use std::io::ErrorKind;
@@ -74,6 +75,14 @@ impl Place {
                 let _ = fs::remove_file(rt, path.as_str());
             }
         }
+    }
+}
+
+/// The fault of a door that can't be made or used.
+pub(crate) fn fault_of(error: &io::Error) -> StoreFault {
+    match error.kind() {
+        ErrorKind::OutOfMemory => StoreFault::Memory,
+        _ => StoreFault::Storage,
     }
 }
 

@@ -4,6 +4,7 @@ ghost use Rattle.std.specs.Prelude.{◌≡◌};
 ghost use Rattle.desk_server.specs.Served.{CountsOn};
 
 use crate::attempts::{ATTEMPTS_A_SECOND, gain};
+use crate::beside::fault_of;
 use crate::door::FileDoor;
 use crate::openings::{FileClub, OfficeOpenings, ServerOpenings};
 use crate::visit::FileVisit;
@@ -78,7 +79,10 @@ impl<'a> Databases for Files<'a> {
         let _ = store.into_connection().close();
     }
 
-    fn make_door(&self, name: &str) -> Option<FileDoor<'a>> {
-        FileDoor::make(self.rt, name).ok()
+    fn make_door(&self, name: &str) -> Result<FileDoor<'a>, StoreFault> {
+        match FileDoor::make(self.rt, name) {
+            Ok(door) => Ok(door),
+            Err(error) => Err(fault_of(&error)),
+        }
     }
 }

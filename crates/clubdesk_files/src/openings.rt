@@ -55,7 +55,7 @@ impl<'a> Attempts for OfficeOpenings<'a, '_> {
     fn attempt(&mut self) -> Option<Result<Reached<FileClub, FileVisit<'a>>, StoreFault>> {
         match look(self.rt, self.name) {
             Found::Greeted(visit) => Some(Ok(Reached::Served(visit))),
-            Found::Silent => Some(Err(StoreFault::Storage)),
+            Found::Failed(fault) => Some(Err(fault)),
             Found::Nobody => match try_open(self.rt, self.name) {
                 Some(Ok(store)) => Some(Ok(Reached::Opened(store))),
                 Some(Err(fault)) => Some(Err(fault)),

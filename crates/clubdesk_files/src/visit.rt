@@ -1,6 +1,7 @@
 //! A command that gives its order to a server.
 
-use crate::beside::Place;
+use crate::beside::{Place, fault_of};
+use club_core::StoreFault;
 use desk_server::{GREETING, Visit};
 use std::io;
 use std::io::{ErrorKind, Read, Write};
@@ -29,7 +30,7 @@ pub(crate) enum Found<'a> {
     /// Nobody listens.
     Nobody,
     /// One listens, but doesn't greet in time, or the door can't be used.
-    Silent,
+    Failed(StoreFault),
 }
 
 /// Looks for the server of a database.
@@ -37,11 +38,11 @@ pub(crate) fn look<'a>(rt: &'a HostRuntime, file: &str) -> Found<'a> {
     match connect(rt, file) {
         Ok(stream) => match greeted(&stream) {
             Ok(()) => Found::Greeted(FileVisit { rt, stream }),
-            Err(_) => Found::Silent,
+            Err(error) => Found::Failed(fault_of(&error)),
         },
         Err(error) => match error.kind() {
             ErrorKind::NotFound | ErrorKind::ConnectionRefused => Found::Nobody,
-            _ => Found::Silent,
+            _ => Found::Failed(fault_of(&error)),
         },
     }
 }

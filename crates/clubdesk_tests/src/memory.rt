@@ -126,8 +126,12 @@ impl<'a, S: ClubStore + Drop> Databases for InMemory<'a, S> {
         self.store = Some(store);
     }
 
-    fn make_door(&self, name: &str) -> Option<NoDoor> {
-        if name == NAME { Some(NoDoor) } else { None }
+    fn make_door(&self, name: &str) -> Result<NoDoor, StoreFault> {
+        if name == NAME {
+            Ok(NoDoor)
+        } else {
+            Err(StoreFault::Storage)
+        }
     }
 }
 

@@ -209,7 +209,7 @@ impl<D: Databases> Databases for Counted<'_, D> {
         self.databases.close(store);
     }
 
-    fn make_door(&self, name: &str) -> Option<D::Door> {
+    fn make_door(&self, name: &str) -> Result<D::Door, StoreFault> {
         self.databases.make_door(name)
     }
 }

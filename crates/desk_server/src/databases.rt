@@ -58,6 +58,6 @@ pub trait Databases {
         ensures { closes self.old store self.new };
 
     /// Makes the door of a server that has the database of a name open, in place of what a killed
-    /// server left. `None` if that fails.
-    fn make_door(&self, name: &str) -> Option<Self::Door>;
+    /// server left.
+    fn make_door(&self, name: &str) -> Result<Self::Door, StoreFault>;
 }

@@ -7,9 +7,10 @@ use Rattle.clubdesk_commands.proofs.server.serve_file.Goals as goal
 pub returns-in-Err-clause-done : goal.returns-in-Err-clause-done
 returns-in-Err-clause-done g c = spec.not_opened c.in-Err.fault c.in-Err.ensures (ap Err c.from.ensures) refl served.nothing
 
-pub returns-in_default-clause-done : goal.returns-in_default-clause-done
-returns-in_default-clause-done g c =
-    spec.no_door c.args.service c.in-Ok.store c.open.new.self refl c.in-Ok.ensures c.close.ensures refl refl served.nothing
+pub returns-in-Err-make_door-clause-done : goal.returns-in-Err-make_door-clause-done
+returns-in-Err-make_door-clause-done g c =
+    spec.no_door c.args.service c.in-Err-make_door.fault c.in-Ok.store c.open.new.self refl c.in-Ok.ensures c.close.ensures
+    (ap Err c.from-in-Err-make_door.ensures) refl served.nothing
 
 pub returns-clause-done : goal.returns-clause-done
 returns-clause-done g c =
