@@ -33,6 +33,7 @@ PLANTS = {
     "memory_after_commit": ("tests/refused_memory.c", 'tell("send");', 'seen++; tell("send");', "allocations after the commit"),
     "modules_hold": ("web/src/dates.mjs", '"mon", "tue"', '"tue", "mon"', "not ok"),
     "narrowing_elsewhere": ("examples/narrow.mjs", "signature = await hmac(signature, data)", "await hmac(signature, data)", "Node.js, v2: passtool has"),
+    "office_door": ("clubdesk", BY_HAND, '[ "$1" != credit ] || "$PROGRAM" "$@"; exec "$PROGRAM" "$@"', "test_fifty_at_once"),
     "office_holds": ("deploy/office", "SET credited = credited - ?", "SET credited = credited + ?", "wanted"),
     "openapi": ("docs/openapi.yaml", '"charge":600,"left":1}', '"charge":600,"left":2}', "test_each_example_is_a_reply"),
     "page_narrows": ("web/src/caveats.mjs", '[1-4][0-9])", (most)', '[1-5][0-9])", (most)', "understood otherwise"),
