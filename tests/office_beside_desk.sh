@@ -3,7 +3,7 @@
 # requests of it, each order and each reply as it has to be, and the totals are the sums, by sqlite3 once the server is stopped. Then
 # 20 kills of servers and of orders, a client that is silent, a door that is stale or taken, a second server, links to the file and
 # its folder, a file that is moved, another user, and the modes of the files. Prints how long orders and requests took, in one run
-# with a server without orders. Not part of the gate.
+# with a server without orders, also at 300,000 bookings. Not part of the gate.
 #   tests/office_beside_desk.sh
 # groups: programs faults
 # wants: curl sqlite3 util-linux
@@ -52,6 +52,26 @@ for n in 1 2; do
 done
 [ "$(stat -c %a club)$(stat -c %a club-wal)" = 600600 ] || fail "the file or its log has mode $(stat -c %a club club-wal)"
 copy club alone
+copy club large
+
+# ---- at 300,000 bookings of 1,000 other members: a server without orders, and one with
+sqlite3 large "WITH n(i) AS (SELECT 0 UNION ALL SELECT i + 1 FROM n WHERE i < 999) INSERT INTO members SELECT printf('x%03d', i), 900000, 99, 0 FROM n;
+    WITH n(i) AS (SELECT 0 UNION ALL SELECT i + 1 FROM n WHERE i < 999) INSERT INTO keys SELECT printf('x%03d', i), printf('x%03d', i), x'$root', 0 FROM n;
+    INSERT INTO facilities VALUES ('old-court', 'court', 50, 1, 0, 24);
+    WITH n(i) AS (SELECT 0 UNION ALL SELECT i + 1 FROM n WHERE i < 299999) INSERT INTO bookings
+        SELECT printf('x%03d', i % 1000), i / 1000 + 1, 'old-court', 10957 + i / 48, i / 2 % 24, 1, 2, 46, 0, 0 FROM n;
+    UPDATE members SET used = 600 WHERE name LIKE 'x%';
+    INSERT INTO slots SELECT facility, day, hour, 0, sum(guests + 1) FROM bookings GROUP BY 1, 2, 3"
+copy large large-alone
+for it in large-alone:0 large:500; do
+    serve "${it%:*}" 1000000 "$noon"
+    echo "at 300,000 bookings, with ${it#*:} orders:"
+    python3 "$here/office_beside_desk.py" "$desk" "${it%:*}" "$port" "${it#*:}"
+    kill "$server"
+    wait "$server" 2>/dev/null || :
+    server=
+done
+echo "at 360 bookings, without orders and with 500:"
 
 # ---- a server without orders, and one with
 serve alone 1000000 "$noon"
