@@ -1,7 +1,7 @@
 #!/usr/bin/env -S /usr/bin/python3 -B
 """The server beside a small desk in C over SQLite's library, with the same file, texts of statements and requests: the replies of both are
 the same bytes, and how long each took, over 100 and 100,000 bookings, for a member with 10,000 of its own and for one with none; beside a
-plain server in C; how many calls of the system a request costs. The C desk runs three statements more: a key's older root for any pass, its
+plain server in C; how many calls of the system a request costs. The C desk runs two statements more: a key's
 costs under any spend limit, and the facility of a repeat.
 
 Prints for a booking, its repeat, an account, a slot, a refused pass and a forged one the medians in microseconds of clubdesk, of the desk

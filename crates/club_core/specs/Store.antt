@@ -1,7 +1,6 @@
 -- What a store of the club's rows returns, keeps and may recover to (ours).
-use Rattle.std.specs.Prelude.{◌≡◌, ℕ, false, List, Option, Some, None, option_and_then, Result, Ok, Err, IfOk}
+use Rattle.std.specs.Prelude.{◌≡◌, ℕ, false, List, Option, Some, None, Result, Ok, Err, IfOk}
 use Rattle.club_rows.specs.declared.key.Key.{Key}
-use Rattle.club_rows.specs.declared.key.OlderRoot.{OlderRoot}
 use Rattle.club_rows.specs.declared.member.Member.{Member}
 use Rattle.club_rows.specs.declared.booking.Booking.{Booking}
 use Rattle.club_core.specs.declared.change.Change.{Change}
@@ -10,14 +9,6 @@ use Rattle.club_core.specs.declared.store.StoreFault.{StoreFault}
 use Rattle.club_core.specs.After.{after}
 use Rattle.club_core.specs.Club.{Club, IsSound, key_named, member_named}
 use Rattle.club_core.specs.Sums.{booking_under}
-
--- a key's row without its older root
-abbrev pub row_alone : Key → Key
-row_alone key = record key { older = None }
-
--- the older root of the key of this name; none if it was never rotated
-abbrev pub older_root_of : List ℕ → Club → Option OlderRoot
-older_root_of name club = option_and_then (λ (key : Key). key.older) (key_named name club)
 
 -- there is a member of this name
 abbrev pub HasMember : List ℕ → Club → Type 0

@@ -2,16 +2,15 @@
 //! contracts promise nothing.
 
 use club_core::{Change, ClubStore, MemberAccount, SlotUse, StoreFault};
-use club_rows::{Booking, BookingNumber, Facility, Key, Member, OlderRoot};
+use club_rows::{Booking, BookingNumber, Facility, Key, Member};
 use club_values::{Day, Moment, Name, Slot};
 
-/// How often each thing was asked of a store: a key's row, its older root, a record under a
-/// number, a facility, the state of a slot, a member's account, its open bookings, what a key has
-/// spent; and how often anything else, as a change.
+/// How often each thing was asked of a store: a key's row, a record under a number, a facility, the
+/// state of a slot, a member's account, its open bookings, what a key has spent; and how often
+/// anything else, as a change.
 #[derive(Clone, Copy, Debug, PartialEq, Eq)]
 pub(crate) struct Calls {
     pub keys: u32,
-    pub older_roots: u32,
     pub records: u32,
     pub facilities: u32,
     pub slots: u32,
@@ -23,7 +22,6 @@ pub(crate) struct Calls {
 
 pub(crate) const NONE: Calls = Calls {
     keys: 0,
-    older_roots: 0,
     records: 0,
     facilities: 0,
     slots: 0,
@@ -96,18 +94,6 @@ impl<S: ClubStore> ClubStore for Refusing<S> {
         count(&mut self.asked.keys);
         self.count_call()?;
         self.store.key(name)
-    }
-
-    fn key_row(&mut self, name: &Name) -> Result<Option<Key>, StoreFault> {
-        count(&mut self.asked.keys);
-        self.count_call()?;
-        self.store.key_row(name)
-    }
-
-    fn older_root(&mut self, name: &Name) -> Result<Option<OlderRoot>, StoreFault> {
-        count(&mut self.asked.older_roots);
-        self.count_call()?;
-        self.store.older_root(name)
     }
 
     fn member(&mut self, name: &Name) -> Result<Option<Member>, StoreFault> {
