@@ -26,7 +26,8 @@ impl<'a> FileDoor<'a> {
     ///
     /// # Errors
     ///
-    /// Something else than a socket has the door's name, or the folder can't be written.
+    /// Something else than a socket has the door's name, the folder can't be written, or memory is
+    /// refused.
     pub fn make(rt: &'a HostRuntime, file: &str) -> io::Result<FileDoor<'a>> {
         if file == IN_MEMORY {
             return Ok(FileDoor { rt, at: None });

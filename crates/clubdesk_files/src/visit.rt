@@ -29,7 +29,7 @@ pub(crate) enum Found<'a> {
     Greeted(FileVisit<'a>),
     /// Nobody listens.
     Nobody,
-    /// One listens, but doesn't greet in time, or the door can't be used.
+    /// One listens, but doesn't greet in time; or the door can't be used, also for want of memory.
     Failed(StoreFault),
 }
 
