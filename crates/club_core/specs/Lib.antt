@@ -19,5 +19,6 @@ pub mod Examples
 pub mod Sheet
 pub mod Looks
 pub mod Store
+pub mod KeyParts
 pub mod Laws
 pub mod computed

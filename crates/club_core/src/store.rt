@@ -3,7 +3,7 @@
 use crate::account::MemberAccount;
 use crate::change::Change;
 use crate::slot_use::SlotUse;
-use club_rows::{Booking, BookingNumber, Facility, Key, Member};
+use club_rows::{Booking, BookingNumber, Facility, Key, OlderRoot};
 use club_values::{Day, Moment, Name, Slot};
 use std::error::Error;
 use std::fmt;
@@ -37,15 +37,16 @@ impl Error for StoreFault {}
 /// what was written, and nobody else writes to it.
 pub trait ClubStore {
     ghost use Rattle.std.specs.Prelude.{◌≡◌, ◌∷◌, [], All, IfErr, IsErr, List, MatchResult};
-    ghost use Rattle.std.specs.Prelude.{Option, Some};
+    ghost use Rattle.std.specs.Prelude.{Option, Some, option_map};
     ghost use Rattle.club_core.specs.declared.change.Change.{Change};
     ghost use Rattle.club_core.specs.declared.store.StoreFault.{StoreFault};
     ghost use Rattle.club_core.specs.After.{after};
     ghost use Rattle.club_core.specs.Club.{Club, IsSound, bookings_of};
-    ghost use Rattle.club_core.specs.Club.{facility_named, key_named, member_named};
+    ghost use Rattle.club_core.specs.Club.{facility_named, key_named};
     ghost use Rattle.club_core.specs.Sheet.{AreRowsOf};
     ghost use Rattle.club_core.specs.Basis.{account_named, slot_use};
     ghost use Rattle.club_core.specs.Sums.{booking_under, count_to_come, spent_under};
+    ghost use Rattle.club_core.specs.KeyParts.{older_root_of, row_alone};
     ghost use Rattle.club_core.specs.Store.{IsTrueOf, KeepsClub, ReadsOrFails, Returns};
 
     // the current club, and the other possible crash states: the clubs that the store may recover
@@ -58,20 +59,20 @@ pub trait ClubStore {
     // between the first state and the second a read (`None`) or this change failed with this fault
     ghost fails: { Option Change → Self → StoreFault → Self → Type 0 };
 
-    /// The key of this name; `None` if there is none.
-    fn key(&mut self, name: &Name) -> Result<Option<Key>, StoreFault>
+    /// The key of this name without its older root; `None` if there is none.
+    fn key_row(&mut self, name: &Name) -> Result<Option<Key>, StoreFault>
         ensures was_clean { disk_is_clean self.new → disk_is_clean self.old }
         ensures kept { disk_is_clean self.new → KeepsClub represents self.old self.new }
         ensures returned { disk_is_clean self.new → Returns represents self.old result
-            (λ club key. key ≡ key_named name.now club) }
+            (λ club key. key ≡ option_map row_alone (key_named name.now club)) }
         ensures failed { disk_is_clean self.new → ReadsOrFails fails self.old self.new result };
 
-    /// The member of this name; `None` if there is none.
-    fn member(&mut self, name: &Name) -> Result<Option<Member>, StoreFault>
+    /// The older root of the key of this name; `None` if it was never rotated.
+    fn older_root(&mut self, name: &Name) -> Result<Option<OlderRoot>, StoreFault>
         ensures was_clean { disk_is_clean self.new → disk_is_clean self.old }
         ensures kept { disk_is_clean self.new → KeepsClub represents self.old self.new }
         ensures returned { disk_is_clean self.new → Returns represents self.old result
-            (λ club member. member ≡ member_named name.now club) }
+            (λ club older. older ≡ older_root_of name.now club) }
         ensures failed { disk_is_clean self.new → ReadsOrFails fails self.old self.new result };
 
     /// The facility of this name; `None` if there is none.

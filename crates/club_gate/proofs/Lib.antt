@@ -12,3 +12,4 @@ pub mod LookTexts
 pub mod Spending
 pub mod KindScans
 pub mod ShortViews
+pub mod RowsAlone

@@ -60,7 +60,7 @@ owned club name key sound e =
     let P : Key → Type 0 = λ k. Contains (map (λ (m : Member). m.name) club.members) k.member in
     member_there club.members key.member (All-contains P club.keys key sound.references.keys there)
 
-named : (club : Club) (name : List ℕ) (key : Key) → key_named name club ≡ Some key → key.name ≡ name
+pub named : (club : Club) (name : List ℕ) (key : Key) → key_named name club ≡ Some key → key.name ≡ name
 named club name key e = (bytes_eq-Decides key.name name).0 (found (λ (k : Key). bytes_eq k.name name) club.keys key e).1
 
 -- ---- the lines of a row

@@ -19,6 +19,7 @@ use Rattle.club_core.specs.Basis.{account_named, slot_use, state_of}
 use Rattle.club_core.specs.Club.{Club, bookings_of, key_named}
 use Rattle.club_core.specs.Looks.{bare_view, books_anew}
 use Rattle.club_core.specs.Request.{request_number, request_slot}
+use Rattle.club_core.specs.KeyParts.{row_alone}
 use Rattle.club_core.specs.Sums.{booking_under, count_to_come, spent_under}
 
 -- the view of a key, with the facility and the booking that has the number that is asked for
@@ -68,9 +69,9 @@ last_view club (asked.Book slot number guests) moment view =
 last_view club (asked.Cancel slot number) moment view = Some view
 last_view club asked.Account moment view = option_map (with_spent club) (with_member club moment view)
 
--- the row of a key is one of the club's
+-- the key is one of the club's, without its older root
 abbrev pub IsOnRecord : Club → Key → Type 0
-IsOnRecord club key = key_named key.name club ≡ Some key
+IsOnRecord club key = (row : Key) × (key_named row.name club ≡ Some row) × (key ≡ row_alone row)
 
 -- the first caveat of a pass that refuses the request, if the key has spent this much before
 abbrev pub fault_after : Plain → ℕ → Ask → Option CaveatFault

@@ -21,6 +21,7 @@ use Rattle.club_core.specs.Club.{Club, key_named}
 use Rattle.club_core.specs.Lines.{line_if, first_of}
 use Rattle.club_core.specs.Pass.{Words}
 use Rattle.club_core.specs.computed.Pass.{is_signed_under}
+use Rattle.club_core.specs.KeyParts.{row_alone}
 use Rattle.club_core.specs.Store.{IsRead}
 use Rattle.club_core.specs.Verdict.{refusal_verdict}
 use Rattle.club_gate.specs.Identifier.{key_name_in}
@@ -54,6 +55,11 @@ signer_by pass moment (Some key) = key_unless key (refusal_by_row pass key momen
 -- the row of the key that a pass names and is signed under, or the refusal; nothing but that row decides it
 abbrev pub signer_in : Club → Plain → ℕ → Result Key Refusal
 signer_in club pass moment = signer_by pass moment (key_in club pass.identifier)
+
+-- the key's row without its older root
+abbrev pub signer_alone : Result Key Refusal → Result Key Refusal
+signer_alone (Ok key) = Ok (row_alone key)
+signer_alone (Err refusal) = Err refusal
 
 -- the decoded words of a request whose pass is these bytes in a form
 abbrev pub words_in_form : Form → List ℕ → Request → Words

@@ -15,7 +15,7 @@ ghost use Rattle.pass_json.specs.AnyForm.{IsAnyReading};
 ghost use Rattle.pass_json.specs.computed.AnyForm.{reading};
 ghost use Rattle.club_core.specs.declared.reply.Reply.TheVariants.{Refused};
 ghost use Rattle.club_core.specs.Answer.{form_refusal};
-ghost use Rattle.club_core.specs.Club.{Club};
+ghost use Rattle.club_core.specs.Club.{Club, key_named, member_named};
 ghost use Rattle.club_core.specs.Office.{order_view};
 ghost use Rattle.club_core.specs.Run as machine;
 ghost use Rattle.club_core.specs.Sheet.{IsSheet};
@@ -51,7 +51,8 @@ use club_laws::single_request::{
     serves_only_the_entitled,
 };
 use club_laws::sound::changes_fit;
-use club_values::{Day, Moment};
+use club_rows::{Key, Member};
+use club_values::{Day, Moment, Name};
 use key_cache::KeptKeys;
 use pass_caveats::laws::reads_what_is_understood;
 use pass_forms::laws::decides_signed;
@@ -151,6 +152,37 @@ impl<S: ClubStore> Desk<S> {
         Ok(verdict.reply)
     }
 
+    /// The member of this name; `None` if there is none.
+    fn member(&mut self, name: &Name) -> Result<Option<Member>, StoreFault>
+        ensures reads { ReadsStore S.disk_is_clean S.represents self.old self.new result
+            (λ club member. member ≡ member_named name.now club) }
+        ensures failed { S.disk_is_clean self.new → ReadsOrFails S.fails self.old self.new result }
+    {
+        match self.store.account(name)? {
+            Some(account) => Ok(Some(account.member)),
+            None => Ok(None),
+        }
+    }
+
+    /// The key of this name, with its older root; `None` if there is none.
+    pub(crate) fn key(&mut self, name: &Name) -> Result<Option<Key>, StoreFault>
+        ensures reads { ReadsStore S.disk_is_clean S.represents self.old self.new result
+            (λ club key. key ≡ key_named name.now club) }
+        ensures failed { S.disk_is_clean self.new → ReadsOrFails S.fails self.old self.new result }
+    {
+        let Some(key) = self.store.key_row(name)? else {
+            return Ok(None);
+        };
+        let older = self.store.older_root(name)?;
+        Ok(Some(Key {
+            name: key.name,
+            member: key.member,
+            root: key.root,
+            older,
+            revoked: key.revoked,
+        }))
+    }
+
     /// Reads the rows that a command of the office depends on.
     fn order_view(&mut self, command: &Command) -> Result<OrderView, StoreFault>
         ensures reads { ReadsStore S.disk_is_clean S.represents self.old self.new result
@@ -168,15 +200,15 @@ impl<S: ClubStore> Desk<S> {
         };
         match command {
             Command::AddMember { name, .. } | Command::Credit { member: name, .. } => {
-                view.member = self.store.member(name)?;
+                view.member = self.member(name)?;
             }
             Command::AddFacility { name, .. } => view.facility = self.store.facility(name)?,
             Command::AddKey { name, member, .. } => {
-                view.member = self.store.member(member)?;
-                view.key = self.store.key(name)?;
+                view.member = self.member(member)?;
+                view.key = self.key(name)?;
             }
             Command::RevokeKey { name } | Command::RotateKey { name, .. } => {
-                view.key = self.store.key(name)?;
+                view.key = self.key(name)?;
             }
             Command::CloseSlot(slot) => {
                 view.facility = self.store.facility(&slot.facility)?;

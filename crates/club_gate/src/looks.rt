@@ -57,7 +57,7 @@ impl<S: ClubStore> Desk<S> {
         ensures failed { S.disk_is_clean self.new → ReadsOrFails S.fails self.old self.new result }
     {
         own_bookings_suffice();
-        let Some(key) = self.store.key(key)? else {
+        let Some(key) = self.key(key)? else {
             return Ok(None);
         };
         self.with_sums(View::of_key(&key), moment)

@@ -11,13 +11,17 @@ ghost use Rattle.std.specs.Prelude.{
   Some,
   Ok,
   Err,
+  option_map,
 };
 ghost use Rattle.pass_forms.specs.declared.fault.FormFault.{FormFault as FaultOfForm};
 ghost use Rattle.pass_forms.specs.declared.form.Form.TheVariants.{Json};
 ghost use Rattle.pass_forms.specs.FieldSource.{pass_fields};
 ghost use Rattle.pass_forms.specs.Pass.{Plain};
 ghost use Rattle.pass_json.specs.computed.AnyForm.{reading, reading_in_form};
+ghost use Rattle.club_core.specs.declared.refusal.Refusal.TheVariants.{NotVerified};
 ghost use Rattle.club_core.specs.Answer.{verdict_in};
+ghost use Rattle.club_core.specs.Club.{key_named};
+ghost use Rattle.club_core.specs.KeyParts.{row_alone};
 ghost use Rattle.club_core.specs.Store.{ReadsOrFails};
 ghost use Rattle.club_laws.specs.SingleRequest.{words_with};
 ghost use Rattle.club_gate.specs.Desk.{ReadsStore};
@@ -30,7 +34,9 @@ ghost use Rattle.club_gate.specs.Verify.{
   answer_to_fault,
   fields_behind,
   key_in,
+  key_unless,
   refusal_by_row,
+  signer_alone,
   signer_in,
   words_in_form,
 };
@@ -104,44 +110,56 @@ fn verdict_of_fault(fault: FormFault) -> Result<Verdict, StoreFault>
 }
 
 impl<S: ClubStore> Desk<S> {
-    /// Reads the row of the key that an identifier names; `None` if it names no key of the club.
+    /// Reads the row of the key that an identifier names, without its older root; `None` if it
+    /// names no key of the club.
     fn key_row(&mut self, identifier: &[u8]) -> Result<Option<Key>, StoreFault>
         ensures reads { ReadsStore S.disk_is_clean S.represents self.old self.new result
-            (λ club key. key ≡ key_in club identifier.now) }
+            (λ club key. key ≡ option_map row_alone (key_in club identifier.now)) }
         ensures failed { S.disk_is_clean self.new → ReadsOrFails S.fails self.old self.new result }
     {
         match key_name_in(identifier) {
-            Some(name) => self.store.key(&name),
+            Some(name) => self.store.key_row(&name),
             None => Ok(None),
         }
     }
 
-    /// Returns the row of the key that a pass names and is signed under, or the refusal. It takes
-    /// the fields of the pass from the source, and reads nothing of the club but that row with its
-    /// older root. An unknown key and a wrong signature get the same refusal.
-    fn signer_of_fields<'a, F: FieldSource<'a>>(
+    /// As `signer`, for a pass that isn't signed under the current root of the key that it names.
+    /// The source has already yielded the identifier.
+    fn older_signer<'a, F: FieldSource<'a>>(
         &mut self,
         source: &mut F,
+        identifier: &[u8],
+        key: &Key,
         moment: Moment,
     ) -> Result<Result<Key, Refusal>, StoreFault>
         ensures reads { ReadsStore S.disk_is_clean S.represents self.old self.new result
-            (λ club signer. (pass : Plain) → F.left source.old ≡ pass_fields pass
-            → signer ≡ signer_in club pass moment) }
+            (λ club signer. (pass : Plain) (row : Key) → identifier.now ≡ pass.identifier
+            → F.left source.old ≡ fields_behind pass
+            → key_named row.name club ≡ Some row → key.now ≡ row_alone row
+            → refusal_by_row pass key.now moment ≡ Some NotVerified
+            → signer ≡ signer_alone (key_unless row (refusal_by_row pass row moment))) }
         ensures failed { S.disk_is_clean self.new → ReadsOrFails S.fails self.old self.new result }
     {
-        let Some(identifier) = identifier_from(source) else {
+        let Some(older) = self.store.older_root(&key.name)? else {
             return Ok(Err(Refusal::NotVerified));
         };
-        let Some(key) = self.key_row(identifier)? else {
-            return Ok(Err(Refusal::NotVerified));
+        let row = Key {
+            name: key.name,
+            member: key.member,
+            root: key.root,
+            older: Some(older),
+            revoked: key.revoked,
         };
-        match row_refusal(&mut self.kept, source, identifier, &key, moment) {
+        match row_refusal(&mut self.kept, source, identifier, &row, moment) {
             Some(refusal) => Ok(Err(refusal)),
-            None => Ok(Ok(key)),
+            None => Ok(Ok(*key)),
         }
     }
 
-    /// As `signer_of_fields`, but leaves the source unchanged.
+    /// Returns the row of the key that a pass names and is signed under, without its older root, or
+    /// the refusal. It reads nothing of the club but that row, and the older root only for a pass
+    /// that isn't signed under the current one. An unknown key and a wrong signature get the same
+    /// refusal.
     fn signer<'a, F: FieldSource<'a> + Drop>(
         &mut self,
         source: &F,
@@ -149,11 +167,25 @@ impl<S: ClubStore> Desk<S> {
     ) -> Result<Result<Key, Refusal>, StoreFault>
         ensures reads { ReadsStore S.disk_is_clean S.represents self.old self.new result
             (λ club signer. (pass : Plain) → F.left source.now ≡ pass_fields pass
-            → signer ≡ signer_in club pass moment) }
+            → signer ≡ signer_alone (signer_in club pass moment)) }
         ensures failed { S.disk_is_clean self.new → ReadsOrFails S.fails self.old self.new result }
     {
         let mut fields = source.again();
-        self.signer_of_fields(&mut fields, moment)
+        let Some(identifier) = identifier_from(&mut fields) else {
+            return Ok(Err(Refusal::NotVerified));
+        };
+        let Some(key) = self.key_row(identifier)? else {
+            return Ok(Err(Refusal::NotVerified));
+        };
+        let mut once_more = fields.again();
+        let refusal = row_refusal(&mut self.kept, &mut fields, identifier, &key, moment);
+        let Some(refusal) = refusal else {
+            return Ok(Ok(key));
+        };
+        match refusal {
+            Refusal::NotVerified => self.older_signer(&mut once_more, identifier, &key, moment),
+            _ => Ok(Err(refusal)),
+        }
     }
 
     /// The verdict on a request with a pass that is signed under this key. If a caveat refuses the

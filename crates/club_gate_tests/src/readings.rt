@@ -11,16 +11,22 @@ use pass_forms::Form;
 use std::alloc::Global;
 use std::process::Abort;
 use std::test::*;
-use test_kit::minutes::NOON;
+use test_kit::minutes::{NOON, UNTIL};
 use test_kit::replies::{
     ACCOUNT_AFTER, ACCOUNT_BEFORE, BOOKED_7, CANCELLED_7, DENIED_1, KEY_REVOKED, NO_SUCH_BOOKING,
     NO_SUCH_FACILITY, NOT_VERIFIED,
 };
 use test_kit::requests::{ACCOUNT, BOOK_7, BOOK_8, CANCEL_7, VIEW};
-use test_kit::roots::{ROOT, SECOND_ROOT};
+use test_kit::roots::{ROOT, SECOND_ROOT, THIRD_ROOT};
 use test_kit::{FRIDAY, Order, PlainReply, PlainRequest, PlainSlot};
 
 const KEY: Calls = Calls { keys: 1, ..NONE };
+
+/// A pass that isn't signed under the current root.
+const BOTH_ROOTS: Calls = Calls {
+    older_roots: 1,
+    ..KEY
+};
 
 const KEY_AND_FACILITY: Calls = Calls {
     facilities: 1,
@@ -141,16 +147,17 @@ const NOWHERE: PlainSlot = PlainSlot {
 const BOOK_NOWHERE: PlainRequest = PlainRequest::Book(NOWHERE, 7, 2);
 
 // Before a signature is compared, and for a revoked key, the key's row is read and nothing else.
+// Its older root is read for a pass that the current one doesn't sign.
 static REFUSED: [Row; 5] = [
     // The identifier is no key's.
     (Shown::Unnamed, BOOK_7, NOT_VERIFIED, NONE),
     (Shown::Of("nobody", ROOT, &[]), BOOK_7, NOT_VERIFIED, KEY),
-    (Shown::Changed, BOOK_7, NOT_VERIFIED, KEY),
+    (Shown::Changed, BOOK_7, NOT_VERIFIED, BOTH_ROOTS),
     (
         Shown::Of("amy-1", SECOND_ROOT, &["hours = 18-20"]),
         BOOK_7,
         NOT_VERIFIED,
-        KEY,
+        BOTH_ROOTS,
     ),
     (BOB, BOOK_7, KEY_REVOKED, KEY),
 ];
@@ -193,7 +200,7 @@ const BOOKED_BY_2: PlainReply = PlainReply::Booked("amy-2", 8, 200, 0);
 
 // Number 7 is booked, for 600 points: all that amy has used, and her first key has spent. Number 8
 // costs 200, so the limits leave 599, 600 and 601 points for what was spent before.
-static LIMITS: [Row; 7] = [
+static LIMITS: [Row; 8] = [
     (
         Shown::Of("amy-1", ROOT, &["spend <= 799"]),
         BOOK_8,
@@ -225,6 +232,12 @@ static LIMITS: [Row; 7] = [
         BOOKED_BY_2,
         LIMITED_BOOKING,
     ),
+    (
+        Shown::Of("amy-2", ROOT, &["spend <= 801"]),
+        BOOK_8,
+        BOOKED_BY_2,
+        LIMITED_BOOKING,
+    ),
     // The lowest limit decides whether a sum is read.
     (
         Shown::Of(
@@ -242,6 +255,28 @@ static LIMITS: [Row; 7] = [
         BOOK_8,
         DENIED_1,
         RECORD,
+    ),
+];
+
+const BOOKING_BY_OLDER: Calls = Calls {
+    older_roots: 1,
+    ..BOOKING
+};
+
+// Amy's key has another root, and the one before it is good.
+static ROTATED: [Row; 3] = [
+    (
+        Shown::Of("amy-1", SECOND_ROOT, &[]),
+        BOOK_7,
+        BOOKED_7,
+        BOOKING,
+    ),
+    (AMY, BOOK_7, BOOKED_7, BOOKING_BY_OLDER),
+    (
+        Shown::Of("amy-1", THIRD_ROOT, &[]),
+        BOOK_7,
+        NOT_VERIFIED,
+        BOTH_ROOTS,
     ),
 ];
 
@@ -310,4 +345,35 @@ fn a_repeat_and_a_cancellation_read_no_sum(rt: HostRuntime) {
 #[test]
 fn a_sum_is_read_only_where_the_limit_lies_below_what_the_member_has_used(rt: HostRuntime) {
     reads_each(&rt, true, &LIMITS);
+}
+
+/// A row over a fixture in which amy's key was rotated.
+#[derive(Clone, Copy)]
+struct Rotated<'a> {
+    place: usize,
+    row: &'a Row,
+}
+
+impl Scene for Rotated<'_> {
+    fn play<S: ClubStore + Drop>(&self, rt: &(impl Abort + Alloc<A = Global>), desk: Desk<S>) {
+        let mut desk = furnish(rt, desk, Form::V2).desk;
+        carry_out(
+            rt,
+            &mut desk,
+            &Order::RotateKey("amy-1", SECOND_ROOT, UNTIL),
+        );
+        let desk = Desk::new(rt.alloc(), Refusing::never(desk.into_store()));
+        let (answer, asked) = reply_and_calls(rt, desk, Form::V2, self.row);
+        let (_, _, expected, calls) = self.row;
+        let want = expected.reply().expect(rt, "a reply");
+        expect_row(rt, self.place, &answer, &want);
+        expect_row(rt, self.place, &asked, calls);
+    }
+}
+
+#[test]
+fn an_older_root_that_is_good_serves_and_is_read_only_then(rt: HostRuntime) {
+    for (place, row) in ROTATED.iter().enumerate() {
+        play(&rt, &Rotated { place, row });
+    }
 }

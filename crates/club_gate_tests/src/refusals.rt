@@ -69,7 +69,7 @@ fn expect_untouched<S: ClubStore>(rt: &impl Abort, store: &mut S) {
         .slot(&COURT_AT_18.slot().expect(rt, "a slot"))
         .expect(rt, "a slot");
     expect_eq(rt, &held.taken, &0);
-    let key = store.key(&name(rt, b"amy-2")).expect(rt, "no fault");
+    let key = store.key_row(&name(rt, b"amy-2")).expect(rt, "no fault");
     expect_eq(rt, &key.is_none(), &true);
 }
 

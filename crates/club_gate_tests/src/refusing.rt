@@ -2,15 +2,16 @@
 //! contracts promise nothing.
 
 use club_core::{Change, ClubStore, MemberAccount, SlotUse, StoreFault};
-use club_rows::{Booking, BookingNumber, Facility, Key, Member};
+use club_rows::{Booking, BookingNumber, Facility, Key, OlderRoot};
 use club_values::{Day, Moment, Name, Slot};
 
-/// How often each thing was asked of a store: a key's row, a record under a number, a facility, the
-/// state of a slot, a member's account, its open bookings, what a key has spent; and how often
-/// anything else, as a change.
+/// How often each thing was asked of a store: a key's row, its older root, a record under a
+/// number, a facility, the state of a slot, a member's account, its open bookings, what a key has
+/// spent; and how often anything else, as a change.
 #[derive(Clone, Copy, Debug, PartialEq, Eq)]
 pub(crate) struct Calls {
     pub keys: u32,
+    pub older_roots: u32,
     pub records: u32,
     pub facilities: u32,
     pub slots: u32,
@@ -22,6 +23,7 @@ pub(crate) struct Calls {
 
 pub(crate) const NONE: Calls = Calls {
     keys: 0,
+    older_roots: 0,
     records: 0,
     facilities: 0,
     slots: 0,
@@ -90,16 +92,16 @@ impl<S: ClubStore> ClubStore for Refusing<S> {
 
     ghost widens = { λ store club other others represents sound. represents };
 
-    fn key(&mut self, name: &Name) -> Result<Option<Key>, StoreFault> {
+    fn key_row(&mut self, name: &Name) -> Result<Option<Key>, StoreFault> {
         count(&mut self.asked.keys);
         self.count_call()?;
-        self.store.key(name)
+        self.store.key_row(name)
     }
 
-    fn member(&mut self, name: &Name) -> Result<Option<Member>, StoreFault> {
-        count(&mut self.asked.others);
+    fn older_root(&mut self, name: &Name) -> Result<Option<OlderRoot>, StoreFault> {
+        count(&mut self.asked.older_roots);
         self.count_call()?;
-        self.store.member(name)
+        self.store.older_root(name)
     }
 
     fn facility(&mut self, name: &Name) -> Result<Option<Facility>, StoreFault> {

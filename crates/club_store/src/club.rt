@@ -2,7 +2,7 @@
 
 use crate::store::Store;
 use club_core::{Change, ClubStore, MemberAccount, SlotUse, StoreFault};
-use club_rows::{Booking, BookingNumber, Facility, Key, Member};
+use club_rows::{Booking, BookingNumber, Facility, Key, OlderRoot};
 use club_values::{Day, Moment, Name, Slot};
 use sqlite::Alter;
 
@@ -19,12 +19,12 @@ impl<S: Alter> ClubStore for Store<S> {
 
     ghost fails = { Fails S.Store };
 
-    fn key(&mut self, name: &Name) -> Result<Option<Key>, StoreFault> {
-        Store::key(self, name)
+    fn key_row(&mut self, name: &Name) -> Result<Option<Key>, StoreFault> {
+        Store::key_row(self, name)
     }
 
-    fn member(&mut self, name: &Name) -> Result<Option<Member>, StoreFault> {
-        Store::member(self, name)
+    fn older_root(&mut self, name: &Name) -> Result<Option<OlderRoot>, StoreFault> {
+        Store::older_root(self, name)
     }
 
     fn facility(&mut self, name: &Name) -> Result<Option<Facility>, StoreFault> {

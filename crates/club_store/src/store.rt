@@ -225,7 +225,7 @@ impl<S: Alter> Store<S> {
     }
 
     /// The key of this name, without its older root; `None` if there is none.
-    fn key_row(&mut self, name: &Name) -> Result<Option<Key>, StoreFault>
+    pub(crate) fn key_row(&mut self, name: &Name) -> Result<Option<Key>, StoreFault>
         ensures reads { ReadsClub S.Store self.old self.new result
             (λ club key. key ≡ option_map fresh (key_named name.now club)) }
         ensures limits { IfOk result (λ key. IfSome key IsKey) }
@@ -234,7 +234,7 @@ impl<S: Alter> Store<S> {
     }
 
     /// The older root of the key of this name; `None` if it was never rotated.
-    fn older_root(&mut self, name: &Name) -> Result<Option<OlderRoot>, StoreFault>
+    pub(crate) fn older_root(&mut self, name: &Name) -> Result<Option<OlderRoot>, StoreFault>
         ensures reads { ReadsClub S.Store self.old self.new result
             (λ club older. older ≡ older_of name.now club) }
         ensures limits { IfOk result (λ older. IfSome older IsOlderRoot) }

@@ -7,6 +7,7 @@ use crate::rows::{
 };
 use crate::write::{Write, change};
 use club_core::{Change, ClubStore, MemberAccount, Request, SlotUse, StoreFault, View, sheet_text};
+use club_rows::Key;
 use club_store::Store;
 use sqlite::{Alter, Connection, MemStore};
 use std::alloc::Global;
@@ -73,12 +74,21 @@ fn shows_member<C: ClubStore>(rt: &impl Abort, store: &mut C, credited: Option<u
         Some(credited) => Some(member(rt, credited)),
         None => None,
     };
-    expect_eq(rt, &store.member(&name(rt, "amy")), &Ok(want));
+    let shown = match store.account(&name(rt, "amy")).expect(rt, "an answer") {
+        Some(account) => Some(account.member),
+        None => None,
+    };
+    expect_eq(rt, &shown, &want);
 }
 
 pub(crate) fn shows_key<C: ClubStore>(rt: &impl Abort, store: &mut C, kept: &Kept) {
     let want = key(rt, kept);
-    expect_eq(rt, &store.key(&want.name), &Ok(Some(want)));
+    let row = Key {
+        older: None,
+        ..want
+    };
+    expect_eq(rt, &store.key_row(&want.name), &Ok(Some(row)));
+    expect_eq(rt, &store.older_root(&want.name), &Ok(want.older));
 }
 
 fn shows_facility<C: ClubStore>(rt: &impl Abort, store: &mut C, place: &PlainFacility) {

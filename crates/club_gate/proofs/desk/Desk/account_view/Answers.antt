@@ -14,13 +14,12 @@ returns-clause-reads g c = record {
   kept = search rules;
   returns = λ was_clean club others represents.
       let before = c.with_sums.ensures.reads.was_clean was_clean in
-      let inside = rw (← c.self.view_is) at represents in
-      let row = c.in_ok-key.ensures.returned before club others inside in
-      let sound = All-head IsSound club others (g.met.S.ClubStore.sound c.self.inside.store club others inside) in
+      let row = c.in_ok-key.ensures.reads.returns before club others represents in
+      let sound = All-head IsSound club others (g.met.S.ClubStore.sound c.args.self.now club others represents) in
       let seen = account_seen c.own_bookings_suffice.ensures club c.args.key.now c.in-Some.key c.args.moment sound (sym row ∙ c.in-Some.is) in
       IfOk-weaker c.with_sums.result _ _
       (λ found e.
       e
       ∙ (ap (λ (view : View). option_map (with_spent club) (with_member club c.args.moment view)) c.of_key.ensures ∙ seen))
-      (c.with_sums.ensures.reads.returns was_clean club others (c.key.ensures.kept before club others inside));
+      (c.with_sums.ensures.reads.returns was_clean club others (c.key.ensures.reads.kept before club others represents));
 }

@@ -1,12 +1,24 @@
-use Rattle.std.proofs.Common.{◌∙◌}
+use Rattle.std.proofs.Common.{Some, ap, ◌∙◌, sym, rules}
 use Rattle.std.proofs.lemmas.Result.{IfOk-weaker}
+use Rattle.club_core.specs.declared.refusal.Refusal.{Refusal}
+use Rattle.club_gate.proofs.RowsAlone.{decides_signer, row_of}
 use Rattle.club_gate.proofs.desk.Desk.signer.Goals as goal
 
-pub returns-clause-reads : goal.returns-clause-reads
-returns-clause-reads g c = record {
-  was_clean = c.signer_of_fields.ensures.reads.was_clean;
-  kept = c.signer_of_fields.ensures.reads.kept;
-  returns = λ was_clean club others represents.
-      IfOk-weaker c.signer_of_fields.result _ _ (λ signer found pass fields. found pass (c.again-fields.ensures ∙ fields))
-      (c.signer_of_fields.ensures.reads.returns was_clean club others represents);
+pub returns-in-NotVerified-clause-reads : goal.returns-in-NotVerified-clause-reads
+returns-in-NotVerified-clause-reads g c = record {
+  was_clean = search rules;
+  kept = search rules;
+  returns = λ clean club others represents.
+      let between = c.older_signer.ensures.reads.was_clean clean in
+      let before = rw c.self.view_is at between in
+      let found = c.in_ok-key.ensures.reads.returns before club others represents in
+      let after = rw (← c.self.view_is) at (c.key_row.ensures.reads.kept before club others represents) in
+      let its = row_of club c.in-Some.identifier.now c.in-Some-2.key (sym found ∙ c.in-Some-2.is) in
+      IfOk-weaker c.older_signer.result _ _
+      (λ signer answered pass fields.
+      let source = c.in-Some.ensures pass (c.again-fields.ensures ∙ fields) in
+      let refused = sym (c.row_refusal-refusal.ensures pass source.0 source.1) ∙ (c.in-Some-refusal.is ∙ ap (λ (r : Refusal). Some r) c.in-NotVerified.is) in
+      answered pass its.row source.0 (c.again-once_more.ensures ∙ source.1) its.named its.alone refused
+      ∙ decides_signer club pass c.args.moment c.in-Some.identifier.now its.row source.0 its.is)
+      (c.older_signer.ensures.reads.returns clean club others after);
 }

@@ -1,6 +1,0 @@
-use Rattle.club_store.proofs.FailingLemmas.{reads_or_fails}
-use Rattle.club_store.proofs.club.StoreClubStore.key.Goals as goal
-
-pub returns-clause-failed : goal.returns-clause-failed
-returns-clause-failed g c = λ was_clean.
-    reads_or_fails g.S.Store c.args.self.now c.key.new.self c.key.result _ c.key.ensures.reads was_clean
