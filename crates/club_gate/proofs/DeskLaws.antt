@@ -1,5 +1,6 @@
 -- The laws of the desk, from the response to one event.
-use Rattle.std.proofs.Common.{◌≡◌, ◌≢◌, ◌⊎◌, inl, inr, ℕ, true, List, [], ◌∷◌, ◌++◌, map, Option, Some, None, Result, Ok, Err, All, refl, sym, ap, ◌∙◌, subst}
+use Rattle.std.proofs.Common.{◌≡◌, ◌≢◌, ◌⊎◌, inl, inr, ℕ, true, List, [], ◌∷◌, ◌++◌, map, Option, Some, None, option_and_then, Result, Ok, Err, All}
+use Rattle.std.proofs.Common.{refl, sym, ap, ◌∙◌, subst}
 use Rattle.std.proofs.lemmas.List.{map-append}
 use Rattle.std.proofs.lemmas.List.Elements.{All-nil, All-cons, All-head, All-tail}
 use Rattle.base64.specs.GeneralPurpose.{IsBytes}
@@ -15,6 +16,7 @@ use Rattle.pass_forms.specs.Laws.{DecidesSigned}
 use Rattle.pass_json.specs.AnyForm.{IsAnyReading}
 use Rattle.pass_json.specs.Laws.{ReadsAnyFormExactly}
 use Rattle.pass_json.specs.computed.AnyForm.{reading}
+use Rattle.club_values.specs.Name.{IsName}
 use Rattle.club_rows.specs.declared.key.Key.{Key}
 use Rattle.club_core.specs.declared.pass_fault.PassFault.{PassFault}
 use Rattle.club_core.specs.declared.refusal.Refusal.TheVariants.{Unavailable}
@@ -24,8 +26,8 @@ use Rattle.club_core.specs.declared.request.Request.{Request}
 use Rattle.club_core.specs.declared.verdict.Verdict.{Verdict}
 use Rattle.club_core.specs.Acceptance.{IsAllowedBy, IsServed}
 use Rattle.club_core.specs.Answer.{ask_of, verdict_in}
-use Rattle.club_core.specs.Basis.{view_of}
-use Rattle.club_core.specs.Club.{Club}
+use Rattle.club_core.specs.Basis.{Basis, basis_of, basis_under, key_of, view_of}
+use Rattle.club_core.specs.Club.{Club, key_named}
 use Rattle.club_core.specs.Pass.{Pass, Words, IsSignedUnder}
 use Rattle.club_core.specs.Run.{Asked}
 use Rattle.club_laws.specs.SingleRequest.{DependsOnTheBasisAlone, MoreCaveatsNeverOpenMore, RefusesWithoutABasis, ServesOnlyTheEntitled, words_with}
@@ -34,7 +36,7 @@ use Rattle.club_gate.specs.Desk.{IsAnsweredBy, IsRefusedBy}
 use Rattle.club_gate.specs.Identifier.{FindsNames, key_name_in}
 use Rattle.club_gate.specs.Minted.{identifier_of}
 use Rattle.club_gate.specs.DecodedPass.{machine_pass, decoded_pass, decoded_or_fault, without_form, decoded_words}
-use Rattle.club_gate.specs.Served.{AnswersItsForms, EntitlesTo, IsLawful, IsNarrowedText, IsSignedFor, reply_in}
+use Rattle.club_gate.specs.Served.{AnswersItsForms, EntitlesTo, IsLawful, IsNarrowedText, IsSignedFor, NamesItsRows, reply_in}
 use Rattle.club_gate.specs.Response.{unavailable}
 
 failed_reply : (reply : Reply) → is_unavailable reply ≡ true → reply ≡ unavailable
@@ -89,6 +91,25 @@ plain_signed : DecidesSigned → (plain : Plain) (key : Key) (moment : ℕ) → 
     → IsSignedUnder (machine_pass plain) key moment
 plain_signed signed_law plain key moment h = record { root = h.root; good = h.good; signed = (signed_law h.root plain).0 h.signed }
 
+-- the decoded pass of a text, by its reading
+decodes_as : ReadsAnyFormExactly → (text : List ℕ) (form : Form) (plain : Plain) → IsBytes text → IsAnyReading text (Ok (form, plain))
+    → decoded_pass text ≡ Ok (machine_pass plain)
+decodes_as reads text form plain bytes h = ap
+    (λ (r : Result (Form × Plain) FormFault). decoded_or_fault (without_form r)) ((reads text (Ok (form, plain)) bytes).0 h)
+
+-- words that name the key of a row have the basis of that key
+basis_by_name : (club : Club) (words : Words) (key : Key) → key_of words.pass ≡ Some key.name → key_named key.name club ≡ Some key
+    → basis_of club words ≡ basis_under club words.request key
+basis_by_name club words key name row =
+    let by_key : Option Key → Option Basis = λ found. option_and_then (basis_under club words.request) found in
+    ap (λ (n : Option (List ℕ)). by_key (option_and_then (λ (it : List ℕ). key_named it club) n)) name ∙ ap by_key row
+
+pub names_its_rows : ReadsAnyFormExactly → FindsNames → NamesItsRows
+names_its_rows reads finds club text request form pass key bytes read name identifier row =
+    let decoded = ap key_of (decodes_as reads text form pass bytes read) in
+    let named = (finds pass.identifier key.name).1 (name, identifier) in
+    basis_by_name club (decoded_words text request) key (decoded ∙ named) row
+
 -- a text that is served entitles to the request
 served_text : ServesOnlyTheEntitled → ReadsAnyFormExactly → DecidesSigned → FindsNames → ReadsWhatIsUnderstood
     → (club : Club) (text : List ℕ) (request : Request) (moment : ℕ) → IsBytes text → IsServed (reply_in club text request moment)
@@ -100,25 +121,23 @@ served_text serves reads signed_law finds understood club text request moment by
     let Signed : Pass → Type 0 = λ p. IsSignedUnder p entitled.basis.key moment in
     let ask = ask_of (view_of entitled.basis request moment) request moment in
     let Allowing : Pass → Type 0 = λ p. All (IsAllowedBy ask) p.caveats in
+    let read = (reads text (Ok found.0) bytes).1 found.1 in
+    let named = (finds plain.identifier entitled.basis.key.name).0 (ap (λ (p : Pass). p.key) found.2 ∙ entitled.key_name) in
+    let same = names_its_rows reads finds club text request found.0.0 plain entitled.basis.key bytes read named.0 named.1 entitled.row in
     record {
       form = found.0.0;
       pass = plain;
-      read = (reads text (Ok found.0) bytes).1 found.1;
+      read = read;
       key = entitled.basis.key;
-      key_identifier = ((finds plain.identifier entitled.basis.key.name).0 (ap (λ (p : Pass). p.key) found.2 ∙ entitled.key_name)).1;
+      key_name = named.0;
+      key_identifier = named.1;
       row = entitled.row;
       not_revoked = entitled.not_revoked;
       signed = signed_plain signed_law plain entitled.basis.key moment (subst Signed (sym found.2) entitled.signed);
       basis = entitled.basis;
-      known = entitled.known;
+      known = sym same ∙ entitled.known;
       permission = allowed_texts understood ask plain.caveats (subst Allowing (sym found.2) entitled.permission);
     }
-
--- the decoded pass of a text, by its reading
-decodes_as : ReadsAnyFormExactly → (text : List ℕ) (form : Form) (plain : Plain) → IsBytes text → IsAnyReading text (Ok (form, plain))
-    → decoded_pass text ≡ Ok (machine_pass plain)
-decodes_as reads text form plain bytes h = ap
-    (λ (r : Result (Form × Plain) FormFault). decoded_or_fault (without_form r)) ((reads text (Ok (form, plain)) bytes).0 h)
 
 -- texts of one pass are answered alike
 forms_alike : ReadsAnyFormExactly

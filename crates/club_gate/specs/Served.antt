@@ -8,13 +8,14 @@ use Rattle.pass_forms.specs.declared.form.Form.TheVariants.{Json}
 use Rattle.pass_forms.specs.computed.Envelope.{unwrapping}
 use Rattle.pass_forms.specs.Pass.{Plain, IsSigned}
 use Rattle.pass_json.specs.AnyForm.{IsAnyReading}
+use Rattle.club_values.specs.Name.{IsName}
 use Rattle.club_rows.specs.declared.key.Key.{Key}
 use Rattle.club_core.specs.declared.reply.Reply.{Reply}
 use Rattle.club_core.specs.declared.reply.Reply.TheVariants.{Refused}
 use Rattle.club_core.specs.declared.request.Request.{Request}
 use Rattle.club_core.specs.Acceptance.{IsServed}
 use Rattle.club_core.specs.Answer.{ask_of, form_refusal, verdict_in}
-use Rattle.club_core.specs.Basis.{Basis, basis_of, view_of}
+use Rattle.club_core.specs.Basis.{Basis, basis_of, basis_under, view_of}
 use Rattle.club_core.specs.Club.{Club, key_named}
 use Rattle.club_core.specs.Pass.{IsGoodRoot}
 use Rattle.club_laws.specs.SingleRequest.{blind_refusal}
@@ -33,19 +34,29 @@ pub record IsSignedFor (pass : Plain) (key : Key) (moment : ℕ) : Type 0 where
   pub signed : IsSigned root pass
 
 -- The text spells a pass that entitles to the request: its identifier names a key of the club that isn't revoked, its
--- signature is the chain under a root of that key's row that is valid at the moment, and each of its caveats allows the request.
+-- signature is the chain under a root of that key's row that is valid at the moment, and each of its caveats allows the request, by the rows
+-- that the club has for that key.
 pub record EntitlesTo (club : Club) (text : List ℕ) (request : Request) (moment : ℕ) : Type 0 where
   pub form : Form
   pub pass : Plain
   pub read : IsAnyReading text (Ok (form, pass))
   pub key : Key
+  pub key_name : IsName key.name
   pub key_identifier : pass.identifier ≡ identifier_of key.name
   pub row : key_named key.name club ≡ Some key
   pub not_revoked : key.revoked ≡ false
   pub signed : IsSignedFor pass key moment
   pub basis : Basis
-  pub known : basis_of club (decoded_words text request) ≡ Some basis
+  pub known : basis_under club request key ≡ Some basis
   pub permission : Allowed pass.caveats (ask_of (view_of basis request moment) request moment)
+
+-- The rows that the words of a text name are those that the club has for the key whose identifier its pass has.
+abbrev pub NamesItsRows : Type 0
+NamesItsRows =
+    (club : Club) (text : List ℕ) (request : Request) (form : Form) (pass : Plain) (key : Key)
+    → IsBytes text → IsAnyReading text (Ok (form, pass)) → IsName key.name → pass.identifier ≡ identifier_of key.name
+    → key_named key.name club ≡ Some key
+    → basis_of club (decoded_words text request) ≡ basis_under club request key
 
 -- Any other club in which the words name the same rows gives the same reply.
 abbrev pub DependsOnTheBasis : Club → List ℕ → Request → ℕ → Reply → Type 0

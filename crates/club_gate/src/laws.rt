@@ -3,6 +3,7 @@
 ghost use Rattle.club_gate.specs.Identifier.{FindsNames};
 ghost use Rattle.club_gate.specs.DecodedPass.{ReadsNoLackOfMemory};
 ghost use Rattle.club_gate.specs.Looks.{ShowsSlotsToKeys};
+ghost use Rattle.club_gate.specs.Served.{NamesItsRows};
 
 use club_values::laws::reads_names;
 use pass_json::laws::reads_any_form_exactly;
@@ -25,3 +26,11 @@ pub fn reads_no_lack_of_memory()
 pub fn shows_slots_to_keys()
     ensures { ShowsSlotsToKeys }
 {}
+
+/// The rows that the words of a text name are those that the club has for the key of its pass.
+pub fn names_its_rows()
+    ensures { NamesItsRows }
+{
+    reads_any_form_exactly();
+    finds_names();
+}
