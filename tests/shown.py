@@ -49,15 +49,15 @@ WRITTEN = {
     "caveats.number_of": "club_values.Number: number_limit",
     "caveats.facility_test": "club_values.Name: is_name_byte max_name_len IsName; pass_caveats.Names: max_names AreNames; "
                              "pass_caveats.Parts: comma_parts comma_list",
-    "caveats.kind_test": "club_values.Kind: kind_text",
+    "caveats.kind_test": "club_values.Kind: kind_text; pass_caveats.Caveat: is_kind",
     "caveats.weekday_test": "club_values.Weekday: weekdays weekday_of; pass_caveats.Weekdays: weekday_text has_weekday weekday_texts",
     "caveats.actions_test caveats.listed": "club_values.Action: action_text; pass_caveats.Actions: all_actions has_action action_texts",
     "caveats.guests_test": "club_values.Slot: guests_limit",
     "caveats.facility_test caveats.kind_test caveats.hours_test caveats.days_test caveats.weekday_test caveats.until_test "
     "caveats.guests_test caveats.spend_test caveats.actions_test":
-        "pass_caveats.Caveat: InSlot CaveatRow row caveat_row IsCaveat caveat_text Permits",
+        "pass_caveats.Caveat: in_slot CaveatRow row caveat_row IsCaveat caveat_text permits Permits",
     "caveats.test_of": "pass_caveats.Caveat: SpellsCaveat max_caveat_len Understood",
-    "caveats.first_fault": "pass_caveats.Fault: Allows Allowed",
+    "caveats.first_fault": "pass_caveats.Fault: Allows Allowed first_fault_from first_fault_of",
     "club.Club.__init__": "club_core.Club: Club empty_club",
     "club.start_of": "club_values.Slot: start_of",
     "club.Club.bookings_of": "club_core.Club: keys_of is_key_of bookings_of",
@@ -65,7 +65,7 @@ WRITTEN = {
     "club.Club.balance": "club_core.Sums: balance_of",
     "club.Club.open_count": "club_core.Sums: is_to_come count_to_come",
     "club.Club.taken": "club_core.Sums: is_in taken_in; club_rows.Booking: persons_of; club_core.Basis: slot_use_by slot_use",
-    "club.Club.good_roots": "club_rows.Key: older_root_at; club_core.Pass: IsGoodRoot IsSignedUnder",
+    "club.Club.good_roots": "club_rows.Key: older_root_at; club_core.Pass: IsGoodRoot IsSignedUnder is_signed_under",
     "club.Club.ask_of": "club_core.Answer: owed_at ask_of; club_core.Request: request_action request_guests request_slot request_number",
     "club.Club.ask": "club_core.Answer: form_refusal after_caveats acceptance_lines answer_by_view answer_to answer_by_basis verdict_in; "
                      "club_core.Acceptance: IsServed IsAllowedBy IsAcceptedPass IsAcceptedIn; club_core.Basis: SlotState state_of Basis key_of "

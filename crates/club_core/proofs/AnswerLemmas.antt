@@ -10,13 +10,12 @@ use Rattle.club_core.specs.declared.view.View.{View}
 use Rattle.club_core.specs.declared.verdict.Verdict.{Verdict}
 use Rattle.club_core.specs.declared.request.Request.{Request}
 use Rattle.club_core.specs.declared.request.Request.TheVariants as asked
-use Rattle.pass_caveats.specs.computed.CaveatOf.{first_fault_of}
+use Rattle.pass_caveats.specs.Fault.{first_fault_of}
 use Rattle.club_core.specs.declared.refusal.Refusal.TheVariants.{NumberUsed}
 use Rattle.club_rows.specs.Booking.{same_slot, refund_at}
 use Rattle.club_core.specs.Lines.{Line, first_of}
 use Rattle.club_core.specs.declared.pass_fault.PassFault.{PassFault}
-use Rattle.club_core.specs.Pass.{Pass}
-use Rattle.club_core.specs.computed.Pass.{is_signed_under}
+use Rattle.club_core.specs.Pass.{Pass, is_signed_under}
 use Rattle.club_core.specs.Verdict.{refusal_verdict, booked_now, booked_before, cancelled_now, new_booking, book_lines, cancel_lines, new_verdict}
 use Rattle.club_core.specs.Verdict.{repeat_booking_verdict}
 use Rattle.club_core.specs.Verdict.{cancel_recorded_verdict, shown_at, unknown_verdict, recorded_or, verdict_of}

@@ -4,7 +4,7 @@ use Rattle.std.specs.Prelude.{ℕ, not, Bool, false, List, [], ◌∷◌, Option
 use Rattle.pass_caveats.specs.declared.ask.Ask.{Ask}
 use Rattle.pass_caveats.specs.declared.fault.CaveatFault.{CaveatFault}
 use Rattle.pass_caveats.specs.declared.fault.CaveatFault.TheVariants.{NotUnderstood, Denied}
-use Rattle.pass_caveats.specs.computed.CaveatOf.{first_fault_of}
+use Rattle.pass_caveats.specs.Fault.{first_fault_of}
 use Rattle.club_rows.specs.declared.facility.Facility.{Facility}
 use Rattle.club_rows.specs.declared.key.Key.{Key}
 use Rattle.club_rows.specs.Facility.{charge_of}
@@ -19,8 +19,7 @@ use Rattle.club_core.specs.declared.request.Request.{Request}
 use Rattle.club_core.specs.declared.request.Request.TheVariants as asked
 use Rattle.club_core.specs.Lines.{Line, line_if, first_of}
 use Rattle.club_core.specs.Club.{Club}
-use Rattle.club_core.specs.Pass.{Pass, Words}
-use Rattle.club_core.specs.computed.Pass.{is_signed_under}
+use Rattle.club_core.specs.Pass.{Pass, Words, is_signed_under}
 use Rattle.club_core.specs.Verdict.{refusal_verdict, verdict_of}
 use Rattle.club_core.specs.Basis.{Basis, basis_of, view_of}
 use Rattle.club_core.specs.Request.{request_action, request_slot, request_guests}

@@ -7,8 +7,7 @@ use Rattle.club_core.specs.declared.verdict.Verdict.{Verdict}
 use Rattle.club_core.specs.Answer.{answer_by_basis, answer_to, verdict_in}
 use Rattle.club_core.specs.Basis.{Basis, view_for}
 use Rattle.club_core.specs.Club.{Club, IsSound, bookings_of}
-use Rattle.club_core.specs.Pass.{Pass, IsSignedUnder, Words}
-use Rattle.club_core.specs.computed.Pass.{is_signed_under}
+use Rattle.club_core.specs.Pass.{Pass, IsSignedUnder, Words, is_signed_under}
 use Rattle.club_core.specs.Sheet.{IsSheet}
 use Rattle.club_core.specs.Sums.{booking_under, spent_under}
 

@@ -21,4 +21,3 @@ pub mod Looks
 pub mod Store
 pub mod KeyParts
 pub mod Laws
-pub mod computed

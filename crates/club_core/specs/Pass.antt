@@ -1,5 +1,6 @@
 -- The model of a pass in the club's rules (ours).
-use Rattle.std.specs.Prelude.{◌≡◌, ◌⊎◌, ℕ, Bool, IsTrue, List, Option, Some, Result}
+use Rattle.std.specs.Prelude.{◌≡◌, ◌⊎◌, ◌||◌, ℕ, Bool, false, IsTrue, List, Option, Some, Result}
+use Rattle.std.specs.Option.{option_map_or}
 use Rattle.pass_caveats.specs.declared.caveat.Caveat.{Caveat}
 use Rattle.club_rows.specs.declared.key.Key.{Key}
 use Rattle.club_rows.specs.Key.{older_root_at}
@@ -26,3 +27,8 @@ pub record IsSignedUnder (pass : Pass) (key : Key) (moment : ℕ) : Type 0 where
   pub root : List ℕ
   pub good : IsGoodRoot key moment root
   pub signed : IsTrue (pass.is_signed root)
+
+-- whether it is: under the key's root, or under its older one
+abbrev pub is_signed_under : Pass → Key → ℕ → Bool
+is_signed_under pass key moment =
+    pass.is_signed key.root || option_map_or pass.is_signed (older_root_at key.older moment) false

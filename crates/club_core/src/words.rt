@@ -32,8 +32,8 @@ pub struct Words {
 }
 
 impl Pass {
-    ghost use Rattle.pass_caveats.specs.computed.CaveatOf.{first_fault_of};
-    ghost use Rattle.club_core.specs.computed.Pass.{is_signed_under};
+    ghost use Rattle.pass_caveats.specs.Fault.{first_fault_of};
+    ghost use Rattle.club_core.specs.Pass.{is_signed_under};
     ghost use Rattle.club_core.specs.Words.{pass_model};
 
     /// Whether it is signed under this root.

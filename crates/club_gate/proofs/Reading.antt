@@ -6,7 +6,8 @@ use Rattle.std.proofs.lemmas.Slice.Eq.{bytes_eq-Decides}
 use Rattle.pass_caveats.specs.declared.ask.Ask.{Ask}
 use Rattle.pass_caveats.specs.declared.fault.CaveatFault.{CaveatFault}
 use Rattle.pass_caveats.specs.declared.fault.CaveatFault.TheVariants.{Denied, NotUnderstood}
-use Rattle.pass_caveats.specs.computed.CaveatOf.{caveat_of, first_fault_of}
+use Rattle.pass_caveats.specs.computed.CaveatOf.{caveat_of}
+use Rattle.pass_caveats.specs.Fault.{first_fault_of}
 use Rattle.pass_caveats.specs.Spending.{after_spending}
 use Rattle.pass_forms.specs.Pass.{Plain}
 use Rattle.club_values.specs.declared.slot.Slot.{Slot}

@@ -18,7 +18,7 @@ use Rattle.club_core.specs.Basis.{Basis, basis_under, state_of, view_in, view_of
 use Rattle.club_core.specs.Club.{Club, IsSound, bookings_of, key_named, member_named}
 use Rattle.club_core.specs.Laws.{ViewsDecide}
 use Rattle.club_core.specs.Lines.{line_if, first_of}
-use Rattle.club_core.specs.computed.Pass.{is_signed_under}
+use Rattle.club_core.specs.Pass.{is_signed_under}
 use Rattle.club_core.specs.Request.{request_slot}
 use Rattle.club_core.specs.Verdict.{refusal_verdict}
 use Rattle.club_laws.specs.SingleRequest.{words_with}

@@ -6,7 +6,9 @@ use Rattle.pass_caveats.specs.declared.ask.Ask.{Ask}
 use Rattle.pass_caveats.specs.declared.caveat.Caveat.{Caveat}
 use Rattle.pass_caveats.specs.declared.fault.CaveatFault.{CaveatFault}
 use Rattle.pass_caveats.specs.declared.fault.CaveatFault.TheVariants.{Denied}
-use Rattle.pass_caveats.specs.computed.CaveatOf.{caveat_of, first_fault_from, permits}
+use Rattle.pass_caveats.specs.computed.CaveatOf.{caveat_of}
+use Rattle.pass_caveats.specs.Caveat.{permits}
+use Rattle.pass_caveats.specs.Fault.{first_fault_from}
 use Rattle.pass_forms.specs.declared.field_source.Field.{Field}
 use Rattle.pass_forms.specs.declared.field_source.Field.TheVariants as fields
 use Rattle.pass_forms.specs.FieldSource.{PassField, caveat_field, signature_field, location_field, identifier_field, pass_fields, as_field}

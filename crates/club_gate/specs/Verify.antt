@@ -19,8 +19,7 @@ use Rattle.club_core.specs.declared.verdict.Verdict.{Verdict}
 use Rattle.club_core.specs.Answer.{form_refusal}
 use Rattle.club_core.specs.Club.{Club, key_named}
 use Rattle.club_core.specs.Lines.{line_if, first_of}
-use Rattle.club_core.specs.Pass.{Words}
-use Rattle.club_core.specs.computed.Pass.{is_signed_under}
+use Rattle.club_core.specs.Pass.{Words, is_signed_under}
 use Rattle.club_core.specs.KeyParts.{row_alone}
 use Rattle.club_core.specs.Store.{IsRead}
 use Rattle.club_core.specs.Verdict.{refusal_verdict}

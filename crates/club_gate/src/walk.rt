@@ -1,7 +1,8 @@
 //! Scans of the fields of a pass: for its signature, and for its caveats.
 
 ghost use Rattle.std.specs.Prelude.{◌≡◌, ℕ, false, fold, map};
-ghost use Rattle.pass_caveats.specs.computed.CaveatOf.{caveat_of, first_fault_of};
+ghost use Rattle.pass_caveats.specs.computed.CaveatOf.{caveat_of};
+ghost use Rattle.pass_caveats.specs.Fault.{first_fault_of};
 ghost use Rattle.pass_caveats.specs.Spending.{IsWithin};
 ghost use Rattle.pass_forms.specs.Pass.{Plain};
 ghost use Rattle.club_gate.specs.Signing.{signing_with, is_one_of};

@@ -7,7 +7,7 @@ use Rattle.club_values.specs.declared.slot.Slot.{Slot}
 use Rattle.club_values.specs.Slot.{start_of}
 use Rattle.pass_caveats.specs.declared.fault.CaveatFault.{CaveatFault}
 use Rattle.pass_caveats.specs.declared.fault.CaveatFault.TheVariants.{NotUnderstood, Denied}
-use Rattle.pass_caveats.specs.computed.CaveatOf.{first_fault_of}
+use Rattle.pass_caveats.specs.Fault.{first_fault_of}
 use Rattle.club_rows.specs.declared.member.Member.{Member}
 use Rattle.club_rows.specs.declared.facility.Facility.{Facility}
 use Rattle.club_rows.specs.declared.key.Key.{Key}
@@ -25,8 +25,7 @@ use Rattle.club_core.specs.Lines.{line_if, first_of}
 use Rattle.club_rows.specs.Booking.{same_slot, refund_at}
 use Rattle.club_rows.specs.Facility.{charge_of, is_bookable}
 use Rattle.club_core.specs.declared.pass_fault.PassFault.{PassFault}
-use Rattle.club_core.specs.Pass.{Pass, Words}
-use Rattle.club_core.specs.computed.Pass.{is_signed_under}
+use Rattle.club_core.specs.Pass.{Pass, Words, is_signed_under}
 use Rattle.club_core.specs.Club.{Club, member_named, facility_named, key_named, is_key_of, bookings_of}
 use Rattle.club_core.specs.Sums.{taken_in, cost_of, is_under, spent_under, balance_of}
 use Rattle.club_core.specs.Verdict.{reply_only, refusal_verdict, booked_now, booked_before, cancelled_now, cancelled_before, new_booking, new_verdict}

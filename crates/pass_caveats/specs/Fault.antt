@@ -1,11 +1,11 @@
 -- Lists of caveats, as the texts that a pass carries.
-use Rattle.std.specs.Prelude.{◌≡◌, ℕ, ◌+◌, List, ◌∷◌, ◌++◌, length, All, Option, Some, None, codes}
+use Rattle.std.specs.Prelude.{◌≡◌, ℕ, ◌+◌, List, [], ◌∷◌, ◌++◌, length, All, Option, Some, None, if◌then◌else◌, codes}
 use Rattle.std.specs.Fmt.{decimal}
 use Rattle.pass_caveats.specs.declared.caveat.Caveat.{Caveat}
 use Rattle.pass_caveats.specs.declared.ask.Ask.{Ask}
 use Rattle.pass_caveats.specs.declared.fault.CaveatFault.{CaveatFault}
 use Rattle.pass_caveats.specs.declared.fault.CaveatFault.TheVariants.{NotUnderstood, Denied}
-use Rattle.pass_caveats.specs.Caveat.{Understood, Permits}
+use Rattle.pass_caveats.specs.Caveat.{Understood, Permits, permits}
 
 -- the text is a caveat that allows the request; a text that isn't understood allows none (ours)
 abbrev pub Allows : List ℕ → Ask → Type 0
@@ -44,6 +44,15 @@ abbrev pub IsFirstFault : List (List ℕ) → Ask → Option CaveatFault → Typ
 IsFirstFault texts ask None = Allowed texts ask
 IsFirstFault texts ask (Some (NotUnderstood n)) = IsFirstAt texts ask n IsUnknown
 IsFirstFault texts ask (Some (Denied n)) = IsFirstAt texts ask n (λ text. Denies text ask)
+
+-- The first fault of a list of caveats, each as it is understood, if it is; the first of them has this number. None if each permits the request.
+abbrev pub first_fault_from : ℕ → List (Option Caveat) → Ask → Option CaveatFault
+first_fault_from n [] ask = None
+first_fault_from n (None ∷ caveats) ask = Some (NotUnderstood n)
+first_fault_from n (Some caveat ∷ caveats) ask = if permits caveat ask then first_fault_from (n + 1) caveats ask else Some (Denied n)
+
+abbrev pub first_fault_of : List (Option Caveat) → Ask → Option CaveatFault
+first_fault_of caveats ask = first_fault_from 1 caveats ask
 
 -- the text of a fault
 abbrev pub caveat_fault_text : CaveatFault → List ℕ

@@ -4,7 +4,8 @@ use Rattle.club_values.specs.declared.kind.Kind.{Kind as AKind}
 use Rattle.pass_caveats.specs.declared.ask.Ask.{Ask}
 use Rattle.pass_caveats.specs.declared.caveat.Caveat.{Caveat}
 use Rattle.pass_caveats.specs.declared.caveat.Caveat.TheVariants.{Kind}
-use Rattle.pass_caveats.specs.computed.CaveatOf.{caveat_of, first_fault_from}
+use Rattle.pass_caveats.specs.computed.CaveatOf.{caveat_of}
+use Rattle.pass_caveats.specs.Fault.{first_fault_from}
 
 -- whether it is a caveat on the kind
 abbrev pub is_on_kind : Option Caveat → Bool

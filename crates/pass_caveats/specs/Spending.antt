@@ -4,7 +4,8 @@ use Rattle.pass_caveats.specs.declared.ask.Ask.{Ask}
 use Rattle.pass_caveats.specs.declared.caveat.Caveat.{Caveat}
 use Rattle.pass_caveats.specs.declared.caveat.Caveat.TheVariants.{Spend}
 use Rattle.pass_caveats.specs.declared.fault.CaveatFault.{CaveatFault}
-use Rattle.pass_caveats.specs.computed.CaveatOf.{caveat_of, first_fault_from, first_fault_of}
+use Rattle.pass_caveats.specs.computed.CaveatOf.{caveat_of}
+use Rattle.pass_caveats.specs.Fault.{first_fault_from, first_fault_of}
 use Rattle.club_values.specs.Number.{number_limit}
 
 -- the same request of a key that has spent this much

@@ -2,8 +2,8 @@
 
 ghost use Rattle.std.specs.Prelude.{◌≡◌, [], ◌∷◌, map};
 ghost use Rattle.std.specs.Vec.{vec_items};
-ghost use Rattle.pass_caveats.specs.Fault.{IsFaultAt, IsFirstFault};
-ghost use Rattle.pass_caveats.specs.computed.CaveatOf.{caveat_of, first_fault_from, first_fault_of};
+ghost use Rattle.pass_caveats.specs.Fault.{IsFaultAt, IsFirstFault, first_fault_from, first_fault_of};
+ghost use Rattle.pass_caveats.specs.computed.CaveatOf.{caveat_of};
 
 use crate::ask::Ask;
 use crate::caveat::{allows, read};

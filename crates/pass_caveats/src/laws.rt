@@ -37,7 +37,7 @@ pub fn reads_what_is_understood()
     ensures { ReadsWhatIsUnderstood }
 {}
 
-/// `permits` is true exactly if the caveat allows the request.
+/// A caveat permits exactly the requests of its set.
 pub fn tests_the_set()
     ensures { TestsTheSet }
 {}

@@ -1,34 +1,26 @@
--- Parsing a caveat, and testing a request against it, as functions for definitions that compute. `Understood` and `Permits` define what
--- they mean; laws state that both agree.
-use Rattle.std.specs.Prelude.{ℕ, ◌+◌, ◌==◌, ◌&&◌, ◌||◌, Bool, true, false, List, [], ◌∷◌, length, drop, slice_index, slice_index_or, map, nat_lt, nat_le}
-use Rattle.std.specs.Prelude.{if◌then◌else◌, Option, Some, None, is_some}
-use Rattle.std.specs.List.{list_all, list_any}
-use Rattle.std.specs.Option.{option_map_or}
+-- Parsing a caveat, as a function for definitions that compute. `Understood` defines what it means; a law states that both agree.
+use Rattle.std.specs.Prelude.{ℕ, ◌==◌, ◌&&◌, Bool, true, false, List, length, drop, slice_index, slice_index_or, map, nat_lt, nat_le}
+use Rattle.std.specs.Prelude.{if◌then◌else◌, Option, Some, None}
+use Rattle.std.specs.List.{list_all}
 use Rattle.std.specs.Str.{bytes_eq}
 use Rattle.std.specs.Str.Parse.{digits_value}
 use Rattle.pass_caveats.specs.declared.caveat.Caveat.{Caveat}
 use Rattle.pass_caveats.specs.declared.caveat.Caveat.TheVariants.{Facility, Kind, Hours, Days, Weekdays, Until, Guests, Spend, Actions}
-use Rattle.club_values.specs.declared.kind.Kind.{Kind as AKind}
-use Rattle.club_values.specs.declared.kind.Kind.TheVariants.{Court, Boat, Room}
-use Rattle.club_values.specs.declared.slot.Slot.{Slot}
 use Rattle.pass_caveats.specs.declared.actions.Actions.{Actions as SomeActions}
 use Rattle.pass_caveats.specs.declared.weekdays.Weekdays.{Weekdays as SomeWeekdays}
 use Rattle.std.specs.Int.{is_in_range}
 use Rattle.club_values.specs.Slot.{guests_limit}
-use Rattle.pass_caveats.specs.declared.ask.Ask.{Ask}
-use Rattle.pass_caveats.specs.declared.fault.CaveatFault.{CaveatFault}
-use Rattle.pass_caveats.specs.declared.fault.CaveatFault.TheVariants.{NotUnderstood, Denied}
 use Rattle.club_values.specs.computed.TextOf.{two_at, day_of, moment_of, candidate_kind, is_name}
 use Rattle.club_values.specs.Day.{first_day, last_day}
 use Rattle.club_values.specs.Hour.{hours_a_day}
 use Rattle.club_values.specs.Moment.{first_moment, last_moment}
 use Rattle.club_values.specs.Action.{action_text}
-use Rattle.club_values.specs.Weekday.{weekdays, weekday_of}
+use Rattle.club_values.specs.Weekday.{weekdays}
 use Rattle.pass_caveats.specs.Names.{max_names}
 use Rattle.club_values.specs.Number.{number_limit}
 use Rattle.pass_caveats.specs.Parts.{comma_parts, words_found}
-use Rattle.pass_caveats.specs.Actions.{all_actions, has_action, action_texts}
-use Rattle.pass_caveats.specs.Weekdays.{weekday_text, has_weekday, weekday_texts}
+use Rattle.pass_caveats.specs.Actions.{all_actions, action_texts}
+use Rattle.pass_caveats.specs.Weekdays.{weekday_text, weekday_texts}
 use Rattle.pass_caveats.specs.Caveat.{caveat_text, max_caveat_len}
 
 -- the set of the flags that are found
@@ -80,35 +72,3 @@ spells text caveat = is_caveat caveat && bytes_eq text (caveat_text caveat) && n
 -- the parsed caveat
 unfoldable pub caveat_of : List ℕ → Option Caveat
 caveat_of text = if spells text (candidate text) then Some (candidate text) else None
-
--- the request is about a slot, and the test is true of it
-abbrev pub in_slot : (Slot → Bool) → Ask → Bool
-in_slot test ask = option_map_or test ask.slot false
-
--- the kind is known, and is this one
-abbrev pub is_kind : Option AKind → AKind → Bool
-is_kind (Some Court) Court = true
-is_kind (Some Boat) Boat = true
-is_kind (Some Room) Room = true
-is_kind known kind = false
-
--- whether a caveat permits a request
-unfoldable pub permits : Caveat → Ask → Bool
-permits (Facility names) ask = in_slot (λ slot. list_any (λ name. bytes_eq name slot.facility) names) ask
-permits (Kind kind) ask = is_some ask.slot && is_kind ask.kind kind
-permits (Hours from until) ask = in_slot (λ slot. nat_le from slot.hour && nat_lt slot.hour until) ask
-permits (Days first last) ask = in_slot (λ slot. nat_le first slot.day && nat_le slot.day last) ask
-permits (Weekdays set) ask = in_slot (λ slot. has_weekday set (weekday_of slot.day)) ask
-permits (Until moment) ask = nat_lt ask.moment moment
-permits (Guests n) ask = nat_le ask.guests n
-permits (Spend n) ask = ask.owed == 0 || nat_le (ask.spent + ask.owed) n
-permits (Actions actions) ask = has_action actions ask.action
-
--- the first fault of parsed caveats, where the first caveat has this number
-abbrev pub first_fault_from : ℕ → List (Option Caveat) → Ask → Option CaveatFault
-first_fault_from n [] ask = None
-first_fault_from n (None ∷ caveats) ask = Some (NotUnderstood n)
-first_fault_from n (Some caveat ∷ caveats) ask = if permits caveat ask then first_fault_from (n + 1) caveats ask else Some (Denied n)
-
-abbrev pub first_fault_of : List (Option Caveat) → Ask → Option CaveatFault
-first_fault_of caveats ask = first_fault_from 1 caveats ask

@@ -3,8 +3,7 @@ use Rattle.std.specs.Option.{option_map_or}
 use Rattle.std.proofs.lemmas.Bool.{or_left, or_right}
 use Rattle.club_rows.specs.declared.key.Key.{Key}
 use Rattle.club_rows.specs.Key.{older_root_at}
-use Rattle.club_core.specs.Pass.{Pass, IsGoodRoot, IsSignedUnder}
-use Rattle.club_core.specs.computed.Pass.{is_signed_under}
+use Rattle.club_core.specs.Pass.{Pass, IsGoodRoot, IsSignedUnder, is_signed_under}
 use Rattle.club_core.proofs.laws.tests_the_signature.Goals as goal
 
 module _ (pass : Pass) (key : Key) (moment : ℕ) where

@@ -4,7 +4,7 @@ use Rattle.std.proofs.lemmas.List.Elements.{All-nil, All-cons}
 use Rattle.club_values.specs.declared.kind.Kind.TheVariants.{Court}
 use Rattle.pass_caveats.specs.declared.ask.Ask.{Ask}
 use Rattle.pass_caveats.specs.declared.caveat.Caveat.TheVariants.{Spend}
-use Rattle.pass_caveats.specs.computed.CaveatOf.{permits}
+use Rattle.pass_caveats.specs.Caveat.{permits}
 use Rattle.club_core.specs.declared.request.Request.TheVariants as asked
 use Rattle.club_core.specs.Acceptance.{IsAllowedBy}
 use Rattle.club_core.specs.Answer.{ask_of}
@@ -53,7 +53,7 @@ returns c = record {
     acceptance = record {
       signed = record { root = root; good = inl refl; signed = refl };
       not_revoked = refl;
-      permission = All-cons (IsAllowedBy asked_again) (Some (Spend 0)) [] ((c.tests_the_set.ensures (Spend 0) asked_again).1 refl)
+      permission = All-cons (IsAllowedBy asked_again) (Some (Spend 0)) [] refl
           (All-nil (IsAllowedBy asked_again));
     };
   };

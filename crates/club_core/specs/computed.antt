@@ -1,3 +1,0 @@
--- Definitions that compute what the others of specs/ state. Laws say that both agree.
-
-pub mod Pass
