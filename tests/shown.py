@@ -71,8 +71,7 @@ WRITTEN = {
                      "club_core.Acceptance: IsServed IsAllowedBy IsAcceptedPass IsAcceptedIn; club_core.Basis: SlotState state_of Basis key_of "
                      "basis_under basis_of view_of; club_core.Club: key_named member_named facility_named; club_core.Pass: Pass Words; "
                      "club_core.Verdict: verdict_of reply_only refusal_verdict; club_gate.Identifier: key_name_in; "
-                     "club_gate.DecodedPass: machine_pass fault_of decoded_or_fault without_form decoded_pass decoded_words; "
-                     "club_gate.Served: reply_in",
+                     "club_gate.DecodedPass: IsSeenAs fault_of IsDecoded AreWordsOf",
     "club.Club.decide_view": "club_core.Verdict: slot_shown shown_at view_verdict; club_core.Club: is_closed",
     "club.Club.decide_account": "club_core.Verdict: account_verdict",
     "club.Club.booked": "club_core.Verdict: booked_before",

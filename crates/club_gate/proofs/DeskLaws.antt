@@ -16,7 +16,6 @@ use Rattle.pass_forms.specs.Laws.{DecidesSigned}
 use Rattle.pass_json.specs.AnyForm.{IsAnyReading}
 use Rattle.pass_json.specs.Laws.{ReadsAnyFormExactly}
 use Rattle.pass_json.specs.computed.AnyForm.{reading}
-use Rattle.club_values.specs.Name.{IsName}
 use Rattle.club_rows.specs.declared.key.Key.{Key}
 use Rattle.club_core.specs.declared.pass_fault.PassFault.{PassFault}
 use Rattle.club_core.specs.declared.refusal.Refusal.TheVariants.{Unavailable}
@@ -35,8 +34,11 @@ use Rattle.club_laws.specs.Failed.{ToMember, is_unavailable}
 use Rattle.club_gate.specs.Desk.{IsAnsweredBy, IsRefusedBy}
 use Rattle.club_gate.specs.Identifier.{FindsNames, key_name_in}
 use Rattle.club_gate.specs.Minted.{identifier_of}
-use Rattle.club_gate.specs.DecodedPass.{machine_pass, decoded_pass, decoded_or_fault, without_form, decoded_words}
-use Rattle.club_gate.specs.Served.{AnswersItsForms, EntitlesTo, IsLawful, IsNarrowedText, IsSignedFor, NamesItsRows, reply_in}
+use Rattle.club_gate.specs.computed.DecodedPass.{machine_pass, decoded_pass, decoded_or_fault, without_form, decoded_words}
+use Rattle.club_gate.specs.DecodedPass.{AreWordsOf}
+use Rattle.club_gate.specs.Laws.{Decodes, NamesItsRows}
+use Rattle.club_gate.specs.Served.{AnswersItsForms, EntitlesTo, IsLawful, IsNarrowedText, IsSignedFor}
+use Rattle.club_gate.proofs.Decoding.{decoded_text, decodes_as, words_are}
 use Rattle.club_gate.specs.Response.{unavailable}
 
 failed_reply : (reply : Reply) → is_unavailable reply ≡ true → reply ≡ unavailable
@@ -51,6 +53,19 @@ pub reply_or_failure : {S : Type 0} (Represents : S → Club → List Club → T
 reply_or_failure Represents new club others words moment reply (inl a) =
     let e = a.reply in let same : reply ≡ (verdict_in club words moment).reply = cc in inr same
 reply_or_failure Represents new club others words moment reply (inr f) = inl (failed_reply reply f.failure)
+
+-- the reply of the machine to a request with this text
+abbrev pub reply_in : Club → List ℕ → Request → ℕ → Reply
+reply_in club text request moment = (verdict_in club (decoded_words text request) moment).reply
+
+-- it is that to all words of the text
+abbrev IsReplyIn : Club → List ℕ → Request → ℕ → Reply → Type 0
+IsReplyIn club text request moment reply = (words : Words) → AreWordsOf text request words → reply ≡ (verdict_in club words moment).reply
+
+replies_as : Decodes → (club : Club) (text : List ℕ) (request : Request) (moment : ℕ) (reply : Reply) → IsBytes text
+    → reply ≡ reply_in club text request moment → IsReplyIn club text request moment reply
+replies_as law club text request moment reply bytes e words are =
+    e ∙ ap (λ (w : Words). (verdict_in club w moment).reply) (words_are law text request words bytes are)
 
 -- what is served is no failure
 not_served : (reply : Reply) → reply ≡ unavailable → IsServed reply → ⊥
@@ -91,12 +106,6 @@ plain_signed : DecidesSigned → (plain : Plain) (key : Key) (moment : ℕ) → 
     → IsSignedUnder (machine_pass plain) key moment
 plain_signed signed_law plain key moment h = record { root = h.root; good = h.good; signed = (signed_law h.root plain).0 h.signed }
 
--- the decoded pass of a text, by its reading
-decodes_as : ReadsAnyFormExactly → (text : List ℕ) (form : Form) (plain : Plain) → IsBytes text → IsAnyReading text (Ok (form, plain))
-    → decoded_pass text ≡ Ok (machine_pass plain)
-decodes_as reads text form plain bytes h = ap
-    (λ (r : Result (Form × Plain) FormFault). decoded_or_fault (without_form r)) ((reads text (Ok (form, plain)) bytes).0 h)
-
 -- words that name the key of a row have the basis of that key
 basis_by_name : (club : Club) (words : Words) (key : Key) → key_of words.pass ≡ Some key.name → key_named key.name club ≡ Some key
     → basis_of club words ≡ basis_under club words.request key
@@ -104,18 +113,18 @@ basis_by_name club words key name row =
     let by_key : Option Key → Option Basis = λ found. option_and_then (basis_under club words.request) found in
     ap (λ (n : Option (List ℕ)). by_key (option_and_then (λ (it : List ℕ). key_named it club) n)) name ∙ ap by_key row
 
-pub names_its_rows : ReadsAnyFormExactly → FindsNames → NamesItsRows
-names_its_rows reads finds club text request form pass key bytes read name identifier row =
-    let decoded = ap key_of (decodes_as reads text form pass bytes read) in
-    let named = (finds pass.identifier key.name).1 (name, identifier) in
-    basis_by_name club (decoded_words text request) key (decoded ∙ named) row
+pub names_its_rows : ReadsAnyFormExactly → FindsNames → Decodes → NamesItsRows
+names_its_rows reads finds law club text words form pass key bytes decoded read name identifier row =
+    let same = sym ((law text words.pass bytes).0 decoded) ∙ decodes_as reads text form pass bytes read in
+    basis_by_name club words key (ap key_of same ∙ (finds pass.identifier key.name).1 (name, identifier)) row
 
 -- a text that is served entitles to the request
-served_text : ServesOnlyTheEntitled → ReadsAnyFormExactly → DecidesSigned → FindsNames → ReadsWhatIsUnderstood
+served_text : ServesOnlyTheEntitled → ReadsAnyFormExactly → DecidesSigned → FindsNames → ReadsWhatIsUnderstood → Decodes
     → (club : Club) (text : List ℕ) (request : Request) (moment : ℕ) → IsBytes text → IsServed (reply_in club text request moment)
     → EntitlesTo club text request moment
-served_text serves reads signed_law finds understood club text request moment bytes h =
-    let entitled = serves (decoded_words text request) moment club h in
+served_text serves reads signed_law finds understood law club text request moment bytes h =
+    let words = decoded_words text request in
+    let entitled = serves words moment club h in
     let found = decoded_read (reading text) entitled.pass entitled.read in
     let plain = found.0.1 in
     let Signed : Pass → Type 0 = λ p. IsSignedUnder p entitled.basis.key moment in
@@ -123,7 +132,8 @@ served_text serves reads signed_law finds understood club text request moment by
     let Allowing : Pass → Type 0 = λ p. All (IsAllowedBy ask) p.caveats in
     let read = (reads text (Ok found.0) bytes).1 found.1 in
     let named = (finds plain.identifier entitled.basis.key.name).0 (ap (λ (p : Pass). p.key) found.2 ∙ entitled.key_name) in
-    let same = names_its_rows reads finds club text request found.0.0 plain entitled.basis.key bytes read named.0 named.1 entitled.row in
+    let decoded = decoded_text law text bytes in
+    let same = names_its_rows reads finds law club text words found.0.0 plain entitled.basis.key bytes decoded read named.0 named.1 entitled.row in
     record {
       form = found.0.0;
       pass = plain;
@@ -148,12 +158,12 @@ forms_alike reads club text other request moment form other_form plain a b h k =
     let same : decoded_pass text ≡ decoded_pass other = decodes_as reads text form plain a h ∙ sym (decodes_as reads other other_form plain b k) in
     ap (λ (s : Result Pass PassFault). (verdict_in club (record { pass = s; request = request }) moment).reply) same
 
-answers_forms : ReadsAnyFormExactly → (club : Club) (text : List ℕ) (request : Request) (moment : ℕ) (reply : Reply)
+answers_forms : ReadsAnyFormExactly → Decodes → (club : Club) (text : List ℕ) (request : Request) (moment : ℕ) (reply : Reply)
     → IsBytes text → (reply ≡ unavailable) ⊎ (reply ≡ reply_in club text request moment)
     → AnswersItsForms club text request moment reply
-answers_forms reads club text request moment reply bytes (inl e) other form other_form plain b h k some = absurd (some e)
-answers_forms reads club text request moment reply bytes (inr e) other form other_form plain b h k some =
-    e ∙ forms_alike reads club text other request moment form other_form plain bytes b h k
+answers_forms reads law club text request moment reply bytes (inl e) other words form other_form plain b h k are some = absurd (some e)
+answers_forms reads law club text request moment reply bytes (inr e) other words form other_form plain b h k are some =
+    replies_as law club other request moment reply b (e ∙ forms_alike reads club text other request moment form other_form plain bytes b h k) words are
 
 -- an identifier names one key
 one_name : (a b : List ℕ) → identifier_of a ≡ identifier_of b → a ≡ b
@@ -200,21 +210,24 @@ machine_reply reply wanted (inr e) some = e
 
 -- the law of the desk, for the machine's reply or `Unavailable`
 pub lawful : ServesOnlyTheEntitled → DependsOnTheBasisAlone → RefusesWithoutABasis → MoreCaveatsNeverOpenMore → ReadsAnyFormExactly → DecidesSigned
-    → FindsNames → ReadsWhatIsUnderstood
+    → FindsNames → ReadsWhatIsUnderstood → Decodes
     → (club : Club) (text : List ℕ) (request : Request) (moment : ℕ) (reply : Reply) → IsBytes text
     → (reply ≡ unavailable) ⊎ (reply ≡ reply_in club text request moment)
     → IsLawful club text request moment reply
-lawful serves alone refuses more reads signed_law finds understood club text request moment reply bytes returned =
-    let words = decoded_words text request in
+lawful serves alone refuses more reads signed_law finds understood law club text request moment reply bytes returned =
     let machine = reply_in club text request moment in
-    let same = served_reply club words moment reply returned in
+    let same = served_reply club (decoded_words text request) moment reply returned in
     let also_served : IsServed reply → IsServed machine = λ served. subst (λ (r : Reply). IsServed r) (same served) served in
+    let by_words : reply ≢ unavailable → IsReplyIn club text request moment reply =
+    λ some. replies_as law club text request moment reply bytes (machine_reply reply machine returned some)
+    in
     record {
-      entitles = λ served. served_text serves reads signed_law finds understood club text request moment bytes (also_served served);
-      depends = λ other basis some. machine_reply reply machine returned some
-          ∙ ap (λ (v : Verdict). v.reply) (alone words moment club other (sym basis));
-      blind = λ none some. machine_reply reply machine returned some ∙ ap (λ (v : Verdict). v.reply) (refuses words moment club none);
-      forms = answers_forms reads club text request moment reply bytes returned;
-      less = λ wide wide_bytes narrowed served. same served
-          ∙ opens_no_more serves more reads signed_law finds club text wide request moment bytes wide_bytes narrowed (also_served served);
+      entitles = λ served. served_text serves reads signed_law finds understood law club text request moment bytes (also_served served);
+      depends = λ words other are basis some. by_words some words are ∙ ap (λ (v : Verdict). v.reply) (alone words moment club other (sym basis));
+      blind = λ words are none some. by_words some words are ∙ ap (λ (v : Verdict). v.reply) (refuses words moment club none);
+      forms = answers_forms reads law club text request moment reply bytes returned;
+      less = λ wide words wide_bytes narrowed are served.
+          replies_as law club wide request moment reply wide_bytes
+          (same served ∙ opens_no_more serves more reads signed_law finds club text wide request moment bytes wide_bytes narrowed (also_served served))
+          words are;
     }

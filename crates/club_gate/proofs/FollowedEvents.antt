@@ -3,7 +3,7 @@ use Rattle.std.proofs.Common.{◌≡◌, ℕ, ◌+◌, ◌<◌, ◌∙◌, take,
 use Rattle.std.proofs.Common.{Option, Some, None, Result, Ok, Err, refl, sym, ap, subst, arith, append_assoc}
 use Rattle.std.proofs.Math.Seq.{take-suc}
 use Rattle.std.proofs.lemmas.List.{map-append, length-append, length-map, length-take}
-use Rattle.std.proofs.lemmas.List.Elements.{All-nil, All-cons, All-append, All-weaker, All-contains_itself}
+use Rattle.std.proofs.lemmas.List.Elements.{All-nil, All-cons, All-push, All-append, All-weaker, All-contains_itself}
 use Rattle.club_core.specs.declared.change.Change.{Change}
 use Rattle.club_core.specs.declared.command.OfficeFault.{OfficeFault}
 use Rattle.club_core.specs.declared.store.StoreFault.{StoreFault}
@@ -16,8 +16,9 @@ use Rattle.club_gate.specs.declared.event.Event.{Event as DeskEvent}
 use Rattle.club_gate.specs.declared.event.EventReply.{EventReply}
 use Rattle.club_gate.specs.Runs.AreHandled.{one_event}
 use Rattle.club_gate.specs.Runs.{AreHandled, FailedLast, IsFollowed, IsHandled, MakesNoChange, MayBeLeft}
-use Rattle.club_gate.specs.Runs.{DeskResponse, machine_events, events_answered, responses_of}
-use Rattle.club_gate.specs.Response.{machine_event, response_of, desk_presentation}
+use Rattle.club_gate.specs.Runs.{DeskResponse, events_answered, responses_of}
+use Rattle.club_gate.specs.computed.DecodedPass.{machine_events, machine_event}
+use Rattle.club_gate.specs.Response.{response_of, desk_presentation}
 
 -- the first events of a list, and the next one
 pub one_more : (events : List DeskEvent) (i : ℕ) (event : DeskEvent) → i < length events → event ≡ get_or events i event
@@ -26,6 +27,12 @@ one_more events i event h e =
     rw (add-one, take-suc events i event)
     (map-append machine_event (take i events) (get_or events i event ∷ [])
     ∙ ap (λ (one : DeskEvent). machine_events (take i events) ++ machine_event one ∷ []) (sym e))
+
+-- what holds of the first events and of the next one
+pub one_more_item : (P : DeskEvent → Type 0) (events : List DeskEvent) (i : ℕ) (event : DeskEvent) → i < length events → event ≡ get_or events i event
+    → All P (take i events) → P event → All P (take (i + 1) events)
+one_more_item P events i event h e before one =
+    rw (add-one, take-suc events i event h) (All-push P (take i events) (get_or events i event) before (subst P e one))
 
 -- one event of the desk more
 pub handled_one : {S : Type 0} (IsClean : S → Type 0) (Represents : S → Club → List Club → Type 0) (Fails : Option Change → S → StoreFault → S → Type 0)

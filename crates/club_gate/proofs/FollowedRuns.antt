@@ -8,19 +8,29 @@ use Rattle.club_laws.specs.RunsWithFailures.{RepeatsAfterOneMore}
 use Rattle.club_laws.specs.RunsWithFailures.{RepeatsWithFailures}
 use Rattle.club_laws.specs.Conservation.{IsConserved, SoundClubsHavePlaces}
 use Rattle.club_laws.specs.Failed.{IsRun, LeavesOutFailed}
+use Rattle.club_gate.specs.declared.event.Event.{Event as DeskEvent}
 use Rattle.club_gate.specs.declared.event.OfficeReply.{OfficeReply}
+use Rattle.club_gate.specs.Events.{AreEventsOf, IsEventOfBytes}
+use Rattle.club_gate.specs.Laws.{SeesEvents}
+use Rattle.club_gate.specs.computed.DecodedPass.{machine_events}
 use Rattle.club_gate.specs.Runs.{Conserves, IsAnsweredRun, IsAsInAnother, IsFollowed, IsNeverNegative, IsNeverOverbooked, IsOnce, IsSolo}
 use Rattle.club_gate.specs.Runs.{LeavesClub, MayBeLeft, DeskResponse, events_answered, club_left}
 use Rattle.club_gate.specs.Response.{desk_presentation}
 
--- a property of the responses to a followed list holds of the responses that the desk returns
-pub for_responses : {S T E : Type 0} (Represents : S → Club → List Club
-    → Type 0) (new : S) (club : Club) (others : List Club) (events : List Event) (r : Result T E)
-    (responses : T → List DeskResponse) (P : List DeskResponse → Type 0) → OnOk r (All IsEvent events)
-    → IfOk r (λ x. IsFollowed Represents new club others events (responses x))
-    → ((ts : List DeskResponse) → All IsEvent events → IsFollowed Represents new club others events ts → P ts) → IfOk r (λ x. P (responses x))
-for_responses Represents new club others events (Ok x) responses P within f rule = rule (responses x) within f
-for_responses Represents new club others events (Err e) responses P within f rule = tt
+-- What holds of the computed events of a followed list, and of the responses to it, holds of all events as which the machine sees that list, and
+-- of the responses that the desk returns.
+pub for_seen : {S T E : Type 0} (Represents : S → Club → List Club
+    → Type 0) (new : S) (club : Club) (others : List Club) (events : List DeskEvent) (r : Result T E)
+    (responses : T → List DeskResponse) (P : List Event → List DeskResponse → Type 0) → SeesEvents
+    → OnOk r (All IsEventOfBytes events)
+    → OnOk r (All IsEvent (machine_events events))
+    → IfOk r (λ x. IsFollowed Represents new club others (machine_events events) (responses x))
+    → ((ts : List DeskResponse) → All IsEvent (machine_events events) → IsFollowed Represents new club others (machine_events events) ts
+    → P (machine_events events) ts)
+    → IfOk r (λ x. (seen : List Event) → AreEventsOf events seen → P seen (responses x))
+for_seen Represents new club others events (Ok x) responses P sees bytes within f rule = λ seen are.
+    subst (λ (es : List Event). P es (responses x)) ((sees events seen bytes).0 are) (rule (responses x) within f)
+for_seen Represents new club others events (Err e) responses P sees bytes within f rule = tt
 
 module _ {S : Type 0} (Represents : S → Club → List Club
     → Type 0) (new : S) (club : Club) (others : List Club) (events : List Event) (responses : List DeskResponse)

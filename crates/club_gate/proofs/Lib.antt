@@ -4,6 +4,7 @@ pub mod Signers
 pub mod Identifiers
 pub mod Verifying
 pub mod Stepping
+pub mod Decoding
 pub mod DeskLaws
 pub mod FollowedEvents
 pub mod FollowedRuns

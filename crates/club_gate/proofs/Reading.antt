@@ -31,7 +31,7 @@ use Rattle.club_core.specs.declared.refusal.Refusal.TheVariants.{KeyRevoked, Not
 use Rattle.club_laws.specs.SingleRequest.{words_with}
 use Rattle.club_gate.specs.Identifier.{key_name_in}
 use Rattle.club_gate.specs.Reading.{answer_read, fault_read, first_view, last_view, verdict_read, with_account, with_member, with_slot, with_spent}
-use Rattle.club_gate.specs.DecodedPass.{machine_pass}
+use Rattle.club_gate.specs.computed.DecodedPass.{machine_pass}
 use Rattle.club_gate.specs.Verify.{signer_in}
 use Rattle.club_gate.proofs.Signers.{IsSigner, found, is_signer, owned}
 

@@ -23,7 +23,7 @@ use Rattle.club_core.specs.Request.{request_slot}
 use Rattle.club_core.specs.Verdict.{refusal_verdict}
 use Rattle.club_laws.specs.SingleRequest.{words_with}
 use Rattle.club_gate.specs.Identifier.{key_name_in}
-use Rattle.club_gate.specs.DecodedPass.{machine_pass}
+use Rattle.club_gate.specs.computed.DecodedPass.{machine_pass}
 use Rattle.club_gate.specs.Verify.{key_unless, refusal_by_row, signer_by, signer_in}
 
 -- ---- rows that are found

@@ -9,7 +9,7 @@ use Rattle.club_rows.specs.declared.key.Key.{Key}
 use Rattle.club_rows.specs.Key.{older_root_at}
 use Rattle.club_core.specs.Pass.{is_signed_under}
 use Rattle.club_gate.specs.declared.signing.Signing.{Signing}
-use Rattle.club_gate.specs.DecodedPass.{machine_pass}
+use Rattle.club_gate.specs.computed.DecodedPass.{machine_pass}
 use Rattle.club_gate.specs.Signing.{initial_signing, signing_with, is_one_of}
 
 abbrev chains : List ℕ → Option (List ℕ) → Signing

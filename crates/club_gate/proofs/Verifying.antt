@@ -1,24 +1,26 @@
 -- From the pass that a source yields to the text that spells it.
-use Rattle.std.proofs.Common.{◌≡◌, ◌≢◌, ℕ, ◌≤◌, length, List, Result, Ok, Err, refl, sym, ap, ◌∙◌, subst}
+use Rattle.std.proofs.Common.{◌≡◌, ◌≢◌, inl, inr, ℕ, ◌≤◌, length, List, Option, Result, Ok, Err, refl, sym, ap, ◌∙◌, subst}
 use Rattle.std.specs.Prelude.{IfOk}
 use Rattle.pass_forms.specs.declared.fault.FormFault.{FormFault}
 use Rattle.pass_forms.specs.declared.form.Form.{Form}
 use Rattle.pass_forms.specs.declared.form.Form.TheVariants.{Json}
+use Rattle.pass_forms.specs.Envelope.{IsUnwrapped}
 use Rattle.pass_forms.specs.computed.Envelope.{unwrapping}
 use Rattle.pass_forms.specs.Pass.{Plain}
 use Rattle.pass_forms.specs.Reading.{max_text_len}
 use Rattle.pass_forms.specs.computed.Text.{in_form}
 use Rattle.pass_json.specs.Laws.{ReadsWhatIsWrapped}
 use Rattle.pass_json.specs.computed.AnyForm.{reading, reading_in_form}
+use Rattle.club_core.specs.declared.change.Change.{Change}
 use Rattle.club_core.specs.declared.request.Request.{Request}
 use Rattle.club_core.specs.declared.store.StoreFault.{StoreFault}
 use Rattle.club_core.specs.declared.verdict.Verdict.{Verdict}
 use Rattle.club_core.specs.Answer.{verdict_in}
 use Rattle.club_core.specs.Club.{Club}
 use Rattle.club_laws.specs.SingleRequest.{words_with}
-use Rattle.club_gate.specs.DecodedPass.{machine_pass, decoded_or_fault, without_form, decoded_words}
-use Rattle.club_gate.specs.Served.{IsReadInPlace}
-use Rattle.club_gate.specs.Verify.{words_in_form}
+use Rattle.club_gate.specs.computed.DecodedPass.{machine_pass, decoded_or_fault, without_form, decoded_words}
+use Rattle.club_gate.specs.Served.{IsJson, IsReadInPlace}
+use Rattle.club_gate.specs.Verify.{ReadsOrLacksMemory, words_in_form}
 
 abbrev IsVerdict : Result Verdict StoreFault → Verdict → Type 0
 IsVerdict result verdict = IfOk result (λ found. found ≡ verdict)
@@ -60,8 +62,26 @@ read_wrapped reads text form wrapped bytes same e short =
     let Short : List ℕ → Type 0 = λ b. length b ≤ max_text_len in
     reads text form bytes (e ∙ ap (λ (b : List ℕ). Ok (form, b)) (sym same)) (subst Short (sym same) short)
 
+-- what a text wraps, by what the call that unwraps it returned
+pub unwraps_to : (text : List ℕ) (result : Result (Form × List ℕ) FormFault) → result ≡ unwrapping text → IsUnwrapped text result
+    → IsUnwrapped text (unwrapping text)
+unwraps_to text result e h = subst (λ (r : Result (Form × List ℕ) FormFault). IsUnwrapped text r) e h
+
+json_in : (text : List ℕ) (form : Form) (wrapped : List ℕ) → unwrapping text ≡ Ok (form, wrapped) → IsUnwrapped text (unwrapping text)
+    → form ≡ Json → IsUnwrapped text (Ok (Json, wrapped))
+json_in text form wrapped e h json =
+    let found : Form → Result (Form × List ℕ) FormFault = λ f. Ok (f, wrapped) in
+    subst (λ (r : Result (Form × List ℕ) FormFault). IsUnwrapped text r) (e ∙ ap found json) h
+
 -- bytes that are read in place are no JSON
-pub other_form : (text : List ℕ) (form : Form) (wrapped : List ℕ) → unwrapping text ≡ Ok (form, wrapped) → IsReadInPlace text
-    → form ≢ Json
-other_form text form wrapped e in_place json =
-    in_place wrapped (e ∙ ap (λ (f : Form). Ok (f, wrapped)) json)
+pub other_form : (text : List ℕ) (form : Form) (wrapped : List ℕ) → unwrapping text ≡ Ok (form, wrapped) → IsUnwrapped text (unwrapping text)
+    → IsReadInPlace text → form ≢ Json
+other_form text form wrapped e h in_place json = in_place wrapped (json_in text form wrapped e h json)
+
+-- memory that is wanted for bytes in JSON is wanted for the text
+pub lacks_memory : {S : Type 0} (Fails : Option Change → S → StoreFault → S → Type 0) (text : List ℕ) (form : Form) (wrapped : List ℕ) (old new : S)
+    (result : Result Verdict StoreFault) → unwrapping text ≡ Ok (form, wrapped) → IsUnwrapped text (unwrapping text)
+    → ReadsOrLacksMemory Fails (form ≡ Json) old new result → ReadsOrLacksMemory Fails (IsJson text) old new result
+lacks_memory Fails text form wrapped old new (Ok verdict) e h r = r
+lacks_memory Fails text form wrapped old new (Err fault) e h (inl failed) = inl failed
+lacks_memory Fails text form wrapped old new (Err fault) e h (inr json) = inr ((wrapped, json_in text form wrapped e h json.0), json.1)

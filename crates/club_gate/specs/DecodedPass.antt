@@ -1,26 +1,27 @@
 -- A text, decoded for the rules of the club (ours). The decoded pass doesn't depend on the form in which it was written.
-use Rattle.std.specs.Prelude.{◌≢◌, ℕ, List, map, Result, Ok, Err}
-use Rattle.base64.specs.GeneralPurpose.{IsBytes}
-use Rattle.pass_caveats.specs.computed.CaveatOf.{caveat_of}
+use Rattle.std.specs.Prelude.{◌≡◌, ◌↔◌, ℕ, IsTrue, List, Option, Some, Result, Ok, Err}
+use Rattle.std.specs.List.{AllZip}
+use Rattle.pass_caveats.specs.declared.caveat.Caveat.{Caveat}
+use Rattle.pass_caveats.specs.Caveat.{Understood}
 use Rattle.pass_forms.specs.declared.fault.FormFault.{FormFault}
 use Rattle.pass_forms.specs.declared.fault.FormFault.TheVariants as faults
 use Rattle.pass_forms.specs.declared.form.Form.{Form}
-use Rattle.pass_forms.specs.Pass.{Plain}
-use Rattle.pass_forms.specs.computed.Pass.{is_signed}
-use Rattle.pass_json.specs.computed.AnyForm.{reading}
+use Rattle.pass_forms.specs.Pass.{Plain, IsSigned}
+use Rattle.pass_json.specs.AnyForm.{IsAnyReading}
+use Rattle.club_values.specs.Name.{IsName}
 use Rattle.club_core.specs.declared.pass_fault.PassFault.{PassFault}
 use Rattle.club_core.specs.declared.pass_fault.PassFault.TheVariants.{TooLong, Malformed, ThirdParty, TooMany}
 use Rattle.club_core.specs.declared.request.Request.{Request}
 use Rattle.club_core.specs.Pass.{Pass, Words}
-use Rattle.club_gate.specs.Identifier.{key_name_in}
+use Rattle.club_gate.specs.Minted.{identifier_of}
 
--- a pass as the rules see it: the key that it names, its caveats as they are understood, and the roots under which it is signed
-abbrev pub machine_pass : Plain → Pass
-machine_pass pass = record {
-  key = key_name_in pass.identifier;
-  caveats = map caveat_of pass.caveats;
-  is_signed = λ root. is_signed root pass;
-}
+-- A pass, as the rules see it: the key that its identifier names, if it names one; each caveat as it is understood, if it is; and the roots
+-- under which it is signed.
+pub record IsSeenAs (pass : Plain) (seen : Pass) : Type 0 where
+  pub names : (name : List ℕ) → (seen.key ≡ Some name) ↔ (IsName name × (pass.identifier ≡ identifier_of name))
+  pub understood :
+      AllZip (λ (text : List ℕ) (one : Option Caveat). (caveat : Caveat) → (one ≡ Some caveat) ↔ Understood text caveat) pass.caveats seen.caveats
+  pub signed : (root : List ℕ) → IsTrue (seen.is_signed root) ↔ IsSigned root pass
 
 -- the fault of a text; no text reads as `Memory`, as `ReadsNoLackOfMemory` says
 abbrev pub fault_of : FormFault → PassFault
@@ -30,22 +31,11 @@ fault_of faults.ThirdParty = ThirdParty
 fault_of faults.TooMany = TooMany
 fault_of faults.Memory = Malformed
 
--- a parsed pass as the rules see it, or the fault of the text
-abbrev pub decoded_or_fault : Result Plain FormFault → Result Pass PassFault
-decoded_or_fault (Ok pass) = Ok (machine_pass pass)
-decoded_or_fault (Err fault) = Err (fault_of fault)
-
-abbrev pub without_form : Result (Form × Plain) FormFault → Result Plain FormFault
-without_form (Ok read) = Ok read.1
-without_form (Err fault) = Err fault
-
--- the pass that a text spells, or the fault of the text
-abbrev pub decoded_pass : List ℕ → Result Pass PassFault
-decoded_pass text = decoded_or_fault (without_form (reading text))
+-- a text, as the rules see it: the pass that it spells, in whichever form, or else its fault
+abbrev pub IsDecoded : List ℕ → Result Pass PassFault → Type 0
+IsDecoded text (Ok seen) = (form : Form) × (pass : Plain) × IsAnyReading text (Ok (form, pass)) × IsSeenAs pass seen
+IsDecoded text (Err fault) = (reason : FormFault) × IsAnyReading text (Err reason) × (fault ≡ fault_of reason)
 
 -- the words of a request with this text
-abbrev pub decoded_words : List ℕ → Request → Words
-decoded_words text request = record { pass = decoded_pass text; request = request }
-
-abbrev pub ReadsNoLackOfMemory : Type 0
-ReadsNoLackOfMemory = (text : List ℕ) → IsBytes text → reading text ≢ Err faults.Memory
+abbrev pub AreWordsOf : List ℕ → Request → Words → Type 0
+AreWordsOf text request words = IsDecoded text words.pass × (words.request ≡ request)

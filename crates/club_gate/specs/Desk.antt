@@ -16,7 +16,7 @@ use Rattle.club_gate.specs.declared.event.OfficeReply.{OfficeReply}
 use Rattle.club_gate.specs.declared.event.OfficeReply.TheVariants.{Refused}
 use Rattle.club_gate.specs.declared.fault.Fault.{Fault}
 use Rattle.club_gate.specs.declared.fault.Fault.TheVariants as faults
-use Rattle.club_gate.specs.DecodedPass.{decoded_words}
+use Rattle.club_gate.specs.computed.DecodedPass.{decoded_words}
 use Rattle.club_gate.specs.Response.{desk_presentation, unavailable}
 use Rattle.club_gate.specs.Served.{IsJson}
 

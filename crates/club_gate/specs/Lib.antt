@@ -5,7 +5,10 @@ pub mod DecodedPass
 pub mod Verify
 pub mod Reading
 pub mod Response
+pub mod Events
 pub mod Desk
 pub mod Served
 pub mod Runs
 pub mod Looks
+pub mod Laws
+pub mod computed

@@ -7,12 +7,8 @@ use Rattle.club_core.specs.declared.refusal.Refusal.TheVariants.{Unavailable}
 use Rattle.club_core.specs.declared.reply.Reply.{Reply}
 use Rattle.club_core.specs.declared.reply.Reply.TheVariants as member_replies
 use Rattle.club_core.specs.Faults.{office_fault_text, store_fault_text}
-use Rattle.club_core.specs.Run.{Event as MachineEvent}
-use Rattle.club_core.specs.Run as machine
 use Rattle.club_laws.specs.Failed.{Presentation, ToMember, ToOffice}
 use Rattle.club_laws.specs.Failed as laws
-use Rattle.club_gate.specs.declared.event.Event.{Event}
-use Rattle.club_gate.specs.declared.event.Event.TheVariants as events
 use Rattle.club_gate.specs.declared.event.EventReply.{EventReply}
 use Rattle.club_gate.specs.declared.event.EventReply.TheVariants.{Replied, Answered}
 use Rattle.club_gate.specs.declared.event.OfficeReply.{OfficeReply}
@@ -20,7 +16,6 @@ use Rattle.club_gate.specs.declared.event.OfficeReply.TheVariants as replies
 use Rattle.club_gate.specs.declared.fault.Fault.{Fault}
 use Rattle.club_gate.specs.declared.fault.Fault.TheVariants as faults
 use Rattle.club_gate.specs.Minted.{minted_signature}
-use Rattle.club_gate.specs.DecodedPass.{decoded_words}
 
 abbrev pub desk_fault_text : Fault → List ℕ
 desk_fault_text (faults.Refused fault) = office_fault_text fault
@@ -54,11 +49,6 @@ desk_presentation = record { shown = office_reply_of; is_fault = is_failure }
 abbrev pub response_of : EventReply → laws.Response OfficeReply
 response_of (Replied reply) = ToMember reply
 response_of (Answered reply) = ToOffice reply
-
--- an event at the desk, as the machine sees it
-abbrev pub machine_event : Event → MachineEvent
-machine_event (events.Asked words moment) = machine.Asked (decoded_words words.pass.now words.request) moment
-machine_event (events.Ordered command) = machine.Ordered command
 
 -- the reply to a member, if the store may have failed
 abbrev pub reply_or_unavailable : Result Reply StoreFault → Reply

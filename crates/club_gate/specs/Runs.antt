@@ -24,15 +24,12 @@ use Rattle.club_gate.specs.declared.event.Event.TheVariants as events
 use Rattle.club_gate.specs.declared.event.EventReply.{EventReply}
 use Rattle.club_gate.specs.declared.event.EventReply.TheVariants.{Replied, Answered}
 use Rattle.club_gate.specs.declared.event.OfficeReply.{OfficeReply}
-use Rattle.club_gate.specs.Response.{desk_presentation, response_of, machine_event}
+use Rattle.club_gate.specs.Response.{desk_presentation, response_of}
+use Rattle.club_gate.specs.computed.DecodedPass.{machine_event}
 
 -- the response to an event
 abbrev pub DeskResponse : Type 0
 DeskResponse = laws.Response OfficeReply
-
--- the events of the machine that events at the desk are
-abbrev pub machine_events : List Event → List machine.Event
-machine_events events = map machine_event events
 
 abbrev pub responses_of : List EventReply → List DeskResponse
 responses_of replies = map response_of replies

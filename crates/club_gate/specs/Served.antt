@@ -5,7 +5,7 @@ use Rattle.pass_caveats.specs.Fault.{Allowed}
 use Rattle.pass_forms.specs.declared.fault.FormFault.{FormFault}
 use Rattle.pass_forms.specs.declared.form.Form.{Form}
 use Rattle.pass_forms.specs.declared.form.Form.TheVariants.{Json}
-use Rattle.pass_forms.specs.computed.Envelope.{unwrapping}
+use Rattle.pass_forms.specs.Envelope.{IsUnwrapped}
 use Rattle.pass_forms.specs.Pass.{Plain, IsSigned}
 use Rattle.pass_json.specs.AnyForm.{IsAnyReading}
 use Rattle.club_values.specs.Name.{IsName}
@@ -17,15 +17,11 @@ use Rattle.club_core.specs.Acceptance.{IsServed}
 use Rattle.club_core.specs.Answer.{ask_of, form_refusal, verdict_in}
 use Rattle.club_core.specs.Basis.{Basis, basis_of, basis_under, view_of}
 use Rattle.club_core.specs.Club.{Club, key_named}
-use Rattle.club_core.specs.Pass.{IsGoodRoot}
+use Rattle.club_core.specs.Pass.{IsGoodRoot, Words}
 use Rattle.club_laws.specs.SingleRequest.{blind_refusal}
 use Rattle.club_gate.specs.Minted.{identifier_of}
-use Rattle.club_gate.specs.DecodedPass.{fault_of, decoded_pass, decoded_words}
+use Rattle.club_gate.specs.DecodedPass.{AreWordsOf, fault_of}
 use Rattle.club_gate.specs.Response.{unavailable}
-
--- the reply of the machine to a request with this text
-abbrev pub reply_in : Club → List ℕ → Request → ℕ → Reply
-reply_in club text request moment = (verdict_in club (decoded_words text request) moment).reply
 
 -- the pass is signed under a root of the key's row that is valid at the moment
 pub record IsSignedFor (pass : Plain) (key : Key) (moment : ℕ) : Type 0 where
@@ -50,31 +46,24 @@ pub record EntitlesTo (club : Club) (text : List ℕ) (request : Request) (momen
   pub known : basis_under club request key ≡ Some basis
   pub permission : Allowed pass.caveats (ask_of (view_of basis request moment) request moment)
 
--- The rows that the words of a text name are those that the club has for the key whose identifier its pass has.
-abbrev pub NamesItsRows : Type 0
-NamesItsRows =
-    (club : Club) (text : List ℕ) (request : Request) (form : Form) (pass : Plain) (key : Key)
-    → IsBytes text → IsAnyReading text (Ok (form, pass)) → IsName key.name → pass.identifier ≡ identifier_of key.name
-    → key_named key.name club ≡ Some key
-    → basis_of club (decoded_words text request) ≡ basis_under club request key
-
--- Any other club in which the words name the same rows gives the same reply.
+-- Any other club in which the words of the text name the same rows gives the same reply.
 abbrev pub DependsOnTheBasis : Club → List ℕ → Request → ℕ → Reply → Type 0
 DependsOnTheBasis club text request moment reply =
-    (other : Club) → basis_of other (decoded_words text request) ≡ basis_of club (decoded_words text request)
-    → reply ≢ unavailable → reply ≡ reply_in other text request moment
+    (words : Words) (other : Club) → AreWordsOf text request words → basis_of other words ≡ basis_of club words
+    → reply ≢ unavailable → reply ≡ (verdict_in other words moment).reply
 
 -- If the words name no such rows, the reply is the fault of the text, or `NotVerified`.
 abbrev pub IsBlind : Club → List ℕ → Request → Reply → Type 0
 IsBlind club text request reply =
-    basis_of club (decoded_words text request) ≡ None → reply ≢ unavailable → reply ≡ Refused (blind_refusal (decoded_pass text))
+    (words : Words) → AreWordsOf text request words → basis_of club words ≡ None
+    → reply ≢ unavailable → reply ≡ Refused (blind_refusal words.pass)
 
 -- Any other text that spells the same pass, in whatever form, gets the same reply.
 abbrev pub AnswersItsForms : Club → List ℕ → Request → ℕ → Reply → Type 0
 AnswersItsForms club text request moment reply =
-    (other : List ℕ) (form other_form : Form) (pass : Plain) → IsBytes other
-    → IsAnyReading text (Ok (form, pass)) → IsAnyReading other (Ok (other_form, pass))
-    → reply ≢ unavailable → reply ≡ reply_in club other request moment
+    (other : List ℕ) (words : Words) (form other_form : Form) (pass : Plain) → IsBytes other
+    → IsAnyReading text (Ok (form, pass)) → IsAnyReading other (Ok (other_form, pass)) → AreWordsOf other request words
+    → reply ≢ unavailable → reply ≡ (verdict_in club words moment).reply
 
 -- The narrow text spells the pass of the wide one with more caveats: it has the same identifier, and the wide one is signed for the key.
 pub record IsNarrowedText (club : Club) (wide narrow : List ℕ) (moment : ℕ) : Type 0 where
@@ -95,8 +84,8 @@ pub record IsNarrowedText (club : Club) (wide narrow : List ℕ) (moment : ℕ) 
 -- If a narrow text is served, each wide text that it narrows gets the same reply.
 abbrev pub OpensNoMore : Club → List ℕ → Request → ℕ → Reply → Type 0
 OpensNoMore club text request moment reply =
-    (wide : List ℕ) → IsBytes wide → IsNarrowedText club wide text moment
-    → IsServed reply → reply ≡ reply_in club wide request moment
+    (wide : List ℕ) (words : Words) → IsBytes wide → IsNarrowedText club wide text moment → AreWordsOf wide request words
+    → IsServed reply → reply ≡ (verdict_in club words moment).reply
 
 -- The law of the desk, for one reply.
 pub record IsLawful (club : Club) (text : List ℕ) (request : Request) (moment : ℕ) (reply : Reply) : Type 0 where
@@ -113,7 +102,7 @@ pub record IsLawful (club : Club) (text : List ℕ) (request : Request) (moment 
 
 -- The text isn't JSON, so it is read in place, without memory.
 abbrev pub IsReadInPlace : List ℕ → Type 0
-IsReadInPlace text = (bytes : List ℕ) → unwrapping text ≢ Ok (Json, bytes)
+IsReadInPlace text = (bytes : List ℕ) → ¬ IsUnwrapped text (Ok (Json, bytes))
 
 -- If such a text isn't a pass, its fault is always the reply: never `Unavailable`.
 abbrev pub RefusesByFormFault : List ℕ → Reply → Type 0
@@ -122,4 +111,4 @@ RefusesByFormFault text reply =
 
 -- The text is JSON, which needs memory to be parsed.
 abbrev pub IsJson : List ℕ → Type 0
-IsJson text = (bytes : List ℕ) × (unwrapping text ≡ Ok (Json, bytes))
+IsJson text = (bytes : List ℕ) × IsUnwrapped text (Ok (Json, bytes))

@@ -24,7 +24,8 @@ use Rattle.club_core.specs.KeyParts.{row_alone}
 use Rattle.club_core.specs.Store.{IsRead}
 use Rattle.club_core.specs.Verdict.{refusal_verdict}
 use Rattle.club_gate.specs.Identifier.{key_name_in}
-use Rattle.club_gate.specs.DecodedPass.{fault_of, machine_pass, decoded_or_fault}
+use Rattle.club_gate.specs.DecodedPass.{fault_of}
+use Rattle.club_gate.specs.computed.DecodedPass.{machine_pass, decoded_or_fault}
 
 -- true of the pass that has these fields, if it has at most 64 caveats
 abbrev pub OfItsPass : List PassField → (Plain → Type 0) → Type 0

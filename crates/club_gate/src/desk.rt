@@ -33,14 +33,15 @@ ghost use Rattle.club_gate.specs.Desk.{
   Settles,
   Steps,
 };
-ghost use Rattle.club_gate.specs.DecodedPass.{fault_of, decoded_words};
+ghost use Rattle.club_gate.specs.DecodedPass.{fault_of};
+ghost use Rattle.club_gate.specs.computed.DecodedPass.{decoded_words};
 ghost use Rattle.club_gate.specs.Served.{IsLawful, IsReadInPlace, RefusesByFormFault};
 ghost use Rattle.club_gate.specs.Response.{answer_or_fault, reply_or_unavailable};
 ghost use Rattle.club_gate.specs.Runs.{IsHandled};
 
 use crate::event::{Event, EventReply, OfficeReply};
 use crate::fault::Fault;
-use crate::laws::finds_names;
+use crate::laws::{decodes, finds_names};
 use club_core::{
     Change, ClubStore, Command, OfficeAnswer, OrderView, Refusal, Reply, SentWords, SlotUse,
     StoreFault, decide_order, sheet_text,
@@ -80,7 +81,7 @@ impl<S: ClubStore> Model for Desk<S> {
 }
 
 /// Each element of a `&[u8]` is a byte.
-fn are_bytes(text: &[u8])
+pub(crate) fn are_bytes(text: &[u8])
     ensures { IsBytes text.now }
 {
     let _text = text;
@@ -274,6 +275,7 @@ impl<S: ClubStore> Desk<S> {
         reads_any_form_exactly();
         decides_signed();
         finds_names();
+        decodes();
         are_bytes(words.pass);
         reads_what_is_understood();
         match self.reply_to(moment, words) {

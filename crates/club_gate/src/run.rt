@@ -3,19 +3,21 @@
 ghost use Rattle.std.specs.Prelude.{◌≡◌, All, List, IfOk, OnOk, OnErr};
 ghost use Rattle.club_core.specs.Club.{Club};
 ghost use Rattle.club_core.specs.Events.{IsEvent};
+ghost use Rattle.club_core.specs.Run as machine;
 ghost use Rattle.club_core.specs.Store.{Returns};
+ghost use Rattle.club_gate.specs.Events.{AreEventsOf, IsEventOfBytes};
 ghost use Rattle.club_gate.specs.Runs.{
   AreHandled,
   IsFollowed,
   IsLawfulRun,
   LeavesClub,
-  machine_events,
   responses_of,
 };
-ghost use Rattle.club_gate.specs.Response.{machine_event};
+ghost use Rattle.club_gate.specs.computed.DecodedPass.{machine_events, machine_event};
 
-use crate::desk::Desk;
+use crate::desk::{Desk, are_bytes};
 use crate::event::{Event, EventReply, OfficeReply};
+use crate::laws::sees_events;
 use club_core::ClubStore;
 use club_laws::conservation::sound_clubs_have_places;
 use club_laws::failed::leaves_out_failed;
@@ -27,10 +29,14 @@ use std::alloc::AllocError;
 
 /// The values of an event are within their limits, by their types.
 fn event_within(event: &Event)
-    ensures { IsEvent (machine_event event.now) }
+    ensures within { IsEvent (machine_event event.now) }
+    ensures bytes { IsEventOfBytes event.now }
 {
     match event {
-        Event::Asked { words, .. } => words.request.within(),
+        Event::Asked { words, .. } => {
+            are_bytes(words.pass);
+            words.request.within()
+        }
         Event::Ordered(command) => command.within(),
     }
 }
@@ -45,8 +51,8 @@ impl<S: ClubStore> Desk<S> {
         ensures was_clean { S.disk_is_clean self.new → S.disk_is_clean self.old }
         ensures err { OnErr result (self.new ≡ self.old) }
         ensures lawful { S.disk_is_clean self.new → Returns S.represents self.old result
-            (λ club replies. IsLawfulRun club (machine_events events.now)
-            (responses_of replies.items)) }
+            (λ club replies. (seen : List machine.Event) → AreEventsOf events.now seen
+            → IsLawfulRun club seen (responses_of replies.items)) }
         // Each event was answered by one step, or the store failed in it, as at `ask` and `office`.
         ensures handled { IfOk result (λ replies. AreHandled S.disk_is_clean S.represents S.fails
             self.old events.now replies.items self.new) }
@@ -56,9 +62,11 @@ impl<S: ClubStore> Desk<S> {
         // it, a repeat of what was served gets the same reply and changes nothing.
         ensures represents { S.disk_is_clean self.new → (club : Club) (others : List Club)
             → S.represents self.old club others
-            → IfOk result (λ replies. LeavesClub S.represents self.new club others
-            (machine_events events.now) (responses_of replies.items)) }
+            → IfOk result (λ replies. (seen : List machine.Event) → AreEventsOf events.now seen
+            → LeavesClub S.represents self.new club others seen
+            (responses_of replies.items)) }
     {
+        sees_events();
         leaves_out_failed::<OfficeReply>();
         keeps_sound::<OfficeReply>();
         solo_law::<OfficeReply>();
@@ -75,6 +83,7 @@ impl<S: ClubStore> Desk<S> {
         ensures was_clean { S.disk_is_clean self.new → S.disk_is_clean self.old }
         ensures err { OnErr result (self.new ≡ self.old) }
         ensures within { OnOk result (All IsEvent (machine_events events.now)) }
+        ensures bytes { OnOk result (All IsEventOfBytes events.now) }
         ensures handled { IfOk result (λ replies. AreHandled S.disk_is_clean S.represents S.fails
             self.old events.now replies.items self.new) }
         ensures followed { S.disk_is_clean self.new → (club : Club) (others : List Club)

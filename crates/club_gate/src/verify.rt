@@ -25,7 +25,7 @@ ghost use Rattle.club_core.specs.KeyParts.{row_alone};
 ghost use Rattle.club_core.specs.Store.{ReadsOrFails};
 ghost use Rattle.club_laws.specs.SingleRequest.{words_with};
 ghost use Rattle.club_gate.specs.Desk.{ReadsStore};
-ghost use Rattle.club_gate.specs.DecodedPass.{machine_pass, decoded_words};
+ghost use Rattle.club_gate.specs.computed.DecodedPass.{machine_pass, decoded_words};
 ghost use Rattle.club_gate.specs.Served.{IsJson, IsReadInPlace};
 ghost use Rattle.club_gate.specs.Verify.{
   OfItsPass,

@@ -10,7 +10,7 @@ use Rattle.club_core.specs.Club.{Club}
 use Rattle.club_core.specs.Run.{Asked}
 use Rattle.club_laws.specs.Failed.{ToMember}
 use Rattle.club_gate.specs.Desk.{FailsForCause, OfItsClub, Steps}
-use Rattle.club_gate.specs.DecodedPass.{decoded_words}
+use Rattle.club_gate.specs.computed.DecodedPass.{decoded_words}
 use Rattle.club_gate.specs.Served.{IsLawful, RefusesByFormFault}
 
 -- the store below the desk made the step that the rules give, as long as its disk was clean

@@ -2,7 +2,7 @@
 use Rattle.std.specs.Prelude.{◌≡◌, ℕ, List}
 use Rattle.club_core.specs.Club.{Club}
 use Rattle.club_core.specs.Run.{Asked}
-use Rattle.club_gate.specs.DecodedPass.{decoded_words}
+use Rattle.club_gate.specs.computed.DecodedPass.{decoded_words}
 use Rattle.club_gate.specs.Response.{desk_presentation}
 use Rattle.club_http.specs.Replied.{AnswerRelation}
 use Rattle.club_laws.specs.Failed.{IsStep, ToMember}

@@ -8,7 +8,8 @@ ghost use Rattle.club_core.specs.Club.{Club};
 ghost use Rattle.club_core.specs.Run as machine;
 ghost use Rattle.club_laws.specs.RunsWithFailures.{RepeatsServedReplies};
 ghost use Rattle.club_tables.specs.ReadsAndChanges.{sound_in};
-ghost use Rattle.club_gate.specs.Runs.{IsAnsweredRun, DeskResponse, machine_events, responses_of};
+ghost use Rattle.club_gate.specs.Events.{AreEventsOf};
+ghost use Rattle.club_gate.specs.Runs.{IsAnsweredRun, DeskResponse, responses_of};
 ghost use Rattle.desk_theorem.specs.Crash.{OpensAgain, SurvivesCrash};
 
 use club_core::StoreFault;
@@ -48,7 +49,8 @@ pub fn run_and_leave<D: Disk + Drop, E: Disk>(
     ensures answered { IfOk result (λ left. IsClean (file.view left.1)
         → (club : Club) (others : List Club)
         → sound_in over_files desk club others
-        → IsAnsweredRun club (machine_events events.now) (responses_of left.0.items)) }
+        → (seen : List machine.Event) → AreEventsOf events.now seen
+        → IsAnsweredRun club seen (responses_of left.0.items)) }
     // After any crash, a store that is opened by `open_file` or `adopt` holds the club of the
     // answered events; or that club after one event that failed since the last change; or, if the
     // run changed nothing, what a crash could leave before it. In the first, and in each of the
@@ -56,8 +58,8 @@ pub fn run_and_leave<D: Disk + Drop, E: Disk>(
     // changes nothing.
     ensures again { IfOk result (λ left. (club : Club) (others : List Club)
         → sound_in over_files desk club others
-        → OpensAgain E.Disk left.1 club others (machine_events events.now)
-        (responses_of left.0.items)) }
+        → (seen : List machine.Event) → AreEventsOf events.now seen
+        → OpensAgain E.Disk left.1 club others seen (responses_of left.0.items)) }
 {
     match desk.run(events) {
         Ok(replies) => {

@@ -1,8 +1,10 @@
 //! A desk over an empty database in memory. No clause has a premise on the desk or its tables.
 
-ghost use Rattle.std.specs.Prelude.{IfOk};
+ghost use Rattle.std.specs.Prelude.{IfOk, List};
 ghost use Rattle.club_core.specs.Club.{empty_club};
-ghost use Rattle.club_gate.specs.Runs.{IsLawfulRun, club_left, machine_events, responses_of};
+ghost use Rattle.club_core.specs.Run as machine;
+ghost use Rattle.club_gate.specs.Events.{AreEventsOf};
+ghost use Rattle.club_gate.specs.Runs.{IsLawfulRun, club_left, responses_of};
 ghost use Rattle.club_gate.specs.Served.{IsLawful, RefusesByFormFault};
 
 use club_core::{Reply, StoreFault};
@@ -18,8 +20,9 @@ use std::alloc::Global;
 ///
 /// Memory was refused, or storage, before the first event.
 pub fn run_from_nothing(alloc: Global, events: &[Event]) -> Result<Vec<EventReply>, StoreFault>
-    ensures lawful { IfOk result (λ replies. IsLawfulRun empty_club
-        (machine_events events.now) (responses_of replies.items)) }
+    ensures lawful { IfOk result (λ replies. (seen : List machine.Event)
+        → AreEventsOf events.now seen
+        → IsLawfulRun empty_club seen (responses_of replies.items)) }
 {
     empty_is_sound();
     let store = Store::open_in_memory(alloc)?;
@@ -49,11 +52,13 @@ pub fn reply_from_nothing(
     moment: Moment,
     words: &Words,
 ) -> Result<RunAndReply, StoreFault>
-    ensures run { IfOk result (λ returned. IsLawfulRun empty_club
-        (machine_events events.now) (responses_of returned.replies.items)) }
+    ensures run { IfOk result (λ returned. (seen : List machine.Event)
+        → AreEventsOf events.now seen
+        → IsLawfulRun empty_club seen (responses_of returned.replies.items)) }
     // The request is asked of the club that the answered events leave.
-    ensures lawful { IfOk result (λ returned. IsLawful
-        (club_left empty_club (machine_events events.now) (responses_of returned.replies.items))
+    ensures lawful { IfOk result (λ returned. (seen : List machine.Event)
+        → AreEventsOf events.now seen
+        → IsLawful (club_left empty_club seen (responses_of returned.replies.items))
         words.now.pass.now words.now.request moment returned.reply) }
     // Even without memory, a text that is no pass in V1 or V2 is refused for that.
     ensures in_place { IfOk result

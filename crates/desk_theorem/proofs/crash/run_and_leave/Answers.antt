@@ -13,7 +13,7 @@ use Rattle.club_core.specs.Run.{Event}
 use Rattle.club_laws.specs.RunsWithFailures.{RepeatsServedReplies}
 use Rattle.club_store.specs.Crash.{HoldsOneOf, RepresentsOne}
 use Rattle.club_tables.specs.Tables.{IsLeftOf, Represents}
-use Rattle.club_gate.specs.Runs.{IsWithinOneEvent, MayBeLeft, DeskResponse, club_left, machine_events, responses_of}
+use Rattle.club_gate.specs.Runs.{IsWithinOneEvent, MayBeLeft, DeskResponse, club_left, responses_of}
 use Rattle.desk_theorem.specs.Crash.{IsReopened, RecoversAfterRun}
 use Rattle.desk_theorem.proofs.crash.run_and_leave.Goals as goal
 
@@ -49,17 +49,16 @@ reopened_as_one left opened (inr adopts) clubs holds =
     })
 
 pub returns-in-Ok-clause-answered : goal.returns-in-Ok-clause-answered
-returns-in-Ok-clause-answered g c = λ clean club others represents.
+returns-in-Ok-clause-answered g c = λ clean club others represents seen are.
     let was_clean = subst (λ held. HasCleanDisk (file_state held)) c.into_store.ensures (c.into_store-store.ensures.was_clean clean) in
-    (c.in-Ok.ensures.lawful was_clean club others represents).run
+    (c.in-Ok.ensures.lawful was_clean club others represents seen are).run
 
 pub returns-in-Ok-clause-again : goal.returns-in-Ok-clause-again
-returns-in-Ok-clause-again g c = λ club others represents left opened by reopened.
-    let events = machine_events c.args.events.now in
+returns-in-Ok-clause-again g c = λ club others represents events are left opened by reopened.
     let returned = responses_of c.in-Ok.replies.items in
     let last = club_left club events returned in
     let was_clean = subst (λ held. HasCleanDisk (file_state held)) c.into_store.ensures (c.into_store-store.ensures.was_clean by.0) in
-    let ran = c.in-Ok.ensures.represents was_clean club others represents in
+    let ran = c.in-Ok.ensures.represents was_clean club others represents events are in
     let kept = subst (λ held. Represents (file_state held) last ran.left) (sym c.into_store.ensures) ran.represents.1 in
     let clubs = last ∷ ran.left in
     let each = All-cons (IsOf club others events returned) last ran.left (inl refl)

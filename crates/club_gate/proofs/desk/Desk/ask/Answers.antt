@@ -1,5 +1,5 @@
 use Rattle.std.proofs.Common.{Err, inl, refl}
-use Rattle.club_gate.specs.DecodedPass.{decoded_words}
+use Rattle.club_gate.specs.computed.DecodedPass.{decoded_words}
 use Rattle.club_gate.specs.Response.{unavailable}
 use Rattle.club_gate.proofs.DeskLaws.{reply_or_failure, lawful}
 use Rattle.club_gate.proofs.desk.Desk.ask.Goals as goal
@@ -12,14 +12,14 @@ returns-in-Ok-clause-lawful g c = λ was_clean club others represents.
     (c.in-Ok.ensures.steps was_clean club others represents) in
     lawful c.serves_only_the_entitled.ensures c.depends_on_the_basis_alone.ensures c.refuses_without_a_basis.ensures
     c.more_caveats_never_open_more.ensures c.reads_any_form_exactly.ensures c.decides_signed.ensures c.finds_names.ensures
-    c.reads_what_is_understood.ensures
+    c.reads_what_is_understood.ensures c.decodes.ensures
     club text request c.args.moment c.in-Ok.reply c.are_bytes.ensures returned
 
 pub returns-in-Err-clause-lawful : goal.returns-in-Err-clause-lawful
 returns-in-Err-clause-lawful g c = λ was_clean club others represents.
     lawful c.serves_only_the_entitled.ensures c.depends_on_the_basis_alone.ensures c.refuses_without_a_basis.ensures
     c.more_caveats_never_open_more.ensures c.reads_any_form_exactly.ensures c.decides_signed.ensures c.finds_names.ensures
-    c.reads_what_is_understood.ensures
+    c.reads_what_is_understood.ensures c.decodes.ensures
     club c.args.words.now.pass.now c.args.words.now.request c.args.moment unavailable c.are_bytes.ensures (inl refl)
 
 pub returns-in-Ok-clause-untouched : goal.returns-in-Ok-clause-untouched

@@ -3,9 +3,9 @@ use Rattle.std.proofs.lemmas.Grind.{common_steps}
 use Rattle.std.proofs.lemmas.List.Elements.{All-nil, All-cons, All-append}
 use Rattle.club_core.specs.Events.{IsEvent}
 use Rattle.club_gate.specs.Runs.AreHandled.{no_event}
-use Rattle.club_gate.specs.Runs.{machine_events}
-use Rattle.club_gate.specs.Response.{machine_event}
-use Rattle.club_gate.proofs.FollowedEvents.{one_more, handled_one, followed_none, followed_one}
+use Rattle.club_gate.specs.Events.{IsEventOfBytes}
+use Rattle.club_gate.specs.computed.DecodedPass.{machine_events, machine_event}
+use Rattle.club_gate.proofs.FollowedEvents.{one_more, one_more_item, handled_one, followed_none, followed_one}
 use Rattle.club_gate.proofs.desk.Desk.follow.Goals as goal
 
 pub loop-event-init : goal.loop-event-init
@@ -15,6 +15,7 @@ loop-event-init g c = record {
   count = c.in_ok-replies.ensures.len;
   each = ap length c.in_ok-replies.ensures.items;
   within = All-nil IsEvent;
+  bytes = All-nil IsEventOfBytes;
   handled = rw c.in_ok-replies.ensures.items no_event;
   followed = λ _ club others s. rw c.in_ok-replies.ensures.items (followed_none g.S.ClubStore.represents c.args.self.now club others s);
 }
@@ -31,7 +32,10 @@ loop-event-preserved g c =
           rw next
           (All-append IsEvent (machine_events (take c.loop-event.event-index c.args.events.now)) (machine_event c.event-item.result ∷ [])
           c.loop-event.invariant.within
-          (All-cons IsEvent (machine_event c.event-item.result) [] c.event_within.ensures (All-nil IsEvent)));
+          (All-cons IsEvent (machine_event c.event-item.result) [] c.event_within.ensures.within (All-nil IsEvent)));
+      bytes =
+          one_more_item IsEventOfBytes c.args.events.now c.loop-event.event-index c.event-item.result c.loop-event-test.true c.event-item.is
+          c.loop-event.invariant.bytes c.event_within.ensures.bytes;
       handled =
           handled_one g.S.ClubStore.disk_is_clean g.S.ClubStore.represents g.S.ClubStore.fails c.args.self.now c.loop-event.self c.event.new.self
           c.args.events.now c.loop-event.event-index c.event-item.result c.loop-event.replies.items c.push.new.self.items c.event.result

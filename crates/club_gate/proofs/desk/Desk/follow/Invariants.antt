@@ -1,7 +1,9 @@
 use Rattle.std.proofs.Common.{◌≡◌, All, List, ◌≤◌, length, take, vec_capacity, vec_len}
 use Rattle.club_core.specs.Club.{Club}
 use Rattle.club_core.specs.Events.{IsEvent}
-use Rattle.club_gate.specs.Runs.{AreHandled, IsFollowed, machine_events, responses_of}
+use Rattle.club_gate.specs.Runs.{AreHandled, IsFollowed, responses_of}
+use Rattle.club_gate.specs.Events.{IsEventOfBytes}
+use Rattle.club_gate.specs.computed.DecodedPass.{machine_events}
 use Rattle.club_gate.proofs.desk.Desk.follow.Given as goal
 
 abbrev pub invariant-loop-event : goal.invariant-loop-event
@@ -11,6 +13,7 @@ invariant-loop-event g l = record {
   count : vec_len l.replies ≡ l.event-index;
   each : length l.replies.items ≡ l.event-index;
   within : All IsEvent (machine_events (take l.event-index l.events));
+  bytes : All IsEventOfBytes (take l.event-index l.events);
   handled :
       AreHandled g.S.ClubStore.disk_is_clean g.S.ClubStore.represents g.S.ClubStore.fails l.fn.self (take l.event-index l.events) l.replies.items l.self;
   followed :

@@ -1,7 +1,7 @@
 use Rattle.std.proofs.Common.{inl, inr, ◌∙◌}
 use Rattle.std.proofs.lemmas.List.Elements.{All-head}
 use Rattle.club_core.specs.Club.{IsSound}
-use Rattle.club_gate.specs.DecodedPass.{decoded_words}
+use Rattle.club_gate.specs.computed.DecodedPass.{decoded_words}
 use Rattle.club_gate.proofs.Stepping.{always_decided, ask_done, ask_failed, ask_fits, changed_fault}
 use Rattle.club_gate.proofs.desk.Desk.reply_to.Goals as goal
 

@@ -1,8 +1,9 @@
 use Rattle.std.proofs.lemmas.List.Elements.{All-head}
 use Rattle.club_core.specs.Club.{IsSound}
-use Rattle.club_gate.specs.Runs.{IsLawfulRun, LeavesClub, machine_events, responses_of}
+use Rattle.club_gate.specs.Runs.{IsLawfulRun, LeavesClub, responses_of}
+use Rattle.club_gate.specs.computed.DecodedPass.{machine_events}
 use Rattle.club_gate.proofs.FollowedRuns.{answered_by, leaves_club, solo_by, as_in_another, once_by, conserved_by, never_negative_by, never_overbooked_by}
-use Rattle.club_gate.proofs.FollowedRuns.{for_responses}
+use Rattle.club_gate.proofs.FollowedRuns.{for_seen}
 use Rattle.club_gate.proofs.desk.Desk.run.Goals as goal
 
 pub returns-clause-lawful : goal.returns-clause-lawful
@@ -12,8 +13,8 @@ returns-clause-lawful g c = λ h club others s.
     let events = machine_events c.args.events.now in
     let leaves_out = c.leaves_out_failed.ensures in
     let sound = All-head IsSound club others (g.met.S.ClubStore.sound c.args.self.now club others s) in
-    for_responses Represents new club others events c.follow.result (λ replies. responses_of replies.items) (IsLawfulRun club events)
-    c.follow.ensures.within
+    for_seen Represents new club others c.args.events.now c.follow.result (λ replies. responses_of replies.items) (IsLawfulRun club)
+    c.sees_events.ensures c.follow.ensures.bytes c.follow.ensures.within
     (c.follow.ensures.followed h club others s)
     (λ responses within f. record {
       run = answered_by Represents new club others events responses leaves_out f;
@@ -31,7 +32,7 @@ returns-clause-represents g c = λ h club others s.
     let Represents = g.S.ClubStore.represents in
     let new = c.follow.new.self in
     let events = machine_events c.args.events.now in
-    for_responses Represents new club others events c.follow.result (λ replies. responses_of replies.items) (LeavesClub Represents new club others events)
-    c.follow.ensures.within
+    for_seen Represents new club others c.args.events.now c.follow.result (λ replies. responses_of replies.items) (LeavesClub Represents new club others)
+    c.sees_events.ensures c.follow.ensures.bytes c.follow.ensures.within
     (c.follow.ensures.followed h club others s)
     (λ responses within f. leaves_club Represents new club others events responses c.leaves_out_failed.ensures f c.repeats_after_one_more.ensures)

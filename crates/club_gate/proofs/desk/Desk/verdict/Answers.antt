@@ -1,6 +1,6 @@
 use Rattle.std.proofs.Common.{sym}
 use Rattle.pass_json.specs.computed.AnyForm.{reading_in_form}
-use Rattle.club_gate.proofs.Verifying.{verdict_by_text, read_wrapped, fault_in, other_form}
+use Rattle.club_gate.proofs.Verifying.{verdict_by_text, read_wrapped, fault_in, lacks_memory, other_form, unwraps_to}
 use Rattle.club_gate.proofs.desk.Desk.verdict.Goals as goal
 
 pub returns-in-Ok-clause-reads : goal.returns-in-Ok-clause-reads
@@ -28,5 +28,12 @@ returns-in-Ok-clause-refused g c = λ fault e.
     record {
       same_store = refused.same_store;
       no_change = refused.no_change;
-      in_place = λ in_place. refused.in_place (other_form text form _ (sym c.in-Ok.ensures.value) in_place);
+      in_place = λ in_place.
+          refused.in_place (other_form text form _ (sym c.in-Ok.ensures.value) (unwraps_to text _ c.in-Ok.ensures.value c.in-Ok.ensures.reading) in_place);
     }
+
+pub returns-in-Ok-clause-failed : goal.returns-in-Ok-clause-failed
+returns-in-Ok-clause-failed g c = λ was_clean.
+    let text = c.args.words.now.pass.now in
+    lacks_memory g.S.ClubStore.fails text c.in-Ok.unwrapped.form _ c.args.self.now c.verdict_on.new.self c.verdict_on.result (sym c.in-Ok.ensures.value)
+    (unwraps_to text _ c.in-Ok.ensures.value c.in-Ok.ensures.reading) (c.verdict_on.ensures.failed was_clean)

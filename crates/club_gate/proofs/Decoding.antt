@@ -1,0 +1,160 @@
+-- What a text decodes to, and as which event the machine sees an event at the desk.
+use Rattle.std.proofs.Common.{◌≡◌, ◌↔◌, ℕ, Bool, true, false, IsTrue, List, [], ◌∷◌, map, Option, Some, None, Result, Ok, Err, All, refl, sym, ap, ◌∙◌, subst}
+use Rattle.std.specs.List.{AllZip}
+use Rattle.std.proofs.Math.Path.{fun_ext}
+use Rattle.std.proofs.lemmas.List.Elements.{All-head, All-tail}
+use Rattle.base64.specs.GeneralPurpose.{IsBytes}
+use Rattle.pass_caveats.specs.declared.caveat.Caveat.{Caveat}
+use Rattle.pass_caveats.specs.Caveat.{Understood}
+use Rattle.pass_caveats.specs.computed.CaveatOf.{caveat_of}
+use Rattle.pass_caveats.specs.Laws.{ReadsWhatIsUnderstood}
+use Rattle.pass_forms.specs.declared.fault.FormFault.{FormFault}
+use Rattle.pass_forms.specs.declared.form.Form.{Form}
+use Rattle.pass_forms.specs.Pass.{Plain, IsSigned}
+use Rattle.pass_forms.specs.Laws.{DecidesSigned}
+use Rattle.pass_forms.specs.computed.Pass.{is_signed}
+use Rattle.pass_json.specs.AnyForm.{IsAnyReading}
+use Rattle.pass_json.specs.Laws.{ReadsAnyFormExactly}
+use Rattle.pass_json.specs.computed.AnyForm.{reading}
+use Rattle.club_values.specs.Name.{IsName}
+use Rattle.club_core.specs.declared.pass_fault.PassFault.{PassFault}
+use Rattle.club_core.specs.declared.request.Request.{Request}
+use Rattle.club_core.specs.Pass.{Pass, Words}
+use Rattle.club_core.specs.Run as machine
+use Rattle.club_gate.specs.declared.event.Event.{Event}
+use Rattle.club_gate.specs.declared.event.Event.TheVariants as events
+use Rattle.club_gate.specs.DecodedPass.{AreWordsOf, IsDecoded, IsSeenAs}
+use Rattle.club_gate.specs.Events.{AreEventsOf, IsEventOfBytes, IsEventOf}
+use Rattle.club_gate.specs.Identifier.{FindsNames, key_name_in}
+use Rattle.club_gate.specs.Laws.{Decodes, SeenAlike, SeesEvents}
+use Rattle.club_gate.specs.Minted.{identifier_of}
+use Rattle.club_gate.specs.computed.DecodedPass.{decoded_or_fault, decoded_pass, decoded_words, machine_event, machine_events, machine_pass, without_form}
+
+-- two options with a value in the same cases are the same
+same_found : {A : Type 0} (a b : Option A) (P : A → Type 0) → ((x : A) → (a ≡ Some x) ↔ P x) → ((x : A) → (b ≡ Some x) ↔ P x) → a ≡ b
+same_found None None P h k = refl
+same_found None (Some x) P h k = (h x).1 ((k x).0 refl)
+same_found (Some x) b P h k = sym ((k x).1 ((h x).0 refl))
+
+-- ---- a caveat, and a list of them
+
+abbrev IsSeenCaveat : List ℕ → Option Caveat → Type 0
+IsSeenCaveat text one = (caveat : Caveat) → (one ≡ Some caveat) ↔ Understood text caveat
+
+seen_caveat : ReadsWhatIsUnderstood → (text : List ℕ) → IsSeenCaveat text (caveat_of text)
+seen_caveat reads text = λ caveat. ((reads text caveat).1, (reads text caveat).0)
+
+seen_caveats : ReadsWhatIsUnderstood → (texts : List (List ℕ)) → AllZip IsSeenCaveat texts (map caveat_of texts)
+seen_caveats reads [] = tt
+seen_caveats reads (text ∷ texts) = (seen_caveat reads text, seen_caveats reads texts)
+
+same_caveats : ReadsWhatIsUnderstood → (texts : List (List ℕ)) (seen : List (Option Caveat)) → AllZip IsSeenCaveat texts seen
+    → map caveat_of texts ≡ seen
+same_caveats reads [] [] h = refl
+same_caveats reads [] (one ∷ seen) h = absurd h
+same_caveats reads (text ∷ texts) [] h = absurd h
+same_caveats reads (text ∷ texts) (one ∷ seen) h =
+    ap (λ (c : Option Caveat). c ∷ map caveat_of texts) (same_found (caveat_of text) one (Understood text) (seen_caveat reads text) h.0)
+    ∙ ap (λ (cs : List (Option Caveat)). one ∷ cs) (same_caveats reads texts seen h.1)
+
+-- ---- a pass
+
+same_test : (a b : Bool) (P : Type 0) → IsTrue a ↔ P → IsTrue b ↔ P → a ≡ b
+same_test true b P h k = sym (k.1 (h.0 refl))
+same_test false true P h k = h.1 (k.0 refl)
+same_test false false P h k = refl
+
+module _ (finds : FindsNames) (understood : ReadsWhatIsUnderstood) (signed : DecidesSigned) where
+  pub machine_seen : (pass : Plain) → IsSeenAs pass (machine_pass pass)
+  machine_seen pass = record {
+    names = finds pass.identifier;
+    understood = seen_caveats understood pass.caveats;
+    signed = λ root. ((signed root pass).1, (signed root pass).0);
+  }
+
+  machine_alike : (pass : Plain) (seen : Pass) → IsSeenAs pass seen → machine_pass pass ≡ seen
+  machine_alike pass seen h =
+      let made : Option (List ℕ) → List (Option Caveat) → (List ℕ → Bool) → Pass =
+      λ key caveats is_signed. record { key = key; caveats = caveats; is_signed = is_signed }
+      in
+      let machine = machine_seen pass in
+      let roots : (λ (root : List ℕ). is_signed root pass) ≡ seen.is_signed =
+      fun_ext (λ (root : List ℕ). same_test (is_signed root pass) (seen.is_signed root) (IsSigned root pass) (machine.signed root) (h.signed root))
+      in
+      ap (λ (key : Option (List ℕ)). made key (map caveat_of pass.caveats) (λ (root : List ℕ). is_signed root pass))
+      (same_found (key_name_in pass.identifier) seen.key (λ (name : List ℕ). IsName name × (pass.identifier ≡ identifier_of name)) machine.names h.names)
+      ∙ (ap (λ (caveats : List (Option Caveat)). made seen.key caveats (λ (root : List ℕ). is_signed root pass))
+      (same_caveats understood pass.caveats seen.caveats h.understood)
+      ∙ ap (λ (signs : List ℕ → Bool). made seen.key seen.caveats signs) roots)
+
+  pub seen_alike : SeenAlike
+  seen_alike pass seen = (machine_alike pass seen, λ e. subst (λ (p : Pass). IsSeenAs pass p) e (machine_seen pass))
+
+-- ---- a text
+
+-- the decoded pass of a text, by its reading
+pub decodes_as : ReadsAnyFormExactly → (text : List ℕ) (form : Form) (pass : Plain) → IsBytes text → IsAnyReading text (Ok (form, pass))
+    → decoded_pass text ≡ Ok (machine_pass pass)
+decodes_as reads text form pass bytes h =
+    ap (λ (r : Result (Form × Plain) FormFault). decoded_or_fault (without_form r)) ((reads text (Ok (form, pass)) bytes).0 h)
+
+decoded_is : ReadsAnyFormExactly → SeenAlike → (text : List ℕ) (seen : Result Pass PassFault) → IsBytes text → IsDecoded text seen
+    → decoded_pass text ≡ seen
+decoded_is reads alike text (Ok seen) bytes h =
+    decodes_as reads text h.0 h.1 bytes h.2 ∙ ap (λ (p : Pass). let read : Result Pass PassFault = Ok p in read) ((alike h.1 seen).0 h.3)
+decoded_is reads alike text (Err fault) bytes h =
+    ap (λ (r : Result (Form × Plain) FormFault). decoded_or_fault (without_form r)) ((reads text (Err h.0) bytes).0 h.1)
+    ∙ ap (λ (f : PassFault). let read : Result Pass PassFault = Err f in read) (sym h.2)
+
+decoded_by : ReadsAnyFormExactly → SeenAlike → (text : List ℕ) (read : Result (Form × Plain) FormFault) → IsBytes text → reading text ≡ read
+    → IsDecoded text (decoded_or_fault (without_form read))
+decoded_by reads alike text (Ok found) bytes e =
+    (found.0, found.1, (reads text (Ok found) bytes).1 e, (alike found.1 (machine_pass found.1)).1 refl)
+decoded_by reads alike text (Err reason) bytes e = (reason, (reads text (Err reason) bytes).1 e, refl)
+
+pub decodes : ReadsAnyFormExactly → SeenAlike → Decodes
+decodes reads alike text seen bytes = (
+  decoded_is reads alike text seen bytes,
+  λ e. subst (λ (r : Result Pass PassFault). IsDecoded text r) e (decoded_by reads alike text (reading text) bytes refl),
+)
+
+pub words_are : Decodes → (text : List ℕ) (request : Request) (words : Words) → IsBytes text → AreWordsOf text request words
+    → decoded_words text request ≡ words
+words_are law text request words bytes are =
+    let made : Result Pass PassFault → Request → Words = λ pass asked. record { pass = pass; request = asked } in
+    ap (λ (pass : Result Pass PassFault). made pass request) ((law text words.pass bytes).0 are.0)
+    ∙ ap (λ (asked : Request). made words.pass asked) (sym are.1)
+
+pub decoded_text : Decodes → (text : List ℕ) → IsBytes text → IsDecoded text (decoded_pass text)
+decoded_text law text bytes = (law text (decoded_pass text) bytes).1 refl
+
+-- ---- events
+
+event_is : Decodes → (event : Event) (seen : machine.Event) → IsEventOfBytes event → IsEventOf event seen → machine_event event ≡ seen
+event_is law (events.Asked words moment) seen bytes h =
+    ap (λ (w : Words). machine.Asked w moment) (words_are law words.pass.now words.request h.0 bytes h.1) ∙ sym h.2
+event_is law (events.Ordered command) seen bytes h = sym h
+
+event_by : Decodes → (event : Event) → IsEventOfBytes event → IsEventOf event (machine_event event)
+event_by law (events.Asked words moment) bytes =
+    (decoded_words words.pass.now words.request, (decoded_text law words.pass.now bytes, refl), refl)
+event_by law (events.Ordered command) bytes = refl
+
+events_are : Decodes → (all : List Event) (seen : List machine.Event) → All IsEventOfBytes all → AreEventsOf all seen → machine_events all ≡ seen
+events_are law [] [] bytes h = refl
+events_are law [] (one ∷ seen) bytes h = absurd h
+events_are law (event ∷ all) [] bytes h = absurd h
+events_are law (event ∷ all) (one ∷ seen) bytes h =
+    ap (λ (e : machine.Event). e ∷ machine_events all) (event_is law event one (All-head IsEventOfBytes event all bytes) h.0)
+    ∙ ap (λ (es : List machine.Event). one ∷ es) (events_are law all seen (All-tail IsEventOfBytes event all bytes) h.1)
+
+events_by : Decodes → (all : List Event) → All IsEventOfBytes all → AreEventsOf all (machine_events all)
+events_by law [] bytes = tt
+events_by law (event ∷ all) bytes =
+    (event_by law event (All-head IsEventOfBytes event all bytes), events_by law all (All-tail IsEventOfBytes event all bytes))
+
+pub sees_events : Decodes → SeesEvents
+sees_events law all seen bytes = (
+  events_are law all seen bytes,
+  λ e. subst (λ (es : List machine.Event). AreEventsOf all es) e (events_by law all bytes),
+)

@@ -1,0 +1,24 @@
+-- Events at the desk, as the machine sees them (ours).
+use Rattle.std.specs.Prelude.{◌≡◌, List}
+use Rattle.std.specs.List.{AllZip}
+use Rattle.base64.specs.GeneralPurpose.{IsBytes}
+use Rattle.club_core.specs.Pass.{Words}
+use Rattle.club_core.specs.Run as machine
+use Rattle.club_gate.specs.declared.event.Event.{Event}
+use Rattle.club_gate.specs.declared.event.Event.TheVariants as events
+use Rattle.club_gate.specs.DecodedPass.{AreWordsOf}
+
+-- an event, as the machine sees it: a request with the words of its text, or the command
+abbrev pub IsEventOf : Event → machine.Event → Type 0
+IsEventOf (events.Asked words moment) seen =
+    (decoded : Words) × AreWordsOf words.pass.now words.request decoded × (seen ≡ machine.Asked decoded moment)
+IsEventOf (events.Ordered command) seen = seen ≡ machine.Ordered command
+
+-- one after the other
+abbrev pub AreEventsOf : List Event → List machine.Event → Type 0
+AreEventsOf events seen = AllZip IsEventOf events seen
+
+-- the text of a request is made of bytes
+abbrev pub IsEventOfBytes : Event → Type 0
+IsEventOfBytes (events.Asked words moment) = IsBytes words.pass.now
+IsEventOfBytes (events.Ordered command) = Unit {0}

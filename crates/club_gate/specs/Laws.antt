@@ -1,0 +1,44 @@
+-- Laws of the definitions.
+use Rattle.std.specs.Prelude.{◌≡◌, ◌≢◌, ◌↔◌, ℕ, List, All, Result, Ok, Err, Some}
+use Rattle.base64.specs.GeneralPurpose.{IsBytes}
+use Rattle.pass_forms.specs.declared.fault.FormFault.TheVariants.{Memory}
+use Rattle.pass_forms.specs.declared.form.Form.{Form}
+use Rattle.pass_forms.specs.Pass.{Plain}
+use Rattle.pass_json.specs.AnyForm.{IsAnyReading}
+use Rattle.pass_json.specs.computed.AnyForm.{reading}
+use Rattle.club_values.specs.Name.{IsName}
+use Rattle.club_rows.specs.declared.key.Key.{Key}
+use Rattle.club_core.specs.declared.pass_fault.PassFault.{PassFault}
+use Rattle.club_core.specs.Basis.{basis_of, basis_under}
+use Rattle.club_core.specs.Club.{Club, key_named}
+use Rattle.club_core.specs.Pass.{Pass, Words}
+use Rattle.club_core.specs.Run as machine
+use Rattle.club_gate.specs.declared.event.Event.{Event}
+use Rattle.club_gate.specs.Minted.{identifier_of}
+use Rattle.club_gate.specs.DecodedPass.{IsDecoded, IsSeenAs}
+use Rattle.club_gate.specs.Events.{AreEventsOf, IsEventOfBytes}
+use Rattle.club_gate.specs.computed.DecodedPass.{decoded_pass, machine_events, machine_pass}
+
+-- `machine_pass` is the one pass as which the rules see a pass
+abbrev pub SeenAlike : Type 0
+SeenAlike = (pass : Plain) (seen : Pass) → IsSeenAs pass seen ↔ (machine_pass pass ≡ seen)
+
+-- `decoded_pass` is the one value to which a text decodes
+abbrev pub Decodes : Type 0
+Decodes = (text : List ℕ) (seen : Result Pass PassFault) → IsBytes text → IsDecoded text seen ↔ (decoded_pass text ≡ seen)
+
+-- `machine_events` are the one list of events as which the machine sees events at the desk
+abbrev pub SeesEvents : Type 0
+SeesEvents = (events : List Event) (seen : List machine.Event) → All IsEventOfBytes events → AreEventsOf events seen ↔ (machine_events events ≡ seen)
+
+-- The rows that the words of a text name are those that the club has for the key whose identifier its pass has.
+abbrev pub NamesItsRows : Type 0
+NamesItsRows =
+    (club : Club) (text : List ℕ) (words : Words) (form : Form) (pass : Plain) (key : Key)
+    → IsBytes text → IsDecoded text words.pass → IsAnyReading text (Ok (form, pass))
+    → IsName key.name → pass.identifier ≡ identifier_of key.name → key_named key.name club ≡ Some key
+    → basis_of club words ≡ basis_under club words.request key
+
+-- no text reads as `Memory`
+abbrev pub ReadsNoLackOfMemory : Type 0
+ReadsNoLackOfMemory = (text : List ℕ) → IsBytes text → reading text ≢ Err Memory

@@ -1,0 +1,50 @@
+-- A text, decoded for the rules of the club, and an event at the desk as the machine sees it, computed.
+use Rattle.std.specs.Prelude.{ℕ, List, map, Result, Ok, Err}
+use Rattle.pass_caveats.specs.computed.CaveatOf.{caveat_of}
+use Rattle.pass_forms.specs.declared.fault.FormFault.{FormFault}
+use Rattle.pass_forms.specs.declared.form.Form.{Form}
+use Rattle.pass_forms.specs.Pass.{Plain}
+use Rattle.pass_forms.specs.computed.Pass.{is_signed}
+use Rattle.pass_json.specs.computed.AnyForm.{reading}
+use Rattle.club_core.specs.declared.pass_fault.PassFault.{PassFault}
+use Rattle.club_core.specs.declared.request.Request.{Request}
+use Rattle.club_core.specs.Pass.{Pass, Words}
+use Rattle.club_core.specs.Run as machine
+use Rattle.club_gate.specs.declared.event.Event.{Event}
+use Rattle.club_gate.specs.declared.event.Event.TheVariants as events
+use Rattle.club_gate.specs.DecodedPass.{fault_of}
+use Rattle.club_gate.specs.Identifier.{key_name_in}
+
+-- a pass as the rules see it: the key that it names, its caveats as they are understood, and the roots under which it is signed
+abbrev pub machine_pass : Plain → Pass
+machine_pass pass = record {
+  key = key_name_in pass.identifier;
+  caveats = map caveat_of pass.caveats;
+  is_signed = λ root. is_signed root pass;
+}
+
+-- a parsed pass as the rules see it, or the fault of the text
+abbrev pub decoded_or_fault : Result Plain FormFault → Result Pass PassFault
+decoded_or_fault (Ok pass) = Ok (machine_pass pass)
+decoded_or_fault (Err fault) = Err (fault_of fault)
+
+abbrev pub without_form : Result (Form × Plain) FormFault → Result Plain FormFault
+without_form (Ok read) = Ok read.1
+without_form (Err fault) = Err fault
+
+-- the pass that a text spells, or the fault of the text
+abbrev pub decoded_pass : List ℕ → Result Pass PassFault
+decoded_pass text = decoded_or_fault (without_form (reading text))
+
+-- the words of a request with this text
+abbrev pub decoded_words : List ℕ → Request → Words
+decoded_words text request = record { pass = decoded_pass text; request = request }
+
+-- an event at the desk, as the machine sees it
+abbrev pub machine_event : Event → machine.Event
+machine_event (events.Asked words moment) = machine.Asked (decoded_words words.pass.now words.request) moment
+machine_event (events.Ordered command) = machine.Ordered command
+
+-- the events of the machine that events at the desk are
+abbrev pub machine_events : List Event → List machine.Event
+machine_events events = map machine_event events
