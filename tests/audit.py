@@ -1,7 +1,7 @@
 #!/usr/bin/env python3
-"""docs/AUDIT.md, what has to be believed of each promise, is what the sources say; the vectors hold of the rules in Python
-(`tests/reference`) by which it marks what they show; and each step of a path through the definitions in docs/TOUR.md is cited by the
-one before it. Writes that page, unless it is asked to check.
+"""docs/AUDIT.md, what has to be believed of each promise, is what the sources say, and none of it is a computing definition of
+`specs/computed/`; the vectors hold of the rules in Python (`tests/reference`) by which it marks what they show; and each step of a path
+through the definitions in docs/TOUR.md is cited by the one before it. Writes that page, unless it is asked to check.
 
 It reads the promises of docs/PROMISES.md, the clauses that carry them, and the definitions below these, by tests/definitions.py.
 
@@ -10,7 +10,7 @@ It reads the promises of docs/PROMISES.md, the clauses that carry them, and the 
     tests/audit.py --strict         the same, and fails where a promise reaches a name of specs/computed/
     tests/audit.py --below NAME     what there is to read below one definition, in reading order
 """
-# groups: quick: --check
+# groups: quick: --strict
 
 import argparse
 import difflib

@@ -16,7 +16,8 @@ Holds README.md, CONTRIBUTING.md, docs/, and the README.md of each crate against
 - docs/TOUR.md gives each answer as a path of three to six steps, each a file with a name that it defines.
 - No command writes a pass into a file but under a temporary name (`> pass.new && mv pass.new pass`): the shell empties the file before
   the command is refused.
-- docs/AUDIT.md is what tests/audit.py makes, and each step of the tour's paths through definitions is cited by the one before it.
+- docs/AUDIT.md is what tests/audit.py makes, no promise reaches a definition of specs/computed/, and each step of the tour's paths through
+  definitions is cited by the one before it.
 - What README tries unproved by `rt try` prints `signed`, and ends in proved=no.
 - The logic that README.md and docs/TRUST.md name by its sum is this toolchain's.
 Programs are proved and built by bin/proved where they have to be. Not part of the gate.
@@ -283,7 +284,7 @@ def test_tour():
 
 def test_audit_is_made_of_the_sources():
     """docs/AUDIT.md, and the tour's paths through definitions."""
-    subprocess.run(["tests/audit.py", "--check"], check=True, stdout=subprocess.DEVNULL)
+    subprocess.run(["tests/audit.py", "--strict"], check=True, stdout=subprocess.DEVNULL)
 
 
 def test_table_of_scripts():

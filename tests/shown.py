@@ -93,11 +93,11 @@ WRITTEN = {
     "wire.body_of": "http_request.Frame: AsksForBody IsFramed; http_request.Limits: max_body_len; "
                     "http_request.Length: body_length length_in declared_length where_allowed unless_coded asked_length",
     "wire.guests_in": "http_request.Body: only_named has_only_name whole_number few_guests guests_of_value json_value_of guests_in",
-    "wire.slot_request": "http_request.Parts: with_front segments within_limits number_of_text slot_of_parts; "
-                         "http_request.Path: at_slot under_slots account_at under_root place_of; "
+    "wire.slot_request": "http_request.Parts: with_front segments; "
+                         "http_request.Path: slot_parts place_parts HasRealValues IsPlace IsPlaceOf; "
                          "club_values.Number: max_digits are_few_digits number_of_digits",
     "wire.decoded": "http_request.Pass: bearer_text only_text pass_text_of; "
-                    "http_request.Words: DecodedRequest guests_by_method request_at decoded_request decoded_by_head IsRequestReading",
+                    "http_request.Words: DecodedRequest guests_by_method request_at decoded_request IsRequestReading",
     "wire.compact": "http_response.Body: Value truth_text value_text Member name_text member_text object_text",
     "wire.reply_bytes": "http_response.Body: booking_member caveat_member members_of body_text; "
                         "http_response.Text: phrase_of status_of status_line challenge_field allow_field head_text reply_text; "

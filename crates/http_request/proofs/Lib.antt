@@ -11,3 +11,4 @@ mod BodyLemmas
 mod LengthLemmas
 pub mod Walks
 pub mod RouteLemmas
+mod PlaceLemmas

@@ -3,7 +3,7 @@ use Rattle.std.proofs.Common.{◌≡◌, List, ◌∷◌, ℕ, Bor, Option, Some
 use Rattle.std.specs.Option.{is_some}
 use Rattle.club_values.specs.declared.slot.Slot.{Slot}
 use Rattle.http_request.specs.Parts.{following_parts}
-use Rattle.http_request.specs.Path.{at_slot, account_at}
+use Rattle.http_request.specs.computed.Path.{at_slot, account_at}
 use Rattle.http_request.proofs.Segments.{first_part}
 
 pub past_number : (slot : Slot) (word number : List ℕ) (rest : Option (Bor (List ℕ))) → is_some rest ≡ true

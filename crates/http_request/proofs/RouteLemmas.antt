@@ -10,10 +10,11 @@ use Rattle.matchit.specs.Seek.{has_slash, seek, first, own, step, param_step}
 use Rattle.http_request.specs.declared.path.Place.{Place}
 use Rattle.http_request.specs.declared.path.Place.TheVariants.{BookingPlace, AccountPlace}
 use Rattle.club_values.specs.declared.slot.Slot.{Slot}
-use Rattle.http_request.specs.Parts.{with_front, segments, slot_of_parts, number_of_text, ◌>>=◌}
+use Rattle.http_request.specs.Parts.{with_front, segments}
+use Rattle.http_request.specs.computed.Parts.{slot_of_parts, number_of_text, ◌>>=◌}
 use Rattle.http_request.specs.Routes.{KnowsPlaces}
 use Rattle.std.proofs.lemmas.Slice.Eq.{bytes_eq-Decides}
-use Rattle.http_request.specs.Path.{under_slots, account_at, under_root}
+use Rattle.http_request.specs.computed.Path.{under_slots, account_at, under_root}
 use Rattle.http_request.proofs.Segments.{first_part}
 use Rattle.http_request.proofs.Walks.{over_bytes, over_part, takes_two, takes_one, takes_last, takes_end}
 
@@ -121,7 +122,7 @@ unfolding number_of_text decimal_of_text
 some_number [] value e = cc
 some_number (b ∷ text) value e = omega arith
 
-bound : {A B : Type 0} (found : Option A) (then : A → Option B) (b : B) → (found >>= then) ≡ Some b → (a : A) × (found ≡ Some a) × (then a ≡ Some b)
+pub bound : {A B : Type 0} (found : Option A) (then : A → Option B) (b : B) → (found >>= then) ≡ Some b → (a : A) × (found ≡ Some a) × (then a ≡ Some b)
 bound None then b e = cc
 bound (Some a) then b e = (a, refl, e)
 
@@ -140,7 +141,7 @@ mapped slot None place e = cc
 mapped slot (Some n) place e = (n, refl)
 
 -- a test that finds two texts equal
-same : (text other : List ℕ) → bytes_eq text other ≡ true → text ≡ other
+pub same : (text other : List ℕ) → bytes_eq text other ≡ true → text ≡ other
 same text other e = (bytes_eq-Decides text other).0 e
 
 -- the parts of a booking behind its slot

@@ -1,5 +1,5 @@
 -- When a request is whole, and what follows it.
-use Rattle.std.proofs.Common.{◌≡◌, ℕ, ◌-◌, ◌<◌, ◌≤◌, ◌↔◌, inl, inr, false, List, ◌++◌, length, take, drop, nat_eq, refl, sym, ap, ◌∙◌, arith}
+use Rattle.std.proofs.Common.{◌≡◌, ℕ, ◌-◌, ◌<◌, ◌≤◌, ◌↔◌, inl, inr, false, List, ◌++◌, length, take, drop, nat_eq, Option, refl, sym, ap, ◌∙◌, arith}
 use Rattle.std.proofs.Common.{append_assoc, length-append}
 use Rattle.std.specs.List.{ends_with}
 use Rattle.std.proofs.Math.Seq.{take-append_seam}
@@ -8,12 +8,15 @@ use Rattle.std.proofs.lemmas.List.{take-append-le, take-append-drop, length-drop
 use Rattle.httparse.specs.declared.spans.HeaderSpan.{HeaderSpan}
 use Rattle.httparse.specs.Grammar.{RequestHead}
 use Rattle.http_request.specs.declared.front.Head.{Head}
+use Rattle.http_request.specs.declared.path.Place.{Place}
 use Rattle.http_request.specs.Head.{empty_line, IsPiece}
 use Rattle.http_request.specs.Frame.{AsksForBody, IsFramed, IsOneRequest, IsRefusedHead, HasNoPiece, IsWhole, has_frame, endless, bad_head}
 use Rattle.http_request.specs.Front.{IsHeadAt}
 use Rattle.http_request.specs.Words as words
 use Rattle.http_request.specs.Words.{DecodedRequest, IsRequestReading, HoldsBody}
-use Rattle.http_request.specs.Laws.{OneReading, WholeKeepsItsReading, BodyStays}
+use Rattle.http_request.specs.Laws.{OneReading, ReadsPlaces, WholeKeepsItsReading, BodyStays}
+use Rattle.http_request.specs.Path.{IsPlaceOf}
+use Rattle.http_request.specs.computed.Path.{place_of}
 use Rattle.http_request.proofs.FrameLemmas.{one_piece, no_frame, refused_frame, same_asked, whole_frame}
 
 no_piece : (bytes piece rest : List ℕ) → IsPiece piece → bytes ≡ piece ++ rest → ¬ (HasNoPiece bytes)
@@ -102,13 +105,19 @@ one_frame bytes head other body again is and =
     let same_length = same_asked and.piece head other (length body) (length again) (rw same.0 at is.asks) and.asks in
     (sym same_length.0, same_body body again is.after and.after same_length.1 same.1)
 
-pub one : OneReading
-one bytes a b (words.has_frame head body is decoded) (words.has_frame other again and returned) =
+-- the same target names the same place
+one_place : ReadsPlaces → (target other : List ℕ) (place found : Option Place) → target ≡ other → IsPlaceOf target place → IsPlaceOf other found → place ≡ found
+one_place reads target other place found same at there =
+    sym ((reads target place).0 at) ∙ (ap place_of same ∙ (reads other found).0 there)
+
+pub one : ReadsPlaces → OneReading
+one reads bytes a b (words.has_frame head body place is at decoded) (words.has_frame other again found and there returned) =
     let same = one_frame bytes head other body again is and in
-    decoded ∙ rw (same.0, same.1) refl ∙ sym returned
-one bytes a b (words.has_frame head body is decoded) (words.lacks_frame none returned) = absurd (none head body is)
-one bytes a b (words.lacks_frame none returned) (words.has_frame head body is decoded) = absurd (none head body is)
-one bytes a b (words.lacks_frame none returned) (words.lacks_frame again decoded) = returned ∙ sym decoded
+    let same_place = one_place reads head.target other.target place found (ap (λ (h : RequestHead). h.target) same.0) at there in
+    decoded ∙ rw (same.0, same.1, same_place) refl ∙ sym returned
+one reads bytes a b (words.has_frame head body place is at decoded) (words.lacks_frame none returned) = absurd (none head body is)
+one reads bytes a b (words.lacks_frame none returned) (words.has_frame head body place is at decoded) = absurd (none head body is)
+one reads bytes a b (words.lacks_frame none returned) (words.lacks_frame again decoded) = returned ∙ sym decoded
 
 frame_more : (bytes more : List ℕ) (head : RequestHead) (body : List ℕ) → IsFramed bytes head body → IsFramed (bytes ++ more) head body
 frame_more bytes more head body is = record {
@@ -147,7 +156,8 @@ head_more bytes more fields found at =
     }
 
 pub keeps : WholeKeepsItsReading
-keeps bytes more answer whole (words.has_frame head body is decoded) = words.has_frame head body (frame_more bytes more head body is) decoded
+keeps bytes more answer whole (words.has_frame head body place is at decoded) =
+    words.has_frame head body place (frame_more bytes more head body is) at decoded
 keeps bytes more answer (has_frame head body is) (words.lacks_frame none returned) = absurd (none head body is)
 keeps bytes more answer (endless empty long) (words.lacks_frame none returned) = words.lacks_frame
     (no_frame (bytes ++ more) (endless_more bytes more empty long)) returned

@@ -1,8 +1,15 @@
 -- Laws of the decoding of requests.
-use Rattle.std.specs.Prelude.{◌≡◌, ℕ, List, ◌++◌, Result}
+use Rattle.std.specs.Prelude.{◌≡◌, ◌↔◌, ℕ, List, ◌++◌, Option, Result}
 use Rattle.club_core.specs.declared.refusal.Refusal.{Refusal}
+use Rattle.http_request.specs.declared.path.Place.{Place}
 use Rattle.http_request.specs.Frame.{IsWhole}
+use Rattle.http_request.specs.Path.{IsPlaceOf}
+use Rattle.http_request.specs.computed.Path.{place_of}
 use Rattle.http_request.specs.Words.{DecodedRequest, IsRequestReading, HoldsBody}
+
+-- a target names one place at most: that which is computed
+abbrev pub ReadsPlaces : Type 0
+ReadsPlaces = (target : List ℕ) (place : Option Place) → IsPlaceOf target place ↔ (place_of target ≡ place)
 
 -- bytes decode in at most one way
 abbrev pub OneReading : Type 0

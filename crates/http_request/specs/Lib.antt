@@ -12,3 +12,4 @@ pub mod Path
 pub mod Words
 pub mod Laws
 pub mod Routes
+pub mod computed

@@ -1,34 +1,39 @@
 -- The paths of the desk (ours): /slots/FACILITY/DAY/HOUR, the same with /bookings/NUMBER, and /account.
-use Rattle.std.specs.Prelude.{ℕ, ◌==◌, List, [], ◌∷◌, codes, if◌then◌else◌, Option, Some, None, option_map}
-use Rattle.std.specs.Str.{bytes_eq}
+use Rattle.std.specs.Prelude.{◌≡◌, ℕ, List, [], ◌∷◌, codes, Option, Some, None}
+use Rattle.std.specs.Fmt.{decimal}
 use Rattle.club_values.specs.declared.slot.Slot.{Slot}
+use Rattle.club_values.specs.Day.{day_text}
+use Rattle.club_values.specs.Digits.{two_digits}
+use Rattle.club_rows.specs.Limits.{IsBookingNumber}
+use Rattle.club_rows.specs.Rows.{IsSlot}
 use Rattle.http_request.specs.declared.path.Place.{Place}
 use Rattle.http_request.specs.declared.path.Place.TheVariants.{SlotPlace, BookingPlace, AccountPlace}
-use Rattle.http_request.specs.Parts.{segments, number_of_text, slot_of_parts, ◌>>=◌}
+use Rattle.http_request.specs.Parts.{segments}
 
--- the place at a slot, by the parts that follow
-abbrev pub at_slot : Slot → List (List ℕ) → Option Place
-at_slot slot [] = Some (SlotPlace slot)
-at_slot slot (word ∷ []) = None
-at_slot slot (word ∷ number ∷ []) =
-    if bytes_eq word (codes "bookings") then option_map (λ n. BookingPlace slot n) (number_of_text number) else None
-at_slot slot (word ∷ number ∷ other ∷ parts) = None
+-- the parts of a slot's path, and of what follows it
+abbrev pub slot_parts : Slot → List (List ℕ) → List (List ℕ)
+slot_parts slot parts = codes "slots" ∷ slot.facility ∷ day_text slot.day ∷ two_digits slot.hour ∷ parts
 
-abbrev pub under_slots : List (List ℕ) → Option Place
-under_slots [] = None
-under_slots (facility ∷ []) = None
-under_slots (facility ∷ day ∷ []) = None
-under_slots (facility ∷ day ∷ hour ∷ parts) = slot_of_parts facility day hour >>= λ slot. at_slot slot parts
+-- the parts of a place's path
+abbrev pub place_parts : Place → List (List ℕ)
+place_parts (SlotPlace slot) = slot_parts slot []
+place_parts (BookingPlace slot number) = slot_parts slot (codes "bookings" ∷ decimal number ∷ [])
+place_parts AccountPlace = codes "account" ∷ []
 
-abbrev pub account_at : List ℕ → List (List ℕ) → Option Place
-account_at word [] = if bytes_eq word (codes "account") then Some AccountPlace else None
-account_at word (part ∷ parts) = None
+-- the values of a place are within their limits
+abbrev pub HasRealValues : Place → Type 0
+HasRealValues (SlotPlace slot) = IsSlot slot
+HasRealValues (BookingPlace slot number) = IsSlot slot × IsBookingNumber number
+HasRealValues AccountPlace = Unit {0}
 
-abbrev pub under_root : List (List ℕ) → Option Place
-under_root [] = None
-under_root (word ∷ parts) = if bytes_eq word (codes "slots") then under_slots parts else account_at word parts
+-- the target is the place's path: a slash, and the parts with a slash between each two
+pub record IsPlace (target : List ℕ) (place : Place) : Type 0 where
+  pub path : List ℕ
+  pub slash : target ≡ 47 ∷ path
+  pub parts : segments path ≡ place_parts place
+  pub real : HasRealValues place
 
--- the place that a target names
-abbrev pub place_of : List ℕ → Option Place
-place_of [] = None
-place_of (byte ∷ path) = if byte == 47 then under_root (segments path) else None
+-- the place that a target names, or none if it names none
+abbrev pub IsPlaceOf : List ℕ → Option Place → Type 0
+IsPlaceOf target None = (place : Place) → ¬ IsPlace target place
+IsPlaceOf target (Some place) = IsPlace target place

@@ -12,7 +12,7 @@ use Rattle.http_request.specs.declared.path.Place.{Place}
 use Rattle.http_request.specs.declared.path.Place.TheVariants.{SlotPlace, BookingPlace, AccountPlace}
 use Rattle.club_core.specs.declared.sent_words.SentWords.{SentWords as Words}
 use Rattle.http_request.specs.Body.{guests_in}
-use Rattle.http_request.specs.Path.{place_of}
+use Rattle.http_request.specs.Path.{IsPlaceOf}
 use Rattle.http_request.specs.Pass.{pass_text_of}
 use Rattle.http_request.specs.Frame.{header_fields, IsFramed}
 
@@ -40,21 +40,19 @@ request_at (BookingPlace slot number) method guests =
 request_at AccountPlace method guests =
     if bytes_eq method (codes "GET") then Ok requests.Account else Err (MethodNotAllowed Get)
 
--- a request, decoded from its method, its target, its fields and its body; or the first refusal that fits
-unfoldable pub decoded_request : List ℕ → List ℕ → List (List ℕ × List ℕ) → List ℕ → Result DecodedRequest Refusal
-decoded_request method target fields body = do
+-- a request, decoded from its method, the place of its target, its fields and its body; or the first refusal that fits
+unfoldable pub decoded_request : List ℕ → Option Place → List (List ℕ × List ℕ) → List ℕ → Result DecodedRequest Refusal
+decoded_request method place fields body = do
   guests ← ok_or (guests_by_method method body) BadRequest
-  place ← ok_or (place_of target) NoSuchPath
-  request ← request_at place method guests
+  place' ← ok_or place NoSuchPath
+  request ← request_at place' method guests
   pass ← ok_or (pass_text_of fields) NoPass
   Ok (record { pass = pass; request = request })
 
-abbrev pub decoded_by_head : RequestHead → List ℕ → Result DecodedRequest Refusal
-decoded_by_head head body = decoded_request head.method head.target (header_fields head) body
-
 -- bytes decode by the head and the body that they begin with; if there are none, as `BadRequest`
 pub data IsRequestReading (bytes : List ℕ) (answer : Result DecodedRequest Refusal) : Type 0 where
-  has_frame : (head : RequestHead) (body : List ℕ) → IsFramed bytes head body → answer ≡ decoded_by_head head body → IsRequestReading bytes answer
+  has_frame : (head : RequestHead) (body : List ℕ) (place : Option Place) → IsFramed bytes head body → IsPlaceOf head.target place
+      → answer ≡ decoded_request head.method place (header_fields head) body → IsRequestReading bytes answer
   lacks_frame : ((head : RequestHead) (body : List ℕ) → ¬ (IsFramed bytes head body)) → answer ≡ Err BadRequest → IsRequestReading bytes answer
 
 -- only the body of a PUT needs memory

@@ -1,11 +1,31 @@
 //! Laws of the decoding of requests. Each is the contract of a function that does nothing.
 
-ghost use Rattle.http_request.specs.Laws.{OneReading, WholeKeepsItsReading, BodyStays};
+ghost use Rattle.http_request.specs.Laws.{
+  OneReading,
+  WholeKeepsItsReading,
+  BodyStays,
+  ReadsPlaces,
+};
+
+use club_values::laws::{is_text_of_day, reads_days, reads_hours, reads_names, reads_numbers};
+
+/// A target names one place at most, which is the computed one.
+pub fn reads_places()
+    ensures { ReadsPlaces }
+{
+    reads_names();
+    reads_numbers();
+    reads_days();
+    is_text_of_day();
+    reads_hours();
+}
 
 /// Bytes decode in at most one way.
 pub fn one_reading()
     ensures { OneReading }
-{}
+{
+    reads_places();
+}
 
 /// A whole request decodes the same, whatever bytes follow it.
 pub fn whole_keeps_its_reading()

@@ -4,7 +4,7 @@ ghost use Rattle.std.specs.Prelude.{◌≡◌, length, map, All, codes, IfOk, Ma
 ghost use Rattle.matchit.specs.Route.{parse_route};
 ghost use Rattle.matchit.specs.Router.{InsertsRead};
 ghost use Rattle.std.specs.Str.{IsUtf8};
-ghost use Rattle.http_request.specs.Path as path;
+ghost use Rattle.http_request.specs.computed.Path as path;
 ghost use Rattle.http_request.specs.Routes.{KnowsPlaces};
 ghost use Rattle.httparse.specs.Spans.{IsHeaderWithin, header_bytes};
 ghost use Rattle.http_request.specs.Front.{Covers};
@@ -14,6 +14,7 @@ ghost use Rattle.http_request.specs.Words.{NeedsMemory, HoldsBody, OrUnavailable
 
 use crate::body::guests_in;
 use crate::front::Front;
+use crate::laws::reads_places;
 use crate::pass::pass_text_of;
 use crate::path::{Place, place_of};
 use crate::requests::request_at;
@@ -101,7 +102,8 @@ fn decode_request<'a>(
     requires text { IsUtf8 target.now }
     ensures { OrUnavailable (NeedsMemory method.now body.now)
         (λ answer.
-        decoded_request method.now target.now (map (header_bytes head.now) fields.now) body.now
+        decoded_request method.now (path.place_of target.now)
+        (map (header_bytes head.now) fields.now) body.now
         ≡ answer)
         result }
 {
@@ -126,6 +128,7 @@ pub fn words_by_scan<'a>(
     requires { Covers scan.now bytes.now }
     ensures { OrUnavailable (HoldsBody bytes.now) (IsRequestReading bytes.now) result }
 {
+    reads_places();
     let Front::Asking(head) = scan.front else {
         return Err(Refusal::BadRequest);
     };

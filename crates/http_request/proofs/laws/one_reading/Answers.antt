@@ -2,4 +2,4 @@ use Rattle.http_request.proofs.WholeLemmas.{one}
 use Rattle.http_request.proofs.laws.one_reading.Goals as goal
 
 pub returns : goal.returns
-returns c = one
+returns c = one c.reads_places.ensures

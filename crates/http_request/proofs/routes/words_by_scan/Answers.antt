@@ -18,4 +18,4 @@ returns c =
     let at = rw c.in-Asking.is at c.requires in
     let long = rw c.split_at.ensures.back at c.if-rest-head.false in
     let decoded = rw (c.of-method.ensures, c.of-target.ensures, c.split_at.ensures.front, c.split_at.ensures.back) at c.decode_request.ensures in
-    reading_at c.args.bytes.now c.args.scan.now.fields c.in-Asking.head at long c.decode_request.result decoded
+    reading_at c.reads_places.ensures c.args.bytes.now c.args.scan.now.fields c.in-Asking.head at long c.decode_request.result decoded

@@ -1,0 +1,4 @@
+-- Definitions that compute what the others of specs/ state. Laws say that both agree.
+
+pub mod Parts
+pub mod Path
