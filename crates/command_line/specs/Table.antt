@@ -3,13 +3,13 @@ use Rattle.std.specs.Prelude.{◌≡◌, List, [], Option, Some, Result, Ok, Err
 use Rattle.std.specs.Str.{bytes_eq}
 use Rattle.clap.specs.Words.{App, Kinds, Row as Found, Rule, Shape, Text, fault_of, found_of, is_simple_and_free, kind_of, new_app, rows_of}
 use Rattle.clap.specs.Words.{subcommand_of, with_rule, with_subcommand}
-use Rattle.command_line.specs.Application.{as_required, flag_named, option_named, program_named, with_default, words_named}
+use Rattle.command_line.specs.Application.{as_required, flag_named, option_named, program_named, with_default, word_named, words_named}
 use Rattle.command_line.specs.Laws.{HasCommands}
 use Rattle.command_line.specs.Words.{HasText, IsRefusedAs}
 use Rattle.command_line.specs.declared.errors.WordsFault.{WordsFault}
 use Rattle.command_line.specs.declared.errors.WordsFault.TheVariants.{Refused, Memory}
 use Rattle.command_line.specs.declared.table.Argument.{Argument}
-use Rattle.command_line.specs.declared.table.Argument.TheVariants.{Value, Needed, Or, Flag, Words, NeededWords}
+use Rattle.command_line.specs.declared.table.Argument.TheVariants.{Value, Needed, Or, Flag, Word, NeededWord, Words, NeededWords}
 use Rattle.command_line.specs.declared.table.Asked.{Asked}
 use Rattle.command_line.specs.declared.table.Asked.TheVariants.{ShowText, Perform}
 use Rattle.command_line.specs.declared.table.Program.{Program}
@@ -30,6 +30,8 @@ rule_for (Value name value help) = option_named name.now
 rule_for (Needed name value help) = as_required (option_named name.now)
 rule_for (Or name value help default) = with_default default.now (option_named name.now)
 rule_for (Flag name help) = flag_named name.now
+rule_for (Word name) = word_named name.now
+rule_for (NeededWord name) = as_required (word_named name.now)
 rule_for (Words name value help) = words_named name.now
 rule_for (NeededWords name value help) = as_required (words_named name.now)
 

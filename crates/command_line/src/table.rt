@@ -7,7 +7,7 @@ ghost use Rattle.command_line.specs.Table.{IsAsked, IsGood, IsRow, app_of_table,
 
 use crate::errors::WordsFault;
 use crate::laws::words_name_a_row;
-use crate::options::{make_flag, make_option, make_words};
+use crate::options::{make_flag, make_option, make_word, make_words};
 use crate::tree::{make_program, new_command, with_argument, with_command};
 use crate::words::{Parsed, parse};
 use clap::{Arg, ArgMatches, Command, Error};
@@ -25,6 +25,10 @@ pub enum Argument {
     Or(&'static str, &'static str, &'static str, &'static str),
     /// `--NAME`
     Flag(&'static str, &'static str),
+    /// A word, known by its place. Its name is what its help calls it, and it has no other help.
+    Word(&'static str),
+    /// The same, which must be given.
+    NeededWord(&'static str),
     /// Any number of words.
     Words(&'static str, &'static str, &'static str),
     /// One word or more.
@@ -92,6 +96,8 @@ fn make_argument<'a>(alloc: Global, argument: Argument) -> Arg<'a>
             make_option(alloc, name, value, help).default_value(default)
         }
         Argument::Flag(name, help) => make_flag(alloc, name, help),
+        Argument::Word(name) => make_word(alloc, name),
+        Argument::NeededWord(name) => make_word(alloc, name).required(true),
         Argument::Words(name, value, help) => make_words(alloc, name, value, help),
         Argument::NeededWords(name, value, help) => {
             make_words(alloc, name, value, help).required(true)
