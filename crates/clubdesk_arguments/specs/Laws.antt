@@ -153,3 +153,27 @@ ServeTakesItsPatience = (program file port count seconds : Text) (at many long :
     → port_of port ≡ Some at → count_of count ≡ Some many → patience_of seconds ≡ Some long
     → AsksFor (program ∷ codes "serve" ∷ (codes "--port=" ++ port) ∷ (codes "--count=" ++ count) ∷ (codes "--patience=" ++ seconds) ∷ codes "--" ∷ file ∷ [])
     file (Serve (record { port = at; count = many; clock = InZone (codes "UTC0"); patience = long; log = false }))
+
+-- each command takes its words
+pub record CommandsTakeTheirWords : Type 0 where
+  pub add_member_takes_its_parts : AddMemberTakesItsParts
+  pub credit_takes_its_parts : CreditTakesItsParts
+  pub add_facility_takes_its_parts : AddFacilityTakesItsParts
+  pub add_key_takes_its_parts : AddKeyTakesItsParts
+  pub add_key_takes_v2 : AddKeyTakesV2
+  pub add_key_takes_its_input : AddKeyTakesItsInput
+  pub revoke_key_takes_its_key : RevokeKeyTakesItsKey
+  pub rotate_key_takes_its_parts : RotateKeyTakesItsParts
+  pub rotate_key_takes_v2 : RotateKeyTakesV2
+  pub rotate_key_takes_its_input : RotateKeyTakesItsInput
+  pub close_slot_takes_its_slot : CloseSlotTakesItsSlot
+  pub sheet_takes_its_day : SheetTakesItsDay
+  pub show_account_takes_its_parts : ShowAccountTakesItsParts
+  pub show_account_takes_utc : ShowAccountTakesUtc
+  pub show_account_takes_its_moment : ShowAccountTakesItsMoment
+  pub show_slot_takes_its_slot : ShowSlotTakesItsSlot
+  pub serve_takes_its_parts : ServeTakesItsParts
+  pub serve_takes_utc : ServeTakesUtc
+  pub serve_takes_its_moment : ServeTakesItsMoment
+  pub serve_takes_its_log : ServeTakesItsLog
+  pub serve_takes_its_patience : ServeTakesItsPatience

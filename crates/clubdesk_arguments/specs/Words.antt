@@ -1,10 +1,9 @@
 -- What the words ask for (ours).
-use Rattle.std.specs.Prelude.{◌≡◌, ◌⊎◌, ℕ, Bool, true, false, IsSomeAnd, if◌then◌else◌, List}
+use Rattle.std.specs.Prelude.{◌≡◌, ◌⊎◌, ℕ, Bool, true, false, if◌then◌else◌, List}
 use Rattle.std.specs.Prelude.{[], Option, Some, None, option_map, option_and_then, Result, Ok, Err, codes}
 use Rattle.std.specs.Borrow.{Bor}
 use Rattle.std.specs.Option.{ok_or, unwrap_or}
 use Rattle.std.specs.Result.{result_ok}
-use Rattle.std.specs.Str.{bytes_eq}
 use Rattle.clap.specs.Words.{Row, Text, first_of, kind_of}
 use Rattle.clap.specs.declared.error.kind.ErrorKind.{ErrorKind}
 use Rattle.clap.specs.declared.error.kind.ErrorKind.TheVariants as kind
@@ -12,9 +11,11 @@ use Rattle.clap.specs.Walk.{is_empty}
 use Rattle.command_line.specs.FormName.{form_named}
 use Rattle.command_line.specs.Words.{HasText, IsRefusedAs, is_set, value_in}
 use Rattle.club_values.specs.computed.TextOf.{name_of_text, kind_of_text, day_of_text, hour_of_text, moment_of_text}
+use Rattle.club_values.specs.declared.slot.Slot.{Slot}
 use Rattle.club_core.specs.declared.command.Command.TheVariants as order
 use Rattle.pass_forms.specs.declared.form.Form.{Form}
-use Rattle.clubdesk_arguments.specs.Application.{refusals, subcommand}
+use Rattle.command_line.specs.Table.{asked, refusals}
+use Rattle.clubdesk_arguments.specs.Application.{clubdesk}
 use Rattle.clubdesk_arguments.specs.JobModel.{JobModel}
 use Rattle.clubdesk_arguments.specs.Values.{count_of, parse_number, patience_of, port_of, key_root_of}
 use Rattle.club_clock.specs.Zone.{zone_of}
@@ -22,6 +23,8 @@ use Rattle.clubdesk_arguments.specs.declared.fault.Fault.{Fault}
 use Rattle.clubdesk_arguments.specs.declared.fault.Fault.TheVariants.{Words, BadValue, Memory}
 use Rattle.clubdesk_arguments.specs.declared.clock.Clock.{Clock}
 use Rattle.clubdesk_arguments.specs.declared.clock.Clock.TheVariants.{Fixed, InZone}
+use Rattle.clubdesk_arguments.specs.declared.table.CommandName.{CommandName}
+use Rattle.clubdesk_arguments.specs.declared.table.CommandName.TheVariants as command
 use Rattle.clubdesk_arguments.specs.declared.task.Task.{Task}
 use Rattle.clubdesk_arguments.specs.declared.task.Task.TheVariants.{Order, AddKey, AddKeyByInput, RotateKey, RotateKeyByInput}
 use Rattle.clubdesk_arguments.specs.declared.task.Task.TheVariants.{Sheet, Serve, ShowAccount, ShowSlot}
@@ -112,12 +115,17 @@ rotate_key_of (Some word) form rows = do
   root ← key_root_of word
   Some (RotateKey key root until form)
 
-abbrev pub close_slot_of : List Row → Option Task
-close_slot_of rows = do
+abbrev pub slot_in : List Row → Option Slot
+slot_in rows = do
   facility ← name_value (codes "FACILITY") rows
   day ← day_of_text (word_in (codes "DAY") rows)
   hour ← hour_of_text (word_in (codes "HOUR") rows)
-  Some (Order (order.CloseSlot (record { facility = facility; day = day; hour = hour })))
+  Some (record { facility = facility; day = day; hour = hour })
+
+abbrev pub close_slot_of : List Row → Option Task
+close_slot_of rows = do
+  slot ← slot_in rows
+  Some (Order (order.CloseSlot slot))
 
 abbrev pub sheet_of : List Row → Option Task
 sheet_of rows = do
@@ -149,10 +157,8 @@ show_account_of rows = do
 
 abbrev pub show_slot_of : List Row → Option Task
 show_slot_of rows = do
-  facility ← name_value (codes "FACILITY") rows
-  day ← day_of_text (word_in (codes "DAY") rows)
-  hour ← hour_of_text (word_in (codes "HOUR") rows)
-  Some (ShowSlot (record { facility = facility; day = day; hour = hour }))
+  slot ← slot_in rows
+  Some (ShowSlot slot)
 
 -- ---- the words
 
@@ -160,12 +166,12 @@ abbrev pub unless_bad : Option Task → Result Task ArgumentRefusal
 unless_bad task = ok_or task bad_value
 
 -- a form is checked before other values
-abbrev pub with_form_value : List Row → (Form → List Row → Option Task) → Option Form → Result Task ArgumentRefusal
-with_form_value rows of None = Err bad_form
-with_form_value rows of (Some form) = unless_bad (of form rows)
+abbrev pub with_form_value : List Row → (Form → List Row → Option Task) → Result Form ArgumentRefusal → Result Task ArgumentRefusal
+with_form_value rows of (Err refusal) = Err refusal
+with_form_value rows of (Ok form) = unless_bad (of form rows)
 
-abbrev pub form_in : List Row → Option Form
-form_in rows = form_named (value_in (codes "form") rows)
+abbrev pub form_given : List Row → Result Form ArgumentRefusal
+form_given rows = ok_or (form_named (value_in (codes "form") rows)) bad_form
 
 -- a root is given by its word or by the input
 abbrev pub root_word_for : Option Text → Bool → Result (Option Text) ArgumentRefusal
@@ -177,7 +183,7 @@ root_word_for None true = Ok None
 -- that is checked before a form
 abbrev pub with_root_word : List Row → (Option Text → Form → List Row → Option Task) → Result (Option Text) ArgumentRefusal → Result Task ArgumentRefusal
 with_root_word rows of (Err refusal) = Err refusal
-with_root_word rows of (Ok word) = with_form_value rows (of word) (form_in rows)
+with_root_word rows of (Ok word) = with_form_value rows (of word) (form_given rows)
 
 -- the flag that reads the root from the input
 abbrev pub root_by_input : List Row → Bool
@@ -189,52 +195,43 @@ add_key_asked rows = with_root_word rows add_key_of (root_word_for (first_of (co
 abbrev pub rotate_key_asked : List Row → Result Task ArgumentRefusal
 rotate_key_asked rows = with_root_word rows rotate_key_of (root_word_for (rotation_word_in rows) (root_by_input rows))
 
--- the task of the command of this name
-abbrev pub task_named : Text → List Row → Result Task ArgumentRefusal
-task_named name rows =
-    if bytes_eq name (codes "add-member") then unless_bad (add_member_of rows)
-    else (if bytes_eq name (codes "credit") then unless_bad (credit_of rows)
-    else (if bytes_eq name (codes "add-facility") then unless_bad (add_facility_of rows)
-    else (if bytes_eq name (codes "add-key") then add_key_asked rows
-    else (if bytes_eq name (codes "revoke-key") then unless_bad (revoke_key_of rows)
-    else (if bytes_eq name (codes "rotate-key") then rotate_key_asked rows
-    else (if bytes_eq name (codes "close-slot") then unless_bad (close_slot_of rows)
-    else (if bytes_eq name (codes "sheet") then unless_bad (sheet_of rows)
-    else (if bytes_eq name (codes "serve") then unless_bad (serve_of rows)
-    else (if bytes_eq name (codes "show-account") then unless_bad (show_account_of rows)
-    else (if bytes_eq name (codes "show-slot") then unless_bad (show_slot_of rows)
-    else Err no_command))))))))))
+-- the task of a command
+abbrev pub task_named : CommandName → List Row → Result Task ArgumentRefusal
+task_named command.AddMember rows = unless_bad (add_member_of rows)
+task_named command.Credit rows = unless_bad (credit_of rows)
+task_named command.AddFacility rows = unless_bad (add_facility_of rows)
+task_named command.AddKey rows = add_key_asked rows
+task_named command.RevokeKey rows = unless_bad (revoke_key_of rows)
+task_named command.RotateKey rows = rotate_key_asked rows
+task_named command.CloseSlot rows = unless_bad (close_slot_of rows)
+task_named command.Sheet rows = unless_bad (sheet_of rows)
+task_named command.Serve rows = unless_bad (serve_of rows)
+task_named command.ShowAccount rows = unless_bad (show_account_of rows)
+task_named command.ShowSlot rows = unless_bad (show_slot_of rows)
 
 abbrev pub over_file : Text → Result Task ArgumentRefusal → Result JobModel ArgumentRefusal
 over_file file (Err refusal) = Err refusal
 over_file file (Ok task) = Ok (record { file = file; task = task })
 
+abbrev pub job_named : CommandName → List Row → Result JobModel ArgumentRefusal
+job_named name rows = over_file (word_in (codes "FILE") rows) (task_named name rows)
+
 -- the command that clap found
-abbrev pub job_of_match : Option (Text × List Row) → Result JobModel ArgumentRefusal
-job_of_match None = Err no_command
-job_of_match (Some found) = over_file (word_in (codes "FILE") found.1) (task_named found.0 found.1)
-
-abbrev pub IsCommandName : Text → Type 0
-IsCommandName name =
-    (name ≡ codes "add-member") ⊎ (name ≡ codes "credit") ⊎ (name ≡ codes "add-facility") ⊎ (name ≡ codes "add-key")
-    ⊎ (name ≡ codes "revoke-key") ⊎ (name ≡ codes "rotate-key") ⊎ (name ≡ codes "close-slot") ⊎ (name ≡ codes "sheet")
-    ⊎ (name ≡ codes "serve") ⊎ (name ≡ codes "show-account") ⊎ (name ≡ codes "show-slot")
-
--- clap found one of the commands
-abbrev pub FindsCommand : Option (Text × List Row) → Type 0
-FindsCommand found = IsSomeAnd found (λ named. IsCommandName named.0)
+abbrev pub job_found : Option (CommandName × List Row) → Result JobModel ArgumentRefusal
+job_found None = Err no_command
+job_found (Some found) = job_named found.0 found.1
 
 -- the job that the words ask for, if clap accepts them
 unfoldable pub job_of_words : List Text → Result JobModel ArgumentRefusal
-job_of_words words = job_of_match (subcommand words)
+job_of_words words = job_found (asked clubdesk words)
 
 -- the job that the words ask for, if they have no fault
 abbrev pub asked_job : List Text → Option JobModel
-asked_job words = if is_empty (refusals words) then result_ok (job_of_words words) else None
+asked_job words = if is_empty (refusals clubdesk words) then result_ok (job_of_words words) else None
 
 -- words that ask for a text: help, or the version
 abbrev pub AsksText : List Text → Type 0
-AsksText words = HasText (refusals words)
+AsksText words = HasText (refusals clubdesk words)
 
 -- the kind of the error that words get for a refusal, if it is one of the words
 abbrev pub error_kind : ArgumentRefusal → Option ErrorKind
@@ -255,13 +252,6 @@ AnswersAsked expected (Err BadValue) = expected ≡ Err bad_value
 AnswersAsked expected (Err Memory) = Unit {0}
 AnswersAsked expected (Err _) = ⊥
 
--- A call returns the form of a name, or its fault, or out of memory.
-abbrev pub AnswersForm : Option Form → Result Form Fault → Type 0
-AnswersForm expected (Ok form) = expected ≡ Some form
-AnswersForm expected (Err (Words error)) = (expected ≡ None) × (kind_of error ≡ kind.InvalidValue)
-AnswersForm expected (Err Memory) = Unit {0}
-AnswersForm expected (Err _) = ⊥
-
 -- a fault of the words of this kind, or out of memory
 abbrev pub IsWordsFault : ErrorKind → Fault → Type 0
 IsWordsFault of_kind (Words error) = kind_of error ≡ of_kind
@@ -275,14 +265,14 @@ AnswersRoot expected (Err fault) = AnswersAsked {A = Option Text} expected (Err 
 
 -- The fault of the words: clap decides first, then whether a root is given once, then a form, then the other values.
 abbrev pub IsFaultOf : List Text → Fault → Type 0
-IsFaultOf words (Words error) = IsRefusedAs (refusals words) (kind_of error)
-    ⊎ ((refusals words ≡ []) × HasRefusalOfKind (kind_of error) (job_of_words words))
-IsFaultOf words BadValue = (refusals words ≡ []) × (job_of_words words ≡ Err bad_value)
+IsFaultOf words (Words error) = IsRefusedAs (refusals clubdesk words) (kind_of error)
+    ⊎ ((refusals clubdesk words ≡ []) × HasRefusalOfKind (kind_of error) (job_of_words words))
+IsFaultOf words BadValue = (refusals clubdesk words ≡ []) × (job_of_words words ≡ Err bad_value)
 IsFaultOf words Memory = Unit {0}
 IsFaultOf words _ = ⊥
 
 -- the results that parsing the words may have
 abbrev pub ReadsWords : List Text → Result Asked Fault → Type 0
 ReadsWords words (Ok (ShowText text)) = AsksText words
-ReadsWords words (Ok (Perform command)) = (refusals words ≡ []) × (job_of_words words ≡ Ok command)
+ReadsWords words (Ok (Perform job)) = (refusals clubdesk words ≡ []) × (job_of_words words ≡ Ok job)
 ReadsWords words (Err fault) = IsFaultOf words fault

@@ -3,9 +3,12 @@
 ghost use Rattle.std.specs.Prelude.{◌≡◌, option_map};
 ghost use Rattle.clap.specs.Words.{found_of, rows_of};
 ghost use Rattle.clubdesk_arguments.specs.Words as spec;
+ghost use Rattle.clubdesk_arguments.specs.Words.{AnswersAsked};
 
 use crate::clock::Clock;
-use crate::options::{given, moment_word, name_of, number_at};
+use crate::fault::Fault;
+use crate::options::{form_of, given, moment_word, name_of, number_at, root_word, rotation_word};
+use crate::table::CommandName;
 use crate::task::{Service, Task};
 use crate::values::{count_of, patience_of, port_of, root_of};
 use clap::ArgMatches;
@@ -14,9 +17,37 @@ use club_core::Command;
 use club_values::{Day, Hour, Kind, Moment, Slot};
 use command_line::{is_set, value_of};
 use pass_forms::Form;
+use std::alloc::Global;
 
-/// `add-member FILE NAME QUOTA`
-pub fn add_member<'a>(words: &ArgMatches<'a>) -> Option<Task<'a>>
+/// The task of this command.
+///
+/// # Errors
+///
+/// As `command_of`, of which `clap` found the command.
+pub fn task_of<'a>(
+    alloc: Global,
+    name: CommandName,
+    words: &ArgMatches<'a>,
+) -> Result<Task<'a>, Fault>
+    ensures { AnswersAsked (spec.task_named name (rows_of (found_of words.now))) result }
+{
+    match name {
+        CommandName::AddMember => or_bad_value(add_member(words)),
+        CommandName::Credit => or_bad_value(credit(words)),
+        CommandName::AddFacility => or_bad_value(add_facility(words)),
+        CommandName::AddKey => add_key_from(alloc, words),
+        CommandName::RevokeKey => or_bad_value(revoke_key(words)),
+        CommandName::RotateKey => rotate_key_from(alloc, words),
+        CommandName::CloseSlot => or_bad_value(close_slot(words)),
+        CommandName::Sheet => or_bad_value(sheet(words)),
+        CommandName::Serve => or_bad_value(serve(words)),
+        CommandName::ShowAccount => or_bad_value(show_account(words)),
+        CommandName::ShowSlot => or_bad_value(show_slot(words)),
+    }
+}
+
+// `add-member FILE NAME QUOTA`
+fn add_member<'a>(words: &ArgMatches<'a>) -> Option<Task<'a>>
     ensures { result ≡ spec.add_member_of (rows_of (found_of words.now)) }
 {
     let name = name_of(words, "NAME")?;
@@ -24,8 +55,8 @@ pub fn add_member<'a>(words: &ArgMatches<'a>) -> Option<Task<'a>>
     Some(Task::Order(Command::AddMember { name, quota }))
 }
 
-/// `credit FILE MEMBER POINTS`
-pub fn credit<'a>(words: &ArgMatches<'a>) -> Option<Task<'a>>
+// `credit FILE MEMBER POINTS`
+fn credit<'a>(words: &ArgMatches<'a>) -> Option<Task<'a>>
     ensures { result ≡ spec.credit_of (rows_of (found_of words.now)) }
 {
     let member = name_of(words, "MEMBER")?;
@@ -33,8 +64,8 @@ pub fn credit<'a>(words: &ArgMatches<'a>) -> Option<Task<'a>>
     Some(Task::Order(Command::Credit { member, points }))
 }
 
-/// `add-facility FILE NAME KIND PLACES PRICE OPENS SHUTS`
-pub fn add_facility<'a>(words: &ArgMatches<'a>) -> Option<Task<'a>>
+// `add-facility FILE NAME KIND PLACES PRICE OPENS SHUTS`
+fn add_facility<'a>(words: &ArgMatches<'a>) -> Option<Task<'a>>
     ensures { result ≡ spec.add_facility_of (rows_of (found_of words.now)) }
 {
     let name = name_of(words, "NAME")?;
@@ -53,9 +84,9 @@ pub fn add_facility<'a>(words: &ArgMatches<'a>) -> Option<Task<'a>>
     }))
 }
 
-/// `add-key FILE KEY MEMBER ROOT [--form FORM]`, or without the root's word where the root is read
-/// from the input.
-pub fn add_key<'a>(words: &ArgMatches<'a>, root: Option<&str>, form: Form) -> Option<Task<'a>>
+// `add-key FILE KEY MEMBER ROOT [--form FORM]`, or without the root's word where the root is read
+// from the input.
+fn add_key<'a>(words: &ArgMatches<'a>, root: Option<&str>, form: Form) -> Option<Task<'a>>
     ensures { result ≡ spec.add_key_of (option_map (λ text. text.now) root.entry) form
         (rows_of (found_of words.now)) }
 {
@@ -75,17 +106,17 @@ pub fn add_key<'a>(words: &ArgMatches<'a>, root: Option<&str>, form: Form) -> Op
     }
 }
 
-/// `revoke-key FILE KEY`
-pub fn revoke_key<'a>(words: &ArgMatches<'a>) -> Option<Task<'a>>
+// `revoke-key FILE KEY`
+fn revoke_key<'a>(words: &ArgMatches<'a>) -> Option<Task<'a>>
     ensures { result ≡ spec.revoke_key_of (rows_of (found_of words.now)) }
 {
     let name = name_of(words, "KEY")?;
     Some(Task::Order(Command::RevokeKey { name }))
 }
 
-/// `rotate-key FILE KEY ROOT MOMENT [--form FORM]`, or without the root's word where the root is
-/// read from the input.
-pub fn rotate_key<'a>(words: &ArgMatches<'a>, root: Option<&str>, form: Form) -> Option<Task<'a>>
+// `rotate-key FILE KEY ROOT MOMENT [--form FORM]`, or without the root's word where the root is
+// read from the input.
+fn rotate_key<'a>(words: &ArgMatches<'a>, root: Option<&str>, form: Form) -> Option<Task<'a>>
     ensures { result ≡ spec.rotate_key_of (option_map (λ text. text.now) root.entry) form
         (rows_of (found_of words.now)) }
 {
@@ -105,30 +136,24 @@ pub fn rotate_key<'a>(words: &ArgMatches<'a>, root: Option<&str>, form: Form) ->
     }
 }
 
-/// `close-slot FILE FACILITY DAY HOUR`
-pub fn close_slot<'a>(words: &ArgMatches<'a>) -> Option<Task<'a>>
+// `close-slot FILE FACILITY DAY HOUR`
+fn close_slot<'a>(words: &ArgMatches<'a>) -> Option<Task<'a>>
     ensures { result ≡ spec.close_slot_of (rows_of (found_of words.now)) }
 {
-    let facility = name_of(words, "FACILITY")?;
-    let day = Day::read(value_of(words, "DAY").as_bytes())?;
-    let hour = Hour::read(value_of(words, "HOUR").as_bytes())?;
-    Some(Task::Order(Command::CloseSlot(Slot {
-        facility,
-        day,
-        hour,
-    })))
+    let slot = slot_of(words)?;
+    Some(Task::Order(Command::CloseSlot(slot)))
 }
 
-/// `sheet FILE DAY`
-pub fn sheet<'a>(words: &ArgMatches<'a>) -> Option<Task<'a>>
+// `sheet FILE DAY`
+fn sheet<'a>(words: &ArgMatches<'a>) -> Option<Task<'a>>
     ensures { result ≡ spec.sheet_of (rows_of (found_of words.now)) }
 {
     let day = Day::read(value_of(words, "DAY").as_bytes())?;
     Some(Task::Sheet(day))
 }
 
-/// `serve FILE --port P --count N [--zone RULE] [--at MOMENT] [--patience SECONDS] [--log]`
-pub fn serve<'a>(words: &ArgMatches<'a>) -> Option<Task<'a>>
+// `serve FILE --port P --count N [--zone RULE] [--at MOMENT] [--patience SECONDS] [--log]`
+fn serve<'a>(words: &ArgMatches<'a>) -> Option<Task<'a>>
     ensures { result ≡ spec.serve_of (rows_of (found_of words.now)) }
 {
     let port = port_of(value_of(words, "port"))?;
@@ -145,8 +170,8 @@ pub fn serve<'a>(words: &ArgMatches<'a>) -> Option<Task<'a>>
     }))
 }
 
-/// `show-account FILE KEY [--zone RULE] [--at MOMENT]`
-pub fn show_account<'a>(words: &ArgMatches<'a>) -> Option<Task<'a>>
+// `show-account FILE KEY [--zone RULE] [--at MOMENT]`
+fn show_account<'a>(words: &ArgMatches<'a>) -> Option<Task<'a>>
     ensures { result ≡ spec.show_account_of (rows_of (found_of words.now)) }
 {
     let key = name_of(words, "KEY")?;
@@ -155,18 +180,26 @@ pub fn show_account<'a>(words: &ArgMatches<'a>) -> Option<Task<'a>>
     Some(Task::ShowAccount { key, clock })
 }
 
-/// `show-slot FILE FACILITY DAY HOUR`
-pub fn show_slot<'a>(words: &ArgMatches<'a>) -> Option<Task<'a>>
+// `show-slot FILE FACILITY DAY HOUR`
+fn show_slot<'a>(words: &ArgMatches<'a>) -> Option<Task<'a>>
     ensures { result ≡ spec.show_slot_of (rows_of (found_of words.now)) }
+{
+    let slot = slot_of(words)?;
+    Some(Task::ShowSlot(slot))
+}
+
+// `FACILITY DAY HOUR`
+fn slot_of(words: &ArgMatches<'_>) -> Option<Slot>
+    ensures { result ≡ spec.slot_in (rows_of (found_of words.now)) }
 {
     let facility = name_of(words, "FACILITY")?;
     let day = Day::read(value_of(words, "DAY").as_bytes())?;
     let hour = Hour::read(value_of(words, "HOUR").as_bytes())?;
-    Some(Task::ShowSlot(Slot {
+    Some(Slot {
         facility,
         day,
         hour,
-    }))
+    })
 }
 
 // The moment that `--at` fixes, else the clock in the zone.
@@ -180,4 +213,38 @@ fn clock_of<'a>(zone: Zone<'a>, at: Option<&str>) -> Option<Clock<'a>>
             Some(Clock::Fixed(moment))
         }
     }
+}
+
+// The task of `add-key`.
+fn add_key_from<'a>(alloc: Global, words: &ArgMatches<'a>) -> Result<Task<'a>, Fault>
+    ensures { AnswersAsked (spec.add_key_asked (rows_of (found_of words.now))) result }
+{
+    let root = match root_word(alloc, words, given(words, "ROOT")) {
+        Ok(root) => root,
+        Err(fault) => return Err(fault),
+    };
+    match form_of(alloc, words) {
+        Ok(form) => or_bad_value(add_key(words, root, form)),
+        Err(fault) => Err(fault),
+    }
+}
+
+// The task of `rotate-key`.
+fn rotate_key_from<'a>(alloc: Global, words: &ArgMatches<'a>) -> Result<Task<'a>, Fault>
+    ensures { AnswersAsked (spec.rotate_key_asked (rows_of (found_of words.now))) result }
+{
+    let root = match root_word(alloc, words, rotation_word(words)) {
+        Ok(root) => root,
+        Err(fault) => return Err(fault),
+    };
+    match form_of(alloc, words) {
+        Ok(form) => or_bad_value(rotate_key(words, root, form)),
+        Err(fault) => Err(fault),
+    }
+}
+
+fn or_bad_value(task: Option<Task<'_>>) -> Result<Task<'_>, Fault>
+    ensures { AnswersAsked (spec.unless_bad task.entry) result }
+{
+    task.ok_or(Fault::BadValue)
 }

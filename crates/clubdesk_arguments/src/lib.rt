@@ -2,19 +2,19 @@
 //! with their exit statuses.
 #![tactic(auto)]
 
-mod application;
 mod clock;
 mod commands;
 mod fault;
 pub mod laws;
 mod options;
+mod table;
 mod task;
 mod values;
 mod words;
 
-pub use application::not_text;
 pub use clock::Clock;
 pub use fault::Fault;
+pub use table::not_text;
 pub use task::{Job, Service, Task};
 pub use values::root_of;
 pub use words::{Asked, command_of};

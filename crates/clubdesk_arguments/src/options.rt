@@ -4,10 +4,10 @@ ghost use Rattle.std.specs.Prelude.{◌≡◌, IfOk, codes, option_map};
 ghost use Rattle.clap.specs.Words.{first_of, found_of, rows_of};
 ghost use Rattle.command_line.specs.Words.{is_set};
 ghost use Rattle.clubdesk_arguments.specs.Words.{
-  AnswersForm,
+  AnswersAsked,
   AnswersRoot,
   IsWordsFault,
-  form_in,
+  form_given,
   moment_word_in,
   name_value,
   number_value,
@@ -15,13 +15,13 @@ ghost use Rattle.clubdesk_arguments.specs.Words.{
   rotation_word_in,
 };
 
-use crate::application::make_application;
 use crate::fault::Fault;
+use crate::table::CLUBDESK;
 use crate::values::parse_number;
 use clap::ArgMatches;
 use clap::error::ErrorKind;
 use club_values::Name;
-use command_line::{form_fault, form_named, is_set, value_of, words_fault};
+use command_line::{form_fault, is_set, make_application, read_value, value_of, words_fault};
 use pass_forms::Form;
 use std::alloc::Global;
 
@@ -100,7 +100,7 @@ pub fn root_word<'a>(
 fn argument_fault(alloc: Global, kind: ErrorKind, message: &str) -> Fault
     ensures { IsWordsFault kind result }
 {
-    Fault::from(words_fault(make_application(alloc), kind, message))
+    Fault::from(words_fault(make_application(alloc, &CLUBDESK), kind, message))
 }
 
 /// The form that `--form` names.
@@ -109,11 +109,13 @@ fn argument_fault(alloc: Global, kind: ErrorKind, message: &str) -> Fault
 ///
 /// `Words` where it names none of the three, and `Memory`.
 pub fn form_of(alloc: Global, words: &ArgMatches<'_>) -> Result<Form, Fault>
-    ensures { AnswersForm (form_in (rows_of (found_of words.now))) result }
+    ensures { AnswersAsked (form_given (rows_of (found_of words.now))) result }
 {
-    let name = value_of(words, "form");
-    match form_named(name) {
+    match read_value(words, "form") {
         Some(form) => Ok(form),
-        None => Err(Fault::from(form_fault(alloc, make_application(alloc), name))),
+        None => {
+            let (application, name) = (make_application(alloc, &CLUBDESK), value_of(words, "form"));
+            Err(Fault::from(form_fault(alloc, application, name)))
+        }
     }
 }

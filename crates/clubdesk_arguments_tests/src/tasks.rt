@@ -242,25 +242,5 @@ fn sheets(rt: HostRuntime) {
 
 #[test]
 fn laws_hold() {
-    laws::add_member_takes_its_parts();
-    laws::credit_takes_its_parts();
-    laws::add_facility_takes_its_parts();
-    laws::add_key_takes_its_parts();
-    laws::add_key_takes_v2();
-    laws::revoke_key_takes_its_key();
-    laws::rotate_key_takes_its_parts();
-    laws::rotate_key_takes_v2();
-    laws::close_slot_takes_its_slot();
-    laws::sheet_takes_its_day();
-    laws::add_key_takes_its_input();
-    laws::rotate_key_takes_its_input();
-    laws::show_account_takes_its_parts();
-    laws::show_account_takes_utc();
-    laws::show_account_takes_its_moment();
-    laws::show_slot_takes_its_slot();
-    laws::serve_takes_its_parts();
-    laws::serve_takes_utc();
-    laws::serve_takes_its_moment();
-    laws::serve_takes_its_log();
-    laws::serve_takes_its_patience();
+    laws::commands_take_their_words();
 }

@@ -16,7 +16,8 @@ use Rattle.club_gate.specs.declared.event.OfficeReply.TheVariants as replies
 use Rattle.club_gate.specs.declared.fault.Fault.{Fault as DeskFault}
 use Rattle.club_gate.specs.declared.fault.Fault.TheVariants as desk
 use Rattle.desk_server.specs.Served.{Turn}
-use Rattle.clubdesk_arguments.specs.Application.{refusals}
+use Rattle.command_line.specs.Table.{refusals}
+use Rattle.clubdesk_arguments.specs.Application.{clubdesk}
 use Rattle.clubdesk_arguments.specs.JobModel.{JobModel}
 use Rattle.clubdesk_commands.specs.Looks as looks
 use Rattle.clubdesk_commands.specs.Office as office
@@ -40,7 +41,7 @@ use Rattle.clubdesk_arguments.specs.declared.words.Asked.TheVariants.{Perform, S
 
 -- ---- what the words ask for
 
-some_asked : (words : List Text) (command : JobModel) → refusals words ≡ [] → job_of_words words ≡ Ok command → asked_job words ≡ Some command
+some_asked : (words : List Text) (command : JobModel) → refusals clubdesk words ≡ [] → job_of_words words ≡ Ok command → asked_job words ≡ Some command
 some_asked words command clear is = rw (clear, is) refl
 
 -- words that give a fault ask for nothing
@@ -48,8 +49,8 @@ among_some : (k : ErrorKind) (kinds : Kinds) → IsAmong k kinds → is_empty ki
 among_some k [] among = absurd among
 among_some k (x ∷ kinds) among = grind (arith, nat_tests)
 
-none_asked : (words : List Text) (k : ErrorKind) → IsAmong k (refusals words) → asked_job words ≡ None
-none_asked words k among = rw (among_some k (refusals words) among) refl
+none_asked : (words : List Text) (k : ErrorKind) → IsAmong k (refusals clubdesk words) → asked_job words ≡ None
+none_asked words k among = rw (among_some k (refusals clubdesk words) among) refl
 
 no_text_asked : (words : List Text) → AsksText words → asked_job words ≡ None
 no_text_asked words (inl help) = none_asked words kind.DisplayHelp help

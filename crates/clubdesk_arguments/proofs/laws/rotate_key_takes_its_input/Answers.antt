@@ -1,5 +1,0 @@
-use Rattle.clubdesk_arguments.proofs.LookLaws as laws
-use Rattle.clubdesk_arguments.proofs.laws.rotate_key_takes_its_input.Goals as goal
-
-pub returns : goal.returns
-returns c = laws.rotate_key_takes_its_input

@@ -1,5 +1,0 @@
-use Rattle.clubdesk_arguments.proofs.WordLaws as laws
-use Rattle.clubdesk_arguments.proofs.laws.serve_takes_its_patience.Goals as goal
-
-pub returns : goal.returns
-returns c = laws.serve_takes_its_patience

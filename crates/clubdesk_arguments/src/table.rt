@@ -1,0 +1,268 @@
+//! The commands and their arguments, with their help texts.
+
+ghost use Rattle.clubdesk_arguments.specs.Fault.{IsNotText};
+
+use crate::fault::Fault;
+use command_line::{Argument, Program, Row, make_application, text_fault};
+use std::alloc::Global;
+
+/// The commands by their names.
+#[derive(Clone, Copy)]
+pub enum CommandName {
+    AddMember,
+    Credit,
+    AddFacility,
+    AddKey,
+    RevokeKey,
+    RotateKey,
+    CloseSlot,
+    Sheet,
+    Serve,
+    ShowAccount,
+    ShowSlot,
+}
+
+const STATUSES: &str = "Exit status:
+  0  done
+  1  refused: exists, unknown, out of range, or slot in use
+  2  the words
+  3  a word or a root from standard input that spells no value of its place
+  4  out of memory
+  5  storage failed
+  6  serve, show-account: the clock doesn't stand in the years 2000 to 2099
+  7  input or output failed
+  8  no answer from the server that was handed the order";
+
+const ADD_MEMBER_HELP: &str = "FILE is the database; it is made where it isn't there.
+QUOTA is the most bookings that the member has open at once, 0 to 99.
+
+Example:
+  clubdesk add-member club.db amy 5";
+
+const CREDIT_HELP: &str = "POINTS are 1 to 1000000; a member is credited at most 999999999.
+
+Example:
+  clubdesk credit club.db amy 10000";
+
+const ADD_FACILITY_HELP: &str = "KIND is court, boat or room; PLACES 1 to 50; PRICE the points of
+one place for an hour, 0 to 9999; it OPENS and SHUTS at full hours, 0 to 24.
+
+Example:
+  clubdesk add-facility club.db court-1 court 4 200 8 22";
+
+const ADD_KEY_HELP: &str =
+    "ROOT is the key's root, 16 to 64 bytes in hexadecimal. Other users may see a
+word in the list of processes: with --root-stdin it is read from standard input.
+The pass of the key is printed.
+
+Example:
+  openssl rand -hex 32 | clubdesk add-key club.db amy-1 amy --root-stdin";
+
+const REVOKE_KEY_HELP: &str = "No pass of a revoked key is served any more.
+
+Example:
+  clubdesk revoke-key club.db amy-1";
+
+const ROTATE_KEY_HELP: &str =
+    "ROOT is the key's new root; with --root-stdin it is read from standard input,
+and the words are FILE KEY MOMENT. Passes under the root that the key has are
+served until MOMENT, and not from it on. The new pass is printed.
+
+Example:
+  openssl rand -hex 32 | clubdesk rotate-key club.db amy-1 2026-05-01T00:00 --root-stdin";
+
+const CLOSE_SLOT_HELP: &str = "HOUR has two digits, 00 to 23.
+
+Example:
+  clubdesk close-slot club.db court-1 2026-05-01 18";
+
+const SHEET_HELP: &str = "Example:
+  clubdesk sheet club.db 2026-05-01";
+
+const SERVE_HELP: &str = "Serves connections to 127.0.0.1 one after the other, and ends after the
+last of them. A client that sends slowly, or doesn't take its reply, holds up
+those behind it for SECONDS at most, once for its request and once for its reply,
+and is then cut off.
+
+Example:
+  clubdesk serve club.db --port 8080 --count 1000 --zone CET-1CEST,M3.5.0,M10.5.0/3";
+
+const SHOW_ACCOUNT_HELP: &str =
+    "Prints the account of the key at the moment, as the desk shows it: member,
+balance, quota, open bookings and points spent; whether the key is revoked; and
+until when it has an older root. No root is printed.
+
+Example:
+  clubdesk show-account club.db amy-1 --zone CET-1CEST,M3.5.0,M10.5.0/3";
+
+const SHOW_SLOT_HELP: &str =
+    "Prints the slot as the desk shows it to every key: kind, price, places, how many
+are taken, and whether it is closed. HOUR has two digits, 00 to 23.
+
+Example:
+  clubdesk show-slot club.db court-1 2026-05-01 18";
+
+const FILE: Argument = Argument::NeededWord("FILE");
+
+const NAME: Argument = Argument::NeededWord("NAME");
+
+const KEY: Argument = Argument::NeededWord("KEY");
+
+const FACILITY: Argument = Argument::NeededWord("FACILITY");
+
+const DAY: Argument = Argument::NeededWord("DAY");
+
+const HOUR: Argument = Argument::NeededWord("HOUR");
+
+const ROOT_BY_INPUT: Argument = Argument::Flag(
+    "root-stdin",
+    "Reads ROOT from standard input, in place of the word",
+);
+
+const FORM: Argument = Argument::Or("form", "FORM", "v1, v2 or json", "v2");
+
+const ZONE: Argument = Argument::Or("zone", "RULE", "The clock's zone, a POSIX rule", "UTC0");
+
+const AT: Argument = Argument::Value("at", "MOMENT", "A moment in place of the clock's");
+
+const SLOT: &[Argument] = &[FILE, FACILITY, DAY, HOUR];
+
+const FACILITY_ARGUMENTS: &[Argument] = &[
+    FILE,
+    NAME,
+    Argument::NeededWord("KIND"),
+    Argument::NeededWord("PLACES"),
+    Argument::NeededWord("PRICE"),
+    Argument::NeededWord("OPENS"),
+    Argument::NeededWord("SHUTS"),
+];
+
+const ADD_KEY_ARGUMENTS: &[Argument] = &[
+    FILE,
+    KEY,
+    Argument::NeededWord("MEMBER"),
+    Argument::Word("ROOT"),
+    ROOT_BY_INPUT,
+    FORM,
+];
+
+const ROTATE_KEY_ARGUMENTS: &[Argument] = &[
+    FILE,
+    KEY,
+    Argument::NeededWord("ROOT"),
+    Argument::Word("MOMENT"),
+    ROOT_BY_INPUT,
+    FORM,
+];
+
+const SERVE_ARGUMENTS: &[Argument] = &[
+    FILE,
+    Argument::Needed("port", "P", "The port, to 65535; 0 for any that is free"),
+    Argument::Needed("count", "N", "How many connections, 1 to 1000000"),
+    ZONE,
+    AT,
+    Argument::Or(
+        "patience",
+        "SECONDS",
+        "How long a client may take, 1 to 3600",
+        "10",
+    ),
+    Argument::Flag("log", "Tells each connection in a line on standard error"),
+];
+
+/// The program.
+pub static CLUBDESK: Program<CommandName> = Program {
+    name: "clubdesk",
+    about: "The desk of a club: its office, its day sheet and its server",
+    statuses: STATUSES,
+    rows: &[
+        Row {
+            command: CommandName::AddMember,
+            name: "add-member",
+            about: "Adds a member",
+            help: ADD_MEMBER_HELP,
+            arguments: &[FILE, NAME, Argument::NeededWord("QUOTA")],
+        },
+        Row {
+            command: CommandName::Credit,
+            name: "credit",
+            about: "Credits a member with points",
+            help: CREDIT_HELP,
+            arguments: &[
+                FILE,
+                Argument::NeededWord("MEMBER"),
+                Argument::NeededWord("POINTS"),
+            ],
+        },
+        Row {
+            command: CommandName::AddFacility,
+            name: "add-facility",
+            about: "Adds a facility",
+            help: ADD_FACILITY_HELP,
+            arguments: FACILITY_ARGUMENTS,
+        },
+        Row {
+            command: CommandName::AddKey,
+            name: "add-key",
+            about: "Adds a key of a member",
+            help: ADD_KEY_HELP,
+            arguments: ADD_KEY_ARGUMENTS,
+        },
+        Row {
+            command: CommandName::RevokeKey,
+            name: "revoke-key",
+            about: "Revokes a key",
+            help: REVOKE_KEY_HELP,
+            arguments: &[FILE, KEY],
+        },
+        Row {
+            command: CommandName::RotateKey,
+            name: "rotate-key",
+            about: "Gives a key a new root",
+            help: ROTATE_KEY_HELP,
+            arguments: ROTATE_KEY_ARGUMENTS,
+        },
+        Row {
+            command: CommandName::CloseSlot,
+            name: "close-slot",
+            about: "Closes a slot of a facility",
+            help: CLOSE_SLOT_HELP,
+            arguments: SLOT,
+        },
+        Row {
+            command: CommandName::Sheet,
+            name: "sheet",
+            about: "Prints the sheet of a day's bookings",
+            help: SHEET_HELP,
+            arguments: &[FILE, DAY],
+        },
+        Row {
+            command: CommandName::Serve,
+            name: "serve",
+            about: "Serves requests over HTTP",
+            help: SERVE_HELP,
+            arguments: SERVE_ARGUMENTS,
+        },
+        Row {
+            command: CommandName::ShowAccount,
+            name: "show-account",
+            about: "Shows the account of a key",
+            help: SHOW_ACCOUNT_HELP,
+            arguments: &[FILE, KEY, ZONE, AT],
+        },
+        Row {
+            command: CommandName::ShowSlot,
+            name: "show-slot",
+            about: "Shows a slot of a facility",
+            help: SHOW_SLOT_HELP,
+            arguments: SLOT,
+        },
+    ],
+};
+
+/// The fault of words that aren't UTF-8, which `clap` never sees here.
+pub fn not_text(alloc: Global) -> Fault
+    ensures { IsNotText result }
+{
+    Fault::from(text_fault(make_application(alloc, &CLUBDESK)))
+}
