@@ -1,6 +1,6 @@
 -- Lemmas on the rows of a table.
 use Rattle.std.proofs.Common.{◌≡◌, ◌∙◌, ℕ, ◌+◌, ◌<◌, List, [], ◌∷◌, ◌++◌, map, take, drop, ap, get_or, length, refl}
-use Rattle.std.proofs.Common.{sym, cond, Bool, true, false, Option, None, Some, IsSome, IsSomeAnd, inl, inr, option_map, Result, Ok, Err}
+use Rattle.std.proofs.Common.{sym, cond, Bool, true, false, Option, None, Some, IsSome, IsSomeAnd, inl, inr, option_map, Ok}
 use Rattle.std.proofs.lemmas.List.{drop_more, take_more}
 use Rattle.std.specs.Str.{bytes_eq}
 use Rattle.std.proofs.lemmas.Slice.Eq.{bytes_eq-Decides}
@@ -8,9 +8,6 @@ use Rattle.clap.specs.Words.{App, Row as Found, Shape, Text, fault_of, subcomman
 use Rattle.command_line.specs.Laws.{IsNameAmong, WordsEnterACommand}
 use Rattle.command_line.specs.Table.{Entry, IsAsked, IsGood, IsRow, Table, app_of_table, asked}
 use Rattle.command_line.specs.Table.{asked_in, refusals, entry_app, entry_named, entry_of, with_entries}
-use Rattle.command_line.specs.Words.{IsParsed}
-use Rattle.command_line.specs.declared.errors.WordsFault.{WordsFault}
-use Rattle.command_line.specs.declared.errors.WordsFault.TheVariants.{Refused, Memory}
 use Rattle.command_line.specs.declared.table.Asked.{Asked}
 use Rattle.command_line.specs.declared.table.Asked.TheVariants.{ShowText, Perform}
 use Rattle.command_line.specs.declared.table.Row.{Row}
@@ -78,9 +75,3 @@ pub asked_is : {C : Type 0} (table : Table C) (words : List Text) (found : Optio
 unfolding refusals asked
 asked_is table words found (ShowText text) clear same row = absurd row
 asked_is table words found (Perform command options) clear same row = (clear, ap (asked_in table) (sym same) ∙ row)
-
-pub words_refused : {C : Type 0} (table : Table C) (words : List Text) (fault : WordsFault) → IsParsed (app_of_table table) words (Err fault)
-    → let result : Result (Asked C) WordsFault = Err fault in IsAsked table words result
-unfolding refusals
-words_refused table words (Refused error) is = is
-words_refused table words Memory is = tt

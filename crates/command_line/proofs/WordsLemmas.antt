@@ -1,12 +1,11 @@
 -- Lemmas on a parse of the arguments.
-use Rattle.std.proofs.Common.{◌≡◌, ◌∙◌, ◌&&◌, Bool, true, false, List, [], Ok, inl, inr, refl, subst, sym}
-use Rattle.clap.specs.Words.{App, HasKind, HasMatchesOf, IsAmong, Text, fault_of, is_simple, is_simple_and_free, kind_of}
+use Rattle.std.proofs.Common.{◌≡◌, ◌∙◌, ◌&&◌, Bool, true, false, List, [], inl, inr, refl, subst, sym}
+use Rattle.clap.specs.Words.{App, HasKind, HasMatchesOf, IsAmong, Text, fault_of, is_simple, is_simple_and_free, kind_of, subcommand_of}
+use Rattle.clap.specs.Words.{subcommand_rows_of}
 use Rattle.clap.specs.declared.error.Error.{Error}
 use Rattle.clap.specs.declared.error.kind.ErrorKind.{ErrorKind}
 use Rattle.clap.specs.declared.error.kind.ErrorKind.TheVariants as kind
 use Rattle.clap.specs.declared.parser.matches.ArgMatches.{ArgMatches}
-use Rattle.command_line.specs.Words.{IsParsed}
-use Rattle.command_line.specs.declared.words.Parsed.TheVariants.{Matches}
 
 first_holds : (a b : Bool) → (a && b) ≡ true → a ≡ true
 first_holds true b both = refl
@@ -15,7 +14,7 @@ first_holds false b both = both
 module _ (made app : App) (words : List Text) (is : made ≡ app) (free : is_simple_and_free app ≡ true) where
   -- clap accepts the arguments
   pub accepted : (m : ArgMatches) → HasMatchesOf made words m → (is_simple_and_free made ≡ true → fault_of made words ≡ [])
-      → IsParsed app words (Ok (Matches m))
+      → (fault_of app words ≡ []) × (subcommand_rows_of m ≡ subcommand_of app words)
   accepted m found clear = (
     subst (λ a. is_simple_and_free a ≡ true → fault_of a words ≡ []) is clear free,
     (subst (λ a. HasMatchesOf a words m) is found (first_holds (is_simple app) _ free)).1,

@@ -1,13 +1,11 @@
--- What `clap` makes of the arguments of an application (ours).
-use Rattle.std.specs.Prelude.{◌≡◌, ◌≢◌, ◌⊎◌, Bool, List, [], Result, Ok, Err, codes, unwrap_or}
+-- Options, and what `clap` says of arguments (ours).
+use Rattle.std.specs.Prelude.{◌≡◌, ◌≢◌, ◌⊎◌, Bool, List, [], codes, unwrap_or}
 use Rattle.std.specs.Str.{bytes_eq}
-use Rattle.clap.specs.Words.{App, IsAmong, Kinds, Row, Text, fault_of, first_of, kind_of, subcommand_of, subcommand_rows_of}
+use Rattle.clap.specs.Words.{IsAmong, Kinds, Row, Text, first_of, kind_of}
 use Rattle.clap.specs.declared.error.kind.ErrorKind.{ErrorKind}
 use Rattle.clap.specs.declared.error.kind.ErrorKind.TheVariants as kind
 use Rattle.command_line.specs.declared.errors.WordsFault.{WordsFault}
 use Rattle.command_line.specs.declared.errors.WordsFault.TheVariants.{Refused, Memory}
-use Rattle.command_line.specs.declared.words.Parsed.{Parsed}
-use Rattle.command_line.specs.declared.words.Parsed.TheVariants.{Matches, ShowText}
 
 -- the value of an option, empty if it was left out
 abbrev pub value_in : Text → List Row → Text
@@ -28,13 +26,6 @@ IsNoText of_kind = (of_kind ≢ kind.DisplayHelp) × (of_kind ≢ kind.DisplayVe
 -- the kind of an error that clap may return for the arguments
 abbrev pub IsRefusedAs : Kinds → ErrorKind → Type 0
 IsRefusedAs kinds of_kind = IsAmong of_kind kinds × IsNoText of_kind
-
--- What parsing arguments may give: clap accepts them and finds a command, or they ask for a text, or clap refuses them.
-abbrev pub IsParsed : App → List Text → Result Parsed WordsFault → Type 0
-IsParsed app words (Ok (ShowText text)) = HasText (fault_of app words)
-IsParsed app words (Ok (Matches matches)) = (fault_of app words ≡ []) × (subcommand_rows_of matches ≡ subcommand_of app words)
-IsParsed app words (Err (Refused error)) = IsRefusedAs (fault_of app words) (kind_of error)
-IsParsed app words (Err Memory) = Unit {0}
 
 -- an error of this kind, or out of memory
 abbrev pub IsOfKind : ErrorKind → WordsFault → Type 0

@@ -14,16 +14,13 @@ mod signal;
 mod table;
 mod tree;
 mod value;
-mod words;
 
 pub use errors::{WordsFault, form_fault, text_fault, words_fault};
 pub use form_names::{form_name, form_named};
 pub use input::{fill, without_line_feed};
-pub use options::{is_set, make_flag, make_form, make_form_or_v2, make_option, value_of};
+pub use options::{is_set, value_of};
 pub use output::{flush, write_text};
 pub use process::report;
 pub use root::Root;
 pub use table::{Argument, Asked, Program, Row, make_application, read_words};
-pub use tree::{make_program, new_command, with_argument, with_command};
 pub use value::{Value, read_value};
-pub use words::{Parsed, parse};

@@ -49,22 +49,6 @@ pub fn make_words<'a>(alloc: Global, name: &'a str, value: &'a str, help: &'a st
         .help(help)
 }
 
-/// `--form FORM`
-pub fn make_form<'a>(alloc: Global) -> Arg<'a>
-    ensures rule { rule_of result ≡ spec.form_option }
-    ensures local { result.global ≡ false }
-{
-    make_option(alloc, "form", "FORM", "v1, v2 or json")
-}
-
-/// `--form FORM`, V2 by default
-pub fn make_form_or_v2<'a>(alloc: Global) -> Arg<'a>
-    ensures rule { rule_of result ≡ spec.form_or_v2 }
-    ensures local { result.global ≡ false }
-{
-    make_form(alloc).default_value("v2")
-}
-
 /// The value of an option; empty if it was left out.
 pub fn value_of<'a>(options: &ArgMatches<'a>, id: &str) -> &'a str
     ensures { result.now ≡ value_in id.now (rows_of (found_of options.now)) }

@@ -9,7 +9,7 @@ use crate::errors::WordsFault;
 use crate::laws::words_name_a_row;
 use crate::options::{make_flag, make_option, make_word, make_words};
 use crate::tree::{make_program, new_command, with_argument, with_command};
-use crate::words::{Parsed, parse};
+use clap::error::ErrorKind;
 use clap::{Arg, ArgMatches, Command, Error};
 use std::alloc::{AllocError, Global};
 use std::convert::AsStr;
@@ -120,10 +120,17 @@ pub fn read_words<'a, C: Copy, S: AsStr>(
 {
     // By this law the arguments that are accepted name a row.
     words_name_a_row::<C>();
-    match parse(make_application(alloc, program), words) {
-        Ok(Parsed::Matches(matches)) => Ok(asked_row(program, matches)),
-        Ok(Parsed::ShowText(text)) => Ok(Asked::ShowText(text)),
-        Err(fault) => Err(fault),
+    let Ok(application) = make_application(alloc, program) else {
+        return Err(WordsFault::Memory);
+    };
+    match application.try_get_matches_from(words) {
+        Ok(matches) => Ok(asked_row(program, matches)),
+        Err(error) => match error.kind() {
+            ErrorKind::DisplayHelp => Ok(Asked::ShowText(error)),
+            ErrorKind::DisplayVersion => Ok(Asked::ShowText(error)),
+            ErrorKind::OutOfMemory => Err(WordsFault::Memory),
+            _ => Err(WordsFault::Refused(error)),
+        },
     }
 }
 
