@@ -202,7 +202,9 @@ module _ {S : Type 0} (Clean : S → Type 0) (Represents : S → Club → List C
       → Simulates old new (λ club next. machine_orders bytes club answer next)
   ordered bytes answer old new (spec.order_done root words result is does answers) =
       so old new _ _ (worded root words result old new does) (λ club next does. spec.order_done root words result is does answers)
-  ordered bytes answer old new (spec.no_order status kept) = same old new _ kept (λ club. spec.no_order status refl)
+  ordered bytes answer old new (spec.no_order none status kept) = same old new _ kept (λ club. spec.no_order none status refl)
+  ordered bytes answer old new (spec.not_office root words is other status kept) =
+      same old new _ kept (λ club. spec.not_office root words is other status refl)
   ordered bytes answer old new (spec.no_memory status kept) = same old new _ kept (λ club. spec.no_memory status refl)
 
   carried_out : (carried : Option Carried) (old new : S) → IsCarriedOut (Orders Clean Represents) old carried new

@@ -9,9 +9,9 @@ use Rattle.clubdesk_arguments.specs.JobModel.{JobModel}
 use Rattle.clubdesk_arguments.specs.Words.{ReadsWords}
 use Rattle.clubdesk_arguments.specs.declared.fault.Fault.{Fault}
 use Rattle.clubdesk_arguments.specs.declared.words.Asked.{Asked}
-use Rattle.clubdesk_arguments.specs.declared.words.Asked.TheVariants.{Perform}
+use Rattle.clubdesk_arguments.specs.declared.words.Asked.TheVariants.{Perform, ShowText}
 use Rattle.clubdesk_commands.specs.Input.{IsRooted, TakesRootOf}
-use Rattle.clubdesk_commands.specs.Order.{order_bytes}
+use Rattle.clubdesk_commands.specs.Order.{SpellsNoOrder, order_bytes}
 use Rattle.clubdesk_commands.specs.Does.{Does, IsOffice}
 
 -- the status of an answer and its text; of a fault its line, or that memory was refused for that
@@ -20,6 +20,15 @@ AnswersWith (Ok text) answer = (answer.carried.status ≡ 0) × (string_bytes an
 AnswersWith (Err fault) answer =
     ((answer.carried.status ≡ fault_status fault) × IfSome (fault_line fault) (λ line. string_bytes answer.text ≡ line))
     ⊎ (answer.carried.status ≡ 4)
+
+-- what words ask for, with this root, is a text, or a task that isn't the office's
+abbrev pub AsksOther : Text → Asked → Type 0
+AsksOther root (ShowText text) = Unit {0}
+AsksOther root (Perform job) = (whole : JobModel) × IsRooted job root whole × (IsOffice whole.task → ⊥)
+
+-- words that ask for such a thing
+abbrev pub AskOther : Text → List Text → Type 0
+AskOther root words = (asked : Asked) × ReadsWords words (Ok asked) × AsksOther root asked
 
 module _ {Store : Type 0} (Clean : Store → Type 0) (Represents : Store → Club → List Club → Type 0) where
   -- what words ask for is done, with the root that was read for them; or there is no such root, and nothing is done
@@ -34,9 +43,11 @@ module _ {Store : Type 0} (Clean : Store → Type 0) (Represents : Store → Clu
     words_done : (asked : Asked) → ReadsWords words (Ok asked) → DoesAsked root asked answer old new → DoesWords root words answer old new
     words_refused : (fault : Fault) → ReadsWords words (Err fault) → answer ≡ Err fault → new ≡ old → DoesWords root words answer old new
 
-  -- bytes that spell an order are done once; others, and a task that isn't the office's, change nothing
+  -- An order is done once. Bytes that spell none, and words that ask for nothing of the office's, change nothing.
   pub data Orders (bytes : List ℕ) (old : Store) (answer : Answer) (new : Store) : Type 0 where
     order_done : (root : Text) (words : List Text) (result : Result (List ℕ) Fault) → bytes ≡ order_bytes root words → DoesWords root words result old new
         → AnswersWith result answer → Orders bytes old answer new
-    no_order : answer.carried.status ≡ 2 → new ≡ old → Orders bytes old answer new
+    no_order : SpellsNoOrder bytes → answer.carried.status ≡ 2 → new ≡ old → Orders bytes old answer new
+    not_office : (root : Text) (words : List Text) → bytes ≡ order_bytes root words → AskOther root words → answer.carried.status ≡ 2 → new ≡ old
+        → Orders bytes old answer new
     no_memory : answer.carried.status ≡ 4 → new ≡ old → Orders bytes old answer new

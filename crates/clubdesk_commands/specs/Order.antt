@@ -1,5 +1,8 @@
 -- The bytes of an order, as its command hands them to a server (ours).
-use Rattle.std.specs.Prelude.{◌≡◌, ℕ, List, [], ◌∷◌, ◌++◌, length, map, Option, Some, None, decimal}
+use Rattle.std.specs.Prelude.{◌≡◌, ◌≢◌, ℕ, List, [], ◌∷◌, ◌++◌, length, map, Option, Some, None, decimal}
+use Rattle.std.specs.List.{AllByRecursion}
+use Rattle.std.specs.Str.{IsUtf8}
+use Rattle.std.specs.Str.Iter.{LacksByte}
 use Rattle.std.specs.String.{string_bytes}
 use Rattle.clap.specs.Words.{Text}
 use Rattle.clubdesk_commands.specs.declared.order.Order.{Order}
@@ -16,7 +19,23 @@ pieces (text ∷ texts) = piece text ++ pieces texts
 abbrev pub order_bytes : Text → List Text → List ℕ
 order_bytes root words = piece (decimal (length words)) ++ (piece root ++ pieces words)
 
--- the bytes are those of the order, if there is one
+-- what a word or a root may be: text without the byte that ends a piece
+abbrev pub IsWord : Text → Type 0
+IsWord text = IsUtf8 text × LacksByte 0 text
+
+-- the bytes are those of no order
+abbrev pub SpellsNoOrder : List ℕ → Type 0
+SpellsNoOrder bytes = (root : Text) (words : List Text) → IsWord root → AllByRecursion IsWord words → bytes ≢ order_bytes root words
+
+-- the bytes are those of no words
+abbrev pub SpellsNoWords : List ℕ → Type 0
+SpellsNoWords bytes = (words : List Text) → AllByRecursion IsWord words → bytes ≢ pieces words
+
+-- words with these bytes are so many
+abbrev pub AreSoMany : List ℕ → ℕ → Type 0
+AreSoMany bytes many = (words : List Text) → AllByRecursion IsWord words → bytes ≡ pieces words → length words ≡ many
+
+-- the bytes are those of the order; or of none
 abbrev pub IsOrderOf : List ℕ → Option Order → Type 0
 IsOrderOf bytes (Some order) = bytes ≡ order_bytes (string_bytes order.root) (map string_bytes order.words.items)
-IsOrderOf bytes None = Unit {0}
+IsOrderOf bytes None = SpellsNoOrder bytes

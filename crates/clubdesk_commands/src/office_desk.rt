@@ -107,8 +107,9 @@ fn answer_order<S: ClubStore, C: Clock>(
     desk: &mut Desk<S>,
     order: &Order,
 ) -> Option<Result<String, Fault>>
-    ensures { MatchOption result (desk.new ≡ desk.old) (λ answer. spec.DoesWords
-        S.disk_is_clean S.represents (string_bytes order.now.root)
+    ensures { MatchOption result ((desk.new ≡ desk.old) × spec.AskOther
+        (string_bytes order.now.root) (map string_bytes order.now.words.items))
+        (λ answer. spec.DoesWords S.disk_is_clean S.represents (string_bytes order.now.root)
         (map string_bytes order.now.words.items) (text_of answer) desk.old desk.new) }
 {
     match command_of(alloc, order.words.as_slice()) {
@@ -125,8 +126,9 @@ fn answer_asked<S: ClubStore, C: Clock>(
     root: &str,
     asked: Asked<'_>,
 ) -> Option<Result<String, Fault>>
-    ensures { MatchOption result (desk.new ≡ desk.old) (λ answer. spec.DoesAsked
-        S.disk_is_clean S.represents root.now asked.entry (text_of answer) desk.old desk.new) }
+    ensures { MatchOption result ((desk.new ≡ desk.old) × spec.AsksOther root.now asked.entry)
+        (λ answer. spec.DoesAsked S.disk_is_clean S.represents root.now asked.entry
+        (text_of answer) desk.old desk.new) }
 {
     match asked {
         Asked::ShowText(_text) => None,
@@ -144,8 +146,9 @@ fn perform<S: ClubStore, C: Clock>(
     desk: &mut Desk<S>,
     job: Job<'_>,
 ) -> Option<Result<String, Fault>>
-    ensures { MatchOption result (desk.new ≡ desk.old) (λ answer. IsOffice job.entry.task
-        × Does S.disk_is_clean S.represents job.entry.task (text_of answer) desk.old desk.new) }
+    ensures { MatchOption result ((desk.new ≡ desk.old) × (IsOffice job.entry.task → ⊥))
+        (λ answer. IsOffice job.entry.task × Does S.disk_is_clean S.represents job.entry.task
+        (text_of answer) desk.old desk.new) }
 {
     let Job { file: _, task } = job;
     if !is_office(&task) {

@@ -1,6 +1,6 @@
 //! The bytes of an order, as its command hands them to a server.
 
-ghost use Rattle.std.specs.Prelude.{◌≡◌, ◌++◌, ◌∷◌, [], IfOk, OnOk, map};
+ghost use Rattle.std.specs.Prelude.{◌≡◌, ◌++◌, ◌∷◌, [], IfOk, MatchOption, OnOk, length, map};
 ghost use Rattle.std.specs.String.{string_bytes};
 ghost use Rattle.clubdesk_commands.specs.Order as spec;
 
@@ -52,8 +52,8 @@ fn push_piece(bytes: &mut Vec<u8>, text: &str) -> Result<(), AllocError>
     Ok(())
 }
 
-/// The order that bytes spell; `None` if they spell none. What was read is spelled again, so that
-/// no other bytes are taken for it.
+/// The order that bytes spell; `None` if they spell none: an order of text without zero bytes, whose
+/// words are as many as it says.
 ///
 /// # Errors
 ///
@@ -61,30 +61,43 @@ fn push_piece(bytes: &mut Vec<u8>, text: &str) -> Result<(), AllocError>
 pub fn read_order(alloc: Global, bytes: &[u8]) -> Result<Option<Order>, AllocError>
     ensures { IfOk result (λ order. spec.IsOrderOf bytes.now order) }
 {
-    let Some(order) = split_order(alloc, bytes)? else {
+    let Ok(text) = str::from_utf8(bytes) else {
         return Ok(None);
     };
-    let again = order_bytes(alloc, order.root.as_str(), order.words.as_slice())?;
-    if again.as_slice() == bytes {
-        Ok(Some(order))
+    let Some((count, rest)) = text.split_once('\0') else {
+        return Ok(None);
+    };
+    let Some((root, rest)) = rest.split_once('\0') else {
+        return Ok(None);
+    };
+    let Some(words) = split_words(alloc, rest)? else {
+        return Ok(None);
+    };
+    let many = words.len();
+    let spelled = format!(in alloc; "{many}")?;
+    if spelled.as_str() == count {
+        let root = format!(in alloc; "{root}")?;
+        Ok(Some(Order { root, words }))
     } else {
         Ok(None)
     }
 }
 
-// The pieces of an order, not yet compared with its count.
-fn split_order(alloc: Global, bytes: &[u8]) -> Result<Option<Order>, AllocError> {
-    let Ok(text) = str::from_utf8(bytes) else {
-        return Ok(None);
-    };
-    let mut pieces = text.split_terminator('\0');
-    let (Some(_count), Some(root)) = (pieces.next(), pieces.next()) else {
-        return Ok(None);
-    };
-    let root = format!(in alloc; "{root}")?;
+// The words of which a text has the pieces; `None` if it has something behind the last piece.
+fn split_words(alloc: Global, text: &str) -> Result<Option<Vec<String>>, AllocError>
+    ensures { IfOk result (λ words. MatchOption words (spec.SpellsNoWords text.now)
+        (λ words. (text.now ≡ spec.pieces (map string_bytes words.items))
+        × spec.AreSoMany text.now (length words.items))) }
+{
     let mut words = Vec::new(alloc);
-    for word in pieces {
+    let mut rest = text;
+    while let Some((word, after)) = rest.split_once('\0') {
         words.push(format!(in alloc; "{word}")?)?;
+        rest = after;
     }
-    Ok(Some(Order { root, words }))
+    if rest.is_empty() {
+        Ok(Some(words))
+    } else {
+        Ok(None)
+    }
 }

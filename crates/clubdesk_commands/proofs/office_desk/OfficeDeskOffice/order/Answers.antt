@@ -15,3 +15,9 @@ returns g c =
     rw (← c.self.view_is)
     (spec.order_done _ _ (Err c.in-Some-Err.fault) (rw c.in-Ok-Some.field-0-is at c.in-Ok-Some.ensures)
     (rw c.in-Some-Err.field-0-is at c.in-Some-Err.ensures) c.refusal_of.ensures)
+
+pub returns-in-None : goal.returns-in-None
+returns-in-None g c =
+    rw (← c.self.view_is)
+    (spec.not_office _ _ (rw c.in-Ok-Some.field-0-is at c.in-Ok-Some.ensures) c.in-None.ensures.1 c.answer_of-in-None.ensures.status
+    c.in-None.ensures.0)
