@@ -43,8 +43,8 @@ pub record AreLeft (bytes : List ℕ) (before all : ℕ) : Type 0 where
   pub spelled : bytes ≡ pieces more
   pub so_many : before + length more ≡ all
 
-pub first_piece : (bytes : List ℕ) (result : Option (Bor (List ℕ) × Bor (List ℕ))) → IsSplitOnceResult 0 bytes result → (word : Text) (more : List ℕ) → LacksByte 0 word
-    → bytes ≡ piece word ++ more → MatchOption result ⊥ (λ parts. (parts.0.now ≡ word) × (parts.1.now ≡ more))
+pub first_piece : (bytes : List ℕ) (result : Option (Bor (List ℕ) × Bor (List ℕ))) → IsSplitOnceResult 0 bytes result → (word : Text) (more : List ℕ)
+    → LacksByte 0 word → bytes ≡ piece word ++ more → MatchOption result ⊥ (λ parts. (parts.0.now ≡ word) × (parts.1.now ≡ more))
 first_piece bytes result is word more lacks e = split_after 0 bytes word more result is (omega arith) (e ∙ append_assoc word (0 ∷ []) more) lacks
 
 length_piece : (word : Text) (more : List ℕ) → length (piece word ++ more) ≡ length word + suc (length more)
@@ -148,6 +148,11 @@ module _ (bytes : List ℕ) (root : Text) (words : List Text) (order : IsOrder b
   pub second_of : (rest : List ℕ) (result : Option (Bor (List ℕ) × Bor (List ℕ))) → rest ≡ piece root ++ pieces words → IsSplitOnceResult 0 rest result
       → MatchOption result ⊥ (λ parts. (parts.0.now ≡ root) × (parts.1.now ≡ pieces words))
   second_of rest result same is = first_piece rest result is root (pieces words) order.root_word.1 same
+
+  pub behind_root : (text : List ℕ) (count first other second : Bor (List ℕ)) → text ≡ bytes → IsSplitOnceResult 0 text (Some (count, first))
+      → IsSplitOnceResult 0 first.now (Some (other, second)) → (count.now ≡ decimal (length words)) × (second.now ≡ pieces words)
+  behind_root text count first other second same is more =
+      let head = first_of text (Some (count, first)) same is in (head.0, (second_of first.now (Some (other, second)) head.1 more).1)
 
 pub order_made : (bytes text count root first second : List ℕ) (words : List Text) → text ≡ bytes → text ≡ count ++ (0 ∷ first) → first ≡ root ++ (0 ∷ second)
     → second ≡ pieces words → count ≡ decimal (length words) → bytes ≡ order_bytes root words

@@ -52,8 +52,8 @@ fn push_piece(bytes: &mut Vec<u8>, text: &str) -> Result<(), AllocError>
     Ok(())
 }
 
-/// The order that bytes spell; `None` if they spell none: an order of text without zero bytes, whose
-/// words are as many as it says.
+/// The order that bytes spell; `None` if they spell none. Its root and its words are UTF-8 without
+/// zero bytes, and its words are as many as it says.
 ///
 /// # Errors
 ///

@@ -11,14 +11,17 @@ use Rattle.clubdesk_commands.proofs.order.split_words.Goals as goal
 pub loop-word-preserved : goal.loop-word-preserved
 loop-word-preserved c =
     let inv = c.loop-word.invariant in
-    let parts = split_parts 0 c.loop-word.rest.now (Some (c.in-Some.word, c.in-Some.after)) c.in-Some.ensures.cases (omega arith) in
+    let rest = c.loop-word.rest.now in
+    let items = c.loop-word.words.items in
+    let parts = split_parts 0 rest (Some (c.in-Some.word, c.in-Some.after)) c.in-Some.ensures.cases (omega arith) in
     rw c.in_ok-push.ensures.items
     record {
       text = search rules;
-      before = one_before string_bytes c.args.text.now c.loop-word.words.items c.in_ok-format.field-0 c.loop-word.rest.now c.in-Some.after.now inv.before (rw c.in_ok-format.ensures.ok parts.0);
+      before = one_before string_bytes c.args.text.now items c.in_ok-format.field-0 rest c.in-Some.after.now inv.before
+          (rw c.in_ok-format.ensures.ok parts.0);
       left = λ words all e.
-          let left = left_of c.loop-word.rest.now (length words) (length c.loop-word.words.items) (inv.left words all e) (c.in-Some.word, c.in-Some.after) c.in-Some.ensures.cases in
-          rw (length-append c.loop-word.words.items (c.in_ok-format.field-0 ∷ [])) left;
+          rw (length-append items (c.in_ok-format.field-0 ∷ []))
+          (left_of rest (length words) (length items) (inv.left words all e) (c.in-Some.word, c.in-Some.after) c.in-Some.ensures.cases);
     }
 
 pub returns-then-is_empty : goal.returns-then-is_empty
