@@ -173,12 +173,38 @@ class Trial:
         return "names", next((line for line in lines if FAULT.match(line)), lines[0])
 
 
-def take_libraries(copy):
-    """The libraries that are built here serve in the copy: rt takes one for built while its sources are the same."""
-    for crate in os.listdir(f"{ROOT}/crates"):
-        for part in ("rlib", "incremental"):
-            if os.path.isdir(f"{ROOT}/crates/{crate}/out/{part}"):
-                shutil.copytree(f"{ROOT}/crates/{crate}/out/{part}", f"{copy}/crates/{crate}/out/{part}")
+def link_or_copy(source, target):
+    try:
+        os.link(source, target)
+    except OSError:
+        shutil.copy2(source, target)
+
+
+def crates_below(names):
+    """The crates that these use, and those that they use in turn, by crates.txt."""
+    uses = {}
+    for line in read(f"{ROOT}/crates.txt").split("\n"):
+        name, colon, used = line.partition("#")[0].partition(":")
+        if colon:
+            uses[name.split()[0]] = used.split()
+    below, left = set(), list(names)
+    while left:
+        for used in uses.get(left.pop(), []):
+            if used in uses and used not in below:
+                below.add(used)
+                left.append(used)
+    return below
+
+
+def take_libraries(copy, names):
+    """The libraries that are built here serve in the copy: rt takes one for built while its sources are the same. No check writes to
+    those below the crates that are tried, so they are linked."""
+    below = crates_below(names) - set(names)
+    for crates, parts, copies in ((below, ("rlib",), link_or_copy), (names, ("rlib", "incremental"), shutil.copy2)):
+        for crate in crates:
+            for part in parts:
+                if os.path.isdir(f"{ROOT}/crates/{crate}/out/{part}"):
+                    shutil.copytree(f"{ROOT}/crates/{crate}/out/{part}", f"{copy}/crates/{crate}/out/{part}", copy_function=copies)
 
 
 def try_crate(copy, name, wanted, counts):
@@ -217,10 +243,10 @@ def main(words):
     counts = {}
     with tempfile.TemporaryDirectory(prefix="more-edits-") as copy:
         shutil.copytree(ROOT, copy, dirs_exist_ok=True, ignore=shutil.ignore_patterns("out", ".git"))
-        take_libraries(copy)
-        for name in names:
-            if not wanted or name in wanted:
-                try_crate(copy, name, wanted.get(name), counts)
+        tried = [name for name in names if not wanted or name in wanted]
+        take_libraries(copy, tried)
+        for name in tried:
+            try_crate(copy, name, wanted.get(name), counts)
     print(", ".join(f"{counts.get(word, 0)} {word}" for word in WORDS))
     return 1 if counts.get("proved") or counts.get("bad") else 0
 
