@@ -16,11 +16,11 @@ import time
 desk, file, port, orders = sys.argv[1], sys.argv[2], int(sys.argv[3]), sys.argv[4]
 passes = dict(line.split() for line in open("passes"))
 wrong = []
-order_times, request_times = [], []
+order_times, booking_times, request_times = [], [], []
 
 
-def ask(key, method, path, body=""):
-    """The status and the body of the reply to a request under a key's pass."""
+def ask(key, method, path, body="", is_new=False):
+    """The status and the body of the reply to a request under a key's pass; `is_new` is a booking's first."""
     head = f"{method} {path} HTTP/1.1\r\nHost: club\r\nAuthorization: Bearer {passes[key]}\r\nContent-Length: {len(body)}\r\n\r\n"
     begun = time.monotonic()
     with socket.create_connection(("127.0.0.1", port), 60) as client:
@@ -28,7 +28,10 @@ def ask(key, method, path, body=""):
         reply = b""
         while part := client.recv(4096):
             reply += part
-    request_times.append(time.monotonic() - begun)
+    took = time.monotonic() - begun
+    request_times.append(took)
+    if is_new:
+        booking_times.append(took)
     head, _, body = reply.partition(b"\r\n\r\n")
     return int(head.split()[1]), json.loads(body)
 
@@ -46,7 +49,7 @@ def client(place):
         day, hour = f"2026-05-{1 + number // 14:02d}", 8 + number % 14
         slot = f"/slots/{court}/{day}/{hour:02d}"
         made = (200, {"booking": f"{key}/{number}", "charge": 14, "left": 2})
-        expect(slot, ask(key, "PUT", f"{slot}/bookings/{number}", '{"guests":1}'), made)
+        expect(slot, ask(key, "PUT", f"{slot}/bookings/{number}", '{"guests":1}', is_new=True), made)
         spent, booked = spent + 14, booked + 1
         expect(f"{slot} again", ask(key, "PUT", f"{slot}/bookings/{number}", '{"guests":1}'), made)
         if number % 3 == 0:
@@ -115,7 +118,7 @@ def drips(client):
 def times(what, found):
     found.sort()
     middle, last = found[len(found) // 2], found[-1]
-    print(f"{len(found)} {what}: half of them within {middle * 1000:.0f} ms, the longest {last * 1000:.0f} ms")
+    print(f"{len(found)} {what}: half of them within {middle * 1000:.1f} ms, the longest {last * 1000:.1f} ms")
 
 
 if orders == "slow":
@@ -134,6 +137,7 @@ else:
         worker.join()
     if order_times:
         times("orders", order_times)
+    times("bookings", booking_times)
     times("requests", request_times)
     expect("orders", len(order_times), int(orders))
     expect("requests", len(request_times), 5000)
