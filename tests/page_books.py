@@ -260,6 +260,8 @@ class BookingPage(Browser):
         self.when(f"shownDay() === '{wanted}' && dayIsThere()", "a day")
 
     def offer(self, facility, hour):
+        """Presses a slot, once the page has what it wants for it: the desk's answer, and the record."""
+        self.when(f"!cellAt('{facility}', {hour}).button.disabled", "a slot that can be pressed", facility, hour)
         self.run("cellAt(...arguments).button.click()", facility, hour)
 
     def press(self, words, root="dialog"):
@@ -889,10 +891,13 @@ def survives_kills(front, passes, server):
     """Bookings and cancellations while the server is killed: the record is the table."""
     with BookingPage(front) as page:
         page.enter(passes["kill-1"])
+        page.when("state.sender !== null", "the record")
         page.run("""
             globalThis.made = 0;
+            globalThis.fault = null;
             const slots = [];
-            for (let ahead = 10; ahead < 50; ahead += 1) for (const facility of ["court-1", "court-2", "boat-2"]) {
+            // On days of which no other step books a slot.
+            for (let ahead = 40; ahead < 60; ahead += 1) for (const facility of ["court-1", "court-2", "boat-2"]) {
               for (let hour = 8; hour < 22; hour += 1) slots.push({ facility, day: daysLater(clubMoment().slice(0, 10), ahead), hour });
             }
             globalThis.work = (async () => {
@@ -906,9 +911,11 @@ def survives_kills(front, passes, server):
                 }
                 made += 1;
               }
-            })();""", BOOKINGS)
+            })().catch((thrown) => { fault = String(thrown); });""", BOOKINGS)
         kills = 0
         while page.run("return made") < BOOKINGS:
+            fault = page.run("return fault")
+            check(fault is None, "a booking that failed", fault)
             time.sleep(draw.uniform(0.05, 0.5))
             if kills < KILLS:
                 server.kill()
