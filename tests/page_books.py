@@ -1310,7 +1310,7 @@ def keep(name, picture):
 
 
 def on_three_phones(front, passes):
-    """A day, a booking and my bookings side by side, as README shows them."""
+    """A day, a booking and my bookings side by side, as README shows them, and a day in three widths, as docs/BOOKING.md does."""
     with BookingPage(front) as page:
         page.sees(360, "light", 740)
         page.enter(passes["carol-1"])
@@ -1336,13 +1336,26 @@ def on_three_phones(front, passes):
         stripes.append(page.command("Page.captureScreenshot")["data"])
         page.run("return state.sender.cancel(arguments[0], arguments[1])", entry["key"], entry["number"])
         page.run("return state.sender.run()")
-        page.open("about:blank")
-        page.sees(1120, "light", 740)
-        page.driver.execute_script("""document.body.style.cssText = "margin: 0; display: flex; gap: 20px; background: #c9d0ca";
-            for (const stripe of arguments[0]) document.body.append(Object.assign(new Image(), { src: "data:image/png;base64," + stripe }));
-            return Promise.all([...document.images].map((image) => image.decode()));""", stripes)
-        keep("booking-page.png", page.command("Page.captureScreenshot")["data"])
-    print("a picture of a day, a booking and my bookings")
+        side_by_side(page, "booking-page.png", stripes, 1120, 740)
+        page.enter(passes["carol-1"])
+        page.go(day(27))
+        widths = []
+        for width, height in [(360, 740), (768, 900), (1280, 900)]:
+            page.sees(width, "light", height)
+            time.sleep(0.5)
+            widths.append(page.command("Page.captureScreenshot")["data"])
+        side_by_side(page, "booking-widths.png", widths, 1283, 450)
+    print("pictures of a day, a booking and my bookings, and of a day on a telephone, a tablet and a computer")
+
+
+def side_by_side(page, name, pictures, width, height):
+    page.open("about:blank")
+    page.sees(width, "light", height)
+    page.driver.execute_script("""document.body.style.cssText = "margin: 0; display: flex; gap: 20px; background: #c9d0ca";
+        const [pictures, height] = arguments;
+        for (const it of pictures) document.body.append(Object.assign(new Image(), { height, src: "data:image/png;base64," + it }));
+        return Promise.all([...document.images].map((image) => image.decode()));""", pictures, height)
+    keep(name, page.command("Page.captureScreenshot")["data"])
 
 
 def hall_screen(front, passes, server):
