@@ -11,10 +11,13 @@ Not part of the gate. STEP=N refuses each Nth allocation alone, which is faster.
 # groups: faults
 # wants: python3-pytest gcc libc6-dev
 
+import hashlib
 import os
 import sqlite3
 import subprocess
 import time
+from concurrent.futures import ThreadPoolExecutor
+from pathlib import Path
 
 import pytest
 
@@ -55,7 +58,7 @@ class Order:
         self.before, self.club, (name, *values) = before, Club(program, folder / "club"), words.split()
         self.words = [program, name, self.club.file, *values]
         self.rows, self.after = rows(before), rows(self.model(folder / "model", ORDERS[words]))
-        self.whole = self.ended()
+        self.whole, self.found = self.ended(), {}
 
     def model(self, file, change):
         model = self.before.copied_to(file)
@@ -74,11 +77,14 @@ class Order:
         return run.returncode, run.stdout, run.stderr
 
     def keeps_a_club(self, *wanted):
-        """What lies in the file and its log is one of these, and clubdesk reads it."""
-        found = rows(self.club.copied_to(self.club.file.with_name("copied")))
-        assert found in wanted
-        self.club.does("sheet 2026-05-01")
-        assert rows(self.club) == found
+        """What lies in the file and its log is one of these, and clubdesk reads it. The same bytes are looked at once."""
+        state = hashlib.sha256(b" log ".join(it.read_bytes() for it in (self.club.file, Path(f"{self.club.file}-wal")) if it.exists())).digest()
+        if state not in self.found:
+            found = rows(self.club.copied_to(self.club.file.with_name("copied")))
+            self.club.does("sheet 2026-05-01")
+            assert rows(self.club) == found
+            self.found[state] = found
+        assert self.found[state] in wanted
 
     def tried(self, ended, fault, *statuses):
         """Ended as if nothing were refused, or with one of these statuses and no output; whether it did so."""
@@ -89,13 +95,15 @@ class Order:
         assert ended[0] in statuses and ended[1] == "" and (ended[0] == 2 or ended[2] == fault), ended
         return True
 
-    def refuse_memory(self, library, told):
-        count, allocation = 0, 1
-        while allocation == 1 or told.exists():
+    def refuse_memory(self, library, first, step):
+        """Refuses the allocation of this number, and each that is a step behind, to the last."""
+        told = self.club.file.with_name("told")
+        count, allocation = 0, first
+        while allocation == first or told.exists():
             told.unlink(missing_ok=True)
-            ended = self.ended(REFUSED_ALLOCATION=str(allocation), REFUSAL_TOLD=str(told), LD_PRELOAD=library("refused_memory"))
+            ended = self.ended(REFUSED_ALLOCATION=str(allocation), REFUSAL_TOLD=str(told), LD_PRELOAD=library)
             count += self.tried(ended, "out of memory\n", 4, 2)
-            allocation += STEP
+            allocation += step
         return count
 
     def refuse_storage(self):
@@ -120,7 +128,14 @@ def test_order(clubdesk, library, tmp_path, words):
     before.file.touch()
     for it in list(ORDERS)[:list(ORDERS).index(words)]:
         before.does(it)
-    order = Order(clubdesk, tmp_path, before, words)
-    assert order.whole[0] == 0
-    assert order.refuse_memory(library, tmp_path / "told") and order.refuse_storage()
-    order.kill()
+    orders = []
+    for place in range(len(os.sched_getaffinity(0))):
+        (tmp_path / str(place)).mkdir()
+        orders.append(Order(clubdesk, tmp_path / str(place), before, words))
+    assert orders[0].whole[0] == 0
+    refused_memory = library("refused_memory")
+    with ThreadPoolExecutor(len(orders)) as pool:
+        counts = pool.map(lambda place: orders[place].refuse_memory(refused_memory, 1 + place * STEP, len(orders) * STEP), range(len(orders)))
+        assert all(counts)
+    assert orders[0].refuse_storage()
+    orders[0].kill()
