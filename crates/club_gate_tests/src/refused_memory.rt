@@ -1,5 +1,5 @@
 //! Orders of the office and the known booking if an allocation is refused.
-//! `tests/refused_memory_tests.sh` refuses each in turn, and none after it: a call that is out of
+//! `tests/refused_memory_tests.py` refuses each in turn, and none after it: a call that is out of
 //! memory changes nothing, and a second call is answered.
 
 use crate::counter::reply;

@@ -1,4 +1,4 @@
-//! Openings of a store, and what it shows then. `tests/refused_memory_tests.sh` refuses each of its
+//! Openings of a store, and what it shows then. `tests/refused_memory_tests.py` refuses each of its
 //! allocations in turn, and none after it: an opening that is out of memory leaves the database as
 //! it was, and a second one opens it.
 

@@ -1,5 +1,5 @@
 //! Passes that are read and written in each form where an allocation is refused.
-//! `tests/refused_memory_tests.sh` refuses each in turn, and none after it: a second call is given
+//! `tests/refused_memory_tests.py` refuses each in turn, and none after it: a second call is given
 //! what it asks for.
 
 use crate::any::{BARE, EXAMPLE, KNOWN};

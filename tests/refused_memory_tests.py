@@ -1,0 +1,125 @@
+#!/usr/bin/env -S /usr/bin/python3 -B
+"""Tests with each allocation refused in turn: the known passes read and written in each form, each opening of a store, each order of the
+office, and the known booking through `Desk::ask`, `Desk::run` and `answer`. Each call answers as if nothing had been refused, or is
+out of memory and has changed nothing.
+
+It fails where a test isn't there, fails with ample memory, or allocates nothing. Tests that are missing or older than their sources are
+proved and built first. Not part of the gate.
+
+Name tests that pass each fault on, or compare what they get with out of memory and with the right answer: one that expects
+another fault fails where memory is refused instead.
+  tests/refused_memory_tests.py                                              the tests of the list below
+  tests/refused_memory_tests.py club_store_tests                                  those of one crate
+  tests/refused_memory_tests.py club_store_tests store::shows_what_a_key_sees ..  any tests of a crate
+"""
+# groups: proofs
+# wants: gcc libc6-dev
+
+import os
+import re
+import subprocess
+import sys
+import tempfile
+import time
+from concurrent.futures import ThreadPoolExecutor
+from pathlib import Path
+
+import desk
+
+CRATES = (desk.ROOT / "crates.txt").read_text(encoding="utf-8")
+# Of each crate its tests; those without another module are in `refused_memory`.
+TESTS = {
+    "pass_json_tests": "known_pass known_pass_without_its_caveat example",
+    "club_store_tests": "store_in_memory empty_database tables_of_version_1 tables_without_the_index tables_of_version_2"
+                        " new_file file_of_version_1 file_without_the_index file_of_version_2",
+    "club_gate_tests": "orders ask_in_v1 ask_in_v2 ask_in_json run_in_v1 run_in_v2 run_in_json",
+    "exchange_tests": "exchange_in_v1 exchange_in_v2 exchange_in_json faults_of_bytes",
+    "club_http_tests": "bodies::refused_memory counted::refused_memory",
+}
+FAULT = r"([A-Za-z]+\()*((OutOf)?Memory|AllocError|AllocFailed \{ \.\. \}|Os \{ code: 12, kind: OutOfMemory, .*\})\)*"
+# Files of the tests lie in memory, where a sync costs nothing.
+ROOM = tempfile.TemporaryDirectory(dir="/dev/shm" if os.access("/dev/shm", os.W_OK) else None)
+
+
+def crates_below(crate):
+    """Those of this repository that a crate stands on, and the crate."""
+    named = re.search(rf"^{crate}(?: [^:\n]*)?:([^#\n]*)", CRATES, re.MULTILINE)[1].split()
+    return {crate}.union(*(crates_below(it) for it in named if (desk.ROOT / "crates" / it / "src").is_dir()))
+
+
+def built(crate):
+    """The tests of a crate, proved and built where they are missing, or older than the sources that they are built from."""
+    if not (desk.ROOT / "crates" / crate / "src").is_dir():
+        sys.exit(f"there is no crate {crate}")
+    program, begun = desk.ROOT / "crates" / crate / "out" / f"{crate}_tests", time.time()
+    sources = [it for each in crates_below(crate) for part in ("src", "specs", "proofs") for it in (desk.ROOT / "crates" / each / part).rglob("*")]
+    if not program.exists() or any(it.stat().st_mtime > program.stat().st_mtime for it in [desk.ROOT / "crates.txt", *sources]):
+        print(f"{crate}: proving and building its tests first, which takes some minutes", file=sys.stderr)
+        ran = subprocess.run(["rt", "test", "--jobs", "1"], cwd=desk.ROOT / "crates" / crate, stdin=subprocess.DEVNULL, stdout=subprocess.PIPE,
+                             stderr=subprocess.STDOUT, text=True, check=False)
+        if ran.returncode:
+            sys.exit("\n".join([*ran.stdout.splitlines()[-20:], f"{crate}: its tests could not be proved and built, or failed"]))
+        if not program.exists():
+            sys.exit(f"{crate} has no tests")
+        os.utime(program, (begun, begun))  # an edit during the build is newer than the program, so the next call builds again
+    return program
+
+
+def ends_without_memory(output):
+    """Whether a test that failed ended with out of memory: what it passed on, or what it got in place of another value, is that fault and
+    nothing beside it, in an `Err` or the like. One that names the fault elsewhere, as what it had expected, failed otherwise."""
+    def has_line(head):
+        return any(re.fullmatch(head + FAULT, line) for line in output.splitlines())
+
+    return has_line("  left: ") and not has_line(" right: ") if re.search("^assertion ", output, re.MULTILINE) else has_line("([^:]+: )?")
+
+
+def run(program, test, **variables):
+    """The status and the output of one test, in a folder of its own."""
+    with tempfile.TemporaryDirectory(dir=ROOM.name) as folder:
+        ran = subprocess.run([program, test], stdout=subprocess.PIPE, stderr=subprocess.STDOUT, text=True, errors="replace", timeout=60, check=False,
+                             env={**os.environ, "TMPDIR": folder, "LD_PRELOAD": f"{ROOM.name}/refuse.so", **variables})
+    return ran.returncode, ran.stdout
+
+
+def refuse(crate, test, program, pool):
+    """Runs a test with ample memory, and then with each of its allocations refused; how many there are."""
+    if f"{test}: test" not in subprocess.run([program, "--list"], capture_output=True, text=True, check=True).stdout.splitlines():
+        sys.exit(f"{crate} has no test {test}")
+    counted = Path(ROOM.name, "counted")
+    status, output = run(program, test, ALLOCATIONS_COUNTED=str(counted))
+    if status:
+        sys.exit(f"{output}{crate} {test} fails with ample memory")
+
+    def refused(number):
+        told = Path(ROOM.name, f"refused.{number}")
+        status, output = run(program, test, REFUSED_ALLOCATION=str(number), REFUSAL_TOLD=str(told))
+        if status and not ends_without_memory(output):
+            sys.exit(f"status {status}\n{output}{crate} {test}: fails otherwise where allocation {number} is refused")
+        is_refused = told.exists()
+        told.unlink(missing_ok=True)
+        return is_refused, status != 0
+
+    found = list(pool.map(refused, range(1, int(counted.read_text()) + 1)))
+    count, ended = (sum(it) for it in zip(*found, (False, False)))
+    if not count:
+        sys.exit(f"{crate} {test}: no allocation was seen")
+    print(f"{crate} {test}: of {count} allocations, refused in turn, {ended} ended the run, each with out of memory", flush=True)
+    return count
+
+
+def main(crate=None, *tests):
+    if crate and not tests and crate not in TESTS:
+        sys.exit(f"the list has no test of {crate}")
+    listed = {crate: " ".join(tests) or TESTS[crate]} if crate else TESTS
+    counts = []
+    subprocess.run(["cc", "-shared", "-fPIC", "-O1", "-o", f"{ROOM.name}/refuse.so", desk.TESTS / "refused_memory.c", "-ldl"], check=True)
+    with ThreadPoolExecutor(os.cpu_count()) as pool:
+        for name, words in listed.items():
+            program = built(name)
+            counts += [refuse(name, it if "::" in it else f"refused_memory::{it}", program, pool) for it in words.split()]
+    print(f"{len(counts)} tests, {sum(counts)} allocations refused")
+
+
+with ROOM:
+    main(*sys.argv[1:])
