@@ -11,16 +11,17 @@ client asks them by turns. The calls of the system are those of 101 requests les
   tests/beside_c.py [COUNT [ROUNDS [ROWS ..]]]      COUNT requests of each kind in a round, at most 600; without: 500 7 100 100000
 """
 # groups: speed alone
-# wants: gcc libc6-dev sqlite3 libsqlite3-dev nettle-dev strace
+# wants: gcc libc6-dev libsqlite3-dev nettle-dev strace
 
 import os
 import re
-
+import sqlite3
 import statistics
 import subprocess
 import sys
 import tempfile
 from collections import Counter
+from contextlib import closing
 
 import desk
 from kinds import ACCOUNT, NOON, TWO, Row, key_pass, text
@@ -68,34 +69,19 @@ class Asker:
 
 
 def make_file(clubdesk, path, rows, has_big):
-    """A club with so many bookings of the past, two after another in a slot."""
+    """A club with 50 courts and so many bookings of the past; then also a member with 10,000 of its own, and one with none."""
     subprocess.run([clubdesk, "add-member", path, "x", "1"], check=True, stdout=subprocess.DEVNULL)
-    own = lambda count: f"WITH RECURSIVE n(i) AS (SELECT 0 UNION ALL SELECT i + 1 FROM n WHERE i + 1 < {count})"
-    book = lambda key, number, court: (
-        f"INSERT INTO bookings SELECT {key}, {number}, '{court}', 10957 + i / 48, i / 2 % 24, 1, 2, 46, 0, 0 FROM n;"
-    )
-    sql = [
-        "BEGIN;",
-        f"{own(1000)} INSERT INTO members SELECT printf('m%03d', i), 900000, 99, 0 FROM n;",
-        f"{own(1000)} INSERT INTO keys SELECT printf('k%03d', i), printf('m%03d', i), x'{ROOT.hex()}', 0 FROM n;",
-        f"{own(50)} INSERT INTO facilities SELECT 'court-' || (i + 1), 'court', 50, 1, 0, 24 FROM n;",
-        f"{own(rows)} {book('printf(chr, i % 1000)', 'i / 1000 + 1', 'court-1')}".replace("chr", "'k%03d'"),
-    ]
+    numbers = "WITH n(i) AS (SELECT 1 UNION ALL SELECT i + 1 FROM n WHERE i < {})".format
+    statements = [f"{numbers(50)} INSERT INTO facilities SELECT 'court-' || i, 'court', 50, 1, 0, 24 FROM n"]
     if has_big:
-        sql += [
-            "INSERT INTO members VALUES ('big', 900000, 99, 0);",
-            f"INSERT INTO keys VALUES ('big', 'big', x'{ROOT.hex()}', 0);",
-            "INSERT INTO members VALUES ('new', 900000, 99, 0);",
-            f"INSERT INTO keys VALUES ('new', 'new', x'{ROOT.hex()}', 0);",
-            f"{own(BIG_ROWS)} {book(chr(39) + 'big' + chr(39), 'i + 1', 'court-2')}",
-        ]
-    sql += [
-        "UPDATE members SET used = coalesce((SELECT sum(charge) FROM bookings JOIN keys ON keys.name = pass_key"
-        " WHERE member = members.name), 0);",
-        "INSERT INTO slots SELECT facility, day, hour, 0, sum(guests + 1) FROM bookings GROUP BY 1, 2, 3;",
-        "COMMIT;",
-    ]
-    subprocess.run(["sqlite3", path], input="\n".join(sql), text=True, check=True)
+        statements += [f"INSERT INTO {table} VALUES ('{name}', {values})" for name in ("big", "new") for table, values in (
+            ("members", "900000, 99, 0"), ("keys", f"'{name}', x'{ROOT.hex()}', 0"))]
+        statements += [f"""{numbers(BIG_ROWS)} INSERT INTO bookings
+            SELECT 'big', i, 'court-2', 10957 + (i - 1) / 48, (i - 1) / 2 % 24, 1, 2, 46, 0, 0 FROM n""",
+                       "INSERT INTO slots SELECT facility, day, hour, 0, sum(guests + 1) FROM bookings GROUP BY 1, 2, 3"]
+    with closing(sqlite3.connect(path)) as database:
+        database.executescript(f"BEGIN; {'; '.join(statements)}; COMMIT")
+    desk.add_past_bookings(path, rows, ROOT.hex())
 
 
 def built(name, *libraries):
@@ -193,7 +179,7 @@ def main():
         os.chdir(folder)
         built("desk", "-lsqlite3", "-lnettle"), built("plain"), built("client")
         print(f"{'bookings':>28} {'':8} {'clubdesk':>8} {'C desk':>8} {'ratio':>6} {'plain':>8} {'ratio':>6}   microseconds, medians of {rounds} rounds")
-        keys = [f"k{n:03}" for n in range(KEYS_ASKED)]
+        keys = [f"x{n:03}" for n in range(KEYS_ASKED)]
         for size in sizes:
             make_file(clubdesk, f"club{size}", size, size == sizes[-1])
             found = measure(clubdesk, f"club{size}", Asker(keys, 1000, 0), count, rounds)

@@ -133,11 +133,7 @@ def test_servers_and_clients_that_are_killed(clubdesk, tmp_path):
     for number, action, *numbers in (line for line in lines if line != ["again"]):
         row = by_number[int(number)]
         assert [int(it) for it in numbers] == (list(row[4:6]) if action == "book" else [row[7]]), number
-    for total in ("SELECT name FROM members WHERE used <> (SELECT total(charge - refund) FROM bookings JOIN keys ON keys.name = pass_key"
-                  " WHERE member = members.name)",
-                  "SELECT * FROM slots s WHERE taken <> (SELECT total(guests + 1) FROM bookings b WHERE cancelled = 0"
-                  " AND b.facility = s.facility AND b.day = s.day AND b.hour = s.hour)"):
-        assert club.sql(total) == []
+    assert not desk.unsound(club.file)
 
 
 @pytest.fixture

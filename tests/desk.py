@@ -109,6 +109,39 @@ def rows(file, statement):
     return found
 
 
+# docs/TABLES.md, an auditor's sums: each row of a file that isn't sound.
+SUMS = """
+SELECT 'used', name FROM members WHERE used <> (SELECT total(charge - refund) FROM bookings JOIN keys ON keys.name = pass_key WHERE member = members.name)
+UNION ALL SELECT 'taken', facility || day || ' ' || hour FROM slots s WHERE taken <> (SELECT total(guests + 1) FROM bookings b WHERE cancelled = 0
+    AND (b.facility, b.day, b.hour) = (s.facility, s.day, s.hour))
+UNION ALL SELECT 'no slot', pass_key || number FROM bookings b WHERE cancelled = 0 AND (facility, day, hour) NOT IN (SELECT facility, day, hour FROM slots)
+UNION ALL SELECT 'below 0', name FROM members WHERE used > credited
+UNION ALL SELECT 'foreign key', "table" FROM pragma_foreign_key_check
+UNION ALL SELECT 'integrity', integrity_check FROM pragma_integrity_check WHERE integrity_check <> 'ok'"""
+
+
+def unsound(file):
+    """What of a file's totals is off."""
+    return rows(file, SUMS)
+
+
+def add_past_bookings(file, count, root):
+    """Adds members x000 to x999, each with a key of its name, and so many bookings of theirs in `old-court`, two after another in a slot; the totals
+    are the sums."""
+    thousand = "WITH n(i) AS (SELECT 0 UNION ALL SELECT i + 1 FROM n WHERE i < 999)"
+    with sqlite3.connect(file) as database:
+        database.executescript(f"""BEGIN;
+            {thousand} INSERT INTO members SELECT printf('x%03d', i), 900000, 99, 0 FROM n;
+            {thousand} INSERT INTO keys SELECT printf('x%03d', i), printf('x%03d', i), x'{root}', 0 FROM n;
+            INSERT INTO facilities VALUES ('old-court', 'court', 50, 1, 0, 24);
+            WITH n(i) AS (SELECT 0 UNION ALL SELECT i + 1 FROM n WHERE i + 1 < {count}) INSERT INTO bookings
+                SELECT printf('x%03d', i % 1000), i / 1000 + 1, 'old-court', 10957 + i / 48, i / 2 % 24, 1, 2, 46, 0, 0 FROM n;
+            INSERT INTO slots SELECT facility, day, hour, 0, sum(guests + 1) FROM bookings WHERE facility = 'old-court' GROUP BY 1, 2, 3;
+            UPDATE members SET used = (SELECT coalesce(sum(charge - refund), 0) FROM bookings JOIN keys ON keys.name = pass_key WHERE member = members.name);
+            COMMIT""")
+    database.close()
+
+
 class Pace:
     """Prints how far a test is, every ten seconds."""
 

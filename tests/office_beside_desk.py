@@ -1,112 +1,187 @@
-"""Four clients at a server, and two offices beside it: office_beside_desk.py DESK FILE PORT ORDERS.
-
-Reads the passes of the keys k1 to k4 from the file `passes`. Each client makes 1,250 requests at a facility of its own, and each
-reply has to be that which it reckons; the offices give 500 orders, or none, and each has to print what it reckons. Prints how long
-the orders and the requests took. With `slow` for the orders: orders beside a silent client, and beside a client that sends a byte a
-second, at a server with a patience of four seconds; each ends within a fraction of a second, while the client is still awaited.
+#!/usr/bin/env -S /usr/bin/python3 -B -m pytest -q -x -s -p no:cacheprovider
+"""The office beside the desk, with real processes: 500 orders of two offices, by the server's door, while four clients make 5,000
+requests of it, each order and each reply as it has to be, and the totals are the sums, by sqlite3 once the server is stopped. Then
+20 kills of servers and of orders, a client that is silent, a door that is stale or taken, a second server, links to the file and
+its folder, a file that is moved, another user, and the modes of the files. Prints how long orders and requests took, in one run
+with a server without orders, also at 300,000 bookings. Not part of the gate.
 """
+# groups: programs faults
+# wants: python3-pytest sqlite3 util-linux
 
-import json
+import os
 import socket
+import stat
+import statistics
 import subprocess
-import sys
+import tempfile
 import threading
 import time
+from concurrent.futures import ThreadPoolExecutor
+from pathlib import Path
 
-desk, file, port, orders = sys.argv[1], sys.argv[2], int(sys.argv[3]), sys.argv[4]
-passes = dict(line.split() for line in open("passes"))
-wrong = []
-order_times, booking_times, request_times = [], [], []
+import pytest
 
+import desk
+from conftest import Club
+from kinds import ACCOUNT, NOON, ROOT, TWO, book, booked, cancel, key_pass, slot, text, view
 
-def ask(key, method, path, body="", is_new=False):
-    """The status and the body of the reply to a request under a key's pass; `is_new` is a booking's first."""
-    head = f"{method} {path} HTTP/1.1\r\nHost: club\r\nAuthorization: Bearer {passes[key]}\r\nContent-Length: {len(body)}\r\n\r\n"
-    begun = time.monotonic()
-    with socket.create_connection(("127.0.0.1", port), 60) as client:
-        client.sendall((head + body).encode())
-        reply = b""
-        while part := client.recv(4096):
-            reply += part
-    took = time.monotonic() - begun
-    request_times.append(took)
-    if is_new:
-        booking_times.append(took)
-    head, _, body = reply.partition(b"\r\n\r\n")
-    return int(head.split()[1]), json.loads(body)
+PASSES = {place: text(key_pass(f"k{place}")) for place in range(1, 5)}
+DONE, FAILED = (0, "done\n"), (5, "storage failed\n")
 
 
-def expect(what, found, wanted):
-    if found != wanted:
-        wrong.append(f"{what}: {found}, wanted {wanted}")
+@pytest.fixture(scope="module")
+def made(clubdesk):
+    """For each client a court, a member with 10,000 points and a key; for each office a room, and a key to revoke."""
+    with tempfile.TemporaryDirectory() as folder:
+        club = Club(clubdesk, Path(folder, "made"))
+        for n in PASSES:
+            for words in (f"add-facility court-{n} court 4 7 8 22", f"add-member m{n} 99", f"credit m{n} 10000", f"add-key k{n} m{n} {ROOT}"):
+                club.does(words)
+        for n in (1, 2):
+            club.does(f"add-facility room-{n} room 1 5 8 22")
+            club.does(f"add-key old-{n} m1 {ROOT}")
+        assert [stat.filemode(os.stat(f"{club.file}{it}").st_mode) for it in ("", "-wal")] == ["-rw-------"] * 2
+        yield club
 
 
-def client(place):
-    """Ninety rounds: a booking, its repeat, the slot and the account; every third booking is cancelled. Then the account."""
-    key, court = f"k{place}", f"court-{place}"
-    spent = booked = 0
+@pytest.fixture(scope="module")
+def club(made):
+    return made.copied_to(made.file.with_name("club"))
+
+
+class Server(desk.Server):
+    """One for many clients, which is killed at the end of its block."""
+
+    def __init__(self, club, *words):
+        super().__init__(club.program, club.file, 1_000_000, "--at", NOON, *words)
+
+    def __exit__(self, *fault):
+        self.kill()
+        super().__exit__(*fault)
+
+
+class Times(list):
+    """How long calls took, in seconds."""
+
+    def of(self, act, *words, also=None):
+        begun = time.monotonic()
+        found = act(*words)
+        for it in [self] if also is None else [self, also]:
+            it.append(time.monotonic() - begun)
+        return found
+
+    def show(self, what):
+        print(f"{len(self)} {what}: half of them within {statistics.median(self) * 1000:.1f} ms, the longest {max(self) * 1000:.1f} ms", flush=True)
+
+
+def asked_by(place):
+    """Ninety rounds: a booking, its repeat, the slot and the account; every third booking is cancelled. Then the account, 1,250 requests in all."""
+    spent = opened = 0
     for number in range(1, 91):
-        day, hour = f"2026-05-{1 + number // 14:02d}", 8 + number % 14
-        slot = f"/slots/{court}/{day}/{hour:02d}"
-        made = (200, {"booking": f"{key}/{number}", "charge": 14, "left": 2})
-        expect(slot, ask(key, "PUT", f"{slot}/bookings/{number}", '{"guests":1}', is_new=True), made)
-        spent, booked = spent + 14, booked + 1
-        expect(f"{slot} again", ask(key, "PUT", f"{slot}/bookings/{number}", '{"guests":1}'), made)
-        if number % 3 == 0:
-            back = (200, {"booking": f"{key}/{number}", "refund": 14})
-            expect(f"{slot} cancelled", ask(key, "DELETE", f"{slot}/bookings/{number}"), back)
-            spent, booked = spent - 14, booked - 1
-        taken = 0 if number % 3 == 0 else 2
-        expect(f"{slot} taken", ask(key, "GET", slot)[1].get("taken"), taken)
-        account(key, place, spent, booked)
-    for _ in range(1250 - 90 * 4 - 30):
-        account(key, place, spent, booked)
+        day, hour, is_cancelled = f"{1 + number // 14:02}", 8 + number % 14, number % 3 == 0
+        path = slot(f"{hour:02}", day, f"court-{place}")
+        made = booked(book(number, TWO, path), 14, 2, f"k{place}")
+        yield from (made, made)
+        if is_cancelled:
+            yield cancel(number, path).serves(booking=f"k{place}/{number}", refund=14)
+        else:
+            spent, opened = spent + 14, opened + 1
+        yield view(path).serves(facility=f"court-{place}", day=f"2026-05-{day}", hour=hour, kind="court", price=7, places=4, taken=0 if is_cancelled else 2,
+                                closed=False)
+        account = ACCOUNT.serves(member=f"m{place}", balance=10_000 - spent, quota=99, open=opened, spent=spent)
+        yield account
+    yield from [account] * (1250 - 90 * 4 - 30)
 
 
-def account(key, place, spent, booked):
-    wanted = {"member": f"m{place}", "balance": 10000 - spent, "quota": 99, "open": booked, "spent": spent}
-    expect(f"account of {key}", ask(key, "GET", "/account"), (200, wanted))
-
-
-def order(words, wanted):
-    begun = time.monotonic()
-    done = subprocess.run([desk, *words], capture_output=True, text=True)
-    order_times.append(time.monotonic() - begun)
-    expect(" ".join(words), (done.returncode, done.stdout, done.stderr), (0, wanted, ""))
-
-
-def office(place):
+def given_by(place):
     """250 orders: members, credits, closed slots, revoked keys, and looks at a slot."""
     for n in range(1, 51):
-        name, day = f"o{place}-{n}", f"2026-{6 + n // 29:02d}-{1 + n % 28:02d}"
-        order(["add-member", file, name, "5"], "done\n")
-        order(["credit", file, name, str(100 * n)], "done\n")
-        order(["close-slot", file, f"room-{place}", day, "10"], "done\n")
-        order(["revoke-key", file, f"old-{place}"], "done\n")
-        slot = f"facility room-{place}\nday {day}\nhour 10\nkind room\nprice 5\nplaces 1\ntaken 0\nclosed yes\n"
-        order(["show-slot", file, f"room-{place}", day, "10"], slot)
+        day = f"2026-{6 + n // 29:02}-{1 + n % 28:02}"
+        for words in (f"add-member o{place}-{n} 5", f"credit o{place}-{n} {100 * n}", f"close-slot room-{place} {day} 10", f"revoke-key old-{place}"):
+            yield words, "done\n"
+        yield f"show-slot room-{place} {day} 10", f"facility room-{place}\nday {day}\nhour 10\nkind room\nprice 5\nplaces 1\ntaken 0\nclosed yes\n"
 
 
-def beside(dawdle):
-    """How long orders take beside a client that dawdles, and that the server cuts off only later."""
-    with socket.create_connection(("127.0.0.1", port), 60) as client:
-        begun = time.monotonic()
-        dawdling = threading.Thread(target=dawdle, args=[client])
-        dawdling.start()
-        for wait in (0.2, 1.1):
-            time.sleep(wait)
-            order(["credit", file, "m4", "1"], "done\n")
-        try:
-            expect("a reply to a client that dawdles", client.recv(1), b"")
-        except ConnectionResetError:
-            pass
-        held = time.monotonic() - begun
-        if not 3.9 < held < 6:
-            wrong.append(f"a client that dawdles was cut off after {held:.1f} s")
-        dawdling.join()
+def beside(club, server, count):
+    """Four clients, and two offices where there are orders: all that differs from what is reckoned."""
+    requests, bookings, orders = Times(), Times(), Times()
+
+    def client(place):
+        wrong, last = [], None
+        for row in asked_by(place):
+            is_new, last = row.method == "PUT" and row is not last, row
+            found = requests.of(desk.exchange, server.port, row.under(PASSES[place]).data, 60, also=bookings if is_new else None)
+            wrong += [(row, found)] if found != row.wanted else []
+        return wrong
+
+    def office(place):
+        return [(words, found) for words, printed in given_by(place) if (found := orders.of(club.order, *words.split())) != (0, printed, "")]
+
+    with ThreadPoolExecutor(6) as pool:
+        begun = [pool.submit(client, place) for place in PASSES] + [pool.submit(office, place) for place in (1, 2) if count]
+        assert not [it for each in begun for it in each.result()][:20]
+    assert (len(requests), len(bookings), len(orders)) == (5000, 360, count)
+    print(f"{club.file.name}, with {count} orders")
+    for what, found in (("orders", orders), ("bookings", bookings), ("requests", requests)):
+        if found:
+            found.show(what)
 
 
-def drips(client):
+def test_door_has_a_mode_and_orders_have_lines(club):
+    """500 orders beside 5,000 requests. No root is in the log."""
+    with Server(club, "--log") as server:
+        assert stat.filemode(os.stat(f"{club.file}-office").st_mode) == "srw-------"
+        beside(club, server, 500)
+        log = server.log.read_text()
+    assert log.count(" office ") == 500 and ROOT not in log
+
+
+def ends(wanted, most, *words, by=()):
+    """A command ends with a status and what it prints, within so many seconds."""
+    begun = time.monotonic()
+    ended = subprocess.run([*by, *words], capture_output=True, text=True, check=False)
+    assert (ended.returncode, ended.stdout + ended.stderr) == wanted
+    assert time.monotonic() - begun < most
+
+
+def test_what_others_meet_beside_a_server(club):
+    """A second server, orders by a link to the file and to its folder and at a file that is moved, and another user, where the file's mode lets it in."""
+    desk_itself, folder = club.program, club.file.parent
+    with Server(club):
+        ends(FAILED, 15, desk_itself, "serve", club.file, "--port", "0", "--count", "1")
+        (folder / "linked").symlink_to(club.file)
+        (folder / "here").symlink_to(folder)
+        for file in ("linked", "here/club"):
+            ends(DONE, 1, desk_itself, "credit", folder / file, "m2", "1")
+        club.file.rename(folder / "moved")
+        ends(DONE, 1, desk_itself, "credit", club.file, "m2", "1")
+        (folder / "moved").rename(club.file)
+        if os.geteuid() == 0:
+            folder.chmod(0o755)
+            club.file.chmod(0o644)
+            ends(FAILED, 1, desk_itself, "credit", club.file, "m2", "1", by=["setpriv", "--reuid=65534", "--regid=65534", "--clear-groups"])
+            club.file.chmod(0o600)
+
+
+def test_killed_server_leaves_a_door_and_whole_totals(club):
+    assert Path(f"{club.file}-office").is_socket()
+    ends(DONE, 2, club.program, "credit", club.file, "m3", "1")
+    assert not desk.unsound(club.file)
+    for wanted, statement in (((360, 120, 3360), "SELECT count(*), sum(cancelled), sum(charge - refund) FROM bookings"),
+                              ((100, 255_000), "SELECT count(*), sum(credited) FROM members WHERE name LIKE 'o%'"),
+                              ((100,), "SELECT count(*) FROM slots WHERE closed"), ((40_004,), "SELECT sum(credited) FROM members WHERE name LIKE 'm%'")):
+        assert desk.rows(club.file, statement) == [wanted]
+
+
+def test_something_else_than_a_door_stays(club):
+    door = Path(f"{club.file}-office")
+    door.unlink(missing_ok=True)
+    door.mkdir()
+    ends(FAILED, 2, club.program, "serve", club.file, "--port", "0", "--count", "1")
+    door.rmdir()
+
+
+def drip(client):
     for byte in b"GET /a":
         try:
             client.sendall(bytes([byte]))
@@ -115,32 +190,58 @@ def drips(client):
         time.sleep(1)
 
 
-def times(what, found):
-    found.sort()
-    middle, last = found[len(found) // 2], found[-1]
-    print(f"{len(found)} {what}: half of them within {middle * 1000:.1f} ms, the longest {last * 1000:.1f} ms")
+@pytest.mark.parametrize("dawdle", [lambda _: None, drip], ids=["silent", "a byte a second"])
+def test_client_that_dawdles_keeps_no_order(club, dawdle):
+    """Each is carried out within a fraction of a second, while the client is still awaited; it is cut off by the server's patience of four seconds."""
+    orders = Times()
+    with Server(club, "--patience", "4") as server, socket.create_connection(("127.0.0.1", server.port), 60) as client:
+        begun, dawdling = time.monotonic(), threading.Thread(target=dawdle, args=[client])
+        dawdling.start()
+        for wait in (0.2, 1.1):
+            time.sleep(wait)
+            assert orders.of(club.order, "credit", "m4", 1) == (0, "done\n", "")
+        try:
+            assert client.recv(1) == b""
+        except ConnectionResetError:
+            pass
+        assert 3.9 < time.monotonic() - begun < 6
+        dawdling.join()
+    assert max(orders) <= 0.9
+    orders.show("orders beside a slow client")
 
 
-if orders == "slow":
-    beside(lambda client: None)
-    beside(drips)
-    if max(order_times) > 0.9:
-        wrong.append(f"an order beside a slow client took {max(order_times):.1f} s")
-    times("orders beside slow clients", order_times)
-else:
-    workers = [threading.Thread(target=client, args=[n]) for n in range(1, 5)]
-    if int(orders):
-        workers += [threading.Thread(target=office, args=[n]) for n in range(1, 3)]
-    for worker in workers:
-        worker.start()
-    for worker in workers:
-        worker.join()
-    if order_times:
-        times("orders", order_times)
-    times("bookings", booking_times)
-    times("requests", request_times)
-    expect("orders", len(order_times), int(orders))
-    expect("requests", len(request_times), 5000)
-for line in wrong[:20]:
-    print(line, file=sys.stderr)
-sys.exit(1 if wrong else 0)
+def points(club):
+    """By a look through the door or at the file."""
+    return int(dict(line.split(" ", 1) for line in club.does(f"show-account k1 --at {NOON}").splitlines())["balance"])
+
+
+@pytest.mark.parametrize("number", range(1, 21))
+def test_killed_order_or_server(club, number):
+    """The order was carried out or not, and its status says so where it can."""
+    with Server(club) as server:
+        before = points(club)
+        order = subprocess.Popen([club.program, "credit", club.file, "m1", "1"], stdout=subprocess.DEVNULL, stderr=subprocess.DEVNULL)
+        time.sleep((number % 10 * 10 + number * 7 % 10) / 10_000)
+        (order if number % 2 else server).kill()
+        order.wait()
+    assert (order.returncode, points(club) - before) in {(0, 1), (5, 0), (8, 0), (8, 1), (-9, 0), (-9, 1)}
+
+
+def test_server_that_ends_takes_its_door_along(club, server):
+    """And what an older version left."""
+    for ending, left in (("wanted", ""), ("serving", "127.0.0.1:1\n")):
+        Path(f"{club.file}-{ending}").write_text(left)
+    with server(club, 1, "--at", NOON) as it:
+        assert not Path(f"{club.file}-wanted").exists() and not Path(f"{club.file}-serving").exists()
+        assert desk.exchange(it.port, ACCOUNT.under(PASSES[1]).data).startswith(b"HTTP/1.1 200 ")
+    assert not Path(f"{club.file}-office").exists()
+
+
+@pytest.mark.parametrize("bookings, count", [(0, 0), (300_000, 0), (300_000, 500)])
+def test_times(made, bookings, count):
+    """Without orders at 360 bookings, and with and without at 300,000 more of 1,000 other members."""
+    club = made.copied_to(made.file.with_name(f"at {bookings}"))
+    if bookings:
+        desk.add_past_bookings(club.file, bookings, ROOT)
+    with Server(club) as server:
+        beside(club, server, count)

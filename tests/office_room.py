@@ -14,6 +14,8 @@ import sys
 import threading
 import time
 
+from desk import SUMS
+
 NOON = "2026-04-20T12:00"
 HOME = "/var/lib/clubdesk"
 failures = []
@@ -193,20 +195,6 @@ def rows(sql, *values, club="club"):
         return db.execute(sql, values).fetchall()
     finally:
         db.close()
-
-
-# docs/TABLES.md, an auditor's sums: each row that differs.
-SUMS = """
-SELECT name FROM members WHERE used <> (SELECT total(charge - refund) FROM bookings JOIN keys ON keys.name = pass_key
-    WHERE member = members.name)
-UNION ALL SELECT facility || day || hour FROM slots s WHERE taken <> (SELECT total(guests + 1) FROM bookings b WHERE cancelled = 0
-    AND b.facility = s.facility AND b.day = s.day AND b.hour = s.hour)
-UNION ALL SELECT pass_key || number FROM bookings b WHERE cancelled = 0 AND NOT EXISTS (SELECT 1 FROM slots s
-    WHERE b.facility = s.facility AND b.day = s.day AND b.hour = s.hour)
-UNION ALL SELECT "table" FROM pragma_foreign_key_check
-UNION ALL SELECT name FROM members WHERE used > credited
-UNION ALL SELECT integrity_check FROM pragma_integrity_check WHERE integrity_check <> 'ok'
-"""
 
 
 def whole(what, club="club"):

@@ -24,6 +24,7 @@ from datetime import datetime, timedelta, timezone
 
 from selenium.webdriver.common.keys import Keys
 
+from desk import SUMS
 from page_browser import Browser, check, CONTRASTS, SMALL_TARGETS
 
 TOP, DESK, TOOL, PICTURES = sys.argv[1:5]
@@ -324,11 +325,7 @@ def same_record(page, key):
 
 
 def totals_are_sums():
-    for question in ("SELECT name FROM members WHERE used <> (SELECT total(charge - refund) FROM bookings JOIN keys ON keys.name = pass_key"
-                     " WHERE member = members.name)",
-                     "SELECT * FROM slots s WHERE taken <> (SELECT total(guests + 1) FROM bookings b WHERE cancelled = 0"
-                     " AND b.facility = s.facility AND b.day = s.day AND b.hour = s.hour)"):
-        check(not rows(question), "totals that aren't the sums", rows(question))
+    check(not rows(SUMS), "totals that aren't the sums", rows(SUMS))
 
 
 # ---- The checks
