@@ -140,7 +140,7 @@ def restores():
     done("restore", night, "--yes")
     plain = time.monotonic() - begun
     outcomes = {"before": 0, "restored": 0}
-    for _ in range(25):
+    for _ in range(min(kills, 25)):
         found = everything()
         if found == copy:
             done("add-member", "after", "1")
@@ -154,7 +154,7 @@ def restores():
     same("the club of the copy", everything(), copy)
     same("the desk serves", server.wait(), True)
     server.stop()
-    print(f"a restore, killed 25 times: {outcomes}")
+    print(f"a restore, killed {sum(outcomes.values())} times: {outcomes}")
 
 
 MEMBERS = [
@@ -256,10 +256,10 @@ def imports():
     stops_at(0, "never")
     imported("a list with semicolons", MEMBERS, NAMES)
     fresh_club()
-    for _ in range(40):
+    for _ in range(min(kills, 40)):
         killed_after(chance.uniform(0.1, 2), ["import", "members.csv", "--yes"], chance, one=chance.random() < 0.3)
     same("at random: again", stops_at(0, "never"), 0)
-    imported("killed 40 times at random", MEMBERS, NAMES)
+    imported("killed at random", MEMBERS, NAMES)
     kept = rows("SELECT * FROM members"), rows("SELECT name, hex(root) FROM keys")
     same("a debit, then the import again", done("debit", "zoe", "1", "--yes", "--at", NOON).splitlines()[-1], "done")
     same("it has nothing to do", office("import", "members.csv", "--yes")[1].splitlines()[-1], "nothing to do")

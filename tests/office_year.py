@@ -158,7 +158,7 @@ for what in ("keys", "older roots", "facilities"):
 
 # Killed: the old club, or the new one; and then done.
 outcomes = {"old": 0, "new": 0}
-for attempt in range(25):
+for attempt in range(min(count // 60, 25)):
     put_back(original)
     for file in kept_files():
         os.unlink(f"{HOME}/{file}")
@@ -175,5 +175,5 @@ for attempt in range(25):
         same("the old file, after a kill", sum_of(original) in [sum_of(f"{HOME}/{file}") for file in kept_files()], True)
         for what, sql in SUMS:
             same(f"{what}, after a kill", rows(sql), before[what])
-print(f"killed 25 times: {outcomes}")
+print(f"killed {sum(outcomes.values())} times: {outcomes}")
 leave()
