@@ -1,7 +1,10 @@
 """A browser for the scripts that drive the pages, and what they look at in both: contrasts, targets, names for screen readers.
 
 Read by page_narrows.py and page_books.py. Wants Debian's chromium, chromium-driver and python3-selenium."""
+import base64
+import hashlib
 import json
+import re
 import sys
 
 from selenium import webdriver
@@ -94,6 +97,26 @@ class Browser:
         check(any(address.startswith(page) for address in asked) and not others, "the page asks for", others)
         complaints = self.driver.get_log("browser")
         check(not complaints, "the console says", complaints)
+
+
+def policy_holds(page, more, calls, *links):
+    """Nothing runs but the page's one script and one style, by their hashes, and nothing else can come from anywhere; it makes none of some calls."""
+    text = page.read_text(encoding="utf-8")
+    policy = re.search('http-equiv="Content-Security-Policy" content="([^"]*)"', text)[1]
+    rules = dict(rule.strip().split(" ", 1) for rule in policy.split(";"))
+    for tag in ("script", "style"):
+        found = re.findall(f"<{tag}>(.*?)</{tag}>", text, re.DOTALL)
+        check(len(found) == 1 and text.count(f"<{tag}") == 1, f"one {tag}", len(found))
+        digest = base64.b64encode(hashlib.sha256(found[0].encode()).digest()).decode()
+        check(rules[f"{tag}-src"] == f"'sha256-{digest}'", f"the policy's hash of the {tag} should be", f"sha256-{digest}")
+    wanted = {"default-src": "'none'", "base-uri": "'none'", "img-src": "data:", "form-action": "'none'", **more}
+    check("unsafe" not in policy and wanted.items() <= rules.items(), "a strict policy", policy)
+    outside = re.sub("<(script|style)>.*?</", "", text, flags=re.DOTALL)
+    check(not re.search(r'\s(on[a-z]+|style|src|action|srcset)=', outside), "attributes that load or run something")
+    check(all(link.startswith("data:") or link in links for link in re.findall('href="([^"]*)"', outside)), "links")
+    misplaced = rf"innerHTML|outerHTML|insertAdjacentHTML|document\.write|eval\(|XMLHttpRequest|WebSocket|{calls}"
+    check(not re.search(misplaced, text), "calls that have no place in the page")
+    check(not re.search(r"url\(|@import", text), "styles that load something")
 
 
 CONTRASTS = """

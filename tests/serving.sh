@@ -12,21 +12,14 @@ tool=${PASSTOOL-}
 [ -z "${BATS_TEST_DIRNAME-}" ] || return 0
 
 work=$(mktemp -d)
-files=
 server=
 leave() {
     if [ -n "$server" ]; then kill "$server" 2>/dev/null || :; fi
-    rm -rf "$work" ${files:+"$files"}
+    rm -rf "$work"
 }
 trap leave EXIT
 cd "$work" || exit 2
 mkfifo listening
-
-# Goes on in a folder whose files lie in memory, where there is one: a sync costs nothing there.
-work_in_memory() {
-    [ -w /dev/shm ] || return 0
-    files=$(mktemp -d -p /dev/shm) && cd "$files" && mkfifo listening || exit 2
-}
 
 # number WORD LEAST MOST: ends the script unless the word is a number from LEAST to MOST.
 number() {
