@@ -5,21 +5,7 @@ Holds README.md, CONTRIBUTING.md, docs/, and the README.md of each crate against
 - Each ```console block is run, the blocks of a page one after the other in a folder of its own, with bin/ on the path: a line
   that begins with `$ ` is a command, the lines behind it are what it prints, on standard output or standard error. Empty lines
   and spaces at the end of a line don't count, and another port may stand for 8080.
-- Each ```rust, ```antt and ```text block is in a file of crates/, but for how far it is indented.
-- Each link leads to a page, and to a heading of it. Each page of docs/ is in docs/INDEX.md.
-- Each contract that docs/PROMISES.md names is there: the function in the section's crate, and its clause; each definition, and of
-  `RECORD.FIELD` the field of that record. So are the clauses of the desk's law, there and in README.md.
-- Each file that a page names is there, in a crate's page also each of its own folders, and each name `crate::..::name` or
-  `Type::name` is defined. So is each name of a list of definitions (`Definitions: NAME, .. in FILE; NAME, .. in FILE`), in its file.
-- docs/LAYERS.md has the layers and crates of crates.txt in their order, each with what it stands on; TRUST names each crate.
-- TRUST's table of scripts has what `tests/run --list` says of each.
-- docs/TOUR.md gives each answer as a path of three to six steps, each a file with a name that it defines.
-- No command writes a pass into a file but under a temporary name (`> pass.new && mv pass.new pass`): the shell empties the file before
-  the command is refused.
-- docs/AUDIT.md is what tests/audit.py makes, no promise reaches a definition of specs/computed/, and each step of the tour's paths through
-  definitions is cited by the one before it.
-- What README tries unproved by `rt try` prints `signed`, and ends in proved=no.
-- The logic that README.md and docs/TRUST.md name by its sum is this toolchain's.
+- What else holds stands at each test below.
 Programs are proved and built by bin/proved where they have to be. Not part of the gate.
   tests/docs_hold.py                    every page
   tests/docs_hold.py -k DESK            the pages whose names have this word
@@ -123,7 +109,7 @@ INDEX = Index()
 
 @each_page
 def test_quoted_lines_are_in_a_file(page):
-    """Each paragraph in one piece."""
+    """Each paragraph of a ```rust, ```antt or ```text block is in a file of crates/, but for how far it is indented."""
     texts = [re.sub(r"^ +", "", text, flags=re.MULTILINE) for text in CODE.values()]
     for language in ("rust", "antt", "text"):
         for quote in (it for block in blocks(page, language) for it in re.split(r"\n\n+", re.sub(r"^ +", "", block, flags=re.MULTILINE))):
@@ -147,6 +133,8 @@ def test_links_lead_to_pages_and_headings(page):
 
 @each_page
 def test_files_and_names_are_there(page):
+    """Each file that a page names is there, in a crate's page also each of its own folders, and each name `crate::..::name` or `Type::name` is
+    defined."""
     words = ticked(prose(page))
     scripts = [it for block in blocks(page, "sh") for it in re.findall(r"^(?:bin|tests|deploy)/[a-z_.]+", block, re.MULTILINE)]
     for path in [*words, *scripts]:
@@ -164,7 +152,8 @@ def test_files_and_names_are_there(page):
 
 @each_page
 def test_definitions_are_in_their_files(page):
-    """One without a folder is in the folder named last; a folder of specs/ stands for its files."""
+    """Each name of a list of definitions (`Definitions: NAME, .. in FILE; NAME, .. in FILE`) is in its file. One without a folder is in the folder
+    named last; a folder of specs/ stands for its files."""
     for line in re.findall(r"Definitions?: (`.*)", prose(page)):
         pieces, names, folder = line.split("`"), [], ""
         for before, piece in zip(pieces[::2], pieces[1::2]):
@@ -181,7 +170,8 @@ def test_definitions_are_in_their_files(page):
 
 @each_page
 def test_passes_are_written_under_temporary_names(page):
-    """A command that prints a pass writes to no file but one whose name ends in .new."""
+    """A command that prints a pass writes to no file but one whose name ends in .new (`> pass.new && mv pass.new pass`): the shell empties the
+    file before the command is refused."""
     commands = [it for block in blocks(page, "console") for it in re.findall(r"^\$ (.*)", block, re.MULTILINE)]
     for command in [*commands, *(line for block in blocks(page, "sh") for line in block.splitlines())]:
         if re.search(r"(^|[ |])(passtool|clubdesk|office [a-z]+) (mint|narrow|convert|add-key|rotate-key) ", command):
@@ -212,6 +202,8 @@ def cited_promises():
 
 
 def test_promises():
+    """Each contract that docs/PROMISES.md names is there: the function in the section's crate, and its clause; each definition, and of
+    `RECORD.FIELD` the field of that record."""
     cited = list(cited_promises())
     assert len(cited) > 800
     for crate, mode, cited_name, clause in cited:
@@ -283,7 +275,8 @@ def test_tour():
 
 
 def test_audit_is_made_of_the_sources():
-    """docs/AUDIT.md, and the tour's paths through definitions."""
+    """It is what tests/audit.py makes; no promise reaches a definition of specs/computed/, and each step of the tour's paths through
+    definitions is cited by the one before it."""
     subprocess.run(["tests/audit.py", "--strict"], check=True, stdout=subprocess.DEVNULL)
 
 

@@ -29,7 +29,6 @@ TWINS = {
     "◌>>=◌": "the bind of `do`, which each kind of result has",
     "Entry table_of": "points in a reply and tables of SQL, and a row of a program's table of commands",
     "header_at caveat_at optional_at wide_at": "the readings of V1 and V2 say the same of two layouts",
-    "refusals": "clap's errors for the arguments, of any table and of clubdesk's tree of commands",
     "ArgumentRefusal": "why arguments ask for no command, in both programs",
     "ReadsWords AnswersAsked AnswersWords AsksText IsFaultOf of_words": "what both programs make of their arguments",
     "IsNotText fault_line fault_status": "the faults of both programs, their lines and statuses",
