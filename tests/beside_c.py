@@ -121,7 +121,7 @@ def measure(clubdesk, path, asker, count, rounds):
         desk.copy(path, copy)
     medians = {kind: ([], [], []) for kind in KINDS}
     total = count * rounds * len(KINDS)
-    with desk.Server(clubdesk, "ours", total, "--at", NOON) as ours, InC("./desk", "theirs", str(MINUTE)) as theirs, InC("./plain") as plain:
+    with desk.Server(clubdesk, "ours", total, "--at", NOON) as ours, InC("./desk", "theirs", str(MINUTE)) as theirs, InC("./desk") as plain:
         for number in range(rounds):
             for kind, requests in asker.round(count).items():
                 turns, replies = list(enumerate((ours, theirs, plain))), {}
@@ -177,7 +177,7 @@ def main():
     clubdesk = desk.program("clubdesk")
     with tempfile.TemporaryDirectory(dir="/dev/shm") as folder:
         os.chdir(folder)
-        built("desk", "-lsqlite3", "-lnettle"), built("plain"), built("client")
+        built("desk", "-lsqlite3", "-lnettle"), built("client")
         print(f"{'bookings':>28} {'':8} {'clubdesk':>8} {'C desk':>8} {'ratio':>6} {'plain':>8} {'ratio':>6}   microseconds, medians of {rounds} rounds")
         keys = [f"x{n:03}" for n in range(KEYS_ASKED)]
         for size in sizes:

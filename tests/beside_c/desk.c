@@ -1,11 +1,13 @@
 // A desk over SQLite's C library, to hold clubdesk's times against: the same file, statements and
 // replies, one connection after the other. It reads what an answer needs and no more: the key and
 // its older root, then the signature, and only then other rows. Of caveats it knows those that
-// beside.py writes: guests, until, spend, actions.
+// beside_c.py writes: guests, until, spend, actions.
 //   desk FILE MOMENT      the moment in minutes since 1970; prints the port, and serves until it is killed
+//   desk                  does the least that a server can: for each connection it reads once, writes 133 bytes and closes
 #include <arpa/inet.h>
 #include <nettle/hmac.h>
 #include <sqlite3.h>
+#include <stdarg.h>
 #include <stdbool.h>
 #include <stdint.h>
 #include <stdio.h>
@@ -64,12 +66,14 @@ static void open_file(const char *path) {
             fail(texts[n]);
 }
 
-static void set_text(enum statement s, int place, const char *text) {
-    sqlite3_bind_text(statements[s], place, text, -1, SQLITE_STATIC);
-}
-
-static void set_number(enum statement s, int place, sqlite3_int64 number) {
-    sqlite3_bind_int64(statements[s], place, number);
+// The values of a statement, by their kinds: t a text, n a number.
+static void set(enum statement s, const char *kinds, ...) {
+    va_list values;
+    va_start(values, kinds);
+    for (int place = 1; kinds[place - 1]; place++)
+        if (kinds[place - 1] == 't') sqlite3_bind_text(statements[s], place, va_arg(values, const char *), -1, SQLITE_STATIC);
+        else sqlite3_bind_int64(statements[s], place, va_arg(values, int));
+    va_end(values);
 }
 
 static bool next_row(enum statement s) {
@@ -275,7 +279,7 @@ static bool read_request(char *bytes, struct request *it) {
 
 // ---- The rules ----
 
-static sqlite3_int64 moment;
+static int moment;
 
 struct row { char key[NAME], member[NAME]; bool revoked; };
 
@@ -284,14 +288,14 @@ static bool verify(const struct pass *pass, struct row *row) {
     char name[NAME];
     if (pass->identifier.len < 5 || pass->identifier.len > 28 || memcmp(pass->identifier.at, "key:", 4)) return false;
     snprintf(name, NAME, "%.*s", (int)pass->identifier.len - 4, pass->identifier.at + 4);
-    set_text(KEY, 1, name);
+    set(KEY, "t", name);
     if (!next_row(KEY)) return false;
     copy_text(KEY, 0, row->key);
     copy_text(KEY, 1, row->member);
     row->revoked = number_in(KEY, 3);
     bool good = is_signed(pass, name, sqlite3_column_blob(statements[KEY], 2), sqlite3_column_bytes(statements[KEY], 2));
     while (next_row(KEY)) {}
-    set_text(OLDER_ROOT, 1, name);
+    set(OLDER_ROOT, "t", name);
     while (next_row(OLDER_ROOT)) {
         if (good || moment >= number_in(OLDER_ROOT, 1)) continue;
         good = is_signed(pass, name, sqlite3_column_blob(statements[OLDER_ROOT], 0),
@@ -302,25 +306,32 @@ static bool verify(const struct pass *pass, struct row *row) {
 
 static sqlite3_int64 spent_by(const char *key) {
     sqlite3_int64 spent = 0;
-    set_text(COSTS, 1, key);
+    set(COSTS, "t", key);
     while (next_row(COSTS)) spent += number_in(COSTS, 0) - number_in(COSTS, 1);
     return spent;
 }
 
 static sqlite3_int64 open_of(const char *member) {
     sqlite3_int64 open = 0;
-    set_text(OPEN, 1, member);
-    set_number(OPEN, 2, moment);
-    set_number(OPEN, 3, moment / DAY);
+    set(OPEN, "tnn", member, moment, moment / DAY);
     while (next_row(OPEN)) open++;
     return open;
+}
+
+struct member { sqlite3_int64 balance, quota; };
+
+static struct member member_of(const char *name) {
+    struct member it = {0};
+    set(MEMBER, "t", name);
+    while (next_row(MEMBER)) it.balance = number_in(MEMBER, 1) - number_in(MEMBER, 3), it.quota = number_in(MEMBER, 2);
+    return it;
 }
 
 struct facility { bool known; char kind[NAME]; int places, price, opens, shuts; };
 
 static struct facility facility_of(const char *name) {
     struct facility it = {0};
-    set_text(FACILITY, 1, name);
+    set(FACILITY, "t", name);
     while (next_row(FACILITY)) {
         it.known = true;
         copy_text(FACILITY, 1, it.kind);
@@ -334,9 +345,7 @@ struct slot { bool closed; int taken; };
 
 static struct slot slot_of(const struct request *request) {
     struct slot it = {0};
-    set_text(SLOT, 1, request->facility);
-    set_number(SLOT, 2, request->day);
-    set_number(SLOT, 3, request->hour);
+    set(SLOT, "tnn", request->facility, request->day, request->hour);
     while (next_row(SLOT)) it.closed = number_in(SLOT, 0), it.taken = number_in(SLOT, 1);
     return it;
 }
@@ -345,8 +354,7 @@ struct booking { bool known, cancelled; char facility[NAME]; int day, hour, gues
 
 static struct booking booking_of(const char *key, int number) {
     struct booking it = {0};
-    set_text(BOOKING, 1, key);
-    set_number(BOOKING, 2, number);
+    set(BOOKING, "tn", key, number);
     while (next_row(BOOKING)) {
         it.known = true;
         copy_text(BOOKING, 2, it.facility);
@@ -382,26 +390,12 @@ static int first_fault(const struct pass *pass, const struct request *request, c
 
 static void write_booking(const struct row *row, const struct request *it, int charge, int left) {
     run(BEGIN);
-    set_text(ADD_BOOKING, 1, row->key);
-    set_number(ADD_BOOKING, 2, it->number);
-    set_text(ADD_BOOKING, 3, it->facility);
-    set_number(ADD_BOOKING, 4, it->day);
-    set_number(ADD_BOOKING, 5, it->hour);
-    set_number(ADD_BOOKING, 6, it->guests);
-    set_number(ADD_BOOKING, 7, charge);
-    set_number(ADD_BOOKING, 8, left);
-    set_number(ADD_BOOKING, 9, 0);
-    set_number(ADD_BOOKING, 10, 0);
+    set(ADD_BOOKING, "tntnnnnnnn", row->key, it->number, it->facility, it->day, it->hour, it->guests, charge, left, 0, 0);
     run(ADD_BOOKING);
-    set_text(ADD_USED, 1, row->member);
-    set_number(ADD_USED, 2, charge);
-    set_text(ADD_USED, 3, row->key);
+    set(ADD_USED, "tnt", row->member, charge, row->key);
     run(ADD_USED);
     if (sqlite3_changes(database) == 0) fail("used");
-    set_text(ADD_TAKEN, 1, it->facility);
-    set_number(ADD_TAKEN, 2, it->day);
-    set_number(ADD_TAKEN, 3, it->hour);
-    set_number(ADD_TAKEN, 4, it->guests + 1);
+    set(ADD_TAKEN, "tnnn", it->facility, it->day, it->hour, it->guests + 1);
     run(ADD_TAKEN);
     run(COMMIT);
 }
@@ -419,15 +413,11 @@ static void book(const struct row *row, const struct request *it, const struct f
     struct slot slot = slot_of(it);
     if (slot.closed) return refuse(17, 0);
     if (slot.taken + it->guests + 1 > facility->places) return refuse(18, 0);
-    sqlite3_int64 open = open_of(row->member), quota = 0, balance = 0;
-    set_text(MEMBER, 1, row->member);
-    while (next_row(MEMBER)) {
-        balance = number_in(MEMBER, 1) - number_in(MEMBER, 3);
-        quota = number_in(MEMBER, 2);
-    }
-    if (open >= quota) return refuse(19, 0);
+    sqlite3_int64 open = open_of(row->member);
+    struct member member = member_of(row->member);
+    if (open >= member.quota) return refuse(19, 0);
     int charge = facility->price * (it->guests + 1);
-    if (balance < charge) return refuse(20, 0);
+    if (member.balance < charge) return refuse(20, 0);
     int left = facility->places - slot.taken - it->guests - 1;
     write_booking(row, it, charge, left);
     booked(row->key, it->number, charge, left);
@@ -450,14 +440,10 @@ static void show_slot(const struct request *it, const struct facility *facility,
 
 static void show_account(const struct row *row) {
     char body[256];
-    sqlite3_int64 spent = spent_by(row->key), open = open_of(row->member), quota = 0, balance = 0;
-    set_text(MEMBER, 1, row->member);
-    while (next_row(MEMBER)) {
-        balance = number_in(MEMBER, 1) - number_in(MEMBER, 3);
-        quota = number_in(MEMBER, 2);
-    }
+    sqlite3_int64 spent = spent_by(row->key), open = open_of(row->member);
+    struct member member = member_of(row->member);
     snprintf(body, sizeof body, "{\"member\":\"%s\",\"balance\":%lld,\"quota\":%lld,\"open\":%lld,\"spent\":%lld}",
-        row->member, balance, quota, open, spent);
+        row->member, member.balance, member.quota, open, spent);
     respond(200, "OK", "", body);
 }
 
@@ -492,23 +478,26 @@ static bool is_whole(const char *bytes, size_t len) {
     return len >= (size_t)(end + 4 - bytes) + (field && field < end ? strtoul(field + 18, NULL, 10) : 0);
 }
 
-static void serve(int connection) {
+static void serve(int connection, bool is_plain) {
     static char bytes[MAX_REQUEST + 1];
     size_t len = 0;
     do {
         ssize_t came = read(connection, bytes + len, MAX_REQUEST - len);
         if (came <= 0) break;
         bytes[len += (size_t)came] = 0;
-    } while (!is_whole(bytes, len));
-    answer(bytes);
+    } while (!is_plain && !is_whole(bytes, len));
+    if (is_plain) memset(reply, 'x', (size_t)(reply_len = 133));
+    else answer(bytes);
     if (write(connection, reply, (size_t)reply_len) != reply_len) fprintf(stderr, "short write\n");
     close(connection);
 }
 
 int main(int count, char **words) {
-    if (count != 3) return fprintf(stderr, "usage: desk FILE MOMENT\n"), 2;
-    open_file(words[1]);
-    moment = atoll(words[2]);
+    if (count != 1 && count != 3) return fprintf(stderr, "usage: desk [FILE MOMENT]\n"), 2;
+    if (count == 3) {
+        open_file(words[1]);
+        moment = atoi(words[2]);
+    }
     struct sockaddr_in address = {.sin_family = AF_INET, .sin_addr.s_addr = htonl(INADDR_LOOPBACK)};
     socklen_t len = sizeof address;
     int listener = socket(AF_INET, SOCK_STREAM, 0);
@@ -518,6 +507,6 @@ int main(int count, char **words) {
     fflush(stdout);
     for (;;) {
         int connection = accept(listener, NULL, NULL);
-        if (connection >= 0) serve(connection);
+        if (connection >= 0) serve(connection, count == 1);
     }
 }
