@@ -10,7 +10,6 @@ Not part of the gate.
 
 import os
 import pty
-import re
 import select
 import shutil
 import subprocess
@@ -20,37 +19,11 @@ from pathlib import Path
 import pytest
 
 import desk
+from helps import names_of, options_of, printed, words_of
 
 COMPLETIONS = desk.ROOT / "bin" / "completions"
 FORMS = {"v1", "v2", "json"}
 CLUBS = {"rowing", "tennis"}
-
-
-def printed(*words):
-    return subprocess.run(words, check=True, capture_output=True, text=True, env={**os.environ, "COLUMNS": "200"}).stdout
-
-
-def between(text, first):
-    """The lines after a line `first:` that begin with a space, or are empty."""
-    lines = text.splitlines()
-    if f"{first}:" not in lines:
-        return []
-    after = lines[lines.index(f"{first}:") + 1:]
-    return after[:next((at for at, line in enumerate(after) if line and line[0] != " "), len(after))]
-
-
-def names_of(text):
-    return {line.split()[0] for line in between(text, "Commands") + between(text, "commands") if re.match(r" {2,4}[a-z]", line)}
-
-
-def options_of(text):
-    """Each long option, and the name of its value, if it takes one."""
-    lines = between(text, "Options") + between(text, "options")
-    return {found[1]: found[2] for line in lines if (found := re.match(r" .*?--([a-z-]+)(?: <?([A-Z-]+))?", line))}
-
-
-def words_of(text):
-    return re.findall(r"^  [<\[]?([A-Z|-]+)", "\n".join(between(text, "Arguments") + between(text, "positional arguments")), re.M)
 
 
 class Bash:

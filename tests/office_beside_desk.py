@@ -227,11 +227,11 @@ def test_killed_order_or_server(club, number):
     assert (order.returncode, points(club) - before) in {(0, 1), (5, 0), (8, 0), (8, 1), (-9, 0), (-9, 1)}
 
 
-def test_server_that_ends_takes_its_door_along(club, server):
+def test_server_that_ends_takes_its_door_along(club):
     """And what an older version left."""
     for ending, left in (("wanted", ""), ("serving", "127.0.0.1:1\n")):
         Path(f"{club.file}-{ending}").write_text(left)
-    with server(club, 1, "--at", NOON) as it:
+    with desk.Server(club.program, club.file, 1, "--at", NOON) as it:
         assert not Path(f"{club.file}-wanted").exists() and not Path(f"{club.file}-serving").exists()
         assert desk.exchange(it.port, ACCOUNT.under(PASSES[1]).data).startswith(b"HTTP/1.1 200 ")
     assert not Path(f"{club.file}-office").exists()

@@ -30,7 +30,7 @@ PLANTS = {
     "jobs_hold": ("deploy/old_copies", "now - its_day < 14", "now - its_day < 13", "too few"),
     "lint": ("VERSION", "0.1.0", "0.1.1", "another version"),
     "linters": ("tests/desk.py", "import errno\n", "import errno\nimport ast\n", "'ast' imported but unused"),
-    "man_pages": ("man/clubdesk.1", ".It Cm revoke-key Ar FILE KEY", ".It Cm revoke-key Ar FILE", "< revoke-key KEY"),
+    "man_pages": ("man/clubdesk.1", ".It Cm revoke-key Ar FILE KEY", ".It Cm revoke-key Ar FILE", "revoke-key KEY"),
     "memory_after_commit": ("tests/refused_memory.c", 'tell("send");', 'seen++; tell("send");', "allocations after the commit"),
     "modules_hold": ("web/src/dates.mjs", '"mon", "tue"', '"tue", "mon"', "not ok"),
     "narrowing_elsewhere": ("examples/narrow.mjs", "signature = await hmac(signature, data)", "await hmac(signature, data)", "Node.js, v2: passtool has"),
