@@ -81,6 +81,10 @@ class Club:
         database.close()
         return found
 
+    def served(self, *words):
+        """A server over the club at noon, until the end of its block."""
+        return desk.Server(self.program, self.file, None, "--at", kinds.NOON, *words)
+
     def copied_to(self, file):
         desk.copy(self.file, file)
         return Club(self.program, file)

@@ -36,15 +36,15 @@ class Server:
     """A server of `clubdesk` over a file, as a context manager: it listens at `port` once the block begins, and has ended after it.
 
     `words` are further options; `by` is a command that runs it; `variables` further variables of its environment; `file_limit` the bytes
-    that a file of it may have. At the end of a block without an exception its status has to be `status`, unless it was killed. `log` has
-    what it wrote on standard error."""
+    that a file of it may have. At the end of a block without an exception its status has to be `status`, unless it was killed; one without a
+    `count` is killed there. `log` has what it wrote on standard error."""
 
     def __init__(self, desk, file, count, *words, variables=None, file_limit=None, status=0, port=0, by=()):
-        self.command = [*by, desk, "serve", str(file), "--port", str(port), "--count", str(count), *words]
+        self.command = [*by, desk, "serve", str(file), "--port", str(port), "--count", str(count or 1_000_000), *words]
         self.log = Path(f"{file}.log")
         self.variables = {**os.environ, **(variables or {})}
         self.limits = (lambda: limit_files(file_limit)) if file_limit else None
-        self.status, self.is_killed = status, False
+        self.status, self.is_killed, self.is_endless = status, False, count is None
 
     def __enter__(self):
         with open(self.log, "ab") as log:
@@ -62,7 +62,7 @@ class Server:
         self.process.wait()
 
     def __exit__(self, kind, _value, _trace):
-        if kind is not None and self.process.poll() is None:
+        if (kind is not None or self.is_endless) and self.process.poll() is None:
             self.kill()
         status = self.process.wait(60)
         self.process.stdout.close()

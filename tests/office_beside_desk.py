@@ -49,17 +49,6 @@ def club(made):
     return made.copied_to(made.file.with_name("club"))
 
 
-class Server(desk.Server):
-    """One for many clients, which is killed at the end of its block."""
-
-    def __init__(self, club, *words):
-        super().__init__(club.program, club.file, 1_000_000, "--at", NOON, *words)
-
-    def __exit__(self, *fault):
-        self.kill()
-        super().__exit__(*fault)
-
-
 class Times(list):
     """How long calls took, in seconds."""
 
@@ -129,7 +118,7 @@ def beside(club, server, count):
 
 def test_door_has_a_mode_and_orders_have_lines(club):
     """500 orders beside 5,000 requests. No root is in the log."""
-    with Server(club, "--log") as server:
+    with club.served("--log") as server:
         assert stat.filemode(os.stat(f"{club.file}-office").st_mode) == "srw-------"
         beside(club, server, 500)
         log = server.log.read_text()
@@ -147,7 +136,7 @@ def ends(wanted, most, *words, by=()):
 def test_what_others_meet_beside_a_server(club):
     """A second server, orders by a link to the file and to its folder and at a file that is moved, and another user, where the file's mode lets it in."""
     desk_itself, folder = club.program, club.file.parent
-    with Server(club):
+    with club.served():
         ends(FAILED, 15, desk_itself, "serve", club.file, "--port", "0", "--count", "1")
         (folder / "linked").symlink_to(club.file)
         (folder / "here").symlink_to(folder)
@@ -194,7 +183,7 @@ def drip(client):
 def test_client_that_dawdles_keeps_no_order(club, dawdle):
     """Each is carried out within a fraction of a second, while the client is still awaited; it is cut off by the server's patience of four seconds."""
     orders = Times()
-    with Server(club, "--patience", "4") as server, socket.create_connection(("127.0.0.1", server.port), 60) as client:
+    with club.served("--patience", "4") as server, socket.create_connection(("127.0.0.1", server.port), 60) as client:
         begun, dawdling = time.monotonic(), threading.Thread(target=dawdle, args=[client])
         dawdling.start()
         for wait in (0.2, 1.1):
@@ -218,7 +207,7 @@ def points(club):
 @pytest.mark.parametrize("number", range(1, 21))
 def test_killed_order_or_server(club, number):
     """The order was carried out or not, and its status says so where it can."""
-    with Server(club) as server:
+    with club.served() as server:
         before = points(club)
         order = subprocess.Popen([club.program, "credit", club.file, "m1", "1"], stdout=subprocess.DEVNULL, stderr=subprocess.DEVNULL)
         time.sleep((number % 10 * 10 + number * 7 % 10) / 10_000)
@@ -243,5 +232,5 @@ def test_times(made, bookings, count):
     club = made.copied_to(made.file.with_name(f"at {bookings}"))
     if bookings:
         desk.add_past_bookings(club.file, bookings, ROOT)
-    with Server(club) as server:
+    with club.served() as server:
         beside(club, server, count)

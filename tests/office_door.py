@@ -31,10 +31,9 @@ def order_bytes(*words, root="", count=None):
 
 @pytest.fixture
 def serving(server, club):
-    """A server over the club, for many clients; it is killed at the end."""
-    with server(club, 1000, "--at", kinds.NOON) as it:
+    """A server over the club, until the end."""
+    with server(club, None, "--at", kinds.NOON) as it:
         yield it
-        it.kill()
 
 
 def visitor(club):
