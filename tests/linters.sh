@@ -1,7 +1,8 @@
 #!/bin/sh
-# Pyflakes and shellcheck have nothing to say of the scripts, or the reason is noted in place.
+# Pyflakes, shellcheck, gofmt and go vet have nothing to say of the scripts and the Go, or the reason is noted in place.
 #
-# The shell scripts and bats files of tests/, bin/ and deploy/ are read by shellcheck, the Python there and in examples/ by pyflakes. Not part of the gate.
+# The shell scripts and bats files of tests/, bin/ and deploy/ are read by shellcheck, the Python there and in examples/ by pyflakes.
+# The Go of tests/ and examples/ is read where Debian's Go is there. Not part of the gate.
 # groups: quick
 # wants: shellcheck pyflakes3
 set -eu
@@ -19,4 +20,11 @@ shellcheck -x -P tests $(by_first_line '^#!/bin/(ba)?sh') || status=1
 shellcheck -x -P tests -e SC2154,SC2164 tests/*.bats || status=1
 # shellcheck disable=SC2046
 pyflakes3 $(by_first_line 'python3') $(find tests examples -name '*.py') || status=1
+if command -v gofmt > /dev/null; then
+    spelled_otherwise=$(gofmt -l tests/beside_go examples)
+    [ -z "$spelled_otherwise" ] || { echo "gofmt: $spelled_otherwise"; status=1; }
+    if [ -d /usr/share/gocode/src/github.com/mattn/go-sqlite3 ]; then
+        (cd tests/beside_go && GO111MODULE=off GOPATH=/usr/share/gocode go vet -tags libsqlite3 .) || status=1
+    fi
+fi
 exit $status

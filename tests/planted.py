@@ -14,7 +14,7 @@ PROGRAMS = ("clubdesk", "passtool")
 BY_HAND = "#!/bin/sh\n"
 # test: file, bytes, what stands for them, words of the log; the words of a test that has a shorter run
 PLANTS = {
-    "beside_c": ("tests/beside_c/desk.c", "left", "lost", "the replies differ"),
+    "beside": ("tests/beside_go/desk.go", '"left":', '"lost":', "booking: the replies differ", "10", "1", "100"),
     "bookings_survive_kill": ("clubdesk", BY_HAND, '[ "$1" != sheet ] || rm -f "$2-wal"; exec "$PROGRAM" "$@"', "'sheet "),
     "audit": ("docs/AUDIT.md", "| 1. Depends only on |", "| 1. Depends on |", "isn't current"),
     "builds_side_by_side": ("bin/proved", '[ ! -e "$out/build.started" ] || return 0', ":", "not ok 8 a build that is killed"),

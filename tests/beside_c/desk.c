@@ -1,9 +1,9 @@
 // A desk over SQLite's C library, to hold clubdesk's times against: the same file, statements and
-// replies, one connection after the other. It reads what an answer needs and no more: the key and
-// its older root, then the signature, and only then other rows. Of caveats it knows those that
-// beside_c.py writes: guests, until, spend, actions.
-//   desk FILE MOMENT      the moment in minutes since 1970; prints the port, and serves until it is killed
-//   desk                  does the least that a server can: for each connection it reads once, writes 133 bytes and closes
+// replies, one connection after the other. It reads what an answer needs and no more: the key, then
+// the signature, and only then other rows. Of caveats it knows those that beside.py writes: guests,
+// until, spend, actions.
+//   desk FILE MOMENT ROOTS < STATEMENTS      as beside.py says of each desk
+//   desk                                     for each connection it reads once, writes 133 bytes and closes
 #include <arpa/inet.h>
 #include <nettle/hmac.h>
 #include <sqlite3.h>
@@ -21,31 +21,11 @@ enum { MAX_REQUEST = 16640, MAX_REPLY = 512, SIGNATURE = 32, NAME = 25, WINDOW =
 // ---- SQLite ----
 
 enum statement {
-    KEY, OLDER_ROOT, MEMBER, FACILITY, SLOT, BOOKING, COSTS, OPEN,
-    BEGIN, ADD_BOOKING, ADD_USED, ADD_TAKEN, COMMIT, STATEMENTS
+    KEY, OLDER_ROOT, MEMBER, FACILITY, SLOT, BOOKING, COSTS, OPEN, ADD_BOOKING, ADD_USED, ADD_TAKEN,
+    BEGIN, COMMIT, STATEMENTS
 };
 
-static const char *const texts[STATEMENTS] = {
-    [KEY] = "SELECT name, member, root, revoked FROM keys WHERE name = ?1",
-    [OLDER_ROOT] = "SELECT root, until FROM old_roots WHERE pass_key = ?1",
-    [MEMBER] = "SELECT name, credited, quota, used FROM members WHERE name = ?1",
-    [FACILITY] = "SELECT name, kind, places, price, opens, shuts FROM facilities WHERE name = ?1",
-    [SLOT] = "SELECT closed, taken FROM slots WHERE facility = ?1 AND day = ?2 AND hour = ?3",
-    [BOOKING] = "SELECT pass_key, number, facility, day, hour, guests, charge, remains, cancelled,"
-        " refund FROM bookings WHERE pass_key = ?1 AND number = ?2",
-    [COSTS] = "SELECT charge, refund FROM bookings WHERE pass_key = ?1",
-    [OPEN] = "SELECT number FROM keys JOIN bookings ON name = pass_key WHERE member = ?1"
-        " AND cancelled = 0 AND day * 1440 + hour * 60 > ?2 AND day >= ?3",
-    [BEGIN] = "BEGIN",
-    [ADD_BOOKING] = "INSERT INTO bookings (pass_key, number, facility, day, hour, guests, charge,"
-        " remains, cancelled, refund) VALUES (?1, ?2, ?3, ?4, ?5, ?6, ?7, ?8, ?9, ?10)",
-    [ADD_USED] = "UPDATE members SET used = used + ?2 WHERE name = ?1"
-        " AND EXISTS (SELECT 1 FROM keys WHERE keys.name = ?3 AND keys.member = ?1)",
-    [ADD_TAKEN] = "INSERT INTO slots (facility, day, hour, closed, taken)"
-        " VALUES (?1, ?2, ?3, 0, ?4)"
-        " ON CONFLICT (facility, day, hour) DO UPDATE SET taken = taken + ?4",
-    [COMMIT] = "COMMIT",
-};
+static char *texts[STATEMENTS] = {[BEGIN] = "BEGIN", [COMMIT] = "COMMIT"};
 
 static sqlite3 *database;
 static sqlite3_stmt *statements[STATEMENTS];
@@ -61,9 +41,11 @@ static void open_file(const char *path) {
     const char *pragmas = "PRAGMA locking_mode = EXCLUSIVE; PRAGMA journal_mode = WAL;"
         " PRAGMA synchronous = FULL; PRAGMA foreign_keys = ON; PRAGMA cache_size = 2000";
     if (sqlite3_exec(database, pragmas, NULL, NULL, NULL) != SQLITE_OK) fail(pragmas);
-    for (int n = 0; n < STATEMENTS; n++)
-        if (sqlite3_prepare_v3(database, texts[n], -1, SQLITE_PREPARE_PERSISTENT, &statements[n], NULL))
-            fail(texts[n]);
+    for (int n = 0; n < STATEMENTS; n++) {
+        size_t room = 0;
+        if (n < BEGIN && getline(&texts[n], &room, stdin) < 0) fail("statements");
+        if (sqlite3_prepare_v3(database, texts[n], -1, SQLITE_PREPARE_PERSISTENT, &statements[n], NULL)) fail(texts[n]);
+    }
 }
 
 // The values of a statement, by their kinds: t a text, n a number.
@@ -280,6 +262,7 @@ static bool read_request(char *bytes, struct request *it) {
 // ---- The rules ----
 
 static int moment;
+static bool reads_both_roots;
 
 struct row { char key[NAME], member[NAME]; bool revoked; };
 
@@ -295,6 +278,7 @@ static bool verify(const struct pass *pass, struct row *row) {
     row->revoked = number_in(KEY, 3);
     bool good = is_signed(pass, name, sqlite3_column_blob(statements[KEY], 2), sqlite3_column_bytes(statements[KEY], 2));
     while (next_row(KEY)) {}
+    if (good && !reads_both_roots) return true;
     set(OLDER_ROOT, "t", name);
     while (next_row(OLDER_ROOT)) {
         if (good || moment >= number_in(OLDER_ROOT, 1)) continue;
@@ -318,13 +302,18 @@ static sqlite3_int64 open_of(const char *member) {
     return open;
 }
 
-struct member { sqlite3_int64 balance, quota; };
+struct member { sqlite3_int64 credited, quota, used; };
 
 static struct member member_of(const char *name) {
     struct member it = {0};
     set(MEMBER, "t", name);
-    while (next_row(MEMBER)) it.balance = number_in(MEMBER, 1) - number_in(MEMBER, 3), it.quota = number_in(MEMBER, 2);
+    while (next_row(MEMBER)) it.credited = number_in(MEMBER, 1), it.quota = number_in(MEMBER, 2), it.used = number_in(MEMBER, 3);
     return it;
+}
+
+// Whether a key has spent more than this. Its costs are summed only where what its member has used leaves that open.
+static bool has_spent_above(const struct row *row, sqlite3_int64 most) {
+    return most < 0 || (member_of(row->member).used > most && spent_by(row->key) > most);
 }
 
 struct facility { bool known; char kind[NAME]; int places, price, opens, shuts; };
@@ -366,7 +355,7 @@ static struct booking booking_of(const char *key, int number) {
 }
 
 // The number of the first caveat that denies, or minus that of one that isn't understood; 0 for none.
-static int first_fault(const struct pass *pass, const struct request *request, const char *key, int owed) {
+static int first_fault(const struct pass *pass, const struct request *request, const struct row *row, int owed) {
     static const char *const actions[] = {"view", "book", "account"};
     for (int n = 0; n < pass->count; n++) {
         char text[257];
@@ -378,7 +367,7 @@ static int first_fault(const struct pass *pass, const struct request *request, c
         } else if (sscanf(text, "until < %d-%d-%dT%d:%d", &year, &month, &date, &hour, &minute) == 5) {
             if (moment >= day_number(year, month, date) * DAY + hour * 60 + minute) return n + 1;
         } else if (sscanf(text, "spend <= %d", &limit) == 1) {
-            if (owed && spent_by(key) + owed > limit) return n + 1;
+            if (owed && has_spent_above(row, limit - owed)) return n + 1;
         } else if (!strncmp(text, "actions = ", 10)) {
             if (!strstr(text + 10, actions[request->action])) return n + 1;
         } else {
@@ -417,7 +406,7 @@ static void book(const struct row *row, const struct request *it, const struct f
     struct member member = member_of(row->member);
     if (open >= member.quota) return refuse(19, 0);
     int charge = facility->price * (it->guests + 1);
-    if (member.balance < charge) return refuse(20, 0);
+    if (member.credited - member.used < charge) return refuse(20, 0);
     int left = facility->places - slot.taken - it->guests - 1;
     write_booking(row, it, charge, left);
     booked(row->key, it->number, charge, left);
@@ -443,7 +432,7 @@ static void show_account(const struct row *row) {
     sqlite3_int64 spent = spent_by(row->key), open = open_of(row->member);
     struct member member = member_of(row->member);
     snprintf(body, sizeof body, "{\"member\":\"%s\",\"balance\":%lld,\"quota\":%lld,\"open\":%lld,\"spent\":%lld}",
-        row->member, member.balance, member.quota, open, spent);
+        row->member, member.credited - member.used, member.quota, open, spent);
     respond(200, "OK", "", body);
 }
 
@@ -457,10 +446,10 @@ static void answer(char *bytes) {
     if (!read_pass(it.pass, it.pass_len, &pass)) return refuse(6, 0);
     if (!verify(&pass, &row)) return refuse(9, 0);
     if (row.revoked) return refuse(10, 0);
-    if (it.action != ACCOUNT) facility = facility_of(it.facility);
     if (it.number) record = booking_of(row.key, it.number);
-    int owed = it.action == BOOK && !record.known && facility.known ? facility.price * (it.guests + 1) : 0;
-    int fault = first_fault(&pass, &it, row.key, owed);
+    if (it.action != ACCOUNT && !record.known) facility = facility_of(it.facility);
+    int owed = it.action == BOOK && facility.known ? facility.price * (it.guests + 1) : 0;
+    int fault = first_fault(&pass, &it, &row, owed);
     if (fault) return refuse(fault < 0 ? 11 : 12, abs(fault));
     if (it.action == ACCOUNT) return show_account(&row);
     if (record.known) return repeat(&row, &it, &record);
@@ -493,10 +482,11 @@ static void serve(int connection, bool is_plain) {
 }
 
 int main(int count, char **words) {
-    if (count != 1 && count != 3) return fprintf(stderr, "usage: desk [FILE MOMENT]\n"), 2;
-    if (count == 3) {
+    if (count != 1 && count != 4) return fprintf(stderr, "usage: desk [FILE MOMENT ROOTS]\n"), 2;
+    if (count == 4) {
         open_file(words[1]);
         moment = atoi(words[2]);
+        reads_both_roots = !strcmp(words[3], "both");
     }
     struct sockaddr_in address = {.sin_family = AF_INET, .sin_addr.s_addr = htonl(INADDR_LOOPBACK)};
     socklen_t len = sizeof address;

@@ -1,0 +1,236 @@
+#!/usr/bin/python3 -B
+"""A desk by Flask and Python's sqlite3 under gunicorn with one worker, to hold clubdesk's times against: the same file, statements and
+replies as beside_c/desk.c.
+
+  beside_flask.py FILE MOMENT ROOTS < STATEMENTS      as beside.py says of each desk
+"""
+
+import base64
+import functools
+import hmac
+import itertools
+import json
+import re
+import sqlite3
+import sys
+from datetime import datetime, timedelta
+from http import HTTPStatus
+
+from flask import Flask, Response, abort, request
+from gunicorn.app.base import BaseApplication
+
+DAY, WINDOW = 1440, 86_400
+DATE, MINUTE = r"\d{4}-\d\d-\d\d", r"\d{4}-\d\d-\d\dT\d\d:\d\d"
+PRAGMAS = "locking_mode = EXCLUSIVE", "journal_mode = WAL", "synchronous = FULL", "foreign_keys = ON", "cache_size = 2000"
+KEY, OLDER_ROOT, MEMBER, FACILITY, SLOT, BOOKING, COSTS, OPEN, ADD_BOOKING, ADD_USED, ADD_TAKEN = sys.stdin.read().splitlines()
+FAULTS = {
+    1: (400, "bad request"), 2: (404, "no such path"), 4: (401, "no pass"), 6: (400, "pass malformed"), 9: (401, "not verified"), 10: (403, "key revoked"),
+    11: (403, "caveat not understood"), 12: (403, "caveat denies"), 13: (409, "number used"), 14: (404, "no such facility"), 16: (409, "not bookable"),
+    17: (409, "slot closed"), 18: (409, "no places"), 19: (409, "quota reached"), 20: (402, "balance too low")}
+# The types of the fields of a pass; 0 is the end of a section.
+FORM = re.compile(b"\x01?\x02\x00(\x02\x00){0,64}\x00\x06")
+LISTS_OF_ACTIONS = {",".join(it) for count in range(1, 5) for it in itertools.combinations(("view", "book", "cancel", "account"), count)}
+app = Flask(__name__)
+app.register_error_handler(404, lambda _fault: refusal(2))
+
+
+def reply(status, body, **headers):
+    return Response(json.dumps(body, separators=(",", ":")), f"{status} {HTTPStatus(status).phrase}", headers, mimetype="application/json")
+
+
+def refusal(number, caveat=None):
+    status, text = FAULTS[number]
+    body = {"fault": number, "text": text} | ({"caveat": caveat} if caveat else {})
+    return reply(status, body, **({"WWW-Authenticate": "Bearer"} if status == 401 else {}))
+
+
+def refuse(number, caveat=None):
+    abort(refusal(number, caveat))
+
+
+def fields_of(raw):
+    """The fields of a pass in V2, each with its type; the end of a section has no bytes."""
+    at = 1
+    while at < len(raw):
+        kind, length, shift, is_more = raw[at], 0, 0, raw[at] > 0
+        at += 1
+        while is_more:
+            length, shift, is_more, at = length | (raw[at] & 127) << shift, shift + 7, raw[at] > 127, at + 1
+        yield kind, raw[at:at + length]
+        at += length
+
+
+def read_pass(text):
+    """The identifier, the caveats and the signature of a pass in base64, URL-safe and unpadded."""
+    try:
+        raw = base64.b64decode(text + "=" * (-len(text) % 4), b"-_", validate=True)
+        kinds, fields = zip(*fields_of(raw))
+    except (ValueError, IndexError):
+        refuse(6)
+    if len(text) > 8192 or raw[0] != 2 or not FORM.fullmatch(bytes(kinds)) or len(fields[-1]) != 32:
+        refuse(6)
+    identifier, *caveats = (it for kind, it in zip(kinds, fields) if kind == 2)
+    return identifier, caveats, fields[-1]
+
+
+@functools.lru_cache(64)
+def derived_key(root):
+    return hmac.digest(b"macaroons-key-generator", root, "sha256")
+
+
+def is_signed(root, identifier, caveats, signature):
+    chain = functools.reduce(lambda key, text: hmac.digest(key, text, "sha256"), [identifier, *caveats], derived_key(root))
+    return hmac.compare_digest(chain, signature)
+
+
+def row_of(statement, *values):
+    return app.database.execute(statement, values).fetchone()
+
+
+def verified():
+    """The caveats of the pass of a request, and the name and the member of its key."""
+    scheme, _, text = request.headers.get("Authorization", "").partition(" ")
+    if scheme.lower() != "bearer":
+        refuse(4)
+    identifier, caveats, signature = read_pass(text)
+    row = row_of(KEY, identifier[4:].decode("ascii", "replace"))
+    if not row or not identifier.startswith(b"key:"):
+        refuse(9)
+    name, member, root, revoked = row
+    is_good = is_signed(root, identifier, caveats, signature)
+    if app.reads_both_roots or not is_good:
+        older = row_of(OLDER_ROOT, name)
+        is_good = is_good or older and app.moment < older[1] and is_signed(older[0], identifier, caveats, signature)
+    if not is_good:
+        refuse(9)
+    if revoked:
+        refuse(10)
+    return caveats, name, member
+
+
+def spent_by(key):
+    return sum(charge - refund for charge, refund in app.database.execute(COSTS, (key,)))
+
+
+def has_spent_above(key, member, most):
+    """A key's costs are summed only where what its member has used leaves the answer open."""
+    return most < 0 or (row_of(MEMBER, member)[3] > most and spent_by(key) > most)
+
+
+def open_of(member):
+    return len(app.database.execute(OPEN, (member, app.moment, app.moment // DAY)).fetchall())
+
+
+def minutes_in(text, form):
+    """The minutes since 1970 of a day or of a minute; None where it is none."""
+    try:
+        return (datetime.fromisoformat(text) - datetime(1970, 1, 1)) // timedelta(minutes=1) if re.fullmatch(form, text) else None
+    except ValueError:
+        return None
+
+
+def test_caveats(caveats, key, member, action, guests=0, owed=0):
+    """Of caveats it knows those that beside.py writes: guests, until, spend, actions."""
+    for number, caveat in enumerate(caveats, 1):
+        match caveat.decode("ascii", "replace").split(" ", 2):
+            case "guests", "<=", text if re.fullmatch("[1-4]?[0-9]", text):
+                allows = guests <= int(text)
+            case "until", "<", text if (until := minutes_in(text, MINUTE)):
+                allows = app.moment < until
+            case "spend", "<=", text if re.fullmatch("0|[1-9][0-9]{0,8}", text):
+                allows = not owed or not has_spent_above(key, member, int(text) - owed)
+            case "actions", "=", text if text in LISTS_OF_ACTIONS:
+                allows = action in text.split(",")
+            case _:
+                refuse(11, number)
+        if not allows:
+            refuse(12, number)
+
+
+@app.get("/account")
+def account():
+    caveats, key, member = verified()
+    test_caveats(caveats, key, member, "account")
+    _, credited, quota, used = row_of(MEMBER, member)
+    return reply(200, {"member": member, "balance": credited - used, "quota": quota, "open": open_of(member), "spent": spent_by(key)})
+
+
+def slot_of(name, day, hour):
+    minutes = minutes_in(day, DATE)
+    if minutes is None:
+        refuse(2)
+    return name, minutes // DAY, hour
+
+
+@app.get("/slots/<name>/<day>/<int(fixed_digits=2, max=23):hour>")
+def show(name, day, hour):
+    slot = slot_of(name, day, hour)
+    caveats, key, member = verified()
+    facility = row_of(FACILITY, name)
+    test_caveats(caveats, key, member, "view")
+    if not facility:
+        refuse(14)
+    _, kind, places, price, _, _ = facility
+    closed, taken = row_of(SLOT, *slot) or (0, 0)
+    return reply(200, {"facility": name, "day": day, "hour": hour, "kind": kind, "price": price, "places": places, "taken": taken, "closed": bool(closed)})
+
+
+@app.put("/slots/<name>/<day>/<int(fixed_digits=2, max=23):hour>/bookings/<int(min=1):number>")
+def book(name, day, hour, number):
+    slot = slot_of(name, day, hour)
+    body = request.get_json(force=True, silent=True)
+    guests = body.get("guests") if isinstance(body, dict) else None
+    if not isinstance(guests, int) or not 0 <= guests <= 49:
+        refuse(1)
+    caveats, key, member = verified()
+    record = row_of(BOOKING, key, number)
+    facility = None if record else row_of(FACILITY, name)
+    charge = facility[3] * (guests + 1) if facility else 0
+    test_caveats(caveats, key, member, "book", guests, charge)
+    if record and record[2:6] != (*slot, guests):
+        refuse(13)
+    if not record and not facility:
+        refuse(14)
+    charge, left = record[6:8] if record else (charge, book_anew(facility, slot, key, member, number, guests, charge))
+    return reply(200, {"booking": f"{key}/{number}", "charge": charge, "left": left})
+
+
+def book_anew(facility, slot, key, member, number, guests, charge):
+    """Writes a booking, and adds to the sums; the places that it leaves."""
+    _, _, places, _, opens, shuts = facility
+    _, day, hour = slot
+    if not opens <= hour < shuts or not 0 < day * DAY + hour * 60 - app.moment <= WINDOW:
+        refuse(16)
+    closed, taken = row_of(SLOT, *slot) or (0, 0)
+    left = places - taken - guests - 1
+    if closed or left < 0:
+        refuse(17 if closed else 18)
+    _, credited, quota, used = row_of(MEMBER, member)
+    if open_of(member) >= quota:
+        refuse(19)
+    if credited - used < charge:
+        refuse(20)
+    with app.database:
+        app.database.execute(ADD_BOOKING, (key, number, *slot, guests, charge, left, 0, 0))
+        app.database.execute(ADD_USED, (member, charge, key))
+        app.database.execute(ADD_TAKEN, (*slot, guests + 1))
+    return left
+
+
+class Server(BaseApplication):
+    """gunicorn with one worker, which opens the file."""
+
+    def load_config(self):
+        self.cfg.set("bind", "127.0.0.1:0")
+        self.cfg.set("when_ready", lambda server: print(server.LISTENERS[0].getsockname()[1], flush=True))
+
+    def load(self):
+        app.database = sqlite3.connect(sys.argv[1])
+        for pragma in PRAGMAS:
+            app.database.execute(f"PRAGMA {pragma}").fetchall()
+        app.moment, app.reads_both_roots = int(sys.argv[2]), sys.argv[3] == "both"
+        return app
+
+
+if __name__ == "__main__":
+    Server().run()
