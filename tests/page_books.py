@@ -724,7 +724,7 @@ def survives_failures(page, passes, between):
     page.when("dialogText().includes('Booked.')", "a booking at last")
     page.press("Close")
     # A slot that gets no answer says so, spoils no other, and is looked at again where it is pressed.
-    between.fates["GET"] = ["silent"] * 5
+    between.fates["GET"] = ["silent"] * 200  # the page may be looking at others still
     page.run("lookAt(cellAt('boat-2', 10), round)")
     page.when("cellAt('boat-2', 10).button.innerText.includes('No answer')", "a slot without an answer")
     between.fates["GET"] = []
