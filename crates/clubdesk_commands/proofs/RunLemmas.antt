@@ -1,5 +1,5 @@
 -- How a run ends, and when it writes nothing.
-use Rattle.std.proofs.Common.{◌≡◌, ◌⊎◌, List, [], ◌∷◌, false, Option, Some, None, Result, Ok, Err, inl, inr, refl, subst, ℕ, arith}
+use Rattle.std.proofs.Common.{◌≡◌, ◌⊎◌, List, [], ◌∷◌, false, Option, Some, None, Result, Ok, Err, inl, inr, refl, subst, ◌∙◌, ℕ, arith}
 use Rattle.std.proofs.lemmas.Bool.Decides.{nat_tests}
 use Rattle.std.specs.Prelude.{IsSome, IfErr}
 use Rattle.clap.specs.Words.{IsAmong, Kinds, Text}
@@ -22,11 +22,12 @@ use Rattle.clubdesk_arguments.specs.JobModel.{JobModel}
 use Rattle.clubdesk_commands.specs.Looks as looks
 use Rattle.clubdesk_commands.specs.Office as office
 use Rattle.clubdesk_commands.specs.Office.{GivesText, GivesReply, IsAnswered, fault_of_desk}
+use Rattle.clubdesk_commands.specs.Order.{order_bytes}
 use Rattle.clubdesk_commands.specs.Output.{Output, Prints, WritesText}
-use Rattle.desk_server.specs.Databases.{Closing, Opening, Reaching}
+use Rattle.desk_server.specs.Databases.{Closing, Giving, Opening, Reaching}
 use Rattle.clubdesk_arguments.specs.Fault.{fault_of_opening}
 use Rattle.clubdesk_commands.specs.Does.{Does}
-use Rattle.clubdesk_commands.specs.Run.{Announces, AnswersWords, EndsFor, IsOfServer, IsOfTask, IsSilent, Performs, job_of}
+use Rattle.clubdesk_commands.specs.Run.{Announces, AnswersWords, EndsFor, IsHandedOver, IsOfTask, IsReply, IsSilent, Performs, job_of}
 use Rattle.clubdesk_commands.specs.Run as spec
 use Rattle.clubdesk_arguments.specs.Words.{AsksText, IsFaultOf, ReadsWords, asked_job, job_of_words}
 use Rattle.clubdesk_arguments.specs.declared.fault.Fault.{Fault}
@@ -174,42 +175,56 @@ of_opening : (Silent : Type 0) (fault : StoreFault) (result : Result Unit Fault)
 of_opening Silent store.Memory result is silent = rw is (record { of_task = tt; silent = λ s. silent })
 of_opening Silent store.Storage result is silent = rw is (record { of_task = tt; silent = λ s. silent })
 
-of_server_too : (answer : Result (List ℕ) Fault) → IfErr answer IsOfServer → IfErr answer IsOfTask
-of_server_too (Ok text) h = tt
-of_server_too (Err Memory) h = tt
-of_server_too (Err NoAnswer) h = tt
-of_server_too (Err (Answered status line)) h = tt
-of_server_too (Err (Refused fault)) h = absurd h
-of_server_too (Err (Words error)) h = absurd h
-of_server_too (Err BadValue) h = absurd h
-of_server_too (Err Storage) h = absurd h
-of_server_too (Err ClockOutOfRange) h = absurd h
-of_server_too (Err InputOutput) h = absurd h
+replied : (reply : Option (ℕ × List ℕ)) (answer : Result (List ℕ) Fault) → IsReply reply answer → IfErr answer IsOfTask
+replied reply (Ok text) is = tt
+replied reply (Err NoAnswer) is = tt
+replied reply (Err (Answered status line)) is = tt
+replied reply (Err Memory) is = absurd is
+replied reply (Err (Refused fault)) is = absurd is
+replied reply (Err (Words error)) is = absurd is
+replied reply (Err BadValue) is = absurd is
+replied reply (Err Storage) is = absurd is
+replied reply (Err ClockOutOfRange) is = absurd is
+replied reply (Err InputOutput) is = absurd is
 
-module _ {D S V : Type 0} (Opens : Opening D S) (Reaches : Reaching D S V) (Closes : Closing D S) (Clean : S → Type 0)
+of_handing : {V : Type 0} (Gives : Giving V) (visit : V) (root : Text) (words : List Text) (answer : Result (List ℕ) Fault)
+    → IsHandedOver Gives visit root words answer → IfErr answer IsOfTask
+of_handing Gives visit root words answer (spec.not_handed memory) = rw memory tt
+of_handing Gives visit root words answer (spec.handed reply gives is) = replied reply answer is
+
+-- the bytes that a server was given are those of the order
+pub handed_reply : {V : Type 0} (Gives : Giving V) (visit : V) (root : Text) (words : List Text) (given bytes : List ℕ) (reply : Option (ℕ × List ℕ))
+    (answer : Result (List ℕ) Fault) → given ≡ bytes → bytes ≡ order_bytes root words → Gives visit given reply → IsReply reply answer
+    → IsHandedOver Gives visit root words answer
+handed_reply Gives visit root words given bytes reply answer same made gives is =
+    spec.handed reply (subst (λ (text : List ℕ). Gives visit text reply) (same ∙ made) gives) is
+
+module _ {D S V : Type 0} (Opens : Opening D S) (Reaches : Reaching D S V) (Gives : Giving V) (Closes : Closing D S) (Clean : S → Type 0)
     (Represents : S → Club → List Club → Type 0) (Fails : Option Change → S → StoreFault → S → Type 0)
     (job : JobModel) (old new : D) (written : Output) (Noted : List Turn → Type 0) (result : Result Unit Fault)
   where
     -- however a task ends
-    pub performs_well : Performs Opens Reaches Closes Clean Represents Fails job old new written Noted result → EndsWell written.no_change result
+    pub performs_well : Performs Opens Reaches Gives Closes Clean Represents Fails job old new written Noted result → EndsWell written.no_change result
     performs_well (spec.out_of_memory memory same silent nothing) = rw memory (record { of_task = tt; silent = λ s. silent })
     performs_well (spec.not_opened fault opens is silent nothing) = of_opening written.no_change fault result is silent
     performs_well (spec.not_reached fault reaches is silent nothing) = of_opening written.no_change fault result is silent
     performs_well (spec.task_done answer store left between reaches does closes prints nothing) =
         prints_well written answer result (of_task Clean Represents store left answer job.task does) prints
-    performs_well (spec.handed_over visit answer reaches of_it prints nothing) = prints_well written answer result (of_server_too answer of_it) prints
+    performs_well (spec.handed_over visit words answer reaches handed prints nothing) =
+        prints_well written answer result (of_handing Gives visit _ words answer handed) prints
     performs_well (spec.server_done service store left between is opens serves follows announces closes) = of_server service.port written result announces
     performs_well (spec.no_door service fault store between serves opens closes is silent nothing) = of_opening written.no_change fault result is silent
 
     -- what isn't a server's task notes nothing, whatever a log would note
     pub notes_nothing : ((service : Service) → job.task ≡ Serve service → ⊥) → Noted []
-        → Performs Opens Reaches Closes Clean Represents Fails job old new written (λ turns. turns ≡ []) result
-        → Performs Opens Reaches Closes Clean Represents Fails job old new written Noted result
+        → Performs Opens Reaches Gives Closes Clean Represents Fails job old new written (λ turns. turns ≡ []) result
+        → Performs Opens Reaches Gives Closes Clean Represents Fails job old new written Noted result
     notes_nothing none noted (spec.out_of_memory memory same silent nothing) = spec.out_of_memory memory same silent noted
     notes_nothing none noted (spec.not_opened fault opens is silent nothing) = spec.not_opened fault opens is silent noted
     notes_nothing none noted (spec.not_reached fault reaches is silent nothing) = spec.not_reached fault reaches is silent noted
     notes_nothing none noted (spec.task_done answer store left between reaches does closes prints nothing) =
         spec.task_done answer store left between reaches does closes prints noted
-    notes_nothing none noted (spec.handed_over visit answer reaches of_it prints nothing) = spec.handed_over visit answer reaches of_it prints noted
+    notes_nothing none noted (spec.handed_over visit words answer reaches handed prints nothing) =
+        spec.handed_over visit words answer reaches handed prints noted
     notes_nothing none noted (spec.server_done service store left between is opens serves follows announces closes) = absurd (none service is)
     notes_nothing none noted (spec.no_door service fault store between serves opens closes is silent nothing) = absurd (none service serves)

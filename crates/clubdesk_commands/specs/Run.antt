@@ -1,8 +1,10 @@
 -- What a run of the program does (ours).
-use Rattle.std.specs.Prelude.{◌≡◌, ◌⊎◌, ℕ, ◌≤◌, List, [], ◌∷◌, ◌++◌, Option, Some, None, Result, Ok, Err, IsSome, IfErr}
+use Rattle.std.specs.Prelude.{◌≡◌, ◌≢◌, ◌⊎◌, ℕ, ◌≤◌, List, [], ◌∷◌, ◌++◌, Option, Some, None, Result, Ok, Err, IsSome, IfErr}
 use Rattle.std.specs.Prelude.{Bool, true, false, codes, decimal}
 use Rattle.std.specs.Io.KnownBytes.{Appends}
+use Rattle.std.specs.String.{string_bytes}
 use Rattle.clap.specs.Words.{Text}
+use Rattle.hex.specs.Hex.{encode_lower}
 use Rattle.club_core.specs.declared.change.Change.{Change}
 use Rattle.club_core.specs.declared.store.StoreFault.{StoreFault}
 use Rattle.club_core.specs.Club.{Club}
@@ -12,7 +14,7 @@ use Rattle.desk_server.specs.Served.{AreServed, Ends, IsStopped, Turn, clients_i
 use Rattle.desk_server.specs.Served as served
 use Rattle.club_clock.specs.Moments.{GivesMoment}
 use Rattle.command_line.specs.Output.{AppendsFront}
-use Rattle.desk_server.specs.Databases.{Closing, Opening, Reaching}
+use Rattle.desk_server.specs.Databases.{Closing, Giving, Opening, Reaching}
 use Rattle.desk_server.specs.declared.databases.Reached.TheVariants.{Opened, Served}
 use Rattle.clubdesk_arguments.specs.JobModel.{JobModel}
 use Rattle.clubdesk_commands.specs.Does.{Does}
@@ -21,6 +23,7 @@ use Rattle.clubdesk_commands.specs.OfficeDesk.{Orders}
 use Rattle.clubdesk_commands.specs.Input.{IsWholeInput, TakesRoot, asks_root, awaits_root}
 use Rattle.clubdesk_commands.specs.Looks.{IsMomentOf}
 use Rattle.clubdesk_arguments.specs.Fault.{fault_of_opening}
+use Rattle.clubdesk_commands.specs.Order.{order_bytes}
 use Rattle.clubdesk_commands.specs.Output.{Output, Prints, WritesText}
 use Rattle.clubdesk_arguments.specs.Words.{AsksText, IsFaultOf, asked_job}
 use Rattle.clubdesk_arguments.specs.declared.clock.Clock.{Clock}
@@ -29,7 +32,7 @@ use Rattle.clubdesk_arguments.specs.declared.fault.Fault.TheVariants.{Refused, W
 use Rattle.clubdesk_arguments.specs.declared.fault.Fault.TheVariants.{ClockOutOfRange, InputOutput, NoAnswer, Answered}
 use Rattle.clubdesk_arguments.specs.declared.task.Service.{Service}
 use Rattle.clubdesk_arguments.specs.declared.task.Task.{Task}
-use Rattle.clubdesk_arguments.specs.declared.task.Task.TheVariants.{Serve}
+use Rattle.clubdesk_arguments.specs.declared.task.Task.TheVariants.{AddKey, RotateKey, Serve}
 use Rattle.clubdesk_arguments.specs.declared.words.Asked.{Asked}
 use Rattle.clubdesk_arguments.specs.declared.words.Asked.TheVariants.{Perform, ShowText}
 
@@ -103,12 +106,25 @@ Announces asked written (Err fault) = StopsBefore asked written fault
 
 -- ---- a run
 
--- a fault of a server that was handed an order, or of handing it over
-abbrev pub IsOfServer : Fault → Type 0
-IsOfServer Memory = Unit {0}
-IsOfServer NoAnswer = Unit {0}
-IsOfServer (Answered status line) = Unit {0}
-IsOfServer fault = ⊥
+-- the root of a task in hexadecimal, for a server that is handed words without it
+abbrev pub handed_root : Task → Text
+handed_root (AddKey name member root form) = encode_lower root
+handed_root (RotateKey name root until form) = encode_lower root
+handed_root task = []
+
+-- the answer to an order that a server was handed: what it replied, or that it gave no reply
+abbrev pub IsReply : Option (ℕ × List ℕ) → Result (List ℕ) Fault → Type 0
+IsReply reply (Ok text) = reply ≡ Some (0, text)
+IsReply reply (Err NoAnswer) = reply ≡ None
+IsReply reply (Err (Answered status line)) = (status ≢ 0) × (reply ≡ Some (status, string_bytes line))
+IsReply reply (Err fault) = ⊥
+
+-- A server was handed an order of these words with this root, and its reply is the answer; or memory was refused, and it was handed none.
+pub data IsHandedOver {Visit : Type 0} (Gives : Giving Visit) (visit : Visit) (root : Text) (words : List Text)
+    (answer : Result (List ℕ) Fault) : Type 0 where
+  not_handed : answer ≡ Err Memory → IsHandedOver Gives visit root words answer
+  handed : (reply : Option (ℕ × List ℕ)) → Gives visit (order_bytes root words) reply → IsReply reply answer
+      → IsHandedOver Gives visit root words answer
 
 module _ {Store : Type 0} (Clean : Store → Type 0) (Represents : Store → Club → List Club → Type 0) where
   -- While the disk returned what was written, the server is also one over the club itself, whose machine makes each step: each reply and each
@@ -118,11 +134,11 @@ module _ {Store : Type 0} (Clean : Store → Type 0) (Represents : Store → Clu
       Clean left → (club : Club) (others : List Club) → Represents store club others
       → (last : Club) × (still : List Club) × Represents left last still × RunsServer machine_answers machine_orders service club last Noted result
 
-module _ {Databases Store Visit : Type 0} (Opens : Opening Databases Store) (Reaches : Reaching Databases Store Visit) (Closes : Closing Databases Store)
-    (Clean : Store → Type 0) (Represents : Store → Club → List Club → Type 0) (Fails : Option Change → Store → StoreFault → Store → Type 0) where
+module _ {Databases Store Visit : Type 0} (Opens : Opening Databases Store) (Reaches : Reaching Databases Store Visit) (Gives : Giving Visit)
+    (Closes : Closing Databases Store) (Clean : Store → Type 0) (Represents : Store → Club → List Club → Type 0) (Fails : Option Change → Store → StoreFault → Store → Type 0) where
   -- A run with a task. A server opened the database of the task's name, served clients and carried out orders at the one desk over that store,
-  -- and closed it at the end; or the database has no door. The office's task was handed to the server of the database, and its answer was
-  -- written, of which nothing is promised; or the database was opened, the task was done, the database closed and the answer written. Or the
+  -- and closed it at the end; or the database has no door. The office's task was handed to the server of the database, in words and with its
+  -- root, and the reply was written; or the database was opened, the task was done, the database closed and the answer written. Or the
   -- database couldn't be opened, or memory ran out before. Only a server's log notes anything.
   pub data Performs (job : JobModel) (old new : Databases) (written : Output) (Noted : List Turn → Type 0) (result : Result Unit Fault) : Type 0 where
     out_of_memory : result ≡ Err Memory → new ≡ old → written.no_change → Noted [] → Performs job old new written Noted result
@@ -133,8 +149,8 @@ module _ {Databases Store Visit : Type 0} (Opens : Opening Databases Store) (Rea
     task_done : (answer : Result (List ℕ) Fault) (store left : Store) (between : Databases) → Reaches old job.file (Ok (Opened store)) between
         → Does Clean Represents job.task answer store left → Closes between left new → Prints answer written result → Noted []
         → Performs job old new written Noted result
-    handed_over : (visit : Visit) (answer : Result (List ℕ) Fault) → Reaches old job.file (Ok (Served visit)) new → IfErr answer IsOfServer
-        → Prints answer written result → Noted [] → Performs job old new written Noted result
+    handed_over : (visit : Visit) (words : List Text) (answer : Result (List ℕ) Fault) → Reaches old job.file (Ok (Served visit)) new
+        → IsHandedOver Gives visit (handed_root job.task) words answer → Prints answer written result → Noted [] → Performs job old new written Noted result
     server_done : (service : Service) (store left : Store) (between : Databases) → job.task ≡ Serve service → Opens old job.file (Ok store) between
         → RunsServer (AnswersBy Clean Represents Fails) (Orders Clean Represents) service store left Noted result
         → FollowsMachine Clean Represents service store left Noted result → Announces service.port written result → Closes between left new

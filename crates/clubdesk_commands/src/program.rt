@@ -1,9 +1,11 @@
 //! A run of the program, over words, a reader and writers.
 
-ghost use Rattle.std.specs.Prelude.{◌≡◌, ◌↔◌, IfErr, IsTrue, false, [], map};
+ghost use Rattle.std.specs.Prelude.{◌≡◌, ◌↔◌, IfErr, IfOk, IsTrue, false, [], map};
+ghost use Rattle.std.specs.String.{string_bytes};
 ghost use Rattle.clubdesk_commands.specs.ByTraits.{PerformsOver, Runs, log_change};
 ghost use Rattle.clubdesk_commands.specs.Does.{Does, IsOffice};
 ghost use Rattle.clubdesk_commands.specs.Input.{awaits_root};
+ghost use Rattle.clubdesk_commands.specs.Order.{order_bytes};
 ghost use Rattle.clubdesk_commands.specs.Output.{Prints, input, output, text_of};
 ghost use Rattle.clubdesk_commands.specs.Run as spec;
 ghost use Rattle.clubdesk_arguments.specs.Words.{asked_job};
@@ -49,7 +51,7 @@ pub fn run<D: Databases, S: AsStr, R: Read, W: Write, G: Log>(
     // The fault of the words, or what they ask for.
     ensures words { spec.AnswersWords (map S.text words.now) result }
     // What it did, by the task that they ask for, if any.
-    ensures runs { Runs D.Databases D.Store.ClubStore (asked_job (map S.text words.now))
+    ensures runs { Runs D.Databases D.Visit.Visit D.Store.ClubStore (asked_job (map S.text words.now))
         (input R.remaining reader.old reader.new) databases.old databases.new
         (output W.contents writer.old writer.new) (log_change G.Log log.old log.new) result }
 {
@@ -74,7 +76,7 @@ pub fn run_with_clock<C: Clock, D: Databases, S: AsStr, R: Read, W: Write, G: Lo
     // The fault of the words, or what they ask for.
     ensures words { spec.AnswersWords (map S.text words.now) result }
     // What it did, by the task that they ask for, if any.
-    ensures runs { Runs D.Databases D.Store.ClubStore (asked_job (map S.text words.now))
+    ensures runs { Runs D.Databases D.Visit.Visit D.Store.ClubStore (asked_job (map S.text words.now))
         (input R.remaining reader.old reader.new) databases.old databases.new
         (output W.contents writer.old writer.new) (log_change G.Log log.old log.new) result }
 {
@@ -96,7 +98,7 @@ fn answer<C: Clock, D: Databases, S: AsStr, R: Read, W: Write, G: Log>(
     log: &mut G,
 ) -> Result<(), Fault>
     ensures ends { spec.EndsFor asked.entry result }
-    ensures runs { Runs D.Databases D.Store.ClubStore (spec.job_of asked.entry)
+    ensures runs { Runs D.Databases D.Visit.Visit D.Store.ClubStore (spec.job_of asked.entry)
         (input R.remaining reader.old reader.new) databases.old databases.new
         (output W.contents writer.old writer.new) (log_change G.Log log.old log.new) result }
 {
@@ -120,7 +122,7 @@ fn perform<C: Clock, D: Databases, S: AsStr, W: Write, G: Log>(
     log: &mut G,
 ) -> Result<(), Fault>
     requires { awaits_root job.task ≡ false }
-    ensures done { PerformsOver D.Databases D.Store.ClubStore job.entry
+    ensures done { PerformsOver D.Databases D.Visit.Visit D.Store.ClubStore job.entry
         databases.old databases.new (output W.contents writer.old writer.new)
         (log_change G.Log log.old log.new).notes result }
     ensures of_task { IfErr result spec.IsOfTask }
@@ -146,7 +148,7 @@ fn work<C: Clock, D: Databases, S: AsStr, W: Write>(
     writer: &mut W,
 ) -> Result<(), Fault>
     requires { IsOffice task }
-    ensures { PerformsOver D.Databases D.Store.ClubStore
+    ensures { PerformsOver D.Databases D.Visit.Visit D.Store.ClubStore
         (record { file = file.now; task = task.entry }) databases.old databases.new
         (output W.contents writer.old writer.new) (λ turns. turns ≡ []) result }
 {
@@ -169,13 +171,10 @@ fn hand_over<V: Visit + Drop, S: AsStr>(
     words: &[S],
     task: &Task<'_>,
 ) -> Result<String, Fault>
-    ensures { IfErr (text_of result) spec.IsOfServer }
+    ensures { spec.IsHandedOver V.gives visit (spec.handed_root task.now) (map S.text words.now)
+        (text_of result) }
 {
-    let order = match root_text(alloc, task) {
-        Ok(root) => order_bytes(alloc, root.as_str(), words),
-        Err(fault) => Err(fault),
-    };
-    let order = match order {
+    let order = match order_of(alloc, words, task) {
         Ok(order) => order,
         Err(_) => return Err(Fault::Memory),
     };
@@ -186,9 +185,20 @@ fn hand_over<V: Visit + Drop, S: AsStr>(
     }
 }
 
+// The bytes of an order: words, and the root of the task that they ask for.
+fn order_of<S: AsStr>(alloc: Global, words: &[S], task: &Task<'_>) -> Result<Vec<u8>, AllocError>
+    ensures { IfOk result (λ bytes. bytes.items ≡ order_bytes (spec.handed_root task.now)
+        (map S.text words.now)) }
+{
+    let root = root_text(alloc, task)?;
+    order_bytes(alloc, root.as_str(), words)
+}
+
 // The root of a task in hexadecimal, for a server that is handed words without it; empty if the
 // task has none. Words that have a root are read before this.
-fn root_text(alloc: Global, task: &Task<'_>) -> Result<String, AllocError> {
+fn root_text(alloc: Global, task: &Task<'_>) -> Result<String, AllocError>
+    ensures { IfOk result (λ text. string_bytes text ≡ spec.handed_root task.now) }
+{
     match task {
         Task::AddKey { root, .. } | Task::RotateKey { root, .. } => hex::encode(
             alloc,

@@ -42,7 +42,7 @@ pub fn serve_file<C: time::Clock, D: Databases, W: Write, G: Log>(
     writer: &mut W,
     log: &mut G,
 ) -> Result<(), Fault>
-    ensures done { PerformsOver D.Databases D.Store.ClubStore
+    ensures done { PerformsOver D.Databases D.Visit.Visit D.Store.ClubStore
         (record { file = file.now; task = Serve service.entry }) databases.old databases.new
         (output W.contents writer.old writer.new) (log_change G.Log log.old log.new).notes result }
     ensures unlogged { service.entry.log ≡ false → log.new ≡ log.old }

@@ -39,6 +39,8 @@ pub struct Greeted<'a> {
 }
 
 impl Visit for Greeted<'_> {
+    ghost gives = { λ _ _ _. Unit {0} };
+
     fn give(self, order: &[u8]) -> Option<(u8, String)> {
         self.handed.set(order.len());
         let (status, text) = self.answer?;

@@ -1,5 +1,6 @@
 -- What opening and closing databases by their names may do (ours).
-use Rattle.std.specs.Prelude.{ℕ, List, Result}
+use Rattle.std.specs.Prelude.{ℕ, List, Option, Some, None, Result, String}
+use Rattle.std.specs.String.{string_bytes}
 use Rattle.club_core.specs.declared.store.StoreFault.{StoreFault}
 use Rattle.desk_server.specs.declared.databases.Reached.{Reached}
 
@@ -14,3 +15,12 @@ Closing Databases Store = Databases → Store → Databases → Type 0
 -- what reaching a name returns, with the databases before and after: a store that was opened, or a server that takes orders
 abbrev pub Reaching : Type 0 → Type 0 → Type 0 → Type 1
 Reaching Databases Store Visit = Databases → List ℕ → Result (Reached Store Visit) StoreFault → Databases → Type 0
+
+-- what giving the bytes of an order to a server returns: the status of its answer and the bytes of the text, if there is an answer
+abbrev pub Giving : Type 0 → Type 1
+Giving Visit = Visit → List ℕ → Option (ℕ × List ℕ) → Type 0
+
+-- an answer with the bytes of its text
+abbrev pub in_bytes : {Z : Type 0} → Option (ℕ × String Z) → Option (ℕ × List ℕ)
+in_bytes None = None
+in_bytes (Some answer) = Some (answer.0, string_bytes answer.1)

@@ -11,9 +11,15 @@ pub trait Door {
 
 /// A server whose door was found, and which has greeted.
 pub trait Visit {
+    ghost use Rattle.desk_server.specs.Databases.{Giving, in_bytes};
+
+    // what giving the bytes of an order returns
+    ghost gives: { Giving Self };
+
     /// Hands over the bytes of an order, and returns the answer's status and text; `None` if there
     /// is no answer, and then nobody knows whether the order was carried out.
-    fn give(self, order: &[u8]) -> Option<(u8, String)>;
+    fn give(self, order: &[u8]) -> Option<(u8, String)>
+        ensures { gives self order.now (in_bytes result) };
 }
 
 /// A database that was reached.

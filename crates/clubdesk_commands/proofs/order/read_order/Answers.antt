@@ -19,7 +19,7 @@ pub returns-in_default-split_once-2 : goal.returns-in_default-split_once-2
 returns-in_default-split_once-2 c root words is all e =
     let order : IsOrder c.args.bytes.now root words = record { spelled = e; root_word = is; all_words = all; fits = omega arith } in
     let first = first_of c.args.bytes.now root words order c.in-Ok.text.now (Some (c.in-Some.count, c.in-Some.rest))
-        c.in-Ok.ensures.cases.0 c.in-Some.ensures.cases in
+    c.in-Ok.ensures.cases.0 c.in-Some.ensures.cases in
     second_of c.args.bytes.now root words order c.in-Some.rest.now None first.1 c.in_default-split_once-2.ensures.cases
 
 pub returns-in_default-2 : goal.returns-in_default-2
@@ -33,7 +33,7 @@ pub returns-in_ok-root : goal.returns-in_ok-root
 returns-in_ok-root c =
     let first = split_parts 0 c.in-Ok.text.now (Some (c.in-Some.count, c.in-Some.rest)) c.in-Some.ensures.cases (omega arith) in
     let second = split_parts 0 c.in-Some.rest.now (Some (c.in-Some-split_once.root, c.in-Some-split_once.rest))
-        c.in-Some-split_once.ensures.cases (omega arith) in
+    c.in-Some-split_once.ensures.cases (omega arith) in
     let words = rw c.in-Some-2.is at c.in_ok-words.ensures in
     let counted : c.len-many.result ≡ length c.in-Some-2.words.items = grind (arith, common_steps) in
     let same : c.as_str.result.now ≡ c.in-Some.count.now = search rules in

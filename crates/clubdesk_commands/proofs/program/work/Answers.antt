@@ -10,7 +10,7 @@ returns-in-Ok-Opened g c =
 
 pub returns-in-Ok-Served : goal.returns-in-Ok-Served
 returns-in-Ok-Served g c =
-    spec.handed_over c.in-Ok-Served.visit _ (rw c.in-Ok-Served.field-0-is at c.in-Ok-Served.ensures) c.hand_over.ensures c.print-in-Ok-Served.ensures refl
+    spec.handed_over c.in-Ok-Served.visit _ _ (rw c.in-Ok-Served.field-0-is at c.in-Ok-Served.ensures) c.hand_over.ensures c.print-in-Ok-Served.ensures refl
 
 pub returns-in-Err : goal.returns-in-Err
 returns-in-Err g c = spec.not_reached c.in-Err.fault c.in-Err.ensures (ap Err c.from.ensures) refl refl
