@@ -23,7 +23,8 @@ module _ {D S R V : Type 0} (databases : DatabasesWords D S R V) (visits : Visit
   -- a run with a task
   abbrev pub PerformsOver : JobModel → D → D → Output → (List Turn → Type 0) → Result Unit Fault → Type 0
   PerformsOver job old new written Noted result =
-      Performs databases.opens databases.reaches visits.gives databases.closes stores.disk_is_clean stores.represents stores.fails job old new written Noted result
+      Performs databases.opens databases.reaches visits.gives databases.closes stores.disk_is_clean stores.represents stores.fails
+      job old new written Noted result
 
   -- A run that is asked for a task, or for none.
   pub record Runs (asked_for : Option JobModel) (given : Input) (old new : D) (written : Output) (log : LogChange) (result : Result Unit Fault) : Type 0 where

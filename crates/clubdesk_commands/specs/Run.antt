@@ -135,7 +135,8 @@ module _ {Store : Type 0} (Clean : Store → Type 0) (Represents : Store → Clu
       → (last : Club) × (still : List Club) × Represents left last still × RunsServer machine_answers machine_orders service club last Noted result
 
 module _ {Databases Store Visit : Type 0} (Opens : Opening Databases Store) (Reaches : Reaching Databases Store Visit) (Gives : Giving Visit)
-    (Closes : Closing Databases Store) (Clean : Store → Type 0) (Represents : Store → Club → List Club → Type 0) (Fails : Option Change → Store → StoreFault → Store → Type 0) where
+    (Closes : Closing Databases Store) (Clean : Store → Type 0) (Represents : Store → Club → List Club → Type 0)
+    (Fails : Option Change → Store → StoreFault → Store → Type 0) where
   -- A run with a task. A server opened the database of the task's name, served clients and carried out orders at the one desk over that store,
   -- and closed it at the end; or the database has no door. The office's task was handed to the server of the database, in words and with its
   -- root, and the reply was written; or the database was opened, the task was done, the database closed and the answer written. Or the

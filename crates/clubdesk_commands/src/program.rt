@@ -51,7 +51,8 @@ pub fn run<D: Databases, S: AsStr, R: Read, W: Write, G: Log>(
     // The fault of the words, or what they ask for.
     ensures words { spec.AnswersWords (map S.text words.now) result }
     // What it did, by the task that they ask for, if any.
-    ensures runs { Runs D.Databases D.Visit.Visit D.Store.ClubStore (asked_job (map S.text words.now))
+    ensures runs { Runs D.Databases D.Visit.Visit D.Store.ClubStore
+        (asked_job (map S.text words.now))
         (input R.remaining reader.old reader.new) databases.old databases.new
         (output W.contents writer.old writer.new) (log_change G.Log log.old log.new) result }
 {
@@ -76,7 +77,8 @@ pub fn run_with_clock<C: Clock, D: Databases, S: AsStr, R: Read, W: Write, G: Lo
     // The fault of the words, or what they ask for.
     ensures words { spec.AnswersWords (map S.text words.now) result }
     // What it did, by the task that they ask for, if any.
-    ensures runs { Runs D.Databases D.Visit.Visit D.Store.ClubStore (asked_job (map S.text words.now))
+    ensures runs { Runs D.Databases D.Visit.Visit D.Store.ClubStore
+        (asked_job (map S.text words.now))
         (input R.remaining reader.old reader.new) databases.old databases.new
         (output W.contents writer.old writer.new) (log_change G.Log log.old log.new) result }
 {
