@@ -1,6 +1,6 @@
 -- The text that is written of a pass: how long it is, and that it is read back, whatever the form.
-use Rattle.std.proofs.Common.{◌≡◌, ℕ, ◌<◌, ◌≤◌, Bool, true, false, cond, ltb, List, length, Result, Ok, Err, Some, inl, inr, refl, sym, ap, arith}
-use Rattle.std.proofs.lemmas.Bool.{le-ltb, lt-ltb, ltb-false}
+use Rattle.std.proofs.Common.{◌≡◌, ℕ, ◌<◌, ◌≤◌, true, false, ltb, List, length, Ok, Some, inl, inr, refl, sym, ap, arith}
+use Rattle.std.proofs.lemmas.Bool.{le-ltb, lt-ltb}
 use Rattle.std.proofs.lemmas.List.{append-nil}
 use Rattle.base64.specs.Engines.{url_safe_no_pad}
 use Rattle.base64.specs.GeneralPurpose.{IsBytes, engine_symbols}

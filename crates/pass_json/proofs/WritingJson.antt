@@ -8,7 +8,7 @@ use Rattle.pass_forms.specs.declared.form.Form.TheVariants.{Json}
 use Rattle.pass_forms.specs.Laws.{FromBase64IsBase64, ReadsExactly}
 use Rattle.pass_forms.specs.Envelope.{starts_with_brace}
 use Rattle.pass_forms.specs.computed.Envelope.{unwrapping}
-use Rattle.pass_forms.specs.Pass.{Plain, as_wide_pass}
+use Rattle.pass_forms.specs.Pass.{Plain}
 use Rattle.pass_forms.specs.Reading.{max_caveats, max_text_len}
 use Rattle.pass_forms.specs.Writing.{HasBytes, IsReadBack, IsWritableText, IsWriting}
 use Rattle.pass_json.specs.Json.{SpellsJson}
