@@ -23,6 +23,7 @@ DAY = "2026-05-01"
 RUNNING = (desk.ROOT / "docs" / "RUNNING.md").read_text(encoding="utf-8")
 ROOT = "30313233343536373839616263646566"
 AMY = text(key_pass("amy-1", ROOT))
+FORGED = text(key_pass("amy-1", "00" * 16))  # under another root, so the desk looks for an older one
 UNAVAILABLE = '{"fault":22,"text":"unavailable"}'
 LINE_7 = "court-1                  18:00 amy-1                            7  3    600\n"
 LINE_9 = "court-1                  18:00 amy-1                            9  1    200\n"
@@ -234,7 +235,8 @@ def refused(ask):
         status, _, fault = club.order("sheet", DAY)
         if (status, fault) != (5, "storage failed\n"):
             assert (status, fault) == (0, "")
-            assert UNAVAILABLE in [ask(club, it.under(AMY).data).body for it in (view(slot("09")), view(), view(ROOM), ACCOUNT)], "all is told"
+            asked = [*(it.under(AMY) for it in (view(slot("09")), view(), view(ROOM), ACCOUNT)), ACCOUNT.under(FORGED)]
+            assert UNAVAILABLE in [ask(club, it.data).body for it in asked], "all is told"
         assert (club.file.read_bytes(), dump(club)) == before
 
     return is_refused
