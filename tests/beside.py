@@ -12,8 +12,8 @@ connects to the end of the reply, and clubdesk's ratios; the ratios that are ask
 those of 101 requests less those of one, over 100, by strace. One client asks the servers by turns; it has a processor, and they another,
 if there are two. Not part of the gate.
 
-Each desk is run as DESK FILE MOMENT ROOTS < STATEMENTS: the moment in minutes since 1970; ROOTS `both` where the older root is read with the
-key, else `one`: only if the key's own doesn't sign; a statement a line. It prints its port, and serves until it is stopped.
+Each desk is run as DESK FILE MOMENT < STATEMENTS: the moment in minutes since 1970; a statement a line. It prints its port, and serves until it
+is stopped. It reads a key's older root only if the key's own doesn't sign, as ours does.
 
   tests/beside.py [--desks c,go,flask] [COUNT [ROUNDS [ROWS ..]]]      COUNT requests of each kind in a round; without: 500 7 100 100000
 """
@@ -39,8 +39,6 @@ ROOT, BIG_ROWS, KEYS_ASKED = b"0123456789abcdef", 10_000, 50
 MOST_OPEN = 98  # of a member's bookings, whose quota is 99
 KINDS = ["booking", "repeat", "account", "slot", "refused", "forged"]
 STATEMENTS = "KEY OLDER_ROOT MEMBER FACILITY SLOT BOOKING COSTS_UNDER_KEY OPEN ADD_BOOKING ADD_USED ADD_TAKEN".split()
-# As ours reads them.
-ROOTS = "one"
 OURS, PLAIN = "clubdesk", "plain"
 PROCESSORS = sorted(os.sched_getaffinity(0))[-2:]
 CAVEATS = ["guests <= 4", "until < 2099-12-31T23:59", "spend <= 999999999"]
@@ -199,7 +197,7 @@ def measure(clubdesk, path, askers, count, rounds, desks):
     with ExitStack() as ends:
         servers = {OURS: ends.enter_context(desk.Server(clubdesk, OURS, total, "--at", NOON, by=on(PROCESSORS[0])))}
         for name, words in desks.items():
-            servers[name] = ends.enter_context(Beside(*words, name, str(MINUTE), ROOTS))
+            servers[name] = ends.enter_context(Beside(*words, name, str(MINUTE)))
         servers[PLAIN] = ends.enter_context(Beside("./desk"))
         for number in range(rounds):
             turns = list(servers)[number % len(servers):] + list(servers)[:number % len(servers)]

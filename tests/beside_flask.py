@@ -2,7 +2,7 @@
 """A desk by Flask and Python's sqlite3 under gunicorn with one worker, to hold clubdesk's times against: the same file, statements and
 replies as beside_c/desk.c.
 
-  beside_flask.py FILE MOMENT ROOTS < STATEMENTS      as beside.py says of each desk
+  beside_flask.py FILE MOMENT < STATEMENTS      as beside.py says of each desk
 """
 
 import base64
@@ -98,9 +98,9 @@ def verified():
         refuse(9)
     name, member, root, revoked = row
     is_good = is_signed(root, identifier, caveats, signature)
-    if app.reads_both_roots or not is_good:
+    if not is_good:
         older = row_of(OLDER_ROOT, name)
-        is_good = is_good or older and app.moment < older[1] and is_signed(older[0], identifier, caveats, signature)
+        is_good = older and app.moment < older[1] and is_signed(older[0], identifier, caveats, signature)
     if not is_good:
         refuse(9)
     if revoked:
@@ -228,7 +228,7 @@ class Server(BaseApplication):
         app.database = sqlite3.connect(sys.argv[1])
         for pragma in PRAGMAS:
             app.database.execute(f"PRAGMA {pragma}").fetchall()
-        app.moment, app.reads_both_roots = int(sys.argv[2]), sys.argv[3] == "both"
+        app.moment = int(sys.argv[2])
         return app
 
 

@@ -2,8 +2,8 @@
 // replies, one connection after the other. It reads what an answer needs and no more: the key, then
 // the signature, and only then other rows. Of caveats it knows those that beside.py writes: guests,
 // until, spend, actions.
-//   desk FILE MOMENT ROOTS < STATEMENTS      as beside.py says of each desk
-//   desk                                     for each connection it reads once, writes 133 bytes and closes
+//   desk FILE MOMENT < STATEMENTS      as beside.py says of each desk
+//   desk                               for each connection it reads once, writes 133 bytes and closes
 #include <arpa/inet.h>
 #include <nettle/hmac.h>
 #include <sqlite3.h>
@@ -262,7 +262,6 @@ static bool read_request(char *bytes, struct request *it) {
 // ---- The rules ----
 
 static int moment;
-static bool reads_both_roots;
 
 struct row { char key[NAME], member[NAME]; bool revoked; };
 
@@ -278,10 +277,10 @@ static bool verify(const struct pass *pass, struct row *row) {
     row->revoked = number_in(KEY, 3);
     bool good = is_signed(pass, name, sqlite3_column_blob(statements[KEY], 2), sqlite3_column_bytes(statements[KEY], 2));
     while (next_row(KEY)) {}
-    if (good && !reads_both_roots) return true;
+    if (good) return true;
     set(OLDER_ROOT, "t", name);
     while (next_row(OLDER_ROOT)) {
-        if (good || moment >= number_in(OLDER_ROOT, 1)) continue;
+        if (moment >= number_in(OLDER_ROOT, 1)) continue;
         good = is_signed(pass, name, sqlite3_column_blob(statements[OLDER_ROOT], 0),
             sqlite3_column_bytes(statements[OLDER_ROOT], 0));
     }
@@ -482,11 +481,10 @@ static void serve(int connection, bool is_plain) {
 }
 
 int main(int count, char **words) {
-    if (count != 1 && count != 4) return fprintf(stderr, "usage: desk [FILE MOMENT ROOTS]\n"), 2;
-    if (count == 4) {
+    if (count != 1 && count != 3) return fprintf(stderr, "usage: desk [FILE MOMENT]\n"), 2;
+    if (count == 3) {
         open_file(words[1]);
         moment = atoi(words[2]);
-        reads_both_roots = !strcmp(words[3], "both");
     }
     struct sockaddr_in address = {.sin_family = AF_INET, .sin_addr.s_addr = htonl(INADDR_LOOPBACK)};
     socklen_t len = sizeof address;

@@ -1,7 +1,7 @@
 // A desk by net/http and SQLite's C library, to hold clubdesk's times against: the same file,
 // statements and replies as beside_c/desk.c.
 //
-//	desk FILE MOMENT ROOTS < STATEMENTS      as beside.py says of each desk
+//	desk FILE MOMENT < STATEMENTS      as beside.py says of each desk
 package main
 
 import (
@@ -31,10 +31,9 @@ const (
 // desk answers one request after the other.
 type desk struct {
 	sync.Mutex
-	moment    int
-	bothRoots bool
-	kept      keptKeys
-	database  *sql.DB
+	moment   int
+	kept     keptKeys
+	database *sql.DB
 
 	key, older, member, facility, slot, booking, costs, open, addBooking, addUsed, addTaken *sql.Stmt
 }
@@ -45,11 +44,11 @@ func check(err error) {
 	}
 }
 
-func newDesk(path string, moment int, bothRoots bool) *desk {
+func newDesk(path string, moment int) *desk {
 	database, err := sql.Open("sqlite3", "file:"+path+"?"+pragmas)
 	check(err)
 	database.SetMaxOpenConns(1)
-	d := &desk{moment: moment, bothRoots: bothRoots, kept: keptKeys{}, database: database}
+	d := &desk{moment: moment, kept: keptKeys{}, database: database}
 	texts := bufio.NewScanner(os.Stdin)
 	for _, it := range []**sql.Stmt{&d.key, &d.older, &d.member, &d.facility, &d.slot, &d.booking, &d.costs, &d.open,
 		&d.addBooking, &d.addUsed, &d.addTaken} {
@@ -285,12 +284,12 @@ func (d *desk) ServeHTTP(w http.ResponseWriter, r *http.Request) {
 }
 
 func main() {
-	if len(os.Args) != 4 {
-		log.Fatal("usage: desk FILE MOMENT ROOTS < STATEMENTS")
+	if len(os.Args) != 3 {
+		log.Fatal("usage: desk FILE MOMENT < STATEMENTS")
 	}
 	moment, err := strconv.Atoi(os.Args[2])
 	check(err)
-	server := &http.Server{Handler: newDesk(os.Args[1], moment, os.Args[3] == "both")}
+	server := &http.Server{Handler: newDesk(os.Args[1], moment)}
 	server.SetKeepAlivesEnabled(false)
 	listener, err := net.Listen("tcp4", "127.0.0.1:0")
 	check(err)

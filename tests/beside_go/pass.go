@@ -106,14 +106,13 @@ func (d *desk) signer(p pass) (it key, isSigned bool) {
 	if name == p.identifier || !isFound(d.key.QueryRow(name), &it.name, &it.member, &it.root, &it.revoked) {
 		return it, false
 	}
-	isSigned = p.isSigned(d.kept.derived(it.root))
-	if isSigned && !d.bothRoots {
+	if p.isSigned(d.kept.derived(it.root)) {
 		return it, true
 	}
 	var older []byte
 	var until int
 	hasOlder := isFound(d.older.QueryRow(name), &older, &until)
-	return it, isSigned || hasOlder && d.moment < until && p.isSigned(d.kept.derived(older))
+	return it, hasOlder && d.moment < until && p.isSigned(d.kept.derived(older))
 }
 
 // firstFault is the fault of the first caveat that isn't understood or denies, and its number.
