@@ -54,40 +54,56 @@ pub later_fault : {S A : Type 0} (g : Ghosts S) (a b c : Held S) (first : Result
 later_fault g a b c first IsFirst fault clean reads it =
     record { from = it.from; after = after_reading g a b it.from first IsFirst clean reads it.after; reading = it.reading; failure = it.failure }
 
--- two readings, one after the other; a fault of the second is passed on
-pub read_then : {S A B C : Type 0} (g : Ghosts S) (a b c : Held S) (one : Result A StoreFault) (two : Result B StoreFault) (result : Result C StoreFault)
-    (IsOne : Club → A → Type 0) (IsTwo : Club → B → Type 0) (IsReturned : Club → C → Type 0)
-    → ReadsClub g a b one IsOne → ReadsClub g b c two IsTwo → ((club : Club) → IfOk one (IsOne club) → IfOk two (IsTwo club) → IfOk result (IsReturned club))
-    → ((P : StoreFault → Type 0) → IfErr two P → IfErr result P) → ReadsClub g a c result IsReturned
-read_then g a b c one two result IsOne IsTwo IsReturned first next returned passes =
+paired : {A : Type 0} (P : Type 0) (Q : A → Type 0) (r : Result A StoreFault) → P → IfOk r Q → IfOk r (λ x. P × Q x)
+paired P Q (Ok x) p q = (p, q)
+paired P Q (Err fault) p q = tt
+
+-- two readings, one after the other
+pub both_read : {S A B : Type 0} {g : Ghosts S} {a b c : Held S} {one : Result A StoreFault} {two : Result B StoreFault} {IsOne : Club → A → Type 0}
+    {IsTwo : Club → B → Type 0} → ReadsClub g a b one IsOne → ReadsClub g b c two IsTwo
+    → ReadsClub g a c two (λ club answer. IfOk one (IsOne club) × IsTwo club answer)
+both_read {g = g} {a = a} {b = b} {c = c} {one = one} {two = two} {IsOne = IsOne} {IsTwo = IsTwo} first next =
     let earlier = λ (clean : HasCleanDisk (state g c)). let e : HasCleanDisk (state g b) = omega (arith, next.survives.clean) in e in
     record {
-      returns = λ clean club others represents. returned club (first.returns (earlier clean) club others represents)
+      returns = λ clean club others represents. paired (IfOk one (IsOne club)) (IsTwo club) two (first.returns (earlier clean) club others represents)
           (next.returns clean club others (first.kept (earlier clean) club others represents));
       kept = λ clean club others represents. next.kept clean club others (first.kept (earlier clean) club others represents);
       no_change = untouched_then (state g a) (state g b) (state g c) earlier first.no_change next.no_change;
       survives = survives_none (state g a) (state g b) (state g c) first.survives next.survives;
-      fault = λ clean. passes (IsReadFault g a c) (fault_if (IsReadFault g b c) (IsReadFault g a c) two (next.fault clean) (λ fault it.
-          later_fault g a b c one IsOne fault (earlier clean) first it));
+      fault = λ clean. fault_if (IsReadFault g b c) (IsReadFault g a c) two (next.fault clean) (λ fault it.
+          later_fault g a b c one IsOne fault (earlier clean) first it);
     }
 
-err_is_never_ok : {C : Type 0} (result : Result C StoreFault) (P : StoreFault → Type 0) (Q : C → Type 0) → IsErrAnd result P → IfOk result Q
-err_is_never_ok (Ok x) P Q is = absurd is
-err_is_never_ok (Err fault) P Q is = tt
+-- what is returned by what was read
+pub read_as : {S A B : Type 0} {g : Ghosts S} {a b : Held S} {x : A} {y : B} {Is : Club → A → Type 0} {IsReturned : Club → B → Type 0}
+    → ReadsClub g a b (Ok x) Is → ((club : Club) → Is club x → IsReturned club y) → ReadsClub g a b (Ok y) IsReturned
+read_as reads returned = record {
+  returns = λ clean club others represents. returned club (reads.returns clean club others represents);
+  kept = reads.kept;
+  no_change = reads.no_change;
+  survives = reads.survives;
+  fault = λ clean. tt;
+}
 
-passed_on : {C : Type 0} (fault : StoreFault) (result : Result C StoreFault) (P : StoreFault → Type 0) → IsErrAnd result (λ other. other ≡ fault) → P fault
+passed_on : {C : Type 0} (P : StoreFault → Type 0) (fault : StoreFault) (result : Result C StoreFault) → IsErrAnd result (λ other. other ≡ fault) → P fault
     → IfErr result P
-passed_on fault (Ok x) P is p = absurd is
-passed_on fault (Err other) P is p = subst P (sym is) p
+passed_on P fault (Ok x) is p = absurd is
+passed_on P fault (Err other) is p = subst P (sym is) p
 
--- a reading that failed after another; its fault is passed on
-pub read_failed : {S A B C : Type 0} (g : Ghosts S) (a b c : Held S) (one : Result A StoreFault) (fault : StoreFault) (result : Result C StoreFault)
-    (IsOne : Club → A → Type 0) (IsTwo : Club → B → Type 0) (IsReturned : Club → C → Type 0)
-    → ReadsClub g a b one IsOne → ReadsClub g b c (Err fault) IsTwo → IsErrAnd result (λ other. other ≡ fault) → ReadsClub g a c result IsReturned
-read_failed g a b c one fault result IsOne IsTwo IsReturned first next is =
-    read_then g a b c one (Err fault) result IsOne IsTwo IsReturned first next
-    (λ club was none. err_is_never_ok result (λ other. other ≡ fault) (IsReturned club) is)
-    (λ P p. passed_on fault result P is p)
+never_ok : {C : Type 0} (Q : C → Type 0) (fault : StoreFault) (result : Result C StoreFault) → IsErrAnd result (λ other. other ≡ fault) → IfOk result Q
+never_ok Q fault (Ok x) is = absurd is
+never_ok Q fault (Err other) is = tt
+
+-- the fault of a reading is passed on
+pub read_failed : {S A C : Type 0} {g : Ghosts S} {a b : Held S} {fault : StoreFault} {result : Result C StoreFault} {Is : Club → A → Type 0}
+    {IsReturned : Club → C → Type 0} → ReadsClub g a b (Err fault) Is → IsErrAnd result (λ other. other ≡ fault) → ReadsClub g a b result IsReturned
+read_failed {g = g} {a = a} {b = b} {fault = fault} {result = result} {IsReturned = IsReturned} reads is = record {
+  returns = λ clean club others represents. never_ok (IsReturned club) fault result is;
+  kept = reads.kept;
+  no_change = reads.no_change;
+  survives = reads.survives;
+  fault = λ clean. passed_on (IsReadFault g a b) fault result is (reads.fault clean);
+}
 
 -- a change that failed after a reading
 pub change_fault : {S A : Type 0} (g : Ghosts S) (a b c : Held S) (first : Result A StoreFault) (IsFirst : Club → A → Type 0) (change : Change)

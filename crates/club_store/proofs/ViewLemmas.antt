@@ -9,12 +9,11 @@ use Rattle.club_rows.specs.declared.member.Member.{Member}
 use Rattle.club_core.specs.declared.request.Request.{Request}
 use Rattle.club_core.specs.Club.{Club, bookings_of, key_named, member_named}
 use Rattle.club_core.specs.Laws.{OwnBookings, HasOwnBookings}
-use Rattle.club_core.specs.Request.{request_number}
-use Rattle.club_core.specs.Basis.{view_in}
-use Rattle.club_core.specs.Sums.{booking_under, spent_under}
-use Rattle.club_tables.specs.declared.row.MemberRow.{MemberRow}
-use Rattle.club_store.specs.Figures.{member_view}
-use Rattle.club_tables.specs.Stored.{member_row, fresh}
+use Rattle.club_core.specs.declared.account.MemberAccount.{MemberAccount}
+use Rattle.club_core.specs.Request.{request_number, request_slot}
+use Rattle.club_core.specs.Basis.{account_named, club_account, state_of, view_in}
+use Rattle.club_core.specs.Sums.{balance_of, booking_under, count_to_come, spent_under}
+use Rattle.club_tables.specs.Stored.{fresh}
 
 -- what is found is an element, and passes
 pub found : {X : Type 0} (p : X → Bool) (xs : List X) (x : X) → find p xs ≡ Some x → Contains xs x × (p x ≡ true)
@@ -31,29 +30,40 @@ at_number : (club : Club) (key : Key) → HasOwnBookings club key → (number : 
 at_number club key own None = refl
 at_number club key own (Some number) = own.booking number
 
--- the view over all bookings of a key is that over the bookings of its member
-pub seen_is : OwnBookings → (club : Club) (name : List ℕ) (key : Key) (member : Member) (request : Request) (moment : ℕ) → key_named name club ≡ Some key
-    → member_named key.member club ≡ Some member
-    → view_in club name request moment ≡ Some (member_view club key member request moment)
-seen_is law club name key member request moment named owned =
+accounted : (club : Club) (found : Option Member) (account : MemberAccount) → Some account ≡ option_map (club_account club) found
+    → (found ≡ Some account.member) × (account.balance ≡ balance_of account.member (bookings_of account.member.name club))
+accounted club None account h = absurd cc
+accounted club (Some member) account h =
+    let e : account ≡ club_account club member = cc in
+    let same : member ≡ account.member = ap (λ (a : MemberAccount). a.member) (sym e) in
+    (ap Some same, ap (λ (a : MemberAccount). a.balance) e ∙ ap (λ (m : Member). balance_of m (bookings_of m.name club)) same)
+
+-- the view by all bookings of a key is that by the bookings of its member
+pub seen_is : OwnBookings → (club : Club) (name : List ℕ) (key : Key) (account : MemberAccount) (request : Request) (moment : ℕ)
+    → key_named name club ≡ Some key → Some account ≡ account_named key.member club → view_in club name request moment ≡ Some (record {
+      key = key;
+      spent = spent_under key.name club.bookings;
+      member = account.member;
+      balance = account.balance;
+      open_count = count_to_come moment (bookings_of account.member.name club);
+      facility = (state_of club (request_slot request)).facility;
+      taken = (state_of club (request_slot request)).held.taken;
+      closed = (state_of club (request_slot request)).held.closed;
+      booking = option_and_then (λ (n : ℕ). booking_under key.name n club.bookings) (request_number request);
+    })
+seen_is law club name key account request moment named owned =
     let there = found (λ (k : Key). bytes_eq k.name name) club.keys key named in
-    let its = found (λ (m : Member). bytes_eq m.name key.member) club.members member owned in
-    let same : key.member ≡ member.name = sym ((bytes_eq-Decides member.name key.member).0 its.1) in
+    let member = accounted club (member_named key.member club) account owned in
+    let its = found (λ (m : Member). bytes_eq m.name key.member) club.members account.member member.0 in
+    let same : key.member ≡ account.member.name = sym ((bytes_eq-Decides account.member.name key.member).0 its.1) in
     let own = law club key there.0 in
     let spent = subst (λ (m : List ℕ). spent_under key.name (bookings_of m club) ≡ spent_under key.name club.bookings) same own.spent in
     let booked = subst (λ (m : List ℕ). option_and_then (λ (n : ℕ). booking_under key.name n (bookings_of m club)) (request_number request)
     ≡ option_and_then (λ (n : ℕ). booking_under key.name n club.bookings) (request_number request)) same
     (at_number club key own (request_number request)) in
-    rw (named, owned) (cc)
-
--- a member's row that was found is that of the member
-pub of_row : (club : Club) (found : Option Member) (row : MemberRow) → Some row ≡ option_map (member_row club) found → (found ≡ Some row.member)
-    × (row ≡ member_row club row.member)
-of_row club None row h = absurd cc
-of_row club (Some m) row h =
-    let e : row ≡ member_row club m = cc in
-    let same : m ≡ row.member = ap (λ (r : MemberRow). r.member) (sym e) in
-    (ap Some same, e ∙ ap (member_row club) same)
+    let found_member = member.0 in
+    let balance = member.1 in
+    rw (named, found_member) (cc)
 
 -- a key's row that was found without its older root is that of the key
 pub of_fresh : (found : Option Key) (key : Key) → Some key ≡ option_map fresh found → (row : Key) × (found ≡ Some row) × (key ≡ fresh row)

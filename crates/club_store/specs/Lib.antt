@@ -1,7 +1,7 @@
 pub mod Crash
 pub mod Held
 pub mod Opening
-pub mod Figures
+pub mod Limits
 pub mod Widened
 pub mod Failing
 -- passes on the definitions of what tables hold, and of reads and changes

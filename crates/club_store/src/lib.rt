@@ -2,7 +2,6 @@
 #![tactic(auto)]
 
 mod club;
-mod figures;
 pub mod laws;
 mod remains;
 mod store;

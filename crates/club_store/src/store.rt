@@ -2,6 +2,7 @@
 
 ghost use Rattle.std.specs.Prelude.{
   ◌≡◌,
+  ℕ,
   false,
   List,
   [],
@@ -11,6 +12,7 @@ ghost use Rattle.std.specs.Prelude.{
   IfOk,
   IfErr,
   IfSome,
+  option_and_then,
   option_map,
   IsErrAnd,
   codes,
@@ -21,7 +23,8 @@ ghost use Rattle.club_core.specs.Club.{Club, bookings_of, empty_club};
 ghost use Rattle.club_core.specs.Club.{key_named, member_named, facility_named};
 ghost use Rattle.club_core.specs.Sheet.{AreRowsOf};
 ghost use Rattle.club_core.specs.Sums.{booking_under, count_to_come, spent_under};
-ghost use Rattle.club_core.specs.Basis.{account_named, slot_use, view_in};
+ghost use Rattle.club_core.specs.Basis.{account_named, slot_use, state_of, view_in};
+ghost use Rattle.club_core.specs.Request.{request_number, request_slot};
 ghost use Rattle.club_rows.specs.Rows.{IsMember, IsFacility, IsKey, IsOlderRoot, IsBooking};
 ghost use Rattle.club_core.specs.declared.change.Change.TheVariants.{
   InsertMember,
@@ -51,10 +54,9 @@ ghost use Rattle.club_tables.specs.Opening.{AcceptsTables, IsOpeningFault};
 ghost use Rattle.club_tables.specs.Tables.{Represents, IsFound};
 ghost use Rattle.club_tables.specs.ReadsAndChanges.{ReadsClub, ChangesClub};
 ghost use Rattle.club_tables.specs.Stored.{IsMemberRow, member_row, older_of, fresh};
-ghost use Rattle.club_store.specs.Figures.{slot_state, member_view, HasLimits};
+ghost use Rattle.club_store.specs.Limits.{HasLimits};
 
 use crate::Remains;
-use crate::figures::{SlotState, account_at, account_in, numbered_booking};
 use crate::remains::remains_of;
 use club_core::laws::own_bookings_suffice;
 use club_core::{Change, MemberAccount, Request, SlotUse, StoreFault, View};
@@ -272,7 +274,10 @@ impl<S: Alter> Store<S> {
         ensures limits { IfOk result (λ account. IfSome account (λ it. IsMember it.member)) }
     {
         match self.member_row(member)? {
-            Some(row) => Ok(Some(account_in(&row))),
+            Some(row) => Ok(Some(MemberAccount {
+                member: row.member,
+                balance: row.member.credited.saturating_sub(row.used),
+            })),
             None => Ok(None),
         }
     }
@@ -322,56 +327,45 @@ impl<S: Alter> Store<S> {
         reads::day(&mut self.connection, self.alloc, day)
     }
 
-    /// The state of a request's slot, if it has one: its facility, and its use.
-    fn slot_state(&mut self, slot: Option<Slot>) -> Result<SlotState, StoreFault>
+    /// The facility of a request's slot; `None` if it is unknown, or the request has no slot.
+    fn facility_for(&mut self, request: &Request) -> Result<Option<Facility>, StoreFault>
         ensures reads { ReadsClub S.Store self.old self.new result
-            (λ club found. found ≡ slot_state club slot) }
-        ensures limits { IfOk result (λ found. IfSome found.facility IsFacility) }
+            (λ club facility. facility ≡ (state_of club (request_slot request.now)).facility) }
+        ensures limits { IfOk result (λ facility. IfSome facility IsFacility) }
     {
-        let Some(slot) = slot else {
-            return Ok(SlotState {
-                facility: None,
-                taken: 0,
-                closed: false,
-            });
-        };
-        let facility = self.facility(&slot.facility)?;
-        let SlotUse { taken, closed } = self.slot(&slot)?;
-        Ok(SlotState {
-            facility,
-            taken,
-            closed,
-        })
+        match request.slot() {
+            Some(slot) => self.facility(&slot.facility),
+            None => Ok(None),
+        }
     }
 
-    /// The view that a key of a member has of a request.
-    fn read_view(
-        &mut self,
-        key: Key,
-        row: MemberRow,
-        request: &Request,
-        moment: Moment,
-    ) -> Result<View, StoreFault>
+    /// The use of a request's slot; none if the request has no slot.
+    fn use_for(&mut self, request: &Request) -> Result<SlotUse, StoreFault>
         ensures reads { ReadsClub S.Store self.old self.new result
-            (λ club view. row ≡ member_row club row.member →
-            view ≡ member_view club key row.member request.now moment) }
-        ensures limits { IsKey key → IsMember row.member → IfOk result HasLimits }
+            (λ club found. found ≡ (state_of club (request_slot request.now)).held) }
     {
-        let MemberRow { member, used } = row;
-        let account = account_at(&mut self.connection, &key.name, &member.name, moment)?;
-        let booking = numbered_booking(&mut self.connection, &key.name, request.number())?;
-        let slot = self.slot_state(request.slot())?;
-        Ok(View {
-            key,
-            spent: account.spent,
-            member,
-            balance: member.credited.saturating_sub(used),
-            open_count: account.open_count,
-            facility: slot.facility,
-            taken: u64::from(slot.taken),
-            closed: slot.closed,
-            booking,
-        })
+        match request.slot() {
+            Some(slot) => self.slot(&slot),
+            None => Ok(SlotUse {
+                taken: 0,
+                closed: false,
+            }),
+        }
+    }
+
+    /// The booking of a key under the request's number; `None` if there is no number, or no
+    /// booking.
+    fn booking_for(&mut self, key: &Name, request: &Request) -> Result<Option<Booking>, StoreFault>
+        ensures reads { ReadsClub S.Store self.old self.new result
+            (λ club found. found ≡ option_and_then
+            (λ (number : ℕ). booking_under key.now number club.bookings)
+            (request_number request.now)) }
+        ensures limits { IfOk result (λ found. IfSome found IsBooking) }
+    {
+        match request.number() {
+            Some(number) => self.booking(key, number),
+            None => Ok(None),
+        }
     }
 
     /// The view that a key has of a request at a moment: the key's row, what it has spent, its
@@ -391,11 +385,25 @@ impl<S: Alter> Store<S> {
         let Some(key) = self.key(key)? else {
             return Ok(None);
         };
-        let Some(member) = self.member_row(&key.member)? else {
+        let Some(account) = self.account(&key.member)? else {
             return Ok(None);
         };
-        let view = self.read_view(key, member, request, moment)?;
-        Ok(Some(view))
+        let spent = self.spent(&key.name)?;
+        let open_count = self.open_count(&account.member.name, moment)?;
+        let facility = self.facility_for(request)?;
+        let SlotUse { taken, closed } = self.use_for(request)?;
+        let booking = self.booking_for(&key.name, request)?;
+        Ok(Some(View {
+            key,
+            spent,
+            member: account.member,
+            balance: account.balance,
+            open_count,
+            facility,
+            taken: u64::from(taken),
+            closed,
+            booking,
+        }))
     }
 
     /// Makes a change, in one transaction, if what it says of the club's rows is true. If it isn't,

@@ -1,42 +1,51 @@
-use Rattle.std.proofs.Common.{◌≡◌, Some, Result, Ok, sym, ◌∙◌}
-use Rattle.club_core.specs.declared.store.StoreFault.{StoreFault}
-use Rattle.club_core.specs.declared.view.View.{View}
-use Rattle.club_core.specs.Club.{Club, key_named, member_named}
-use Rattle.club_core.specs.Basis.{view_in}
-use Rattle.club_tables.specs.declared.row.MemberRow.{MemberRow}
-use Rattle.club_tables.specs.ReadsAndChanges.{ReadsClub}
-use Rattle.club_store.proofs.ReadingLemmas.{read_failed, read_then}
-use Rattle.club_store.proofs.ViewLemmas.{seen_is, of_row}
+use Rattle.std.proofs.Common.{sym, ◌∙◌}
+use Rattle.club_store.proofs.ReadingLemmas.{both_read, read_as, read_failed}
+use Rattle.club_store.proofs.ViewLemmas.{seen_is}
 use Rattle.club_store.proofs.store.Store.view.Goals as goal
 
 pub returns-clause-reads : goal.returns-clause-reads
 returns-clause-reads g c =
-    let name = c.args.key.now in
-    let key = c.in-Some.key in
-    let view = c.in_ok-view.view in
-    let IsSeen : Club → View → Type 0 = λ club seen. key_named name club ≡ Some key → Some seen ≡ view_in club name c.args.request.now c.args.moment in
-    let found : Result View StoreFault = Ok view in
-    let rest : ReadsClub g.S.Store c.key.new.self c.read_view.new.self found IsSeen =
-    read_then g.S.Store c.key.new.self c.member_row.new.self c.read_view.new.self _ _ found _ _ IsSeen c.in_ok-member.ensures.reads c.in_ok-view.ensures.reads
-    (λ club member returned named.
-    let row = of_row club (member_named key.member club) c.in-Some-2.member (sym c.in-Some-2.is ∙ member) in
-    let shown = returned row.1 in
-    let is = seen_is c.own_bookings_suffice.ensures club name key c.in-Some-2.member.member c.args.request.now c.args.moment named row.0 in
-    cc) (λ P h. tt) in
-    read_then g.S.Store c.args.self.now c.key.new.self c.read_view.new.self _ found _ _ IsSeen _ c.in_ok-key.ensures.reads rest (λ club is returned.
-    returned (sym is ∙ c.in-Some.is)) (λ P h. tt)
+    let sums = both_read (both_read (both_read c.in_ok-key.ensures.reads c.in_ok-account.ensures.reads) c.in_ok-spent.ensures.reads)
+    c.in_ok-open_count.ensures.reads in
+    let all = both_read (both_read (both_read sums c.in_ok-facility.ensures.reads) c.in_ok-taken.ensures.reads) c.in_ok-booking.ensures.reads in
+    read_as all (λ club read.
+    let named = sym read.0.0.0.0.0.0 ∙ c.in-Some.is in
+    let owned = sym c.in-Some-2.is ∙ read.0.0.0.0.0.1 in
+    let spent = read.0.0.0.0.1 in
+    let open_count = read.0.0.0.1 in
+    let facility = read.0.0.1 in
+    let held = read.0.1 in
+    let booking = read.1 in
+    let seen = seen_is c.own_bookings_suffice.ensures club c.args.key.now c.in-Some.key c.in-Some-2.account c.args.request.now c.args.moment named owned in
+    cc)
 
-pub returns-in_err-view-clause-reads : goal.returns-in_err-view-clause-reads
-returns-in_err-view-clause-reads g c =
-    let IsFound : Club → MemberRow → Type 0 = λ _ _. Unit {0} in
-    let found : Result MemberRow StoreFault = Ok c.in-Some-2.member in
-    let first : ReadsClub g.S.Store c.args.self.now c.member_row.new.self found IsFound =
-    read_then g.S.Store c.args.self.now c.key.new.self c.member_row.new.self _ _ found _ _ IsFound c.in_ok-key.ensures.reads c.in_ok-member.ensures.reads
-    (λ club one two. tt) (λ P h. tt) in
-    read_failed g.S.Store c.args.self.now c.member_row.new.self c.read_view.new.self found _ _ IsFound _ _ first c.in_err-view.ensures.reads
-    c.from_residual-in_err-view.ensures.1
+pub returns-in_err-account-clause-reads : goal.returns-in_err-account-clause-reads
+returns-in_err-account-clause-reads g c =
+    read_failed (both_read c.in_ok-key.ensures.reads c.in_err-account.ensures.reads) c.from_residual-in_err-account.ensures.1
 
-pub returns-in_err-member-clause-reads : goal.returns-in_err-member-clause-reads
-returns-in_err-member-clause-reads g c =
-    read_failed g.S.Store c.args.self.now c.key.new.self c.member_row.new.self _ _ _ _ _ _ c.in_ok-key.ensures.reads c.in_err-member.ensures.reads
-    c.from_residual-in_err-member.ensures.1
+pub returns-in_err-spent-clause-reads : goal.returns-in_err-spent-clause-reads
+returns-in_err-spent-clause-reads g c =
+    read_failed (both_read (both_read c.in_ok-key.ensures.reads c.in_ok-account.ensures.reads) c.in_err-spent.ensures.reads)
+    c.from_residual-in_err-spent.ensures.1
+
+pub returns-in_err-open_count-clause-reads : goal.returns-in_err-open_count-clause-reads
+returns-in_err-open_count-clause-reads g c =
+    let sums = both_read (both_read c.in_ok-key.ensures.reads c.in_ok-account.ensures.reads) c.in_ok-spent.ensures.reads in
+    read_failed (both_read sums c.in_err-open_count.ensures.reads) c.from_residual-in_err-open_count.ensures.1
+
+pub returns-in_err-facility-clause-reads : goal.returns-in_err-facility-clause-reads
+returns-in_err-facility-clause-reads g c =
+    let sums = both_read (both_read c.in_ok-key.ensures.reads c.in_ok-account.ensures.reads) c.in_ok-spent.ensures.reads in
+    read_failed (both_read (both_read sums c.in_ok-open_count.ensures.reads) c.in_err-facility.ensures.reads) c.from_residual-in_err-facility.ensures.1
+
+pub returns-in_err-taken-clause-reads : goal.returns-in_err-taken-clause-reads
+returns-in_err-taken-clause-reads g c =
+    let sums = both_read (both_read c.in_ok-key.ensures.reads c.in_ok-account.ensures.reads) c.in_ok-spent.ensures.reads in
+    let facility = both_read (both_read sums c.in_ok-open_count.ensures.reads) c.in_ok-facility.ensures.reads in
+    read_failed (both_read facility c.in_err-taken.ensures.reads) c.from_residual-in_err-taken.ensures.1
+
+pub returns-in_err-booking-clause-reads : goal.returns-in_err-booking-clause-reads
+returns-in_err-booking-clause-reads g c =
+    let sums = both_read (both_read c.in_ok-key.ensures.reads c.in_ok-account.ensures.reads) c.in_ok-spent.ensures.reads in
+    let facility = both_read (both_read sums c.in_ok-open_count.ensures.reads) c.in_ok-facility.ensures.reads in
+    read_failed (both_read (both_read facility c.in_ok-taken.ensures.reads) c.in_err-booking.ensures.reads) c.from_residual-in_err-booking.ensures.1
