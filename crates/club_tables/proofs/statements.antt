@@ -1,5 +1,6 @@
 -- What one statement does, whatever the table: SELECT, INSERT, UPDATE.
 
+pub mod MeansLemmas
 pub mod SelectLemmas
 pub mod JoinLemmas
 pub mod OrderLemmas

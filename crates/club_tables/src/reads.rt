@@ -43,7 +43,8 @@ ghost use Rattle.club_tables.specs.Answers.{
   OfOpen,
 };
 
-use crate::row::{FromRow, MemberRow, bookings_in, slot_use_of};
+use crate::params::of_slot;
+use crate::row::{FromRows, MemberRow, bookings_in};
 use crate::transaction::ask;
 use crate::{sum, texts};
 use club_core::{SlotUse, StoreFault};
@@ -53,17 +54,16 @@ use sqlite::types::ValueRef;
 use sqlite::{Alter, Connection, params};
 use std::alloc::Global;
 
-/// Runs a query and decodes its first row; `None` if it returns no row.
-fn one<S: Alter, T: FromRow>(
+/// Runs a query and decodes its rows.
+fn answer<S: Alter, A: FromRows>(
     conn: &mut Connection<S>,
     sql: &str,
     params: &[ValueRef<'_>],
-) -> Result<Option<T>, StoreFault>
+) -> Result<A, StoreFault>
     requires { conn.old.in_transaction ≡ false }
     ensures idle { conn.new.in_transaction ≡ false }
-    ensures gives { Answers S.Store (sql.now, bound params.now) (IsFirst T.yields) conn.old conn.new
-        result }
-    ensures yielded { IfOk result (λ found. IfSome found (λ it. (row : Values) × T.yields row it)) }
+    ensures gives { Answers S.Store (sql.now, bound params.now) A.holds conn.old conn.new result }
+    ensures held { IfOk result (λ found. (rows : List Values) × A.holds rows found) }
     ensures kept { IsKept (state S.Store conn.old) (state S.Store conn.new) }
     ensures survives { Survives (state S.Store conn.old) (state S.Store conn.new) (λ _. ⊥) }
 {
@@ -71,12 +71,9 @@ fn one<S: Alter, T: FromRow>(
         Ok(rows) => rows,
         Err(fault) => return Err(fault),
     };
-    match rows.first() {
-        None => Ok(None),
-        Some(row) => match T::from_row(row) {
-            Some(found) => Ok(Some(found)),
-            None => Err(StoreFault::Storage),
-        },
+    match A::from_rows(&rows) {
+        Some(found) => Ok(found),
+        None => Err(StoreFault::Storage),
     }
 }
 
@@ -90,7 +87,7 @@ pub fn key<S: Alter>(conn: &mut Connection<S>, name: &Name) -> Result<Option<Key
         conn.old conn.new result }
     ensures limits { IfOk result (λ key. IfSome key IsKey) }
 {
-    one(conn, texts::KEY, &[ValueRef::Text(name.as_bytes())])
+    answer(conn, texts::KEY, &[ValueRef::Text(name.as_bytes())])
 }
 
 /// The older root of the key of this name; `None` if it was never rotated.
@@ -107,7 +104,7 @@ pub fn older_root<S: Alter>(
         conn.old conn.new result }
     ensures limits { IfOk result (λ older. IfSome older IsOlderRoot) }
 {
-    one(conn, texts::OLDER_ROOT, &[ValueRef::Text(key.as_bytes())])
+    answer(conn, texts::OLDER_ROOT, &[ValueRef::Text(key.as_bytes())])
 }
 
 /// The row of the member of this name, with what the member's bookings have cost; `None` if there
@@ -124,7 +121,7 @@ pub fn member<S: Alter>(
         conn.old conn.new result }
     ensures limits { IfOk result (λ row. IfSome row IsMemberRow) }
 {
-    one(conn, texts::MEMBER, &[ValueRef::Text(name.as_bytes())])
+    answer(conn, texts::MEMBER, &[ValueRef::Text(name.as_bytes())])
 }
 
 /// The facility of this name; `None` if there is none.
@@ -140,7 +137,7 @@ pub fn facility<S: Alter>(
         conn.old conn.new result }
     ensures limits { IfOk result (λ facility. IfSome facility IsFacility) }
 {
-    one(conn, texts::FACILITY, &[ValueRef::Text(name.as_bytes())])
+    answer(conn, texts::FACILITY, &[ValueRef::Text(name.as_bytes())])
 }
 
 /// The use of a slot: the persons who booked it, and whether it is closed.
@@ -152,19 +149,7 @@ pub fn slot<S: Alter>(conn: &mut Connection<S>, slot: &Slot) -> Result<SlotUse, 
     ensures gives { Answers S.Store
         (reading_statement (OfSlot slot.now)) IsUse conn.old conn.new result }
 {
-    let params = params![
-        slot.facility.as_str(),
-        u32::from(slot.day.number()),
-        u32::from(slot.hour.number())
-    ];
-    let rows = match ask(conn, texts::SLOT, params) {
-        Ok(rows) => rows,
-        Err(fault) => return Err(fault),
-    };
-    match slot_use_of(&rows) {
-        Some(found) => Ok(found),
-        None => Err(StoreFault::Storage),
-    }
+    answer(conn, texts::SLOT, &of_slot(slot))
 }
 
 /// Whether a booking has this key and number.
@@ -191,7 +176,7 @@ pub fn booking<S: Alter>(
     ensures named { IfOk result (λ found. IfSome found
         (λ booking. (booking.key ≡ key.now) × (booking.number ≡ number))) }
 {
-    let found: Option<Booking> = match one(
+    let found: Option<Booking> = match answer(
         conn,
         texts::BOOKING,
         params![key.as_str(), number.get()],

@@ -87,22 +87,6 @@ fn slot_use_in(row: &Row) -> Option<SlotUse>
     Some(SlotUse { taken, closed })
 }
 
-/// Decodes the use of a slot from its rows: no use if there is no row; `None` if there are several.
-pub(crate) fn slot_use_of(rows: &[Row]) -> Option<SlotUse>
-    ensures none { rows.now ≡ [] → result ≡ Some no_slot_use }
-    ensures one { (row : _) → rows.now ≡ row ∷ [] → Reads (IsUseIn row) result }
-    ensures more { (row other more : _) → rows.now ≡ row ∷ other ∷ more → result ≡ None }
-{
-    match rows {
-        [] => Some(SlotUse {
-            taken: 0,
-            closed: false,
-        }),
-        [row] => slot_use_in(row),
-        _ => None,
-    }
-}
-
 /// A value that is decoded from a row of the tables.
 pub(crate) trait FromRow: Sized {
     ghost use Rattle.sqlite_value.specs.Order.{Row as Values};
@@ -114,6 +98,55 @@ pub(crate) trait FromRow: Sized {
     /// Decodes the row; `None` if a value is of another kind, or out of its limits.
     fn from_row(row: &Row) -> Option<Self>
         ensures { Reads (yields row.now) result };
+}
+
+/// A value that is decoded from all rows of a query.
+pub(crate) trait FromRows: Sized {
+    ghost use Rattle.std.specs.Prelude.{List};
+    ghost use Rattle.sqlite_value.specs.Order.{Row as Values};
+    ghost use Rattle.club_values.specs.Reading.{Reads};
+
+    // the rows hold this value
+    ghost holds: { List Values → Self → Type 0 };
+
+    /// Decodes the rows; `None` if they hold no such value.
+    fn from_rows(rows: &[Row]) -> Option<Self>
+        ensures { Reads (holds rows.now) result };
+}
+
+impl<T: FromRow> FromRows for Option<T> {
+    ghost use Rattle.club_tables.specs.Answers.{IsFirst};
+
+    ghost holds = { IsFirst T.yields };
+
+    /// The value of the first row; `None` if there is no row.
+    fn from_rows(rows: &[Row]) -> Option<Option<T>> {
+        match rows.first() {
+            None => Some(None),
+            Some(row) => match T::from_row(row) {
+                Some(found) => Some(Some(found)),
+                None => None,
+            },
+        }
+    }
+}
+
+impl FromRows for SlotUse {
+    ghost use Rattle.club_tables.specs.Answers.{IsUse};
+
+    ghost holds = { IsUse };
+
+    /// The use of a slot: none if there is no row.
+    fn from_rows(rows: &[Row]) -> Option<SlotUse> {
+        match rows {
+            [] => Some(SlotUse {
+                taken: 0,
+                closed: false,
+            }),
+            [row] => slot_use_in(row),
+            _ => None,
+        }
+    }
 }
 
 impl FromRow for MemberRow {

@@ -1,5 +1,5 @@
 -- What the statements that insert a row make of the tables.
-use Rattle.std.proofs.Common.{◌≡◌, ◌≤◌, ℕ, pos, Ok, List, [], ◌∷◌, ◌++◌, refl, sym, subst}
+use Rattle.std.proofs.Common.{◌≤◌, ℕ, pos, Ok, List, [], ◌∷◌, ◌++◌, refl, sym, subst}
 use Rattle.sqlite_tied.specs.Compute.{everything}
 use Rattle.sqlite_value.specs.declared.value.Value.TheVariants.{Null, Int, Text}
 use Rattle.sqlite.specs.Table.{Table}
@@ -8,7 +8,7 @@ use Rattle.sqlite.specs.Source.TheVariants.{Values}
 use Rattle.sqlite.specs.Command.TheVariants.{Insert}
 use Rattle.sqlite.specs.Listing.{understood}
 use Rattle.sqlite.specs.State.{State, Executes}
-use Rattle.sqlite.proofs.Callers.{IsPlain, command_of}
+use Rattle.club_tables.proofs.statements.MeansLemmas.{Means}
 use Rattle.club_rows.specs.Columns.{truth}
 use Rattle.club_rows.specs.declared.member.Member.{Member}
 use Rattle.club_tables.specs.declared.row.MemberRow.{MemberRow}
@@ -32,13 +32,9 @@ member_table = record members_table { tree = members_tree }
 abbrev member_terms : List Term
 member_terms = lit Null ∷ col 0 0 ∷ col 0 1 ∷ col 0 2 ∷ lit (Int (pos 0)) ∷ []
 
-member_is : command_of (understood club_schema ADD_MEMBER.now) ≡ Insert 1 (Values member_terms 5)
+member_means : Means club_schema ADD_MEMBER.now (Insert 1 (Values member_terms 5))
 unfolding understood everything
-member_is = refl
-
-member_plain : IsPlain (understood club_schema ADD_MEMBER.now)
-unfolding understood everything
-member_plain = (refl, refl)
+member_means = record { is = refl; plain = (refl, refl) }
 
 -- a new member's bookings have cost nothing
 abbrev pub new_row : Member → MemberRow
@@ -48,8 +44,8 @@ pub member_put : (old new : State) (rows : Rows) → HoldsRows old.now rows → 
     → Executes ADD_MEMBER.now (Text member.name ∷ whole member.credited ∷ whole member.quota ∷ []) old new (Ok count)
     → HoldsRows new.now (record rows { members = rows.members ++ (new_row member) ∷ [] }) × (1 ≤ count)
 member_put old new rows holds_rows member count ran =
-    let put = inserts old new club_schema holds_rows.schema ADD_MEMBER.now member_plain 1 member_table member_terms 5 (Text member.name ∷ whole member.credited
-    ∷ whole member.quota ∷ []) (member_values (new_row member)) refl member_is refl refl refl
+    let put = inserts old new club_schema holds_rows.schema ADD_MEMBER.now member_means.plain 1 member_table member_terms 5 (Text member.name ∷ whole member.credited
+    ∷ whole member.quota ∷ []) (member_values (new_row member)) refl member_means.is refl refl refl
     (rw (cast_null, cast_int (pos member.credited), cast_int (pos member.quota), cast_int (pos 0))) (λ row. refl) count ran in (
       on_members old.now new.now rows holds_rows put.0 put.3 put.2 (rows.members ++ (new_row member) ∷ [])
           (subst (λ rs. Holds member_values rs (rows.members ++ (new_row member) ∷ [])) (sym put.1)
@@ -65,20 +61,16 @@ facility_table = record facilities_table { tree = facilities_tree }
 abbrev facility_terms : List Term
 facility_terms = lit Null ∷ col 0 0 ∷ col 0 1 ∷ col 0 2 ∷ col 0 3 ∷ col 0 4 ∷ col 0 5 ∷ []
 
-facility_is : command_of (understood club_schema ADD_FACILITY.now) ≡ Insert 2 (Values facility_terms 7)
+facility_means : Means club_schema ADD_FACILITY.now (Insert 2 (Values facility_terms 7))
 unfolding understood everything
-facility_is = refl
-
-facility_plain : IsPlain (understood club_schema ADD_FACILITY.now)
-unfolding understood everything
-facility_plain = (refl, refl)
+facility_means = record { is = refl; plain = (refl, refl) }
 
 pub facility_put : (old new : State) (rows : Rows) → HoldsRows old.now rows → (facility : Facility) (count : ℕ)
     → Executes ADD_FACILITY.now (facility_values facility) old new (Ok count)
     → HoldsRows new.now (record rows { facilities = rows.facilities ++ facility ∷ [] }) × (1 ≤ count)
 facility_put old new rows holds_rows facility count ran =
-    let put = inserts old new club_schema holds_rows.schema ADD_FACILITY.now facility_plain 2 facility_table facility_terms 7 (facility_values facility)
-    (facility_values facility) refl facility_is refl refl refl
+    let put = inserts old new club_schema holds_rows.schema ADD_FACILITY.now facility_means.plain 2 facility_table facility_terms 7 (facility_values facility)
+    (facility_values facility) refl facility_means.is refl refl refl
     (rw (cast_null, cast_int (pos facility.places), cast_int (pos facility.price), cast_int (pos facility.opens), cast_int (pos facility.shuts))) (λ row.
     refl) count ran in (
       on_facilities old.now new.now rows holds_rows put.0 put.3 put.2 (rows.facilities ++ facility ∷ [])
@@ -95,19 +87,15 @@ key_table = record keys_table { tree = keys_tree }
 abbrev key_terms : List Term
 key_terms = lit Null ∷ col 0 0 ∷ col 0 1 ∷ col 0 2 ∷ col 0 3 ∷ []
 
-key_is : command_of (understood club_schema ADD_KEY.now) ≡ Insert 3 (Values key_terms 5)
+key_means : Means club_schema ADD_KEY.now (Insert 3 (Values key_terms 5))
 unfolding understood everything
-key_is = refl
-
-key_plain : IsPlain (understood club_schema ADD_KEY.now)
-unfolding understood everything
-key_plain = (refl, refl)
+key_means = record { is = refl; plain = (refl, refl) }
 
 pub key_put : (old new : State) (rows : Rows) → HoldsRows old.now rows → (key : Key) (count : ℕ) → Executes ADD_KEY.now (key_values key) old new (Ok count)
     → HoldsRows new.now (record rows { keys = rows.keys ++ key ∷ [] }) × (1 ≤ count)
 key_put old new rows holds_rows key count ran =
-    let put = inserts old new club_schema holds_rows.schema ADD_KEY.now key_plain 3 key_table key_terms 5 (key_values key)
-    (key_values key) refl key_is refl refl refl
+    let put = inserts old new club_schema holds_rows.schema ADD_KEY.now key_means.plain 3 key_table key_terms 5 (key_values key)
+    (key_values key) refl key_means.is refl refl refl
     (rw (cast_null, cast_int (pos (truth key.revoked)))) (λ row. refl) count ran in (
       on_keys old.now new.now rows holds_rows put.0 put.3 put.2 (rows.keys ++ key ∷ [])
           (subst (λ rs. Holds key_values rs (rows.keys ++ key ∷ [])) (sym put.1) (holds_more key_values _ rows.keys key holds_rows.keys)),
@@ -122,20 +110,16 @@ booking_table = record bookings_table { tree = bookings_tree }
 abbrev booking_terms : List Term
 booking_terms = lit Null ∷ col 0 0 ∷ col 0 1 ∷ col 0 2 ∷ col 0 3 ∷ col 0 4 ∷ col 0 5 ∷ col 0 6 ∷ col 0 7 ∷ col 0 8 ∷ col 0 9 ∷ []
 
-booking_is : command_of (understood club_schema ADD_BOOKING.now) ≡ Insert 5 (Values booking_terms 11)
+booking_means : Means club_schema ADD_BOOKING.now (Insert 5 (Values booking_terms 11))
 unfolding understood everything
-booking_is = refl
-
-booking_plain : IsPlain (understood club_schema ADD_BOOKING.now)
-unfolding understood everything
-booking_plain = (refl, refl)
+booking_means = record { is = refl; plain = (refl, refl) }
 
 pub booking_put : (old new : State) (rows : Rows) → HoldsRows old.now rows → (booking : Booking) (count : ℕ)
     → Executes ADD_BOOKING.now (booking_values booking) old new (Ok count)
     → HoldsRows new.now (record rows { bookings = rows.bookings ++ booking ∷ [] }) × (1 ≤ count)
 booking_put old new rows holds_rows booking count ran =
-    let put = inserts old new club_schema holds_rows.schema ADD_BOOKING.now booking_plain 5 booking_table booking_terms 11 (booking_values booking)
-    (booking_values booking) refl booking_is refl refl refl
+    let put = inserts old new club_schema holds_rows.schema ADD_BOOKING.now booking_means.plain 5 booking_table booking_terms 11 (booking_values booking)
+    (booking_values booking) refl booking_means.is refl refl refl
     (rw (
       cast_null,
       cast_int (pos booking.number),

@@ -24,7 +24,7 @@ use Rattle.sqlite.specs.Effect.{IsDatabase, Answers}
 use Rattle.sqlite.specs.Command.TheVariants.{Update}
 use Rattle.sqlite.specs.Listing.{understood}
 use Rattle.sqlite.specs.State.{State, Executes}
-use Rattle.sqlite.proofs.Callers.{IsPlain, command_of}
+use Rattle.club_tables.proofs.statements.MeansLemmas.{Means}
 use Rattle.club_rows.specs.Columns.{truth}
 use Rattle.club_rows.specs.declared.booking.Booking.{Booking}
 use Rattle.club_core.specs.After.{cancelled_booking, is_marked}
@@ -60,17 +60,9 @@ cancel_tests =
 abbrev cancel_terms : List Term
 cancel_terms = col 1 0 ∷ col 1 0 ∷ col 1 1 ∷ col 1 2 ∷ col 1 3 ∷ col 1 4 ∷ col 1 5 ∷ col 1 6 ∷ col 1 7 ∷ col 1 8 ∷ lit (Int (pos 1)) ∷ col 0 10 ∷ []
 
-cancel_is : command_of (understood club_schema CANCEL_BOOKING.now) ≡ Update 5 (record {
-  lets = [];
-  body =
-      select (inner bookings_tree end) cancel_tests cancel_terms;
-})
+cancel_means : Means club_schema CANCEL_BOOKING.now (Update 5 (record { lets = []; body = select (inner bookings_tree end) cancel_tests cancel_terms }))
 unfolding understood everything
-cancel_is = refl
-
-cancel_plain : IsPlain (understood club_schema CANCEL_BOOKING.now)
-unfolding understood everything
-cancel_plain = (refl, refl)
+cancel_means = record { is = refl; plain = (refl, refl) }
 
 -- keys and numbers identify the bookings
 pub one_marked : (key : List ℕ) (number : ℕ) (bookings : List Booking) → AllPairs (λ (a : Booking) (b : Booking). ¬ ((a.key ≡ b.key)
@@ -145,8 +137,8 @@ module _ (old new : State) (rows : Rows) (holds_rows : HoldsRows old.now rows) (
       × (new.now.trees bookings_tree ≡ edited old.now.trees (edit_of old.now.trees booking_table (ids_of rs) Given 1 rs))
       × AllByRecursion (λ (t : Table). t.tree ≢ bookings_tree → new.now.trees t.tree ≡ old.now.trees t.tree) club_schema.tables × IsDatabase new.now
       × (count ≡ length rs)
-  cancel_put = updates old new holds_rows.schema CANCEL_BOOKING.now cancel_plain 5 booking_table
-      (select (inner bookings_tree end) cancel_tests cancel_terms) params refl cancel_is count ran
+  cancel_put = updates old new holds_rows.schema CANCEL_BOOKING.now cancel_means.plain 5 booking_table
+      (select (inner bookings_tree end) cancel_tests cancel_terms) params refl cancel_means.is count ran
 
   hits : AllZip (λ row x. hit row ≡ is_as_given x) (old.now.trees bookings_tree) rows.bookings
   hits = each_row booking_values hit is_as_given (λ id b. refl) (old.now.trees bookings_tree) rows.bookings holds_rows.bookings.same

@@ -25,7 +25,7 @@ use Rattle.sqlite.specs.Effect.{IsDatabase, Answers}
 use Rattle.sqlite.specs.Command.TheVariants.{Update}
 use Rattle.sqlite.specs.Listing.{understood}
 use Rattle.sqlite.specs.State.{State, Executes}
-use Rattle.sqlite.proofs.Callers.{IsPlain, command_of}
+use Rattle.club_tables.proofs.statements.MeansLemmas.{Means}
 use Rattle.club_rows.specs.declared.key.Key.{Key}
 use Rattle.club_core.specs.After.{credited_member}
 use Rattle.club_tables.specs.declared.row.MemberRow.{MemberRow}
@@ -90,17 +90,9 @@ used_row name next row = record row { used = if bytes_eq row.member.name name th
 abbrev credit_terms : List Term
 credit_terms = col 1 0 ∷ col 1 0 ∷ col 1 1 ∷ op2 (Arith Add) (col 1 2) (col 0 1) ∷ col 1 3 ∷ col 1 4 ∷ []
 
-credit_is : command_of (understood club_schema ADD_CREDIT.now) ≡ Update 1 (record {
-  lets = [];
-  body =
-      select (inner members_tree end) (is_given 1 0 ∷ []) credit_terms;
-})
+credit_means : Means club_schema ADD_CREDIT.now (Update 1 (record { lets = []; body = select (inner members_tree end) (is_given 1 0 ∷ []) credit_terms }))
 unfolding understood everything
-credit_is = refl
-
-credit_plain : IsPlain (understood club_schema ADD_CREDIT.now)
-unfolding understood everything
-credit_plain = (refl, refl)
+credit_means = record { is = refl; plain = (refl, refl) }
 
 abbrev owner_tests : List Term
 owner_tests = op2 (Compare Eq Binary) (col 2 1) (col 0 2) ∷ op2 (Compare Eq Binary) (col 2 2) (col 0 0) ∷ []
@@ -114,13 +106,9 @@ used_terms = col 1 0 ∷ col 1 0 ∷ col 1 1 ∷ col 1 2 ∷ col 1 3 ∷ op2 (Ar
 abbrev used_query : Query
 used_query = select (inner members_tree (counted 1 (inner keys_tree end) owner_tests end)) used_tests used_terms
 
-used_is : command_of (understood club_schema ADD_USED.now) ≡ Update 1 (record { lets = []; body = used_query })
+used_means : Means club_schema ADD_USED.now (Update 1 (record { lets = []; body = used_query }))
 unfolding understood everything
-used_is = refl
-
-used_plain : IsPlain (understood club_schema ADD_USED.now)
-unfolding understood everything
-used_plain = (refl, refl)
+used_means = record { is = refl; plain = (refl, refl) }
 
 casts_member : (id : ℤ) (row : MemberRow) → cast_row member_table (Int id ∷ member_values row) ≡ Int id ∷ member_values row
 casts_member id row = rw (cast_int id, cast_int (pos row.member.credited), cast_int (pos row.member.quota), cast_int (pos row.used))
@@ -142,8 +130,8 @@ pub credit_found : (old new : State) (rows : Rows) → HoldsRows old.now rows �
     → (row : MemberRow) × (find (λ (row : MemberRow). bytes_eq (name_of row) name) rows.members ≡ Some row)
 credit_found old new rows holds_rows name points count some ran =
     let params = Text name ∷ whole points ∷ [] in
-    let put = updates old new holds_rows.schema ADD_CREDIT.now credit_plain 1 member_table
-    (select (inner members_tree end) (is_given 1 0 ∷ []) credit_terms) params refl credit_is count ran in
+    let put = updates old new holds_rows.schema ADD_CREDIT.now credit_means.plain 1 member_table
+    (select (inner members_tree end) (is_given 1 0 ∷ []) credit_terms) params refl credit_means.is count ran in
     updated_found member_values (λ (row : MemberRow). bytes_eq (name_of row) name) params (is_given 1 0 ∷ []) credit_terms (λ id row. and_true _
     ∙ text_equal row.member.name name) members_tree (record { schema = club_schema; trees = old.now.trees }) rows.members put.0 holds_rows.members put.1
     (omega (arith, some, put.6))
@@ -155,8 +143,8 @@ pub credit_some : (old new : State) (rows : Rows) → HoldsRows old.now rows →
 credit_some old new rows holds_rows name points row stores count ran =
     let params = Text name ∷ whole points ∷ [] in
     let is_named : MemberRow → Bool = λ row. bytes_eq (name_of row) name in
-    let put = updates old new holds_rows.schema ADD_CREDIT.now credit_plain 1 member_table
-    (select (inner members_tree end) (is_given 1 0 ∷ []) credit_terms) params refl credit_is count ran in
+    let put = updates old new holds_rows.schema ADD_CREDIT.now credit_means.plain 1 member_table
+    (select (inner members_tree end) (is_given 1 0 ∷ []) credit_terms) params refl credit_means.is count ran in
     let some = updated_rows member_values is_named params (is_given 1 0 ∷ []) credit_terms (λ id row. and_true _
     ∙ text_equal row.member.name name) members_tree (record { schema = club_schema; trees = old.now.trees }) rows.members put.0 holds_rows.members put.1
     (found_counts is_named rows.members row stores) in
@@ -170,9 +158,9 @@ member_credited old new rows holds_rows unique name points sums count ran =
     let params = Text name ∷ whole points ∷ [] in
     let p : MemberRow → Bool = λ row. bytes_eq row.member.name name in
     let change = credited_row name points in
-    let put = updates old new holds_rows.schema ADD_CREDIT.now credit_plain 1 member_table
+    let put = updates old new holds_rows.schema ADD_CREDIT.now credit_means.plain 1 member_table
     (select (inner members_tree end) (is_given 1 0 ∷ []) credit_terms) params
-    refl credit_is count ran in
+    refl credit_means.is count ran in
     let same : (row : MemberRow) → p row ≡ false → change row ≡ row = λ row fails.
     ap (λ b. let m : MemberRow = record row { member = record row.member { credited = cond b (row.member.credited + points) row.member.credited } } in
     m) fails in
@@ -213,7 +201,7 @@ module _ (old new : State) (rows : Rows) (holds_rows : HoldsRows old.now rows) (
       × (new.now.trees members_tree ≡ edited old.now.trees (edit_of old.now.trees member_table (ids_of rs) Given 1 rs))
       × AllByRecursion (λ (t : Table). t.tree ≢ members_tree → new.now.trees t.tree ≡ old.now.trees t.tree) club_schema.tables × IsDatabase new.now
       × (count ≡ length rs)
-  used_put = updates old new holds_rows.schema ADD_USED.now used_plain 1 member_table used_query used_params refl used_is count ran
+  used_put = updates old new holds_rows.schema ADD_USED.now used_means.plain 1 member_table used_query used_params refl used_means.is count ran
 
   used_count : (row : Row) → count_in used_params owner_tests used_tests used_terms others row ≡ length (filter owns rows.keys)
   used_count = counts_elements used_params owner_tests used_tests used_terms key_values owns

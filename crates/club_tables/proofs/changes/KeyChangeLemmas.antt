@@ -19,7 +19,7 @@ use Rattle.sqlite.specs.Effect.{IsDatabase, Answers}
 use Rattle.sqlite.specs.Command.TheVariants.{Update}
 use Rattle.sqlite.specs.Listing.{understood}
 use Rattle.sqlite.specs.State.{State, Executes}
-use Rattle.sqlite.proofs.Callers.{IsPlain, command_of}
+use Rattle.club_tables.proofs.statements.MeansLemmas.{Means}
 use Rattle.club_rows.specs.Columns.{truth}
 use Rattle.club_rows.specs.declared.key.Key.{Key}
 use Rattle.club_core.specs.After.{revoked_key, good_until, rotated_key}
@@ -48,25 +48,17 @@ key_table = record keys_table { tree = keys_tree }
 abbrev revoke_terms : List Term
 revoke_terms = col 1 0 ∷ col 1 0 ∷ col 1 1 ∷ col 1 2 ∷ col 1 3 ∷ lit (Int (pos 1)) ∷ []
 
-revoke_is : command_of (understood club_schema REVOKE_KEY.now) ≡ Update 3 (record {
-  lets = [];
-  body =
-      select (inner keys_tree end) (is_given 1 0 ∷ []) revoke_terms;
-})
+revoke_means : Means club_schema REVOKE_KEY.now (Update 3 (record { lets = []; body = select (inner keys_tree end) (is_given 1 0 ∷ []) revoke_terms }))
 unfolding understood everything
-revoke_is = refl
-
-revoke_plain : IsPlain (understood club_schema REVOKE_KEY.now)
-unfolding understood everything
-revoke_plain = (refl, refl)
+revoke_means = record { is = refl; plain = (refl, refl) }
 
 -- the key is there
 pub revoke_found : (old new : State) (rows : Rows) → HoldsRows old.now rows → (name : List ℕ) (count : ℕ) → 1 ≤ count
     → Executes REVOKE_KEY.now (Text name ∷ []) old new (Ok count) → (key : Key) × StoresKey name rows.keys key
 revoke_found old new rows holds_rows name count some ran =
     let params = Text name ∷ [] in
-    let put = updates old new holds_rows.schema REVOKE_KEY.now revoke_plain 3 key_table
-    (select (inner keys_tree end) (is_given 1 0 ∷ []) revoke_terms) params refl revoke_is count ran in
+    let put = updates old new holds_rows.schema REVOKE_KEY.now revoke_means.plain 3 key_table
+    (select (inner keys_tree end) (is_given 1 0 ∷ []) revoke_terms) params refl revoke_means.is count ran in
     updated_found key_values (λ (key : Key). bytes_eq key.name name) params (is_given 1 0 ∷ []) revoke_terms (λ id key. and_true _
     ∙ text_equal key.name name) keys_tree (record { schema = club_schema; trees = old.now.trees }) rows.keys put.0 holds_rows.keys put.1
     (omega (arith, some, put.6))
@@ -77,8 +69,8 @@ pub revoke_some : (old new : State) (rows : Rows) → HoldsRows old.now rows →
 revoke_some old new rows holds_rows name key stores count ran =
     let params = Text name ∷ [] in
     let is_named : Key → Bool = λ key. bytes_eq key.name name in
-    let put = updates old new holds_rows.schema REVOKE_KEY.now revoke_plain 3 key_table
-    (select (inner keys_tree end) (is_given 1 0 ∷ []) revoke_terms) params refl revoke_is count ran in
+    let put = updates old new holds_rows.schema REVOKE_KEY.now revoke_means.plain 3 key_table
+    (select (inner keys_tree end) (is_given 1 0 ∷ []) revoke_terms) params refl revoke_means.is count ran in
     let some = updated_rows key_values is_named params (is_given 1 0 ∷ []) revoke_terms (λ id key. and_true _
     ∙ text_equal key.name name) keys_tree (record { schema = club_schema; trees = old.now.trees }) rows.keys put.0 holds_rows.keys put.1
     (found_counts is_named rows.keys key stores) in
@@ -90,9 +82,9 @@ pub key_revoked : (old new : State) (rows : Rows) → HoldsRows old.now rows →
 key_revoked old new rows holds_rows unique name count ran =
     let params = Text name ∷ [] in
     let p : Key → Bool = λ key. bytes_eq key.name name in
-    let put = updates old new holds_rows.schema REVOKE_KEY.now revoke_plain 3 key_table
+    let put = updates old new holds_rows.schema REVOKE_KEY.now revoke_means.plain 3 key_table
     (select (inner keys_tree end) (is_given 1 0 ∷ []) revoke_terms) params refl
-    revoke_is count ran in
+    revoke_means.is count ran in
     let marked : (key : Key) → p key ≡ true → flag (revoked_key name key).revoked ≡ whole 1 = λ key passes. ap (λ b. flag (key.revoked || b)) passes
     ∙ ap flag (or_true key.revoked) in
     let same : (key : Key) → p key ≡ false → revoked_key name key ≡ key = λ key fails.
@@ -113,13 +105,9 @@ root_tests = is_given 1 0 ∷ is_given 3 2 ∷ []
 abbrev root_terms : List Term
 root_terms = col 1 0 ∷ col 1 0 ∷ col 1 1 ∷ col 1 2 ∷ col 0 1 ∷ col 1 4 ∷ []
 
-root_is : command_of (understood club_schema SET_ROOT.now) ≡ Update 3 (record { lets = []; body = select (inner keys_tree end) root_tests root_terms })
+root_means : Means club_schema SET_ROOT.now (Update 3 (record { lets = []; body = select (inner keys_tree end) root_tests root_terms }))
 unfolding understood everything
-root_is = refl
-
-root_plain : IsPlain (understood club_schema SET_ROOT.now)
-unfolding understood everything
-root_plain = (refl, refl)
+root_means = record { is = refl; plain = (refl, refl) }
 
 module _ (old new : State) (rows : Rows) (holds_rows : HoldsRows old.now rows) (unique : AreKeysOnce rows.keys) (name root was : List ℕ)
     (count : ℕ) (ran : Executes SET_ROOT.now (Text name ∷ Blob root ∷ Blob was ∷ []) old new (Ok count)) where
@@ -140,8 +128,8 @@ module _ (old new : State) (rows : Rows) (holds_rows : HoldsRows old.now rows) (
       × (new.now.trees keys_tree ≡ edited old.now.trees (edit_of old.now.trees key_table (ids_of rs) Given 1 rs))
       × AllByRecursion (λ (t : Table). t.tree ≢ keys_tree → new.now.trees t.tree ≡ old.now.trees t.tree) club_schema.tables × IsDatabase new.now
       × (count ≡ length rs)
-  root_put = updates old new holds_rows.schema SET_ROOT.now root_plain 3 key_table (select (inner keys_tree end) root_tests root_terms) root_params refl
-      root_is count ran
+  root_put = updates old new holds_rows.schema SET_ROOT.now root_means.plain 3 key_table (select (inner keys_tree end) root_tests root_terms) root_params refl
+      root_means.is count ran
 
   root_hits : AllZip (λ row x. test root_params root_tests root_terms row ≡ has_root x) (old.now.trees keys_tree) rows.keys
   root_hits = each_row key_values (test root_params root_tests root_terms) has_root (λ id key.

@@ -1,11 +1,16 @@
 -- A call that changes nothing leaves the club that is represented.
-use Rattle.std.proofs.Common.{◌≡◌, ℕ, ◌+◌, ◌≤◌, List, [], ◌∷◌, IsTrue, Option, Some, None, Result, Ok, Err, IfOk, OnOk, OnErr, true, inl, inr, refl, sym, subst}
-use Rattle.std.proofs.Common.{ap, ◌∙◌, arith}
+use Rattle.std.specs.Prelude.{filter, IsPermutation}
+use Rattle.std.specs.List.{list_all}
+use Rattle.std.proofs.Common.{◌≡◌, ℕ, ℤ, Bool, false, List, [], ◌∷◌, map, IsTrue, Option, Some, None, Result, Ok, Err, IfOk, OnOk, OnErr, inl, inr, refl, sym, subst}
+use Rattle.std.proofs.Common.{◌∙◌, arith}
+use Rattle.sqlite_value.specs.declared.value.Value.TheVariants.{Int}
 use Rattle.sqlite.specs.Order.{Row}
 use Rattle.sqlite.specs.Schema.{Schema}
 use Rattle.sqlite.specs.Store.{Ghosts}
 use Rattle.sqlite.specs.Effect.{Database, Reads}
-use Rattle.sqlite.specs.Command.{Command}
+use Rattle.sqlite.specs.Command.TheVariants.{Select}
+use Rattle.sqlite.specs.Term.{Term, holds, eval_all}
+use Rattle.sqlite.specs.Query.{Query, inner, end}
 use Rattle.sqlite.specs.Listing.{understood, reads_listing}
 use Rattle.sqlite_schema.specs.declared.command.Returning.{Returning}
 use Rattle.sqlite_resolve.specs.declared.compiled.Compiled.{Compiled}
@@ -20,7 +25,9 @@ use Rattle.club_tables.specs.Columns.{key_values, booking_values}
 use Rattle.club_tables.specs.Tables.{HoldsClub, HoldsClubVersion1, HoldsClubVersion2, Holds, RepresentsBy, Represents, keys_tree}
 use Rattle.club_tables.specs.Tables.{bookings_tree}
 use Rattle.club_tables.specs.ReadsAndChanges.{represents_in, version_1_in, version_2_in}
-use Rattle.club_tables.specs.Transaction.{Asked, IsKept, transaction_start}
+use Rattle.club_tables.specs.Statements.{select}
+use Rattle.club_tables.specs.Transaction.{BoundStatement, Asked, IsKept, transaction_start}
+use Rattle.club_tables.proofs.statements.SelectLemmas.{selected}
 
 -- the state represents the same club, by whichever predicate a database holds it
 pub represents_on : (IsHeld : Database → Club → Type 0) (old new : State) → IsKept old new → Survives old new (λ _. ⊥) → (club : Club) (others : List Club)
@@ -50,27 +57,41 @@ asked_open g sql params old rows asked = shown_open sql (state g (transaction_st
     (state g asked.mid) asked.shown.0 _ rows asked.shown.0.returning asked.shown.2
 
 -- the tables at the time of a query
-pub asked_tables : {S : Type 0} (g : Ghosts S) (sql : List ℕ) (params : Row) (old : Held S) (rows : List Row) → Asked g sql params old rows
+pub asked_tables : {S : Type 0} {g : Ghosts S} {sql : List ℕ} {params : Row} {old : Held S} {rows : List Row} → Asked g sql params old rows
     → HasCleanDisk (state g old) → (club : Club) (others : List Club) → Represents (state g old) club others → HoldsClub (state g old).now club
-asked_tables g sql params old rows asked clean club others represents =
+asked_tables {g = g} {sql = sql} {params = params} {old = old} {rows = rows} asked clean club others represents =
     let is_open = asked_open g sql params old rows asked in
     subst (λ (db : Database). HoldsClub db club) (sym (represents.idle clean is_open)) (represents.held clean is_open)
 
--- and what they answered
-pub asked_reads : {S : Type 0} (g : Ghosts S) (sql : List ℕ) (params : Row) (old : Held S) (rows : List Row) → Asked g sql params old rows
-    → (state g old).now.schema ≡ club_schema
-    → (command : Command) → command_of (understood club_schema sql) ≡ command → IsPlain (understood club_schema sql)
-    → reads_listing club_schema sql ≡ Rattle.std.proofs.Common.false → Reads command (state g old).now params rows
-asked_reads g sql params old rows asked schema command is plain unlisted =
-    reads_as sql params (state g (transaction_start old)) (state g asked.mid) club_schema schema command is plain unlisted rows asked.shown
+-- over these tables the text is this query, whose columns have these names
+pub record Asks (schema : Schema) (text : List ℕ) (query : Query) (names : List (List ℕ)) : Type 0 where
+  pub is : command_of (understood schema text) ≡ Select (record { lets = []; body = query }) names
+  pub plain : IsPlain (understood schema text)
+  pub unlisted : reads_listing schema text ≡ false
 
--- the same over other tables
-pub reads_over : {S : Type 0} (g : Ghosts S) (sql : List ℕ) (params : Row) (old : Held S) (rows : List Row) → Asked g sql params old rows
-    → (schema : Schema) → (state g old).now.schema ≡ schema
-    → (command : Command) → command_of (understood schema sql) ≡ command → IsPlain (understood schema sql)
-    → reads_listing schema sql ≡ Rattle.std.proofs.Common.false → Reads command (state g old).now params rows
-reads_over g sql params old rows asked schema is_over command is plain unlisted =
-    reads_as sql params (state g (transaction_start old)) (state g asked.mid) schema is_over command is plain unlisted rows asked.shown
+-- and what they answered
+pub asked_reads : {S : Type 0} {g : Ghosts S} {sql : List ℕ} {params : Row} {old : Held S} {rows : List Row} {schema : Schema} {query : Query}
+    {names : List (List ℕ)} → Asked g sql params old rows → Asks schema sql query names → (state g old).now.schema ≡ schema
+    → Reads (Select (record { lets = []; body = query }) names) (state g old).now params rows
+asked_reads {g = g} {sql = sql} {params = params} {old = old} {rows = rows} {schema = schema} asked asks over =
+    reads_as sql params (state g (transaction_start old)) (state g asked.mid) schema over _ asks.is asks.plain asks.unlisted rows asked.shown
+
+-- of one table they show what is shown of each element that passes, in some order
+pub asked_shows : {S : Type 0} {g : Ghosts S} {sql : List ℕ} {params : Row} {old : Held S} {rows : List Row} {tree : ℕ} {tests project : List Term}
+    {names : List (List ℕ)} {club : Club} → Asked g sql params old rows → Asks club_schema sql (select (inner tree end) tests project) names
+    → HoldsClub (state g old).now club → {X : Type 0} (values : X → Row) (p : X → Bool) (show : X → Row)
+    → ((id : ℤ) (x : X) → list_all (holds (params ∷ (Int id ∷ values x) ∷ [])) tests ≡ p x)
+    → ((id : ℤ) (x : X) → eval_all project (params ∷ (Int id ∷ values x) ∷ []) ≡ show x)
+    → (xs : List X) → Holds values ((state g old).now.trees tree) xs → IsPermutation (map show (filter p xs)) rows
+asked_shows {g = g} {params = params} {old = old} {rows = rows} {tree = tree} {tests = tests} {project = project} {names = names} asked asks tables values p
+    show tested shown xs held =
+    selected values params tests project p show tested shown tree names (state g old).now xs rows held (asked_reads asked asks tables.holds_rows.schema)
+
+-- what a statement's rows show of the club that is represented
+abbrev pub Shows : {S : Type 0} → Ghosts S → Held S → BoundStatement → (Club → List Row → Type 0) → Type 0
+Shows g old statement IsShown =
+    (rows : List Row) → HasCleanDisk (state g old) → Asked g statement.0 statement.1 old rows → (club : Club) (others : List Club)
+    → Represents (state g old) club others → IsShown club rows
 
 pub if_ok_map : {A E : Type 0} (P Q : A → Type 0) (r : Result A E) → IfOk r P → ((x : A) → P x → Q x) → IfOk r Q
 if_ok_map P Q (Ok x) p f = f x p
@@ -83,10 +104,6 @@ on_ok (Err e) p f = tt
 pub on_err : {A E : Type 0} {P Q : Type 0} (r : Result A E) → OnErr r P → (P → Q) → OnErr r Q
 on_err (Ok x) p f = tt
 on_err (Err e) p f = f p
-
-pub any_err : {A E : Type 0} {P : Type 0} (r : Result A E) → P → OnErr r P
-any_err (Ok x) p = tt
-any_err (Err e) p = p
 
 pub keeps_first : {S : Type 0} (g : Ghosts S) (old new : Held S) → IsKept (state g old) (state g new) → Survives (state g old) (state g new) (λ _. ⊥)
     → KeepsClub (version_1_in g) old new

@@ -1,5 +1,5 @@
 -- A row is decoded to the value of which it was made.
-use Rattle.std.proofs.Common.{◌≡◌, ℕ, List, [], ◌∷◌, map, get_or, slice_get, Option, Some, None, Result, Ok, Err, IfOk, IfSome, refl, ap, subst, ◌∙◌, arith}
+use Rattle.std.proofs.Common.{◌≡◌, ℕ, List, [], ◌∷◌, map, get_or, Option, Some, None, Result, Ok, Err, IfOk, IfSome, refl, ap, subst, ◌∙◌, arith}
 use Rattle.std.specs.Prelude.{option_map}
 use Rattle.std.specs.Option.{option_to_list}
 use Rattle.sqlite.specs.Order.{Row}
@@ -17,28 +17,16 @@ use Rattle.club_tables.specs.Columns.{HasValues, key_values, older_root_values, 
 use Rattle.club_tables.specs.Stored.{fresh}
 use Rattle.club_tables.proofs.lists.BookingRows.{truths, one_booking}
 
--- the first row, if any
-pub first_none : {A : Type 0} (Yields : Row → A → Type 0) (rows : List Row) → slice_get rows 0 ≡ None → IsFirst Yields rows None
-first_none Yields [] none = refl
-first_none Yields (row ∷ rows) none = absurd (cc)
-
-pub first_some : {A : Type 0} (Yields : Row → A → Type 0) (rows : List Row) (row : Row) (a : A) → slice_get rows 0 ≡ Some row → Yields row a
-    → IsFirst Yields rows (Some a)
-first_some Yields [] row a some yielded = absurd (cc)
-first_some Yields (other ∷ rows) row a some yielded = let same : row ≡ other = cc in subst (λ r. Yields r a) same yielded
-
-pub first_not : {A : Type 0} (Yields : Row → A → Type 0) (rows : List Row) (row : Row) → slice_get rows 0 ≡ Some row → ((a : A) → ¬ (Yields row a))
-    → ((found : Option A) × IsFirst Yields rows found) → ⊥
-first_not Yields [] row some none read = absurd (cc)
-first_not Yields (other ∷ rows) row some none (None, read) = read
-first_not Yields (other ∷ rows) row some none (Some a, read) = let same : other ≡ row = cc in none a (subst (λ r. Yields r a) same read)
-
 -- a property of each value that a row yields holds of the result
-pub yielded_if : {A E : Type 0} (Yields : Row → A → Type 0) (P : A → Type 0) (r : Result (Option A) E)
-    → IfOk r (λ found. IfSome found (λ it. (row : Row) × Yields row it)) → ((row : Row) (it : A) → Yields row it → P it) → IfOk r (λ found. IfSome found P)
-yielded_if Yields P (Ok None) yielded f = tt
-yielded_if Yields P (Ok (Some it)) yielded f = f yielded.0 it yielded.1
-yielded_if Yields P (Err e) yielded f = tt
+pub held_if : {A E : Type 0} (Yields : Row → A → Type 0) (P : A → Type 0) (r : Result (Option A) E)
+    → IfOk r (λ found. (rows : List Row) × IsFirst Yields rows found) → ((row : Row) (it : A) → Yields row it → P it) → IfOk r (λ found. IfSome found P)
+held_if Yields P (Ok None) held f = tt
+held_if Yields P (Ok (Some it)) held f = first held.0 held.1
+  where
+    first : (rows : List Row) → IsFirst Yields rows (Some it) → P it
+    first [] h = absurd cc
+    first (row ∷ rows) h = f row it h
+held_if Yields P (Err e) held f = tt
 
 -- of the rows that are made of an option, the first yields its value
 first_of : {X A : Type 0} (values : X → Row) (into : X → A) (Yields : Row → A → Type 0) → ((x : X) (a : A) → Yields (values x) a → a ≡ into x)

@@ -1,15 +1,13 @@
 -- What is taken of a slot, as it is read from its row.
-use Rattle.std.proofs.Common.{◌≡◌, inl, inr, Option, Some, None, List, [], ◌∷◌, refl, sym, subst, ◌∙◌}
+use Rattle.std.proofs.Common.{◌≡◌, inl, inr, List, [], ◌∷◌, sym, subst, ◌∙◌}
 use Rattle.sqlite.specs.Order.{Row}
 use Rattle.club_values.specs.declared.slot.Slot.{Slot}
-use Rattle.club_values.specs.Reading.{Reads}
 use Rattle.club_rows.specs.Columns.{truth}
 use Rattle.club_core.specs.declared.slot_use.SlotUse.{SlotUse}
 use Rattle.club_core.specs.Club.{Club}
 use Rattle.club_core.specs.Basis.{slot_use}
-use Rattle.club_tables.specs.Answers.{IsUse, IsUseIn}
+use Rattle.club_tables.specs.Answers.{IsUse}
 use Rattle.club_tables.specs.Columns.{HasValues, use_values}
-use Rattle.club_tables.specs.Stored.{no_slot_use}
 use Rattle.club_tables.specs.Use.{ShowsUse}
 use Rattle.club_tables.proofs.lists.BookingRows.{truths}
 
@@ -29,11 +27,3 @@ use_is club slot rows found (inl there) is =
 use_is club slot rows found (inr absent) is =
     let none : IsUse [] found = subst (λ rs. IsUse rs found) absent.0 is in
     none ∙ sym absent.1
-
--- what is read of rows, each count of them
-pub use_read : (rows : List Row) (read : Option SlotUse) → (rows ≡ [] → read ≡ Some no_slot_use)
-    → ((row : Row) → rows ≡ row ∷ [] → Reads (IsUseIn row) read)
-    → ((row other : Row) (more : List Row) → rows ≡ row ∷ other ∷ more → read ≡ None) → Reads (IsUse rows) read
-use_read [] read none one more = subst (Reads (IsUse [])) (sym (none refl)) refl
-use_read (row ∷ []) read none one more = one row refl
-use_read (row ∷ other ∷ rows) read none one more = subst (Reads (IsUse (row ∷ other ∷ rows))) (sym (more row other rows refl)) (λ found h. h)

@@ -11,7 +11,7 @@ use Rattle.sqlite.specs.Effect.{Database}
 use Rattle.sqlite.specs.Listing.{understood}
 use Rattle.sqlite.specs.State.{ExecutesIn}
 use Rattle.sqlite.specs.Held.{Held, state}
-use Rattle.sqlite.proofs.Callers.{IsPlain, command_of}
+use Rattle.club_tables.proofs.statements.MeansLemmas.{Means}
 use Rattle.club_core.specs.Club.{IsSound, empty_club}
 use Rattle.club_tables.specs.declared.texts.TheConstants.{MAKE_DESK, MAKE_MEMBERS, MAKE_FACILITIES, MAKE_KEYS, MAKE_SLOTS, MAKE_BOOKINGS, MAKE_KEYS_BY_MEMBER}
 use Rattle.club_tables.specs.declared.texts.TheConstants.{MAKE_OLD_ROOTS, MAKE_BOOKINGS_BY_KEY, ADD_VERSION}
@@ -40,13 +40,9 @@ use Rattle.club_tables.proofs.opening.MakesLemmas.{makes_again, makes_over_unind
 abbrev version_terms : List Term
 version_terms = lit Null ∷ lit (Int (pos 2)) ∷ []
 
-version_is : command_of (understood club_schema ADD_VERSION.now) ≡ Insert 0 (Values version_terms 2)
+version_means : Means club_schema ADD_VERSION.now (Insert 0 (Values version_terms 2))
 unfolding understood everything
-version_is = refl
-
-version_plain : IsPlain (understood club_schema ADD_VERSION.now)
-unfolding understood everything
-version_plain = (refl, refl)
+version_means = record { is = refl; plain = (refl, refl) }
 
 pub empty_is_sound : IsSound empty_club
 empty_is_sound = record {
@@ -124,8 +120,8 @@ module _ {S : Type 0} (g : Ghosts S) (old : Held S) (db : Database) (ran : Ran g
       makes_old_roots.whole makes_old_roots.defined makes_old_roots.uncounted t8.1 t8.2 in
       let c9 = indexes (state g t8.0) (state g t9.0) unindexed_schema c8.1 MAKE_BOOKINGS_BY_KEY.now makes_bookings_by_key.plain 5 bookings_made bookings_by_key
       makes_bookings_by_key.listed makes_bookings_by_key.is makes_bookings_by_key.whole makes_bookings_by_key.defined t9.1 t9.2 in
-      let c10 = inserts (state g t9.0) (state g t10.0) club_schema c9.0 ADD_VERSION.now version_plain 0 desk_table version_terms 2 [] (whole 2 ∷ []) refl
-      version_is refl refl refl (rw (cast_null, cast_int (pos 2))) (λ row. refl) t10.1 t10.2 in
+      let c10 = inserts (state g t9.0) (state g t10.0) club_schema c9.0 ADD_VERSION.now version_means.plain 0 desk_table version_terms 2 [] (whole 2 ∷ []) refl
+      version_means.is refl refl refl (rw (cast_null, cast_int (pos 2))) (λ row. refl) t10.1 t10.2 in
       let kept = c9.1 in
       let desk : (state g t9.0).now.trees 0 ≡ [] = kept.0 ∙ c8.3.0 ∙ c7.1.0 ∙ c6.3.0 ∙ c5.3.0 ∙ c4.3.0 ∙ c3.3.0 ∙ c2.3.0 ∙ c1.2 in
       let members : (state g t9.0).now.trees 1 ≡ [] = kept.1.0 ∙ c8.3.1.0 ∙ c7.1.1.0 ∙ c6.3.1.0 ∙ c5.3.1.0 ∙ c4.3.1.0 ∙ c3.3.1.0 ∙ c2.2 in

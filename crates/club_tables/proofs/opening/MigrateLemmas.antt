@@ -11,7 +11,7 @@ use Rattle.sqlite.specs.Effect.{Database}
 use Rattle.sqlite.specs.Listing.{understood}
 use Rattle.sqlite.specs.State.{HasCleanDisk}
 use Rattle.sqlite.specs.Held.{Held, state}
-use Rattle.sqlite.proofs.Callers.{IsPlain, command_of}
+use Rattle.club_tables.proofs.statements.MeansLemmas.{Means}
 use Rattle.club_core.specs.Club.{Club}
 use Rattle.club_tables.specs.declared.texts.TheConstants.{MAKE_OLD_ROOTS, MAKE_BOOKINGS_BY_KEY, SET_VERSION}
 use Rattle.club_tables.specs.Schema.{desk_table, old_roots_table, bookings_by_key, first_schema, unindexed_schema, club_schema}
@@ -34,13 +34,9 @@ version_table = record desk_table { tree = desk_tree }
 abbrev version_terms : List Term
 version_terms = col 1 0 ∷ col 1 0 ∷ lit (Int (pos 2)) ∷ []
 
-version_is : command_of (understood club_schema SET_VERSION.now) ≡ Update 0 (record { lets = []; body = select (inner desk_tree end) [] version_terms })
+version_means : Means club_schema SET_VERSION.now (Update 0 (record { lets = []; body = select (inner desk_tree end) [] version_terms }))
 unfolding understood everything
-version_is = refl
-
-version_plain : IsPlain (understood club_schema SET_VERSION.now)
-unfolding understood everything
-version_plain = (refl, refl)
+version_means = record { is = refl; plain = (refl, refl) }
 
 module _ {S : Type 0} (g : Ghosts S) (old : Held S) (db : Database) (ran : Ran g 0 migration old db) where
   -- every row stays, and no key has an older root
@@ -55,8 +51,8 @@ module _ {S : Type 0} (g : Ghosts S) (old : Held S) (db : Database) (ran : Ran g
       makes_old_roots.whole makes_old_roots.defined makes_old_roots.uncounted t1.1 t1.2 in
       let c2 = indexes (state g t1.0) (state g t2.0) unindexed_schema c1.1 MAKE_BOOKINGS_BY_KEY.now makes_bookings_by_key.plain 5 bookings_made bookings_by_key
       makes_bookings_by_key.listed makes_bookings_by_key.is makes_bookings_by_key.whole makes_bookings_by_key.defined t2.1 t2.2 in
-      let c3 = updates (state g t2.0) (state g t3.0) c2.0 SET_VERSION.now version_plain 0 version_table (select (inner desk_tree end) [] version_terms) [] refl
-      version_is t3.1 t3.2 in
+      let c3 = updates (state g t2.0) (state g t3.0) c2.0 SET_VERSION.now version_means.plain 0 version_table (select (inner desk_tree end) [] version_terms) [] refl
+      version_means.is t3.1 t3.2 in
       let next = (state g t3.0).now in
       let kept = c2.1 in
       let others = c3.4 in

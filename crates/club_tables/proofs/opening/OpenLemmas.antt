@@ -6,9 +6,7 @@ use Rattle.sqlite.specs.Order.{Row, column}
 use Rattle.sqlite.specs.Schema.{Schema}
 use Rattle.sqlite.specs.Term.{col}
 use Rattle.sqlite.specs.Query.{inner, end}
-use Rattle.sqlite.specs.Command.TheVariants.{Select}
-use Rattle.sqlite.specs.Listing.{understood, reads_listing, listing_schema}
-use Rattle.sqlite.proofs.Callers.{IsPlain, command_of}
+use Rattle.sqlite.specs.Listing.{understood, listing_schema}
 use Rattle.club_tables.specs.declared.texts.TheConstants.{VERSION}
 use Rattle.club_tables.specs.Columns.{whole, HasValues, version_values}
 use Rattle.club_tables.specs.Statements.{select}
@@ -16,19 +14,17 @@ use Rattle.sqlite.specs.Store.{Ghosts}
 use Rattle.sqlite.specs.Tree.{Trees}
 use Rattle.sqlite.specs.Effect.{Database}
 use Rattle.sqlite.specs.State.{State, HasCleanDisk, Shown}
-use Rattle.sqlite_trees.specs.declared.memory.MemStore.{MemStore}
-use Rattle.sqlite.specs.Steps.{over_memory, IsEmpty}
 use Rattle.sqlite.specs.Held.{Held, state}
-use Rattle.club_core.specs.Club.{Club, empty_club}
+use Rattle.club_core.specs.Club.{Club}
 use Rattle.club_core.specs.declared.store.StoreFault.{StoreFault}
 use Rattle.club_tables.specs.Schema.{club_schema, first_schema, unindexed_schema, no_schema}
-use Rattle.club_tables.specs.Tables.{HoldsClub, HoldsClubVersion2, HoldsClubAnyVersion, Holds, desk_tree}
+use Rattle.club_tables.specs.Tables.{HoldsClub, HoldsClubVersion2, Holds, desk_tree}
 use Rattle.club_tables.specs.Tables.{RepresentsBy, Represents, RepresentsVersion1, RepresentsVersion2, IsFound}
 use Rattle.club_tables.specs.Opening.{IsOpeningBatch, RunsBatch, table_batch}
 use Rattle.club_tables.specs.Transaction.{BoundStatement, Asked, Ran, IsKept}
 use Rattle.club_tables.specs.Fault.{Commits}
 use Rattle.club_tables.proofs.statements.SelectLemmas.{selected, short_permutation}
-use Rattle.club_tables.proofs.crashes.RepresentsLemmas.{asked_open, reads_over, on_ok, on_err}
+use Rattle.club_tables.proofs.crashes.RepresentsLemmas.{Asks, asked_open, asked_reads, on_ok, on_err}
 use Rattle.club_tables.proofs.crashes.SurviveLemmas.{may_commit, was_clean}
 use Rattle.club_tables.proofs.opening.MakingLemmas.{made_tables, makes_no_more, makes_no_unindexed, makes_no_second}
 
@@ -94,11 +90,8 @@ unfolding understood listing_schema everything
 no_version = refl
 
 -- over these tables the version is a query of the one row
-record AsksVersion (schema : Schema) : Type 0 where
-  is : command_of (understood schema VERSION.now)
-      ≡ Select (record { lets = []; body = select (inner desk_tree end) [] (col 1 1 ∷ []) }) (codes "version" ∷ [])
-  plain : IsPlain (understood schema VERSION.now)
-  unlisted : reads_listing schema VERSION.now ≡ false
+abbrev AsksVersion : Schema → Type 0
+AsksVersion schema = Asks schema VERSION.now (select (inner desk_tree end) [] (col 1 1 ∷ [])) (codes "version" ∷ [])
 
 asks_club : AsksVersion club_schema
 unfolding understood everything
@@ -117,7 +110,7 @@ version_row : {S : Type 0} (g : Ghosts S) (old : Held S) (rows : List Row) → A
     → (state g old).now.schema ≡ schema → (version : ℕ) → Holds version_values ((state g old).now.trees desk_tree) (version ∷ [])
     → rows ≡ version_values version ∷ []
 version_row g old rows asked schema asks over version held =
-    let reads = reads_over g VERSION.now [] old rows asked schema over _ asks.is asks.plain asks.unlisted in
+    let reads = asked_reads asked asks over in
     let same = selected version_values [] [] (col 1 1 ∷ []) (λ _. true) version_values (λ id n. refl) (λ id n.
     refl) desk_tree (codes "version" ∷ []) (state g old).now (version ∷ []) rows held reads in
     short_permutation (version_values version ∷ []) rows (omega arith) same
@@ -167,13 +160,3 @@ second_found s club others second = record { held = λ clean is_open. inl (secon
 
 pub first_found : (s : State) (club : Club) (others : List Club) → RepresentsVersion1 s club others → IsFound s club others
 first_found s club others first = record { held = λ clean is_open. inr (inl (first.held clean is_open)); idle = first.idle; left = first.left }
-
--- a new database in memory is found to hold the empty club
-pub empty_found : (c : Held MemStore) → IsEmpty (state over_memory c) → IsFound (state over_memory c) empty_club []
-empty_found c empty =
-    let blank : HoldsClubAnyVersion (state over_memory c).committed empty_club = inr (inr (
-      ap (λ (d : Database). d.schema) (sym empty.0.clean) ∙ empty.2,
-      refl,
-      (empty.1 empty.0.is_open).1,
-    )) in
-    record { held = λ _ _. blank; idle = λ _ _. empty.0.clean; left = λ _ trees may. inl ((state over_memory c).committed, sym may, blank) }

@@ -1,5 +1,5 @@
 -- Rows that are asked for by slot, by key and number, and by key.
-use Rattle.std.proofs.Common.{◌≡◌, ◌≢◌, ℕ, pos, ℤ, Bool, true, false, not, ◌&&◌, ◌==◌, Option, Some, None, inl, inr, List, [], ◌∷◌, map, codes, refl, sym, ap}
+use Rattle.std.proofs.Common.{◌≡◌, ◌≢◌, ℕ, pos, Bool, true, false, not, ◌&&◌, ◌==◌, Option, Some, None, inl, inr, List, [], ◌∷◌, map, codes, refl, sym, ap}
 use Rattle.std.proofs.Common.{◌∙◌}
 use Rattle.std.specs.Prelude.{filter, option_map, unwrap_or, IsPermutation}
 use Rattle.std.specs.Option.{option_to_list}
@@ -15,11 +15,8 @@ use Rattle.sqlite.specs.Order.{Row}
 use Rattle.sqlite.specs.Store.{Ghosts}
 use Rattle.sqlite.specs.Term.{Term, lit, col, op2}
 use Rattle.sqlite.specs.Query.{inner, end}
-use Rattle.sqlite.specs.Command.TheVariants.{Select}
-use Rattle.sqlite.specs.Listing.{understood, reads_listing}
-use Rattle.sqlite.specs.State.{HasCleanDisk}
-use Rattle.sqlite.specs.Held.{Held, state}
-use Rattle.sqlite.proofs.Callers.{IsPlain, command_of}
+use Rattle.sqlite.specs.Listing.{understood}
+use Rattle.sqlite.specs.Held.{Held}
 use Rattle.club_values.specs.declared.slot.Slot.{Slot}
 use Rattle.club_rows.specs.Columns.{truth}
 use Rattle.club_rows.specs.declared.booking.Booking.{Booking}
@@ -28,32 +25,20 @@ use Rattle.club_core.specs.Sums.{is_under, booking_under}
 use Rattle.club_core.specs.Club.{Club}
 use Rattle.club_tables.specs.declared.texts.TheConstants.{SLOT, BOOKING, COSTS_UNDER_KEY}
 use Rattle.club_tables.specs.Schema.{club_schema}
-use Rattle.club_tables.specs.Columns.{whole, slot_values, use_values, booking_values, cost_values}
+use Rattle.club_tables.specs.Columns.{whole, name_values, slot_values, use_values, booking_values, cost_values}
 use Rattle.club_tables.specs.Stored.{SlotRow, no_slot_use, row_of}
 use Rattle.club_tables.specs.Use.{ShowsUse}
 use Rattle.club_core.specs.Basis.{slot_use}
-use Rattle.club_tables.specs.Tables.{Represents, slots_tree, bookings_tree}
+use Rattle.club_tables.specs.Tables.{slots_tree, bookings_tree}
 use Rattle.club_tables.specs.Statements.{select, is_given}
-use Rattle.club_tables.specs.Transaction.{Asked}
-use Rattle.club_tables.proofs.statements.SelectLemmas.{selected, text_equal, whole_equal, apart_from_pairs, one_passes}
-use Rattle.club_tables.proofs.crashes.RepresentsLemmas.{asked_tables, asked_reads, bookings_held}
+use Rattle.club_tables.proofs.statements.SelectLemmas.{text_equal, whole_equal, apart_from_pairs, one_passes}
+use Rattle.club_tables.proofs.crashes.RepresentsLemmas.{Asks, Shows, asked_tables, asked_shows, bookings_held}
 use Rattle.club_tables.proofs.queries.KeyLemmas.{and_true, first_returned}
 
-slot_is : command_of (understood club_schema SLOT.now) ≡ Select (record {
-  lets = [];
-  body =
-      select (inner slots_tree end) (is_given 1 0 ∷ is_given 2 1 ∷ is_given 3 2 ∷ []) (col 1 4 ∷ col 1 5 ∷ []);
-}) (codes "closed" ∷ codes "taken" ∷ [])
+slot_asks : Asks club_schema SLOT.now (select (inner slots_tree end) (is_given 1 0 ∷ is_given 2 1 ∷ is_given 3 2 ∷ []) (col 1 4 ∷ col 1 5 ∷ []))
+    (codes "closed" ∷ codes "taken" ∷ [])
 unfolding understood everything
-slot_is = refl
-
-slot_plain : IsPlain (understood club_schema SLOT.now)
-unfolding understood everything
-slot_plain = (refl, refl)
-
-slot_unlisted : reads_listing club_schema SLOT.now ≡ false
-unfolding everything
-slot_unlisted = refl
+slot_asks = record { is = refl; plain = (refl, refl); unlisted = refl }
 
 three_tests : (a a' b b' c c' : Bool) → a ≡ a' → b ≡ b' → c ≡ c' → (a && (b && (c && true))) ≡ (a' && b' && c')
 three_tests a a' b b' c c' p q r = three a b c ∙ cc
@@ -78,19 +63,14 @@ shows_by : (club : Club) (slot : Slot) (found : Option SlotRow) (rows : List Row
 shows_by club slot (Some row) rows is same = inl (is ∙ ap (λ held. use_values held ∷ []) same)
 shows_by club slot None rows is same = inr (is, sym same)
 
-pub slot_returned : {S : Type 0} (g : Ghosts S) (old : Held S) (slot : Slot) (rows : List Row) → HasCleanDisk (state g old)
-    → Asked g SLOT.now (Text slot.facility ∷ whole slot.day ∷ whole slot.hour ∷ []) old rows
-    → (club : Club) (others : List Club) → Represents (state g old) club others → ShowsUse club slot rows
-slot_returned g old slot rows clean asked club others represents =
-    let tables = asked_tables g SLOT.now _ old rows asked clean club others represents in
-    let reads = asked_reads g SLOT.now _ old rows asked tables.holds_rows.schema _ slot_is slot_plain slot_unlisted in
+pub slot_shown : {S : Type 0} (g : Ghosts S) (old : Held S) (slot : Slot) → Shows g old (SLOT.now, name_values slot) (λ club. ShowsUse club slot)
+slot_shown g old slot rows clean asked club others represents =
+    let tables = asked_tables asked clean club others represents in
     let p : SlotRow → Bool = λ row. same_slot row.slot slot in
     let show : SlotRow → Row = λ row. use_values row.held in
     let R : SlotRow → SlotRow → Type 0 = λ a b. a.slot ≢ b.slot in
-    let tests = λ (id : ℤ) (row : SlotRow). three_tests _ _ _ _ _ _ (text_equal row.slot.facility slot.facility) (whole_equal row.slot.day slot.day)
-    (whole_equal row.slot.hour slot.hour) in
-    let same = selected slot_values _ (is_given 1 0 ∷ is_given 2 1 ∷ is_given 3 2 ∷ []) (col 1 4 ∷ col 1 5 ∷ []) p show tests (λ id row.
-    refl) slots_tree (codes "closed" ∷ codes "taken" ∷ []) (state g old).now tables.rows.slots rows tables.holds_rows.slots reads in
+    let same = asked_shows asked slot_asks tables slot_values p show (λ id row. three_tests _ _ _ _ _ _ (text_equal row.slot.facility slot.facility)
+    (whole_equal row.slot.day slot.day) (whole_equal row.slot.hour slot.hour)) (λ id row. refl) tables.rows.slots tables.holds_rows.slots in
     let low = one_passes R p tables.rows.slots (λ x y a b apart. apart (same_slots x.slot slot a ∙ sym (same_slots y.slot slot b)))
     (apart_from_pairs R tables.rows.slots tables.storage.once) in
     shows_by club slot (row_of slot tables.rows.slots) rows (first_returned show p tables.rows.slots rows low same) (tables.storage.slots slot)
@@ -98,38 +78,24 @@ slot_returned g old slot rows clean asked club others represents =
 two_tests : (a a' b b' : Bool) → a ≡ a' → b ≡ b' → (a && (b && true)) ≡ (a' && b')
 two_tests a a' b b' p q = let e = and_true b in cc
 
-booking_is : command_of (understood club_schema BOOKING.now) ≡ Select (record {
-  lets = [];
-  body =
-      select (inner bookings_tree end) (is_given 1 0 ∷ is_given 2 1 ∷ []) (map (col 1) (1 ∷ 2 ∷ 3 ∷ 4 ∷ 5 ∷ 6 ∷ 7 ∷ 8 ∷ 9 ∷ 10 ∷ []));
-})
-    (map codes ("pass_key" ∷ "number" ∷ "facility" ∷ "day" ∷ "hour" ∷ "guests" ∷ "charge" ∷ "remains" ∷ "cancelled" ∷ "refund" ∷ []))
+abbrev pub booking_terms : List Term
+booking_terms = map (col 1) (1 ∷ 2 ∷ 3 ∷ 4 ∷ 5 ∷ 6 ∷ 7 ∷ 8 ∷ 9 ∷ 10 ∷ [])
+
+abbrev pub booking_names : List (List ℕ)
+booking_names = map codes ("pass_key" ∷ "number" ∷ "facility" ∷ "day" ∷ "hour" ∷ "guests" ∷ "charge" ∷ "remains" ∷ "cancelled" ∷ "refund" ∷ [])
+
+booking_asks : Asks club_schema BOOKING.now (select (inner bookings_tree end) (is_given 1 0 ∷ is_given 2 1 ∷ []) booking_terms) booking_names
 unfolding understood everything
-booking_is = refl
+booking_asks = record { is = refl; plain = (refl, refl); unlisted = refl }
 
-booking_plain : IsPlain (understood club_schema BOOKING.now)
-unfolding understood everything
-booking_plain = (refl, refl)
-
-booking_unlisted : reads_listing club_schema BOOKING.now ≡ false
-unfolding everything
-booking_unlisted = refl
-
-pub booking_returned : {S : Type 0} (g : Ghosts S) (old : Held S) (key : List ℕ) (number : ℕ) (rows : List Row) → HasCleanDisk (state g old)
-    → Asked g BOOKING.now (Text key ∷ whole number ∷ []) old rows
-    → (club : Club) (others : List Club) → Represents (state g old) club others
-    → rows ≡ map booking_values (option_to_list (booking_under key number club.bookings))
-booking_returned g old key number rows clean asked club others represents =
-    let tables = asked_tables g BOOKING.now _ old rows asked clean club others represents in
-    let reads = asked_reads g BOOKING.now _ old rows asked tables.holds_rows.schema _ booking_is booking_plain booking_unlisted in
+pub booking_shown : {S : Type 0} (g : Ghosts S) (old : Held S) (key : List ℕ) (number : ℕ) → Shows g old (BOOKING.now, Text key ∷ whole number ∷ [])
+    (λ club rows. rows ≡ map booking_values (option_to_list (booking_under key number club.bookings)))
+booking_shown g old key number rows clean asked club others represents =
+    let tables = asked_tables asked clean club others represents in
     let p : Booking → Bool = λ booking. is_under key booking && booking.number == number in
     let R : Booking → Booking → Type 0 = λ a b. ¬ ((a.key ≡ b.key) × (a.number ≡ b.number)) in
-    let tests = λ (id : ℤ) (b : Booking).
-    two_tests _ _ _ _ (text_equal b.key key) (whole_equal b.number number) in
-    let same = selected booking_values _ (is_given 1 0 ∷ is_given 2 1 ∷ []) (map (col 1) (1 ∷ 2 ∷ 3 ∷ 4 ∷ 5 ∷ 6 ∷ 7 ∷ 8 ∷ 9 ∷ 10 ∷ [])) p booking_values tests
-    (λ id b. refl) bookings_tree
-    (map codes ("pass_key" ∷ "number" ∷ "facility" ∷ "day" ∷ "hour" ∷ "guests" ∷ "charge" ∷ "remains" ∷ "cancelled" ∷ "refund" ∷ [])) (state g old).now
-    club.bookings rows (bookings_held _ club tables) reads in
+    let same = asked_shows asked booking_asks tables booking_values p booking_values (λ id b.
+    two_tests _ _ _ _ (text_equal b.key key) (whole_equal b.number number)) (λ id b. refl) club.bookings (bookings_held _ club tables) in
     let low = one_passes R p club.bookings (λ x y a b apart.
     let m = and_parts _ _ a in
     let n = and_parts _ _ b in
@@ -148,28 +114,14 @@ pub no_truth : (b : Bool) → (truth b == 0) ≡ not b
 no_truth true = refl
 no_truth false = refl
 
-costs_is : command_of (understood club_schema COSTS_UNDER_KEY.now) ≡ Select (record {
-  lets = [];
-  body =
-      select (inner bookings_tree end) (is_given 1 0 ∷ []) (col 1 7 ∷ col 1 10 ∷ []);
-}) (map codes ("charge" ∷ "refund" ∷ []))
+costs_asks : Asks club_schema COSTS_UNDER_KEY.now (select (inner bookings_tree end) (is_given 1 0 ∷ []) (col 1 7 ∷ col 1 10 ∷ []))
+    (map codes ("charge" ∷ "refund" ∷ []))
 unfolding understood everything
-costs_is = refl
+costs_asks = record { is = refl; plain = (refl, refl); unlisted = refl }
 
-costs_plain : IsPlain (understood club_schema COSTS_UNDER_KEY.now)
-unfolding understood everything
-costs_plain = (refl, refl)
-
-costs_unlisted : reads_listing club_schema COSTS_UNDER_KEY.now ≡ false
-unfolding everything
-costs_unlisted = refl
-
-pub costs_returned : {S : Type 0} (g : Ghosts S) (old : Held S) (key : List ℕ) (rows : List Row) → HasCleanDisk (state g old)
-    → Asked g COSTS_UNDER_KEY.now (Text key ∷ []) old rows
-    → (club : Club) (others : List Club) → Represents (state g old) club others → IsPermutation (map cost_values (filter (is_under key) club.bookings)) rows
-costs_returned g old key rows clean asked club others represents =
-    let tables = asked_tables g COSTS_UNDER_KEY.now _ old rows asked clean club others represents in
-    let reads = asked_reads g COSTS_UNDER_KEY.now _ old rows asked tables.holds_rows.schema _ costs_is costs_plain costs_unlisted in
-    selected booking_values _ (is_given 1 0 ∷ []) (col 1 7 ∷ col 1 10 ∷ []) (is_under key) cost_values (λ id b. and_true _
-    ∙ text_equal b.key key) (λ id b. refl) bookings_tree (map codes ("charge" ∷ "refund" ∷ [])) (state g old).now club.bookings rows
-    (bookings_held _ club tables) reads
+pub costs_shown : {S : Type 0} (g : Ghosts S) (old : Held S) (key : List ℕ) → Shows g old (COSTS_UNDER_KEY.now, Text key ∷ [])
+    (λ club. IsPermutation (map cost_values (filter (is_under key) club.bookings)))
+costs_shown g old key rows clean asked club others represents =
+    let tables = asked_tables asked clean club others represents in
+    asked_shows asked costs_asks tables booking_values (is_under key) cost_values (λ id b. and_true _ ∙ text_equal b.key key) (λ id b. refl) club.bookings
+    (bookings_held _ club tables)

@@ -1,5 +1,5 @@
 -- The bookings of a day, as they are asked for.
-use Rattle.std.proofs.Common.{◌≡◌, ℕ, ◌<◌, ◌⊎◌, inl, inr, pos, ℤ, Bool, true, false, ◌&&◌, List, [], ◌∷◌, map, codes, refl, sym, ap, subst, ◌∙◌, arith}
+use Rattle.std.proofs.Common.{◌≡◌, ℕ, ◌<◌, ◌⊎◌, inl, inr, pos, ℤ, Bool, true, false, ◌&&◌, List, [], ◌∷◌, map, refl, sym, ap, subst, ◌∙◌, arith}
 use Rattle.std.proofs.Common.{Ordering, Less, Equal, Greater, nat_cmp, int_cmp}
 use Rattle.std.specs.Prelude.{filter, IsSorted, slice_index_or}
 use Rattle.std.specs.Ordering.{on, then_cmp, is_lt, ordering_then, ordering_reverse}
@@ -18,25 +18,20 @@ use Rattle.sqlite.specs.Order.{Row, value_cmp}
 use Rattle.sqlite.specs.Store.{Ghosts}
 use Rattle.sqlite.specs.Term.{Term, col}
 use Rattle.sqlite.specs.Query.{inner, end, key_cmp}
-use Rattle.sqlite.specs.Command.TheVariants.{Select}
-use Rattle.sqlite.specs.Listing.{understood, reads_listing}
-use Rattle.sqlite.specs.State.{HasCleanDisk}
+use Rattle.sqlite.specs.Listing.{understood}
 use Rattle.sqlite.specs.Held.{Held, state}
-use Rattle.sqlite.proofs.Callers.{IsPlain, command_of}
 use Rattle.club_rows.specs.Columns.{truth}
 use Rattle.club_rows.specs.declared.booking.Booking.{Booking}
-use Rattle.club_core.specs.Club.{Club}
 use Rattle.club_core.specs.Sheet.{is_on, Precedes}
 use Rattle.club_tables.specs.declared.texts.TheConstants.{DAY}
 use Rattle.club_tables.specs.Schema.{club_schema}
 use Rattle.club_tables.specs.Columns.{whole, booking_values}
 use Rattle.club_tables.specs.Sheet.{ShowsDay}
-use Rattle.club_tables.specs.Tables.{Represents, bookings_tree}
+use Rattle.club_tables.specs.Tables.{bookings_tree}
 use Rattle.club_tables.specs.Statements.{select, in_order, is_given}
-use Rattle.club_tables.specs.Transaction.{Asked}
 use Rattle.club_tables.proofs.statements.SelectLemmas.{whole_equal, apart_from_pairs}
-use Rattle.club_tables.proofs.crashes.RepresentsLemmas.{asked_tables, asked_reads, bookings_held}
-use Rattle.club_tables.proofs.queries.BookingLemmas.{is_uncancelled, no_truth}
+use Rattle.club_tables.proofs.crashes.RepresentsLemmas.{Asks, Shows, asked_tables, asked_reads, bookings_held}
+use Rattle.club_tables.proofs.queries.BookingLemmas.{booking_terms, booking_names, is_uncancelled, no_truth}
 use Rattle.club_tables.proofs.statements.OrderLemmas.{selected_in_order, none_less, apart-permutation, pairs_from_apart}
 
 -- ---- the order of the sheet
@@ -106,30 +101,12 @@ sheet_key b = Text b.slot.facility ∷ whole b.slot.hour ∷ Text b.key ∷ whol
 abbrev sheet_terms : List Term
 sheet_terms = map (col 1) (3 ∷ 5 ∷ 1 ∷ 2 ∷ [])
 
-abbrev booking_terms : List Term
-booking_terms = map (col 1) (1 ∷ 2 ∷ 3 ∷ 4 ∷ 5 ∷ 6 ∷ 7 ∷ 8 ∷ 9 ∷ 10 ∷ [])
-
-abbrev booking_names : List (List ℕ)
-booking_names = map codes ("pass_key" ∷ "number" ∷ "facility" ∷ "day" ∷ "hour" ∷ "guests" ∷ "charge" ∷ "remains" ∷ "cancelled" ∷ "refund" ∷ [])
-
 abbrev day_tests : List Term
 day_tests = is_given 4 0 ∷ is_uncancelled ∷ []
 
-day_is : command_of (understood club_schema DAY.now) ≡ Select (record {
-  lets = [];
-  body =
-      in_order sheet_terms (select (inner bookings_tree end) day_tests booking_terms);
-}) booking_names
+day_asks : Asks club_schema DAY.now (in_order sheet_terms (select (inner bookings_tree end) day_tests booking_terms)) booking_names
 unfolding understood everything
-day_is = refl
-
-day_plain : IsPlain (understood club_schema DAY.now)
-unfolding understood everything
-day_plain = (refl, refl)
-
-day_unlisted : reads_listing club_schema DAY.now ≡ false
-unfolding everything
-day_unlisted = refl
+day_asks = record { is = refl; plain = (refl, refl); unlisted = refl }
 
 whole_cmp : (m n : ℕ) → value_cmp (whole m) (whole n) ≡ nat_cmp m n
 whole_cmp m n = let same : int_cmp (pos m) (pos n) ≡ nat_cmp m n = grind (arith, nat_tests) in value_cmp-Int (pos m) (pos n) ∙ same
@@ -146,12 +123,10 @@ two_turned a a' b b' p q = turned a b ∙ cc
     turned false true = refl
     turned false false = refl
 
-pub day_returned : {S : Type 0} (g : Ghosts S) (old : Held S) (day : ℕ) (rows : List Row) → HasCleanDisk (state g old)
-    → Asked g DAY.now (whole day ∷ []) old rows
-    → (club : Club) (others : List Club) → Represents (state g old) club others → ShowsDay club day rows
-day_returned g old day rows clean asked club others represents =
-    let tables = asked_tables g DAY.now _ old rows asked clean club others represents in
-    let reads = asked_reads g DAY.now _ old rows asked tables.holds_rows.schema _ day_is day_plain day_unlisted in
+pub day_shown : {S : Type 0} (g : Ghosts S) (old : Held S) (day : ℕ) → Shows g old (DAY.now, whole day ∷ []) (λ club. ShowsDay club day)
+day_shown g old day rows clean asked club others represents =
+    let tables = asked_tables asked clean club others represents in
+    let reads = asked_reads asked day_asks tables.holds_rows.schema in
     let tests = λ (id : ℤ) (b : Booking). two_turned _ _ _ _ (whole_equal b.slot.day day) (whole_equal (truth b.cancelled) 0 ∙ no_truth b.cancelled) in
     let day_selection = selected_in_order booking_values (whole day
     ∷ []) day_tests booking_terms (map (λ term. (term, ascending Binary)) sheet_terms) (is_on day)

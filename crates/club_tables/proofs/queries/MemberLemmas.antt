@@ -25,11 +25,8 @@ use Rattle.sqlite.specs.Order.{Row}
 use Rattle.sqlite.specs.Store.{Ghosts}
 use Rattle.sqlite.specs.Term.{Term, lit, col, op2}
 use Rattle.sqlite.specs.Query.{inner, end}
-use Rattle.sqlite.specs.Command.TheVariants.{Select}
-use Rattle.sqlite.specs.Listing.{understood, reads_listing}
-use Rattle.sqlite.specs.State.{HasCleanDisk}
+use Rattle.sqlite.specs.Listing.{understood}
 use Rattle.sqlite.specs.Held.{Held, state}
-use Rattle.sqlite.proofs.Callers.{IsPlain, command_of}
 use Rattle.club_values.specs.Slot.{start_of}
 use Rattle.club_rows.specs.Columns.{truth}
 use Rattle.club_rows.specs.declared.key.Key.{Key}
@@ -40,12 +37,11 @@ use Rattle.club_core.specs.Club.{Club, is_key_of, bookings_of}
 use Rattle.club_tables.specs.declared.texts.TheConstants.{OPEN}
 use Rattle.club_tables.specs.Schema.{club_schema}
 use Rattle.club_tables.specs.Columns.{whole, key_values, booking_values}
-use Rattle.club_tables.specs.Tables.{Represents, keys_tree, bookings_tree}
+use Rattle.club_tables.specs.Tables.{keys_tree, bookings_tree}
 use Rattle.club_tables.specs.Statements.{select, is_given}
-use Rattle.club_tables.specs.Transaction.{Asked}
 use Rattle.club_tables.proofs.statements.SelectLemmas.{apart_from_pairs, from_truth_is, text_equal, whole_equal}
 use Rattle.club_tables.proofs.statements.JoinLemmas.{filter_filter, map_flat_map, IsElsewhere, pairs_of, selected_both}
-use Rattle.club_tables.proofs.crashes.RepresentsLemmas.{asked_tables, asked_reads, keys_held, bookings_held}
+use Rattle.club_tables.proofs.crashes.RepresentsLemmas.{Asks, Shows, asked_tables, asked_reads, keys_held, bookings_held}
 use Rattle.club_tables.proofs.queries.KeyLemmas.{and_true}
 use Rattle.club_tables.proofs.queries.BookingLemmas.{no_truth}
 
@@ -63,22 +59,12 @@ begins_later = op2 (Compare Gt Binary) (op2 (Arith Add) (op2 (Arith Mul) (col 2 
 abbrev from_day : Term
 from_day = op2 (Compare Ge Binary) (col 2 4) (col 0 2)
 
-open_is : command_of (understood club_schema OPEN.now)
-    ≡ Select (record {
-      lets = [];
-      body = select (inner keys_tree (inner bookings_tree end)) (under_it ∷ is_given 2 0 ∷ is_uncancelled ∷ begins_later ∷ from_day ∷ [])
-          (col 2 2 ∷ []);
-    }) (codes "number" ∷ [])
-unfolding understood everything
-open_is = refl
+abbrev open_tests : List Term
+open_tests = under_it ∷ is_given 2 0 ∷ is_uncancelled ∷ begins_later ∷ from_day ∷ []
 
-open_plain : IsPlain (understood club_schema OPEN.now)
+open_asks : Asks club_schema OPEN.now (select (inner keys_tree (inner bookings_tree end)) open_tests (col 2 2 ∷ [])) (codes "number" ∷ [])
 unfolding understood everything
-open_plain = (refl, refl)
-
-open_unlisted : reads_listing club_schema OPEN.now ≡ false
-unfolding everything
-open_unlisted = refl
+open_asks = record { is = refl; plain = (refl, refl); unlisted = refl }
 
 -- ---- numbers
 
@@ -214,12 +200,12 @@ filter_where : {X : Type 0} (P : X → Type 0) (p q : X → Bool) → ((x : X) �
 filter_where P p q same [] all = refl
 filter_where P p q same (x ∷ xs) all = let e = same x (All-head P x xs all) in let more = filter_where P p q same xs (All-tail P x xs all) in rw (e, more) refl
 
-pub open_returned : {S : Type 0} (g : Ghosts S) (old : Held S) (member : List ℕ) (moment : ℕ) (rows : List Row) → HasCleanDisk (state g old)
-    → Asked g OPEN.now (Text member ∷ whole moment ∷ whole (moment / 1440) ∷ []) old rows
-    → (club : Club) (others : List Club) → Represents (state g old) club others → length rows ≡ count_to_come moment (bookings_of member club)
-open_returned g old member moment rows clean asked club others represents =
-    let tables = asked_tables g OPEN.now _ old rows asked clean club others represents in
-    let reads = asked_reads g OPEN.now _ old rows asked tables.holds_rows.schema _ open_is open_plain open_unlisted in
+pub open_shown : {S : Type 0} (g : Ghosts S) (old : Held S) (member : List ℕ) (moment : ℕ)
+    → Shows g old (OPEN.now, Text member ∷ whole moment ∷ whole (moment / 1440) ∷ [])
+    (λ club rows. length rows ≡ count_to_come moment (bookings_of member club))
+open_shown g old member moment rows clean asked club others represents =
+    let tables = asked_tables asked clean club others represents in
+    let reads = asked_reads asked open_asks tables.holds_rows.schema in
     let number : Booking → Row = λ b. whole b.number ∷ [] in
     let tests = λ (i j : ℤ) (k : Key) (b : Booking).
     let e = text_equal k.name b.key in
@@ -232,7 +218,7 @@ open_returned g old member moment rows clean asked club others represents =
     && (is_true (binary (Compare Ge Binary) (whole b.slot.day) (whole (moment / 1440))) && true)))))
     ≡ is_owned member (comes moment) k b = cc in h in
     let both = selected_both key_values booking_values (Text member ∷ whole moment ∷ whole (moment / 1440) ∷ [])
-    (under_it ∷ is_given 2 0 ∷ is_uncancelled ∷ begins_later ∷ from_day ∷ []) (col 2 2 ∷ []) (is_owned member (comes moment)) number tests (λ i j k b. refl)
+    open_tests (col 2 2 ∷ []) (is_owned member (comes moment)) number tests (λ i j k b. refl)
     keys_tree bookings_tree (codes "number" ∷ []) (state g old).now club.keys club.bookings rows (keys_held _ club tables) (bookings_held _ club tables)
     reads in
     let own = bookings_of member club in

@@ -7,10 +7,9 @@ use Rattle.sqlite.specs.Held.{Held, state}
 use Rattle.club_core.specs.declared.store.StoreFault.{StoreFault}
 use Rattle.club_core.specs.Club.{Club}
 use Rattle.club_tables.specs.Answers.{Answers, FailsAtReading, FailsToRead, IsAfterReadings, IsReadFault, Reading, CanRead, reading_statement}
-use Rattle.club_tables.specs.Tables.{Represents}
 use Rattle.club_tables.specs.ReadsAndChanges.{ReadsClub}
 use Rattle.club_tables.specs.Transaction.{Asked, IsKept, BoundStatement}
-use Rattle.club_tables.proofs.crashes.RepresentsLemmas.{keeps_club, if_ok_map}
+use Rattle.club_tables.proofs.crashes.RepresentsLemmas.{Shows, keeps_club, if_ok_map}
 use Rattle.club_tables.proofs.crashes.SurviveLemmas.{kept_when_idle}
 
 pub fault_if : {A E : Type 0} (P Q : E → Type 0) (r : Result A E) → IfErr r P → ((e : E) → P e → Q e) → IfErr r Q
@@ -33,21 +32,21 @@ pub one_failed : {S : Type 0} (g : Ghosts S) (reading : Reading) (old new : Held
     → FailsAtReading g reading old new fault → IsReadFault g old new fault
 one_failed g reading old new fault clean failed = record { from = old; after = at_once g old clean; reading = reading; failure = failed }
 
--- a result that is true of the current club, by a statement that leaves the committed state unchanged
+-- a result that is true of the current club, by what the rows of its statement show
 pub read_by : {S A : Type 0} (g : Ghosts S) (reading : Reading) (IsAnswer : List Row → A → Type 0) (old new : Held S) (result : Result A StoreFault)
-    (IsReturned : Club → A → Type 0) → IsKept (state g old) (state g new) → Survives (state g old) (state g new) (λ _. ⊥)
+    {IsShown : Club → List Row → Type 0} {IsReturned : Club → A → Type 0} → IsKept (state g old) (state g new)
+    → Survives (state g old) (state g new) (λ _. ⊥)
     → (HasCleanDisk (state g new) → IfOk result (λ answer. (rows : List Row)
     × Asked g (reading_statement reading).0 (reading_statement reading).1 old rows × IsAnswer rows answer))
-    → (HasCleanDisk (state g new) → IfErr result (FailsAtReading g reading old new))
-    → (HasCleanDisk (state g old) → (club : Club) (others : List Club) → Represents (state g old) club others → (rows : List Row)
-    → Asked g (reading_statement reading).0 (reading_statement reading).1 old rows → (answer : A) → IsAnswer rows answer → IsReturned club answer)
+    → (HasCleanDisk (state g new) → IfErr result (FailsAtReading g reading old new)) → Shows g old (reading_statement reading) IsShown
+    → ((club : Club) (rows : List Row) (answer : A) → IsShown club rows → IsAnswer rows answer → IsReturned club answer)
     → ReadsClub g old new result IsReturned
-read_by {A} g reading IsAnswer old new result IsReturned kept quiet gives fails returned =
+read_by {A = A} g reading IsAnswer old new result {IsReturned = IsReturned} kept quiet gives fails shown returned =
     let earlier = λ (clean : HasCleanDisk (state g new)). let e : HasCleanDisk (state g old) = omega (arith, quiet.clean) in e in
     let Given = λ (answer : A). (rows : List Row) × Asked g (reading_statement reading).0 (reading_statement reading).1 old rows × IsAnswer rows answer in
     record {
       returns = λ clean club others represents. if_ok_map Given (IsReturned club) result (gives clean) (λ answer given.
-          returned (earlier clean) club others represents given.0 given.1 answer given.2);
+          returned club given.0 answer (shown given.0 (earlier clean) given.1 club others represents) given.2);
       kept = λ clean. keeps_club g old new kept quiet;
       no_change = λ rest. kept;
       survives = quiet;
@@ -56,14 +55,14 @@ read_by {A} g reading IsAnswer old new result IsReturned kept quiet gives fails 
     }
 
 -- the same of an answer by its rows
-pub read_answer : {S A : Type 0} (g : Ghosts S) (reading : Reading) (IsAnswer : List Row → A → Type 0) (old new : Held S) (result : Result A StoreFault)
-    (IsReturned : Club → A → Type 0) → IsKept (state g old) (state g new) → Survives (state g old) (state g new) (λ _. ⊥)
-    → Answers g (reading_statement reading) IsAnswer old new result → ((rows : List Row) → CanRead reading rows → (answer : A) × IsAnswer rows answer)
-    → (HasCleanDisk (state g old) → (club : Club) (others : List Club) → Represents (state g old) club others → (rows : List Row)
-    → Asked g (reading_statement reading).0 (reading_statement reading).1 old rows → (answer : A) → IsAnswer rows answer → IsReturned club answer)
+pub read_answer : {S A : Type 0} {g : Ghosts S} (reading : Reading) {IsAnswer : List Row → A → Type 0} {old new : Held S} {result : Result A StoreFault}
+    {IsShown : Club → List Row → Type 0} {IsReturned : Club → A → Type 0} → Answers g (reading_statement reading) IsAnswer old new result
+    → IsKept (state g old) (state g new) → Survives (state g old) (state g new) (λ _. ⊥)
+    → ((rows : List Row) → CanRead reading rows → (answer : A) × IsAnswer rows answer) → Shows g old (reading_statement reading) IsShown
+    → ((club : Club) (rows : List Row) (answer : A) → IsShown club rows → IsAnswer rows answer → IsReturned club answer)
     → ReadsClub g old new result IsReturned
-read_answer {A} g reading IsAnswer old new result IsReturned kept quiet answers can returned =
+read_answer {A = A} {g = g} reading {IsAnswer = IsAnswer} {old = old} {new = new} {result = result} answers kept quiet can shown returned =
     let Unanswered = λ (rows : List Row). (answer : A) × IsAnswer rows answer in
-    read_by g reading IsAnswer old new result IsReturned kept quiet answers.success (λ clean.
+    read_by g reading IsAnswer old new result kept quiet answers.success (λ clean.
     fault_if (FailsToRead g (reading_statement reading) Unanswered old new) (FailsAtReading g reading old new) result (answers.failure clean) (λ fault failed.
-    inl (fewer_read g (reading_statement reading) Unanswered (CanRead reading) old new fault can failed))) returned
+    inl (fewer_read g (reading_statement reading) Unanswered (CanRead reading) old new fault can failed))) shown returned

@@ -1,12 +1,14 @@
-use Rattle.std.proofs.Common.{List, ℕ, Option, inr, refl}
+use Rattle.std.proofs.Common.{◌≡◌, List, ℕ, Option, Result, inr, refl}
 use Rattle.sqlite.specs.Store.{Ghosts}
-use Rattle.sqlite.specs.Held.{Held}
+use Rattle.sqlite.specs.State.{Survives}
+use Rattle.sqlite.specs.Held.{Held, state}
 use Rattle.club_rows.specs.declared.booking.Booking.{Booking}
 use Rattle.club_core.specs.declared.store.StoreFault.{StoreFault}
 use Rattle.club_core.specs.Sums.{booking_under}
-use Rattle.club_tables.specs.Answers.{OfBooking, FailsToRead, IsFirst, IsBookingIn, IsBookingNamed}
-use Rattle.club_tables.specs.Transaction.{BoundStatement}
-use Rattle.club_tables.proofs.queries.BookingLemmas.{booking_returned}
+use Rattle.club_tables.specs.Answers.{Answers, OfBooking, FailsToRead, IsFirst, IsBookingIn, IsBookingNamed, reading_statement}
+use Rattle.club_tables.specs.ReadsAndChanges.{ReadsClub}
+use Rattle.club_tables.specs.Transaction.{BoundStatement, IsKept}
+use Rattle.club_tables.proofs.queries.BookingLemmas.{booking_shown}
 use Rattle.club_tables.proofs.lists.FirstLemmas.{booking_first, unnamed, none_named, one_named, not_named}
 use Rattle.club_tables.proofs.queries.ReadLemmas.{read_answer, fewer_read}
 use Rattle.club_tables.proofs.reads.booking.Goals as goal
@@ -20,21 +22,24 @@ unread_named g key number statement old new fault failed =
     (λ rows. (found : Option Booking) × IsFirst (IsBookingNamed key number) rows found) old new fault
     (λ rows can. (can.0, unnamed key number rows can.0 can.1)) failed
 
+read_booking : {S : Type 0} (g : Ghosts S) (key : List ℕ) (number : ℕ) {old new : Held S} {result : Result (Option Booking) StoreFault}
+    → Answers g (reading_statement (OfBooking key number)) (IsFirst (IsBookingNamed key number)) old new result → IsKept (state g old) (state g new)
+    → Survives (state g old) (state g new) (λ _. ⊥) → ReadsClub g old new result (λ club found. found ≡ booking_under key number club.bookings)
+read_booking g key number {old = old} gives kept quiet =
+    read_answer (OfBooking key number) gives kept quiet (λ rows can. can) (booking_shown g old key number) (λ club rows found shown first.
+    booking_first (booking_under key number club.bookings) rows found shown (unnamed key number rows found first))
+
 pub returns-in-Err-clause-gives : goal.returns-in-Err-clause-gives
 returns-in-Err-clause-gives g c =
     let gives = rw (c.params-to_sql.ensures, c.params-to_sql-2.ensures, c.as_str.ensures.value, c.get.ensures.value) at c.in-Err.ensures.gives in
     record {
       success = λ clean. tt;
-      failure = λ clean. unread_named g.S.Store c.args.key.now c.args.number _ c.args.conn.now c.one.new.conn _ (gives.failure clean);
+      failure = λ clean. unread_named g.S.Store c.args.key.now c.args.number _ c.args.conn.now c.answer.new.conn _ (gives.failure clean);
     }
 
 pub returns-in-Err-clause-reads : goal.returns-in-Err-clause-reads
 returns-in-Err-clause-reads g c =
-    read_answer g.S.Store (OfBooking c.args.key.now c.args.number) (IsFirst (IsBookingNamed c.args.key.now c.args.number)) c.args.conn.now c.one.new.conn _ _
-    c.one.ensures.kept c.one.ensures.survives (returns-in-Err-clause-gives g c) (λ rows can. can) (λ clean club others represents rows asked found first.
-    booking_first (booking_under c.args.key.now c.args.number club.bookings) rows found
-    (booking_returned g.S.Store c.args.conn.now c.args.key.now c.args.number rows clean asked club others represents)
-    (unnamed c.args.key.now c.args.number rows found first))
+    read_booking g.S.Store c.args.key.now c.args.number (returns-in-Err-clause-gives g c) c.answer.ensures.kept c.answer.ensures.survives
 
 pub returns-in-None-clause-gives : goal.returns-in-None-clause-gives
 returns-in-None-clause-gives g c =
@@ -46,11 +51,7 @@ returns-in-None-clause-gives g c =
 
 pub returns-in-None-clause-reads : goal.returns-in-None-clause-reads
 returns-in-None-clause-reads g c =
-    read_answer g.S.Store (OfBooking c.args.key.now c.args.number) (IsFirst (IsBookingNamed c.args.key.now c.args.number)) c.args.conn.now c.one.new.conn _ _
-    c.one.ensures.kept c.one.ensures.survives (returns-in-None-clause-gives g c) (λ rows can. can) (λ clean club others represents rows asked found first.
-    booking_first (booking_under c.args.key.now c.args.number club.bookings) rows found
-    (booking_returned g.S.Store c.args.conn.now c.args.key.now c.args.number rows clean asked club others represents)
-    (unnamed c.args.key.now c.args.number rows found first))
+    read_booking g.S.Store c.args.key.now c.args.number (returns-in-None-clause-gives g c) c.answer.ensures.kept c.answer.ensures.survives
 
 pub returns-then-is_named-clause-gives : goal.returns-then-is_named-clause-gives
 returns-then-is_named-clause-gives g c =
@@ -66,11 +67,7 @@ returns-then-is_named-clause-gives g c =
 
 pub returns-then-is_named-clause-reads : goal.returns-then-is_named-clause-reads
 returns-then-is_named-clause-reads g c =
-    read_answer g.S.Store (OfBooking c.args.key.now c.args.number) (IsFirst (IsBookingNamed c.args.key.now c.args.number)) c.args.conn.now c.one.new.conn _ _
-    c.one.ensures.kept c.one.ensures.survives (returns-then-is_named-clause-gives g c) (λ rows can. can) (λ clean club others represents rows asked found first.
-    booking_first (booking_under c.args.key.now c.args.number club.bookings) rows found
-    (booking_returned g.S.Store c.args.conn.now c.args.key.now c.args.number rows clean asked club others represents)
-    (unnamed c.args.key.now c.args.number rows found first))
+    read_booking g.S.Store c.args.key.now c.args.number (returns-then-is_named-clause-gives g c) c.answer.ensures.kept c.answer.ensures.survives
 
 pub returns-else-is_named-clause-gives : goal.returns-else-is_named-clause-gives
 returns-else-is_named-clause-gives g c =
@@ -88,8 +85,4 @@ returns-else-is_named-clause-gives g c =
 
 pub returns-else-is_named-clause-reads : goal.returns-else-is_named-clause-reads
 returns-else-is_named-clause-reads g c =
-    read_answer g.S.Store (OfBooking c.args.key.now c.args.number) (IsFirst (IsBookingNamed c.args.key.now c.args.number)) c.args.conn.now c.one.new.conn _ _
-    c.one.ensures.kept c.one.ensures.survives (returns-else-is_named-clause-gives g c) (λ rows can. can) (λ clean club others represents rows asked found first.
-    booking_first (booking_under c.args.key.now c.args.number club.bookings) rows found
-    (booking_returned g.S.Store c.args.conn.now c.args.key.now c.args.number rows clean asked club others represents)
-    (unnamed c.args.key.now c.args.number rows found first))
+    read_booking g.S.Store c.args.key.now c.args.number (returns-else-is_named-clause-gives g c) c.answer.ensures.kept c.answer.ensures.survives

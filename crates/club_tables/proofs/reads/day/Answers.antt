@@ -12,7 +12,7 @@ use Rattle.club_tables.specs.Columns.{whole}
 use Rattle.club_tables.specs.Sheet.{AreBookings}
 use Rattle.club_tables.specs.Transaction.{Asked}
 use Rattle.club_tables.proofs.lists.BookingRows.{day_of_rows, within_limits}
-use Rattle.club_tables.proofs.queries.DayLemmas.{day_returned}
+use Rattle.club_tables.proofs.queries.DayLemmas.{day_shown}
 use Rattle.club_tables.proofs.queries.ReadLemmas.{read_by}
 use Rattle.club_tables.proofs.crashes.RepresentsLemmas.{if_ok_map}
 use Rattle.club_tables.proofs.reads.day.Goals as goal
@@ -32,9 +32,9 @@ returns-in-Err-clause-failed g c clean =
 
 pub returns-in-Err-clause-reads : goal.returns-in-Err-clause-reads
 returns-in-Err-clause-reads g c =
-    read_by g.S.Store (OfDay c.args.day) (λ rows (bookings : Vec Booking Global). AreBookings rows bookings.items) c.args.conn.now c.ask.new.conn _ _
-    c.ask.ensures.kept c.ask.ensures.survives (λ clean. tt) (returns-in-Err-clause-failed g c) (λ clean club others represents rows asked bookings are.
-    day_of_rows club c.args.day rows bookings.items (day_returned g.S.Store c.args.conn.now c.args.day rows clean asked club others represents) are)
+    read_by g.S.Store (OfDay c.args.day) (λ rows (bookings : Vec Booking Global). AreBookings rows bookings.items) c.args.conn.now c.ask.new.conn _
+    c.ask.ensures.kept c.ask.ensures.survives (λ clean. tt) (returns-in-Err-clause-failed g c) (day_shown g.S.Store c.args.conn.now c.args.day)
+    (λ club rows bookings shown are. day_of_rows club c.args.day rows bookings.items shown are)
 
 pub returns-clause-returned : goal.returns-clause-returned
 returns-clause-returned g c clean =
@@ -50,9 +50,8 @@ returns-clause-failed g c clean =
 pub returns-clause-reads : goal.returns-clause-reads
 returns-clause-reads g c =
     read_by g.S.Store (OfDay c.args.day) (λ rows (bookings : Vec Booking Global). AreBookings rows bookings.items) c.args.conn.now c.ask.new.conn
-    c.bookings_in.result _ c.ask.ensures.kept c.ask.ensures.survives (returns-clause-returned g c) (returns-clause-failed g c)
-    (λ clean club others represents rows asked bookings are.
-    day_of_rows club c.args.day rows bookings.items (day_returned g.S.Store c.args.conn.now c.args.day rows clean asked club others represents) are)
+    c.bookings_in.result c.ask.ensures.kept c.ask.ensures.survives (returns-clause-returned g c) (returns-clause-failed g c)
+    (day_shown g.S.Store c.args.conn.now c.args.day) (λ club rows bookings shown are. day_of_rows club c.args.day rows bookings.items shown are)
 
 pub returns-clause-limits : goal.returns-clause-limits
 returns-clause-limits g c =

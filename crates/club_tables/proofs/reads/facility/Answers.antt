@@ -1,20 +1,19 @@
-use Rattle.club_tables.specs.Answers.{OfFacility, IsFirst, IsFacilityIn}
+use Rattle.club_tables.specs.Answers.{OfFacility, IsFacilityIn}
 use Rattle.club_rows.specs.Rows.{IsFacility}
 use Rattle.club_core.specs.Club.{facility_named}
-use Rattle.club_tables.proofs.lists.FirstLemmas.{facility_first, yielded_if}
-use Rattle.club_tables.proofs.queries.KeyLemmas.{facility_returned}
+use Rattle.club_tables.proofs.lists.FirstLemmas.{facility_first, held_if}
+use Rattle.club_tables.proofs.queries.KeyLemmas.{facility_shown}
 use Rattle.club_tables.proofs.queries.ReadLemmas.{read_answer}
 use Rattle.club_tables.proofs.reads.facility.Goals as goal
 
 pub returns-clause-gives : goal.returns-clause-gives
-returns-clause-gives g c = rw c.as_bytes.ensures.value at c.one.ensures.gives
+returns-clause-gives g c = rw c.as_bytes.ensures.value at c.answer.ensures.gives
 
 pub returns-clause-reads : goal.returns-clause-reads
 returns-clause-reads g c =
     let name = c.args.name.now in
-    read_answer g.S.Store (OfFacility name) (IsFirst IsFacilityIn) c.args.conn.now c.one.new.conn c.one.result _ c.one.ensures.kept c.one.ensures.survives
-    (returns-clause-gives g c) (λ rows can. can) (λ clean club others represents rows asked found first.
-    facility_first (facility_named name club) rows found (facility_returned g.S.Store c.args.conn.now name rows clean asked club others represents) first)
+    read_answer (OfFacility name) (returns-clause-gives g c) c.answer.ensures.kept c.answer.ensures.survives (λ rows can. can)
+    (facility_shown g.S.Store c.args.conn.now name) (λ club rows found. facility_first (facility_named name club) rows found)
 
 pub returns-clause-limits : goal.returns-clause-limits
-returns-clause-limits g c = yielded_if IsFacilityIn IsFacility c.one.result c.one.ensures.yielded (λ row it yielded. yielded.0)
+returns-clause-limits g c = held_if IsFacilityIn IsFacility c.answer.result c.answer.ensures.held (λ row it yielded. yielded.0)

@@ -1,6 +1,6 @@
 use Rattle.std.proofs.Common.{rules, inl, ◌∙◌}
-use Rattle.club_tables.specs.Answers.{OfOpen, IsCount}
-use Rattle.club_tables.proofs.queries.MemberLemmas.{open_returned}
+use Rattle.club_tables.specs.Answers.{OfOpen}
+use Rattle.club_tables.proofs.queries.MemberLemmas.{open_shown}
 use Rattle.club_tables.proofs.queries.ReadLemmas.{read_answer}
 use Rattle.club_tables.proofs.reads.open_count.Goals as goal
 
@@ -20,9 +20,8 @@ returns-in-Err-clause-gives g c =
 
 pub returns-in-Err-clause-reads : goal.returns-in-Err-clause-reads
 returns-in-Err-clause-reads g c =
-    read_answer g.S.Store (OfOpen c.args.member.now c.args.moment) IsCount c.args.conn.now c.ask.new.conn _ _ c.ask.ensures.kept c.ask.ensures.survives
-    (returns-in-Err-clause-gives g c) (λ rows can. can) (λ clean club others represents rows asked count is.
-    is ∙ open_returned g.S.Store c.args.conn.now c.args.member.now c.args.moment rows clean asked club others represents)
+    read_answer (OfOpen c.args.member.now c.args.moment) (returns-in-Err-clause-gives g c) c.ask.ensures.kept c.ask.ensures.survives (λ rows can. can)
+    (open_shown g.S.Store c.args.conn.now c.args.member.now c.args.moment) (λ club rows count shown is. is ∙ shown)
 
 pub returns-clause-gives : goal.returns-clause-gives
 returns-clause-gives g c =
@@ -40,6 +39,5 @@ returns-clause-gives g c =
 
 pub returns-clause-reads : goal.returns-clause-reads
 returns-clause-reads g c =
-    read_answer g.S.Store (OfOpen c.args.member.now c.args.moment) IsCount c.args.conn.now c.ask.new.conn _ _ c.ask.ensures.kept c.ask.ensures.survives
-    (returns-clause-gives g c) (λ rows can. can) (λ clean club others represents rows asked count is.
-    is ∙ open_returned g.S.Store c.args.conn.now c.args.member.now c.args.moment rows clean asked club others represents)
+    read_answer (OfOpen c.args.member.now c.args.moment) (returns-clause-gives g c) c.ask.ensures.kept c.ask.ensures.survives (λ rows can. can)
+    (open_shown g.S.Store c.args.conn.now c.args.member.now c.args.moment) (λ club rows count shown is. is ∙ shown)

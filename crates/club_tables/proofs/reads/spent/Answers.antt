@@ -9,7 +9,7 @@ use Rattle.club_core.specs.declared.store.StoreFault.TheVariants.{Storage}
 use Rattle.club_tables.specs.Answers.{OfCosts, AreCosts, FailsToRead}
 use Rattle.club_tables.specs.Columns.{cost_in, IsCostRow}
 use Rattle.club_tables.specs.Transaction.{BoundStatement, Asked}
-use Rattle.club_tables.proofs.queries.BookingLemmas.{costs_returned}
+use Rattle.club_tables.proofs.queries.BookingLemmas.{costs_shown}
 use Rattle.club_tables.proofs.queries.ReadLemmas.{read_answer}
 use Rattle.club_tables.proofs.lists.SumLemmas.{costs_are}
 use Rattle.club_tables.proofs.reads.spent.Goals as goal
@@ -36,9 +36,8 @@ returns-in-Err-clause-gives g c =
 
 pub returns-in-Err-clause-reads : goal.returns-in-Err-clause-reads
 returns-in-Err-clause-reads g c =
-    read_answer g.S.Store (OfCosts c.args.key.now) AreCosts c.args.conn.now c.ask.new.conn _ _ c.ask.ensures.kept c.ask.ensures.survives
-    (returns-in-Err-clause-gives g c) (λ rows can. can) (λ clean club others represents rows asked cost are.
-    are.1 ∙ costs_are _ rows (costs_returned g.S.Store c.args.conn.now c.args.key.now rows clean asked club others represents))
+    read_answer (OfCosts c.args.key.now) (returns-in-Err-clause-gives g c) c.ask.ensures.kept c.ask.ensures.survives (λ rows can. can)
+    (costs_shown g.S.Store c.args.conn.now c.args.key.now) (λ club rows cost shown are. are.1 ∙ costs_are _ rows shown)
 
 pub returns-clause-gives : goal.returns-clause-gives
 returns-clause-gives g c =
@@ -54,6 +53,5 @@ returns-clause-gives g c =
 
 pub returns-clause-reads : goal.returns-clause-reads
 returns-clause-reads g c =
-    read_answer g.S.Store (OfCosts c.args.key.now) AreCosts c.args.conn.now c.ask.new.conn c.costs.result _ c.ask.ensures.kept c.ask.ensures.survives
-    (returns-clause-gives g c) (λ rows can. can) (λ clean club others represents rows asked cost are.
-    are.1 ∙ costs_are _ rows (costs_returned g.S.Store c.args.conn.now c.args.key.now rows clean asked club others represents))
+    read_answer (OfCosts c.args.key.now) (returns-clause-gives g c) c.ask.ensures.kept c.ask.ensures.survives (λ rows can. can)
+    (costs_shown g.S.Store c.args.conn.now c.args.key.now) (λ club rows cost shown are. are.1 ∙ costs_are _ rows shown)
