@@ -5,6 +5,7 @@ pub mod FindLemmas
 pub mod FirstLemmas
 pub mod BookingRows
 pub mod PutRows
+pub mod KeyedRows
 pub mod SlotRows
 pub mod OwnerLemmas
 pub mod SumLemmas

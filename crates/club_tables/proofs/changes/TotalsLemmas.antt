@@ -1,7 +1,7 @@
 -- Turns of one statement, and the stored totals of a club: what is added to them, and taken away.
-use Rattle.std.proofs.Common.{◌≡◌, ◌≢◌, ℕ, zero, suc, ◌+◌, ◌-◌, ◌<◌, ◌≤◌, ◌^◌, ℤ, pos, neg_ℤ, ◌+ℤ◌, Bool, true, false, ◌||◌, cond, Ok}
+use Rattle.std.proofs.Common.{◌≡◌, ◌≢◌, ℕ, zero, suc, ◌+◌, ◌-◌, ◌<◌, ◌≤◌, ◌^◌, ℤ, pos, neg_ℤ, ◌+ℤ◌, true, false, cond, Ok}
 use Rattle.std.proofs.Common.{List, [], ◌∷◌, map, Contains, refl, sym, ap, subst, ◌∙◌, arith}
-use Rattle.std.specs.Prelude.{AllPairs}
+use Rattle.std.specs.Prelude.{AllPairs, option_map, unwrap_or}
 use Rattle.std.specs.List.{AllByRecursion, list_any}
 use Rattle.std.specs.Str.{bytes_eq}
 use Rattle.std.proofs.lemmas.Bool.{lt-ltb}
@@ -34,6 +34,7 @@ use Rattle.club_tables.proofs.changes.ChangeLemmas.{AreNamedOnce, Credits, Uses,
 use Rattle.club_tables.proofs.queries.MemberLemmas.{total}
 use Rattle.club_tables.proofs.statements.OrderLemmas.{pairs_from_apart}
 use Rattle.club_tables.proofs.statements.SelectLemmas.{Apart, apart_from_pairs}
+use Rattle.club_tables.proofs.lists.KeyedRows.{absent}
 use Rattle.club_tables.proofs.lists.SlotRows.{AreApart, same_itself, not_same}
 use Rattle.club_tables.proofs.lists.OwnerLemmas.{all_of}
 use Rattle.club_tables.proofs.changes.UpsertLemmas.{Takes}
@@ -147,13 +148,8 @@ takes_of club rows returned slot persons next sum (x ∷ xs) h = (first, takes_o
 
 -- no row, and so nothing taken
 pub no_row : (slot : Slot) (rows : List SlotRow) → list_any (λ (row : SlotRow). same_slot row.slot slot) rows ≡ false → stored_slot_use slot rows ≡ no_slot_use
-no_row slot [] none = refl
-no_row slot (x ∷ rows) none = go (no_row slot rows) (same_slot x.slot slot) refl none
-  where
-    go : (list_any (λ (row : SlotRow). same_slot row.slot slot) rows ≡ false → stored_slot_use slot rows ≡ no_slot_use) → (b : Bool) → same_slot x.slot slot ≡ b
-        → (b || list_any (λ (row : SlotRow). same_slot row.slot slot) rows) ≡ false → stored_slot_use slot (x ∷ rows) ≡ no_slot_use
-    go later true is h = absurd cc
-    go later false is h = rw is (later h)
+no_row slot rows none = ap (λ found. unwrap_or (option_map (λ (row : SlotRow). row.held) found) no_slot_use)
+    (absent (λ (row : SlotRow). same_slot row.slot slot) rows none)
 
 -- no slot of a facility has more persons than a facility has places
 pub few_taken : (club : Club) → IsSound club → (slot : Slot) → Contains (map (λ (f : Facility). f.name) club.facilities) slot.facility

@@ -1,5 +1,5 @@
 -- What the statements that put the row of a slot make of the tables.
-use Rattle.std.proofs.Common.{◌≡◌, ◌≢◌, ◌≤◌, ℕ, ◌/◌, pos, ℤ, Bool, true, false, if◌then◌else◌, Some, Option, Ok, List, [], ◌∷◌, ◌++◌, length, refl, sym, ap}
+use Rattle.std.proofs.Common.{◌≡◌, ◌≢◌, ◌≤◌, ℕ, ◌/◌, pos, ℤ, true, false, if◌then◌else◌, Some, Option, Ok, List, [], ◌∷◌, ◌++◌, length, refl, sym, ap}
 use Rattle.std.proofs.Common.{◌∙◌}
 use Rattle.std.specs.Prelude.{AllPairs}
 use Rattle.std.specs.List.{AllByRecursion, list_any}
@@ -36,31 +36,18 @@ use Rattle.club_tables.specs.Stored.{Rows, SlotRow, no_slot_use}
 use Rattle.club_tables.specs.Tables.{HoldsRows, slots_tree}
 use Rattle.club_tables.proofs.statements.InsertLemmas.{cast_null, cast_int}
 use Rattle.club_tables.proofs.statements.HoldsRowsLemmas.{on_slots}
-use Rattle.club_tables.proofs.statements.SelectLemmas.{Apart, apart_from_pairs}
+use Rattle.club_tables.proofs.statements.SelectLemmas.{apart_from_pairs}
 use Rattle.club_tables.proofs.queries.BookingLemmas.{same_slots}
 use Rattle.club_tables.proofs.statements.PutLemmas as put
 use Rattle.club_tables.proofs.statements.PutLemmas.{first_clause, row_put}
-use Rattle.club_tables.proofs.lists.PutRows.{IsLone}
-use Rattle.club_tables.proofs.lists.SlotRows.{AreApart, slots_conflict, slot_table, changed, put_slot}
+use Rattle.club_tables.proofs.lists.KeyedRows.{lone}
+use Rattle.club_tables.proofs.lists.SlotRows.{slots_conflict, slot_table, same_itself, changed, unchanged, put_slot, new_row as new_row_of}
 
 abbrev target : Option (List ℕ)
 target = Some (1 ∷ 2 ∷ 3 ∷ [])
 
 abbrev sets_by : ℕ → List Term → Option Program
 sets_by = put.sets_by slots_table.name slots_table.columns slots_table.uniques slots_table.checks slots_table.references slots_tree target
-
-module _ (slot : Slot) where
-  abbrev is_of : SlotRow → Bool
-  is_of row = same_slot row.slot slot
-
-  each_lone : (row : SlotRow) (rows : List SlotRow) → AllByRecursion (λ (x : SlotRow). row.slot ≢ x.slot) rows
-      → AllByRecursion (IsLone slot_values is_of row) rows
-  each_lone row [] apart = tt
-  each_lone row (x ∷ rows) apart = (λ both. apart.0 (same_slots row.slot slot both.0 ∙ sym (same_slots x.slot slot both.1)), each_lone row rows apart.1)
-
-  lone : (rows : List SlotRow) → AreApart rows → Apart (IsLone slot_values is_of) rows
-  lone [] apart = tt
-  lone (row ∷ rows) apart = (each_lone row rows apart.0, lone rows apart.1)
 
 -- ---- a statement of this form
 
@@ -99,16 +86,14 @@ module _ (text : List ℕ) (terms sets : List Term) (at : ℕ) (clause : Upsert)
       → HoldsRows new.now (record rows { slots = put_slot slot change rows.slots }) × (1 ≤ count)
   slot_put values ids yields count executed =
       let t = slots_table in
-      let kept : (x : SlotRow) → same_slot x.slot slot ≡ false → changed slot change x ≡ x =
-      λ x fails. ap (λ b. let y : SlotRow = record x { held = if b then change x.held else x.held } in y) fails in
       let left = row_put t.name t.columns t.uniques t.checks t.references slots_tree target 4 refl text terms sets 6 at clause is plain aims by old new
       holds_rows.schema params (name_values slot ++ closed ∷ taken ∷ []) gives
       (rw (cast_null, cast_int (pos slot.day), cast_int (pos slot.hour), casts_closed, casts_taken) refl) (λ id.
       rw (cast_int id, cast_int (pos slot.day), cast_int (pos slot.hour), casts_closed, casts_taken) refl)
-      slot_values (is_of slot) (changed slot change) kept (record { slot = slot; held = change no_slot_use }) (λ id x.
+      slot_values (λ (row : SlotRow). same_slot row.slot slot) (changed slot change) (unchanged slot change) (new_row_of slot change) (λ id x.
       slots_conflict id (next_rowid (old.now.trees slots_tree)) x slot closed taken)
       (λ id x. rw (cast_int id, cast_int (pos x.slot.day), cast_int (pos x.slot.hour), cast_int (pos (truth x.held.closed)), cast_int (pos x.held.taken)) refl)
-      rows.slots holds_rows.slots (lone slot rows.slots (apart_from_pairs (λ (a : SlotRow) (b : SlotRow). a.slot ≢ b.slot) rows.slots once))
+      rows.slots holds_rows.slots (lone (λ (row : SlotRow). row.slot) same_slot same_slots same_itself slot rows.slots (apart_from_pairs (λ (a : SlotRow) (b : SlotRow). a.slot ≢ b.slot) rows.slots once))
       (λ none. ap (λ vs. name_values slot ++ vs) (values none)) ids (each_yields rows.slots yields) count executed in
       (on_slots old.now new.now rows holds_rows left.0 left.3 left.2 (put_slot slot change rows.slots) left.1, left.4)
 
