@@ -3,6 +3,7 @@ pub mod Databases
 pub mod RequestLine
 pub mod Log
 pub mod Served
+pub mod Between
 pub mod Arrival
 pub mod Server
 pub mod Laws

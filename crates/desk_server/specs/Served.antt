@@ -175,14 +175,11 @@ module _ {Log : Type 0} (Begins : Log → Log → Type 0) (Noted : Notes Log) wh
 -- ---- the clock, the desk and the log
 
 module _ {Clock Desk Log : Type 0} (Gives : GivesMoment Clock) (Carries : Orders Desk) (Begins : Log → Log → Type 0) (Noted : Notes Log) where
-  -- orders meanwhile, carried out and noted, in their order
-  pub record IsMeanwhile (fates : List Fate) (clock : Clock) (desk : Desk) (log : Log) (clock' : Clock) (desk' : Desk) (log' : Log) : Type 0 where
+  -- some orders meanwhile, carried out and noted, in their order
+  pub record Meanwhile (clock : Clock) (desk : Desk) (log : Log) (clock' : Clock) (desk' : Desk) (log' : Log) : Type 0 where
+    pub fates : List Fate
     pub ordered : AreOrdered Gives Carries clock desk fates clock' desk'
     pub noted : AreNotedMeanwhile Begins Noted log fates log'
-
-  -- some of them
-  abbrev pub Meanwhile : Clock → Desk → Log → Clock → Desk → Log → Type 0
-  Meanwhile clock desk log clock' desk' log' = (fates : List Fate) × IsMeanwhile fates clock desk log clock' desk' log'
 
   -- An exchange: while the request was awaited, orders were carried out and noted; then the outcome is as at the desk that they left.
   pub record ExchangesBetween (Answers : AnswerRelation Desk) (bytes : List ℕ) (clock : Clock) (desk : Desk) (log : Log) (outcome : Result Reply AnswerFault)

@@ -1,8 +1,9 @@
 //! Orders of the office, and those that come between the pieces of a client's request.
 
-ghost use Rattle.std.specs.Prelude.{◌≡◌, IfNone, IfSome};
+ghost use Rattle.std.specs.Prelude.{IfNone, IfSome};
 ghost use Rattle.http_request.specs.Front.{Covers};
 ghost use Rattle.club_http.specs.Received.{IsCutOff, Receives};
+ghost use Rattle.desk_server.specs.Between.{OrdersAlone};
 ghost use Rattle.desk_server.specs.Served.{Meanwhile};
 ghost use Rattle.desk_server.specs.Server.{IsOrdered};
 
@@ -61,20 +62,13 @@ struct Between<'r, 'w, 'm, 'd, 'g, R, W, M, D, G> {
 
 impl<R: Inlet, W: Waits, M: Moments, D: Office, G: Log> Inlet
     for Between<'_, '_, '_, '_, '_, R, W, M, D, G> {
-    ghost use Rattle.std.specs.Prelude.{◌≡◌};
-    ghost use Rattle.desk_server.specs.Served.{Meanwhile};
+    ghost use Rattle.desk_server.specs.Between.{OrdersAlone};
 
     ghost to_come = { λ between. R.to_come between.reader.now };
 
     ghost failures = { λ between. R.failures between.reader.now };
 
-    ghost fills = { λ old result room new.
-        (new.reader.ghost_name ≡ old.reader.ghost_name)
-        × (new.moments.ghost_name ≡ old.moments.ghost_name)
-        × (new.desk.ghost_name ≡ old.desk.ghost_name)
-        × (new.log.ghost_name ≡ old.log.ghost_name)
-        × Meanwhile M.gives D.orders G.begins G.notes
-        old.moments.now old.desk.now old.log.now new.moments.now new.desk.now new.log.now
+    ghost fills = { λ old result room new. OrdersAlone M.gives D.orders G.begins G.notes old new
         × R.fills old.reader.now result room new.reader.now };
 
     fn fill(&mut self, room: &mut [u8]) -> Option<usize> {
@@ -128,13 +122,7 @@ fn receive_in<R: Inlet, W: Waits, M: Moments, D: Office, G: Log>(
         (R.to_come between.new.reader.now) face.new) }
     ensures cut_off { IfNone result (IsCutOff (R.to_come between.old.reader.now)
         (R.to_come between.new.reader.now) face.new) }
-    ensures same_reader { between.new.reader.ghost_name ≡ between.old.reader.ghost_name }
-    ensures same_moments { between.new.moments.ghost_name ≡ between.old.moments.ghost_name }
-    ensures same_desk { between.new.desk.ghost_name ≡ between.old.desk.ghost_name }
-    ensures same_log { between.new.log.ghost_name ≡ between.old.log.ghost_name }
-    ensures meanwhile { Meanwhile M.gives D.orders G.begins G.notes
-        between.old.moments.now between.old.desk.now between.old.log.now
-        between.new.moments.now between.new.desk.now between.new.log.now }
+    ensures alone { OrdersAlone M.gives D.orders G.begins G.notes between.old between.new }
 {
     face.receive(between)
 }

@@ -1,16 +1,6 @@
 //! The server.
 
-ghost use Rattle.std.specs.Prelude.{◌≡◌, None, OnErr, OnOk};
-ghost use Rattle.desk_server.specs.Served.{IsNoted, alone};
-ghost use Rattle.desk_server.specs.Server.{
-  IsServed,
-  ServesLogged,
-  ServesOn,
-  ServesSome,
-  StopsNext,
-  calls,
-};
-ghost use Rattle.desk_server.specs.declared.log.Fate.TheVariants.{Unanswered};
+ghost use Rattle.desk_server.specs.Server.{ServesLogged, ServesOn, calls};
 
 use crate::between::carry_out;
 use crate::connections::{Arrival, Arrivals, Connection};
@@ -80,72 +70,41 @@ pub fn serve_logged<L: Arrivals, M: Moments, D: Office, G: Log>(
         (calls L.waited L.failures arrivals.old arrivals.new)
         moments.old desk.old log.old result moments.new desk.new log.new }
 {
-    for served in 0..count {
-        match serve_next(arrivals, moments, face, desk, log) {
-            Ok(()) => {}
-            Err(stopped) => return Err(stopped),
+    let mut served = 0;
+    let mut ordered = 0;
+    while served < count {
+        if ordered == u64::MAX {
+            log.note(&Fate::Overrun);
+            served += 1;
+            continue;
         }
-    }
-    Ok(())
-}
-
-// Carries out the orders that come before the next client, and serves that.
-fn serve_next<L: Arrivals, M: Moments, D: Office, G: Log>(
-    arrivals: &mut L,
-    moments: &mut M,
-    face: &mut Face,
-    desk: &mut D,
-    log: &mut G,
-) -> Result<(), ClockOutOfRange>
-    ensures served { OnOk result (ServesSome M.gives G.begins G.notes D.answers D.orders
-        L.Client.ends 1 (calls L.waited L.failures arrivals.old arrivals.new)
-        moments.old desk.old log.old moments.new desk.new log.new) }
-    ensures stopped { OnErr result (StopsNext M.gives G.begins G.notes D.answers D.orders
-        L.Client.ends (calls L.waited L.failures arrivals.old arrivals.new)
-        moments.old desk.old log.old moments.new desk.new log.new) }
-{
-    for ordered in 0..u64::MAX {
         match arrivals.next() {
-            Arrival::Order(order) => carry_out(order, moments, desk, log),
-            Arrival::Client(client) => {
-                return serve_client(client, moments, face, desk, log);
+            Arrival::Order(order) => {
+                carry_out(order, moments, desk, log);
+                ordered += 1;
+            }
+            Arrival::Client(mut client) => {
+                log.begin();
+                let Some(moment) = moments.now() else {
+                    log.note(&Fate::Unanswered);
+                    return Err(ClockOutOfRange);
+                };
+                // Whatever the outcome, the server goes on.
+                let outcome = client.exchange(face, moments, desk, log, moment);
+                drop(client);
+                let line = RequestLine::of(face.request());
+                log.note(&Fate::Exchanged {
+                    moment,
+                    line,
+                    outcome,
+                });
+                served += 1;
             }
             Arrival::Nobody => {
                 log.note(&Fate::Absent);
-                return Ok(());
+                served += 1;
             }
         }
     }
-    log.note(&Fate::Overrun);
-    Ok(())
-}
-
-// Serves a client, and logs it.
-fn serve_client<C: Connection + Drop, M: Moments, D: Office, G: Log>(
-    mut client: C,
-    moments: &mut M,
-    face: &mut Face,
-    desk: &mut D,
-    log: &mut G,
-) -> Result<(), ClockOutOfRange>
-    ensures served { OnOk result (IsServed M.gives G.begins G.notes D.answers D.orders C.ends
-        moments.old desk.old log.old moments.new desk.new log.new) }
-    ensures stopped { OnErr result (IsNoted G.begins G.notes log.old (alone Unanswered) log.new
-        × M.gives moments.old None moments.new × (desk.new ≡ desk.old)) }
-{
-    log.begin();
-    let Some(moment) = moments.now() else {
-        log.note(&Fate::Unanswered);
-        return Err(ClockOutOfRange);
-    };
-    // Whatever the outcome, the server goes on.
-    let outcome = client.exchange(face, moments, desk, log, moment);
-    drop(client);
-    let line = RequestLine::of(face.request());
-    log.note(&Fate::Exchanged {
-        moment,
-        line,
-        outcome,
-    });
     Ok(())
 }

@@ -1,36 +1,87 @@
-use Rattle.std.proofs.Common.{◌≡◌, ◌∷◌, [], ◌++◌, arith, append_assoc, length-append}
+use Rattle.std.proofs.Common.{◌≡◌, ◌≤◌, ◌^◌, ◌∷◌, suc, [], length, length-append, arith, refl}
+use Rattle.desk_server.specs.Served as spec
 use Rattle.desk_server.specs.Served.{alone}
-use Rattle.desk_server.specs.declared.log.Fate.TheVariants.{Unanswered}
-use Rattle.desk_server.proofs.ServedLemmas.{clients_append, counts_on, noted_append, served_append, serves_more, serves_none}
+use Rattle.desk_server.specs.declared.log.Fate.TheVariants.{Absent, Overrun, Unanswered, Exchanged, Ordered}
+use Rattle.desk_server.proofs.ServedLemmas.{noted_alone, one_call, one_more}
 use Rattle.desk_server.proofs.serve.serve_logged.Goals as goal
 
 pub loop-served-init : goal.loop-served-init
-loop-served-init g c = serves_none _ _ _ _ g.L.Arrivals.waited g.L.Arrivals.failures _ _ c.args.arrivals.now _ _ _
+loop-served-init g c = record {
+  fewer = omega arith;
+  so_far = record { turns = []; so_many = refl; no_fewer = omega arith; served = spec.none; noted = spec.nothing; called = λ fits. omega arith };
+}
+
+pub loop-served-preserved-then-ordered : goal.loop-served-preserved-then-ordered
+loop-served-preserved-then-ordered g c =
+    let so_far = c.loop-served.invariant.so_far in
+    let due : 2 ^ 64 ≤ suc (length so_far.turns) = omega (arith, so_far.no_fewer) in
+    record {
+      fewer = omega arith;
+      so_far = one_more so_far (alone Overrun) _ _ _ _ _ _ refl (omega arith) due (refl, refl, refl, refl) (noted_alone _ Overrun refl c.note.ensures)
+          (λ fits. absurd (omega (arith, due, fits)));
+    }
+
+pub loop-served-preserved-in-Order : goal.loop-served-preserved-in-Order
+loop-served-preserved-in-Order g c =
+    let so_far = c.loop-served.invariant.so_far in
+    let next = c.in-Order.ensures in
+    let order = c.carry_out.ensures in
+    record {
+      fewer = omega arith;
+      so_far = one_more so_far (alone (Ordered order.0 order.1)) _ _ _ _ _ _ (omega arith) (omega arith) tt
+          (refl, next.failure_count, order.5, order.6) (noted_alone order.2 _ order.3 order.4) (one_call so_far _ next.waited);
+    }
+
+pub loop-served-preserved-in-Client : goal.loop-served-preserved-in-Client
+loop-served-preserved-in-Client g c =
+    let so_far = c.loop-served.invariant.so_far in
+    let next = c.in-Client.ensures in
+    let exchange = c.exchange-outcome.ensures.exchanged in
+    let fate = Exchanged c.in-Some.moment c.of-line.result c.exchange-outcome.result in
+    record {
+      fewer = omega arith;
+      so_far = one_more so_far (record { meanwhile = exchange.meanwhile.fates; fate = fate }) _ _ _ _ _ _ refl (omega arith) tt (
+        next.failure_count,
+        record {
+          given = c.now.new.self;
+          left = exchange.left;
+          gives = c.in-Some.ensures;
+          ordered = exchange.meanwhile.ordered;
+          exchanged = (c.request.result.now, c.of-line.ensures, rw (← c.request.ensures) at exchange.exchanged);
+          ended = (c.in-Client.client, c.exchange-outcome.ensures.ended);
+        },
+      )
+          (record {
+            begun = c.begin.new.self;
+            awaited = c.exchange-outcome.new.log;
+            begins = c.begin.ensures;
+            meanwhile = exchange.meanwhile.noted;
+            notes = c.note-in-Client.ensures;
+          })
+          (one_call so_far _ next.waited);
+    }
 
 pub loop-served-preserved : goal.loop-served-preserved
 loop-served-preserved g c =
-    serves_more _ _ _ _ g.L.Arrivals.waited g.L.Arrivals.failures _ _ c.loop-served.served 1 c.args.arrivals.now c.loop-served.arrivals
-    c.serve_next.new.arrivals _ _ _ _ _ _ _ _ _ c.loop-served.invariant c.in-Ok.ensures.served
-
-pub returns-in-Err : goal.returns-in-Err
-returns-in-Err g c =
-    let inv = c.loop-served.invariant in
-    let stop = c.in-Err.ensures.stopped in
+    let so_far = c.loop-served.invariant.so_far in
     record {
-      turns = inv.turns ++ stop.turns;
-      last = stop.last;
-      fewer = omega (arith, clients_append inv.turns stop.turns, inv.so_many, stop.no_clients);
-      before = served_append _ _ _ _ _ _ _ _ _ _ _ _ _ inv.turns stop.turns inv.served stop.served;
-      no_moment = stop.no_moment;
-      besides = rw (append_assoc inv.turns stop.turns (alone Unanswered ∷ [])) (
-        rw (length-append inv.turns (stop.turns ++ alone Unanswered ∷ []), length-append stop.turns (alone Unanswered ∷ []))
-            (counts_on _ _ _ _ _ inv.called stop.called),
-        noted_append _ _ _ _ _ inv.turns (stop.turns ++ alone Unanswered ∷ []) inv.noted stop.noted,
-      );
+      fewer = omega arith;
+      so_far = one_more so_far (alone Absent) _ _ _ _ _ _ refl (omega arith) tt (refl, c.in-Nobody.ensures.failure_count, refl, refl)
+          (noted_alone _ Absent refl c.note-in-Nobody.ensures) (one_call so_far _ c.in-Nobody.ensures.waited);
     }
 
-pub returns : goal.returns
-returns g c =
-    let inv = c.loop-served.invariant in
-    let all : c.args.count ≡ c.loop-served.served = omega arith in
-    (inv.turns, rw all inv.so_many, inv.served, (inv.called, inv.noted))
+pub returns-in_default : goal.returns-in_default
+returns-in_default g c =
+    let so_far = c.loop-served.invariant.so_far in
+    let next = c.in-Client.ensures in
+    record {
+      turns = so_far.turns;
+      last = c.loop-served.moments;
+      fewer = omega (arith, so_far.so_many);
+      before = rw next.failure_count so_far.served;
+      no_moment = c.in_default.ensures;
+      besides = (
+        rw (length-append so_far.turns (alone Unanswered ∷ [])) (one_call so_far _ next.waited),
+        spec.one_noted so_far.turns (alone Unanswered) _ _ so_far.noted (noted_alone _ Unanswered c.begin.ensures c.note-in_default.ensures),
+      );
+    }

@@ -1,8 +1,15 @@
--- The clients so far, and the orders before them.
-use Rattle.desk_server.specs.Server.{ServesSome, calls}
+-- The turns so far.
+use Rattle.std.proofs.Common.{◌+◌, ◌-◌, ◌≤◌}
+use Rattle.desk_server.proofs.ServedLemmas.{SoFar}
 use Rattle.desk_server.proofs.serve.serve_logged.Given as goal
 
 abbrev pub invariant-loop-served : goal.invariant-loop-served
-invariant-loop-served g l = ServesSome g.M.Moments.gives g.G.Log.begins g.G.Log.notes g.D.Responder.answers g.D.Office.orders
-    g.L.Client.Connection.ends l.served (calls g.L.Arrivals.waited g.L.Arrivals.failures l.initial.arrivals l.arrivals)
-    l.initial.moments l.initial.desk l.initial.log l.moments l.desk l.log
+invariant-loop-served g l = record {
+  fewer : l.served ≤ l.count;
+  so_far : SoFar g.M.Moments.gives g.D.Responder.answers g.D.Office.orders g.L.Client.Connection.ends g.L.Arrivals.waited g.L.Arrivals.failures
+      g.G.Log.begins g.G.Log.notes l.served l.ordered l.initial.arrivals l.arrivals
+      l.initial.moments l.initial.desk l.initial.log l.moments l.desk l.log;
+}
+
+abbrev pub decreases-loop-served : goal.decreases-loop-served
+decreases-loop-served g l = (l.count - l.served) + (18446744073709551615 - l.ordered)
