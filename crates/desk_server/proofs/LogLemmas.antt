@@ -1,28 +1,20 @@
 -- The lines of a log, from what it notes.
-use Rattle.std.proofs.Common.{◌≡◌, ℕ, List, [], ◌∷◌, ◌++◌, append_assoc, append-nil, ap, sym, refl, ◌∙◌}
+use Rattle.std.proofs.Common.{◌≡◌, ℕ, List, [], ◌∷◌, ◌++◌, append_assoc, append-nil, ap, sym, ◌∙◌}
 use Rattle.std.specs.Prelude.{Option}
 use Rattle.desk_server.specs.Laws.{WritesLines}
 use Rattle.desk_server.specs.Log.{AreWritten, IsTextWritten, line_text}
 use Rattle.desk_server.specs.Log as log
-use Rattle.desk_server.specs.Served.{AreNoted, AreNotedMeanwhile, IsBegun, IsNoted, Notes, Turn, fates_in}
+use Rattle.desk_server.specs.Served.{AreNotedMeanwhile, IsBegun, Notes, Turn, fates_in}
 use Rattle.desk_server.specs.Served as served
 use Rattle.desk_server.specs.declared.log.Fate.{Fate}
 use Rattle.desk_server.specs.declared.log.Fate.TheVariants.{Absent, Overrun, Unanswered, Exchanged, Ordered}
 
--- lines behind others
-written_append : (t t1 : Option (List ℕ)) (f f1 : ℕ) (t' : Option (List ℕ)) (f' : ℕ) (first second : List Fate)
-    → AreWritten t f first t1 f1 → AreWritten t1 f1 second t' f' → AreWritten t f (first ++ second) t' f'
-written_append t t1 f f1 _ _ first _ before log.no_line = rw (append-nil first) before
-written_append t t1 f f1 _ _ first _ before (log.one_line second fate microseconds t2 f2 t' f' so_far one) =
-    rw (← append_assoc first second (fate ∷ []))
-    (log.one_line (first ++ second) fate microseconds t2 f2 t' f' (written_append t t1 f f1 t2 f2 first second before so_far) one)
-
--- the fates of two lists
-fates_append : (first second : List Turn) → fates_in (first ++ second) ≡ fates_in first ++ fates_in second
-fates_append [] second = refl
-fates_append (turn ∷ first) second =
-    ap (λ (fates : List Fate). (turn.meanwhile ++ turn.fate ∷ []) ++ fates) (fates_append first second)
-    ∙ sym (append_assoc (turn.meanwhile ++ turn.fate ∷ []) (fates_in first) (fates_in second))
+-- the fates of one turn more
+fates_more : (turns : List Turn) (turn : Turn) → fates_in (turns ++ turn ∷ []) ≡ fates_in turns ++ (turn.meanwhile ++ turn.fate ∷ [])
+fates_more [] turn = append-nil (turn.meanwhile ++ turn.fate ∷ [])
+fates_more (first ∷ turns) turn =
+    ap (λ (fates : List Fate). (first.meanwhile ++ first.fate ∷ []) ++ fates) (fates_more turns turn)
+    ∙ sym (append_assoc (first.meanwhile ++ first.fate ∷ []) (fates_in turns) (turn.meanwhile ++ turn.fate ∷ []))
 
 -- a log that writes a line for each note
 module _ {Log : Type 0} (Begins : Log → Log → Type 0) (Noted : Notes Log) (taken : Log → Option (List ℕ)) (failures : Log → ℕ)
@@ -42,29 +34,27 @@ module _ {Log : Type 0} (Begins : Log → Log → Type 0) (Noted : Notes Log) (t
   begun_keeps : (old l begun : Log) (fates : List Fate) → Begins l begun → Written old fates l → Written old fates begun
   begun_keeps old l begun fates begins before = let same = keeps l begun begins in rw (same.0, same.1) before
 
-  meanwhile_lines : (old : Log) (fates : List Fate) (new : Log) → AreNotedMeanwhile Begins Noted old fates new → Written old fates new
-  meanwhile_lines old _ _ served.no_note = log.no_line
-  meanwhile_lines old _ _ (served.one_note fates fate l begun l' before begins noted) =
-      line_behind old begun fates fate l' (begun_keeps old l begun fates begins (meanwhile_lines old fates l before)) noted
+  if_begun : (old l begun : Log) (fates : List Fate) (fate : Fate) → IsBegun Begins Noted l fate begun → Written old fates l → Written old fates begun
+  if_begun old l begun fates Absent same before = rw same before
+  if_begun old l begun fates Overrun same before = rw same before
+  if_begun old l begun fates Unanswered begins before = begun_keeps old l begun fates begins before
+  if_begun old l begun fates (Ordered moment carried) begins before = begun_keeps old l begun fates begins before
+  if_begun old l begun fates (Exchanged moment line outcome) begins before = begun_keeps old l begun fates begins before
 
-  begun_line : (old : Log) (fate : Fate) (begun : Log) → IsBegun Begins Noted old fate begun → Written old [] begun
-  begun_line old Absent begun same = rw same log.no_line
-  begun_line old Overrun begun same = rw same log.no_line
-  begun_line old (Ordered moment carried) begun begins = begun_keeps old old begun [] begins log.no_line
-  begun_line old Unanswered begun begins = begun_keeps old old begun [] begins log.no_line
-  begun_line old (Exchanged moment line outcome) begun begins = begun_keeps old old begun [] begins log.no_line
-
-  -- the lines of a turn
-  lines_of : (old : Log) (turn : Turn) (new : Log) → IsNoted Begins Noted old turn new → Written old (turn.meanwhile ++ turn.fate ∷ []) new
-  lines_of old turn new noted =
-      line_behind old noted.awaited turn.meanwhile turn.fate new
-      (written_append (taken old) (taken noted.begun) (failures old) (failures noted.begun) (taken noted.awaited) (failures noted.awaited) [] turn.meanwhile
-      (begun_line old turn.fate noted.begun noted.begins) (meanwhile_lines noted.begun turn.meanwhile noted.awaited noted.meanwhile)) noted.notes
+  -- the notes of orders meanwhile more
+  lines_behind : (old l new : Log) (fates more : List Fate) → Written old fates l → AreNotedMeanwhile Begins Noted l more new
+      → Written old (fates ++ more) new
+  lines_behind old l _ fates _ before served.no_note = rw (append-nil fates) before
+  lines_behind old l new fates _ before (served.one_note more fate l1 begun _ so_far begins noted) =
+      rw (← append_assoc fates more (fate ∷ []))
+      (line_behind old begun (fates ++ more) fate new
+      (begun_keeps old l1 begun (fates ++ more) begins (lines_behind old l l1 fates more before so_far)) noted)
 
   pub writes_lines : WritesLines Begins Noted taken failures
   writes_lines old _ _ served.nothing = log.no_line
   writes_lines old _ _ (served.one_noted turns turn l l' before noted) =
-      let last : fates_in (turn ∷ []) ≡ turn.meanwhile ++ turn.fate ∷ [] = append-nil (turn.meanwhile ++ turn.fate ∷ []) in
-      rw (fates_append turns (turn ∷ []), last)
-      (written_append (taken old) (taken l) (failures old) (failures l) (taken l') (failures l') (fates_in turns) (turn.meanwhile ++ turn.fate ∷ [])
-      (writes_lines old l turns before) (lines_of l turn l' noted))
+      let fates = fates_in turns in
+      rw (fates_more turns turn, ← append_assoc fates turn.meanwhile (turn.fate ∷ []))
+      (line_behind old noted.awaited (fates ++ turn.meanwhile) turn.fate l'
+      (lines_behind old noted.begun noted.awaited fates turn.meanwhile
+      (if_begun old l noted.begun fates turn.fate noted.begins (writes_lines old l turns before)) noted.meanwhile) noted.notes)

@@ -1,6 +1,6 @@
 //! The log of a server.
 
-ghost use Rattle.std.specs.Prelude.{◌≡◌, ◌≤◌, ◌+◌, ◌++◌, length};
+ghost use Rattle.std.specs.Prelude.{◌≡◌, ◌≤◌, length, IfSome};
 ghost use Rattle.desk_server.specs.Log as spec;
 ghost use Rattle.desk_server.specs.RequestLine.{word_bytes};
 
@@ -14,6 +14,9 @@ use std::time::{Clock, Instant};
 
 /// The status of a reply that serves.
 const OK: u16 = 200;
+
+/// The word of an order, in place of a method.
+const OFFICE: &[u8] = b"office";
 
 /// What became of an arrival.
 #[derive(Drop)]
@@ -132,118 +135,86 @@ impl<'a, W: Outlet, C: Clock> Log for LogLines<'a, W, C> {
     }
 }
 
-// The line of a connection.
+// The line of an arrival.
 #[tactic(auto, unfolding(crate::specs::Log::line_text))]
 fn line_of(fate: &Fate, microseconds: u64) -> Line
     ensures { result ≡ spec.line_text fate.now microseconds }
 {
-    let mut line = front_of(fate);
+    match fate {
+        Fate::Absent | Fate::Overrun | Fate::Unanswered => {
+            words(&None, None, None, None, microseconds)
+        }
+        Fate::Ordered { moment, carried } => match carried {
+            Some(carried) => {
+                let status = Some(u16::from(carried.status));
+                words(
+                    moment,
+                    Some(OFFICE),
+                    carried.line.path(),
+                    status,
+                    microseconds,
+                )
+            }
+            None => words(moment, Some(OFFICE), None, None, microseconds),
+        },
+        Fate::Exchanged {
+            moment,
+            line,
+            outcome,
+        } => {
+            let status = written_status(outcome);
+            words(
+                &Some(*moment),
+                line.method(),
+                line.path(),
+                status,
+                microseconds,
+            )
+        }
+    }
+}
+
+// A line of these words, with a dash for each that is missing.
+#[tactic(auto, unfolding(crate::specs::Log::words_text))]
+fn words(
+    moment: &Option<Moment>,
+    method: Option<&[u8]>,
+    path: Option<&[u8]>,
+    status: Option<u16>,
+    microseconds: u64,
+) -> Line
+    requires method { IfSome method (λ word. length word.now ≤ 7) }
+    requires path { IfSome path (λ word. length word.now ≤ 96) }
+    ensures { result ≡ spec.words_text moment.now (word_bytes method.entry)
+        (word_bytes path.entry) status microseconds }
+{
+    let mut line = Line::new();
+    match moment {
+        Some(moment) => line.push(&moment.text()),
+        None => line.push(b"-"),
+    }
+    line.push(b" ");
+    line.push(method.unwrap_or(b"-"));
+    line.push(b" ");
+    line.push(path.unwrap_or(b"-"));
+    line.push(b" ");
+    match status {
+        Some(status) => line.push_number(u64::from(status)),
+        None => line.push(b"-"),
+    }
     line.push(b" ");
     line.push_number(microseconds);
     line.push(b"\n");
     line
 }
 
-// The moment, the method, the path and the status.
-#[tactic(auto, unfolding(crate::specs::Log::front_text))]
-fn front_of(fate: &Fate) -> Line
-    ensures text { result ≡ spec.front_text fate.now }
-    ensures len { length result ≤ 142 }
-{
-    let mut front = Line::new();
-    match fate {
-        Fate::Absent => front.push(b"- - - -"),
-        Fate::Overrun => front.push(b"- - - -"),
-        Fate::Unanswered => front.push(b"- - - -"),
-        Fate::Ordered { moment, carried } => {
-            push_moment(&mut front, moment);
-            push_order(&mut front, carried);
-        }
-        Fate::Exchanged {
-            moment,
-            line,
-            outcome,
-        } => {
-            front.push(&moment.text());
-            push_request(&mut front, line);
-            push_status(&mut front, outcome);
-        }
-    }
-    front
-}
-
-// A moment, or a dash where there is none.
-fn push_moment(front: &mut Line, moment: &Option<Moment>)
-    requires { length front.old ≤ 0 }
-    ensures text { front.new ≡ front.old ++ spec.moment_or_dash moment.now }
-    ensures len { length front.new ≤ 16 }
-{
-    match moment {
-        Some(moment) => front.push(&moment.text()),
-        None => front.push(b"-"),
-    }
-}
-
-// The name of an order's command, and its status.
-#[tactic(auto, unfolding(crate::specs::Log::order_text))]
-fn push_order(front: &mut Line, carried: &Option<Carried>)
-    requires { length front.old ≤ 16 }
-    ensures text { front.new ≡ front.old ++ spec.order_text carried.now }
-    ensures len { length front.new ≤ 142 }
-{
-    front.push(b" office ");
-    match carried {
-        Some(carried) => {
-            front.push(or_dash(carried.line.path()));
-            front.push(b" ");
-            front.push_number(u64::from(carried.status));
-        }
-        None => front.push(b"- -"),
-    }
-}
-
-// The method and the path of a request.
-#[tactic(auto, unfolding(crate::specs::Log::request_text))]
-fn push_request(front: &mut Line, line: &RequestLine)
-    requires { length front.old ≤ 16 }
-    ensures text { front.new ≡ front.old ++ spec.request_text line.now }
-    ensures len { length front.new ≤ length front.old + 106 }
-{
-    front.push(b" ");
-    front.push(or_dash(line.method()));
-    front.push(b" ");
-    front.push(or_dash(line.path()));
-    front.push(b" ");
-}
-
-// The status of a reply that was written whole.
-fn push_status(front: &mut Line, outcome: &Result<Reply, AnswerFault>)
-    requires { length front.old ≤ 122 }
-    ensures text { front.new ≡ front.old ++ spec.status_text outcome.now }
-    ensures len { length front.new ≤ length front.old + 20 }
+// The HTTP status of a reply that was written whole.
+fn written_status(outcome: &Result<Reply, AnswerFault>) -> Option<u16>
+    ensures { result ≡ spec.written_status outcome.now }
 {
     match outcome {
-        Ok(reply) => front.push_number(u64::from(status_of(reply))),
-        Err(_) => front.push(b"-"),
-    }
-}
-
-// A word, or a dash where there is none.
-fn or_dash<'a>(word: Option<&'a [u8]>) -> &'a [u8]
-    ensures { result.now ≡ spec.or_dash (word_bytes word.entry) }
-{
-    match word {
-        Some(word) => word,
-        None => b"-",
-    }
-}
-
-// The HTTP status of a reply.
-fn status_of(reply: &Reply) -> u16
-    ensures { result ≡ spec.status_number reply.now }
-{
-    match reply {
-        Reply::Refused(refusal) => refusal.status(),
-        _ => OK,
+        Ok(Reply::Refused(refusal)) => Some(refusal.status()),
+        Ok(_) => Some(OK),
+        Err(_) => None,
     }
 }

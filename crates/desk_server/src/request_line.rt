@@ -1,9 +1,8 @@
 //! The beginning of a request, for the log.
 
-ghost use Rattle.std.specs.Prelude.{◌≡◌, ◌≢◌, ℕ, ◌<◌, ◌≤◌, EachIndex, length, slice_index};
-ghost use Rattle.std.specs.Prelude.{IfSome, MatchOption, true, false};
+ghost use Rattle.std.specs.Prelude.{◌≡◌, ◌<◌, ◌≤◌, IfSome, length, option_map};
 ghost use Rattle.std.specs.Char.{is_ascii_uppercase};
-ghost use Rattle.std.specs.List.{after_first, before_first, list_all};
+ghost use Rattle.std.specs.List.{list_all};
 ghost use Rattle.desk_server.specs.RequestLine as spec;
 
 use http_response::Line;
@@ -50,76 +49,46 @@ impl RequestLine {
     }
 
     /// The method, if it is 1 to 7 capital letters.
+    #[tactic(auto, unfolding(crate::specs::RequestLine::method_of))]
     pub fn method(&self) -> Option<&[u8]>
         ensures word { word_bytes result ≡ method_of self.now }
         ensures len { IfSome result (λ word. length word.now ≤ 7) }
     {
-        method_in(self.kept.as_bytes())
+        let (method, _) = two_words(self.kept.as_bytes())?;
+        if is_method(method) {
+            Some(method)
+        } else {
+            None
+        }
     }
 
     /// The path, if it consists of small letters, digits, dashes and slashes.
+    #[tactic(auto, unfolding(crate::specs::RequestLine::path_of))]
     pub fn path(&self) -> Option<&[u8]>
         ensures word { word_bytes result ≡ path_of self.now }
         ensures len { IfSome result (λ word. length word.now ≤ 96) }
     {
-        path_in(self.kept.as_bytes())
+        let (_, path) = two_words(self.kept.as_bytes())?;
+        if is_path(path) { Some(path) } else { None }
     }
-}
-
-fn method_in(bytes: &[u8]) -> Option<&[u8]>
-    ensures word { spec.word_bytes result ≡ spec.method_of bytes.now }
-    ensures len { IfSome result (λ word. length word.now ≤ 7) }
-{
-    let (method, _) = two_words(bytes)?;
-    if is_method(method) {
-        Some(method)
-    } else {
-        None
-    }
-}
-
-fn path_in(bytes: &[u8]) -> Option<&[u8]>
-    ensures word { spec.word_bytes result ≡ spec.path_of bytes.now }
-    ensures len { IfSome result (λ word. length word.now ≤ length bytes.now) }
-{
-    let (_, path) = two_words(bytes)?;
-    if is_path(path) { Some(path) } else { None }
 }
 
 // The first two words, if a space follows each.
 fn two_words(bytes: &[u8]) -> Option<(&[u8], &[u8])>
-    ensures words { MatchOption result (spec.has_two_words bytes.now ≡ false)
-        (λ words. (spec.has_two_words bytes.now ≡ true)
-        × (words.0.now ≡ spec.first_word bytes.now)
-        × (words.1.now ≡ spec.second_word bytes.now)) }
+    ensures words { option_map (λ words. (words.0.now, words.1.now)) result
+        ≡ spec.two_words bytes.now }
     ensures len { IfSome result (λ words. length words.1.now ≤ length bytes.now) }
 {
-    let (first, rest) = split_at_space(bytes)?;
-    let (second, _) = split_at_space(rest)?;
-    Some((first, second))
-}
-
-// The bytes before and after the first space; `None` without one.
-fn split_at_space(bytes: &[u8]) -> Option<(&[u8], &[u8])>
-    ensures parts { MatchOption result (spec.has_space bytes.now ≡ false)
-        (λ parts. (spec.has_space bytes.now ≡ true)
-        × (parts.0.now ≡ before_first spec.is_space bytes.now)
-        × (parts.1.now ≡ after_first spec.is_space bytes.now)) }
-    ensures len { IfSome result (λ parts. (length parts.0.now ≤ length bytes.now)
-        × (length parts.1.now ≤ length bytes.now)) }
-{
-    match place_of_space(bytes) {
-        None => None,
-        Some(place) => Some((&bytes[..place], &bytes[place + 1..])),
-    }
+    let first = place_of_space(bytes)?;
+    let rest = &bytes[first + 1..];
+    let second = place_of_space(rest)?;
+    Some((&bytes[..first], &rest[..second]))
 }
 
 // The number of bytes before the first space.
 fn place_of_space(bytes: &[u8]) -> Option<usize>
-    ensures { MatchOption result (EachIndex bytes.now (λ k. slice_index bytes.now k ≢ 32))
-        (λ place. (place < length bytes.now)
-        × (slice_index bytes.now place ≡ 32)
-        × ((k : ℕ) → k < place → slice_index bytes.now k ≢ 32)) }
+    ensures place { result ≡ spec.place_of_space bytes.now }
+    ensures bound { IfSome result (λ place. place < length bytes.now) }
 {
     bytes.iter().position(|byte| *byte == b' ')
 }
