@@ -1,7 +1,8 @@
 -- The bytes of an answer, as far as the office took them.
-use Rattle.std.proofs.Common.{◌≡◌, ◌∙◌, ◌<◌, ℕ, zero, suc, ap, refl, sym, arith, List, [], ◌∷◌, ◌++◌, length, take, append_assoc}
-use Rattle.std.specs.Prelude.{Option, None, Some, Result, Ok, Err}
+use Rattle.std.proofs.Common.{◌<◌, ℕ, zero, suc, arith, List, [], ◌∷◌, length, take}
+use Rattle.std.specs.Prelude.{Option, Result, Ok, Err}
 use Rattle.std.specs.Io.KnownBytes.{Appends}
+use Rattle.std.proofs.KnownBytes.{Appends-trans}
 use Rattle.std.proofs.lemmas.List.{take_all}
 use Rattle.club_http.specs.Ends.{TakesAll}
 
@@ -9,13 +10,6 @@ module _ (status : ℕ) (text : List ℕ) where
   -- a beginning of the answer
   abbrev Begins : Option (List ℕ) → Option (List ℕ) → Type 0
   Begins taken taken' = (n : ℕ) × Appends taken taken' (take n (status ∷ text))
-
-  appends_more : (t t1 t2 : Option (List ℕ)) (xs ys : List ℕ) → Appends t t1 xs → Appends t1 t2 ys → Appends t t2 (xs ++ ys)
-  appends_more None t1 t2 xs ys first second = tt
-  appends_more (Some old) None t2 xs ys first second = absurd first
-  appends_more (Some old) (Some mid) None xs ys first second = second
-  appends_more (Some old) (Some mid) (Some new) xs ys first second =
-      second ∙ ap (λ (l : List ℕ). l ++ ys) first ∙ append_assoc old xs ys
 
   -- the status wasn't taken
   pub sent_nothing : (t t1 : Option (List ℕ)) (n : ℕ) → n < 1 → Appends t t1 (take n (status ∷ [])) → Begins t t1
@@ -26,5 +20,5 @@ module _ (status : ℕ) (text : List ℕ) where
   pub sent_more : {A : Type 0} (t t1 t2 : Option (List ℕ)) (f1 f2 : ℕ) (result : Result A ℕ) → Appends t t1 (status ∷ [])
       → TakesAll t1 t2 f1 f2 text result → Begins t t2
   sent_more t t1 t2 f1 f2 (Ok done) first second =
-      (suc (length text), rw (take_all (length text) text (omega arith)) (appends_more t t1 t2 (status ∷ []) text first second.0))
-  sent_more t t1 t2 f1 f2 (Err n) first second = (suc n, appends_more t t1 t2 (status ∷ []) (take n text) first second.1)
+      (suc (length text), rw (take_all (length text) text (omega arith)) (Appends-trans t t1 t2 (status ∷ []) text first second.0))
+  sent_more t t1 t2 f1 f2 (Err n) first second = (suc n, Appends-trans t t1 t2 (status ∷ []) (take n text) first second.1)

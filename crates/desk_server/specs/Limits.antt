@@ -1,5 +1,5 @@
 -- Limits of time (ours).
-use Rattle.std.specs.Prelude.{◌≡◌, ◌⊎◌, ℕ, ◌+◌, ◌-◌, ◌*◌, ◌^◌, ◌<◌, ◌≤◌, nat_lt, if◌then◌else◌, List, length, Option, Some, None, IsSomeAnd, option_map}
+use Rattle.std.specs.Prelude.{◌≡◌, ◌⊎◌, ℕ, ◌+◌, ◌-◌, ◌*◌, ◌^◌, ◌<◌, ◌≤◌, nat_lt, if◌then◌else◌, List, length, Option, Some, None, IfSome, IsSomeAnd, option_map}
 use Rattle.std.specs.Io.KnownBytes.{Consumes}
 use Rattle.std.specs.Time.{instant_nanos}
 use Rattle.std.specs.declared.time.Instant.{Instant}
@@ -65,6 +65,13 @@ pub record IsCalledUnder {C Stream : Type 0} (Shows : C → Option ℕ → Type 
   pub repeated : AreInterrupted Shows Does limit old interruptions last
   pub called : AtShown (Shows limit.clock.now) (λ shown. IsCalled Does (left_until (nanos_of limit.due) shown) last result new)
       ⊎ (interruptions ≡ 2 ^ 64 - 1) × (result ≡ None) × (new ≡ last)
+
+-- a call under a limit, and what it moved, at most so many bytes
+pub record EndsUnder {C Stream : Type 0} (Shows : C → Option ℕ → Type 0) (Does : Calls Stream) (limit : Limit C) (old : Stream) (result : Option ℕ)
+    (new : Stream) (most : ℕ) (Moved : Type 0) : Type 0 where
+  pub within : IfSome result (λ n. n ≤ most)
+  pub bytes : Moved
+  pub limited : IsCalledUnder Shows Does limit old result new
 
 -- the call took at most so many bytes
 abbrev pub TakesAtMost : ℕ → Option (List ℕ) → Option (List ℕ) → Type 0

@@ -46,18 +46,6 @@ impl<'c, C: MonotonicClock> Handed<'c, C> {
         })
     }
 
-    // Greets the command, and reads its order; `None` if it doesn't come whole and in time.
-    fn receive(&self, room: &mut [u8]) -> Option<usize>
-        ensures { IfSome result (λ n. n ≤ length room.new) }
-    {
-        let stream = &self.stream;
-        let limit = Limit::after(self.clock, Duration::from_millis(ORDER_MILLISECONDS));
-        if put_all(&mut self.writer(), &GREETING).is_err() {
-            return None;
-        }
-        read_order(&mut TimedInlet::new(stream, &limit), room)
-    }
-
     // Where the answer is sent to.
     fn writer(&self) -> TimedOutlet<'c, &UnixStream, C> {
         TimedOutlet::new(&self.stream, self.clock, self.patience)
@@ -98,10 +86,16 @@ pub fn answer_order<D: Office, W: Outlet>(desk: &mut D, bytes: &[u8], writer: &m
     carried
 }
 
+/// Greets the command, reads its order, and answers it.
 impl<C: MonotonicClock> Handover for Handed<'_, C> {
     fn carry_out<D: Office>(&mut self, desk: &mut D) -> Option<Carried> {
+        let stream = &self.stream;
+        let limit = Limit::after(self.clock, Duration::from_millis(ORDER_MILLISECONDS));
+        if put_all(&mut self.writer(), &GREETING).is_err() {
+            return None;
+        }
         let mut room = [0; MAX_ORDER_LEN];
-        match self.receive(&mut room) {
+        match read_order(&mut TimedInlet::new(stream, &limit), &mut room) {
             Some(len) => Some(answer_order(desk, &room[..len], &mut self.writer())),
             None => None,
         }

@@ -28,4 +28,4 @@ pub use office::{Answer, Carried, Office};
 pub use request_line::{MAX_KEPT, RequestLine};
 pub use serve::{ClockOutOfRange, serve_logged, serve_on};
 pub use stream::{ClientSocket, ClientStream, Woken};
-pub use timed::{MAX_REST, TimedInlet, TimedOutlet, TimedRead, TimedWrite, Waited};
+pub use timed::{MAX_REST, TimedInlet, TimedOutlet, TimedStream, Waited};

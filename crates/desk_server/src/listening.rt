@@ -2,8 +2,7 @@
 
 use crate::connections::{Accepted, Arrival, Arrivals};
 use crate::door::Handed;
-use crate::stream::{ClientSocket, waits_for};
-use libc::net as c;
+use crate::stream::{ClientSocket, order_is_next};
 use std::io::ErrorKind;
 use std::net::TcpListener;
 use std::os::fd::{AsRawFd, RawFd};
@@ -17,6 +16,9 @@ const REST_MILLISECONDS: u64 = 10;
 
 /// No descriptor: `poll` passes over it.
 const NO_DESCRIPTOR: RawFd = -1;
+
+/// The time of a wait without an end, as `poll` takes it.
+const NO_END: i32 = -1;
 
 /// A client of a listener, or an order that came by a door.
 type Arrived<'a, C> = Arrival<Accepted<'a, ClientSocket<'a, C>, C>, Handed<'a, C>>;
@@ -65,18 +67,17 @@ impl<'a, C: Clock> Listening<'a, C> {
         ensures waited { self.new.waited ≡ self.old.waited }
         ensures failures { self.new.failures ≡ self.old.failures }
     {
+        let door = match self.door {
+            Some(door) => door.as_raw_fd(),
+            None => NO_DESCRIPTOR,
+        };
+        let clients = self.clients.as_raw_fd();
         for _ in 0..u64::MAX {
-            let Some((order, client)) = self.ready() else {
+            let Some(order) = order_is_next(door, clients, NO_END, self.order_first) else {
                 return Arrival::Nobody;
             };
-            let arrival = if order && (self.order_first || !client) {
-                self.order_first = false;
-                self.take_order()
-            } else {
-                self.order_first = true;
-                self.take_client()
-            };
-            match arrival {
+            self.order_first = !order;
+            match self.take(order) {
                 Ok(arrival) => return arrival,
                 Err(error) if error.kind() == ErrorKind::WouldBlock => {}
                 Err(_) => return Arrival::Nobody,
@@ -85,34 +86,20 @@ impl<'a, C: Clock> Listening<'a, C> {
         Arrival::Nobody
     }
 
-    // Waits until one is ready, and returns whether an order is, and whether a client.
-    fn ready(&self) -> Option<(bool, bool)> {
-        let door = match self.door {
-            Some(door) => door.as_raw_fd(),
-            None => NO_DESCRIPTOR,
-        };
-        let mut asked = [waits_for(door), waits_for(self.clients.as_raw_fd())];
-        if c::poll(&mut asked, -1) < 0 {
-            return None;
-        }
-        Some((asked[0].revents != 0, asked[1].revents != 0))
-    }
-
-    fn take_order(&self) -> io::Result<Arrived<'a, C>> {
+    // Accepts an order, or a client.
+    fn take(&self, order: bool) -> io::Result<Arrived<'a, C>> {
         match self.door {
-            Some(door) => {
+            Some(door) if order => {
                 let handed = Handed::accept(door, self.clock, self.patience)?;
                 Ok(Arrival::Order(handed))
             }
-            None => Ok(Arrival::Nobody),
+            _ => {
+                let (stream, _) = self.clients.accept()?;
+                let socket = ClientSocket::new(stream, self.door, self.clock, self.patience);
+                let accepted = Accepted::new(socket, self.clock, self.patience);
+                Ok(Arrival::Client(accepted))
+            }
         }
-    }
-
-    fn take_client(&self) -> io::Result<Arrived<'a, C>> {
-        let (stream, _) = self.clients.accept()?;
-        let socket = ClientSocket::new(stream, self.door, self.clock, self.patience);
-        let accepted = Accepted::new(socket, self.clock, self.patience);
-        Ok(Arrival::Client(accepted))
     }
 }
 

@@ -3,7 +3,7 @@
 use crate::between::Handover;
 use crate::door::Handed;
 use crate::limit::MonotonicClock;
-use crate::timed::{TimedRead, TimedWrite, Waited, outcome_of};
+use crate::timed::{TimedStream, Waited, outcome_of};
 use libc::net as c;
 use libc::types::pollfd;
 use std::cell::Cell;
@@ -37,11 +37,11 @@ pub trait ClientStream {
     /// says whose turn it is.
     fn wait_within(&self, limit: Duration, order_first: bool) -> Woken<Self::Order>;
 
-    /// Reads as `TimedRead::read_within`.
+    /// Reads as `TimedStream::read_within`.
     fn read_for(&self, limit: Duration, room: &mut [u8]) -> Waited
         ensures { IfSome (moved result) (λ n. n ≤ length room.new) };
 
-    /// Writes as `TimedWrite::write_within`.
+    /// Writes as `TimedStream::write_within`.
     fn write_for(&self, limit: Duration, bytes: &[u8]) -> Waited
         ensures { IfSome (moved result) (λ n. n ≤ length bytes.now) };
 
@@ -49,26 +49,21 @@ pub trait ClientStream {
     fn end_writing(&self) -> bool;
 }
 
-/// No contract states which bytes a client gives.
-impl<S: ClientStream> TimedRead for &S {
+/// No contract states which bytes a client gives or takes.
+impl<S: ClientStream> TimedStream for &S {
     ghost use Rattle.std.specs.Prelude.{None};
 
     ghost to_come = { λ _. None };
 
+    ghost taken = { λ _. None };
+
     ghost reads = { λ _ _ _ _. Unit {0} };
+
+    ghost writes = { λ _ _ _ _. Unit {0} };
 
     fn read_within(&mut self, limit: Duration, room: &mut [u8]) -> Waited {
         self.read_for(limit, room)
     }
-}
-
-/// No contract states which bytes a client takes.
-impl<S: ClientStream> TimedWrite for &S {
-    ghost use Rattle.std.specs.Prelude.{None};
-
-    ghost taken = { λ _. None };
-
-    ghost writes = { λ _ _ _ _. Unit {0} };
 
     fn write_within(&mut self, limit: Duration, bytes: &[u8]) -> Waited {
         self.write_for(limit, bytes)
@@ -103,41 +98,31 @@ impl<'a, C: MonotonicClock> ClientSocket<'a, C> {
             readable: Cell::new(false),
         }
     }
-
-    // Waits for the client and for this door.
-    fn wait_beside(
-        &self,
-        door: &'a UnixListener,
-        limit: Duration,
-        order_first: bool,
-    ) -> Woken<Handed<'a, C>> {
-        let mut asked = [
-            waits_for(door.as_raw_fd()),
-            waits_for(self.stream.as_raw_fd()),
-        ];
-        if c::poll(&mut asked, milliseconds_of(limit)) <= 0 {
-            return Woken::Client;
-        }
-        let order = asked[0].revents != 0;
-        let client = asked[1].revents != 0;
-        if client && !(order && order_first) {
-            self.readable.set(true);
-            return Woken::Client;
-        }
-        match Handed::accept(door, self.clock, self.patience) {
-            Ok(handed) => Woken::Order(handed),
-            Err(error) if error.kind() == ErrorKind::WouldBlock => Woken::Nobody,
-            Err(_) => Woken::Client,
-        }
-    }
 }
 
 impl<'a, C: MonotonicClock> ClientStream for ClientSocket<'a, C> {
     type Order = Handed<'a, C>;
 
     fn wait_within(&self, limit: Duration, order_first: bool) -> Woken<Handed<'a, C>> {
-        match self.door {
-            Some(door) => self.wait_beside(door, limit, order_first),
+        let Some(door) = self.door else {
+            return Woken::Client;
+        };
+        let client = self.stream.as_raw_fd();
+        match order_is_next(
+            door.as_raw_fd(),
+            client,
+            milliseconds_of(limit),
+            order_first,
+        ) {
+            Some(true) => match Handed::accept(door, self.clock, self.patience) {
+                Ok(handed) => Woken::Order(handed),
+                Err(error) if error.kind() == ErrorKind::WouldBlock => Woken::Nobody,
+                Err(_) => Woken::Client,
+            },
+            Some(false) => {
+                self.readable.set(true);
+                Woken::Client
+            }
             None => Woken::Client,
         }
     }
@@ -166,8 +151,25 @@ impl<'a, C: MonotonicClock> ClientStream for ClientSocket<'a, C> {
     }
 }
 
-/// What `poll` is asked to wait for: the bytes of a descriptor, or its next connection.
-pub(crate) fn waits_for(fd: RawFd) -> pollfd {
+/// Waits for an order at a door and for a client, at most so many milliseconds, or without end for
+/// -1. Returns whether the order goes first; `None` if neither came, or waiting failed.
+pub(crate) fn order_is_next(
+    door: RawFd,
+    client: RawFd,
+    milliseconds: i32,
+    order_first: bool,
+) -> Option<bool> {
+    let mut asked = [waits_for(door), waits_for(client)];
+    if c::poll(&mut asked, milliseconds) <= 0 {
+        return None;
+    }
+    let order = asked[0].revents != 0;
+    let client = asked[1].revents != 0;
+    Some(order && (order_first || !client))
+}
+
+// What `poll` is asked to wait for: the bytes of a descriptor, or its next connection.
+fn waits_for(fd: RawFd) -> pollfd {
     pollfd {
         fd,
         events: c::POLLIN,

@@ -1,8 +1,8 @@
 //! Ends of a connection under limits of time.
 
-ghost use Rattle.std.specs.Prelude.{◌≡◌, ◌≤◌, length, IfSome, MatchResult, None};
+ghost use Rattle.std.specs.Prelude.{◌≡◌, length, MatchResult, None};
 ghost use Rattle.club_http.specs.Ends.{Fills, Takes};
-ghost use Rattle.desk_server.specs.Limits.{IsCalledUnder, moved};
+ghost use Rattle.desk_server.specs.Limits.{EndsUnder, moved};
 
 use crate::limit::{Limit, MonotonicClock};
 use club_http::{Inlet, Outlet};
@@ -22,18 +22,24 @@ pub enum Waited {
     Failed,
 }
 
-/// A reader whose reads take a time limit, such as a socket.
-pub trait TimedRead {
+/// A stream whose reads and writes take a time limit, such as a socket.
+pub trait TimedStream {
     ghost use Rattle.std.specs.Prelude.{◌≤◌, ℕ, List, length, Option, IfSome};
     ghost use Rattle.std.specs.Duration.{as_nanos};
-    ghost use Rattle.club_http.specs.Ends.{Fills};
+    ghost use Rattle.club_http.specs.Ends.{Fills, Takes};
     ghost use Rattle.desk_server.specs.Limits.{Calls, moved};
 
     // the bytes to come, if they are known
     ghost to_come: { Self → Option (List ℕ) };
 
-    // a read that waits at most this long, with the reader before and after
+    // the bytes that it took, if they are known
+    ghost taken: { Self → Option (List ℕ) };
+
+    // a read that waits at most this long, with the stream before and after
     ghost reads: { Calls Self };
+
+    // a write that waits at most this long, with the stream before and after
+    ghost writes: { Calls Self };
 
     /// Puts the next bytes at the front of the buffer, and returns how many; 0 with a buffer that
     /// isn't empty is the end of the input.
@@ -41,20 +47,6 @@ pub trait TimedRead {
         ensures within { IfSome (moved result) (λ n. n ≤ length room.new) }
         ensures bytes { Fills (to_come self.old) (to_come self.new) (moved result) room.new }
         ensures limited { reads self.old (as_nanos limit) result self.new };
-}
-
-/// A writer whose writes take a time limit, such as a socket.
-pub trait TimedWrite {
-    ghost use Rattle.std.specs.Prelude.{◌≤◌, ℕ, List, length, Option, IfSome};
-    ghost use Rattle.std.specs.Duration.{as_nanos};
-    ghost use Rattle.club_http.specs.Ends.{Takes};
-    ghost use Rattle.desk_server.specs.Limits.{Calls, moved};
-
-    // the bytes that it took, if they are known
-    ghost taken: { Self → Option (List ℕ) };
-
-    // a write that waits at most this long, with the writer before and after
-    ghost writes: { Calls Self };
 
     /// Takes the first of the bytes, and returns how many.
     fn write_within(&mut self, limit: Duration, bytes: &[u8]) -> Waited
@@ -63,13 +55,17 @@ pub trait TimedWrite {
         ensures limited { writes self.old (as_nanos limit) result self.new };
 }
 
-/// No contract states which bytes a socket gives.
-impl TimedRead for &UnixStream {
+/// No contract states which bytes a socket gives or takes.
+impl TimedStream for &UnixStream {
     ghost use Rattle.std.specs.Prelude.{None};
 
     ghost to_come = { λ _. None };
 
+    ghost taken = { λ _. None };
+
     ghost reads = { λ _ _ _ _. Unit {0} };
+
+    ghost writes = { λ _ _ _ _. Unit {0} };
 
     fn read_within(&mut self, limit: Duration, room: &mut [u8]) -> Waited {
         match self.set_read_timeout(Some(limit)) {
@@ -77,15 +73,6 @@ impl TimedRead for &UnixStream {
             Err(_) => Waited::Failed,
         }
     }
-}
-
-/// No contract states which bytes a socket takes.
-impl TimedWrite for &UnixStream {
-    ghost use Rattle.std.specs.Prelude.{None};
-
-    ghost taken = { λ _. None };
-
-    ghost writes = { λ _ _ _ _. Unit {0} };
 
     fn write_within(&mut self, limit: Duration, bytes: &[u8]) -> Waited {
         match self.set_write_timeout(Some(limit)) {
@@ -106,7 +93,9 @@ pub(crate) fn outcome_of(returned: io::Result<usize>) -> Waited
     }
 }
 
-/// A reader under a limit of time.
+/// A reader under a limit of time. It waits at most for the time that is left of the limit. If none
+/// is left, or the clock can't be read, it fails without reading. A read that a signal interrupted
+/// goes on with what is left of its time.
 #[derive(Drop)]
 pub struct TimedInlet<'l, 'c, R, C> {
     reader: R,
@@ -123,10 +112,10 @@ const REST_MILLISECONDS: u64 = 200;
 /// The most bytes that it reads in a call.
 const MAX_REST_AT_ONCE: usize = 4_096;
 
-impl<'l, 'c, R: TimedRead, C: MonotonicClock> TimedInlet<'l, 'c, R, C> {
+impl<'l, 'c, R: TimedStream, C: MonotonicClock> TimedInlet<'l, 'c, R, C> {
     ghost use Rattle.std.specs.Prelude.{◌≡◌, ◌≤◌, length, IfSome};
-    ghost use Rattle.club_http.specs.Ends.{Fills, read_failures};
-    ghost use Rattle.desk_server.specs.Limits.{IsCalledUnder, TakesAtMost};
+    ghost use Rattle.club_http.specs.Ends.{Fills};
+    ghost use Rattle.desk_server.specs.Limits.{TakesAtMost};
 
     /// A reader without failures yet.
     pub fn new(reader: R, limit: &'l Limit<'c, C>) -> TimedInlet<'l, 'c, R, C>
@@ -137,25 +126,6 @@ impl<'l, 'c, R: TimedRead, C: MonotonicClock> TimedInlet<'l, 'c, R, C> {
             limit,
             failures: 0,
         }
-    }
-
-    /// Reads as `fill`, and waits at most for the time that is left of the limit. If none is left,
-    /// or the clock can't be read, it fails without reading. A read that a signal interrupted goes
-    /// on with what is left of its time.
-    pub fn read(&mut self, room: &mut [u8]) -> Option<usize>
-        ensures within { IfSome result (λ n. n ≤ length room.new) }
-        ensures bytes { Fills (R.to_come self.old.reader) (R.to_come self.new.reader)
-            result room.new }
-        ensures failure_count { self.new.failures ≡ read_failures self.old.failures result }
-        ensures limited { IsCalledUnder C.shows R.reads self.old.limit.now
-            self.old.reader result self.new.reader }
-        ensures limit { self.new.limit ≡ self.old.limit }
-    {
-        let came = read_under(&mut self.reader, self.limit, room);
-        if came.is_none() {
-            self.failures = self.failures.saturating_add(1);
-        }
-        came
     }
 
     /// Reads the bytes that still come before the limit is over: up to the end of the input, at
@@ -187,14 +157,13 @@ impl<'l, 'c, R: TimedRead, C: MonotonicClock> TimedInlet<'l, 'c, R, C> {
 }
 
 // Reads with the time that is left of a limit.
-fn read_under<R: TimedRead, C: MonotonicClock>(
+fn read_under<R: TimedStream, C: MonotonicClock>(
     reader: &mut R,
     limit: &Limit<'_, C>,
     room: &mut [u8],
 ) -> Option<usize>
-    ensures within { IfSome result (λ n. n ≤ length room.new) }
-    ensures bytes { Fills (R.to_come reader.old) (R.to_come reader.new) result room.new }
-    ensures limited { IsCalledUnder C.shows R.reads limit.now reader.old result reader.new }
+    ensures { EndsUnder C.shows R.reads limit.now reader.old result reader.new
+        (length room.new) (Fills (R.to_come reader.old) (R.to_come reader.new) result room.new) }
 {
     for interrupted in 0..u64::MAX {
         let left = limit.left();
@@ -210,22 +179,29 @@ fn read_under<R: TimedRead, C: MonotonicClock>(
     None
 }
 
-impl<R: TimedRead, C: MonotonicClock> Inlet for TimedInlet<'_, '_, R, C> {
+impl<R: TimedStream, C: MonotonicClock> Inlet for TimedInlet<'_, '_, R, C> {
+    ghost use Rattle.std.specs.Prelude.{◌≡◌};
     ghost use Rattle.desk_server.specs.Limits.{IsCalledUnder};
 
     ghost to_come = { λ inlet. R.to_come inlet.reader };
 
     ghost failures = { λ inlet. inlet.failures };
 
-    ghost fills = { λ old result room new.
-        IsCalledUnder C.shows R.reads old.limit.now old.reader result new.reader };
+    ghost fills = { λ old result room new. (new.limit ≡ old.limit)
+        × IsCalledUnder C.shows R.reads old.limit.now old.reader result new.reader };
 
     fn fill(&mut self, room: &mut [u8]) -> Option<usize> {
-        self.read(room)
+        let came = read_under(&mut self.reader, self.limit, room);
+        if came.is_none() {
+            self.failures = self.failures.saturating_add(1);
+        }
+        came
     }
 }
 
-/// A writer under a limit of time, which begins with the first write.
+/// A writer under a limit of time, which begins with the first write. It waits at most for the time
+/// that is left of the limit. If none is left, or the clock can't be read, it fails and writes
+/// nothing. A write that a signal interrupted goes on with what is left of its time.
 #[derive(Drop)]
 pub struct TimedOutlet<'c, W, C> {
     writer: W,
@@ -235,11 +211,8 @@ pub struct TimedOutlet<'c, W, C> {
     failures: u64,
 }
 
-impl<'c, W: TimedWrite, C: MonotonicClock> TimedOutlet<'c, W, C> {
-    ghost use Rattle.std.specs.Prelude.{◌≡◌, ◌≤◌, length, IfSome, IsSomeAnd, None};
-    ghost use Rattle.std.specs.Duration.{as_nanos};
-    ghost use Rattle.club_http.specs.Ends.{Takes, put_failures};
-    ghost use Rattle.desk_server.specs.Limits.{StartsLimit, IsCalledUnder};
+impl<'c, W: TimedStream, C: MonotonicClock> TimedOutlet<'c, W, C> {
+    ghost use Rattle.std.specs.Prelude.{◌≡◌, None};
 
     /// A writer whose limit hasn't begun.
     pub fn new(writer: W, clock: &'c C, patience: Duration) -> TimedOutlet<'c, W, C>
@@ -259,15 +232,46 @@ impl<'c, W: TimedWrite, C: MonotonicClock> TimedOutlet<'c, W, C> {
             failures: 0,
         }
     }
+}
 
-    /// Writes as `put`, and waits at most for the time that is left of the limit. If none is left,
-    /// or the clock can't be read, it fails without writing. A write that a signal interrupted goes
-    /// on with what is left of its time.
-    pub fn write(&mut self, bytes: &[u8]) -> Option<usize>
+// Writes with the time that is left of a limit.
+fn write_under<W: TimedStream, C: MonotonicClock>(
+    writer: &mut W,
+    limit: &Limit<'_, C>,
+    bytes: &[u8],
+) -> Option<usize>
+    ensures { EndsUnder C.shows W.writes limit.now writer.old result writer.new
+        (length bytes.now) (Takes (W.taken writer.old) (W.taken writer.new) result bytes.now) }
+{
+    for interrupted in 0..u64::MAX {
+        let left = limit.left();
+        if left.is_zero() {
+            return None;
+        }
+        match writer.write_within(left, bytes) {
+            Waited::Moved(taken) => return Some(taken),
+            Waited::Interrupted => {}
+            Waited::Failed => return None,
+        }
+    }
+    None
+}
+
+impl<W: TimedStream, C: MonotonicClock> Outlet for TimedOutlet<'_, W, C> {
+    ghost use Rattle.std.specs.Prelude.{◌≡◌, ◌≤◌, length, IfSome, IsSomeAnd};
+    ghost use Rattle.std.specs.Duration.{as_nanos};
+    ghost use Rattle.club_http.specs.Ends.{Takes, put_failures};
+    ghost use Rattle.desk_server.specs.Limits.{IsCalledUnder, StartsLimit};
+
+    ghost taken = { λ outlet. W.taken outlet.writer };
+
+    ghost failures = { λ outlet. outlet.failures };
+
+    fn put(&mut self, bytes: &[u8]) -> Option<usize>
         ensures within { IfSome result (λ n. n ≤ length bytes.now) }
         ensures bytes { Takes (W.taken self.old.writer) (W.taken self.new.writer)
             result bytes.now }
-        ensures failure_count { self.new.failures
+        ensures counted { self.new.failures
             ≡ put_failures self.old.failures result bytes.now }
         ensures begins { StartsLimit C.shows self.old.clock.now (as_nanos self.old.patience)
             self.old.limit self.new.limit }
@@ -289,39 +293,5 @@ impl<'c, W: TimedWrite, C: MonotonicClock> TimedOutlet<'c, W, C> {
             self.failures = self.failures.saturating_add(1);
         }
         taken
-    }
-}
-
-// Writes with the time that is left of a limit.
-fn write_under<W: TimedWrite, C: MonotonicClock>(
-    writer: &mut W,
-    limit: &Limit<'_, C>,
-    bytes: &[u8],
-) -> Option<usize>
-    ensures within { IfSome result (λ n. n ≤ length bytes.now) }
-    ensures bytes { Takes (W.taken writer.old) (W.taken writer.new) result bytes.now }
-    ensures limited { IsCalledUnder C.shows W.writes limit.now writer.old result writer.new }
-{
-    for interrupted in 0..u64::MAX {
-        let left = limit.left();
-        if left.is_zero() {
-            return None;
-        }
-        match writer.write_within(left, bytes) {
-            Waited::Moved(taken) => return Some(taken),
-            Waited::Interrupted => {}
-            Waited::Failed => return None,
-        }
-    }
-    None
-}
-
-impl<W: TimedWrite, C: MonotonicClock> Outlet for TimedOutlet<'_, W, C> {
-    ghost taken = { λ outlet. W.taken outlet.writer };
-
-    ghost failures = { λ outlet. outlet.failures };
-
-    fn put(&mut self, bytes: &[u8]) -> Option<usize> {
-        self.write(bytes)
     }
 }

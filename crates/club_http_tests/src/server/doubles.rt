@@ -9,7 +9,7 @@ use club_http::Responder;
 use club_values::Moment;
 use desk_server::{
     Accepted, Answer, Arrival, Arrivals, Carried, ClientStream, Handover, Office, RequestLine,
-    TimedRead, TimedWrite, Waited, Woken,
+    TimedStream, Waited, Woken,
 };
 use http_request::Words;
 use std::alloc::Global;
@@ -401,12 +401,16 @@ impl<'a> Slow<'a> {
     }
 }
 
-impl TimedRead for Slow<'_> {
+impl TimedStream for Slow<'_> {
     ghost use Rattle.std.specs.Prelude.{None};
 
     ghost to_come = { λ _. None };
 
+    ghost taken = { λ _. None };
+
     ghost reads = { λ _ _ _ _. Unit {0} };
+
+    ghost writes = { λ _ _ _ _. Unit {0} };
 
     fn read_within(&mut self, limit: Duration, room: &mut [u8]) -> Waited {
         self.clock.reads.set(self.clock.reads().saturating_add(1));
@@ -419,14 +423,6 @@ impl TimedRead for Slow<'_> {
             Some(false) => Waited::Failed,
         }
     }
-}
-
-impl TimedWrite for Slow<'_> {
-    ghost use Rattle.std.specs.Prelude.{None};
-
-    ghost taken = { λ _. None };
-
-    ghost writes = { λ _ _ _ _. Unit {0} };
 
     fn write_within(&mut self, limit: Duration, bytes: &[u8]) -> Waited {
         self.clock.writes.set(self.clock.writes().saturating_add(1));

@@ -1,57 +1,37 @@
-use Rattle.std.proofs.Common.{inr, refl, arith}
+use Rattle.std.proofs.Common.{arith, Some}
+use Rattle.std.proofs.KnownBytes.{Keeps-refl, Keeps-trans}
 use Rattle.desk_server.specs.Limits as spec
-use Rattle.desk_server.proofs.TimedLemmas.{called_no_more, called_once, consumes_kept, keeps_more, keeps_same, some_left}
+use Rattle.desk_server.proofs.TimedLemmas.{called_once, fills_kept, too_late, too_often}
 use Rattle.desk_server.proofs.timed.read_under.Goals as goal
 
 pub loop-interrupted-init : goal.loop-interrupted-init
-loop-interrupted-init g c = record { repeated = spec.not_called; kept = keeps_same _ }
+loop-interrupted-init g c = record { repeated = spec.not_called; kept = Keeps-refl _ }
 
 pub loop-interrupted-preserved : goal.loop-interrupted-preserved
 loop-interrupted-preserved g c =
-    let inv = c.loop-interrupted.invariant in
+    let so_far = c.loop-interrupted.invariant in
     let left = c.left-left.ensures in
     record {
-      repeated = spec.once_more _ _ _ inv.repeated (left.0, left.1, rw left.2 at c.in-Interrupted.ensures.limited);
-      kept = keeps_more _ _ _ inv.kept c.in-Interrupted.ensures.bytes;
+      repeated = spec.once_more _ _ _ so_far.repeated (left.0, left.1, rw left.2 at c.in-Interrupted.ensures.limited);
+      kept = Keeps-trans _ _ _ so_far.kept c.in-Interrupted.ensures.bytes;
     }
 
 pub returns-then-is_zero : goal.returns-then-is_zero
 returns-then-is_zero g c =
-    let inv = c.loop-interrupted.invariant in
-    record {
-      within = tt;
-      bytes = inv.kept;
-      limited = called_no_more _ _ _ _ _ _ inv.repeated _ c.left-left.ensures (c.is_zero.ensures.0 c.if-is_zero.true);
-    }
+    let so_far = c.loop-interrupted.invariant in too_late so_far _ _ _ c.left-left.ensures _ c.is_zero.ensures c.if-is_zero.true so_far.kept
 
 pub returns-in-Moved : goal.returns-in-Moved
 returns-in-Moved g c =
-    let inv = c.loop-interrupted.invariant in
-    record {
-      within = c.in-Moved.ensures.within;
-      bytes = (consumes_kept _ _ _ _ inv.kept c.in-Moved.ensures.bytes.0, c.in-Moved.ensures.bytes.1);
-      limited = called_once _ _ _ _ _ _ inv.repeated _ _ _ c.left-left.ensures (some_left _ _ c.if-is_zero.false c.is_zero.ensures) c.in-Moved.ensures.limited;
-    }
+    let so_far = c.loop-interrupted.invariant in
+    let moved = c.in-Moved.ensures in
+    called_once so_far _ _ _ c.left-left.ensures _ c.is_zero.ensures _ _ c.if-is_zero.false moved.limited moved.within
+    (fills_kept _ _ _ (Some c.in-Moved.came) _ so_far.kept moved.bytes)
 
 pub returns-in-Failed : goal.returns-in-Failed
 returns-in-Failed g c =
-    let inv = c.loop-interrupted.invariant in
-    record {
-      within = tt;
-      bytes = keeps_more _ _ _ inv.kept c.in-Failed.ensures.bytes;
-      limited = called_once _ _ _ _ _ _ inv.repeated _ _ _ c.left-left.ensures (some_left _ _ c.if-is_zero.false c.is_zero.ensures) c.in-Failed.ensures.limited;
-    }
+    let so_far = c.loop-interrupted.invariant in
+    let failed = c.in-Failed.ensures in
+    called_once so_far _ _ _ c.left-left.ensures _ c.is_zero.ensures _ _ c.if-is_zero.false failed.limited tt (Keeps-trans _ _ _ so_far.kept failed.bytes)
 
 pub returns : goal.returns
-returns g c =
-    let inv = c.loop-interrupted.invariant in
-    record {
-      within = tt;
-      bytes = inv.kept;
-      limited = record {
-        interruptions = c.loop-interrupted.interrupted;
-        last = c.loop-interrupted.reader;
-        repeated = inv.repeated;
-        called = inr (omega arith, refl, refl);
-      };
-    }
+returns g c = let so_far = c.loop-interrupted.invariant in too_often so_far _ _ (omega arith) so_far.kept

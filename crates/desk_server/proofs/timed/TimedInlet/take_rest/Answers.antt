@@ -1,10 +1,10 @@
-use Rattle.std.proofs.Common.{◌≡◌, ◌≤◌, ◌-◌, [], ◌++◌, length, take, arith, refl}
+use Rattle.std.proofs.Common.{◌≡◌, ◌≤◌, ◌-◌, [], ◌++◌, length, take, arith, refl, length-append}
 use Rattle.std.proofs.lemmas.Grind.{common_steps}
-use Rattle.desk_server.proofs.TimedLemmas.{consumes_more, consumes_nothing, length_more}
+use Rattle.std.proofs.KnownBytes.{Consumes-nil, Consumes-trans}
 use Rattle.desk_server.proofs.timed.TimedInlet.take_rest.Goals as goal
 
 pub loop-taken-init : goal.loop-taken-init
-loop-taken-init g c = record { bytes = []; so_many = refl; within = omega arith; came = consumes_nothing _ }
+loop-taken-init g c = record { bytes = []; so_many = refl; within = omega arith; came = Consumes-nil _ }
 
 pub loop-taken-preserved : goal.loop-taken-preserved
 loop-taken-preserved g c =
@@ -14,7 +14,7 @@ loop-taken-preserved g c =
     let fits : c.in-Some.came ≤ 65536 - c.loop-taken.taken = grind (arith, common_steps) in
     record {
       bytes = inv.bytes ++ came;
-      so_many = length_more inv.bytes came _ _ inv.so_many many;
+      so_many = omega (arith, length-append inv.bytes came, inv.so_many, many);
       within = grind (arith, common_steps);
-      came = consumes_more _ _ _ inv.bytes came inv.came c.in-Some.ensures.bytes.0;
+      came = Consumes-trans _ _ _ inv.bytes came inv.came c.in-Some.ensures.bytes.0;
     }

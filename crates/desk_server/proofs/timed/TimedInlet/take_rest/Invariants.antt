@@ -8,7 +8,7 @@ invariant-loop-taken g l = record {
   bytes : List ℕ;
   so_many : length bytes ≡ l.taken;
   within : l.taken ≤ 65536;
-  came : Consumes (g.R.TimedRead.to_come l.fn.self.reader) (g.R.TimedRead.to_come l.self.reader) bytes;
+  came : Consumes (g.R.TimedStream.to_come l.fn.self.reader) (g.R.TimedStream.to_come l.self.reader) bytes;
 }
 
 abbrev pub decreases-loop-taken : goal.decreases-loop-taken
