@@ -7,7 +7,7 @@ use Rattle.desk_server.specs.Log as log
 use Rattle.desk_server.specs.Served.{AreNotedMeanwhile, IsBegun, Notes, Turn, fates_in}
 use Rattle.desk_server.specs.Served as served
 use Rattle.desk_server.specs.declared.log.Fate.{Fate}
-use Rattle.desk_server.specs.declared.log.Fate.TheVariants.{Absent, Overrun, Unanswered, Exchanged, Ordered}
+use Rattle.desk_server.specs.declared.log.Fate.TheVariants.{Absent, Overrun}
 
 -- the fates of one turn more
 fates_more : (turns : List Turn) (turn : Turn) → fates_in (turns ++ turn ∷ []) ≡ fates_in turns ++ (turn.meanwhile ++ turn.fate ∷ [])
@@ -37,9 +37,7 @@ module _ {Log : Type 0} (Begins : Log → Log → Type 0) (Noted : Notes Log) (t
   if_begun : (old l begun : Log) (fates : List Fate) (fate : Fate) → IsBegun Begins Noted l fate begun → Written old fates l → Written old fates begun
   if_begun old l begun fates Absent same before = rw same before
   if_begun old l begun fates Overrun same before = rw same before
-  if_begun old l begun fates Unanswered begins before = begun_keeps old l begun fates begins before
-  if_begun old l begun fates (Ordered moment carried) begins before = begun_keeps old l begun fates begins before
-  if_begun old l begun fates (Exchanged moment line outcome) begins before = begun_keeps old l begun fates begins before
+  if_begun old l begun fates fate begins before = begun_keeps old l begun fates begins before
 
   -- the notes of orders meanwhile more
   lines_behind : (old l new : Log) (fates more : List Fate) → Written old fates l → AreNotedMeanwhile Begins Noted l more new

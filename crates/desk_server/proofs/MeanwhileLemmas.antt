@@ -1,8 +1,8 @@
 -- Orders between the pieces of a request.
-use Rattle.std.proofs.Common.{◌≡◌, ◌∙◌, ◌⊎◌, ℕ, inl, inr, List, [], ◌∷◌, ◌++◌, append_assoc, append-nil, refl}
+use Rattle.std.proofs.Common.{◌≡◌, ◌∙◌, ℕ, inl, inr, List, [], ◌∷◌, ◌++◌, append_assoc, append-nil, refl}
 use Rattle.std.specs.Prelude.{Option, None, Some}
 use Rattle.club_clock.specs.Moments.{GivesMoment}
-use Rattle.club_http.specs.Calls.{Call, EndsWithNone, Gives, ReadsNoFurther}
+use Rattle.club_http.specs.Calls.{Call, Gives, ReadsNoFurther}
 use Rattle.club_http.specs.Calls as calls
 use Rattle.desk_server.specs.Between.{OrdersAlone}
 use Rattle.desk_server.specs.Served.{AreNotedMeanwhile, AreOrdered, Meanwhile, Notes, Orders}
@@ -78,14 +78,13 @@ module _ {Clock Desk Log : Type 0} (Given : GivesMoment Clock) (Carries : Orders
       given_alone old _ new (calls.more bytes room n mid _ before not_whole some call) =
           alone_more old mid new (given_alone old bytes mid before) (one mid (Some n) room new call)
 
-      last_alone : (mid : Lent) (room : List ℕ) (new : Lent) → Fills mid (Some 0) room new ⊎ Fills mid None room new → Alone mid new
-      last_alone mid room new (inl call) = one mid (Some 0) room new call
-      last_alone mid room new (inr call) = one mid None room new call
-
-      read_by : (old : Lent) (bytes : List ℕ) (new : Lent) → Gives Fills old bytes new ⊎ EndsWithNone Fills old bytes new → Alone old new
-      read_by old bytes new (inl gives) = given_alone old bytes new gives
-      read_by old bytes new (inr ended) =
-          alone_more old ended.mid new (given_alone old bytes ended.mid ended.gave) (last_alone ended.mid ended.room new ended.none)
-
       pub read_alone : (old : Lent) (bytes : List ℕ) (new : Lent) → ReadsNoFurther Fills old bytes new → Alone old new
-      read_alone old bytes new reads = read_by old bytes new reads.calls
+      read_alone old bytes new reads = elim reads.calls [
+        | inl gives ↦ given_alone old bytes new gives
+        | inr ended ↦
+            let before = given_alone old bytes ended.mid ended.gave in
+            elim ended.none [
+              | inl call ↦ alone_more old ended.mid new before (one ended.mid (Some 0) ended.room new call)
+              | inr call ↦ alone_more old ended.mid new before (one ended.mid None ended.room new call)
+            ]
+      ]

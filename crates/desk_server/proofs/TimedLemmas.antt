@@ -1,5 +1,5 @@
 -- Lemmas on the bytes of several reads, and on calls under a limit.
-use Rattle.std.proofs.Common.{◌≡◌, ◌↔◌, ◌^◌, ◌-◌, ℕ, zero, suc, ◌+◌, ◌<◌, ◌≤◌, Bool, false, inl, inr, List, ◌++◌, length, take, Option, Some, None}
+use Rattle.std.proofs.Common.{◌≡◌, ◌↔◌, ◌^◌, ◌-◌, ℕ, zero, suc, ◌+◌, ◌<◌, ◌≤◌, ◌⊎◌, Bool, false, inl, List, ◌++◌, length, take, Option, Some, None}
 use Rattle.std.proofs.Common.{refl, sym, ap, ◌∙◌, arith}
 use Rattle.std.specs.Prelude.{IfSome, IsTrue}
 use Rattle.std.proofs.KnownBytes.{Keeps-trans}
@@ -8,7 +8,7 @@ use Rattle.std.proofs.lemmas.List.{take-append-le, length-take-le}
 use borrow.Rule.Slice.PartMut.{put_mid}
 use Rattle.std.specs.Io.KnownBytes.{Appends, Consumes, Keeps}
 use Rattle.club_http.specs.Ends.{Fills, Takes}
-use Rattle.desk_server.specs.Limits.{AreInterrupted, AtShown, Calls, EndsUnder, ended, left_until, nanos_of}
+use Rattle.desk_server.specs.Limits.{AreInterrupted, AtShown, Calls, EndsUnder, IsCalled, ended, left_until, nanos_of}
 use Rattle.desk_server.specs.declared.limit.Limit.{Limit}
 
 -- a buffer that was filled from a place on
@@ -48,43 +48,27 @@ pub record Interrupted {C Stream : Type 0} (Shows : C → Option ℕ → Type 0)
   pub kept : Keeps (known first) (known last)
 
 module _ {C Stream : Type 0} {Shows : C → Option ℕ → Type 0} {Does : Calls Stream} {known : Stream → Option (List ℕ)} {limit : Limit C}
-    {first last : Stream} {n : ℕ} (so_far : Interrupted Shows Does known limit first n last) (most : ℕ) (Moved : Type 0) where
-  abbrev Ends : Option ℕ → Stream → Type 0
-  Ends result new = EndsUnder Shows Does limit first result new most Moved
+    {first last : Stream} {n : ℕ} (so_far : Interrupted Shows Does known limit first n last) where
+  abbrev Called : Option ℕ → Stream → Type 0
+  Called result new = AtShown (Shows limit.clock.now) (λ shown. IsCalled Does (left_until (nanos_of limit.due) shown) last result new)
+      ⊎ (n ≡ 2 ^ 64 - 1) × (result ≡ None) × (new ≡ last)
 
-  -- no call more
-  pub too_often : n ≡ 2 ^ 64 - 1 → Moved → Ends None last
-  too_often all moved = record {
-    within = tt;
+  -- the last call, and what it moved
+  pub ends_by : {most : ℕ} {Moved : Type 0} (result : Option ℕ) (new : Stream) → Called result new → IfSome result (λ m. m ≤ most) → Moved
+      → EndsUnder Shows Does limit first result new most Moved
+  ends_by result new called within moved = record {
+    within = within;
     bytes = moved;
-    limited = record { interruptions = n; last = last; repeated = so_far.repeated; called = inr (all, refl, refl) };
+    limited = record { interruptions = n; last = last; repeated = so_far.repeated; called = called };
   }
 
   module _ (left : ℕ) (at : AtShown (Shows limit.clock.now) (λ shown. left ≡ left_until (nanos_of limit.due) shown)) (test : Bool)
       (decides : IsTrue test ↔ (left ≡ 0)) where
     -- none, since no time is left
-    pub too_late : IsTrue test → Moved → Ends None last
-    too_late over moved = record {
-      within = tt;
-      bytes = moved;
-      limited = record {
-        interruptions = n;
-        last = last;
-        repeated = so_far.repeated;
-        called = inl (at.0, at.1, rw (← at.2) (λ none. (refl, refl), λ more. let none = decides.0 over in absurd (omega arith)));
-      };
-    }
+    pub too_late : IsTrue test → Called None last
+    too_late over = inl (at.0, at.1, rw (← at.2) (λ none. (refl, refl), λ more. let none = decides.0 over in absurd (omega arith)))
 
     -- one that isn't interrupted
-    pub called_once : (result : Option ℕ) (new : Stream) → test ≡ false → Does last left (ended result) new → IfSome result (λ m. m ≤ most) → Moved
-        → Ends result new
-    called_once result new more does within moved = record {
-      within = within;
-      bytes = moved;
-      limited = record {
-        interruptions = n;
-        last = last;
-        repeated = so_far.repeated;
-        called = inl (at.0, at.1, rw (← at.2) (λ none. let some = some_left test left more decides in absurd (omega arith), λ some. does));
-      };
-    }
+    pub called_once : (result : Option ℕ) (new : Stream) → test ≡ false → Does last left (ended result) new → Called result new
+    called_once result new more does =
+        inl (at.0, at.1, rw (← at.2) (λ none. let some = some_left test left more decides in absurd (omega arith), λ some. does))

@@ -1,7 +1,7 @@
-use Rattle.std.proofs.Common.{arith, Some}
+use Rattle.std.proofs.Common.{arith, inr, refl, Some}
 use Rattle.std.proofs.KnownBytes.{Keeps-refl, Keeps-trans}
 use Rattle.desk_server.specs.Limits as spec
-use Rattle.desk_server.proofs.TimedLemmas.{called_once, fills_kept, too_late, too_often}
+use Rattle.desk_server.proofs.TimedLemmas.{called_once, ends_by, fills_kept, too_late}
 use Rattle.desk_server.proofs.timed.read_under.Goals as goal
 
 pub loop-interrupted-init : goal.loop-interrupted-init
@@ -18,20 +18,22 @@ loop-interrupted-preserved g c =
 
 pub returns-then-is_zero : goal.returns-then-is_zero
 returns-then-is_zero g c =
-    let so_far = c.loop-interrupted.invariant in too_late so_far _ _ _ c.left-left.ensures _ c.is_zero.ensures c.if-is_zero.true so_far.kept
+    let so_far = c.loop-interrupted.invariant in
+    ends_by so_far _ _ (too_late so_far _ c.left-left.ensures _ c.is_zero.ensures c.if-is_zero.true) tt so_far.kept
 
 pub returns-in-Moved : goal.returns-in-Moved
 returns-in-Moved g c =
     let so_far = c.loop-interrupted.invariant in
     let moved = c.in-Moved.ensures in
-    called_once so_far _ _ _ c.left-left.ensures _ c.is_zero.ensures _ _ c.if-is_zero.false moved.limited moved.within
+    ends_by so_far _ _ (called_once so_far _ c.left-left.ensures _ c.is_zero.ensures _ _ c.if-is_zero.false moved.limited) moved.within
     (fills_kept _ _ _ (Some c.in-Moved.came) _ so_far.kept moved.bytes)
 
 pub returns-in-Failed : goal.returns-in-Failed
 returns-in-Failed g c =
     let so_far = c.loop-interrupted.invariant in
     let failed = c.in-Failed.ensures in
-    called_once so_far _ _ _ c.left-left.ensures _ c.is_zero.ensures _ _ c.if-is_zero.false failed.limited tt (Keeps-trans _ _ _ so_far.kept failed.bytes)
+    ends_by so_far _ _ (called_once so_far _ c.left-left.ensures _ c.is_zero.ensures _ _ c.if-is_zero.false failed.limited) tt
+    (Keeps-trans _ _ _ so_far.kept failed.bytes)
 
 pub returns : goal.returns
-returns g c = let so_far = c.loop-interrupted.invariant in too_often so_far _ _ (omega arith) so_far.kept
+returns g c = let so_far = c.loop-interrupted.invariant in ends_by so_far _ _ (inr (omega arith, refl, refl)) tt so_far.kept
