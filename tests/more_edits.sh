@@ -22,5 +22,6 @@
 # bound on a product, so most wrong bodies are `goal`, though their goals are false too. `goal` says that this proof fails, and no
 # tactic finds another one.
 # groups: proofs
+# minutes: 600
 here=$(CDPATH='' cd -P -- "$(dirname -- "$0")" && pwd)
 exec python3 "$here/more_edits.py" "$@"

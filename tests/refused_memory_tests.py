@@ -13,6 +13,7 @@ another fault fails where memory is refused instead.
   tests/refused_memory_tests.py club_store_tests store::shows_what_a_key_sees ..  any tests of a crate
 """
 # groups: proofs
+# minutes: 600
 # wants: gcc libc6-dev
 
 import os

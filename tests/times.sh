@@ -9,6 +9,7 @@
 # Times are read from /proc once a second, so a process counts up to a second less than it took; running the programs and tests
 # isn't counted. Seconds vary by a quarter with what else the machine does. Not part of the gate.
 # groups: proofs alone
+# minutes: 600
 set -u
 here=$(CDPATH='' cd -P -- "$(dirname -- "$0")" && pwd)
 root=$(dirname "$here")
