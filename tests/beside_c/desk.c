@@ -14,9 +14,10 @@
 #include <stdlib.h>
 #include <string.h>
 #include <sys/socket.h>
+#include <time.h>
 #include <unistd.h>
 
-enum { MAX_REQUEST = 16640, MAX_REPLY = 512, SIGNATURE = 32, NAME = 25, WINDOW = 86400, DAY = 1440 };
+enum { MAX_REQUEST = 16640, MAX_TEXT = 8192, MAX_REPLY = 512, MAX_ROOT = 64, SIGNATURE = 32, NAME = 25, WINDOW = 86400, DAY = 1440 };
 
 // ---- SQLite ----
 
@@ -48,6 +49,12 @@ static void open_file(const char *path) {
     }
 }
 
+struct root { uint8_t at[MAX_ROOT]; size_t len; };
+
+static void copy_root(enum statement s, int column, struct root *to) {
+    memcpy(to->at, sqlite3_column_blob(statements[s], column), to->len = (size_t)sqlite3_column_bytes(statements[s], column));
+}
+
 // The values of a statement, by their kinds: t a text, n a number.
 static void set(enum statement s, const char *kinds, ...) {
     va_list values;
@@ -58,24 +65,24 @@ static void set(enum statement s, const char *kinds, ...) {
     va_end(values);
 }
 
-static bool next_row(enum statement s) {
+// Whether a statement has one row more, of whose columns it takes some by their kinds: t a text, n a number, r a root.
+static bool next_row(enum statement s, const char *kinds, ...) {
     int status = sqlite3_step(statements[s]);
-    if (status == SQLITE_ROW) return true;
-    if (status != SQLITE_DONE) fail(texts[s]);
-    sqlite3_reset(statements[s]);
-    return false;
+    if (status == SQLITE_DONE) return sqlite3_reset(statements[s]), false;
+    if (status != SQLITE_ROW) fail(texts[s]);
+    va_list places;
+    va_start(places, kinds);
+    for (int column = 0; kinds[column]; column++) {
+        if (kinds[column] == 't') snprintf(va_arg(places, char *), NAME, "%s", (const char *)sqlite3_column_text(statements[s], column));
+        if (kinds[column] == 'n') *va_arg(places, int *) = sqlite3_column_int(statements[s], column);
+        if (kinds[column] == 'r') copy_root(s, column, va_arg(places, struct root *));
+    }
+    va_end(places);
+    return true;
 }
 
 static void run(enum statement s) {
-    if (next_row(s)) fail(texts[s]);
-}
-
-static sqlite3_int64 number_in(enum statement s, int column) {
-    return sqlite3_column_int64(statements[s], column);
-}
-
-static void copy_text(enum statement s, int column, char to[NAME]) {
-    snprintf(to, NAME, "%s", (const char *)sqlite3_column_text(statements[s], column));
+    if (next_row(s, "")) fail(texts[s]);
 }
 
 // ---- Passes: V2 in base64, URL-safe and unpadded ----
@@ -83,26 +90,22 @@ static void copy_text(enum statement s, int column, char to[NAME]) {
 struct bytes { const uint8_t *at; size_t len; };
 
 struct pass {
-    uint8_t room[6144];
+    uint8_t room[MAX_TEXT / 4 * 3];
     struct bytes identifier, caveats[64];
     int count;
     uint8_t signature[SIGNATURE];
 };
 
-static int digit_of(char c) {
-    if (c >= 'A' && c <= 'Z') return c - 'A';
-    if (c >= 'a' && c <= 'z') return c - 'a' + 26;
-    if (c >= '0' && c <= '9') return c - '0' + 52;
-    return c == '-' ? 62 : c == '_' ? 63 : -1;
-}
-
 static size_t decode(const char *text, size_t len, uint8_t *to) {
+    static const char alphabet[] = "ABCDEFGHIJKLMNOPQRSTUVWXYZabcdefghijklmnopqrstuvwxyz0123456789-_";
+    static uint8_t digits[256];  // from 1 on
+    for (uint8_t n = 0; n < 64 && !digits['_']; n++) digits[(uint8_t)alphabet[n]] = n + 1;
     uint32_t bits = 0;
     size_t n = 0;
     for (size_t i = 0, held = 0; i < len; i++) {
-        int digit = digit_of(text[i]);
-        if (digit < 0) return 0;
-        bits = bits << 6 | (uint32_t)digit;
+        uint32_t digit = digits[(uint8_t)text[i]];
+        if (!digit) return 0;
+        bits = bits << 6 | (digit - 1);
         if ((held += 6) >= 8) to[n++] = (uint8_t)(bits >> (held -= 8));
     }
     return n;
@@ -132,7 +135,7 @@ static bool take_end(const uint8_t **at, const uint8_t *end) {
 }
 
 static bool read_pass(const char *text, size_t len, struct pass *pass) {
-    if (len > 8192) return false;
+    if (len > MAX_TEXT) return false;
     const uint8_t *at = pass->room, *end = at + decode(text, len, pass->room);
     struct bytes field;
     if (at == end || *at++ != 2) return false;
@@ -156,34 +159,31 @@ static void sign(const uint8_t *key, size_t key_len, struct bytes text, uint8_t 
 }
 
 // Keys that were derived, as clubdesk keeps them: the last 64 by their names, each beside its root.
-struct kept { char key[NAME]; uint8_t root[64], derived[SIGNATURE]; size_t root_len; uint64_t used; };
+struct kept { char key[NAME]; struct root root; uint8_t derived[SIGNATURE]; uint64_t used; };
 static struct kept kept[64];
 
-static const uint8_t *derived_key(const char *key, const uint8_t *root, size_t root_len) {
-    static uint64_t now;
-    struct kept *oldest = kept;
-    for (struct kept *it = kept; it < kept + 64; it++) {
-        if (it->root_len == root_len && !strcmp(it->key, key) && !memcmp(it->root, root, root_len)) {
-            it->used = ++now;
-            return it->derived;
-        }
-        if (it->used < oldest->used) oldest = it;
-    }
+static const uint8_t *derived_key(const char *key, const struct root *root) {
     static const char maker[] = "macaroons-key-generator";
-    snprintf(oldest->key, NAME, "%s", key);
-    memcpy(oldest->root, root, oldest->root_len = root_len);
-    sign((const uint8_t *)maker, sizeof maker - 1, (struct bytes){root, root_len}, oldest->derived);
-    oldest->used = ++now;
-    return oldest->derived;
+    static uint64_t now;
+    struct kept *oldest = kept, *it = kept;
+    while (it < kept + 64 && (it->root.len != root->len || strcmp(it->key, key) || memcmp(it->root.at, root->at, root->len))) {
+        if (it->used < oldest->used) oldest = it;
+        it++;
+    }
+    if (it == kept + 64) {
+        it = oldest;
+        snprintf(it->key, NAME, "%s", key);
+        it->root = *root;
+        sign((const uint8_t *)maker, sizeof maker - 1, (struct bytes){root->at, root->len}, it->derived);
+    }
+    it->used = ++now;
+    return it->derived;
 }
 
-static bool is_signed(const struct pass *pass, const char *key, const uint8_t *root, size_t root_len) {
-    uint8_t signature[SIGNATURE], next[SIGNATURE];
-    sign(derived_key(key, root, root_len), SIGNATURE, pass->identifier, signature);
-    for (int n = 0; n < pass->count; n++) {
-        sign(signature, SIGNATURE, pass->caveats[n], next);
-        memcpy(signature, next, SIGNATURE);
-    }
+static bool is_signed(const struct pass *pass, const char *key, const struct root *root) {
+    uint8_t signature[SIGNATURE];
+    sign(derived_key(key, root), SIGNATURE, pass->identifier, signature);
+    for (int n = 0; n < pass->count; n++) sign(signature, SIGNATURE, pass->caveats[n], signature);
     return !memcmp(signature, pass->signature, SIGNATURE);
 }
 
@@ -202,37 +202,33 @@ struct request {
 static char reply[MAX_REPLY];
 static int reply_len;
 
-static void respond(int status, const char *phrase, const char *more, const char *body) {
-    reply_len = snprintf(reply, MAX_REPLY,
-        "HTTP/1.1 %d %s\r\nContent-Type: application/json\r\nContent-Length: %zu\r\n%s"
-        "Connection: close\r\n\r\n%s", status, phrase, strlen(body), more, body);
+// The body by a format and its values.
+static void respond(const char *status, const char *more, const char *format, ...) {
+    char body[256];
+    va_list values;
+    va_start(values, format);
+    int len = vsnprintf(body, sizeof body, format, values);
+    va_end(values);
+    reply_len = snprintf(reply, MAX_REPLY, "HTTP/1.1 %s\r\nContent-Type: application/json\r\nContent-Length: %d\r\n%s"
+        "Connection: close\r\n\r\n%s", status, len, more, body);
 }
 
 static void refuse(int fault, int caveat) {
-    static const struct { int status; const char *phrase, *text; } refusals[] = {
-        [1] = {400, "Bad Request", "bad request"}, [2] = {404, "Not Found", "no such path"},
-        [4] = {401, "Unauthorized", "no pass"}, [6] = {400, "Bad Request", "pass malformed"},
-        [9] = {401, "Unauthorized", "not verified"}, [10] = {403, "Forbidden", "key revoked"},
-        [11] = {403, "Forbidden", "caveat not understood"}, [12] = {403, "Forbidden", "caveat denies"},
-        [13] = {409, "Conflict", "number used"}, [14] = {404, "Not Found", "no such facility"},
-        [16] = {409, "Conflict", "not bookable"},
-        [17] = {409, "Conflict", "slot closed"}, [18] = {409, "Conflict", "no places"},
-        [19] = {409, "Conflict", "quota reached"}, [20] = {402, "Payment Required", "balance too low"},
+    static const struct { const char *status, *text; } refusals[] = {
+        [1] = {"400 Bad Request", "bad request"}, [2] = {"404 Not Found", "no such path"}, [4] = {"401 Unauthorized", "no pass"},
+        [6] = {"400 Bad Request", "pass malformed"}, [9] = {"401 Unauthorized", "not verified"}, [10] = {"403 Forbidden", "key revoked"},
+        [11] = {"403 Forbidden", "caveat not understood"}, [12] = {"403 Forbidden", "caveat denies"}, [13] = {"409 Conflict", "number used"},
+        [14] = {"404 Not Found", "no such facility"}, [16] = {"409 Conflict", "not bookable"}, [17] = {"409 Conflict", "slot closed"},
+        [18] = {"409 Conflict", "no places"}, [19] = {"409 Conflict", "quota reached"}, [20] = {"402 Payment Required", "balance too low"},
     };
-    char body[128];
-    int len = snprintf(body, sizeof body, "{\"fault\":%d,\"text\":\"%s\"", fault, refusals[fault].text);
-    if (caveat) len += snprintf(body + len, sizeof body - len, ",\"caveat\":%d", caveat);
-    snprintf(body + len, sizeof body - len, "}");
-    respond(refusals[fault].status, refusals[fault].phrase,
-        refusals[fault].status == 401 ? "WWW-Authenticate: Bearer\r\n" : "", body);
+    char of_caveat[24] = "";
+    if (caveat) snprintf(of_caveat, sizeof of_caveat, ",\"caveat\":%d", caveat);
+    respond(refusals[fault].status, strstr(refusals[fault].status, "401") ? "WWW-Authenticate: Bearer\r\n" : "",
+        "{\"fault\":%d,\"text\":\"%s\"%s}", fault, refusals[fault].text, of_caveat);
 }
 
-// Days since 1970-01-01 of a date (years that begin in March).
 static int day_number(int year, int month, int day) {
-    year -= month <= 2;
-    int era = year / 400, of_era = year % 400;
-    int of_year = (153 * (month + (month > 2 ? -3 : 9)) + 2) / 5 + day - 1;
-    return era * 146097 + of_era * 365 + of_era / 4 - of_era / 100 + of_year - 719468;
+    return (int)(timegm(&(struct tm){.tm_year = year - 1900, .tm_mon = month - 1, .tm_mday = day}) / 86400);
 }
 
 // Reads head and body; which of the desk's refusals comes isn't looked at beyond what is asked here.
@@ -263,55 +259,49 @@ static bool read_request(char *bytes, struct request *it) {
 
 static int moment;
 
-struct row { char key[NAME], member[NAME]; bool revoked; };
+struct row { char key[NAME], member[NAME]; int revoked; };
 
 // The key that a pass names, where the pass is signed under a root of it that is good.
 static bool verify(const struct pass *pass, struct row *row) {
     char name[NAME];
+    struct root root;
+    int until;
+    bool is_known = false, is_good = false;
     if (pass->identifier.len < 5 || pass->identifier.len > 28 || memcmp(pass->identifier.at, "key:", 4)) return false;
     snprintf(name, NAME, "%.*s", (int)pass->identifier.len - 4, pass->identifier.at + 4);
     set(KEY, "t", name);
-    if (!next_row(KEY)) return false;
-    copy_text(KEY, 0, row->key);
-    copy_text(KEY, 1, row->member);
-    row->revoked = number_in(KEY, 3);
-    bool good = is_signed(pass, name, sqlite3_column_blob(statements[KEY], 2), sqlite3_column_bytes(statements[KEY], 2));
-    while (next_row(KEY)) {}
-    if (good) return true;
+    while (next_row(KEY, "ttrn", row->key, row->member, &root, &row->revoked)) is_known = true;
+    if (!is_known || is_signed(pass, name, &root)) return is_known;
     set(OLDER_ROOT, "t", name);
-    while (next_row(OLDER_ROOT)) {
-        if (moment >= number_in(OLDER_ROOT, 1)) continue;
-        good = is_signed(pass, name, sqlite3_column_blob(statements[OLDER_ROOT], 0),
-            sqlite3_column_bytes(statements[OLDER_ROOT], 0));
-    }
-    return good;
+    while (next_row(OLDER_ROOT, "rn", &root, &until)) is_good = moment < until && is_signed(pass, name, &root);
+    return is_good;
 }
 
-static sqlite3_int64 spent_by(const char *key) {
-    sqlite3_int64 spent = 0;
+static int spent_by(const char *key) {
+    int spent = 0, charge, refund;
     set(COSTS, "t", key);
-    while (next_row(COSTS)) spent += number_in(COSTS, 0) - number_in(COSTS, 1);
+    while (next_row(COSTS, "nn", &charge, &refund)) spent += charge - refund;
     return spent;
 }
 
-static sqlite3_int64 open_of(const char *member) {
-    sqlite3_int64 open = 0;
+static int open_of(const char *member) {
+    int open = 0;
     set(OPEN, "tnn", member, moment, moment / DAY);
-    while (next_row(OPEN)) open++;
+    while (next_row(OPEN, "")) open++;
     return open;
 }
 
-struct member { sqlite3_int64 credited, quota, used; };
+struct member { int credited, quota, used; };
 
 static struct member member_of(const char *name) {
     struct member it = {0};
     set(MEMBER, "t", name);
-    while (next_row(MEMBER)) it.credited = number_in(MEMBER, 1), it.quota = number_in(MEMBER, 2), it.used = number_in(MEMBER, 3);
+    while (next_row(MEMBER, "-nnn", &it.credited, &it.quota, &it.used)) {}
     return it;
 }
 
 // Whether a key has spent more than this. Its costs are summed only where what its member has used leaves that open.
-static bool has_spent_above(const struct row *row, sqlite3_int64 most) {
+static bool has_spent_above(const struct row *row, int most) {
     return most < 0 || (member_of(row->member).used > most && spent_by(row->key) > most);
 }
 
@@ -320,36 +310,26 @@ struct facility { bool known; char kind[NAME]; int places, price, opens, shuts; 
 static struct facility facility_of(const char *name) {
     struct facility it = {0};
     set(FACILITY, "t", name);
-    while (next_row(FACILITY)) {
-        it.known = true;
-        copy_text(FACILITY, 1, it.kind);
-        it.places = number_in(FACILITY, 2), it.price = number_in(FACILITY, 3);
-        it.opens = number_in(FACILITY, 4), it.shuts = number_in(FACILITY, 5);
-    }
+    while (next_row(FACILITY, "-tnnnn", it.kind, &it.places, &it.price, &it.opens, &it.shuts)) it.known = true;
     return it;
 }
 
-struct slot { bool closed; int taken; };
+struct slot { int closed, taken; };
 
 static struct slot slot_of(const struct request *request) {
     struct slot it = {0};
     set(SLOT, "tnn", request->facility, request->day, request->hour);
-    while (next_row(SLOT)) it.closed = number_in(SLOT, 0), it.taken = number_in(SLOT, 1);
+    while (next_row(SLOT, "nn", &it.closed, &it.taken)) {}
     return it;
 }
 
-struct booking { bool known, cancelled; char facility[NAME]; int day, hour, guests, charge, left, refund; };
+struct booking { bool known; char facility[NAME]; int day, hour, guests, charge, left, cancelled, refund; };
 
 static struct booking booking_of(const char *key, int number) {
     struct booking it = {0};
     set(BOOKING, "tn", key, number);
-    while (next_row(BOOKING)) {
+    while (next_row(BOOKING, "--tnnnnnnn", it.facility, &it.day, &it.hour, &it.guests, &it.charge, &it.left, &it.cancelled, &it.refund))
         it.known = true;
-        copy_text(BOOKING, 2, it.facility);
-        it.day = number_in(BOOKING, 3), it.hour = number_in(BOOKING, 4), it.guests = number_in(BOOKING, 5);
-        it.charge = number_in(BOOKING, 6), it.left = number_in(BOOKING, 7);
-        it.cancelled = number_in(BOOKING, 8), it.refund = number_in(BOOKING, 9);
-    }
     return it;
 }
 
@@ -389,19 +369,17 @@ static void write_booking(const struct row *row, const struct request *it, int c
 }
 
 static void booked(const char *key, int number, int charge, int left) {
-    char body[128];
-    snprintf(body, sizeof body, "{\"booking\":\"%s/%d\",\"charge\":%d,\"left\":%d}", key, number, charge, left);
-    respond(200, "OK", "", body);
+    respond("200 OK", "", "{\"booking\":\"%s/%d\",\"charge\":%d,\"left\":%d}", key, number, charge, left);
 }
 
 static void book(const struct row *row, const struct request *it, const struct facility *facility) {
-    sqlite3_int64 start = it->day * DAY + it->hour * 60;
+    int start = it->day * DAY + it->hour * 60;
     if (it->hour < facility->opens || it->hour >= facility->shuts || start <= moment || start - moment > WINDOW)
         return refuse(16, 0);
     struct slot slot = slot_of(it);
     if (slot.closed) return refuse(17, 0);
     if (slot.taken + it->guests + 1 > facility->places) return refuse(18, 0);
-    sqlite3_int64 open = open_of(row->member);
+    int open = open_of(row->member);
     struct member member = member_of(row->member);
     if (open >= member.quota) return refuse(19, 0);
     int charge = facility->price * (it->guests + 1);
@@ -418,21 +396,17 @@ static void repeat(const struct row *row, const struct request *it, const struct
 }
 
 static void show_slot(const struct request *it, const struct facility *facility, const char *date) {
-    char body[256];
     struct slot slot = slot_of(it);
-    snprintf(body, sizeof body, "{\"facility\":\"%s\",\"day\":\"%.10s\",\"hour\":%d,\"kind\":\"%s\",\"price\":%d,"
+    respond("200 OK", "", "{\"facility\":\"%s\",\"day\":\"%.10s\",\"hour\":%d,\"kind\":\"%s\",\"price\":%d,"
         "\"places\":%d,\"taken\":%d,\"closed\":%s}", it->facility, date, it->hour, facility->kind,
         facility->price, facility->places, slot.taken, slot.closed ? "true" : "false");
-    respond(200, "OK", "", body);
 }
 
 static void show_account(const struct row *row) {
-    char body[256];
-    sqlite3_int64 spent = spent_by(row->key), open = open_of(row->member);
+    int spent = spent_by(row->key), open = open_of(row->member);
     struct member member = member_of(row->member);
-    snprintf(body, sizeof body, "{\"member\":\"%s\",\"balance\":%lld,\"quota\":%lld,\"open\":%lld,\"spent\":%lld}",
+    respond("200 OK", "", "{\"member\":\"%s\",\"balance\":%d,\"quota\":%d,\"open\":%d,\"spent\":%d}",
         row->member, member.credited - member.used, member.quota, open, spent);
-    respond(200, "OK", "", body);
 }
 
 static void answer(char *bytes) {
