@@ -18,7 +18,7 @@ is stopped. It reads a key's older root only if the key's own doesn't sign, as o
   tests/beside.py [--desks c,go,flask] [COUNT [ROUNDS [ROWS ..]]]      COUNT requests of each kind in a round; without: 500 7 100 100000
 """
 # groups: speed alone
-# wants: gcc libc6-dev libsqlite3-dev nettle-dev strace golang-go golang-github-mattn-go-sqlite3-dev python3-flask python3-gunicorn
+# wants: gcc libc6-dev libsqlite3-dev nettle-dev strace golang-go golang-github-mattn-go-sqlite3-dev golang-gopkg-macaroon.v2-dev python3-flask python3-gunicorn
 
 import argparse
 import os

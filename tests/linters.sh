@@ -23,7 +23,7 @@ pyflakes3 $(by_first_line 'python3') $(find tests examples -name '*.py') || stat
 if command -v gofmt > /dev/null; then
     spelled_otherwise=$(gofmt -l tests/beside_go examples)
     [ -z "$spelled_otherwise" ] || { echo "gofmt: $spelled_otherwise"; status=1; }
-    if [ -d /usr/share/gocode/src/github.com/mattn/go-sqlite3 ]; then
+    if [ -d /usr/share/gocode/src/github.com/mattn/go-sqlite3 ] && [ -d /usr/share/gocode/src/gopkg.in/macaroon.v2 ]; then
         (cd tests/beside_go && GO111MODULE=off GOPATH=/usr/share/gocode go vet -tags libsqlite3 .) || status=1
     fi
 fi

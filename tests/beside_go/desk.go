@@ -20,6 +20,7 @@ import (
 	"time"
 
 	_ "github.com/mattn/go-sqlite3"
+	"gopkg.in/macaroon.v2"
 )
 
 const (
@@ -32,7 +33,6 @@ const (
 type desk struct {
 	sync.Mutex
 	moment   int
-	kept     keptKeys
 	database *sql.DB
 
 	key, older, member, facility, slot, booking, costs, open, addBooking, addUsed, addTaken *sql.Stmt
@@ -48,7 +48,7 @@ func newDesk(path string, moment int) *desk {
 	database, err := sql.Open("sqlite3", "file:"+path+"?"+pragmas)
 	check(err)
 	database.SetMaxOpenConns(1)
-	d := &desk{moment: moment, kept: keptKeys{}, database: database}
+	d := &desk{moment: moment, database: database}
 	texts := bufio.NewScanner(os.Stdin)
 	for _, it := range []**sql.Stmt{&d.key, &d.older, &d.member, &d.facility, &d.slot, &d.booking, &d.costs, &d.open,
 		&d.addBooking, &d.addUsed, &d.addTaken} {
@@ -187,17 +187,17 @@ func (d *desk) answer(r *http.Request) reply {
 	if !isPass {
 		return refuse(6, "")
 	}
-	key, isSigned := d.signer(pass)
+	key, isSigned := d.signer(&pass)
 	if !isSigned {
 		return refuse(9, "")
 	}
 	if key.revoked {
 		return refuse(10, "")
 	}
-	return d.answerUnder(key, pass, it)
+	return d.answerUnder(key, &pass, it)
 }
 
-func (d *desk) answerUnder(key key, pass pass, it request) reply {
+func (d *desk) answerUnder(key key, pass *macaroon.Macaroon, it request) reply {
 	var then request
 	var place facility
 	var charge, left, cancelled, refund int
