@@ -23,6 +23,8 @@ import sys
 from collections import defaultdict
 from pathlib import Path
 
+import more_edits
+
 os.chdir(Path(__file__).resolve().parent.parent)
 # Names that two specs modules define with the same meaning, each with the reason.
 TWINS = {
@@ -135,21 +137,11 @@ def unused_code(crate):
 
 
 def stale_edits(crate):
-    """An edit is pairs of lines `old:` and `new:` under a `file:`; each old text stands once in what the pairs before it made."""
-    for edit, lines in {**texts_below(f"crates/{crate}/must-fail", ".edit"), **texts_below(f"crates/{crate}/more-edits", ".edit")}.items():
-        texts = defaultdict(str)
-        for kind, text in re.findall("^(file|old|new): (.*)", lines, re.MULTILINE):
-            if kind == "file":
-                file = Path("crates", crate, text)
-                texts.setdefault(file, file.read_text(encoding="utf-8") if file.exists() else "")
-                if not texts[file]:
-                    yield f"edit doesn't apply: {edit}: no file {text}"
-            elif kind == "old":
-                old = text
-            elif texts[file].count(old) != 1:
-                yield f"edit doesn't apply: {edit}: there {texts[file].count(old)} times: {old}"
-            else:
-                texts[file] = texts[file].replace(old, text)
+    for edit in [*texts_below(f"crates/{crate}/must-fail", ".edit"), *texts_below(f"crates/{crate}/more-edits", ".edit")]:
+        try:
+            more_edits.edited_texts(f"crates/{crate}", edit)
+        except (more_edits.BadEdit, OSError) as fault:
+            yield f"edit doesn't apply: {edit}: {fault}"
 
 
 def other_versions():

@@ -19,8 +19,6 @@ WRAPPED = re.compile(r"\n +(has no |is not in scope|was not admitted)")
 FAULT = re.compile(r"(?:note: )?(?:\./)?((?:src|specs|proofs)/\S+?):(\d+):\d+: (error: .*|it is not proved .*)")
 WANTED = re.compile(r"no proof: expected answers in (?:\./)?(\S+);")
 HEAD = re.compile(r"(?:pub )?([^\s:]+) : ")
-
-
 # What it says where it meets a limit of its own, and gives no verdict.
 LIMIT = re.compile(r"antt ran out of (stack|the (steps|memory) that the check of one declaration may)|outgrew the memory limit|stopped at the step limit")
 
@@ -35,19 +33,17 @@ class NoVerdict(Exception):
 
 def edited_texts(crate, edit):
     """The texts of the files that an edit changes, by their path in the crate, as `rt ci` applies it."""
-    texts, path, old = {}, None, None
-    with open(edit, encoding="utf-8") as lines:
-        for line in lines.read().split("\n"):
-            if line.startswith("file: "):
-                path = line[6:].strip()
-            elif line.startswith("old: "):
-                old = line[5:]
-            elif line.startswith("new:"):
-                new = line[5:] if line.startswith("new: ") else line[4:]
-                text = texts[path] if path in texts else read(f"{crate}/{path}")
-                if text.count(old) != 1:
-                    raise BadEdit(f"an old text is in {path} {text.count(old)} times")
-                texts[path] = text.replace(old, new)
+    texts = {}
+    for word, rest in re.findall(r"^(file|old|new): ?(.*)", read(edit), re.MULTILINE):
+        if word == "file":
+            path = rest.strip()
+        elif word == "old":
+            old = rest
+        else:
+            text = texts[path] if path in texts else read(f"{crate}/{path}")
+            if text.count(old) != 1:
+                raise BadEdit(f"an old text is in {path} {text.count(old)} times")
+            texts[path] = text.replace(old, rest)
     return texts
 
 
