@@ -63,19 +63,18 @@ class Both:
 
     def compare_rows(self):
         """The rows and the totals of the file are those of the reference."""
-        file, club = self.file, self.club
-        expect("members", dict((row[0], row[1:]) for row in programs.rows(file, "SELECT name, credited, quota, used FROM members")),
+        club = self.club
+        of_file = lambda names, table: {row[0]: row[1:] for row in programs.rows(self.file, f"SELECT {names} FROM {table}")}
+        expect("members", of_file("name, credited, quota, used", "members"),
                {name: (it.credited, it.quota, it.credited - club.balance(name)) for name, it in club.members.items()})
-        expect("facilities", dict((row[0], row[1:]) for row in programs.rows(file, "SELECT * FROM facilities")),
+        expect("facilities", of_file("*", "facilities"),
                {name: (it.kind, it.places, it.price, it.opens, it.shuts) for name, it in club.facilities.items()})
-        expect("keys", dict((row[0], row[1:]) for row in programs.rows(file, "SELECT name, member, root, revoked FROM keys")),
-               {name: (it.member, it.root, int(it.is_revoked)) for name, it in club.keys.items()})
-        expect("older roots", dict((row[0], row[1:]) for row in programs.rows(file, "SELECT * FROM old_roots")),
-               {name: it.older for name, it in club.keys.items() if it.older})
-        expect("bookings", set(programs.rows(file, "SELECT * FROM bookings")),
+        expect("keys", of_file("name, member, root, revoked", "keys"), {name: (it.member, it.root, int(it.is_revoked)) for name, it in club.keys.items()})
+        expect("older roots", of_file("*", "old_roots"), {name: it.older for name, it in club.keys.items() if it.older})
+        expect("bookings", set(programs.rows(self.file, "SELECT * FROM bookings")),
                {(key, number, *it.slot, it.guests, it.charge, it.left, int(it.is_cancelled), it.refund)
                 for key, rows in club.bookings.items() for number, it in rows.items()})
-        expect("slots", {row[:3]: row[3:] for row in programs.rows(file, "SELECT facility, day, hour, taken, closed FROM slots") if any(row[3:])},
+        expect("slots", {row[:3]: row[3:] for row in programs.rows(self.file, "SELECT facility, day, hour, taken, closed FROM slots") if any(row[3:])},
                {slot: (club.taken(slot), int(slot in club.closed)) for slot in {*club.taken_in, *club.closed}
                 if club.taken(slot) or slot in club.closed})
 

@@ -8,7 +8,7 @@ of the gate.
 # groups: pages quick
 # wants: python3-pytest python3-pymacaroons
 
-import hmac
+import itertools
 import json
 
 import pytest
@@ -17,6 +17,7 @@ from pymacaroons import Macaroon
 import desk
 from conftest import Club
 from kinds import Row
+from reference import passes
 
 VECTORS = json.loads((desk.ROOT / "docs" / "vectors.json").read_text(encoding="utf-8"))
 FORMS = ["v1", "v2", "json"]
@@ -56,11 +57,9 @@ OF_WORDS = [it for it in WITH_A_ROOT if texts_of(it) is not None]
 @each(WITH_A_ROOT)
 def test_signatures_by_the_standard_library(vector):
     """The chain under the root."""
-    key = hmac.digest(b"macaroons-key-generator", bytes.fromhex(vector["root"]), "sha256")
-    for text, wanted in zip([bytes_of(vector, "identifier"), *caveats_of(vector)], vector["signatures"], strict=True):
-        key = hmac.digest(key, text, "sha256")
-        assert key.hex() == wanted
-    assert key.hex() == vector["signature"]
+    minted = passes.minted(bytes.fromhex(vector["root"]), bytes_of(vector, "identifier"))
+    chain = [it.signature.hex() for it in itertools.accumulate(caveats_of(vector), passes.Pass.narrowed, initial=minted)]
+    assert chain == vector["signatures"] and chain[-1] == vector["signature"]
 
 
 @each(WITH_A_ROOT)
