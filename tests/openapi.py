@@ -1,11 +1,12 @@
 #!/usr/bin/env -S /usr/bin/python3 -B -m pytest -q -p no:cacheprovider
-"""docs/openapi.yaml obeys the schema of OpenAPI 3.0, and the server gives each of its examples.
+"""Each kind of reply of the server over a file, byte for byte: those of the table in tests/kinds.py. docs/openapi.yaml describes them, obeys
+the schema of OpenAPI 3.0, and each of its examples is such a reply.
 
-The schema is that of Debian's openapi-specification. The scenes of tests/kinds.py are played: status, fields and body of each reply are
-those of the description and obey their schema, and each example is such a reply, byte for byte. The faults and their statuses are those of
-docs/CLIENT.md's table. Not part of the gate.
+The schema is that of Debian's openapi-specification. The scenes of the table are played, each request at a server of its own, so what a
+reply says of earlier ones comes from the file. Its bytes are those of the rules in Python; status, fields and body are those of the
+description and obey their schema. The faults and their statuses are those of docs/CLIENT.md's table. Not part of the gate.
 """
-# groups: pages quick
+# groups: pages programs quick
 # wants: python3-pytest python3-jsonschema python3-yaml openapi-specification
 
 import json
