@@ -1,15 +1,16 @@
 #!/bin/sh
 # Runs what docs/RUNNING.md has for root under "A club", "The pages", "A certificate", "TLS" and "Several clubs", line by line, on a
 # machine of its own (tests/office_room.sh): certbot gets a certificate by nginx's site of the challenges, from an authority of the test's own
-# (tests/acme_stand_in.py), and renews it, after which the site has the new one. Then two clubs at one proxy, that nothing else is answered
-# at the port of the challenges, and the limit of requests, with its sentence. Wants root. Not part of the gate.
+# (Let's Encrypt's pebble), and renews it, after which the site has the new one. Then the desk's replies and the pages behind nginx with
+# TLS, a slow client, two clubs at one proxy, that nothing else is answered at the port of the challenges, and the limit of requests, with
+# its sentence. Wants root. Not part of the gate.
 # groups: package root
-# wants: sudo sqlite3 openssl util-linux bsdutils iproute2 systemd curl nginx-light certbot qrencode
+# wants: sudo sqlite3 openssl util-linux bsdutils iproute2 systemd curl nginx-light certbot pebble qrencode tzdata
 set -eu
 room_net=yes
 . "$(dirname -- "$0")/office_room.sh"
 [ -e /etc/nginx/sites-enabled/default ] || ln -s ../sites-available/default /etc/nginx/sites-enabled/default
-checks=0
+. "$here/checks.sh"
 started=
 leave_all() {
     nginx -s stop 2>/dev/null || :
@@ -17,29 +18,12 @@ leave_all() {
     leave
 }
 trap leave_all EXIT
-trap 'exit 1' INT TERM HUP
-fail() {
-    echo "proxy_holds: $1" >&2
-    exit 1
-}
 
-# same WHAT WANTED FOUND
-same() {
-    checks=$((checks + 1))
-    [ "$2" = "$3" ] || fail "$1: wanted and found
-$2
-$3"
-}
-
-# is_heard URL: until somebody listens there.
+# is_heard URL: somebody listens there.
 is_heard() {
-    for _ in $(seq 100); do
-        code=0
-        curl -s -o told --max-time 1 -k "$1" || code=$?
-        [ "$code" = 7 ] || return 0
-        sleep 0.1
-    done
-    fail "nobody listens at $1"
+    code=0
+    curl -s -o heard --max-time 1 -k "$1" || code=$?
+    [ "$code" != 7 ]
 }
 
 for folder in /var/log /var/www /run; do
@@ -49,6 +33,7 @@ done
 mkdir -p /var/log/nginx /run/sudo
 # No name is asked for outside.
 sed -i 's/^hosts:.*/hosts: files/' /etc/nsswitch.conf
+echo '127.0.0.1 localhost desk.example.org rowing.example.org' >/etc/hosts
 
 # A systemctl that knows the page's words: a reload of nginx, and a club that is enabled, which is served by its configuration.
 cat >"$room/systemctl" <<SYSTEMCTL
@@ -71,7 +56,7 @@ mkdir "$room/page"
 by_page() {
     page_block "$1" >"$room/lines"
     [ -s "$room/lines" ] || fail "docs/RUNNING.md has no lines under '$1'"
-    (cd "$room/page" && sh -e "$room/lines") >said 2>&1 || fail "$1: $(cat said)"
+    holds "$1" env -C "$room/page" sh -e "$room/lines"
     echo "$1: $(wc -l <"$room/lines") lines run"
 }
 
@@ -85,23 +70,50 @@ member_of() {
 }
 member_of club court-1 >told
 cp club-pass "$room/page/amy-1"
-by_page 'The pages'
-[ -s "$room/page/amy-1.html" ] || fail 'the page made no letter'
 systemctl enable --now clubdesk@club
+direct=http://127.0.0.1:8080 site=https://desk.example.org slot=slots/court-1/2026-05-01/18
+# asks BASE METHOD PATH PASS [BODY]: the reply to a request, its status behind it.
+asks() { curl -sS --noproxy '*' --max-time 20 -w ' %{http_code}' -X "$2" -H "Authorization: Bearer $4" ${5:+-d "$5"} "$1/$3"; }
+pass=$(cat club-pass)
+soon 'the desk' is_heard $direct/
+same 'a booking' '{"booking":"amy-1/7","charge":3,"left":1} 200' "$(asks $direct PUT $slot/bookings/7 "$pass" '{"guests":2}')"
+same 'a cancellation' '{"booking":"amy-1/7","refund":3} 200' "$(asks $direct DELETE $slot/bookings/7 "$pass")"
+by_page 'The pages'
+same 'a lost list' "record of amy-1
+7 court-1 2026-05-01 18 guests 2 charge 3 left 1 refund 3" "$(cat told)"
+same 'the link of a letter' 1 "$(grep -c "$site/book.html#$pass" "$room/page/amy-1.html")"
+same "the mode of the club's list" 644 "$(stat -c %a /var/www/club/club.json)"
+club_json() { /usr/lib/clubdesk/club_json /var/lib/clubdesk/club "$1"; }
+cp /etc/clubdesk/club.conf configured
+sed -i 's/^ZONE=.*/ZONE=GMT0BST,M3.5.0\/1,M10.5.0/' /etc/clubdesk/club.conf
+holds 'the zone of the server' club_json Europe/London
+if club_json Europe/Berlin >told 2>&1; then fail "a zone that isn't the server's is taken"; fi
+same 'why it is refused' 1 "$(grep -c 'one of them is another zone' told)"
+cp configured /etc/clubdesk/club.conf
 
 # ---- A certificate, and the site that has it.
 nginx
-mkdir -p "$room/authority" /etc/letsencrypt
-printf 'non-interactive = true\nagree-tos = true\nregister-unsafely-without-email = true\nserver = http://127.0.0.1:14000/directory\n' >/etc/letsencrypt/cli.ini
-python3 "$here/acme_stand_in.py" "$room/authority" 14000 80 >ready 2>authority.log &
+mkdir "$room/authority"
+mkdir -p /etc/letsencrypt
+REQUESTS_CA_BUNDLE=$room/authority/own.pem # which certbot trusts
+export REQUESTS_CA_BUNDLE
+cd "$room/authority"
+openssl req -x509 -newkey rsa:2048 -nodes -days 2 -subj /CN=pebble -addext subjectAltName=IP:127.0.0.1 -keyout key.pem -out own.pem 2>/dev/null
+echo '{"pebble": {"listenAddress": "127.0.0.1:14000", "managementListenAddress": "127.0.0.1:15000", "certificate": "own.pem",
+    "privateKey": "key.pem", "httpPort": 80, "tlsPort": 443}}' >pebble.json
+# Each order has a challenge, and each nonce is taken.
+PEBBLE_AUTHZREUSE=0 PEBBLE_WFE_NONCEREJECT=0 PEBBLE_VA_NOSLEEP=1 pebble -config pebble.json >log 2>&1 &
 started="$started $!"
-for _ in $(seq 100); do [ ! -s ready ] || break; sleep 0.1; done
+cd "$work"
+printf '%s\n' 'non-interactive = true' 'agree-tos = true' 'register-unsafely-without-email = true' 'server = https://127.0.0.1:14000/dir' \
+    >/etc/letsencrypt/cli.ini
+soon 'the authority' curl -sS --cacert "$room/authority/own.pem" -o "$room/authority/ca.pem" https://127.0.0.1:15000/roots/0
 by_page 'A certificate'
 live=/etc/letsencrypt/live/desk.example.org
 sed -i "s,/etc/ssl/clubdesk/certificate.pem,$live/fullchain.pem,; s,/etc/ssl/clubdesk/key.pem,$live/privkey.pem," \
     /usr/share/doc/clubdesk/examples/nginx.conf
 by_page TLS
-is_heard https://127.0.0.1/
+soon 'the site' is_heard https://127.0.0.1/
 code=0
 curl -s -o told http://127.0.0.1/account || code=$?
 same 'nothing else is answered at port 80' 52 "$code"
@@ -110,23 +122,21 @@ served() { openssl s_client -connect 127.0.0.1:443 -servername desk.example.org 
 sleep 1
 old=$(served)
 same 'the site has the certificate' "$(openssl x509 -noout -serial -in "$live/cert.pem")" "$old"
-certbot renew --force-renewal --no-random-sleep-on-renew >said 2>&1 || fail "certbot renew: $(cat said)"
+holds 'certbot renew' certbot renew --force-renewal --no-random-sleep-on-renew
 sleep 1
 [ "$(served)" != "$old" ] || fail 'after the renewal the site has the old certificate'
 same 'the site has the new one' "$(openssl x509 -noout -serial -in "$live/cert.pem")" "$(served)"
 same 'no challenge is left' '' "$(find /var/www/challenge -type f)"
 
 # ---- A second club: each name has its own.
-certbot certonly --webroot --webroot-path /var/www/challenge --domain rowing.example.org --deploy-hook 'systemctl reload nginx' >said 2>&1 ||
-    fail "certbot: $(cat said)"
+holds certbot certbot certonly --webroot --webroot-path /var/www/challenge --domain rowing.example.org --deploy-hook 'systemctl reload nginx'
 by_page 'Several clubs'
 member_of rowing boat-1 >told
 sed -i 's,/live/desk.example.org/,/live/rowing.example.org/,' /etc/nginx/sites-available/rowing
 nginx -t -q && systemctl reload nginx
-is_heard http://127.0.0.1:8081/
+soon 'the second desk' is_heard http://127.0.0.1:8081/
 sleep 1
-printf 'resolve = "desk.example.org:443:127.0.0.1"\nresolve = "rowing.example.org:443:127.0.0.1"\ncacert = "%s/authority/ca.pem"\n' "$room" >.curlrc
-printf 'silent\nshow-error\nnoproxy = "*"\n' >>.curlrc
+printf 'cacert = "%s/authority/ca.pem"\nsilent\nshow-error\nnoproxy = "*"\n' "$room" >.curlrc
 CURL_HOME=$PWD
 export CURL_HOME
 seen() {
@@ -135,9 +145,39 @@ seen() {
 }
 same 'the court of the first' '"facility":"court-1"' "$(seen club desk slots/court-1/2026-05-01/18 | grep -o '"facility":"[a-z0-9-]*"')"
 same 'the boat of the second' '"facility":"boat-1"' "$(seen rowing rowing slots/boat-1/2026-05-01/18 | grep -o '"facility":"[a-z0-9-]*"')"
-same 'the list of facilities for the page' court-1 "$(curl https://desk.example.org/club.json | grep -o 'court-1' | head -n 1)"
-same 'the page' 200 "$(curl -o told -w '%{http_code}' https://desk.example.org/book.html)"
+court='{"name":"court-1","title":"Court 1","kind":"court","opens":0,"shuts":24}'
+same "the club's list" "{\"name\":\"Our club\",\"zone\":\"Europe/Berlin\",\"facilities\":[$court]}" "$(curl $site/club.json)"
+for page in book pass; do
+    curl --compressed -D fields -o told $site/$page.html
+    same "the page $page" "$(sha256sum <"$top/web/$page.html") 1" "$(sha256sum <told) $(grep -ci '^content-encoding: gzip' fields)"
+done
+same '/' "302 $site/book.html" "$(curl -o told -w '%{http_code} %{redirect_url}' $site/)"
 same "a pass of the other club" '{"fault":9,"text":"not verified"}' "$(seen rowing desk account)"
+
+# ---- The desk's own reply to what changes nothing is the proxy's.
+same 'a booking behind TLS' '{"booking":"amy-1/8","charge":3,"left":1} 200' "$(asks $site PUT $slot/bookings/8 "$pass" '{"guests":2}')"
+by_both() { same "$1 $2 through the proxy" "$(asks $direct "$@")" "$(asks $site "$@")"; }
+for guests in 2 1; do by_both PUT $slot/bookings/8 "$pass" "{\"guests\":$guests}"; done
+for path in $slot "$slot?x=%2F" account; do by_both GET "$path" "$pass"; done
+by_both POST account "$pass"
+for given in nonsense "$(printf %8192s '' | tr ' ' a)" "$(printf %8193s '' | tr ' ' a)"; do by_both GET account "$given"; done
+same 'a cancellation behind TLS' '{"booking":"amy-1/8","refund":3} 200' "$(asks $site DELETE $slot/bookings/8 "$pass")"
+health=$("$tool" narrow 'actions = account' <club-pass)
+same 'the health check' '{"member":"amy","balance":1000,"quota":99,"open":0,"spent":0} 200' "$(asks $site GET account "$health")"
+same 'a health pass books nothing' '{"fault":12,"text":"caveat denies","caveat":1} 403' "$(asks $site PUT $slot/bookings/9 "$health" '{"guests":0}')"
+same 'no TLS' 400 "$(curl -o told -w '%{http_code}' http://127.0.0.1:443/account)"
+
+# A client that sends half of a request holds up nobody: the proxy waits for it, and not the desk.
+{
+    printf 'PUT /%s/bookings/9 HTTP/1.1\r\nHost: desk.example.org\r\nContent-Length: 12\r\n' $slot
+    sleep 6
+} | openssl s_client -quiet -connect 127.0.0.1:443 >slow 2>&1 &
+slow=$!
+sleep 0.5
+begun=$(date +%s%N)
+by_both GET account "$pass"
+[ $((($(date +%s%N) - begun) / 1000000)) -lt 3000 ] || fail 'a slow client holds up the others'
+wait "$slow" || :
 
 # ---- The limit: 200 at once pass, and then there is a sentence. Another second, and requests pass again.
 seq 300 >numbers

@@ -1,0 +1,36 @@
+# Read by the scripts beside it that hold what a machine does against what is wanted, behind serving.sh. `checks` counts.
+checks=0
+trap 'exit 1' INT TERM HUP
+
+fail() {
+    echo "$0: $1" >&2
+    exit 1
+}
+
+# same WHAT WANTED FOUND
+same() {
+    checks=$((checks + 1))
+    [ "$2" = "$3" ] || fail "$1: wanted and found
+$2
+$3"
+}
+
+# holds WHAT COMMAND..: it ends with status 0; what it prints is in `told`.
+holds() {
+    what=$1
+    shift
+    checks=$((checks + 1))
+    "$@" >told 2>&1 || fail "$what: $(tail -n 30 told)"
+}
+
+# soon WHAT COMMAND..: it ends with status 0 within a minute; what it prints last is in `told`.
+soon() {
+    what=$1
+    shift
+    tries=600
+    until "$@" >told 2>&1; do
+        tries=$((tries - 1))
+        [ "$tries" -gt 0 ] || fail "$what: $(tail -n 30 told)"
+        sleep 0.1
+    done
+}
