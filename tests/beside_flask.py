@@ -1,6 +1,6 @@
 #!/usr/bin/python3 -B
 """A desk by Flask and Python's sqlite3 under gunicorn with one worker, to hold clubdesk's times against: the same file, statements and
-replies as beside_c/desk.c.
+replies as beside_c/desk.c. The words of caveats and refusals are those of tests/reference.
 
   beside_flask.py FILE MOMENT < STATEMENTS      as beside.py says of each desk
 """
@@ -8,28 +8,23 @@ replies as beside_c/desk.c.
 import base64
 import functools
 import hmac
-import itertools
 import json
 import re
 import sqlite3
 import sys
-from datetime import datetime, timedelta
 from http import HTTPStatus
 
 from flask import Flask, Response, abort, request
 from gunicorn.app.base import BaseApplication
 
+from reference.caveats import ACTIONS, day_of, listed, moment_of, number_of
+from reference.wire import STATUSES, TEXTS
+
 DAY, WINDOW = 1440, 86_400
-DATE, MINUTE = r"\d{4}-\d\d-\d\d", r"\d{4}-\d\d-\d\dT\d\d:\d\d"
 PRAGMAS = "locking_mode = EXCLUSIVE", "journal_mode = WAL", "synchronous = FULL", "foreign_keys = ON", "cache_size = 2000"
 KEY, OLDER_ROOT, MEMBER, FACILITY, SLOT, BOOKING, COSTS, OPEN, ADD_BOOKING, ADD_USED, ADD_TAKEN = sys.stdin.read().splitlines()
-FAULTS = {
-    1: (400, "bad request"), 2: (404, "no such path"), 4: (401, "no pass"), 6: (400, "pass malformed"), 9: (401, "not verified"), 10: (403, "key revoked"),
-    11: (403, "caveat not understood"), 12: (403, "caveat denies"), 13: (409, "number used"), 14: (404, "no such facility"), 16: (409, "not bookable"),
-    17: (409, "slot closed"), 18: (409, "no places"), 19: (409, "quota reached"), 20: (402, "balance too low")}
 # The types of the fields of a pass; 0 is the end of a section.
 FORM = re.compile(b"\x01?\x02\x00(\x02\x00){0,64}\x00\x06")
-LISTS_OF_ACTIONS = {",".join(it) for count in range(1, 5) for it in itertools.combinations(("view", "book", "cancel", "account"), count)}
 app = Flask(__name__)
 app.register_error_handler(404, lambda _fault: refusal(2))
 
@@ -39,9 +34,8 @@ def reply(status, body, **headers):
 
 
 def refusal(number, caveat=None):
-    status, text = FAULTS[number]
-    body = {"fault": number, "text": text} | ({"caveat": caveat} if caveat else {})
-    return reply(status, body, **({"WWW-Authenticate": "Bearer"} if status == 401 else {}))
+    body = {"fault": number, "text": TEXTS[number - 1]} | ({"caveat": caveat} if caveat else {})
+    return reply(STATUSES[number], body, **({"WWW-Authenticate": "Bearer"} if STATUSES[number] == 401 else {}))
 
 
 def refuse(number, caveat=None):
@@ -121,25 +115,17 @@ def open_of(member):
     return len(app.database.execute(OPEN, (member, app.moment, app.moment // DAY)).fetchall())
 
 
-def minutes_in(text, form):
-    """The minutes since 1970 of a day or of a minute; None where it is none."""
-    try:
-        return (datetime.fromisoformat(text) - datetime(1970, 1, 1)) // timedelta(minutes=1) if re.fullmatch(form, text) else None
-    except ValueError:
-        return None
-
-
 def test_caveats(caveats, key, member, action, guests=0, owed=0):
     """Of caveats it knows those that beside.py writes: guests, until, spend, actions."""
     for number, caveat in enumerate(caveats, 1):
         match caveat.decode("ascii", "replace").split(" ", 2):
-            case "guests", "<=", text if re.fullmatch("[1-4]?[0-9]", text):
-                allows = guests <= int(text)
-            case "until", "<", text if (until := minutes_in(text, MINUTE)):
+            case "guests", "<=", text if (most := number_of(text, 49)) is not None:
+                allows = guests <= most
+            case "until", "<", text if (until := moment_of(text)):
                 allows = app.moment < until
-            case "spend", "<=", text if re.fullmatch("0|[1-9][0-9]{0,8}", text):
-                allows = not owed or not has_spent_above(key, member, int(text) - owed)
-            case "actions", "=", text if text in LISTS_OF_ACTIONS:
+            case "spend", "<=", text if (most := number_of(text, 999_999_999)) is not None:
+                allows = not owed or not has_spent_above(key, member, most - owed)
+            case "actions", "=", text if listed(text, ACTIONS):
                 allows = action in text.split(",")
             case _:
                 refuse(11, number)
@@ -156,10 +142,10 @@ def account():
 
 
 def slot_of(name, day, hour):
-    minutes = minutes_in(day, DATE)
-    if minutes is None:
+    number = day_of(day)
+    if number is None:
         refuse(2)
-    return name, minutes // DAY, hour
+    return name, number, hour
 
 
 @app.get("/slots/<name>/<day>/<int(fixed_digits=2, max=23):hour>")
