@@ -6,16 +6,14 @@ so, its options, the values of its options, files for FILE; of office, which has
 Not part of the gate.
 """
 # groups: package
-# wants: python3-pytest zsh fish
+# wants: python3-pytest python3-pexpect zsh fish
 
 import os
-import pty
-import select
 import shutil
 import subprocess
-import time
 from pathlib import Path
 
+import pexpect
 import pytest
 
 import desk
@@ -26,11 +24,15 @@ FORMS = {"v1", "v2", "json"}
 CLUBS = {"rowing", "tennis"}
 
 
-class Bash:
-    """The function that the file defines, called as readline does."""
+class Shell:
+    """What a shell offers behind words, by the file of completions that it has read."""
 
     def __init__(self, name, folder):
         self.name, self.folder = name, folder
+
+
+class Bash(Shell):
+    """The function that the file defines, called as readline does."""
 
     def offers(self, *words):
         script = (f'source "{self.folder}/{self.name}.bash"; COMP_WORDS=("$@"); COMP_CWORD=$(($# - 1)); '
@@ -38,26 +40,21 @@ class Bash:
         return set(printed("bash", "--norc", "-c", script, "bash", self.name, *words).split())
 
 
-class Fish:
-    def __init__(self, name, folder):
-        self.name, self.folder = name, folder
-
+class Fish(Shell):
     def offers(self, *words):
         line = " ".join([self.name, *words])
         text = printed("fish", "--no-config", "-c", f"source {self.folder}/{self.name}.fish; complete -C '{line}'")
         return {it.split("\t")[0] for it in text.splitlines()}
 
 
-class Zsh:
+class Zsh(Shell):
     """An interactive shell at a terminal of its own; a tab writes what would be offered into a file."""
 
     def __init__(self, name, folder):
-        self.name = name
-        self.out = Path(folder, "offered")
-        site = Path(folder, "site")
+        super().__init__(name, folder)
+        self.out, site, setup = (Path(folder, it) for it in ("offered", "site", "setup.zsh"))
         site.mkdir(exist_ok=True)
-        (site / f"_{name}").write_text(Path(folder, f"{name}.zsh").read_text())
-        setup = Path(folder, "setup.zsh")
+        shutil.copy(Path(folder, f"{name}.zsh"), site / f"_{name}")
         setup.write_text(f"""PROMPT= RPROMPT= HISTFILE= fpath=({site} $fpath)
 autoload -Uz compinit; compinit -u -d {folder}/zcompdump
 zstyle ':completion:*' menu no
@@ -68,36 +65,21 @@ compadd() {{
     print -rl -- $found >>{self.out}
     builtin compadd "$@"
 }}
-offered() {{ _main_complete; print END >>{self.out}; }}
+offered() {{ _main_complete; print END; }}
 zle -C offered list-choices offered
 bindkey '^I' offered
 print READY
 """)
-        self.process, self.terminal = pty.fork()
-        if self.process == 0:
-            os.environ.update(TERM="dumb", HOME=str(folder))
-            os.execvp("zsh", ["zsh", "-f", "-i"])
-        self.send(f"source {setup}\n")
-        self.wait(lambda: b"\nREADY" in self.seen.replace(b"\r", b""))
-
-    seen = b""
-
-    def send(self, text):
-        os.write(self.terminal, text.encode())
-
-    def wait(self, is_done):
-        end = time.monotonic() + 20
-        while not is_done():
-            if select.select([self.terminal], [], [], 0.02)[0]:
-                self.seen += os.read(self.terminal, 65536)
-            if time.monotonic() > end:
-                raise AssertionError(f"zsh offers nothing: {self.seen[-2000:]!r}")
+        self.terminal = pexpect.spawn("zsh", ["-f", "-i"], timeout=20, env={**os.environ, "TERM": "dumb", "HOME": str(folder)})
+        self.terminal.delaybeforesend = None
+        self.terminal.sendline(f"source {setup}")
+        self.terminal.expect("\nREADY")
 
     def offers(self, *words):
         self.out.write_text("")
-        self.send("\x15" + " ".join([self.name, *words]) + "\t")
-        self.wait(lambda: self.out.read_text().endswith("END\n"))
-        return set(self.out.read_text().split()) - {"END"}
+        self.terminal.send("\x15" + " ".join([self.name, *words]) + "\t")
+        self.terminal.expect("END")
+        return set(self.out.read_text().split())
 
 
 def longs(found):
