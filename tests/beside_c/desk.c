@@ -111,42 +111,32 @@ static size_t decode(const char *text, size_t len, uint8_t *to) {
     return n;
 }
 
-static bool take_length(const uint8_t **at, const uint8_t *end, size_t *length) {
-    *length = 0;
-    for (int shift = 0; *at < end && shift < 21; shift += 7) {
-        uint8_t byte = *(*at)++;
-        *length |= (size_t)(byte & 127) << shift;
-        if (byte < 128) return true;
+// Takes a field of a type from what is left. The end of a section, type 0, has no bytes.
+static bool take(struct bytes *rest, uint8_t type, struct bytes *field) {
+    const uint8_t *at = rest->at, *end = at + rest->len;
+    size_t length = 0;
+    if (at == end || *at++ != type) return false;
+    for (int shift = 0, more = type; more; shift += 7) {
+        if (at == end || shift == 21) return false;
+        length |= (size_t)(*at & 127) << shift;
+        more = *at++ & 128;
     }
-    return false;
-}
-
-static bool take_field(const uint8_t **at, const uint8_t *end, uint8_t type, struct bytes *field) {
-    if (*at >= end || **at != type) return false;
-    ++*at;
-    if (!take_length(at, end, &field->len) || field->len > (size_t)(end - *at)) return false;
-    field->at = *at;
-    *at += field->len;
+    if (length > (size_t)(end - at)) return false;
+    *field = (struct bytes){at, length};
+    *rest = (struct bytes){at + length, (size_t)(end - at) - length};
     return true;
-}
-
-static bool take_end(const uint8_t **at, const uint8_t *end) {
-    return *at < end && *(*at)++ == 0;
 }
 
 static bool read_pass(const char *text, size_t len, struct pass *pass) {
     if (len > MAX_TEXT) return false;
-    const uint8_t *at = pass->room, *end = at + decode(text, len, pass->room);
-    struct bytes field;
-    if (at == end || *at++ != 2) return false;
-    take_field(&at, end, 1, &field);
-    if (!take_field(&at, end, 2, &pass->identifier) || !take_end(&at, end)) return false;
-    for (pass->count = 0; at < end && *at == 2; pass->count++) {
-        if (pass->count == 64) return false;
-        if (!take_field(&at, end, 2, &pass->caveats[pass->count]) || !take_end(&at, end)) return false;
-    }
-    if (!take_end(&at, end) || !take_field(&at, end, 6, &field)) return false;
-    if (field.len != SIGNATURE || at != end) return false;
+    struct bytes rest = {pass->room, decode(text, len, pass->room)}, field;
+    if (!rest.len || *rest.at++ != 2) return false;
+    rest.len--;
+    take(&rest, 1, &field);
+    if (!take(&rest, 2, &pass->identifier) || !take(&rest, 0, &field)) return false;
+    for (pass->count = 0; rest.len && *rest.at == 2; pass->count++)
+        if (pass->count == 64 || !take(&rest, 2, &pass->caveats[pass->count]) || !take(&rest, 0, &field)) return false;
+    if (!take(&rest, 0, &field) || !take(&rest, 6, &field) || field.len != SIGNATURE || rest.len) return false;
     memcpy(pass->signature, field.at, SIGNATURE);
     return true;
 }
