@@ -1,15 +1,11 @@
 #!/usr/bin/python3 -B
 """A desk by Flask and Python's sqlite3 under gunicorn with one worker, to hold clubdesk's times against: the same file, statements and
-replies as beside_c/desk.c. The words of caveats and refusals are those of tests/reference.
+replies as beside_c/desk.c. Passes are read and verified by tests/reference, which has the values of caveats and the refusals, too.
 
   beside_flask.py FILE MOMENT < STATEMENTS      as beside.py says of each desk
 """
 
-import base64
-import functools
-import hmac
 import json
-import re
 import sqlite3
 import sys
 from http import HTTPStatus
@@ -17,14 +13,13 @@ from http import HTTPStatus
 from flask import Flask, Response, abort, request
 from gunicorn.app.base import BaseApplication
 
+from reference import passes
 from reference.caveats import ACTIONS, day_of, listed, moment_of, number_of
 from reference.wire import STATUSES, TEXTS
 
 DAY, WINDOW = 1440, 86_400
 PRAGMAS = "locking_mode = EXCLUSIVE", "journal_mode = WAL", "synchronous = FULL", "foreign_keys = ON", "cache_size = 2000"
 KEY, OLDER_ROOT, MEMBER, FACILITY, SLOT, BOOKING, COSTS, OPEN, ADD_BOOKING, ADD_USED, ADD_TAKEN = sys.stdin.read().splitlines()
-# The types of the fields of a pass; 0 is the end of a section.
-FORM = re.compile(b"\x01?\x02\x00(\x02\x00){0,64}\x00\x06")
 app = Flask(__name__)
 app.register_error_handler(404, lambda _fault: refusal(2))
 
@@ -42,41 +37,6 @@ def refuse(number, caveat=None):
     abort(refusal(number, caveat))
 
 
-def fields_of(raw):
-    """The fields of a pass in V2, each with its type; the end of a section has no bytes."""
-    at = 1
-    while at < len(raw):
-        kind, length, shift, is_more = raw[at], 0, 0, raw[at] > 0
-        at += 1
-        while is_more:
-            length, shift, is_more, at = length | (raw[at] & 127) << shift, shift + 7, raw[at] > 127, at + 1
-        yield kind, raw[at:at + length]
-        at += length
-
-
-def read_pass(text):
-    """The identifier, the caveats and the signature of a pass in base64, URL-safe and unpadded."""
-    try:
-        raw = base64.b64decode(text + "=" * (-len(text) % 4), b"-_", validate=True)
-        kinds, fields = zip(*fields_of(raw))
-    except (ValueError, IndexError):
-        refuse(6)
-    if len(text) > 8192 or raw[0] != 2 or not FORM.fullmatch(bytes(kinds)) or len(fields[-1]) != 32:
-        refuse(6)
-    identifier, *caveats = (it for kind, it in zip(kinds, fields) if kind == 2)
-    return identifier, caveats, fields[-1]
-
-
-@functools.lru_cache(64)
-def derived_key(root):
-    return hmac.digest(b"macaroons-key-generator", root, "sha256")
-
-
-def is_signed(root, identifier, caveats, signature):
-    chain = functools.reduce(lambda key, text: hmac.digest(key, text, "sha256"), [identifier, *caveats], derived_key(root))
-    return hmac.compare_digest(chain, signature)
-
-
 def row_of(statement, *values):
     return app.database.execute(statement, values).fetchone()
 
@@ -86,20 +46,21 @@ def verified():
     scheme, _, text = request.headers.get("Authorization", "").partition(" ")
     if scheme.lower() != "bearer":
         refuse(4)
-    identifier, caveats, signature = read_pass(text)
-    row = row_of(KEY, identifier[4:].decode("ascii", "replace"))
-    if not row or not identifier.startswith(b"key:"):
+    try:
+        given = passes.read(text.encode())
+    except passes.NoPass as it:
+        refuse(it.fault)
+    row = row_of(KEY, given.identifier[4:].decode("ascii", "replace"))
+    if not row or not given.identifier.startswith(b"key:"):
         refuse(9)
     name, member, root, revoked = row
-    is_good = is_signed(root, identifier, caveats, signature)
-    if not is_good:
+    if not given.is_signed(root):
         older = row_of(OLDER_ROOT, name)
-        is_good = older and app.moment < older[1] and is_signed(older[0], identifier, caveats, signature)
-    if not is_good:
-        refuse(9)
+        if not older or app.moment >= older[1] or not given.is_signed(older[0]):
+            refuse(9)
     if revoked:
         refuse(10)
-    return caveats, name, member
+    return given.caveats, name, member
 
 
 def spent_by(key):
