@@ -38,9 +38,7 @@ make_club() {
     "$desk" add-key "$1" amy-1 amy "$(openssl rand -hex 32)" >pass
 }
 
-CLUBDESK=$desk
-PASSTOOL=$tool
-export CLUBDESK PASSTOOL
+export CLUBDESK="$desk" PASSTOOL="$tool"
 
 # ---- An installation.
 sums() { (cd "$1" && find . -type f -exec sha256sum {} + | sort -k 2); }
@@ -73,8 +71,7 @@ refused 'files that get too long' sh -c "ulimit -f 1000; '$top/bin/install' loca
 mkdir local/share/man/man1/x && mv local/share/man/man1/passtool.1 local/share/man/man1/x && mv local/share/man/man1/x local/share/man/man1/passtool.1
 refused 'a folder at a name' "$top/bin/install" local
 rm -r local
-refused_new() { if sh -c "ulimit -f 1000; '$top/bin/install' local" >told 2>said; then fail 'it installs'; fi; }
-refused_new
+if sh -c "ulimit -f 1000; '$top/bin/install' local" >told 2>&1; then fail 'it installs'; fi
 [ ! -e local ] || fail 'a refused installation left its folders'
 "$top/bin/install" local >told
 
@@ -99,15 +96,11 @@ done
 
 # Its command, with the variables of the example but another port, for another user, with its mask, under strace: a club that isn't there
 # is made, a request is answered, and each call is one that the unit allows. Before it, the unit looks whether the club is there.
-# shellcheck source=/dev/null disable=SC2153 # the configuration, which has FILE and ZONE
-command=$(. ./club.conf; ZONE=$ZONE FILE=$FILE PORT=0 /usr/bin/python3 -c '
-import os, re, sys
-line = re.search("^ExecStart=(.*)$", open(sys.argv[1], encoding="utf-8").read(), re.M)[1]
-print(re.sub(r"\$\{(\w+)\}", lambda found: os.environ[found[1]], line).replace("--count 1000000", "--count 2"))' "$unit")
+# shellcheck source=/dev/null disable=SC2034 # its line has the variables of the configuration
+command=$(. ./club.conf; PORT=0; eval "echo $(sed -n 's/^ExecStart=//p' "$unit")" | sed 's/--count 1000000/--count 2/')
 mkdir -m 700 state
 chown nobody state
 mask=$(sed -n 's/^UMask=//p' "$unit")
-: >listened && chown nobody listened
 runuser -u nobody -- sh -c "umask $mask; exec strace -f -o state/calls $command" >listening 2>log &
 server=$!
 read -r line <listening
