@@ -16,50 +16,25 @@ set -eu
 [ "$(id -u)" = 0 ] || { echo "$0 wants root, for a fresh Debian" >&2; exit 2; }
 top=$(CDPATH='' cd -P -- "$here/.." && pwd)
 PATH=/usr/sbin:/sbin:$PATH
-CLUBDESK=$desk
-PASSTOOL=$tool
-export CLUBDESK PASSTOOL
+export CLUBDESK="$desk" PASSTOOL="$tool"
 version=$(cat "$top/VERSION")
-checks=0
+. "$here/checks.sh"
 machine=
 client=
-
-fail() {
-    echo "$1" >&2
-    exit 1
-}
-
-# same WHAT WANTED FOUND
-same() {
-    checks=$((checks + 1))
-    [ "$2" = "$3" ] || fail "$1: wanted and found
-$2
-$3"
-}
-
-# holds WHAT COMMAND..: it ends with status 0.
-holds() {
-    what=$1
-    shift
-    checks=$((checks + 1))
-    "$@" >told 2>&1 || fail "$what: $(tail -n 20 told)"
-}
 
 # ---- The fresh Debian. `inside` gives a command in it, once it is booted; `offline` in it unbooted, with this machine's network.
 root=$work/debian
 boot() {
     systemd-nspawn -q -D "$root" -M "clubdesk-$$" --register=no --keep-unit --private-network --link-journal=no --boot >console 2>&1 </dev/null &
     machine=$!
-    tries=300
     leader=
-    until [ -n "$leader" ] && inside systemctl is-system-running >state 2>&1; do
-        case $(cat state 2>/dev/null) in degraded) break ;; esac
-        tries=$((tries - 1))
-        [ "$tries" -gt 0 ] || fail "it doesn't boot: $(cat state; tail console)"
-        sleep 0.2
-        leader=$(pgrep -P "$machine" 2>/dev/null | head -n 1 || :)
-    done
+    soon "it doesn't boot" is_up
     same 'units that failed at boot' '' "$(inside systemctl --failed --plain --no-legend)"
+}
+is_up() {
+    leader=$(pgrep -P "$machine" | head -n 1)
+    [ -n "$leader" ] || return 1
+    inside systemctl is-system-running >state 2>&1 || grep -q degraded state || { cat state; tail console; return 1; }
 }
 inside() { nsenter -t "$leader" -a -- env -i PATH=/usr/sbin:/usr/bin:/sbin:/bin HOME=/root LC_ALL=C.UTF-8 DEBIAN_FRONTEND=noninteractive "$@"; }
 offline() { systemd-nspawn -q -D "$root" --register=no --keep-unit --pipe -E DEBIAN_FRONTEND=noninteractive "$@"; }
@@ -77,7 +52,6 @@ leave_all() {
     leave
 }
 trap leave_all EXIT
-trap 'exit 1' INT TERM HUP
 
 # ---- The package: the same bytes, whoever makes it, when and how.
 holds 'bin/package' "$top/bin/package" first
@@ -87,13 +61,13 @@ same 'what is made' "SHA256SUMS clubdesk-$version-amd64.tar.xz clubdesk_${versio
 (cd first && sha256sum --quiet -c SHA256SUMS)
 deb=clubdesk_${version}_amd64.deb
 # Root may run lintian, which else advises against it.
-lintian --allow-root --fail-on error,warning --tag-display-limit 0 "first/$deb" >told 2>&1 || fail "lintian: $(cat told)"
+holds lintian lintian --allow-root --fail-on error,warning --tag-display-limit 0 "first/$deb"
 same 'what lintian says' '' "$(cat told)"
 dpkg-deb -x "first/$deb" unpacked
 same 'its completions' 'clubdesk office passtool _clubdesk _office _passtool clubdesk.fish office.fish passtool.fish' \
     "$(cd unpacked/usr/share && for folder in bash-completion/completions zsh/vendor-completions fish/vendor_completions.d; do ls $folder; done | xargs)"
-for program in clubdesk passtool; do
-    same "the packed $program" "$(sha256sum <"$(if [ $program = clubdesk ]; then echo "$desk"; else echo "$tool"; fi)")" "$(sha256sum <"unpacked/usr/bin/$program")"
+for program in "$desk" "$tool"; do
+    same "the packed ${program##*/}" "$(sha256sum <"$program")" "$(sha256sum <"unpacked/usr/bin/${program##*/}")"
 done
 # A version that is newer, one whose program opens no club, and one that is newer still.
 # other VERSION [COMMAND]: the package with another version, after COMMAND has changed its tree.
@@ -122,16 +96,16 @@ cp "first/$deb" ./*.deb first/*.tar.xz "$root/root/"
 offline sh -c "apt-get update && apt-get install --download-only /root/$deb qrencode xz-utils" >apt.log 2>&1 </dev/null || fail "apt-get: $(tail apt.log)"
 boot
 
-# blocks HEADING: the lines for root of a section of RUNNING, as the package has it.
-running=unpacked/usr/share/doc/clubdesk/docs/RUNNING.md
+# The lines for root of RUNNING, as the package has it, each behind the heading of its section and a tab.
+awk '
+    /^```/ { if (inside) inside = 0; else if ($0 == "```sh" && !other) inside = 1; else other = !other; next }
+    inside { print title "\t" $0; next }
+    !other && /^#+ / { title = $0; sub(/^#+ /, "", title) }' unpacked/usr/share/doc/clubdesk/docs/RUNNING.md >running
+# blocks HEADING: those of a section.
 blocks() {
     echo "$1" >>given
-    found=$(awk -v heading="$1" '
-        /^```/ { if (inside) inside = 0; else if ($0 == "```sh" && here) inside = 1; else other = !other; next }
-        inside { print; next }
-        !other && /^#+ / { title = $0; sub(/^#+ /, "", title); here = title == heading }' "$running")
-    [ -n "$found" ] || fail "RUNNING has no lines for root in '$1'"
-    echo "$found"
+    awk -F '\t' -v heading="$1" '$1 == heading { print substr($0, length($1) + 2); found = 1 } END { exit !found }' running ||
+        fail "RUNNING has no lines for root in '$1'"
 }
 # gives WHAT: the lines on standard input are given by root in the fresh Debian, each of which has to do its work.
 gives() {
@@ -140,14 +114,9 @@ gives() {
     inside sh /root/lines >told 2>&1 </dev/null || fail "RUNNING, $1: $(tail -n 30 told)"
 }
 
-# answers PORT: the desk listens there, within ten seconds, and refuses a request without a pass.
+# answers PORT: the desk listens there, and refuses a request without a pass.
 answers() {
-    tries=100
-    until inside curl -sS --max-time 5 "http://127.0.0.1:$1/account" >told 2>&1; do
-        tries=$((tries - 1))
-        [ "$tries" -gt 0 ] || fail "no desk at port $1: $(cat told; inside journalctl -q -n 20 -u 'clubdesk@*')"
-        sleep 0.1
-    done
+    soon "the desk at port $1" inside curl -sS --max-time 5 "http://127.0.0.1:$1/account"
     same "the desk at port $1" '{"fault":4,"text":"no pass"}' "$(cat told)"
 }
 
@@ -209,8 +178,10 @@ by_tls() {
     inside curl -sS --max-time 20 --cacert /etc/ssl/clubdesk/certificate.pem --resolve desk.example.org:443:127.0.0.1 -w ' %{http_code}' \
         -H @/root/field -X "$1" ${3:+-d "$3"} "https://desk.example.org/$2"
 }
+# books WHAT: the booking behind TLS, and each repeat of it.
+books() { same "$1" '{"booking":"amy-1/7","charge":3,"left":47} 200' "$(by_tls PUT "slots/court-1/$day/18/bookings/7" '{"guests":2}')"; }
 day=$(TZ=CET-1CEST,M3.5.0,M10.5.0/3 date -d '+2 days' +%F)
-same 'a booking behind TLS' '{"booking":"amy-1/7","charge":3,"left":47} 200' "$(by_tls PUT "slots/court-1/$day/18/bookings/7" '{"guests":2}')"
+books 'a booking behind TLS'
 served=$(($(date +%s) - installed))
 [ "$served" -lt 600 ] || fail "a served club behind TLS took $served seconds"
 for page in book.html pass.html; do
@@ -385,20 +356,17 @@ same 'the copy' "600 clubdesk" "$(inside stat -c '%a %U' "/var/backups/clubdesk/
 blocks 'One program at a time' | gives 'One program at a time'
 same 'a booking after the copy' '{"booking":"amy-1/8","charge":1,"left":49} 200' "$(by_tls PUT "slots/court-1/$day/19/bookings/8" '{"guests":0}')"
 blocks Restore | sed "s/2026-05-01T031007Z/$copy/" | gives Restore
-answers 8080
-same 'what was before it' '{"booking":"amy-1/7","charge":3,"left":47} 200' "$(by_tls PUT "slots/court-1/$day/18/bookings/7" '{"guests":2}')"
+books 'what was before it'
 same 'what came after it' '{"fault":15,"text":"no such booking"} 404' "$(by_tls DELETE "slots/court-1/$day/19/bookings/8")"
 
 # ---- A machine that boots anew, also after its plug was pulled.
 halt
 boot
-answers 8080
-same 'the desk after a boot' '{"booking":"amy-1/7","charge":3,"left":47} 200' "$(by_tls PUT "slots/court-1/$day/18/bookings/7" '{"guests":2}')"
+books 'the desk after a boot'
 kill -9 "$leader"
 wait "$machine" || :
 boot
-answers 8080
-same 'the desk after a power cut' '{"booking":"amy-1/7","charge":3,"left":47} 200' "$(by_tls PUT "slots/court-1/$day/18/bookings/7" '{"guests":2}')"
+books 'the desk after a power cut'
 
 # ---- An upgrade while a client books: each booking that was acknowledged is in the file, and the program is another process.
 inside sh -c 'runuser -u clubdesk -- clubdesk credit /var/lib/clubdesk/club amy 100000 >/dev/null; cat >/root/client' <"$here/package_lives.py"
@@ -442,8 +410,7 @@ same 'what stays' '/etc/clubdesk/club.conf /etc/clubdesk/rowing.conf /var/lib/cl
     "$(inside ls /etc/clubdesk/club.conf /etc/clubdesk/rowing.conf /var/lib/clubdesk/club /var/lib/clubdesk/rowing | xargs)"
 holds 'the installation after it' inside apt-get install "/root/$deb"
 holds 'a start after it' inside systemctl start clubdesk@club
-answers 8080
-same 'the desk after it' '{"booking":"amy-1/7","charge":3,"left":47} 200' "$(by_tls PUT "slots/court-1/$day/18/bookings/7" '{"guests":2}')"
+books 'the desk after it'
 
 # ---- Purged: the clubs, their back-ups and their user stay, and nothing else of the package.
 inside apt-get purge clubdesk >told 2>&1 || fail "purge: $(tail told)"
@@ -463,14 +430,11 @@ gives 'its desk' <<'LINES'
 cp /usr/local/share/doc/clubdesk/examples/club.conf /etc/clubdesk/club.conf
 systemctl start clubdesk@club clubdesk-back-up@club clubdesk-sheet@club clubdesk-health@club
 LINES
-answers 8080
-same 'its desk' '{"booking":"amy-1/7","charge":3,"left":47} 200' "$(by_tls PUT "slots/court-1/$day/18/bookings/7" '{"guests":2}')"
+books 'its desk'
 same 'units that failed' '' "$(inside systemctl --failed --plain --no-legend)"
 halt
 sort -u given >wanted
-awk '
-    /^```/ { if (inside) inside = 0; else if ($0 == "```sh") { inside = 1; print title } else other = !other; next }
-    !inside && !other && /^#+ / { title = $0; sub(/^#+ /, "", title) }' "$running" | sort -u >found
+cut -f 1 running | sort -u >found
 same 'sections whose lines nobody gave, but those of a certificate, which tests/proxy_holds.sh gives' 'A certificate' "$(comm -13 wanted found)"
 echo "$checks checks of the package's life passed; a served club behind TLS after $served seconds of RUNNING, without the downloads;" \
     "$acknowledged bookings in the course of three upgrades"
