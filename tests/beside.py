@@ -30,6 +30,7 @@ import sys
 import tempfile
 from collections import Counter, defaultdict
 from contextlib import ExitStack, closing
+from pathlib import Path
 
 import desk
 from kinds import ACCOUNT, NOON, THREE, TWO, Row, key_pass, text
@@ -78,15 +79,12 @@ class Asker:
     def round(self, count):
         made = {kind: [] for kind in KINDS}
         for at in range(self.asked, self.asked + count):
-            key, number = self.keys[at % len(self.keys)], self.first_number + at // len(self.keys)
-            slot = slot_path(self.slot + at)
-            book = lambda text: Row("PUT", f"{slot}/bookings/{number}", TWO, text).data
-            made["booking"].append(book(self.passes[key]))
-            made["repeat"].append(book(self.passes[key]))
-            made["account"].append(ACCOUNT.under(self.passes[key]).data)
-            made["slot"].append(Row("GET", slot, passed=self.passes[key]).data)
-            made["refused"].append(book(self.narrow[key]))
-            made["forged"].append(book(self.forged[key]))
+            key, slot = self.keys[at % len(self.keys)], slot_path(self.slot + at)
+            booking, whole = Row("PUT", f"{slot}/bookings/{self.first_number + at // len(self.keys)}", TWO), self.passes[key]
+            rows = booking.under(whole), booking.under(whole), ACCOUNT.under(whole), Row("GET", slot, passed=whole), \
+                booking.under(self.narrow[key]), booking.under(self.forged[key])
+            for kind, row in zip(KINDS, rows, strict=True):
+                made[kind].append(row.data)
         self.asked += count
         return made
 
@@ -132,11 +130,9 @@ DESKS = {
 
 def write_statements():
     """The texts of ours that the desks prepare, one a line."""
-    texts = (desk.ROOT / "crates" / "club_tables" / "src" / "texts.rt").read_text(encoding="utf-8")
-    with open("statements", "w", encoding="utf-8") as file:
-        for name in STATEMENTS:
-            text = re.search(f'const {name}: &str = "(.*?)";', texts, re.DOTALL)[1]
-            file.write(re.sub(r"\\\n *", "", text) + "\n")
+    source = (desk.ROOT / "crates" / "club_tables" / "src" / "texts.rt").read_text(encoding="utf-8")
+    texts = dict(re.findall(r'const (\w+): &str = "(.*?)";', source, re.DOTALL))
+    Path("statements").write_text("".join(re.sub(r"\\\n *", "", texts[name]) + "\n" for name in STATEMENTS), encoding="utf-8")
 
 
 class Beside:
@@ -159,23 +155,16 @@ class Beside:
 
 def ask(server, requests):
     """How long each request took, and the replies."""
-    with open("requests", "wb") as file:
-        for each in requests:
-            file.write(b"%d\n" % len(each) + each)
+    Path("requests").write_bytes(b"".join(b"%d\n%b" % (len(it), it) for it in requests))
     words = [*on(PROCESSORS[-1]), "./client", str(server.port), "requests", "replies"]
     told = subprocess.run(words, check=True, capture_output=True, text=True).stdout
-    with open("replies", "rb") as replies:
-        return [float(line) for line in told.split()], replies.read()
+    return [float(line) for line in told.split()], Path("replies").read_bytes()
 
 
 def in_order(replies):
-    """The replies with the fields of each head in order, without those that a server adds of its own."""
-    heads_and_bodies = []
-    for reply in re.split(rb"(?=HTTP/1\.1 \d{3} )", replies)[1:]:
-        head, body = reply.split(b"\r\n\r\n")
-        status, *fields = head.split(b"\r\n")
-        heads_and_bodies.append((status, sorted(it for it in fields if not it.startswith((b"Date: ", b"Server: "))), body))
-    return heads_and_bodies
+    """The replies with the lines of each head in order, without those that a server adds of its own."""
+    parts = [it.partition(b"\r\n\r\n") for it in re.split(rb"(?=HTTP/1\.1 \d{3} )", replies)[1:]]
+    return [(sorted(it for it in head.split(b"\r\n") if not it.startswith((b"Date: ", b"Server: "))), body) for head, _, body in parts]
 
 
 def compare(kind, replies):
@@ -240,8 +229,8 @@ def calls(clubdesk, requests):
     """How often a server makes each call of the system for these requests."""
     with desk.Server(clubdesk, "traced", len(requests), "--at", NOON, by=["strace", "-c", "-o", "counts"]) as server:
         ask(server, requests)
-    with open("counts", encoding="utf-8") as lines:
-        return Counter({it[-1]: int(it[3]) for it in map(str.split, lines) if re.fullmatch(r"[0-9.]+", it[0]) and it[-1] != "total"})
+    lines = map(str.split, Path("counts").read_text(encoding="utf-8").splitlines())
+    return Counter({it[-1]: int(it[3]) for it in lines if re.fullmatch(r"[0-9.]+", it[0]) and it[-1] != "total"})
 
 
 def show_calls(clubdesk, path, asker):
@@ -276,27 +265,24 @@ def main():
     with tempfile.TemporaryDirectory(dir="/dev/shm") as folder:
         os.chdir(folder)
         built("client"), built("desk", "-lsqlite3", "-lnettle"), write_statements()
-        desks = {name: DESKS[name]() for name in given.desks}
-        titles = "".join(f"{it:>9}" for it in (OURS, *desks, PLAIN)), "".join(f"{it:>7}" for it in (*desks, PLAIN))
+        desks, medians = {name: DESKS[name]() for name in given.desks}, {}
+        names = (OURS, *desks, PLAIN)
         print(f"load {os.getloadavg()[0]:.1f} on {os.cpu_count()} processors; microseconds, medians of {rounds} rounds, and clubdesk's ratio to each")
-        print(f"{'bookings':>28} {'':8}{titles[0]}  {titles[1]}")
+        print(f"{'bookings':>36} " + "".join(f"{it:>9}" for it in names) + "  " + "".join(f"{it:>7}" for it in names[1:]))
         keys, compared = [f"x{n:03}" for n in range(KEYS_ASKED)], 0
-
-        def shown(its_size, askers, its_count):
-            nonlocal compared
+        titles = f"{size}, {BIG_ROWS} of them own", f"{size}, none of them own"
+        runs = [(its_size, {str(its_size): Asker(keys, 1000, 0)}, count) for its_size in given.sizes]
+        runs.append((size, {title: Asker([key], 20_000, slot) for title, key, slot in zip(titles, ("big", "new"), (0, 24 * 9 * 24), strict=True)},
+                     min(count, MOST_OPEN // rounds)))
+        for its_size, askers, its_count in runs:
+            if not os.path.exists(f"club{its_size}"):
+                make_file(clubdesk, f"club{its_size}", its_size, its_size == size)
             found, replies = measure(clubdesk, f"club{its_size}", askers, its_count, rounds, desks)
+            compared += replies
             for title, its in found.items():
                 show(title, its)
-            compared += replies
-            return found.values()
-
-        for its_size in given.sizes:
-            make_file(clubdesk, f"club{its_size}", its_size, its_size == size)
-            found, = shown(its_size, {str(its_size): Asker(keys, 1000, 0)}, count)
-        titles = f"{size}, {BIG_ROWS} of them own", f"{size}, none of them own"
-        askers = {title: Asker([key], 20_000, slot) for title, key, slot in zip(titles, ("big", "new"), (0, 24 * 9 * 24), strict=True)}
-        big, new = shown(size, askers, min(count, MOST_OPEN // rounds))
-        show_ratios(size, found, big, new)
+            medians |= found
+        show_ratios(size, *(medians[title] for title in (str(size), *titles)))
         print(f"{compared} replies compared, none differs; load {os.getloadavg()[0]:.1f}")
         show_calls(clubdesk, f"club{given.sizes[0]}", Asker(keys, 50_000, 0))
 
