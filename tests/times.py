@@ -1,23 +1,41 @@
-"""Runs the gate in a clone, and adds up the seconds of each crate: times.py FOLDER [CRATE ..], run by times.sh."""
-import os, re, signal, subprocess, sys, time
+#!/usr/bin/env python3
+"""What the gate costs: seconds of processor for the proof, the tests and the edits of each crate.
 
-work, names = sys.argv[1], sys.argv[2:]
-clone, log = f"{work}/clone", f"{work}/log"
+Runs `rt ci` in a scratch clone of HEAD, and adds up the seconds of the compiler's processes: those of the crate's proof (with a program's
+builds), of its tests' proof and build, and of its must-fail edits. Last come the sums, the wall time, and the gate's own last line. The
+status is the gate's.
+  tests/times.py                 the whole gate
+  tests/times.py club_core ..    `rt ci club_core ..`: these crates, and those below them
+Times are read from /proc once a second, so a process counts up to a second less than it took; running the programs and tests
+isn't counted. Seconds vary by a quarter with what else the machine does. Not part of the gate.
+"""
+# groups: proofs alone
+# minutes: 600
+
+import os
+import re
+import signal
+import subprocess
+import sys
+import time
+from collections import Counter
+from pathlib import Path
+from tempfile import TemporaryDirectory
+
+ROOT = Path(__file__).resolve().parent.parent
 KINDS = ("proof", "tests", "edits")
 TICKS = os.sysconf("SC_CLK_TCK")
 
 
 def process(pid):
     """The parent of a process, its start, and its ticks: of itself, and of the children that it waited for."""
-    with open(f"/proc/{pid}/stat") as it:
-        fields = it.read().rsplit(")", 1)[1].split()
+    fields = Path(f"/proc/{pid}/stat").read_text(encoding="utf-8", errors="replace").rpartition(")")[2].split()
     return int(fields[1]), fields[19], sum(map(int, fields[11:15]))
 
 
-def task(pid):
-    """The crate and the kind of work of a process that compiles in our folder; else None."""
-    with open(f"/proc/{pid}/cmdline", "rb") as it:
-        words = it.read().decode(errors="replace").split("\0")
+def task(pid, work):
+    """The crate and the kind of work of a process that compiles below a folder; else None."""
+    words = Path(f"/proc/{pid}/cmdline").read_text(encoding="utf-8", errors="replace").split("\0")
     if os.path.basename(words[0]) != "rattle" or words[1:2] not in (["build"], ["check"]) or "--crate-name" not in words:
         return None
     folder = os.readlink(f"/proc/{pid}/cwd")
@@ -25,69 +43,67 @@ def task(pid):
         return None
     # an edit is checked in a room of its own
     is_edit = re.search(r"/rt-edit-[^/]*(/|$)", folder)
-    kind = "edits" if is_edit else "tests" if "--test" in words else "proof"
-    return words[words.index("--crate-name") + 1], kind
+    return words[words.index("--crate-name") + 1], "edits" if is_edit else "tests" if "--test" in words else "proof"
 
 
-def sample(spent):
+def sample(spent, work):
     """Notes the ticks of each compiling process, with those of its children, under the process that no other one began."""
-    found = {}
+    found, totals = {}, Counter()
     for pid in filter(str.isdigit, os.listdir("/proc")):
         try:
-            what = task(pid)
-            if what:
+            if what := task(pid, work):
                 found[int(pid)] = (*process(pid), what)
         except (OSError, ValueError, IndexError):
             continue
-    totals = {}
-    for pid, (_, _, ticks, _) in found.items():
-        top = pid
+    for top, (_, _, ticks, _) in found.items():
         while found[top][0] in found:
             top = found[top][0]
-        totals[top] = totals.get(top, 0) + ticks
-    for top, ticks in totals.items():
-        key = (top, found[top][1], found[top][3])
-        spent[key] = max(ticks, spent.get(key, 0))
+        totals[top, found[top][1], found[top][3]] += ticks
+    spent |= totals  # of both the larger one
 
 
-def crates():
-    with open(f"{clone}/crates.txt") as it:
-        return [line.split(":")[0].split()[0] for line in it if ":" in line.partition("#")[0]]
+def run_gate(work, names):
+    """The status of the gate, and the ticks of each compiling process."""
+    spent = Counter()
+    # The rooms of edits lie below the scratch folder too, so that other runs on the machine aren't counted.
+    with open(work / "log", "wb") as log, subprocess.Popen(["rt", "ci", *names], cwd=work / "clone", stdin=subprocess.DEVNULL, stdout=log, stderr=log,
+                                                          env={**os.environ, "TMPDIR": str(work / "rooms")}, start_new_session=True) as gate:
+        try:
+            while gate.poll() is None:
+                sample(spent, work)
+                time.sleep(1)
+        finally:
+            if gate.poll() is None:
+                os.killpg(gate.pid, signal.SIGTERM)
+    return gate.returncode, spent
 
 
-def end(number, _):
-    sys.exit(128 + number)
+def show(crates, spent):
+    costs = Counter()
+    for (_, _, task_of), ticks in spent.items():
+        costs[task_of] += ticks / TICKS
+    rows = [(crate, [f"{costs[crate, it]:.0f}" if (crate, it) in costs else "-" for it in KINDS]) for crate in crates]
+    sums = [f"{sum(cost for (_, kind), cost in costs.items() if kind == it):.0f}" for it in KINDS]
+    for name, cells in [("crate", KINDS), *(row for row in rows if set(row[1]) != {"-"}), ("all", sums)]:
+        print(f"{name:{max(map(len, crates))}}" + "".join(f"{it:>8}" for it in cells))
+    return costs.total() / 60
 
 
-for number in (signal.SIGTERM, signal.SIGHUP):
-    signal.signal(number, end)
-spent, began = {}, time.monotonic()
-with open(log, "w") as out:
-    gate = subprocess.Popen(["rt", "ci", *names], cwd=clone, stdin=subprocess.DEVNULL, stdout=out, stderr=subprocess.STDOUT, start_new_session=True)
-try:
-    while gate.poll() is None:
-        sample(spent)
-        time.sleep(1)
-finally:
-    if gate.poll() is None:
-        os.killpg(gate.pid, signal.SIGTERM)
-        gate.wait()
-wall = time.monotonic() - began
+def main(names):
+    with TemporaryDirectory() as folder:
+        work, begun = Path(folder).resolve(), time.monotonic()
+        work.chmod(0o755)  # As root, rt runs programs and tests as nobody, who has to get in.
+        subprocess.run(["git", "clone", "-q", ROOT, work / "clone"], check=True)
+        (work / "rooms").mkdir()
+        status, spent = run_gate(work, names)
+        wall = (time.monotonic() - begun) / 60
+        minutes = show(re.findall(r"^(\w+)[ :]", (work / "clone" / "crates.txt").read_text(encoding="utf-8"), re.MULTILINE), spent)
+        print(f"{minutes:.1f} minutes of processor, {wall:.1f} of wall time, {os.cpu_count()} processors")
+        print(*(work / "log").read_text(encoding="utf-8", errors="replace").splitlines()[-20 if status else -1:], sep="\n")
+    return status if status >= 0 else 1
 
-costs = {}
-for (_, _, (crate, kind)), ticks in spent.items():
-    costs[crate, kind] = costs.get((crate, kind), 0) + ticks / TICKS
-width = max(map(len, crates()))
-row = lambda name, cells: print(f"{name:{width}}" + "".join(f"{it:>8}" for it in cells))
-row("crate", KINDS)
-for crate in crates():
-    cells = [costs.get((crate, kind)) for kind in KINDS]
-    if any(it is not None for it in cells):
-        row(crate, ["-" if it is None else f"{it:.0f}" for it in cells])
-sums = [sum(it for (_, kind), it in costs.items() if kind == wanted) for wanted in KINDS]
-row("all", [f"{it:.0f}" for it in sums])
-print(f"{sum(sums) / 60:.1f} minutes of processor, {wall / 60:.1f} of wall time, {os.cpu_count()} processors")
-with open(log, errors="replace") as it:
-    lines = it.read().splitlines()
-print("\n".join(lines[-1:] if not gate.returncode else lines[-20:]))
-sys.exit(gate.returncode if gate.returncode >= 0 else 1)
+
+if __name__ == "__main__":
+    for number in (signal.SIGTERM, signal.SIGHUP):
+        signal.signal(number, lambda its_number, _: sys.exit(128 + its_number))
+    sys.exit(main(sys.argv[1:]))
