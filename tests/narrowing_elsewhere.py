@@ -37,21 +37,15 @@ LINES = ["kind = court", "facility = court-1,court-2", "hours = 18-20", "days = 
 draw = random.Random(20260501)
 
 
-def run(words, given=""):
-    return subprocess.run(words, input=given, capture_output=True, check=True, text=True).stdout
-
-
 def line_of(words, given=""):
-    return run(words, given).removesuffix("\n")
+    """What a program prints in a line or more."""
+    return subprocess.run(words, input=given, capture_output=True, check=True, text=True).stdout.removesuffix("\n")
 
 
 def any_text(least, most):
     """Characters of one to four bytes in UTF-8, also line feeds, quotes and backslashes."""
-    letters = [chr(draw.randint(1, 127)) for _ in range(draw.randint(least, most))]
-    for place in range(len(letters)):
-        if draw.random() < 0.2:
-            letters[place] = draw.choice('\n"\\/<>&äß€�\U0001f3be') if draw.random() < 0.5 else chr(draw.randint(0xa0, 0xd7ff))
-    return "".join(letters)
+    odd = lambda: draw.choice('\n"\\/<>&äß€�\U0001f3be') if draw.random() < 0.5 else chr(draw.randint(0xa0, 0xd7ff))
+    return "".join(odd() if draw.random() < 0.2 else chr(draw.randint(1, 127)) for _ in range(draw.randint(least, most)))
 
 
 def caveats(most):

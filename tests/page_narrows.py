@@ -15,6 +15,7 @@ Not part of the gate.
 # wants: chromium chromium-driver python3-selenium
 
 import base64
+import functools
 import http.server
 import json
 import pathlib
@@ -132,6 +133,8 @@ const choose = (name, value) => {
   }
   changed(document.querySelector(`[name="${name}"]`));
 };
+const shownOf = (choice) => [byId(choice + "-made").innerText, byId(choice + "-wrong").textContent,
+  byId(choice).querySelector("[aria-invalid=true]") !== null];
 const outcome = async () => {
   while (byId("result").hidden && byId("narrow-fault").textContent === "") await new Promise((next) => setTimeout(next));
   return byId("result").hidden
@@ -570,16 +573,13 @@ def choices_say_what_they_add(page):
     for fields, line in CHOSEN:
         name = re.sub("-.*", "", [*fields][0])
         answer = page.each("narrow", [(AMY, list(fields.items()))])[0]
-        made, wrong, marked = page.run("""const set = byId(arguments[0]);
-            const isMarked = set.querySelector("[aria-invalid=true]") !== null;
-            return [byId(set.id + "-made").innerText, byId(set.id + "-wrong").textContent, isMarked];""", name)
+        made, wrong, marked = page.run("return shownOf(arguments[0])", name)
         if line is None:
             check("A choice isn't right yet" in answer.get("fault", ""), "a wrong choice", fields, answer)
             check(wrong and marked and not made, "a wrong choice and its words", fields, made, wrong, marked)
             # It is taken back as soon as the field is empty again.
             page.run("for (const name of arguments[0]) choose(name, '');", [*fields])
-            wrong, marked = page.run("""const set = byId(arguments[0]);
-                return [byId(set.id + "-wrong").textContent, set.querySelector("[aria-invalid=true]") !== null];""", name)
+            _, wrong, marked = page.run("return shownOf(arguments[0])", name)
             check(not wrong and not marked, "an emptied choice", fields, wrong)
             continue
         check(not wrong and not marked and made.split("\n")[-1] == line, "what a choice says", fields, made, wrong)
@@ -709,12 +709,10 @@ def hands_on(page):
     page.run("return new Promise((done) => setTimeout(done, 100))")
     check(page.run("return byId('given').value") == AMY, "another pass behind #")
     # What is chosen or entered afterwards takes back a result.
-    page.each("narrow", [(AMY, [("guests", "1")])])
-    page.run("choose('guests', '2')")
-    check(page.run("return byId('result').hidden"), "a result of other choices")
-    page.each("narrow", [(AMY, [("guests", "1")])])
-    page.run("enter(arguments[0])", AMY[:-1])
-    check(page.run("return byId('result').hidden"), "a result of another pass")
+    for then, word in (("choose('guests', arguments[0])", "2"), ("enter(arguments[0])", AMY[:-1])):
+        page.each("narrow", [(AMY, [("guests", "1")])])
+        page.run(then, word)
+        check(page.run("return byId('result').hidden"), "a result of other choices, or of another pass", then)
     page.run("""enter(arguments[0]); byId("choices").requestSubmit(); enter(arguments[0].slice(1));
         return new Promise((done) => setTimeout(done, 300));""", AMY)
     check(page.run("return byId('result').hidden"), "a result of a pass that was replaced while it was signed")
@@ -740,16 +738,13 @@ def shares(address):
 class Folder(http.server.SimpleHTTPRequestHandler):
     asked = []
 
-    def __init__(self, *words):
-        super().__init__(*words, directory=PAGE.parent)
-
     def log_message(self, form, *words):
         self.asked.append(self.requestline)
 
 
 def only_shows_where_it_cannot_sign():
     """Over http from a name that isn't this machine's, browsers don't sign. All that is asked of the server is the page."""
-    server = http.server.ThreadingHTTPServer(("127.0.0.1", 0), Folder)
+    server = http.server.ThreadingHTTPServer(("127.0.0.1", 0), functools.partial(Folder, directory=PAGE.parent))
     threading.Thread(target=server.serve_forever, daemon=True).start()
     with NarrowingPage(rules="MAP club.example 127.0.0.1, MAP * ~NOTFOUND") as page:
         address = f"http://club.example:{server.server_port}/pass.html"
@@ -779,10 +774,6 @@ def named_for_screen_readers(page):
     wanted = {"given-pass", "given-fault", "narrow-fault", "outcome", "narrowed-message", "address-message", "unsigned"}
     check(wanted <= set(live), "what a screen reader hears of when it changes", live)
     check(page.run("return document.documentElement.lang") == "en", "the language")
-
-
-def keep(name, picture):
-    pathlib.Path(PICTURES, name).write_bytes(base64.b64decode(picture))
 
 
 def on_two_phones(page):
@@ -824,6 +815,7 @@ def looks_right(page):
             named_for_screen_readers(page)
     page.open(PAGE.as_uri() + "#" + AMY)
     page.each("narrow", [(AMY, [("kind", ["court"]), ("actions", ["view", "book"]), ("until", "2026-05-01T18:00"), ("spend", "600")])])
+    keep = lambda name, picture: pathlib.Path(PICTURES, name).write_bytes(base64.b64decode(picture))
     for width in (390, 1200):
         for scheme in ("light", "dark"):
             page.sees(width, scheme)
@@ -838,16 +830,9 @@ def main():
     with NarrowingPage() as page:
         page.open(address)
         check(page.run("return window.isSecureContext && crypto.subtle !== undefined"), "a browser that signs in a page from a folder")
-        narrows_as_passtool(page)
-        refuses_to_write_as_passtool(page)
-        answers_faulty_texts(page)
-        reads_spoiled_texts(page)
-        understands_as_passtool(page)
-        choices_say_what_they_add(page)
-        notes_say_what_matters(page)
-        half_a_date_is_no_date(page)
-        hands_on(page)
-        goes_by_keyboard(page)
+        for holds in (narrows_as_passtool, refuses_to_write_as_passtool, answers_faulty_texts, reads_spoiled_texts, understands_as_passtool,
+                      choices_say_what_they_add, notes_say_what_matters, half_a_date_is_no_date, hands_on, goes_by_keyboard):
+            holds(page)
         page.sent_nothing(address)
         looks_right(page)
     shares(address)
