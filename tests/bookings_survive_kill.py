@@ -47,7 +47,7 @@ class Desk(Both):
         other.file = file
         return other
 
-    def server(self, count):
+    def server(self, count=None):
         return desk.Server(self.desk, self.file, count, "--at", NOON)
 
     def asks(self, requests):
@@ -66,8 +66,8 @@ class Desk(Both):
     def killed_after(self, seconds):
         """The replies of a server that is killed so long after the first request began."""
         replies = []
-        with self.server(1_000_000) as it:
-            client = threading.Thread(target=lambda: [replies.append(desk.exchange(it.port, data)) for data in PUTS])
+        with self.server() as it:
+            client = threading.Thread(target=lambda: replies.extend(it.exchange(data) for data in PUTS))
             client.start()
             time.sleep(seconds)
             it.kill()

@@ -24,8 +24,7 @@ from datetime import date
 import pytest
 
 import desk
-from conftest import Club
-from kinds import NOON, ROOT
+from kinds import ROOT
 
 sys.path.insert(0, str(desk.ROOT / "examples"))
 from client import Client, NoReply, Record
@@ -71,11 +70,11 @@ def work(folder, port):
                 print(number, "cancel", client.cancel(number)["refund"], file=file, flush=True)
 
 
-def killed_and_killed(start, folder):
+def killed_and_killed(club, folder):
     """Kills servers, and every fifth time the worker; the port of them all."""
     draw, worker, port = random.Random(20260501), None, 0
     for kill in range(1, KILLS + 1):
-        with start(port) as server:
+        with club.served(port=port) as server:
             port = server.port
             if worker is None or not worker.is_alive():
                 assert worker is None or worker.exitcode <= 0, "the worker failed"
@@ -104,20 +103,12 @@ def recorded(folder, port):
     return rows
 
 
-def test_servers_and_clients_that_are_killed(clubdesk, tmp_path):
-    club = Club(clubdesk, tmp_path / "club")
-    for court in range(10):
-        club.does(f"add-facility court-{court} court 4 7 8 22")
+def test_servers_and_clients_that_are_killed(new_club, tmp_path):
+    club = new_club(*(f"add-facility court-{court} court 4 7 8 22" for court in range(10)))
     for key in KEYS:
-        club.does(f"add-member m{key} 99")
-        club.does(f"credit m{key} 1000000")
-        (tmp_path / f"pass.{key}").write_text(club.does(f"add-key k{key} m{key} {ROOT}"))
-
-    def start(port):
-        return desk.Server(clubdesk, club.file, None, "--at", NOON, port=port)
-
-    worker, port = killed_and_killed(start, tmp_path)
-    with start(port):
+        (tmp_path / f"pass.{key}").write_text(club.does(f"add-member m{key} 99", f"credit m{key} 1000000", f"add-key k{key} m{key} {ROOT}"))
+    worker, port = killed_and_killed(club, tmp_path)
+    with club.served(port=port):
         time.sleep(1)
         worker.kill()
         worker.join()
@@ -135,11 +126,9 @@ def test_servers_and_clients_that_are_killed(clubdesk, tmp_path):
 
 
 @pytest.fixture
-def own(clubdesk, tmp_path):
+def own(new_club, tmp_path):
     """A club of amy's, and her client."""
-    club = Club(clubdesk, tmp_path / "own")
-    for words in ("add-facility court-1 court 4 200 8 22", "add-member amy 2", "credit amy 10000"):
-        club.does(words)
+    club = new_club("add-facility court-1 court 4 200 8 22", "add-member amy 2", "credit amy 10000")
     (tmp_path / "pass").write_text(club.does(f"add-key amy-1 amy {ROOT}"))
 
     def prints(port, words, patience=0):
@@ -152,9 +141,9 @@ def own(clubdesk, tmp_path):
     return club, prints
 
 
-def test_commands(own, server):
+def test_commands(own):
     club, prints = own
-    with server(club, 8, "--at", NOON) as it:
+    with club.served(count=8) as it:
         status, printed, number = prints(it.port, "book court-1 2026-05-01 18 2")
         assert (status, printed) == (0, '{"booking":"amy-1/N","charge":600,"left":1}\n')
         for words, wanted, text in (
@@ -171,7 +160,7 @@ def test_commands(own, server):
             prints(it.port, "account")
     # Nobody listens: the request stays on record, and is finished once there is a server again.
     assert prints(it.port, "book court-1 2026-05-02 18 0")[:2] == (3, "")
-    with server(club, 1, "--at", NOON) as it:
+    with club.served(count=1) as it:
         assert prints(it.port, "repeat")[:2] == (0, '{"booking":"amy-1/N","charge":200,"left":3}\n')
     assert prints(it.port, "borrow")[:2] == (1, "")
 
@@ -185,14 +174,10 @@ CUT_AT = {"swallowed": 0, "head-cut": 40, "body-cut": -5, "whole": None}  # of t
 
 def request_from(client):
     """A head, and its body of as many bytes as it asks for."""
-    request = b""
-    while b"\r\n\r\n" not in request:
-        request += client.recv(4096)
-    head, body = request.split(b"\r\n\r\n", 1)
-    length = re.search(rb"(?i)content-length: (\d+)", head)
-    while len(body) < int(length[1] if length else 0):
-        body += client.recv(4096)
-    return head + b"\r\n\r\n" + body
+    with client.makefile("rb") as come:
+        head = b"".join(iter(come.readline, b"\r\n")) + b"\r\n"
+        length = re.search(rb"(?i)content-length: (\d+)", head)
+        return head + come.read(int(length[1]) if length else 0)
 
 
 def fail_in_turn(listener, port):
@@ -206,12 +191,12 @@ def fail_in_turn(listener, port):
                 client.sendall(desk.exchange(port, request)[:CUT_AT[kind]])
 
 
-def test_proxy_that_fails(own, server):
+def test_proxy_that_fails(own):
     club, prints = own
     number = ""
     for words, reply in (("book court-1 2026-05-03 18 0", '{"booking":"amy-1/N","charge":200,"left":3}\n'),
                          ("cancel ", '{"booking":"amy-1/N","refund":200}\n')):
-        with server(club, len(CUT_AT), "--at", NOON) as it, socket.create_server(("127.0.0.1", 0)) as listener:
+        with club.served(count=len(CUT_AT)) as it, socket.create_server(("127.0.0.1", 0)) as listener:
             proxy = threading.Thread(target=fail_in_turn, args=(listener, it.port))
             proxy.start()
             status, printed, number = prints(listener.getsockname()[1], words + number * words.startswith("cancel"), 60)

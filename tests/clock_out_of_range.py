@@ -18,12 +18,13 @@ CENTRAL, WESTERN = "CET-1CEST,M3.5.0,M10.5.0/3", "EST5"
 
 
 @pytest.fixture
-def clock(library, server, club):
+def clock(library, club):
     """A server for two connections, whose clock stands at a time of UTC's, or can't be read."""
 
     def server_at(zone, time, status=0):
         second = "unreadable" if time is None else str(int(datetime.fromisoformat(time).replace(tzinfo=timezone.utc).timestamp()))
-        return server(club, 2, "--zone", zone, "--log", status=status, variables={"CLOCK_SECOND": second, "LD_PRELOAD": library("set_clock")})
+        return desk.Server(club.program, club.file, 2, "--zone", zone, "--log", status=status,
+                           variables={"CLOCK_SECOND": second, "LD_PRELOAD": library("set_clock")})
 
     return server_at
 
@@ -34,8 +35,7 @@ def clock(library, server, club):
     (WESTERN, "2100-01-01T04:59:59", "2099-12-31T23:59")])
 def test_moment_of_the_club(clock, zone, time, minute):
     with clock(zone, time) as it:
-        for _ in range(2):
-            assert desk.exchange(it.port, account().data) == account().wanted
+        it.serves(account(), account())
     assert [line.startswith(f"{minute} GET /account 200 ") for line in it.log.read_text().splitlines()].count(True) == 2
 
 
@@ -45,6 +45,6 @@ def test_moment_of_the_club(clock, zone, time, minute):
 def test_no_moment_of_the_club(clock, club, zone, time):
     before = club.file.read_bytes()
     with clock(zone, time, status=6) as it:
-        assert not desk.exchange(it.port, account().data)
+        assert not it.exchange(account().data)
     assert it.log.read_text().splitlines()[-1] == "clock out of range"
     assert club.file.read_bytes() == before

@@ -1,19 +1,17 @@
 """What the tests share that pytest runs: the programs, clubs in files, a server of its own for each request, and what it answers.
 
-Files lie in memory, where a sync costs nothing. What a server wrote on standard error is shown where its test fails."""
+Files lie in memory, where a sync costs nothing."""
 
-import json
-import os
 import shutil
 import sqlite3
 import subprocess
 import tempfile
-from dataclasses import dataclass
 
 import pytest
 
 import desk
 import kinds
+from desk import Reply
 
 
 def pytest_addoption(parser):
@@ -24,38 +22,11 @@ def pytest_configure(config):
     config.addinivalue_line("filterwarnings", "ignore::DeprecationWarning")
     config.addinivalue_line("markers", "programs: wants the built programs")
     if config.option.basetemp is None:
-        config.option.basetemp = tempfile.mkdtemp(dir="/dev/shm" if os.access("/dev/shm", os.W_OK) else None)
+        config.option.basetemp = tempfile.mkdtemp(dir=desk.IN_MEMORY)
 
 
 def pytest_unconfigure(config):
     shutil.rmtree(config.option.basetemp)
-
-
-@dataclass
-class Reply:
-    """The bytes of a reply, and its parts."""
-
-    whole: bytes
-
-    @property
-    def head(self):
-        return self.whole.partition(b"\r\n\r\n")[0].decode().split("\r\n")
-
-    @property
-    def status(self):
-        return int(self.head[0].split(" ")[1])
-
-    @property
-    def fields(self):
-        return dict(line.split(": ", 1) for line in self.head[1:])
-
-    @property
-    def body(self):
-        return self.whole.partition(b"\r\n\r\n")[2].decode()
-
-    @property
-    def value(self):
-        return json.loads(self.body)
 
 
 class Club:
@@ -69,11 +40,17 @@ class Club:
         command, *rest = words
         return desk.order(self.program, command, self.file, *rest)
 
-    def does(self, words):
-        """A command that has to end well; what it prints."""
-        status, printed, fault = self.order(*words.split())
-        assert status == 0, f"clubdesk {words}: status {status}, {fault}"
+    def does(self, *commands):
+        """Commands that have to end well; what the last one prints."""
+        printed = ""
+        for words in commands:
+            status, printed, fault = self.order(*words.split())
+            assert status == 0, f"clubdesk {words}: status {status}, {fault}"
         return printed.rstrip("\n")
+
+    def balance(self, key):
+        """The points of a key's member, by a look through the door of a server or at the file."""
+        return int(dict(line.split(" ", 1) for line in self.does(f"show-account {key} --at {kinds.NOON}").splitlines())["balance"])
 
     def sql(self, statement):
         with sqlite3.connect(self.file) as database:
@@ -81,9 +58,28 @@ class Club:
         database.close()
         return found
 
-    def served(self, *words):
-        """A server over the club at noon, until the end of its block."""
-        return desk.Server(self.program, self.file, None, "--at", kinds.NOON, *words)
+    def served(self, *words, count=None, at=kinds.NOON, **more):
+        """A server over the club for so many connections, or until the end of its block."""
+        return desk.Server(self.program, self.file, count, "--at", at, *words, **more)
+
+    def ask(self, data, at=kinds.NOON, **more):
+        """What a server of its own answers to the bytes of a request."""
+        with self.served(count=1, at=at, **more) as it:
+            return Reply(it.exchange(data))
+
+    def play(self, steps):
+        """Plays the steps of a scene, which are answered as they say; the replies."""
+        replies = []
+        for step in steps:
+            if isinstance(step, kinds.Sql):
+                self.sql(step.statement)
+            elif isinstance(step, kinds.Order):
+                wanted = (int(bool(step.refusal)), step.printed, step.refusal and step.refusal + "\n")
+                assert self.order(*step.words) == wanted, step
+            else:
+                replies.append(self.ask(step.data, step.moment, file_limit=step.file_limit))
+                assert replies[-1].whole == step.wanted, step
+        return replies
 
     def copied_to(self, file):
         desk.copy(self.file, file)
@@ -109,70 +105,40 @@ def passtool():
 
 @pytest.fixture(scope="session")
 def library(tmp_path_factory):
-    """The path of a library of tests/, built, that is loaded before the C library."""
     folder = tmp_path_factory.mktemp("libraries")
-
-    def built(name):
-        if not (folder / name).exists():
-            subprocess.run(["cc", "-shared", "-fPIC", "-O1", "-o", folder / name, desk.TESTS / f"{name}.c", "-ldl"], check=True)
-        return str(folder / name)
-
-    return built
+    return lambda name: desk.library(name, folder)
 
 
 @pytest.fixture
-def server(clubdesk):
-    """Starts a server over a club: `with server(club, 2, "--at", MOMENT) as it:`. It has to end well with the block."""
-    started = []
-
-    def start(club, count, *words, **more):
-        started.append(desk.Server(clubdesk, club.file, count, *words, **more))
-        return started[-1]
-
-    yield start
-    for it in started:
-        print(it.log.read_text())
+def ask():
+    return Club.ask
 
 
 @pytest.fixture
-def ask(server):
-    """What a server of its own answers to the bytes of a request."""
-
-    def reply_to(club, data, at=kinds.NOON, **more):
-        with server(club, 1, "--at", at, **more) as it:
-            return Reply(desk.exchange(it.port, data))
-
-    return reply_to
-
-
-@pytest.fixture
-def play(ask):
-    """Plays the steps of a scene over a club, which answers as they say; its replies."""
-
-    def played(club, steps):
-        replies = []
-        for step in steps:
-            if isinstance(step, kinds.Sql):
-                club.sql(step.statement)
-            elif isinstance(step, kinds.Order):
-                wanted = (int(bool(step.refusal)), step.printed, step.refusal and step.refusal + "\n")
-                assert club.order(*step.words) == wanted, step
-            else:
-                replies.append(ask(club, step.data, step.moment, file_limit=step.file_limit))
-                assert replies[-1].whole == step.wanted, step
-        return replies
-
-    return played
+def play():
+    return Club.play
 
 
 @pytest.fixture(scope="session")
-def club_of_scenes(clubdesk, tmp_path_factory):
-    club = Club(clubdesk, tmp_path_factory.mktemp("made") / "club")
-    for it in kinds.ORDERS:
-        assert club.order(*it.words) == (0, it.printed, "")
+def new_club(clubdesk, tmp_path_factory):
+    """Makes a club by commands."""
+
+    def made_by(*commands):
+        club = Club(clubdesk, tmp_path_factory.mktemp("made") / "club")
+        club.does(*commands)
+        return club
+
+    return made_by
+
+
+@pytest.fixture(scope="session")
+def made(new_club):
+    """The club of which each test has a copy. A file of tests may have another."""
+    club = new_club()
+    club.play(kinds.ORDERS)
     return club
 
 
 @pytest.fixture
-def club(club_of_scenes, tmp_path):
-    return club_of_scenes.copied_to(tmp_path / "club")
+def club(made, tmp_path):
+    return made.copied_to(tmp_path / "club")

@@ -3,6 +3,7 @@
 The programs are those of the variables CLUBDESK and PASSTOOL. One without a variable is proved and built first, if that isn't done."""
 
 import errno
+import json
 import os
 import resource
 import shutil
@@ -15,6 +16,10 @@ from pathlib import Path
 
 TESTS = Path(__file__).resolve().parent
 ROOT = TESTS.parent
+# Where files lie in memory, so that a sync costs nothing; None where there is no such folder.
+IN_MEMORY = "/dev/shm" if os.access("/dev/shm", os.W_OK) else None
+ANOTHER = 65_534  # the user `nobody`
+AS_ANOTHER = ("setpriv", f"--reuid={ANOTHER}", f"--regid={ANOTHER}", "--clear-groups")
 
 
 def program(name):
@@ -24,6 +29,14 @@ def program(name):
         return given
     subprocess.run([ROOT / "bin" / name, "--help"], check=True, stdout=subprocess.DEVNULL)
     return str(ROOT / "crates" / name / "out" / name)
+
+
+def library(name, folder):
+    """The path of a library of tests/, built, that is loaded before the C library."""
+    path = Path(folder, name)
+    if not path.exists():
+        subprocess.run(["cc", "-shared", "-fPIC", "-O1", "-o", path, TESTS / f"{name}.c", "-ldl"], check=True)
+    return str(path)
 
 
 def limit_files(size):
@@ -37,7 +50,7 @@ class Server:
 
     `words` are further options; `by` is a command that runs it; `variables` further variables of its environment; `file_limit` the bytes
     that a file of it may have. At the end of a block without an exception its status has to be `status`, unless it was killed; one without a
-    `count` is killed there. `log` has what it wrote on standard error."""
+    `count` is killed there. `log` has what it wrote on standard error, which is printed where the block ends with an exception."""
 
     def __init__(self, desk, file, count, *words, variables=None, file_limit=None, status=0, port=0, by=()):
         self.command = [*by, desk, "serve", str(file), "--port", str(port), "--count", str(count or 1_000_000), *words]
@@ -62,12 +75,42 @@ class Server:
         self.process.wait()
 
     def __exit__(self, kind, _value, _trace):
+        if kind is not None:
+            print(self.log.read_text())
         if (kind is not None or self.is_endless) and self.process.poll() is None:
             self.kill()
         status = self.process.wait(60)
         self.process.stdout.close()
         if kind is None and status != self.status and not self.is_killed:
             raise AssertionError(f"the server ended with status {status}: {self.log.read_text()}")
+
+    def exchange(self, data):
+        return exchange(self.port, data)
+
+    def serves(self, *rows):
+        """The reply to each row of tests/kinds.py is the one that it wants."""
+        for row in rows:
+            assert self.exchange(row.data) == row.wanted, row
+
+
+class Reply:
+    """The bytes of a reply, and its parts."""
+
+    def __init__(self, whole):
+        head, _, self.body = whole.decode().partition("\r\n\r\n")
+        line, *fields = head.split("\r\n")
+        self.whole, self.status = whole, int(line.split(" ")[1])
+        self.fields = dict(it.split(": ", 1) for it in fields)
+
+    @property
+    def value(self):
+        return json.loads(self.body)
+
+
+def read(client):
+    """All that comes until the end."""
+    with client.makefile("rb") as come:
+        return come.read()
 
 
 def exchange(port, data, seconds=30):
@@ -76,10 +119,7 @@ def exchange(port, data, seconds=30):
         with socket.create_connection(("127.0.0.1", port), seconds) as client:
             client.sendall(data)
             client.shutdown(socket.SHUT_WR)
-            reply = bytearray()
-            while part := client.recv(4096):
-                reply += part
-        return bytes(reply)
+            return read(client)
     except OSError as fault:
         if isinstance(fault, ConnectionError) or fault.errno == errno.ENOTCONN:
             return None

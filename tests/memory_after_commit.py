@@ -10,19 +10,18 @@ syncs the file before the reply is sent.
 
 import pytest
 
-import desk
-from kinds import AMY, ONE, book, cancel, slot, text
 from conftest import Reply
+from kinds import AMY, ONE, book, cancel, slot, text
 from reference import passes
 
 
 @pytest.mark.parametrize("form", passes.FORMS)
-def test_no_allocation_after_a_commit(club, server, library, tmp_path, form):
+def test_no_allocation_after_a_commit(club, library, tmp_path, form):
     calls = tmp_path / "calls"
-    with server(club, 3, "--at", "2026-04-20T12:00", variables={"CALLS_TOLD": str(calls), "LD_PRELOAD": library("refused_memory")}) as it:
+    with club.served(count=3, variables={"CALLS_TOLD": str(calls), "LD_PRELOAD": library("refused_memory")}) as it:
         for row in (book(1, ONE), book(2, ONE, slot("19")), cancel(1)):
             calls.write_text("")
-            assert Reply(desk.exchange(it.port, row.under(text(AMY, form=form)).data)).status == 200
+            assert Reply(it.exchange(row.under(text(AMY, form=form)).data)).status == 200
             lines = [line.split() for line in calls.read_text().splitlines()]
             sent = [name for name, _ in lines].index("send")
             assert sent > 0, "no commit before the reply"

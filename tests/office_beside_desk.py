@@ -8,6 +8,7 @@ with a server without orders, also at 300,000 bookings. Not part of the gate.
 # groups: programs faults
 # wants: python3-pytest sqlite3 util-linux
 
+import contextlib
 import os
 import socket
 import stat
@@ -23,23 +24,21 @@ import pytest
 
 import desk
 from conftest import Club
-from kinds import ACCOUNT, NOON, ROOT, TWO, book, booked, cancel, key_pass, slot, text, view
+from kinds import ACCOUNT, ROOT, TWO, book, booked, cancel, key_pass, slot, text, view
 
 PASSES = {place: text(key_pass(f"k{place}")) for place in range(1, 5)}
-DONE, FAILED = (0, "done\n"), (5, "storage failed\n")
+DONE, FAILED = (0, "done\n", ""), (5, "", "storage failed\n")
 
 
 @pytest.fixture(scope="module")
 def made(clubdesk):
-    """For each client a court, a member with 10,000 points and a key; for each office a room, and a key to revoke."""
+    """For each client a court, a member with 10,000 points and a key; for each office a room, and a key to revoke. It lies on a disk."""
     with tempfile.TemporaryDirectory() as folder:
         club = Club(clubdesk, Path(folder, "made"))
         for n in PASSES:
-            for words in (f"add-facility court-{n} court 4 7 8 22", f"add-member m{n} 99", f"credit m{n} 10000", f"add-key k{n} m{n} {ROOT}"):
-                club.does(words)
+            club.does(f"add-facility court-{n} court 4 7 8 22", f"add-member m{n} 99", f"credit m{n} 10000", f"add-key k{n} m{n} {ROOT}")
         for n in (1, 2):
-            club.does(f"add-facility room-{n} room 1 5 8 22")
-            club.does(f"add-key old-{n} m1 {ROOT}")
+            club.does(f"add-facility room-{n} room 1 5 8 22", f"add-key old-{n} m1 {ROOT}")
         assert [stat.filemode(os.stat(f"{club.file}{it}").st_mode) for it in ("", "-wal")] == ["-rw-------"] * 2
         yield club
 
@@ -52,11 +51,10 @@ def club(made):
 class Times(list):
     """How long calls took, in seconds."""
 
-    def of(self, act, *words, also=None):
+    def of(self, act, *words):
         begun = time.monotonic()
         found = act(*words)
-        for it in [self] if also is None else [self, also]:
-            it.append(time.monotonic() - begun)
+        self.append(time.monotonic() - begun)
         return found
 
     def show(self, what):
@@ -92,23 +90,24 @@ def given_by(place):
 
 
 def beside(club, server, count):
-    """Four clients, and two offices where there are orders: all that differs from what is reckoned."""
-    requests, bookings, orders = Times(), Times(), Times()
+    """Four clients, and two offices where there are orders: each reply and each answer is as it is reckoned."""
+    bookings, others, orders = Times(), Times(), Times()
 
     def client(place):
-        wrong, last = [], None
+        last = None
         for row in asked_by(place):
-            is_new, last = row.method == "PUT" and row is not last, row
-            found = requests.of(desk.exchange, server.port, row.under(PASSES[place]).data, 60, also=bookings if is_new else None)
-            wrong += [(row, found)] if found != row.wanted else []
-        return wrong
+            times = bookings if row.method == "PUT" and row is not last else others
+            assert times.of(desk.exchange, server.port, row.under(PASSES[place]).data, 60) == row.wanted
+            last = row
 
     def office(place):
-        return [(words, found) for words, printed in given_by(place) if (found := orders.of(club.order, *words.split())) != (0, printed, "")]
+        for words, printed in given_by(place):
+            assert orders.of(club.order, *words.split()) == (0, printed, "")
 
     with ThreadPoolExecutor(6) as pool:
-        begun = [pool.submit(client, place) for place in PASSES] + [pool.submit(office, place) for place in (1, 2) if count]
-        assert not [it for each in begun for it in each.result()][:20]
+        for begun in [pool.submit(client, place) for place in PASSES] + [pool.submit(office, place) for place in (1, 2) if count]:
+            begun.result()
+    requests = Times(bookings + others)
     assert (len(requests), len(bookings), len(orders)) == (5000, 360, count)
     print(f"{club.file.name}, with {count} orders")
     for what, found in (("orders", orders), ("bookings", bookings), ("requests", requests)):
@@ -125,30 +124,29 @@ def test_door_has_a_mode_and_orders_have_lines(club):
     assert log.count(" office ") == 500 and ROOT not in log
 
 
-def ends(wanted, most, *words, by=()):
+def ends(wanted, most, *words):
     """A command ends with a status and what it prints, within so many seconds."""
     begun = time.monotonic()
-    ended = subprocess.run([*by, *words], capture_output=True, text=True, check=False)
-    assert (ended.returncode, ended.stdout + ended.stderr) == wanted
+    assert desk.order(*words) == wanted
     assert time.monotonic() - begun < most
 
 
 def test_what_others_meet_beside_a_server(club):
     """A second server, orders by a link to the file and to its folder and at a file that is moved, and another user, where the file's mode lets it in."""
-    desk_itself, folder = club.program, club.file.parent
+    folder, moved = club.file.parent, club.file.with_name("moved")
     with club.served():
-        ends(FAILED, 15, desk_itself, "serve", club.file, "--port", "0", "--count", "1")
+        ends(FAILED, 15, club.program, "serve", club.file, "--port", "0", "--count", "1")
         (folder / "linked").symlink_to(club.file)
         (folder / "here").symlink_to(folder)
         for file in ("linked", "here/club"):
-            ends(DONE, 1, desk_itself, "credit", folder / file, "m2", "1")
-        club.file.rename(folder / "moved")
-        ends(DONE, 1, desk_itself, "credit", club.file, "m2", "1")
-        (folder / "moved").rename(club.file)
+            ends(DONE, 1, club.program, "credit", folder / file, "m2", "1")
+        club.file.rename(moved)
+        ends(DONE, 1, club.program, "credit", club.file, "m2", "1")
+        moved.rename(club.file)
         if os.geteuid() == 0:
             folder.chmod(0o755)
             club.file.chmod(0o644)
-            ends(FAILED, 1, desk_itself, "credit", club.file, "m2", "1", by=["setpriv", "--reuid=65534", "--regid=65534", "--clear-groups"])
+            ends(FAILED, 1, *desk.AS_ANOTHER, club.program, "credit", club.file, "m2", "1")
             club.file.chmod(0o600)
 
 
@@ -171,12 +169,10 @@ def test_something_else_than_a_door_stays(club):
 
 
 def drip(client):
-    for byte in b"GET /a":
-        try:
+    with contextlib.suppress(OSError):
+        for byte in b"GET /a":
             client.sendall(bytes([byte]))
-        except OSError:
-            return
-        time.sleep(1)
+            time.sleep(1)
 
 
 @pytest.mark.parametrize("dawdle", [lambda _: None, drip], ids=["silent", "a byte a second"])
@@ -188,41 +184,34 @@ def test_client_that_dawdles_keeps_no_order(club, dawdle):
         dawdling.start()
         for wait in (0.2, 1.1):
             time.sleep(wait)
-            assert orders.of(club.order, "credit", "m4", 1) == (0, "done\n", "")
-        try:
+            assert orders.of(club.order, "credit", "m4", 1) == DONE
+        with contextlib.suppress(ConnectionResetError):
             assert client.recv(1) == b""
-        except ConnectionResetError:
-            pass
         assert 3.9 < time.monotonic() - begun < 6
         dawdling.join()
     assert max(orders) <= 0.9
     orders.show("orders beside a slow client")
 
 
-def points(club):
-    """By a look through the door or at the file."""
-    return int(dict(line.split(" ", 1) for line in club.does(f"show-account k1 --at {NOON}").splitlines())["balance"])
-
-
 @pytest.mark.parametrize("number", range(1, 21))
 def test_killed_order_or_server(club, number):
     """The order was carried out or not, and its status says so where it can."""
     with club.served() as server:
-        before = points(club)
+        before = club.balance("k1")
         order = subprocess.Popen([club.program, "credit", club.file, "m1", "1"], stdout=subprocess.DEVNULL, stderr=subprocess.DEVNULL)
         time.sleep((number % 10 * 10 + number * 7 % 10) / 10_000)
         (order if number % 2 else server).kill()
         order.wait()
-    assert (order.returncode, points(club) - before) in {(0, 1), (5, 0), (8, 0), (8, 1), (-9, 0), (-9, 1)}
+    assert (order.returncode, club.balance("k1") - before) in {(0, 1), (5, 0), (8, 0), (8, 1), (-9, 0), (-9, 1)}
 
 
 def test_server_that_ends_takes_its_door_along(club):
     """And what an older version left."""
     for ending, left in (("wanted", ""), ("serving", "127.0.0.1:1\n")):
         Path(f"{club.file}-{ending}").write_text(left)
-    with desk.Server(club.program, club.file, 1, "--at", NOON) as it:
+    with club.served(count=1) as server:
         assert not Path(f"{club.file}-wanted").exists() and not Path(f"{club.file}-serving").exists()
-        assert desk.exchange(it.port, ACCOUNT.under(PASSES[1]).data).startswith(b"HTTP/1.1 200 ")
+        assert server.exchange(ACCOUNT.under(PASSES[1]).data).startswith(b"HTTP/1.1 200 ")
     assert not Path(f"{club.file}-office").exists()
 
 

@@ -8,6 +8,7 @@ last three. Not part of the gate.
 # groups: faults
 # wants: python3-pytest sqlite3
 
+import contextlib
 import os
 import shutil
 import socket
@@ -18,10 +19,6 @@ import pytest
 import desk
 import kinds
 
-ANOTHER = 65_534  # the user `nobody`
-CREDIT = ("clubdesk", "credit", "club", "amy", "1")
-needs_root = pytest.mark.skipif(os.geteuid() != 0, reason="wants root")
-
 
 def order_bytes(*words, root="", count=None):
     """The bytes of an order: how many words it has, the root that was read for it, and the words, with a zero byte after each."""
@@ -29,57 +26,63 @@ def order_bytes(*words, root="", count=None):
     return b"".join(it.encode() + b"\0" for it in pieces)
 
 
+CREDIT = ("clubdesk", "credit", "club", "amy", "1")
+WHOLE = order_bytes(*CREDIT)
+DONE = (0, "done\n", "")
+needs_root = pytest.mark.skipif(os.geteuid() != 0, reason="wants root")
+
+
 @pytest.fixture
-def serving(server, club):
+def serving(club):
     """A server over the club, until the end."""
-    with server(club, None, "--at", kinds.NOON) as it:
+    with club.served() as it:
         yield it
 
 
-def visitor(club):
+def visitor(club, is_greeted=True):
     it = socket.socket(socket.AF_UNIX)
     it.settimeout(30)
     it.connect(f"{club.file}-office")
+    assert not is_greeted or it.recv(1) == b"!"
     return it
 
 
 def answer(club, data):
     """What the door answers to bytes: a status and a text, or None."""
     with visitor(club) as it:
-        assert it.recv(1) == b"!"
         it.sendall(data)
         it.shutdown(socket.SHUT_WR)
-        found = b"".join(iter(lambda: it.recv(4096), b""))
+        found = desk.read(it)
     return (found[0], found[1:].decode()) if found else None
 
 
 def credited(club):
-    """The points that Amy was credited, by a look through the door."""
-    account = club.does(f"show-account amy-1 --at {kinds.NOON}")
-    return int(dict(line.split(" ", 1) for line in account.splitlines())["balance"])
+    """The points that Amy was credited beyond those of the first club, by a look through the door."""
+    return club.balance("amy-1") - 10_000
+
+
+def goes_on(server):
+    assert server.exchange(kinds.account().data).startswith(b"HTTP/1.1 200 ")
 
 
 def test_a_whole_order(club, serving):
-    before = credited(club)
-    assert answer(club, order_bytes(*CREDIT)) == (0, "done\n")
-    assert credited(club) == before + 1
+    assert answer(club, WHOLE) == (0, "done\n")
+    assert credited(club) == 1
 
 
 def test_cut_at_each_byte(club, serving):
-    before, whole = credited(club), order_bytes(*CREDIT)
-    for length in range(len(whole)):
-        assert answer(club, whole[:length]) == (2, ""), whole[:length]
-    assert credited(club) == before
+    for length in range(len(WHOLE)):
+        assert answer(club, WHOLE[:length]) == (2, ""), WHOLE[:length]
+    assert credited(club) == 0
 
 
 @pytest.mark.parametrize("data", [
     order_bytes(*CREDIT, count=4), order_bytes(*CREDIT, count=6), b"05\0\0" + b"".join(it.encode() + b"\0" for it in CREDIT),
-    order_bytes(*CREDIT) + b"\0", order_bytes(*CREDIT)[:-1] + b"\0\0", b"5\0\0clubdesk\0credit\0club\0amy\xff\0" + b"1\0",
+    WHOLE + b"\0", WHOLE[:-1] + b"\0\0", b"5\0\0clubdesk\0credit\0club\0amy\xff\0" + b"1\0",
     order_bytes("clubdesk", "serve", "club", "--port", "0", "--count", "1"), order_bytes("clubdesk", "--help"), order_bytes(), b"\0" * 100])
 def test_no_order(club, serving, data):
-    before = credited(club)
     assert answer(club, data)[0] == 2
-    assert credited(club) == before
+    assert credited(club) == 0
 
 
 def test_words_that_are_refused(club, serving):
@@ -89,41 +92,32 @@ def test_words_that_are_refused(club, serving):
 
 
 def test_too_long(club, serving):
-    before = credited(club)
-    with visitor(club) as it:
-        assert it.recv(1) == b"!"
-        try:
-            it.sendall(order_bytes("clubdesk", "credit", "club", "a" * 70_000, "1"))
-            it.shutdown(socket.SHUT_WR)
-            assert it.recv(1) == b""
-        except (BrokenPipeError, ConnectionResetError):
-            pass
-    assert credited(club) == before
+    with visitor(club) as it, contextlib.suppress(BrokenPipeError, ConnectionResetError):
+        it.sendall(order_bytes("clubdesk", "credit", "club", "a" * 70_000, "1"))
+        it.shutdown(socket.SHUT_WR)
+        assert it.recv(1) == b""
+    assert credited(club) == 0
 
 
 def test_a_sender_that_goes(club, serving):
-    before, whole = credited(club), order_bytes(*CREDIT)
-    for length in (0, 1, len(whole) // 2, len(whole)):
-        visitor(club).close()  # before the greeting
+    for length in (0, 1, len(WHOLE) // 2, len(WHOLE)):
+        visitor(club, is_greeted=False).close()
         with visitor(club) as it:
-            assert it.recv(1) == b"!"
-            it.sendall(whole[:length])
-        assert desk.exchange(serving.port, kinds.account().data).startswith(b"HTTP/1.1 200 ")
-    assert credited(club) == before + 1
+            it.sendall(WHOLE[:length])
+        goes_on(serving)
+    assert credited(club) == 1
 
 
 def test_a_silent_sender(club, serving):
     with visitor(club) as it:
-        assert it.recv(1) == b"!"
         assert it.recv(1) == b""  # cut off after a second
-    assert desk.exchange(serving.port, kinds.account().data).startswith(b"HTTP/1.1 200 ")
+    goes_on(serving)
 
 
 def test_fifty_at_once(club, serving, clubdesk):
-    before = credited(club)
     orders = [subprocess.Popen([clubdesk, "credit", club.file, "amy", "1"], stdout=subprocess.PIPE, stderr=subprocess.PIPE) for _ in range(50)]
     assert {(*it.communicate(), it.returncode) for it in orders} == {(b"done\n", b"", 0)}
-    assert credited(club) == before + 50
+    assert credited(club) == 50
 
 
 @pytest.fixture
@@ -132,31 +126,25 @@ def of_another(club):
     for parent in club.file.parents:
         if parent.stat().st_mode & 0o5 != 0o5:
             parent.chmod(0o755)
-    for it in club.file.parent.iterdir():
-        shutil.chown(it, ANOTHER, ANOTHER)
-    shutil.chown(club.file.parent, ANOTHER, ANOTHER)
+    for it in (club.file.parent, *club.file.parent.iterdir()):
+        shutil.chown(it, desk.ANOTHER, desk.ANOTHER)
     return club
 
 
-AS_ANOTHER = ("setpriv", f"--reuid={ANOTHER}", f"--regid={ANOTHER}", "--clear-groups")
-
-
 @needs_root
-def test_an_order_of_root(server, of_another):
-    with server(of_another, 1000, "--at", kinds.NOON, by=AS_ANOTHER) as it:
-        before = credited(of_another)
-        assert of_another.order("credit", "amy", "1") == (0, "done\n", "")
-        assert credited(of_another) == before + 1
-        assert {path.stat().st_uid for path in of_another.file.parent.iterdir() if path.name.startswith("club")} <= {ANOTHER, 0}
-        it.kill()
-    assert of_another.file.stat().st_uid == ANOTHER
+def test_an_order_of_root(of_another):
+    with of_another.served(by=desk.AS_ANOTHER):
+        assert of_another.order("credit", "amy", "1") == DONE
+        assert credited(of_another) == 1
+        assert {path.stat().st_uid for path in of_another.file.parent.iterdir() if path.name.startswith("club")} <= {desk.ANOTHER, 0}
+    assert of_another.file.stat().st_uid == desk.ANOTHER
 
 
 @needs_root
 def test_a_folder_that_cannot_be_written(of_another, clubdesk):
     of_another.file.parent.chmod(0o555)
     shutil.chown(of_another.file.parent, 0, 0)
-    ended = subprocess.run([*AS_ANOTHER, clubdesk, "serve", of_another.file, "--port", "0", "--count", "1"], capture_output=True, check=False)
+    ended = subprocess.run([*desk.AS_ANOTHER, clubdesk, "serve", of_another.file, "--port", "0", "--count", "1"], capture_output=True, check=False)
     assert (ended.returncode, ended.stdout) == (5, b"")
     assert not of_another.file.with_name("club-office").exists()
 
@@ -172,19 +160,17 @@ def small_disk(tmp_path):
 
 
 @needs_root
-def test_a_full_disk(club, small_disk, server):
+def test_a_full_disk(club, small_disk):
     full = club.copied_to(small_disk / "club")
-    with server(full, 1000, "--at", kinds.NOON) as it:
-        before = credited(full)
+    with full.served():
         with open(small_disk / "rest", "wb", buffering=0) as rest, pytest.raises(OSError):
             while True:
                 rest.write(bytes(4096))
         ended = [full.order("credit", "amy", "1") for _ in range(50)]
         assert ended[-1] == (5, "", "storage failed\n")
-        done = ended.count((0, "done\n", ""))
+        done = ended.count(DONE)
         assert done + ended.count(ended[-1]) == len(ended)
         os.unlink(small_disk / "rest")
-        assert credited(full) == before + done
-        assert full.order("credit", "amy", "1") == (0, "done\n", "")
-        assert credited(full) == before + done + 1
-        it.kill()
+        assert credited(full) == done
+        assert full.order("credit", "amy", "1") == DONE
+        assert credited(full) == done + 1

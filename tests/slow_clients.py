@@ -17,16 +17,17 @@ import time
 
 import pytest
 
-from kinds import NOON, Row, account, slot
+import desk
+from kinds import Row, account, slot
 
 PATIENCE, COUNT = 2, 1000
 REQUEST = account().data
 
 
 @pytest.fixture
-def patient(server, club):
+def patient(club):
     """A server for so many connections."""
-    return lambda count: server(club, count, "--at", NOON, "--patience", str(PATIENCE))
+    return lambda count: club.served("--patience", str(PATIENCE), count=count)
 
 
 def connected(server):
@@ -35,22 +36,13 @@ def connected(server):
     return client
 
 
-def read(client):
-    """All that comes until the end."""
-    parts = []
-    while part := client.recv(65536):
-        parts.append(part)
-    return b"".join(parts)
-
-
 def replied(server, pieces, pause):
     """The reply to pieces, which are sent with a pause between two, all before it is read."""
     with connected(server) as client:
         for place, piece in enumerate(pieces):
-            if place:
-                time.sleep(pause)
+            time.sleep(pause if place else 0)
             client.sendall(piece)
-        return read(client)
+        return desk.read(client)
 
 
 def cut(text, count):
@@ -86,18 +78,14 @@ def test_client_of_a_byte_a_second_is_cut_off(patient):
         assert replied(server, [REQUEST], 0) == account().wanted
 
 
-def test_bytes_behind_requests(patient):
+@pytest.mark.parametrize("data_of, wanted", [
+    (lambda place: REQUEST + b"x" * (1 + place * 99_999 // (COUNT - 1)), account().wanted),
+    (lambda _: b"GET /account HTTP/1.1\r\nX: " + b"x" * (100_000 - 30) + b"\r\n\r\n", Row().gets(1).wanted)],
+    ids=["bytes behind requests", "heads of 100,000 bytes"])
+def test_all_is_sent_before_it_is_read(patient, data_of, wanted):
     with patient(COUNT) as server:
-        for i in range(COUNT):
-            rest = b"x" * (1 + i * 99_999 // (COUNT - 1))
-            assert replied(server, cut(REQUEST + rest, 1 + i % 2), 0.002) == account().wanted
-
-
-def test_heads_of_100_000_bytes(patient):
-    head = b"GET /account HTTP/1.1\r\nX: " + b"x" * (100_000 - 30) + b"\r\n\r\n"
-    with patient(COUNT) as server:
-        for i in range(COUNT):
-            assert replied(server, cut(head, 1 + i % 2), 0.002) == Row().gets(1).wanted
+        for place in range(COUNT):
+            assert replied(server, cut(data_of(place), 1 + place % 2), 0.002) == wanted
 
 
 @pytest.mark.parametrize("count", [3, 4, 6])
@@ -128,4 +116,4 @@ def test_server_that_is_stopped_and_goes_on(patient):
                     os.kill(server.process.pid, number)
                 time.sleep(0.01)
                 client.sendall(REQUEST[40:])
-                assert read(client) == account().wanted
+                assert desk.read(client) == account().wanted
