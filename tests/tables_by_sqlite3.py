@@ -21,6 +21,11 @@ from kinds import ACCOUNT, ONE, ROOM, THREE, book, booked, cancel, key_pass, ord
 
 DAY = "2026-05-01"
 RUNNING = (desk.ROOT / "docs" / "RUNNING.md").read_text(encoding="utf-8")
+SCHEMA = re.search(r"^```sql\n(.*?)^```", (desk.ROOT / "docs" / "TABLES.md").read_text(encoding="utf-8"), re.MULTILINE | re.DOTALL)[1]
+TABLES = re.findall(r"^CREATE TABLE (\w+)", SCHEMA, re.MULTILINE)
+# Of a column of docs/TABLES.md: its table, its name, the least and the most.
+LIMITS = [(table, *limit) for table, columns in re.findall(r"^CREATE TABLE (\w+) \(\n(.*?)^\)", SCHEMA, re.MULTILINE | re.DOTALL)
+          for limit in re.findall(r"CHECK \((\w+) BETWEEN (\d+) AND (\d+)\)", columns)]
 ROOT = "30313233343536373839616263646566"
 AMY = text(key_pass("amy-1", ROOT))
 FORGED = text(key_pass("amy-1", "00" * 16))  # under another root, so the desk looks for an older one
@@ -41,16 +46,12 @@ FIRST = tells(3, 9099, 1, 901)
 
 
 @pytest.fixture(scope="module")
-def made(clubdesk, tmp_path_factory):
+def made(new_club):
     """A club with a booking, and one that was cancelled less than a day before its slot."""
-    club = Club(clubdesk, tmp_path_factory.mktemp("made") / "club")
-    for words in ("add-member amy 5", "credit amy 10000", "add-facility court-1 court 4 200 8 22", "add-facility room-1 room 1 601 8 22",
-                  f"add-key amy-1 amy {ROOT}", f"close-slot court-1 {DAY} 09"):
-        club.does(words)
+    club = new_club("add-member amy 5", "credit amy 10000", "add-facility court-1 court 4 200 8 22", "add-facility room-1 room 1 601 8 22",
+                    f"add-key amy-1 amy {ROOT}", f"close-slot court-1 {DAY} 09")
     rows = [booked(book(7, THREE), 600, 1), booked(book(8, ONE, ROOM), 601, 0), cancel(8, ROOM).at("2026-04-30T18:01").serves(booking="amy-1/8", refund=300)]
-    for row in rows:
-        with desk.Server(clubdesk, club.file, 1, "--at", row.moment) as server:
-            assert desk.exchange(server.port, row.under(AMY).data) == row.wanted
+    club.play(it.under(AMY) for it in rows)
     return club
 
 
@@ -74,8 +75,8 @@ def dump(club):
     return subprocess.run(["sqlite3", club.file, ".dump"], capture_output=True, check=False).stdout
 
 
-def test_what_clubdesk_tells(club, play):
-    play(club, FIRST)
+def test_what_clubdesk_tells(club):
+    club.play(FIRST)
 
 
 def test_rows(club):
@@ -104,46 +105,30 @@ def test_sums_of_an_auditor(club):
     sound(club)
 
 
-# Of each table its columns: name, type, place in the key. None may be null, and all tables are STRICT.
-COLUMNS = """\
-bookings: pass_key TEXT 1, number INTEGER 2, facility TEXT, day INTEGER, hour INTEGER, guests INTEGER, \
-charge INTEGER, remains INTEGER, cancelled INTEGER, refund INTEGER
-desk: version INTEGER
-facilities: name TEXT 1, kind TEXT, places INTEGER, price INTEGER, opens INTEGER, shuts INTEGER
-keys: name TEXT 1, member TEXT, root BLOB, revoked INTEGER
-members: name TEXT 1, credited INTEGER, quota INTEGER, used INTEGER
-old_roots: pass_key TEXT 1, root BLOB, until INTEGER
-slots: facility TEXT 1, day INTEGER 2, hour INTEGER 3, closed INTEGER, taken INTEGER
-"""
+def statements(texts):
+    """The words and signs of each."""
+    return {tuple(re.findall(r"\w+|[^\w\s]", it)) for it in texts}
 
 
-def test_columns(club):
-    found = {}
-    for line in sql(club, """SELECT t.name, c.name || ' ' || c.type || iif(c.pk, ' ' || c.pk, '') FROM pragma_table_list t, pragma_table_info(t.name) c
-            WHERE t.strict AND c."notnull" ORDER BY t.name, c.cid""").splitlines():
-        found.setdefault(line.split("|")[0], []).append(line.split("|")[1])
-    assert "".join(f"{table}: {', '.join(columns)}\n" for table, columns in found.items()) == COLUMNS
-    assert sql(club, """SELECT count(*) FROM pragma_table_list t, pragma_table_info(t.name) c
-        WHERE t.name NOT LIKE 'sqlite%' AND NOT (t.strict AND c."notnull")""") == "0\n"
+def test_columns_keys_references_and_limits(club):
+    """Word for word those of docs/TABLES.md. No column may be null, and all tables are STRICT."""
+    found = [it for it, in club.sql("SELECT sql FROM sqlite_schema WHERE sql NOT NULL")]
+    assert statements(found) == statements(it for it in SCHEMA.split(";\n") if it.startswith("CREATE "))
+    assert club.sql("""SELECT count(*) FROM pragma_table_list t, pragma_table_info(t.name) c
+        WHERE t.name NOT LIKE 'sqlite%' AND NOT (t.strict AND c."notnull")""") == [(0,)]
+    assert (len(TABLES), len(LIMITS)) == (7, 20)
 
 
-def test_references(club):
-    assert sql(club, """SELECT t.name, f."from", f."table", f."to" FROM pragma_table_list t, pragma_foreign_key_list(t.name) f
-        ORDER BY t.name, f."from" """).split() == [
-        "bookings|facility|facilities|name", "bookings|pass_key|keys|name", "keys|member|members|name", "old_roots|pass_key|keys|name",
-        "slots|facility|facilities|name"]
-
-
-def test_what_sqlite3_writes_is_told(club, play):
+def test_what_sqlite3_writes_is_told(club):
     """Within the limits, beside the log that clubdesk left."""
     club.does(f"sheet {DAY}")
     sql(club, """UPDATE members SET credited = credited + 5, quota = 99, used = used + 200; DELETE FROM slots;
         INSERT INTO slots VALUES ('room-1', 20574, 18, 1, 0), ('court-1', 20574, 9, 0, 0), ('court-1', 20574, 18, 0, 4);
         INSERT INTO bookings VALUES ('amy-1', 9, 'court-1', 20574, 18, 0, 200, 0, 0, 0);
         INSERT INTO old_roots VALUES ('amy-1', zeroblob(16), 20000000)""")
-    play(club, tells(4, 8904, 2, 1101, 99, LINE_7 + LINE_9 + "Total bookings 2, persons 4, charge 800\n", nine=False, room=True))
+    club.play(tells(4, 8904, 2, 1101, 99, LINE_7 + LINE_9 + "Total bookings 2, persons 4, charge 800\n", nine=False, room=True))
     sql(club, "UPDATE keys SET revoked = 1")
-    play(club, [it.under(AMY).gets(10) for it in (view(slot("09")), view(), view(ROOM), ACCOUNT)])
+    club.play([it.under(AMY).gets(10) for it in (view(slot("09")), view(), view(ROOM), ACCOUNT)])
 
 
 # ---- docs/RUNNING.md
@@ -169,22 +154,22 @@ def corrected(club, heading, again):
     assert again or dump(club) == before
 
 
-def test_lists(club, play):
+def test_lists(club):
     club.does("rotate-key amy-1 40414243444546474849414243444546 2026-05-02T00:00")
     club.does("add-member bob 1")
     assert by_recipe(club, "Members") == "amy|9099|5\nbob|0|1\n"
     assert by_recipe(club, "Keys of a member") == "amy-1|0|2026-05-02T00:00\n"
     assert by_recipe(club, "Bookings of a member") == "2026-05-01|18|court-1|amy-1|7|3|600\n"
     assert by_recipe(club, "Closed slots") == "court-1|2026-05-01|9\n"
-    play(club, FIRST)
+    club.play(FIRST)
 
 
-def test_corrections(club, play):
+def test_corrections(club):
     """The desk's answers are those of a club of which it has been so all the time."""
     corrected(club, "A credit that was too high", 1)
     corrected(club, "Another quota", 1)
     corrected(club, "A slot that is open again", 0)
-    play(club, tells(3, 8099, 1, 901, 8, nine=False))
+    club.play(tells(3, 8099, 1, 901, 8, nine=False))
     sql(club, "UPDATE members SET credited = used + 499")
     before = dump(club)
     assert by_recipe(club, "A credit that was too high") == "0\n"
@@ -193,53 +178,48 @@ def test_corrections(club, play):
     club.does("revoke-key amy-1")
     corrected(club, "Cancel for a revoked key", 0)
     sql(club, "UPDATE keys SET revoked = 0")
-    play(club, [*tells(0, 9699, 0, 301, sheet="No bookings.\n", nine=False), cancel(7).under(AMY).serves(booking="amy-1/7", refund=600)])
+    club.play([*tells(0, 9699, 0, 301, sheet="No bookings.\n", nine=False), cancel(7).under(AMY).serves(booking="amy-1/7", refund=600)])
 
 
 # ---- other files
 
 
 @pytest.mark.parametrize("is_there", [True, False])
-def test_file_that_becomes_a_club(clubdesk, play, tmp_path, is_there):
+def test_file_that_becomes_a_club(clubdesk, tmp_path, is_there):
     club = Club(clubdesk, tmp_path / "new")
     if is_there:
         club.file.touch()
-    play(club, [NO_BOOKINGS])
+    club.play([NO_BOOKINGS])
     assert sql(club, """PRAGMA integrity_check; SELECT * FROM desk;
         SELECT count(*) FROM members, facilities, keys, slots, bookings""") == "ok\n2\n0\n"
 
 
 @pytest.mark.parametrize("change", ["DROP TABLE old_roots; DROP INDEX bookings_by_key; UPDATE desk SET version = 1", "DROP INDEX bookings_by_key"])
-def test_file_of_before_is_migrated(club, play, change):
+def test_file_of_before_is_migrated(club, change):
     """The rows and the schema are the same, and no key has an older root."""
     schema = sql(club, "SELECT type, name, sql FROM sqlite_schema")
     sql(club, change)
-    play(club, FIRST)
+    club.play(FIRST)
     assert sql(club, "PRAGMA integrity_check; SELECT * FROM desk; SELECT count(*) FROM old_roots") == "ok\n2\n0\n"
     assert sql(club, "SELECT type, name, sql FROM sqlite_schema") == schema
 
 
-def test_tables_of_others_stay(clubdesk, play, tmp_path):
+def test_tables_of_others_stay(clubdesk, tmp_path):
     club = Club(clubdesk, tmp_path / "notes")
     sql(club, "CREATE TABLE notes (text TEXT); INSERT INTO notes VALUES ('a')")
-    play(club, [NO_BOOKINGS])
+    club.play([NO_BOOKINGS])
     assert sql(club, "SELECT * FROM notes; SELECT * FROM desk") == "a\n2\n"
 
 
-@pytest.fixture
-def refused(ask):
-    """Whether a sheet, or a request where the file is opened, meets a fault of storage; the file stays as it was, and so do its rows."""
-
-    def is_refused(club):
-        before = club.file.read_bytes(), dump(club)
-        status, _, fault = club.order("sheet", DAY)
-        if (status, fault) != (5, "storage failed\n"):
-            assert (status, fault) == (0, "")
-            asked = [*(it.under(AMY) for it in (view(slot("09")), view(), view(ROOM), ACCOUNT)), ACCOUNT.under(FORGED)]
-            assert UNAVAILABLE in [ask(club, it.data).body for it in asked], "all is told"
-        assert (club.file.read_bytes(), dump(club)) == before
-
-    return is_refused
+def refused(club):
+    """A sheet, or a request where the file is opened, meets a fault of storage; the file stays as it was, and so do its rows."""
+    before = club.file.read_bytes(), dump(club)
+    status, _, fault = club.order("sheet", DAY)
+    if (status, fault) != (5, "storage failed\n"):
+        assert (status, fault) == (0, "")
+        asked = [*(it.under(AMY) for it in (view(slot("09")), view(), view(ROOM), ACCOUNT)), ACCOUNT.under(FORGED)]
+        assert UNAVAILABLE in [club.ask(it.data).body for it in asked], "all is told"
+    assert (club.file.read_bytes(), dump(club)) == before
 
 
 def damaged(data):
@@ -247,7 +227,7 @@ def damaged(data):
 
 
 @pytest.mark.parametrize("spoil", [lambda _: b"x" * 100, lambda data: data[:20000], damaged], ids=["no database", "half a file", "a damaged page"])
-def test_bytes_that_are_no_club(club, refused, spoil):
+def test_bytes_that_are_no_club(club, spoil):
     club.file.write_bytes(spoil(club.file.read_bytes()))
     refused(club)
 
@@ -258,18 +238,9 @@ def test_order_that_is_refused_changes_nothing(club):
     assert (club.file.read_bytes(), dump(club)) == before
 
 
-# Table, column, least, most. Each is taken; the numbers beside them sqlite3 refuses, and where it doesn't look at limits the desk.
-LIMITS = """
-members credited 0 999999999; members quota 0 99; members used 0 999999999; facilities places 1 50
-facilities price 0 9999; facilities opens 0 23; facilities shuts 1 24; keys revoked 0 1
-slots closed 0 1; bookings cancelled 0 1; slots day 10957 47481; bookings day 10957 47481
-slots hour 0 23; bookings hour 0 23; bookings number 1 999999999; bookings guests 0 49
-bookings remains 0 49; bookings charge 0 499950; bookings refund 0 499950; old_roots until 15778080 68374079"""
-
-
-@pytest.mark.parametrize("limit", re.split(r"[;\n] ?", LIMITS.strip()))
-def test_limit(club, refused, limit):
-    table, column, least, most = limit.split()
+@pytest.mark.parametrize("table, column, least, most", LIMITS, ids=map(" ".join, LIMITS))
+def test_limit(club, table, column, least, most):
+    """Each end is taken; the numbers beside them sqlite3 refuses, and where it doesn't look at limits the desk."""
     sql(club, "INSERT INTO old_roots VALUES ('amy-1', zeroblob(16), 20000000)")
     kept = club.copied_to(club.file.with_name("kept"))
     for value in (int(least) - 1, int(least), int(most), int(most) + 1):
@@ -284,33 +255,16 @@ def test_limit(club, refused, limit):
 
 
 # What sqlite3 makes of a club by each line.
-SPOILED = """
-UPDATE desk SET version = 9
-UPDATE desk SET version = 0
-UPDATE desk SET version = -1
+RENAMED = ("old_roots until", "members quota", "members used", "facilities price", "keys root", "slots closed", "slots taken", "bookings remains")
+SPOILED = [
+    *(f"UPDATE desk SET version = {it}" for it in (9, 0, -1, 1, 3)), *(f"DROP TABLE {it}" for it in TABLES),
+    *("ALTER TABLE {} RENAME COLUMN {} TO other".format(*it.split()) for it in RENAMED), *"""\
 DELETE FROM desk
 INSERT INTO desk VALUES (1)
-DROP TABLE desk
 DROP TABLE desk; CREATE TABLE desk (version TEXT) STRICT; INSERT INTO desk VALUES ('1')
 DROP TABLE desk; CREATE TABLE desk (number INTEGER NOT NULL) STRICT; INSERT INTO desk VALUES (1)
-DROP TABLE members
-DROP TABLE facilities
-DROP TABLE keys
-DROP TABLE slots
-DROP TABLE bookings
-DROP TABLE old_roots
-UPDATE desk SET version = 1
-UPDATE desk SET version = 3
-ALTER TABLE old_roots RENAME COLUMN until TO till
 INSERT INTO old_roots VALUES ('amy-1', zeroblob(15), 20000000)
 INSERT INTO old_roots VALUES ('bob-1', zeroblob(16), 20000000)
-ALTER TABLE members RENAME COLUMN quota TO most
-ALTER TABLE members RENAME COLUMN used TO spent
-ALTER TABLE facilities RENAME COLUMN price TO points
-ALTER TABLE keys RENAME COLUMN root TO secret
-ALTER TABLE slots RENAME COLUMN closed TO shut
-ALTER TABLE slots RENAME COLUMN taken TO persons
-ALTER TABLE bookings RENAME COLUMN remains TO remaining
 UPDATE slots SET taken = 51
 UPDATE slots SET taken = -1
 UPDATE members SET name = 'Amy'
@@ -328,12 +282,12 @@ UPDATE bookings SET facility = 'room-2'
 UPDATE bookings SET refund = 602 WHERE number = 8
 UPDATE bookings SET refund = 1 WHERE number = 7
 UPDATE facilities SET name = 'Court-1' WHERE name = 'court-1'; UPDATE bookings SET facility = 'Court-1' WHERE number = 7; UPDATE slots SET facility = 'Court-1' WHERE facility = 'court-1'
-"""
+""".splitlines()]
 
 
-@pytest.mark.parametrize("statements", SPOILED.strip().splitlines())
-def test_tables_that_hold_no_club(club, refused, statements):
-    shell(club, f"PRAGMA foreign_keys = OFF; PRAGMA ignore_check_constraints = ON; {statements}")
+@pytest.mark.parametrize("change", SPOILED)
+def test_tables_that_hold_no_club(club, change):
+    shell(club, f"PRAGMA foreign_keys = OFF; PRAGMA ignore_check_constraints = ON; {change}")
     refused(club)
 
 
