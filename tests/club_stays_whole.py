@@ -11,18 +11,18 @@ Not part of the gate. STEP=N refuses each Nth allocation alone, which is faster.
 # groups: faults
 # wants: python3-pytest gcc libc6-dev
 
+import contextlib
 import hashlib
 import os
 import sqlite3
 import subprocess
+import tempfile
 import time
-from concurrent.futures import ThreadPoolExecutor
 from pathlib import Path
 
 import pytest
 
 import desk
-from conftest import Club
 
 STEP = int(os.environ.get("STEP", "1"))
 ROOT, OTHER = "30313233343536373839616263646566", "ffeeddccbbaa99887766554433221100"
@@ -52,90 +52,64 @@ def rows(club):
 
 
 class Order:
-    """An order that is given to a club again and again; before each the club is as it was."""
+    """An order that is given again and again, each time to a copy of a club, and what it leaves."""
 
-    def __init__(self, program, folder, before, words):
-        self.before, self.club, (name, *values) = before, Club(program, folder / "club"), words.split()
-        self.words = [program, name, self.club.file, *values]
-        self.rows, self.after = rows(before), rows(self.model(folder / "model", ORDERS[words]))
-        self.whole, self.found = self.ended(), {}
-
-    def model(self, file, change):
-        model = self.before.copied_to(file)
+    def __init__(self, before, words):
+        self.before, self.words, self.found = before, words.split(), {}
+        model = before.copied_to(before.file.with_name("model"))
         model.does("sheet 2026-05-01")
-        with sqlite3.connect(file) as database:
-            database.executescript(f"PRAGMA foreign_keys = ON; {change}")
-        return model
+        with contextlib.closing(sqlite3.connect(model.file)) as database:
+            database.executescript(f"PRAGMA foreign_keys = ON; {ORDERS[words]}")
+        self.rows, self.after = rows(before), rows(model)
+        self.whole = self.given()
+        assert self.whole[0] == 0
 
-    def begin(self):
-        self.before.copied_to(self.club.file)
+    @contextlib.contextmanager
+    def copy(self):
+        """A copy of the club, and the words that give it the order."""
+        with tempfile.TemporaryDirectory(dir=self.before.file.parent) as folder:
+            club = self.before.copied_to(Path(folder, "club"))
+            yield club, [club.program, self.words[0], club.file, *self.words[1:]]
 
-    def ended(self, limits=None, **variables):
-        self.begin()
-        run = subprocess.run(self.words, capture_output=True, check=False, text=True, stdin=subprocess.DEVNULL, env={**os.environ, **variables},
-                             preexec_fn=limits, restore_signals=False)
+    def keeps_a_club(self, club, *wanted):
+        """What lies in the file and its log is one of these, and clubdesk reads it. The same bytes are looked at once."""
+        state = hashlib.sha256(b" log ".join(it.read_bytes() for it in (club.file, Path(f"{club.file}-wal")) if it.exists())).digest()
+        if state not in self.found:
+            self.found[state] = rows(club.copied_to(club.file.with_name("copied")))
+            club.does("sheet 2026-05-01")
+            assert rows(club) == self.found[state]
+        found = self.found[state]
+        assert found in wanted
+
+    def given(self, limits=None, **variables):
+        """How it ends; a fault wrote nothing."""
+        with self.copy() as (club, words):
+            run = subprocess.run(words, capture_output=True, check=False, text=True, stdin=subprocess.DEVNULL, env={**os.environ, **variables},
+                                 preexec_fn=limits, restore_signals=False)
+            self.keeps_a_club(club, self.rows if run.returncode else self.after)
         return run.returncode, run.stdout, run.stderr
 
-    def keeps_a_club(self, *wanted):
-        """What lies in the file and its log is one of these, and clubdesk reads it. The same bytes are looked at once."""
-        state = hashlib.sha256(b" log ".join(it.read_bytes() for it in (self.club.file, Path(f"{self.club.file}-wal")) if it.exists())).digest()
-        if state not in self.found:
-            found = rows(self.club.copied_to(self.club.file.with_name("copied")))
-            self.club.does("sheet 2026-05-01")
-            assert rows(self.club) == found
-            self.found[state] = found
-        assert self.found[state] in wanted
+    def fails(self, ended, fault, *statuses):
+        """Whether it ended with one of these statuses and no output, else as if nothing were refused."""
+        assert ended == self.whole or ended[0] in statuses and ended[1] == "" and (ended[0] == 2 or ended[2] == fault), ended
+        return ended != self.whole
 
-    def tried(self, ended, fault, *statuses):
-        """Ended as if nothing were refused, or with one of these statuses and no output; whether it did so."""
-        self.keeps_a_club(self.after if ended[0] == 0 else self.rows)
-        if ended[0] == 0:
-            assert ended == self.whole
-            return False
-        assert ended[0] in statuses and ended[1] == "" and (ended[0] == 2 or ended[2] == fault), ended
-        return True
-
-    def refuse_memory(self, library, first, step):
-        """Refuses the allocation of this number, and each that is a step behind, to the last."""
-        told = self.club.file.with_name("told")
-        count, allocation = 0, first
-        while allocation == first or told.exists():
-            told.unlink(missing_ok=True)
-            ended = self.ended(REFUSED_ALLOCATION=str(allocation), REFUSAL_TOLD=str(told), LD_PRELOAD=library)
-            count += self.tried(ended, "out of memory\n", 4, 2)
-            allocation += step
-        return count
-
-    def refuse_storage(self):
-        return sum(self.tried(self.ended(lambda: desk.limit_files(512 * blocks)), "storage failed\n", 5) for blocks in range(0, 2001, 50))
-
-    def kill(self):
-        count = 0
-        for milliseconds in range(1, 31):
-            self.begin()
-            with subprocess.Popen(self.words, stdout=subprocess.DEVNULL, stderr=subprocess.DEVNULL) as order:
+    def kill(self, milliseconds):
+        with self.copy() as (club, words):
+            with subprocess.Popen(words, stdout=subprocess.DEVNULL, stderr=subprocess.DEVNULL) as order:
                 time.sleep(milliseconds / 1000)
                 order.kill()
             assert order.returncode in (0, -9)
-            self.keeps_a_club(self.after, *([self.rows] if order.returncode else []))
-            count += order.returncode != 0
-        return count
+            self.keeps_a_club(club, self.after, *([self.rows] if order.returncode else []))
 
 
 @pytest.mark.parametrize("words", ORDERS)
-def test_order(clubdesk, library, tmp_path, words):
-    before = Club(clubdesk, tmp_path / "before")
+def test_order(new_club, tmp_path, words):
+    before = new_club()
     before.file.touch()
-    for it in list(ORDERS)[:list(ORDERS).index(words)]:
-        before.does(it)
-    orders = []
-    for place in range(len(os.sched_getaffinity(0))):
-        (tmp_path / str(place)).mkdir()
-        orders.append(Order(clubdesk, tmp_path / str(place), before, words))
-    assert orders[0].whole[0] == 0
-    refused_memory = library("refused_memory")
-    with ThreadPoolExecutor(len(orders)) as pool:
-        counts = pool.map(lambda place: orders[place].refuse_memory(refused_memory, 1 + place * STEP, len(orders) * STEP), range(len(orders)))
-        assert all(counts)
-    assert orders[0].refuse_storage()
-    orders[0].kill()
+    before.does(*list(ORDERS)[:list(ORDERS).index(words)])
+    order = Order(before, words)
+    assert any([order.fails(it, "out of memory\n", 4, 2) for it, _ in desk.refused_in_turn(order.given, tmp_path, STEP)])
+    assert any([order.fails(order.given(lambda: desk.limit_files(512 * blocks)), "storage failed\n", 5) for blocks in range(0, 2001, 50)])
+    for milliseconds in range(1, 31):
+        order.kill(milliseconds)

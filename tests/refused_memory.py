@@ -2,7 +2,7 @@
 """Each command of `passtool`, in each form, with each allocation refused in turn: it ends with status 4 and no output, or as if nothing
 had been refused.
 
-Each of the first 400 is refused, more than any command makes. Not part of the gate.
+Not part of the gate.
 """
 # groups: faults
 # wants: python3-pytest gcc libc6-dev
@@ -23,14 +23,14 @@ COMMANDS = [("mint", "--root", ROOT, "--id", "key:amy-1", "--location", "club-de
 
 @pytest.mark.parametrize("words", COMMANDS, ids=" ".join)
 @pytest.mark.parametrize("form", passes.FORMS)
-def test_each_allocation_refused(library, form, words):
+def test_each_allocation_refused(tmp_path, form, words):
     words = [desk.program("passtool"), *(it.replace("FORM", form) for it in words)]
 
-    def ended(variables):
+    def ended(**variables):
         run = subprocess.run(words, input=text(key_pass("amy-1"), form=form).encode(), capture_output=True, check=False, env={**os.environ, **variables})
         return run.returncode, run.stdout, run.stderr
 
-    whole = ended({})
+    whole, refused = ended(), (4, b"", b"out of memory\n")
     assert whole[0] == 0
-    found = [ended({"REFUSED_ALLOCATION": str(number), "LD_PRELOAD": library("refused_memory")}) for number in range(1, 401)]
-    assert set(found) == {whole, (4, b"", b"out of memory\n")}
+    found = desk.refused_in_turn(ended, tmp_path)
+    assert all(is_met for _, is_met in found) and refused in {it for it, _ in found} <= {whole, refused}
