@@ -1,18 +1,28 @@
-"""Each command of the office, as clerks give it who are not root: office_holds.py, run by office_holds.sh."""
+#!/usr/bin/env -S /usr/bin/python3 -B
+"""The office's wrapper, deploy/office, as clerks use it who are not root: by the sudoers lines of deploy/office.sudoers, beside a server
+that a small manager of services runs. Each order, look, list and correction against show-account, the sheet, the desk's replies
+and the totals; what it refuses; passes and their files; the book, in a file and in systemd's journal; a copy that is put in the club's
+place, also of a file that is damaged or gone. Wants root, for a machine of its own (tests/office_room.sh). Not part of the gate.
+"""
+# groups: package root
+# wants: sudo sqlite3 openssl util-linux bsdutils iproute2 systemd python3-psutil
 
 import fcntl
+import json
 import os
 import re
 import sqlite3
 import subprocess
-import threading
 import time
+from concurrent.futures import ThreadPoolExecutor
+from pathlib import Path
 
-from office_room import HOME, NOON, Service, configure, desk, done, everything, json_of, leave, office, rows, run_as, same, whole
+from office_room import CLUB, HOME, NOON, ROOM, TESTS, Service, begun, configure, desk, done, everything, leave, mode, office, rows, run_as, same, whole
 
 DAY = "2026-05-01"
 AT = ["--at", NOON]
 YES = ["--yes", *AT]
+COPIES, BOOK, TURN = HOME / "back-ups", HOME / "club-book", HOME / "club-orders"
 
 
 def refused(words, status, line, by="anna", given="", keeps=True):
@@ -26,43 +36,44 @@ def refused(words, status, line, by="anna", given="", keeps=True):
         same(f"office {' '.join(words)}: the rows", everything(), before)
 
 
+def lines(*words):
+    return done(*words).splitlines()
+
+
 def before_there_is_a_club():
-    same("a club that isn't configured", office("members")[:2], (1, ""))
-    same("what is said of it", office("members")[2], "refused: no club club is configured: there is no /etc/clubdesk/club.conf\n")
+    same("a club that isn't configured", office("members"), (1, "", "refused: no club club is configured: there is no /etc/clubdesk/club.conf\n"))
     for wrong in ("../club", "Club", "-club", "", "club;id", "a" * 25):
         same(f"no name of a club: {wrong!r}", run_as("anna", "office", "--", wrong, "members")[0], 3)
-    configure("club")
-    with open("/etc/clubdesk/empty.conf", "w", encoding="ascii") as out:
-        out.write("zone = UTC0\n")
+    configure()
+    Path("/etc/clubdesk/empty.conf").write_text("zone = UTC0\n", encoding="ascii")
     same("a configuration without a file", office("members", club="empty")[0], 5)
     for words in (["members"], ["credit", "amy", "5"], ["sheet", DAY], ["debit", "amy", "5", "--yes"], ["check"]):
-        refused(words, 1, "refused: there is no file /var/lib/clubdesk/club", keeps=False)
-        same("no file is made", [f for f in os.listdir(HOME) if f in ("club", "club-wal")], [])
+        refused(words, 1, f"refused: there is no file {CLUB}", keeps=False)
+        same("no file is made", [it for it in os.listdir(HOME) if it in ("club", "club-wal")], [])
     same("a clerk of no group", office("new", by="carl")[0], 1)
-    same("nothing is made", os.path.exists(f"{HOME}/club"), False)
+    same("nothing is made", CLUB.exists(), False)
     same("new", done("new"), "done\n")
-    same("the file's owner and mode", (os.stat(f"{HOME}/club").st_uid, oct(os.stat(f"{HOME}/club").st_mode)), (os.stat(HOME).st_uid, "0o100600"))
+    same("the file's owner and mode", mode(CLUB), "clubdesk 100600")
     refused(["new"], 1, "refused: exists")
 
 
 def as_nobody_else():
-    """A clerk gives office's commands and nothing else, and reads no file of the desk's."""
-    user = "clubdesk"
-    for words in (
-        ["sudo", "-n", "-u", user, "id"],
-        ["sudo", "-n", "-u", user, "/usr/bin/office", "club", "members"],
-        ["sudo", "-n", "id"],
-        ["sudo", "-n", "/usr/bin/office", "--desk", "club", "members"],
-        ["sudo", "-n", "/usr/bin/systemctl", "kill", "clubdesk@club.service"],
-        ["sudo", "-n", "/usr/bin/journalctl"],
-        ["sudo", "-n", "OFFICE_CONF=/tmp", "-u", user, "/usr/bin/office", "--desk", "club", "members"],
-        ["cat", f"{HOME}/club"],
-        ["ls", HOME],
+    """A clerk gives office's commands and nothing else, and reads no file of the desk's; nor does the desk's user end other services."""
+    for user, line in (
+        ("anna", "sudo -n -u clubdesk id"),
+        ("anna", "sudo -n -u clubdesk /usr/bin/office club members"),
+        ("anna", "sudo -n id"),
+        ("anna", "sudo -n /usr/bin/office --desk club members"),
+        ("anna", "sudo -n /usr/bin/systemctl kill clubdesk@club.service"),
+        ("anna", "sudo -n /usr/bin/journalctl"),
+        ("anna", "sudo -n OFFICE_CONF=/tmp -u clubdesk /usr/bin/office --desk club members"),
+        ("anna", f"cat {CLUB}"),
+        ("anna", f"ls {HOME}"),
+        ("clubdesk", "sudo -n /usr/bin/systemctl kill clubdesk@club.service ssh.service"),
+        ("clubdesk", "sudo -n /usr/bin/systemctl stop clubdesk@club.service"),
     ):
-        same(f"{' '.join(words)} by a clerk", run_as("anna", *words)[0] != 0, True)
-    for words in (["kill", "clubdesk@club.service", "ssh.service"], ["kill", "clubdesk@x ssh.service"], ["stop", "clubdesk@club.service"]):
-        line = ["sudo", "-n", "/usr/bin/systemctl", *words]
-        same(f"{line} by the desk's user", run_as(user, *line, folder="/")[0] != 0, True)
+        same(f"{line} by {user}", run_as(user, *line.split(), folder="/")[0] != 0, True)
+    same("two units in a word", run_as("clubdesk", "sudo", "-n", "/usr/bin/systemctl", "kill", "clubdesk@x ssh.service", folder="/")[0] != 0, True)
 
 
 def orders_and_looks():
@@ -88,7 +99,7 @@ def orders_and_looks():
         same(f"office {' '.join(words)}", (found, printed + errors), (status, out))
     for words in (["add-member", "amy"], ["credit"], ["serve", "--port", "0"], ["pause", "5"], ["import-row", "amy", "1", "1", "x"], ["credi", "amy", "1"]):
         same(f"no words: {words}", office(*words)[0], 2)
-    same("the version", run_as("anna", "office", "--version")[1], desk("--version").stdout.replace("clubdesk", "office"))
+    same("the version", run_as("anna", "office", "--version")[1], run_as("anna", "clubdesk", "--version")[1].replace("clubdesk", "office"))
 
 
 def passes():
@@ -102,44 +113,38 @@ def passes():
     refused(["add-key", "amy-1", "amy", "--to", "other"], 1, "refused: exists")
     same("no file of a refused order", run_as("anna", "ls", "-A")[1].split(), [".bash_logout", ".bashrc", ".profile", "amy-1"])
     root = "5ec4e7" + "0" * 58
-    minted = subprocess.run(["passtool", "mint", "--root", root, "--id", "key:bob-1"], capture_output=True, text=True, check=True).stdout
     shown = done("add-key", "bob-1", "bob", "--root-stdin", given=root + "\n")
-    same("a root from standard input", tool_show(shown)["signature"], tool_show(minted)["signature"])
+    same("a root from standard input", run_as("anna", "passtool", "verify", "--root", root, given=shown)[1], "signed\n")
     shown = done("add-key", "bob-2", "bob", "aa" * 16, "--form", "json")
     same("a form", shown[:1], "{")
     same("a root twice", office("add-key", "bob-3", "bob", "aa" * 16, "--root-stdin", given=root)[0], 2)
     same("a short root", office("add-key", "bob-3", "bob", "--root-stdin", given="aa")[0], 3)
     same("another form", office("add-key", "bob-3", "bob", "--form", "v9")[0], 2)
-    with open(f"{HOME}/club-book", encoding="utf-8") as book:
-        lines = book.read()
-    same("no root in the book", [secret for secret in (root, "aa" * 16) if secret in lines], [])
+    same("no root in the book", [secret for secret in (root, "aa" * 16) if secret in BOOK.read_text(encoding="utf-8")], [])
     return text.strip(), shown.strip()
 
 
-def tool_show(text):
-    printed = subprocess.run(["passtool", "show"], input=text, capture_output=True, text=True, check=True).stdout
-    return dict(line.split(" ", 1) for line in printed.splitlines() if " " in line)
-
-
 def looks(server, amy):
-    for words in (["sheet", DAY], ["show-slot", "court-1", DAY, "18"]):
-        same(f"office {words}", done(*words), desk(words[0], f"{HOME}/club", *words[1:]).stdout)
-    same("office show-account", done("show-account", "amy-1", *AT), desk("show-account", f"{HOME}/club", "amy-1", *AT).stdout)
-    found = dict(line.rsplit(" ", 1) for line in done("show-account", "amy-1", *AT).splitlines())
-    asked = json_of(server.answer(amy, "GET", "/account"))
-    same("the account", [str(asked[at]) for at in ("member", "balance", "quota", "open", "spent")], [found[at] for at in ("member", "balance", "quota", "open", "spent")])
+    for words in (["sheet", DAY], ["show-slot", "court-1", DAY, "18"], ["show-account", "amy-1", *AT]):
+        same(f"office {words}", (0, done(*words)), desk(*words))
+    told = dict(line.rsplit(" ", 1) for line in lines("show-account", "amy-1", *AT))
+    same("the account", {at: str(value) for at, value in account(server, amy).items()}, {at: told[at] for at in ("member", "balance", "quota", "open", "spent")})
+
+
+def asked(server, text, method, path, body=None):
+    return json.loads(server.answer(text, method, path, body)[1])
 
 
 def book(server, text, facility, hour, number, guests=0, on=DAY):
-    return json_of(server.answer(text, "PUT", f"/slots/{facility}/{on}/{hour:02d}/bookings/{number}", f'{{"guests":{guests}}}'))
+    return asked(server, text, "PUT", f"/slots/{facility}/{on}/{hour:02d}/bookings/{number}", f'{{"guests":{guests}}}')
 
 
-def slot(server, text, facility, hour, on=DAY):
-    return json_of(server.answer(text, "GET", f"/slots/{facility}/{on}/{hour:02d}"))
+def slot(server, text, facility, hour):
+    return asked(server, text, "GET", f"/slots/{facility}/{DAY}/{hour:02d}")
 
 
 def account(server, text):
-    return json_of(server.answer(text, "GET", "/account"))
+    return asked(server, text, "GET", "/account")
 
 
 def lists(server, amy, bob):
@@ -147,17 +152,21 @@ def lists(server, amy, bob):
     book(server, bob, "boat-1", 7, 3, 1)
     book(server, amy, "court-2", 10, 8, 0, "2026-04-21")
     done("rotate-key", "bob-1", "2026-05-02T00:00", "--to", "bob-1")
-    same("members", done("members", "--csv", *AT), "member,balance,quota,open,keys\namy,9200,5,2,1\nbob,2900,2,1,2\n")
-    same("members, aligned", done("members", *AT), "member  balance  quota  open  keys\namy        9200      5     2     1\nbob        2900      2     1     2\n")
-    same("facilities", done("facilities", "--csv").splitlines()[1:], ["boat-1,boat,2,50,6,20", "court-1,court,4,200,8,22", "court-2,court,4,200,8,22"])
-    same("keys", done("keys", "bob", "--csv").splitlines(), ["key,revoked,older root until,spent", "bob-1,no,2026-05-02T00:00,0", "bob-2,no,none,100"])
-    same("bookings of a member", done("bookings", "amy", "--csv", *AT).splitlines()[1:], ["2026-04-21,10,court-2,amy,amy-1,8,1,200", "2026-05-01,18,court-1,amy,amy-1,7,3,600"])
-    same("bookings of a day", done("bookings", DAY, "--csv").splitlines()[1:], ["2026-05-01,7,boat-1,bob,bob-2,3,2,100", "2026-05-01,18,court-1,amy,amy-1,7,3,600"])
-    same("bookings of a facility", done("bookings", "court-2", "--csv", *AT).splitlines()[1:], ["2026-04-21,10,court-2,amy,amy-1,8,1,200"])
-    same("bookings of before", done("bookings", "court-2", "--csv", "--at", "2026-04-22T00:00").splitlines()[1:], [])
-    same("all bookings", done("bookings", "court-2", "--all", "--csv", "--at", "2026-04-22T00:00").splitlines()[1:], ["2026-04-21,10,court-2,amy,amy-1,8,1,200,no,0"])
+    same("members", lines("members", "--csv", *AT), ["member,balance,quota,open,keys", "amy,9200,5,2,1", "bob,2900,2,1,2"])
+    same("members, aligned", lines("members", *AT), [
+        "member  balance  quota  open  keys", "amy        9200      5     2     1", "bob        2900      2     1     2"])
+    same("facilities", lines("facilities", "--csv")[1:], ["boat-1,boat,2,50,6,20", "court-1,court,4,200,8,22", "court-2,court,4,200,8,22"])
+    same("keys", lines("keys", "bob", "--csv"), ["key,revoked,older root until,spent", "bob-1,no,2026-05-02T00:00,0", "bob-2,no,none,100"])
+    same("bookings of a member", lines("bookings", "amy", "--csv", *AT)[1:], [
+        "2026-04-21,10,court-2,amy,amy-1,8,1,200", "2026-05-01,18,court-1,amy,amy-1,7,3,600"])
+    same("bookings of a day", lines("bookings", DAY, "--csv")[1:], [
+        "2026-05-01,7,boat-1,bob,bob-2,3,2,100", "2026-05-01,18,court-1,amy,amy-1,7,3,600"])
+    same("bookings of a facility", lines("bookings", "court-2", "--csv", *AT)[1:], ["2026-04-21,10,court-2,amy,amy-1,8,1,200"])
+    same("bookings of before", lines("bookings", "court-2", "--csv", "--at", "2026-04-22T00:00")[1:], [])
+    same("all bookings", lines("bookings", "court-2", "--all", "--csv", "--at", "2026-04-22T00:00")[1:], [
+        "2026-04-21,10,court-2,amy,amy-1,8,1,200,no,0"])
     same("money", done("money", "amy", "--csv"), "member,credited,charged,refunded,balance\namy,10000,800,0,9200\n")
-    same("money of all", len(done("money").splitlines()), 3)
+    same("money of all", len(lines("money")), 3)
     same("closed", done("closed", "--csv", *AT), f"facility,day,hour\ncourt-1,{DAY},9\n")
     same("check", done("check"), "the totals are the sums of the bookings\n")
     for words, status in ((["keys", "nobody"], 1), (["bookings", "nobody"], 1), (["bookings", "2026-13-01"], 3), (["money", "x'y"], 3), (["keys", "a b"], 3)):
@@ -170,8 +179,9 @@ def lists(server, amy, bob):
 
 
 def corrections(server, amy, bob):
-    same("a price", done("set-facility", "court-1", "--price", "250", *YES).splitlines(), ["price of court-1: 200, then 250; what is booked keeps its charge", "done"])
-    same("its view", slot(server, amy, "court-1", 18), {"facility": "court-1", "day": DAY, "hour": 18, "kind": "court", "price": 250, "places": 4, "taken": 3, "closed": False})
+    same("a price", lines("set-facility", "court-1", "--price", "250", *YES), ["price of court-1: 200, then 250; what is booked keeps its charge", "done"])
+    same("its view", slot(server, amy, "court-1", 18), {
+        "facility": "court-1", "day": DAY, "hour": 18, "kind": "court", "price": 250, "places": 4, "taken": 3, "closed": False})
     same("a booking at it", book(server, amy, "court-1", 19, 9, 0), {"booking": "amy-1/9", "charge": 250, "left": 3})
     whole("a price")
     refused(["set-facility", "court-1", "--places", "2", *YES], 1, f"refused: 3 persons are booked {DAY} 18:00")
@@ -181,13 +191,13 @@ def corrections(server, amy, bob):
     for option, value in (("--price", "10000"), ("--places", "0"), ("--places", "51"), ("--hours", "9-9"), ("--hours", "9-25"), ("--price", "1; --")):
         refused(["set-facility", "court-1", option, value, *YES], 3, "bad value")
     done("set-facility", "court-1", "--places", "3", "--hours", "7-20", *YES)
-    same("places and hours", done("show-slot", "court-1", DAY, "18").splitlines()[5:7], ["places 3", "taken 3"])
-    same("a quota", done("set-quota", "bob", "0", *YES).splitlines(), ["quota of bob: 2, then 0", "done"])
+    same("places and hours", lines("show-slot", "court-1", DAY, "18")[5:7], ["places 3", "taken 3"])
+    same("a quota", lines("set-quota", "bob", "0", *YES), ["quota of bob: 2, then 0", "done"])
     same("bookings above it stay", account(server, bob), {"member": "bob", "balance": 2900, "quota": 0, "open": 1, "spent": 100})
     done("set-quota", "bob", "9", *YES)
     refused(["set-quota", "bob", "100", *YES], 3, "bad value")
     refused(["set-quota", "bo", "1", *YES], 1, "refused: there is no member bo")
-    same("a debit", done("debit", "amy", "500", *YES).splitlines(), ["balance of amy: 8950, then 8450", "done"])
+    same("a debit", lines("debit", "amy", "500", *YES), ["balance of amy: 8950, then 8450", "done"])
     same("the balance", account(server, amy)["balance"], 8450)
     refused(["debit", "amy", "8451", *YES], 1, "refused: the balance of amy is 8450")
     refused(["debit", "amy' OR 1=1 --", "1", *YES], 3, "bad value")
@@ -196,17 +206,17 @@ def corrections(server, amy, bob):
     refused(["reopen-slot", "court-1", DAY, "9", *YES], 1, "isn't closed")
     whole("these corrections")
     done("revoke-key", "amy-1")
-    shown = done("cancel", "amy-1", "7", *YES).splitlines()
+    shown = lines("cancel", "amy-1", "7", *YES)
     same("a booking of a revoked key", shown, [f"cancels court-1 {DAY} 18:00, 3 persons, 600 points back: amy-1 7, amy", "done"])
-    same("its slot", done("show-slot", "court-1", DAY, "18").splitlines()[6], "taken 0")
-    same("its key", done("show-account", "amy-1", *AT).splitlines()[1:5], ["balance 9050", "quota 5", "open 2", "spent 450"])
+    same("its slot", lines("show-slot", "court-1", DAY, "18")[6], "taken 0")
+    same("its key", lines("show-account", "amy-1", *AT)[1:5], ["balance 9050", "quota 5", "open 2", "spent 450"])
     refused(["cancel", "amy-1", "7", *YES], 1, "refused: booking 7 of amy-1 is cancelled already")
     refused(["cancel", "amy-1", "77", *YES], 1, "refused: booking 77 of amy-1 is unknown")
     refused(["cancel", "amy-7", "7", *YES], 1, "refused: there is no key amy-7")
     refused(["cancel", "amy-1", *YES], 2, "a NUMBER, or --all")
     refused(["cancel", "amy-1", "9", "--all", *YES], 2, "a NUMBER, or --all")
-    same("all to come", len(done("cancel", "amy-1", "--all", *YES).splitlines()), 3)
-    same("its account", done("show-account", "amy-1", *AT).splitlines()[1:5], ["balance 9500", "quota 5", "open 0", "spent 0"])
+    same("all to come", len(lines("cancel", "amy-1", "--all", *YES)), 3)
+    same("its account", lines("show-account", "amy-1", *AT)[1:5], ["balance 9500", "quota 5", "open 0", "spent 0"])
     refused(["cancel", "amy-1", "--all", *YES], 1, "no booking to come")
     whole("cancellations")
 
@@ -228,15 +238,15 @@ def tournament_and_rain(server, bob):
             found = slot(server, amy, facility, hour)
             same(f"{facility} at {hour}", (found["taken"], found["closed"]), (0, True))
     same("the money is back", (account(server, amy)["balance"], account(server, bob)["spent"]), (9500, 100))
-    same("a repeat of a cancellation", json_of(server.answer(amy, "DELETE", f"/slots/court-1/{DAY}/12/bookings/1")), {"booking": "amy-3/1", "refund": 500})
+    same("a repeat of a cancellation", asked(server, amy, "DELETE", f"/slots/court-1/{DAY}/12/bookings/1"), {"booking": "amy-3/1", "refund": 500})
     refused(["close", DAY, "12-14", "court-1", "court-2", *YES], 1, "closed already")
     refused(["close", DAY, "6-14", "court-1", *YES], 1, "refused: court-1 opens 7-20")
     refused(["close", DAY, "14-12", "court-1", *YES], 3, "bad value")
     book(server, amy, "court-1", 15, 2, 1)
     book(server, amy, "court-1", 16, 3, 1)
-    rained = done("rain", DAY, "court-1", "15", "16", "17", "--yes", "--at", "2026-05-01T18:00").splitlines()
+    rained = lines("rain", DAY, "court-1", "15", "16", "17", "--yes", "--at", "2026-05-01T18:00")
     same("rain, afterwards", (len(rained), account(server, amy)["balance"]), (3, 9500))
-    same("its sheet", done("sheet", DAY).splitlines()[-1], "Total bookings 1, persons 2, charge 100")
+    same("its sheet", lines("sheet", DAY)[-1], "Total bookings 1, persons 2, charge 100")
     refused(["rain", DAY, "court-1", "15", *YES], 1, "nobody has booked")
     refused(["rain", DAY, "court-1", "24", *YES], 3, "bad value")
     whole("a tournament and rain")
@@ -244,15 +254,14 @@ def tournament_and_rain(server, bob):
 
 def member_leaves(server, bob):
     book(server, bob, "court-2", 18, 33, 1)
-    shown = done("leave", "bob", *YES).splitlines()
+    shown = lines("leave", "bob", *YES)
     same("what is shown", (shown[-2], len(shown)), ("member bob becomes 1, with quota 0 and a balance of 3000", 6))
     same("the member", rows("SELECT name, credited, quota, used FROM members WHERE name IN ('1', 'bob')"), [("1", 3000, 0, 0)])
     same("its keys", rows("SELECT name, member, revoked FROM keys WHERE member IN ('1', 'bob') ORDER BY name"), [("1-1", "1", 1), ("1-2", "1", 1)])
     same("its passes", server.answer(bob, "GET", "/account"), (401, '{"fault":9,"text":"not verified"}'))
-    same("the money", done("money", "1", "--csv").splitlines()[1], "1,3000,700,700,3000")
-    for file in ("club", "club-wal"):
-        with open(f"{HOME}/{file}", "rb") if os.path.exists(f"{HOME}/{file}") else open(os.devnull, "rb") as it:
-            same(f"the name in {file}", b"bob" in it.read(), False)
+    same("the money", lines("money", "1", "--csv")[1], "1,3000,700,700,3000")
+    for file in (it for it in (CLUB, HOME / "club-wal") if it.exists()):
+        same(f"the name in {file}", b"bob" in file.read_bytes(), False)
     refused(["leave", "bob", *YES], 1, "refused: there is no member bob")
     done("add-member", "bob", "1")
     done("leave", "bob", *YES)
@@ -278,80 +287,72 @@ def by_hand(sql):
     """A change by SQLite's shell, once the server has let go of the file."""
     for _ in range(50):
         subprocess.run(["systemctl", "kill", "clubdesk@club.service"], check=False)
-        told = subprocess.run(["runuser", "-u", "clubdesk", "--", "sqlite3", "-bail", f"{HOME}/club", sql], capture_output=True, check=False)
-        if told.returncode == 0:
+        status, _, errors = run_as("clubdesk", "sqlite3", "-bail", CLUB, sql, folder="/")
+        if status == 0:
             return
         time.sleep(0.05)
-    raise RuntimeError(told.stderr)
-
-
-def begun(words, errors=None):
-    """A command of the office that goes on."""
-    line = ["runuser", "-u", "anna", "--", "office", "club", *words]
-    return subprocess.Popen(line, stdin=subprocess.PIPE, stdout=subprocess.PIPE, stderr=errors or subprocess.PIPE, text=True, cwd="/home/anna")
+    raise RuntimeError(errors)
 
 
 def takes_turns():
     """One order at a time: another one waits, and is done then."""
-    with open(f"{HOME}/club-orders", "r+", encoding="ascii") as turn:
+    def balance():
+        return rows("SELECT credited - used FROM members WHERE name = 'amy'")[0][0]
+
+    with open(TURN, "r+", encoding="ascii") as turn:
         fcntl.flock(turn, fcntl.LOCK_EX)
-        orders = [begun(words, subprocess.PIPE) for words in (["credit", "amy", "1"], ["debit", "amy", "1", *YES])]
+        orders = [begun(*words) for words in (["credit", "amy", "1"], ["debit", "amy", "1", *YES])]
         for order in orders:
             same("it says that it waits", order.stderr.readline(), "waiting for another order\n")
         same("both wait", [order.poll() for order in orders], [None, None])
-        balance = rows("SELECT credited - used FROM members WHERE name = 'amy'")
+        before = balance()
     for order in orders:
         order.communicate()
     same("both are done then", [order.returncode for order in orders], [0, 0])
-    same("and in turn", rows("SELECT credited - used FROM members WHERE name = 'amy'"), balance)
-    threads = [threading.Thread(target=lambda: done("credit", "amy", "10", by="ben")) for _ in range(6)]
-    threads += [threading.Thread(target=lambda: done("debit", "amy", "5", *YES)) for _ in range(1)]
-    for thread in threads:
-        thread.start()
-    for thread in threads:
-        thread.join()
-    same("seven at once", rows("SELECT credited - used FROM members WHERE name = 'amy'"), [(balance[0][0] + 55,)])
+    same("and in turn", balance(), before)
+    with ThreadPoolExecutor(7) as pool:
+        for _ in range(6):
+            pool.submit(done, "credit", "amy", "10", by="ben")
+        pool.submit(done, "debit", "amy", "5", *YES)
+    same("seven at once", balance(), before + 55)
 
 
 def changed_meanwhile(server):
     """What was shown is what is done: where the club has changed since, nothing is."""
     text = done("add-key", "amy-5", "amy").strip()
     book(server, text, "court-2", 17, 1, 0)
-    with begun(["close", DAY, "17-18", "court-2", *AT]) as asked:
-        same("what is shown", asked.stdout.readline(), f"cancels court-2 {DAY} 17:00, 1 persons, 200 points back: amy-5 1, amy\n")
-        asked.stdout.readline()
+    with begun("close", DAY, "17-18", "court-2", *AT) as order:
+        same("what is shown", order.stdout.readline(), f"cancels court-2 {DAY} 17:00, 1 persons, 200 points back: amy-5 1, amy\n")
+        order.stdout.readline()
         book(server, text, "court-2", 17, 2, 0)
-        _, errors = asked.communicate("y\n")
-    same("a booking between the question and its answer", (asked.returncode, "has changed since" in errors), (1, True))
+        _, errors = order.communicate("y\n")
+    same("a booking between the question and its answer", (order.returncode, "has changed since" in errors), (1, True))
     same("the slot", slot(server, text, "court-2", 17)["taken"], 2)
     whole("a change meanwhile")
 
 
 def back_ups():
     """Each correction that was carried out left the club as it was before."""
-    made = sorted(os.listdir(f"{HOME}/club-before"))
+    made = sorted((HOME / "club-before").iterdir())
     same("their number", 10 <= len(made) <= 30, True)
-    same("their modes", {oct(os.stat(f"{HOME}/club-before/{file}").st_mode) for file in made}, {"0o100600"})
-    same("nothing else", [file for file in made if not re.fullmatch(r"20\d\d-\d\d-\d\dT\d\d-\d\d-\d\d-[a-z-]+", file)], [])
-    copy = f"{os.environ['ROOM']}/before"
-    subprocess.run(["cp", f"{HOME}/club-before/{made[-1]}", copy], check=True)
-    told = subprocess.run(["clubdesk", "sheet", copy, DAY], capture_output=True, text=True, check=False)
-    same("the newest is a club", (told.returncode, told.stdout.splitlines()[0]), (0, f"Day sheet {DAY}"))
+    same("their modes", {mode(it) for it in made}, {"clubdesk 100600"})
+    same("nothing else", [it for it in made if not re.fullmatch(r"20\d\d-\d\d-\d\dT\d\d-\d\d-\d\d-[a-z-]+", it.name)], [])
+    subprocess.run(["cp", made[-1], ROOM / "before"], check=True)
+    status, out, _ = run_as("root", "clubdesk", "sheet", ROOM / "before", DAY, folder="/")
+    same("the newest is a club", (status, out.splitlines()[0]), (0, f"Day sheet {DAY}"))
 
 
 def keep_copy():
     """A night's copy; its name."""
-    before = set(os.listdir(f"{HOME}/back-ups")) if os.path.isdir(f"{HOME}/back-ups") else set()
-    line = ["runuser", "-u", "clubdesk", "--", "/usr/lib/clubdesk/keep_copies", f"{HOME}/club", f"{HOME}/back-ups"]
-    subprocess.run(line, check=True, capture_output=True, cwd="/")
-    return (set(os.listdir(f"{HOME}/back-ups")) - before).pop()
+    before = set(COPIES.glob("*"))
+    same("a night's copy", run_as("clubdesk", "/usr/lib/clubdesk/keep_copies", CLUB, COPIES, folder="/")[0], 0)
+    return (set(COPIES.glob("*")) - before).pop().name
 
 
 def restores(server):
     """A copy in the club's place: what changes is shown, the club as it was becomes a copy, and a file that isn't whole is kept."""
-    with open("/etc/clubdesk/club.conf", "a", encoding="ascii") as out:
-        out.write(f"BACK_UPS={HOME}/back-ups\n")
-    same("no copy of a night", [line for line in done("copies", "--csv").splitlines() if "back-up" in line], [])
+    configure(BACK_UPS=COPIES)
+    same("no copy of a night", [line for line in lines("copies", "--csv") if "back-up" in line], [])
     text = done("add-key", "amy-6", "amy").strip()
     book(server, text, "court-2", 19, 61, 1)
     book(server, text, "court-2", 8, 62, 0)
@@ -369,7 +370,7 @@ def restores(server):
     done("set-facility", "boat-1", "--price", "60", *YES)
     done("close-slot", "court-2", DAY, "11")
     after = everything()
-    same("the copies", {line.rsplit(",", 1)[0] for line in done("copies", "--csv").splitlines()} >= {"copy,is", f"{night},back-up"}, True)
+    same("the copies", {line.rsplit(",", 1)[0] for line in lines("copies", "--csv")} >= {"copy,is", f"{night},back-up"}, True)
     shown = [
         "forgets the member dora", f"balance of amy: {balance + 250}, then {balance}", "forgets the key dora-1: its passes are refused",
         "takes passes of amy-3 of before it was rotated, and refuses those of after", "takes passes of amy-5, which is revoked now",
@@ -380,15 +381,15 @@ def restores(server):
     same("a restore that isn't confirmed", (status, out.splitlines()[:-1]), (1, shown))
     same("it changes nothing", everything(), after)
     starts = server.starts
-    same("a restore", done("restore", night, *YES).splitlines(), [*shown, "done"])
+    same("a restore", lines("restore", night, *YES), [*shown, "done"])
     same("the club of the copy", everything(), before)
-    same("a repeat of before", json_of(server.answer(text, "PUT", f"/slots/court-2/{DAY}/19/bookings/61", '{"guests":1}'))["charge"], 400)
+    same("a repeat of before", book(server, text, "court-2", 19, 61, 1)["charge"], 400)
     same("what came after", server.answer(text, "DELETE", f"/slots/court-2/{DAY}/09/bookings/63"), (404, '{"fault":15,"text":"no such booking"}'))
     same("the server began anew", server.starts > starts, True)
     whole("a restore")
     undone = sorted(file for file in os.listdir(f"{HOME}/club-before") if file.endswith("-restore"))[-1]
-    same("its own copy is listed", f"{undone},before a correction" in {line.rsplit(",", 1)[0] for line in done("copies", "--csv").splitlines()}, True)
-    same("what undoes it", done("restore", undone, *YES).splitlines(), [
+    same("its own copy is listed", f"{undone},before a correction" in {line.rsplit(",", 1)[0] for line in lines("copies", "--csv")}, True)
+    same("what undoes it", lines("restore", undone, *YES), [
         "has the member dora again", f"balance of amy: {balance}, then {balance + 250}", "has the key dora-1 again, and its passes",
         "takes passes of amy-3 of before it was rotated, and refuses those of after", "refuses passes of amy-5, which is revoked again",
         "the facility boat-1 is as it was", f"closes court-2 {DAY} 11:00", f"loses court-2 {DAY} 19:00, 2 persons, 400 points: amy-6 61, amy",
@@ -398,126 +399,130 @@ def restores(server):
     refused(["restore", "2001-01-01T000000Z", *YES], 1, "refused: there is no copy 2001-01-01T000000Z")
     for wrong in ("../club", "club", "2026-04-20", f"{night}/..", "2026-04-20T12-00-00-debit;"):
         refused(["restore", wrong, *YES], 3, "bad value")
-    for place, (called, change) in enumerate((("2026-01-01T000000Z", "empty"), ("2026-01-02T000000Z", "UPDATE members SET used = used + 1 WHERE name = 'amy'"))):
-        path = f"{HOME}/back-ups/{called}"
-        subprocess.run(["cp", f"{HOME}/back-ups/{night}" if place else os.devnull, path], check=True)
-        if place:
+    for called, change, line in (
+        ("2026-01-01T000000Z", None, "is no club that clubdesk opens"),
+        ("2026-01-02T000000Z", "UPDATE members SET used = used + 1 WHERE name = 'amy'", "isn't sound: member amy: used is"),
+    ):
+        path = COPIES / called
+        if change:
+            subprocess.run(["cp", COPIES / night, path], check=True)
             subprocess.run(["sqlite3", path, change], check=True)
         else:
-            open(path, "wb").write(b"no club" * 1000)
+            path.write_bytes(b"no club" * 1000)
         subprocess.run(["chown", "clubdesk:", path], check=True)
-        refused(["restore", called, *YES], 1, "is no club that clubdesk opens" if not place else "isn't sound: member amy: used is")
-        os.unlink(path)
+        refused(["restore", called, *YES], 1, line)
+        path.unlink()
     changed_while_asked(server, night)
     damaged(server, text, night, before, was)
 
 
 def changed_while_asked(server, night):
     done("add-key", "amy-7", "amy")
-    with begun(["restore", night, *AT]) as asked:
-        same("what is shown", asked.stdout.readline(), "forgets the member dora\n")
+    with begun("restore", night, *AT) as order:
+        same("what is shown", order.stdout.readline(), "forgets the member dora\n")
         done("credit", "amy", "1")
-        _, errors = asked.communicate("y\n")
-    same("a credit between the question and its answer", (asked.returncode, "has changed since" in errors), (1, True))
+        _, errors = order.communicate("y\n")
+    same("a credit between the question and its answer", (order.returncode, "has changed since" in errors), (1, True))
+
+
+def spoil(what):
+    """Loses the head of the club's file, all its other pages, the first of an index, all its bytes, or the file."""
+    if what == "gone":
+        CLUB.rename(HOME / "mislaid")
+        return
+    first = "SELECT min(rootpage) FROM sqlite_master WHERE type = 'index' AND tbl_name = 'bookings'"
+    (page,) = sqlite3.connect(f"file:{CLUB}?immutable=1", uri=True).execute(first).fetchone()
+    data, lost = CLUB.read_bytes(), b"\xff" * 4096
+    CLUB.write_bytes({
+        "head": lost + data[4096:], "pages": data[:4096] + b"\xff" * (len(data) - 4096),
+        "index": data[:4096 * (page - 1)] + lost + data[4096 * page:], "empty": b"",
+    }[what])
 
 
 def damaged(server, text, night, before, was):
     """A file whose head is lost, all of whose pages are, or one of an index; one that is empty, and one that isn't there."""
+    def lost_files():
+        return len([it for it in HOME.glob("club-lost-*") if not it.name.endswith("-wal")])
+
     for what in ("head", "pages", "index", "empty", "gone"):
         server.stop()
-        desk("sheet", f"{HOME}/club", DAY)  # its log is in it now
-        if os.path.exists(f"{HOME}/club-wal"):
-            os.unlink(f"{HOME}/club-wal")
-        with open(f"{HOME}/club", "r+b") as file:
-            size = file.seek(0, 2)
-            if what == "head":
-                spoil(file, 0, 4096)
-            elif what == "pages":
-                spoil(file, 4096, size)
-            elif what == "index":
-                ((page,),) = sqlite3.connect(f"file:{HOME}/club?immutable=1", uri=True).execute(
-                    "SELECT min(rootpage) FROM sqlite_master WHERE type = 'index' AND tbl_name = 'bookings'"
-                )
-                spoil(file, 4096 * (page - 1), 4096 * page)
-            elif what == "empty":
-                file.truncate(0)
-            else:
-                os.rename(f"{HOME}/club", f"{HOME}/mislaid")
+        desk("sheet", DAY)  # its log is in it now
+        (HOME / "club-wal").unlink(missing_ok=True)
+        spoil(what)
         if what in ("head", "pages"):
-            same(f"{what}: no club", desk("sheet", f"{HOME}/club", DAY).returncode, 5)
-        lost = len([file for file in os.listdir(HOME) if file.startswith("club-lost-") and not file.endswith("-wal")])
+            same(f"{what}: no club", desk("sheet", DAY)[0], 5)
+        lost = lost_files()
         out = done("restore", night, *YES)
         same(f"{what}: what is said", ("and is kept beside the new one" in out, out.splitlines()[-1]), (True, "done"))
-        found = len([file for file in os.listdir(HOME) if file.startswith("club-lost-") and not file.endswith("-wal")])
-        same(f"{what}: the file is kept", found - lost, 0 if what == "gone" else 1)
+        same(f"{what}: the file is kept", lost_files() - lost, 0 if what == "gone" else 1)
         same(f"{what}: the club of the copy", everything(), before)
-        same(f"{what}: its owner and mode", (os.stat(f"{HOME}/club").st_uid, oct(os.stat(f"{HOME}/club").st_mode)), (os.stat(HOME).st_uid, "0o100600"))
-        server = Service("club", server.port)
+        same(f"{what}: its owner and mode", mode(CLUB), "clubdesk 100600")
+        server = Service(server.port)
         same(f"{what}: the desk", account(server, text), was)
         time.sleep(1)
     server.stop()
 
 
-def spoil(file, begin, end):
-    file.seek(begin)
-    file.write(b"\xff" * (end - begin))
+def book_lines(*words):
+    """The lines of the book, without their moments."""
+    return [line.split(" ", 1)[1] for line in lines("log", *words)]
 
 
 def in_the_book():
-    lines = done("log").splitlines()
-    same("its first lines", [line.split(" ", 1)[1] for line in lines[:3]], ["anna 0 new", "anna 1 new", "anna 0 add-member amy 5"])
-    same("each line", [line for line in lines if not re.fullmatch(r"20\d\d-\d\d-\d\dT\d\d:\d\d:\d\d [a-z]+ [0-9] [ -~]+", line)], [])
-    same("by another clerk", len([line for line in lines if line.split()[1] == "ben"]), 6)
-    same("a refused order", [line.split(" ", 1)[1] for line in lines if " credit nobody " in line], ["anna 1 credit nobody 5"])
-    same("a word with spaces", [line.split(" ", 2)[2] for line in lines if "DROP" in line and " credit " in line], ["3 credit 'amy'\"'\"'; DROP TABLE members; --' 5"])
-    same("of bob", [line.split(" ", 1)[1] for line in done("log", "bob").splitlines()][:2], ["anna 0 add-member bob 2", "anna 0 credit bob 3000"])
-    same("a refused correction", [line.split(" ", 1)[1] for line in lines if " cancel amy-1 77 " in line], [f"anna 1 cancel amy-1 77 --at {NOON}"])
-    same("no look", [line for line in lines if line.split()[3] in ("sheet", "members", "show-account", "log")], [])
-    same("its mode", oct(os.stat(f"{HOME}/club-book").st_mode), "0o100600")
-    with open(f"{HOME}/club-orders", "w", encoding="ascii") as turn:
-        turn.write('{"moment": "2026-04-20T12:00:00", "clerk": "ben", "words": ["credit", "amy", "7"]}')
+    found = book_lines()
+    same("its first lines", found[:3], ["anna 0 new", "anna 1 new", "anna 0 add-member amy 5"])
+    same("each line", [line for line in lines("log") if not re.fullmatch(r"20\d\d-\d\d-\d\dT\d\d:\d\d:\d\d [a-z]+ [0-9] [ -~]+", line)], [])
+    same("by another clerk", len([line for line in found if line.split()[0] == "ben"]), 6)
+    same("a refused order", [line for line in found if " credit nobody " in line], ["anna 1 credit nobody 5"])
+    same("a word with spaces", [line for line in found if "DROP" in line and " credit " in line], ["anna 3 credit 'amy'\"'\"'; DROP TABLE members; --' 5"])
+    same("of bob", book_lines("bob")[:2], ["anna 0 add-member bob 2", "anna 0 credit bob 3000"])
+    same("a refused correction", [line for line in found if " cancel amy-1 77 " in line], [f"anna 1 cancel amy-1 77 --at {NOON}"])
+    same("no look", [line for line in found if line.split()[2] in ("sheet", "members", "show-account", "log")], [])
+    same("its mode", mode(BOOK), "clubdesk 100600")
+    TURN.write_text('{"moment": "2026-04-20T12:00:00", "clerk": "ben", "words": ["credit", "amy", "7"]}', encoding="ascii")
     done("credit", "amy", "1")
-    same("an order that was broken off", [line.split(" ", 1)[1] for line in done("log").splitlines()[-2:]], ["ben ? credit amy 7", "anna 0 credit amy 1"])
+    same("an order that was broken off", book_lines()[-2:], ["ben ? credit amy 7", "anna 0 credit amy 1"])
 
 
 def in_the_journal():
     """The same by systemd's journal, into which only the desk's user writes lines that count."""
     journal = subprocess.Popen(["/lib/systemd/systemd-journald"], stdout=subprocess.DEVNULL, stderr=subprocess.DEVNULL)
+    entry = Path("/run/systemd/journal/socket")
     for _ in range(100):
-        if os.path.exists("/run/systemd/journal/socket"):
+        if entry.exists():
             break
         time.sleep(0.05)
-    file = open(f"{HOME}/club-book", "rb").read()
+    kept = BOOK.read_bytes()
     done("credit", "amy", "11")
     done("credit", "amy", "12", by="ben")
     forged = "MESSAGE=2026-04-20T12:00:00 ben 0 credit amy 13\nSYSLOG_IDENTIFIER=clubdesk-office\nCLUBDESK_CLUB=club\n"
-    run_as("anna", "logger", "--journald", "--socket", "/run/systemd/journal/socket", given=forged)
-    run_as("anna", "python3", "-c", f"import socket; s = socket.socket(socket.AF_UNIX, socket.SOCK_DGRAM); s.sendto({forged.encode()!r}, '/run/systemd/journal/socket')")
+    run_as("anna", "logger", "--journald", "--socket", entry, given=forged)
+    run_as("anna", "python3", "-c", f"import socket; s = socket.socket(socket.AF_UNIX, socket.SOCK_DGRAM); s.sendto({forged.encode()!r}, '{entry}')")
     time.sleep(1)
-    seen = subprocess.run(["journalctl", "--quiet", "--no-pager", "--output=cat", "SYSLOG_IDENTIFIER=clubdesk-office"], capture_output=True, text=True, check=False)
-    same("the forged line is in the journal", "credit amy 13" in seen.stdout, True)
-    same("the book of the journal", [line.split(" ", 1)[1] for line in done("log").splitlines()], ["anna 0 credit amy 11", "ben 0 credit amy 12"])
-    same("the file stays", open(f"{HOME}/club-book", "rb").read(), file)
+    seen = run_as("root", "journalctl", "--quiet", "--no-pager", "--output=cat", "SYSLOG_IDENTIFIER=clubdesk-office", folder="/")[1]
+    same("the forged line is in the journal", "credit amy 13" in seen, True)
+    same("the book of the journal", book_lines(), ["anna 0 credit amy 11", "ben 0 credit amy 12"])
+    same("the file stays", BOOK.read_bytes(), kept)
     journal.terminate()
     journal.wait()
-    os.unlink("/run/systemd/journal/socket")
+    entry.unlink()
 
 
 def manual():
     """The manual page has each command of --help with its words and options, and no other."""
     page = {}
-    for line in open(os.path.join(os.path.dirname(os.path.abspath(__file__)), "..", "man", "office.1"), encoding="ascii"):
+    for line in (TESTS.parent / "man" / "office.1").read_text(encoding="ascii").splitlines():
         if line.startswith(".It Cm ") and line.split()[2] not in ("FILE", "STOP", "ZONE", "PORT", "BOOK"):
             words = line.replace(" Ns - Ns Ar ", "-").split()[2:]
             page[words[0]] = {f"-{w}" if w.startswith("-") else w for w in words[1:] if re.fullmatch(r"-[a-z-]+|[A-Z][A-Z-]+", w)}
-    told = run_as("anna", "office", "--help")[1]
-    commands = set(re.findall(r"^    ([a-z][a-z-]+)( |$)", told, re.M))
-    same("the commands of the manual page", set(page), {command for command, _ in commands})
+    commands = set(re.findall(r"^    ([a-z][a-z-]+)(?: |$)", run_as("anna", "office", "--help")[1], re.M))
+    same("the commands of the manual page", set(page), commands)
     for command, words in sorted(page.items()):
         usage = run_as("anna", "office", "club", command, "--help")[1].split("\n\n")[0]
         found = set(re.findall(r"--[a-z-]+|\b[A-Z]{2}[A-Z-]*", usage.replace("CLUB", "")))
         always = {"--yes", "--at", "MOMENT"} if "--yes" in found and command != "import" else set()
-        same(f"the words of {command}", {w.strip("-") if w.isupper() else w for w in words}, {w.strip("-") if w.isupper() else w for w in found} - (always - words))
+        found, words = ({it.strip("-") if it.isupper() else it for it in each} for each in (found, words))
+        same(f"the words of {command}", words, found - (always - words))
 
 
 manual()
@@ -525,7 +530,7 @@ before_there_is_a_club()
 as_nobody_else()
 orders_and_looks()
 amy, bob = passes()
-server = Service("club")
+server = Service()
 looks(server, amy)
 lists(server, amy, bob)
 corrections(server, amy, bob)

@@ -1,10 +1,12 @@
-"""What the tests of the office share: a manager of services, clerks, requests, and what a club's file has to be.
+"""What the tests of the office share: a machine of their own, a manager of services, clerks, requests, and what a club's file has to be.
 
-A service is a server that is started again a second after each end, as deploy/clubdesk.service says it (Restart=always,
-RestartSec=1). Its process is named in the room's folder `services`, by which the room's systemctl ends it.
+Whoever imports it is run once more in that machine (tests/office_room.sh). A service is a server that is started again a second after each
+end, as deploy/clubdesk.service says it (Restart=always, RestartSec=1). Its process is named in the room's folder `services`, by which the
+room's systemctl ends it.
 """
 
-import json
+import contextlib
+import http.client
 import os
 import signal
 import socket
@@ -13,11 +15,18 @@ import subprocess
 import sys
 import threading
 import time
+from pathlib import Path
 
-from desk import SUMS
+import psutil
 
+from desk import SUMS, TESTS
+
+if "ROOM" not in os.environ:
+    os.execv("/bin/sh", ["sh", str(TESTS / "office_room.sh"), sys.executable, "-B", os.path.abspath(sys.argv[0]), *sys.argv[1:]])
+ROOM = Path(os.environ["ROOM"])
+HOME = Path("/var/lib/clubdesk")
+CLUB = HOME / "club"
 NOON = "2026-04-20T12:00"
-HOME = "/var/lib/clubdesk"
 failures = []
 checks = 0
 
@@ -38,184 +47,135 @@ def leave():
 
 def run_as(user, *line, given=None, folder=None):
     """Runs a command as a user, in its home; its status, output and errors."""
-    done = subprocess.run(
-        ["runuser", "-u", user, "--", *line], input=given, capture_output=True, text=True, cwd=folder or f"/home/{user}", check=False
-    )
-    return done.returncode, done.stdout, done.stderr
+    ended = subprocess.run(["runuser", "-u", user, "--", *map(str, line)], cwd=folder or f"/home/{user}", input=given, text=True,
+                           capture_output=True, check=False)
+    return ended.returncode, ended.stdout, ended.stderr
 
 
 def office(*words, by="anna", given="", club="club"):
     return run_as(by, "office", club, *words, given=given)
 
 
-def done(*words, by="anna", given="", club="club"):
+def done(*words, by="anna", given=""):
     """A command of the office that has to end with status 0; what it prints."""
-    status, out, errors = office(*words, by=by, given=given, club=club)
+    status, out, errors = office(*words, by=by, given=given)
     same(f"office {' '.join(words)}: status", (status, errors if status else ""), (0, ""))
     return out
 
 
-def desk(*words):
-    """clubdesk itself, as the desk's user."""
-    return subprocess.run(["runuser", "-u", "clubdesk", "--", "clubdesk", *words], capture_output=True, text=True, cwd="/", check=False)
+def desk(command, *words):
+    """clubdesk itself at the club, as the desk's user: its status and its output."""
+    return run_as("clubdesk", "clubdesk", command, CLUB, *words, folder="/")[:2]
 
 
 class Service:
     """A server that a manager starts again a second after each end."""
 
-    def __init__(self, club, port=0, at=NOON):
-        self.club, self.port, self.at = club, port or free_port(), at
-        self.named = os.path.join(os.environ["ROOM"], "services", f"clubdesk@{club}.service")
-        self.is_wanted = True
-        self.starts = 0
-        self.keeper = threading.Thread(target=self.keep, daemon=True)
+    def __init__(self, port=0, at=NOON):
+        self.port, self.is_wanted, self.starts = port or free_port(), True, 0
+        self.named = ROOM / "services" / "clubdesk@club.service"
+        line = ["setpriv", "--reuid", "clubdesk", "--regid", "clubdesk", "--clear-groups", "clubdesk", "serve", CLUB, "--port", str(self.port)]
+        self.keeper = threading.Thread(target=self.keep, args=([*line, "--count", "1000000", "--at", at, "--log"],), daemon=True)
         self.keeper.start()
-        self.wait()
+        self.is_heard()
 
-    def keep(self):
+    def keep(self, line):
         while self.is_wanted:
-            line = ["clubdesk", "serve", f"{HOME}/{self.club}", "--port", str(self.port), "--count", "1000000", "--at", self.at, "--log"]
-            with open(os.path.join(os.environ["ROOM"], f"{self.club}.log"), "ab") as log:
-                self.process = subprocess.Popen(
-                    ["setpriv", "--reuid", "clubdesk", "--regid", "clubdesk", "--clear-groups", *line], stdout=log, stderr=log, cwd="/", umask=0o077
-                )
+            with open(ROOM / "club.log", "ab") as log:
+                self.process = subprocess.Popen(line, stdout=log, stderr=log, cwd="/", umask=0o077)
             self.starts += 1
-            with open(self.named, "w", encoding="ascii") as named:
-                named.write(str(self.process.pid))
+            self.named.write_text(str(self.process.pid))
             self.process.wait()
-            if self.is_wanted:
-                time.sleep(1)
+            time.sleep(1 if self.is_wanted else 0)
 
-    def wait(self, seconds=30):
-        """Until somebody listens."""
-        end = time.monotonic() + seconds
-        while time.monotonic() < end:
-            try:
-                socket.create_connection(("127.0.0.1", self.port), 5).close()
+    def is_heard(self):
+        """Whether somebody listens, within half a minute."""
+        for _ in range(1500):
+            with contextlib.suppress(OSError), socket.create_connection(("127.0.0.1", self.port), 5):
                 return True
-            except OSError:
-                time.sleep(0.02)
+            time.sleep(0.02)
         return False
 
     def stop(self):
         self.is_wanted = False
         self.process.send_signal(signal.SIGTERM)
         self.keeper.join()
-        os.unlink(self.named)
+        self.named.unlink()
 
-    def ask(self, text, method, path, body="", patience=30):
-        """The status and the body of the reply under a pass; None where there was no whole reply."""
-        head = f"{method} {path} HTTP/1.1\r\nHost: club\r\nAuthorization: Bearer {text}\r\nContent-Length: {len(body)}\r\n\r\n"
-        try:
-            with socket.create_connection(("127.0.0.1", self.port), patience) as client:
-                client.sendall((head + body).encode())
-                reply = b""
-                while part := client.recv(4096):
-                    reply += part
-        except OSError:
-            return None
-        head, _, body = reply.partition(b"\r\n\r\n")
-        if not head.startswith(b"HTTP/1.1 ") or f"Content-Length: {len(body)}".encode() not in head:
-            return None
-        return int(head.split()[1]), body.decode()
-
-    def answer(self, *asked):
-        """The body of a reply, which is asked for until it comes."""
+    def answer(self, text, method, path, body=None):
+        """The status and the body of the reply under a pass, which is asked for until it comes, and comes whole."""
         for _ in range(200):
-            reply = self.ask(*asked)
-            if reply and reply[0] < 500:
-                return reply
+            with contextlib.closing(http.client.HTTPConnection("127.0.0.1", self.port, timeout=30)) as client:
+                with contextlib.suppress(OSError, http.client.HTTPException):
+                    client.request(method, path, body, {"Authorization": f"Bearer {text}"})
+                    reply = client.getresponse()
+                    found = reply.status, reply.read().decode()
+                    if found[0] < 500:
+                        return found
             time.sleep(0.05)
-        raise RuntimeError(f"no reply to {asked[1:]}")
-
-
-def processes_of(first):
-    """A process with all that it started, as far as they live: sudo gives what it starts a session of its own."""
-    above = {}
-    for pid in filter(str.isdigit, os.listdir("/proc")):
-        try:
-            with open(f"/proc/{pid}/stat", encoding="ascii", errors="replace") as stat:
-                fields = stat.read().rsplit(")", 1)[1].split()
-        except OSError:
-            continue
-        if fields[0] != "Z":
-            above[int(pid)] = int(fields[1])
-    found = [first] if first in above else []
-    for pid in found:
-        found += [below for below, parent in above.items() if parent == pid]
-    return found
-
-
-def kill(pids):
-    for pid in pids:
-        try:
-            os.kill(pid, signal.SIGKILL)
-        except ProcessLookupError:
-            pass
-
-
-def killed_after(seconds, words, chance, by="anna", one=False):
-    """Starts a command of the office, and kills all its processes, or one of them, after so many seconds; its status."""
-    line = ["setsid", "runuser", "-u", by, "--", "office", "club", *words]
-    order = subprocess.Popen(line, stdin=subprocess.DEVNULL, stdout=subprocess.PIPE, stderr=subprocess.DEVNULL, cwd=f"/home/{by}")
-    time.sleep(seconds)
-    found = processes_of(order.pid)
-    kill([chance.choice(found)] if one and found else found)
-    order.communicate()
-    return order.returncode
+        raise RuntimeError(f"no reply to {method} {path} {body}")
 
 
 def free_port():
-    with socket.socket() as probe:
-        probe.bind(("127.0.0.1", 0))
+    with socket.create_server(("127.0.0.1", 0)) as probe:
         return probe.getsockname()[1]
 
 
-def copied(club="club"):
-    """The club as it is, as a connection over a copy in memory."""
-    copy = os.path.join(os.environ["ROOM"], "copied")
+def begun(*words):
+    """A command of the office that goes on, in a session of its own."""
+    return subprocess.Popen(["runuser", "-u", "anna", "--", "office", "club", *words], stdin=subprocess.PIPE, stdout=subprocess.PIPE, stderr=subprocess.PIPE,
+                            text=True, cwd="/home/anna", start_new_session=True)
+
+
+def kill(order, chance=None):
+    """Kills a process with all that it started, of which sudo gives some a session of their own, or by chance one of them; waits for its end."""
+    with contextlib.suppress(psutil.NoSuchProcess):
+        first = psutil.Process(order.pid)
+        found = [first, *first.children(recursive=True)]
+        for it in [chance.choice(found)] if chance else found:
+            with contextlib.suppress(psutil.NoSuchProcess):
+                it.kill()
+    order.communicate()
+
+
+def killed_after(seconds, words, chance=None):
+    order = begun(*words)
+    time.sleep(seconds)
+    kill(order, chance)
+
+
+def copied():
+    """A copy of the club as it is, opened."""
+    copy = ROOM / "copied"
     for _ in range(5):
-        if os.path.exists(copy):
-            os.unlink(copy)
-        told = subprocess.run(["/usr/lib/clubdesk/back_up", f"{HOME}/{club}", copy], capture_output=True, text=True, check=False)
-        if told.returncode == 0:
-            break
-    else:
-        raise RuntimeError(told.stderr)
-    disk, memory = sqlite3.connect(copy), sqlite3.connect(":memory:")
-    disk.backup(memory)
-    disk.close()
-    os.unlink(copy)
-    return memory
+        copy.unlink(missing_ok=True)
+        made = subprocess.run(["/usr/lib/clubdesk/back_up", CLUB, copy], capture_output=True, text=True, check=False)
+        if made.returncode == 0:
+            return contextlib.closing(sqlite3.connect(copy))
+    raise RuntimeError(made.stderr)
 
 
-def rows(sql, *values, club="club"):
-    db = copied(club)
-    try:
-        return db.execute(sql, values).fetchall()
-    finally:
-        db.close()
+def rows(sql):
+    with copied() as database:
+        return database.execute(sql).fetchall()
 
 
-def whole(what, club="club"):
+def whole(what):
     """No total of the club is off."""
-    same(f"the totals after {what}", rows(SUMS, club=club), [])
+    same(f"the totals after {what}", rows(SUMS), [])
 
 
-def everything(club="club"):
-    """All rows of a club."""
-    db = copied(club)
-    try:
-        return list(db.iterdump())
-    finally:
-        db.close()
+def everything():
+    """All rows of the club."""
+    with copied() as database:
+        return list(database.iterdump())
 
 
-def configure(club, **more):
-    lines = {"FILE": f"{HOME}/{club}", "ZONE": "UTC0", "PORT": "8080", **more}
-    with open(f"/etc/clubdesk/{club}.conf", "w", encoding="ascii") as out:
-        out.write("# A club.\n" + "".join(f"{key}={value}\n" for key, value in lines.items()))
+def configure(**more):
+    lines = {"FILE": CLUB, "ZONE": "UTC0", "PORT": "8080", **more}
+    Path("/etc/clubdesk/club.conf").write_text("# A club.\n" + "".join(f"{key}={value}\n" for key, value in lines.items()), encoding="ascii")
 
 
-def json_of(reply):
-    return json.loads(reply[1])
+def mode(file):
+    """A file's owner and its mode."""
+    return f"{file.owner()} {file.stat().st_mode:o}"

@@ -2,7 +2,9 @@
 # those of the machine; what bin/package packs of deploy/, web/ and the programs lies there as a package puts it; the clerk anna is made
 # by the lines of docs/RUNNING.md under "The clerks", ben is another one, and carl is none. `systemctl` knows one word, `kill`, and hands
 # it to a small manager of services (tests/office_room.py). Wants root.
-# Before it is read, `room_net` may be not empty: then the room has a network of its own.
+# Before it is read, `room_net` may be not empty: then the room has a network of its own. Where it is run itself, it runs the command that
+# stands behind its name, with ROOM as the room's folder.
+set -eu
 PATH=/usr/sbin:/sbin:$PATH
 [ "$(id -u)" = 0 ] || { echo "$0 wants root, for other users and folders of its own" >&2; exit 2; }
 if [ -z "${OFFICE_ROOM-}" ]; then
@@ -69,6 +71,4 @@ cat >"$room/systemctl" <<SYSTEMCTL
 [ "\$1" = kill ] && [ -e "$room/services/\$2" ] && kill "\$(cat "$room/services/\$2")"
 SYSTEMCTL
 install -m 755 "$room/systemctl" /usr/bin/systemctl
-PYTHONPATH=$here
-PYTHONDONTWRITEBYTECODE=yes
-export PYTHONPATH PYTHONDONTWRITEBYTECODE
+case $0 in */office_room.sh) ROOM=$room "$@" ;; esac
