@@ -22,8 +22,6 @@ import subprocess
 import sys
 import tempfile
 import time
-from concurrent.futures import ThreadPoolExecutor
-from pathlib import Path
 
 import desk
 
@@ -38,8 +36,7 @@ TESTS = {
     "club_http_tests": "bodies::refused_memory counted::refused_memory",
 }
 FAULT = r"([A-Za-z]+\()*((OutOf)?Memory|AllocError|AllocFailed \{ \.\. \}|Os \{ code: 12, kind: OutOfMemory, .*\})\)*"
-# Files of the tests lie in memory, where a sync costs nothing.
-ROOM = tempfile.TemporaryDirectory(dir="/dev/shm" if os.access("/dev/shm", os.W_OK) else None)
+ROOM = tempfile.TemporaryDirectory(dir=desk.IN_MEMORY)
 
 
 def crates_below(crate):
@@ -75,34 +72,26 @@ def ends_without_memory(output):
     return has_line("  left: ") and not has_line(" right: ") if re.search("^assertion ", output, re.MULTILINE) else has_line("([^:]+: )?")
 
 
-def run(program, test, **variables):
-    """The status and the output of one test, in a folder of its own."""
-    with tempfile.TemporaryDirectory(dir=ROOM.name) as folder:
-        ran = subprocess.run([program, test], stdout=subprocess.PIPE, stderr=subprocess.STDOUT, text=True, errors="replace", timeout=60, check=False,
-                             env={**os.environ, "TMPDIR": folder, "LD_PRELOAD": f"{ROOM.name}/refuse.so", **variables})
-    return ran.returncode, ran.stdout
-
-
-def refuse(crate, test, program, pool):
+def refuse(crate, test, program):
     """Runs a test with ample memory, and then with each of its allocations refused; how many there are."""
     if f"{test}: test" not in subprocess.run([program, "--list"], capture_output=True, text=True, check=True).stdout.splitlines():
         sys.exit(f"{crate} has no test {test}")
-    counted = Path(ROOM.name, "counted")
-    status, output = run(program, test, ALLOCATIONS_COUNTED=str(counted))
+
+    def run(**variables):
+        """The status and the output, in a folder of its own."""
+        with tempfile.TemporaryDirectory(dir=ROOM.name) as folder:
+            ran = subprocess.run([program, test], stdout=subprocess.PIPE, stderr=subprocess.STDOUT, text=True, errors="replace", timeout=60, check=False,
+                                 env={**os.environ, "TMPDIR": folder, **variables})
+        return ran.returncode, ran.stdout
+
+    status, output = run()
     if status:
         sys.exit(f"{output}{crate} {test} fails with ample memory")
-
-    def refused(number):
-        told = Path(ROOM.name, f"refused.{number}")
-        status, output = run(program, test, REFUSED_ALLOCATION=str(number), REFUSAL_TOLD=str(told))
+    found = desk.refused_in_turn(run, ROOM.name)
+    for number, ((status, output), _) in enumerate(found, 1):
         if status and not ends_without_memory(output):
             sys.exit(f"status {status}\n{output}{crate} {test}: fails otherwise where allocation {number} is refused")
-        is_refused = told.exists()
-        told.unlink(missing_ok=True)
-        return is_refused, status != 0
-
-    found = list(pool.map(refused, range(1, int(counted.read_text()) + 1)))
-    count, ended = (sum(it) for it in zip(*found, (False, False)))
+    count, ended = sum(is_met for _, is_met in found), sum(status != 0 for (status, _), _ in found)
     if not count:
         sys.exit(f"{crate} {test}: no allocation was seen")
     print(f"{crate} {test}: of {count} allocations, refused in turn, {ended} ended the run, each with out of memory", flush=True)
@@ -114,11 +103,9 @@ def main(crate=None, *tests):
         sys.exit(f"the list has no test of {crate}")
     listed = {crate: " ".join(tests) or TESTS[crate]} if crate else TESTS
     counts = []
-    subprocess.run(["cc", "-shared", "-fPIC", "-O1", "-o", f"{ROOM.name}/refuse.so", desk.TESTS / "refused_memory.c", "-ldl"], check=True)
-    with ThreadPoolExecutor(os.cpu_count()) as pool:
-        for name, words in listed.items():
-            program = built(name)
-            counts += [refuse(name, it if "::" in it else f"refused_memory::{it}", program, pool) for it in words.split()]
+    for name, words in listed.items():
+        program = built(name)
+        counts += [refuse(name, it if "::" in it else f"refused_memory::{it}", program) for it in words.split()]
     print(f"{len(counts)} tests, {sum(counts)} allocations refused")
 
 
