@@ -48,60 +48,32 @@ def ticked(text):
     return sorted(set(re.findall(r"`([^` \n]+)`", text)))
 
 
-# ---- what crates/ defines
+# ---- what crates/ defines, each as (file, crate, name ..)
 
 
-class Index:
-    """Names by what they are: of a file, of a crate, and of any."""
-
-    def __init__(self):
-        self.crates, self.defined, self.in_file = set(), set(), set()
-        self.functions, self.homes, self.clauses, self.fields, self.impls = set(), set(), set(), set(), {}
-        for file, text in CODE.items():
-            self.file, self.crate = file, file.split("/")[1]
-            self.crates.add(self.crate)
-            self.name = self.record = ""
-            for line in text.splitlines():
-                (self.code if file.endswith(".rt") else self.statement)(line)
-        self.anywhere = {name for _, name in self.defined}
-
-    def item(self, name):
-        self.defined.add((self.crate, name))
-        self.in_file.add((self.file, name))
-
-    def code(self, whole):
-        line = re.sub(r"^ *(pub(\([a-z]+\))? )?(final )?(const )?", "", whole)
-        words = WORD.split(line)
-        if line.startswith("fn "):
-            self.name = words[1]
-            self.item(self.name)
-            self.functions.add((self.crate, self.name))
-            self.homes.add((self.crate, Path(self.file).stem, self.name))
-        if re.match(r"(struct|enum|trait|type|mod|static|abbrev) |ghost [A-Za-z_]+( =|:)", line):
-            self.item(words[1])
-        if re.match(r" *(pub )?const [A-Z]|    pub [a-z_]+: ", whole) or re.match(r"[A-Z][A-Za-z]+( \{|\(|,|$)", line):
-            self.item(words[0])
-        if line.startswith("impl"):
-            self.impls[self.crate] = self.impls.get(self.crate, "") + "\n" + whole
-        if clause := re.match(r"ensures ([a-z_0-9]+) ", line):
-            self.clauses.add((self.crate, self.name, clause[1]))
-            self.in_file.add((self.file, clause[1]))
-
-    def statement(self, whole):
-        line = re.sub(r"^ *(abbrev |unfoldable )?(pub )?(record |data )?", "", whole)
-        words = [*line.split(), "", ""]
-        if re.match(r" *(pub )?record ", whole):
-            self.record = words[0]
-        elif re.match(r"[^ -]", whole):
-            self.record = ""
-        elif re.match(r" +pub [A-Za-z_0-9]+ :", whole) and self.record:
-            self.fields.add((self.crate, self.record, words[0]))
-            self.in_file.add((self.file, words[0]))
-        if words[1] in (":", "where") or re.search(r"(record|data) ", whole):
-            self.item(words[0])
+def found(endings, pattern):
+    return {(file, file.split("/")[1], *it.groups()) for file, text in CODE.items() if file.endswith(endings) for it in re.finditer(pattern, text, re.MULTILINE)}
 
 
-INDEX = Index()
+def within(places, pattern):
+    """What a pattern finds in the text that ends each place."""
+    return {(*place, name) for *place, text in places for name in re.findall(pattern, text, re.MULTILINE)}
+
+
+HEAD = r"^ *(?:pub(?:\([a-z]+\))? )?(?:final )?(?:const )?"
+RECORD = r"^ *(?:pub )?record "
+FUNCTIONS = found(".rt", rf"{HEAD}fn (\w+)")
+CLAUSES = within(found(".rt", rf"(?s){HEAD}fn (\w+)(.*?)(?={HEAD}fn |\Z)"), r"^ *ensures ([a-z_0-9]+) ")
+FIELDS = within(found(".antt", rf"(?s){RECORD}(\S+)(.*?)(?={RECORD}|^[^ \n-]|\Z)"), r"^ +pub ([A-Za-z_0-9]+) :")
+IMPLS = found(".rt", r"^ *(impl.*)")
+ITEMS = FUNCTIONS.union(
+    found(".rt", rf"{HEAD}(?:(?:struct|enum|trait|type|mod|static|abbrev) |ghost (?=[A-Za-z_]+(?: =|:)))(\w+)"),
+    found(".rt", r"^ *(?:pub )?const ([A-Z]\w*)"), found(".rt", "^    pub ([a-z_]+): "), found(".rt", rf"{HEAD}([A-Z][A-Za-z]+)(?: \{{|\(|,|$)"),
+    found(".antt", r"^ *(?:pub )?(?:record|data) (\S+)"), found(".antt", r"^ *(?:abbrev |unfoldable )?(?:pub )?(\S+) +(?::|where)(?= |$)"))
+IN_FILE = {(it[0], it[-1]) for it in ITEMS | CLAUSES | FIELDS}
+CRATES = {crate for _, crate, _ in ITEMS}
+DEFINED = {it[1:] for it in ITEMS}
+CLAUSES = {it[1:] for it in CLAUSES}
 
 
 # ---- every page
@@ -147,7 +119,7 @@ def test_files_and_names_are_there(page):
     for word in words:
         if re.fullmatch(r"[A-Za-z_]+(::[A-Za-z_0-9]+)+", word):
             crate, *_, name = word.split("::")
-            assert (crate, name) in INDEX.defined if crate in INDEX.crates else name in INDEX.anywhere, f"no {word}"
+            assert (crate, name) in DEFINED if crate in CRATES else any(name == it for _, it in DEFINED), f"no {word}"
 
 
 @each_page
@@ -163,7 +135,7 @@ def test_definitions_are_in_their_files(page):
             place = piece if "/" in piece else f"{folder}/{piece}"
             folder = re.sub(r"/[A-Za-z0-9_]*\.antt$", "", place)
             for name in names:
-                assert any(name == it and (file == place or file.startswith(place + "/")) for file, it in INDEX.in_file), f"no definition {name} in {place}"
+                assert any(name == it and (file == place or file.startswith(place + "/")) for file, it in IN_FILE), f"no definition {name} in {place}"
             names = []
         assert not names, f"no file of the definitions {names}"
 
@@ -206,41 +178,35 @@ def test_promises():
     `RECORD.FIELD` the field of that record."""
     cited = list(cited_promises())
     assert len(cited) > 800
+    functions, fields = {it[1:] for it in FUNCTIONS}, {it[1:] for it in FIELDS}
+    homes = {(crate, Path(file).stem, name) for file, crate, name in FUNCTIONS}
     for crate, mode, cited_name, clause in cited:
-        name, *above = cited_name.split("::")[::-1]
-        above = above[0] if above else ""
+        *_, above, name = ["", *cited_name.split("::")]
         if mode == "clause":
-            assert (crate, name, clause) in INDEX.clauses, f"{crate}: no clause {clause} of {cited_name}"
+            assert (crate, name, clause) in CLAUSES, f"{crate}: no clause {clause} of {cited_name}"
         elif mode == "definition":
             record, _, field = cited_name.partition(".")
             owner, name = record.split("::")[-2:] if "::" in record else (crate, record)
-            assert (owner, name) in INDEX.defined, f"{crate}: no definition {cited_name}"
-            assert not field or (owner, name, field) in INDEX.fields, f"{crate}: no field {cited_name}"
+            assert (owner, name) in DEFINED, f"{crate}: no definition {cited_name}"
+            assert not field or (owner, name, field) in fields, f"{crate}: no field {cited_name}"
         elif " for " in cited_name:
-            assert re.search(rf"(^|[^A-Za-z]){re.escape(cited_name)}([^A-Za-z]|$)", INDEX.impls[crate], re.MULTILINE), f"{crate}: no impl {cited_name}"
+            named = re.compile(rf"(?<![A-Za-z]){re.escape(cited_name)}(?![A-Za-z])")
+            assert any(crate == its_crate and named.search(text) for _, its_crate, text in IMPLS), f"{crate}: no impl {cited_name}"
         else:
-            assert (crate, name) in INDEX.functions or (not above and (crate, name) in INDEX.defined), f"{crate}: no function {cited_name}"
-            if re.match("[a-z]", above):
-                assert (crate, above, name) in INDEX.homes, f"{crate}: no function {cited_name} in its module"
-            elif above:
-                assert (crate, above) in INDEX.defined, f"{crate}: no type of {cited_name}"
+            assert (crate, name) in functions or (not above and (crate, name) in DEFINED), f"{crate}: no function {cited_name}"
+            assert not re.match("[a-z]", above) or (crate, above, name) in homes, f"{crate}: no function {cited_name} in its module"
+            assert not above or re.match("[a-z]", above) or (crate, above) in DEFINED, f"{crate}: no type of {cited_name}"
 
 
 def test_laws():
-    """The lines of the law in docs/PROMISES.md: behind the last colon a function and names of its clauses, or of other functions. README's
-    table has the same laws in the same order, in its last cell a function, and of it a clause."""
-    clauses = {it[1:] for it in INDEX.clauses}
-    functions = {name for _, name in INDEX.functions}
-    laws = re.findall(r"^\d+\. \*\*(.*)\.\*\*.*: (`.*)", TEXTS["docs/PROMISES.md"], re.MULTILINE)
+    """README's table has the laws of docs/PROMISES.md in the same order, in its last cell a function, and of it a clause. That each law's
+    functions and clauses are there is held by tests/audit.py."""
+    laws = re.findall(r"^\d+\. \*\*(.*)\.\*\*", TEXTS["docs/PROMISES.md"], re.MULTILINE)
     table = re.search(r"^\| Law \|.*?\n\n", TEXTS["README.md"], re.MULTILINE | re.DOTALL)[0]
-    rows = re.findall(r"^\| ([A-Z][a-z ]*) \|.*\| (`.*) \|$", table, re.MULTILINE)
-    assert [law for law, _ in rows] == [law for law, _ in laws]
-    for _, cell in rows:
-        function, *its_clauses = re.findall("`([^`]*)`", cell)
-        assert function in functions and all((function, it) in clauses for it in its_clauses[:1]), cell
-    for _, cell in laws:
-        function, *its_clauses = re.findall("`([^`]*)`", cell)
-        assert all("::" in it or (function.split("::")[-1], it) in clauses for it in its_clauses), cell
+    rows = re.findall(r"^\| ([A-Z][a-z ]*) \|.*\| `([^`]*)`(?:.*?`([^`]*)`)?.* \|$", table, re.MULTILINE)
+    assert [law for law, _, _ in rows] == laws
+    for _, function, clause in rows:
+        assert function in {it[-1] for it in FUNCTIONS} and (not clause or (function, clause) in {it[1:] for it in CLAUSES}), function
 
 
 def test_layers():
@@ -271,7 +237,7 @@ def test_tour():
         assert 3 <= len(steps) <= 6, question
         for step in steps:
             path, name = re.match(r"`([^`]*)`: `([^`]*)`", step).groups()
-            assert (path, name.split("::")[-1]) in INDEX.in_file if path in CODE else name in Path(path).read_text(encoding="utf-8"), step
+            assert (path, name.split("::")[-1]) in IN_FILE if path in CODE else name in Path(path).read_text(encoding="utf-8"), step
 
 
 def test_audit_is_made_of_the_sources():
