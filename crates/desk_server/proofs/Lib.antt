@@ -1,4 +1,3 @@
-pub mod RequestLineLemmas
 pub mod ServedLemmas
 pub mod TimedLemmas
 pub mod LogLemmas

@@ -1,13 +1,11 @@
 -- Turns one after the other.
-use Rattle.std.proofs.Common.{◌≡◌, ℕ, ◌+◌, List, [], ◌∷◌, ◌++◌, ◌≤◌, length, arith, length-append, Ok, Err}
-use Rattle.std.specs.Prelude.{Result}
+use Rattle.std.proofs.Common.{◌≡◌, ℕ, ◌+◌, List, [], ◌∷◌, ◌++◌, ◌≤◌, length, arith, length-append}
 use Rattle.club_clock.specs.Moments.{GivesMoment}
 use Rattle.club_http.specs.Replied.{AnswerRelation}
-use Rattle.desk_server.specs.Served.{AreNoted, AreServed, CountsOn, Ends, IsBegun, IsDue, IsNoted, Notes, Orders, Serves, ServesOne}
+use Rattle.desk_server.specs.Served.{AreNoted, AreServed, CountsOn, Ends, IsBegun, IsDue, IsNoted, Notes, Orders, ServesOne}
 use Rattle.desk_server.specs.Served.{Turn, alone, client_in, clients_in}
 use Rattle.desk_server.specs.Served as spec
 use Rattle.desk_server.specs.declared.log.Fate.{Fate}
-use Rattle.desk_server.specs.declared.serve.ClockOutOfRange.{ClockOutOfRange}
 
 clients_more : (turns : List Turn) (turn : Turn) → clients_in (turns ++ turn ∷ []) ≡ clients_in turns + client_in turn.fate
 clients_more [] turn = omega arith
@@ -52,20 +50,3 @@ module _ {Log : Type 0} {Begins : Log → Log → Type 0} {Noted : Notes Log} wh
       → IsNoted Begins Noted log (alone fate) log'
   noted_alone begun fate begins notes =
       record { begun = begun; awaited = begun; begins = begins; meanwhile = spec.no_note; notes = notes }
-
--- the same server, with less that is said of its turns
-pub serves_besides : {Clock Desk Connection : Type 0} (Gives : GivesMoment Clock) (Answers : ℕ → AnswerRelation Desk) (Carries : Orders Desk)
-    (Ended : Ends Connection) (count : ℕ) (clock : Clock) (desk : Desk) (f : ℕ) (result : Result Unit ClockOutOfRange) (clock' : Clock) (desk' : Desk)
-    (f' : ℕ) {Besides Wanted : List Turn → Type 0} (gives : (turns : List Turn) → Besides turns → Wanted turns)
-    → Serves Gives Answers Carries Ended count clock desk f result clock' desk' f' Besides
-    → Serves Gives Answers Carries Ended count clock desk f result clock' desk' f' Wanted
-serves_besides Gives Answers Carries Ended count clock desk f (Ok done) clock' desk' f' gives (turns, so_many, served, besides) =
-    (turns, so_many, served, gives turns besides)
-serves_besides Gives Answers Carries Ended count clock desk f (Err stopped) clock' desk' f' gives stop = record {
-  turns = stop.turns;
-  last = stop.last;
-  fewer = stop.fewer;
-  before = stop.before;
-  no_moment = stop.no_moment;
-  besides = gives _ stop.besides;
-}

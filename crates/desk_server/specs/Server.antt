@@ -4,6 +4,7 @@ use Rattle.club_clock.specs.Moments.{GivesMoment}
 use Rattle.club_http.specs.Replied.{AnswerRelation}
 use Rattle.desk_server.specs.Served.{AreNoted, CountsOn, Ends, IsCarriedOut, Notes, Orders, Serves}
 use Rattle.desk_server.specs.declared.log.Fate.TheVariants.{Ordered}
+use Rattle.desk_server.specs.declared.log.Unlogged.{Unlogged}
 use Rattle.desk_server.specs.declared.office.Carried.{Carried}
 use Rattle.desk_server.specs.declared.serve.ClockOutOfRange.{ClockOutOfRange}
 
@@ -30,8 +31,8 @@ module _ {Clock Desk Log : Type 0} (Gives : GivesMoment Clock) (Begins : Log →
       Serves Gives Answers Carries Ended count clock desk source.failures result clock' desk' source.failures'
       (λ turns. source.called (length turns) × AreNoted Begins Noted log turns log')
 
--- the same whatever is noted
+-- the same with a log that may note anything
 abbrev pub ServesOn : {Clock Desk Connection : Type 0} → GivesMoment Clock → (ℕ → AnswerRelation Desk) → Orders Desk → Ends Connection → ℕ → SourceChange
     → Clock → Desk → Result Unit ClockOutOfRange → Clock → Desk → Type 0
-ServesOn Gives Answers Carries Ended count source clock desk result clock' desk' =
-    Serves Gives Answers Carries Ended count clock desk source.failures result clock' desk' source.failures' (λ turns. source.called (length turns))
+ServesOn Gives Answers Carries Ended count source clock desk result clock' desk' = (log : Unlogged) × (log' : Unlogged)
+    × ServesLogged Gives (λ _ _. Unit {0}) (λ _ _ _. Unit {0}) Answers Carries Ended count source clock desk log result clock' desk' log'

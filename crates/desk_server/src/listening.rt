@@ -3,6 +3,7 @@
 use crate::connections::{Accepted, Arrival, Arrivals};
 use crate::door::Handed;
 use crate::stream::{ClientSocket, order_is_next};
+use std::cell::Cell;
 use std::io::ErrorKind;
 use std::net::TcpListener;
 use std::os::fd::{AsRawFd, RawFd};
@@ -32,7 +33,7 @@ pub struct Listening<'a, C> {
     clock: &'a C,
     patience: Duration,
     // whether an order goes before a client
-    order_first: bool,
+    order_first: Cell<bool>,
     waited: u64,
     failures: u64,
 }
@@ -55,7 +56,7 @@ impl<'a, C: Clock> Listening<'a, C> {
             door,
             clock,
             patience,
-            order_first: true,
+            order_first: Cell::new(true),
             waited: 0,
             failures: 0,
         }
@@ -63,20 +64,17 @@ impl<'a, C: Clock> Listening<'a, C> {
 
     // Waits until an order or a client is there. A connection that was gone before it was accepted
     // is waited for no more.
-    fn wait(&mut self) -> Arrived<'a, C>
-        ensures waited { self.new.waited ≡ self.old.waited }
-        ensures failures { self.new.failures ≡ self.old.failures }
-    {
+    fn wait(&self) -> Arrived<'a, C> {
         let door = match self.door {
             Some(door) => door.as_raw_fd(),
             None => NO_DESCRIPTOR,
         };
         let clients = self.clients.as_raw_fd();
         for _ in 0..u64::MAX {
-            let Some(order) = order_is_next(door, clients, NO_END, self.order_first) else {
+            let Some(order) = order_is_next(door, clients, NO_END, self.order_first.get()) else {
                 return Arrival::Nobody;
             };
-            self.order_first = !order;
+            self.order_first.set(!order);
             match self.take(order) {
                 Ok(arrival) => return arrival,
                 Err(error) if error.kind() == ErrorKind::WouldBlock => {}

@@ -39,10 +39,11 @@ impl RequestLine {
     ghost use Rattle.desk_server.specs.RequestLine.{word_bytes, method_of, path_of};
 
     /// The first bytes of a request, as many as are kept.
+    #[tactic(auto, using(std::proofs::lemmas::List::take_min))]
     pub fn of(request: &[u8]) -> RequestLine
         ensures { result ≡ take 96 request.now }
     {
-        let len = request.len().min(MAX_KEPT);
+        let len = MAX_KEPT.min(request.len());
         let mut kept = Line::new();
         kept.push(&request[..len]);
         RequestLine { kept }

@@ -113,8 +113,7 @@ const REST_MILLISECONDS: u64 = 200;
 const MAX_REST_AT_ONCE: usize = 4_096;
 
 impl<'l, 'c, R: TimedStream, C: MonotonicClock> TimedInlet<'l, 'c, R, C> {
-    ghost use Rattle.std.specs.Prelude.{◌≡◌, ◌≤◌, length, IfSome};
-    ghost use Rattle.club_http.specs.Ends.{Fills};
+    ghost use Rattle.std.specs.Prelude.{◌≡◌};
     ghost use Rattle.desk_server.specs.Limits.{TakesAtMost};
 
     /// A reader without failures yet.
@@ -137,22 +136,13 @@ impl<'l, 'c, R: TimedStream, C: MonotonicClock> TimedInlet<'l, 'c, R, C> {
         let mut taken = 0;
         while taken < MAX_REST {
             let most = MAX_REST_AT_ONCE.min(MAX_REST - taken);
-            match self.read_briefly(&mut room[..most]) {
+            let brief = Duration::from_millis(REST_MILLISECONDS).min(self.limit.left());
+            let limit = Limit::after(self.limit.clock, brief);
+            match read_under(&mut self.reader, &limit, &mut room[..most]) {
                 Some(came) if came > 0 => taken += came,
                 _ => return,
             }
         }
-    }
-
-    // Reads, and waits no longer than for the rest of a request.
-    fn read_briefly(&mut self, room: &mut [u8]) -> Option<usize>
-        ensures within { IfSome result (λ n. n ≤ length room.new) }
-        ensures bytes { Fills (R.to_come self.old.reader) (R.to_come self.new.reader)
-            result room.new }
-    {
-        let most = Duration::from_millis(REST_MILLISECONDS).min(self.limit.left());
-        let brief = Limit::after(self.limit.clock, most);
-        read_under(&mut self.reader, &brief, room)
     }
 }
 

@@ -9,7 +9,7 @@ loop-taken-init g c = record { bytes = []; so_many = refl; within = omega arith;
 pub loop-taken-preserved : goal.loop-taken-preserved
 loop-taken-preserved g c =
     let inv = c.loop-taken.invariant in
-    let came = take c.in-Some.came c.read_briefly.new.room in
+    let came = take c.in-Some.came c.read_under.new.room in
     let many : length came ≡ c.in-Some.came = grind (arith, common_steps) in
     let fits : c.in-Some.came ≤ 65536 - c.loop-taken.taken = grind (arith, common_steps) in
     record {
