@@ -49,13 +49,13 @@ WRITTEN = {
     "caveats.number_of": "club_values.Number: number_limit",
     "caveats.facility_test": "club_values.Name: is_name_byte max_name_len IsName; pass_caveats.Names: max_names AreNames; "
                              "pass_caveats.Parts: comma_parts comma_list",
-    "caveats.kind_test": "club_values.Kind: kind_text; pass_caveats.Caveat: is_kind",
+    "caveats.kind_test": "club_values.Kind: kind_text; pass_caveats.Tests: is_kind",
     "caveats.weekday_test": "club_values.Weekday: weekdays weekday_of; pass_caveats.Weekdays: weekday_text has_weekday weekday_texts",
     "caveats.actions_test caveats.listed": "club_values.Action: action_text; pass_caveats.Actions: all_actions has_action action_texts",
     "caveats.guests_test": "club_values.Slot: guests_limit",
     "caveats.facility_test caveats.kind_test caveats.hours_test caveats.days_test caveats.weekday_test caveats.until_test "
     "caveats.guests_test caveats.spend_test caveats.actions_test":
-        "pass_caveats.Caveat: in_slot CaveatRow row caveat_row IsCaveat caveat_text permits Permits",
+        "pass_caveats.Caveat: CaveatRow row caveat_row IsCaveat caveat_text Permits; pass_caveats.Tests: in_slot permits",
     "caveats.test_of": "pass_caveats.Caveat: SpellsCaveat max_caveat_len Understood",
     "caveats.first_fault": "pass_caveats.Fault: Allows Allowed first_fault_from first_fault_of",
     "club.Club.__init__": "club_core.Club: Club empty_club",

@@ -7,7 +7,7 @@ use Rattle.pass_caveats.specs.declared.caveat.Caveat.{Caveat}
 use Rattle.pass_caveats.specs.declared.fault.CaveatFault.{CaveatFault}
 use Rattle.pass_caveats.specs.declared.fault.CaveatFault.TheVariants.{Denied}
 use Rattle.pass_caveats.specs.computed.CaveatOf.{caveat_of}
-use Rattle.pass_caveats.specs.Caveat.{permits}
+use Rattle.pass_caveats.specs.Tests.{permits}
 use Rattle.pass_caveats.specs.Fault.{first_fault_from}
 use Rattle.pass_forms.specs.declared.field_source.Field.{Field}
 use Rattle.pass_forms.specs.declared.field_source.Field.TheVariants as fields

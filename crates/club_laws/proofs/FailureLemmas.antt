@@ -1,6 +1,7 @@
 -- The laws over runs in which some events failed: the same laws over the events that were answered.
 use Rattle.std.proofs.Common.{◌≡◌, ℕ, inl, inr, Bool, true, false, cond, List, [], ◌∷◌, ◌++◌, length, All, Some, refl, sym, ap, ◌∙◌, subst, arith, append_assoc}
 use Rattle.std.proofs.lemmas.Bool.{both_ways}
+use Rattle.pass_caveats.specs.Laws.{TestsTheSet}
 use Rattle.club_values.specs.declared.slot.Slot.{Slot}
 use Rattle.club_rows.specs.declared.member.Member.{Member}
 use Rattle.club_core.specs.declared.reply.Reply.{Reply}
@@ -115,21 +116,21 @@ module _ {O : Type 0} (presentation : Presentation O) where
   repeat_of_step club next words moment returned reply again (inr f) =
       (λ e. absurd (both_ways (has_failed presentation (Asked words moment) returned) e f.failure), f.kept)
 
-  pub repeat_with_failures : TestsTheSignature → (club last : Club) (history rest : List Event) (before since : List (Response O))
+  pub repeat_with_failures : TestsTheSet → TestsTheSignature → (club last : Club) (history rest : List Event) (before since : List (Response O))
       (words : Words) (moment : ℕ)
       (returned : Response O)
       (reply : Reply) → length before ≡ length history → IsRun presentation club (history ++ Asked words moment ∷ rest) (before ++ returned ∷ since) last
       → WasReturned history before words reply → IsAcceptedIn (club_after club (answered_events presentation history before)) words moment
       → (has_failed presentation (Asked words moment) returned ≡ false → returned ≡ ToMember reply)
       × IsRun presentation club (history ++ rest) (before ++ since) last
-  repeat_with_failures signature club last history rest before since words moment returned reply beside run was accepted =
+  repeat_with_failures set signature club last history rest before since words moment returned reply beside run was accepted =
       let answered = answered_events presentation history before in
       let parts = cut presentation club last history (Asked words moment ∷ rest) before (returned ∷ since) beside run in
       let left = (run_of_answered presentation club parts.now history before parts.first).left in
       let served = served_in_machine_run club parts.now history before words reply parts.first was in
       let again =
       subst (λ (c : Club). step c (Asked words moment) ≡ record { reply = Replied reply; club = c }) (sym left)
-      (step_of_repeat signature club answered words moment reply served accepted)
+      (step_of_repeat set signature club answered words moment reply served accepted)
       in
       let one = repeat_of_step parts.now parts.second.0 words moment returned reply again parts.second.1 in (
         one.0,
@@ -152,21 +153,21 @@ module _ {O : Type 0} (presentation : Presentation O) where
     same_request = w.same_request;
   }
 
-  pub again_with_failures : TestsTheSignature → (club last : Club) (events : List Event) (replies : List (Response O))
+  pub again_with_failures : TestsTheSet → TestsTheSignature → (club last : Club) (events : List Event) (replies : List (Response O))
       → IsRun presentation club events replies last
       → RepeatsServedReplies last events replies × ((event : Event) → RepeatsServedReplies (step last event).club events replies)
-  again_with_failures signature club last events replies run =
+  again_with_failures set signature club last events replies run =
       let answered = answered_events presentation events replies in
       let left = (run_of_answered presentation club last events replies run).left in
       let At : Club → Type 0 = λ c. RepeatsServedReplies c events replies in
       let at_end : At (club_after club answered) = λ words moment reply was accepted.
-      step_of_repeat signature club answered words moment reply (served_in_machine_run club last events replies words reply run was) accepted
+      step_of_repeat set signature club answered words moment reply (served_in_machine_run club last events replies words reply run was) accepted
       in
       let After : Club → Type 0 = λ c. (event : Event) → RepeatsServedReplies (step c event).club events replies in
       let since : After (club_after club answered) = λ event.
       subst At (club_after-append club answered (event ∷ []))
       (λ words moment reply was accepted.
-      step_of_repeat signature club (answered ++ event ∷ []) words moment reply
+      step_of_repeat set signature club (answered ++ event ∷ []) words moment reply
       (served_and_more club answered event words reply (served_in_machine_run club last events replies words reply run was)) accepted)
       in
       (subst At (sym left) at_end, subst After (sym left) since)

@@ -3,6 +3,7 @@ use Rattle.std.proofs.Common.{◌≡◌, ℕ, true, cond, List, ◌∷◌, ◌++
 use Rattle.std.specs.Prelude.{Result, ◌&&◌, ◌==◌, not, nat_le, option_map, option_and_then}
 use Rattle.std.proofs.lemmas.Bool.{cond-true, cond-false, not_from_true}
 use Rattle.club_values.specs.Slot.{start_of}
+use Rattle.pass_caveats.specs.Laws.{TestsTheSet}
 use Rattle.club_rows.specs.declared.booking.Booking.{Booking}
 use Rattle.club_core.specs.declared.view.View.{View}
 use Rattle.club_core.specs.declared.verdict.Verdict.{Verdict}
@@ -78,20 +79,20 @@ decides_by_record bookings key (asked.Cancel slot number) reply view moment h e 
 decides_by_record bookings key asked.Account reply view moment h e = absurd h
 
 -- an accepted request is answered by the decision
-accepted_answer : TestsTheSignature → (club : Club) (words : Words) (moment : ℕ) (a : IsAcceptedIn club words moment)
+accepted_answer : TestsTheSet → TestsTheSignature → (club : Club) (words : Words) (moment : ℕ) (a : IsAcceptedIn club words moment)
     → verdict_in club words moment ≡ verdicts.verdict_of (view_of a.basis words.request moment) words.request moment
-accepted_answer signature club words moment a =
+accepted_answer set signature club words moment a =
     let seen : Option Basis → Option View = λ basis. option_map (λ (b : Basis). view_of b words.request moment) basis in
     ap (λ (pass : Result Pass PassFault). answer_to pass words.request moment (seen (basis_of club words))) a.read
     ∙ (ap (λ (basis : Option Basis). answer_to (Ok a.pass) words.request moment (seen basis)) a.known
-    ∙ accepted_under signature a.pass words.request moment (view_of a.basis words.request moment) a.acceptance)
+    ∙ accepted_under set signature a.pass words.request moment (view_of a.basis words.request moment) a.acceptance)
 
-step_by_record : TestsTheSignature → (club : Club) (words : Words) (moment : ℕ) (reply : Reply) → IsRecorded club.bookings words reply
+step_by_record : TestsTheSet → TestsTheSignature → (club : Club) (words : Words) (moment : ℕ) (reply : Reply) → IsRecorded club.bookings words reply
     → IsAcceptedIn club words moment
     → step club (Asked words moment) ≡ record { reply = Replied reply; club = club }
-step_by_record signature club words moment reply r a =
+step_by_record set signature club words moment reply r a =
     ap (verdict_outcome club)
-    (accepted_answer signature club words moment a
+    (accepted_answer set signature club words moment a
     ∙ decides_by_record club.bookings r.key words.request reply (view_of a.basis words.request moment) moment r.on_record
     (seen_booking club words moment a.basis r.key a.known r.key_name))
 
@@ -117,19 +118,19 @@ recorded_since club history words reply w =
           (subst (λ (r : Reply). OnRecord (club_after then w.rest).bookings first.key w.first.request r) returned later));
     }
 
-pub step_of_repeat : TestsTheSignature → (club : Club) (history : List Event) (words : Words) (moment : ℕ) (reply : Reply)
+pub step_of_repeat : TestsTheSet → TestsTheSignature → (club : Club) (history : List Event) (words : Words) (moment : ℕ) (reply : Reply)
     → WasServed club history words reply
     → IsAcceptedIn (club_after club history) words moment → step (club_after club history) (Asked words moment)
     ≡ record { reply = Replied reply; club = club_after club history }
-step_of_repeat signature club history words moment reply w a =
-    step_by_record signature (club_after club history) words moment reply (recorded_since club history words reply w) a
+step_of_repeat set signature club history words moment reply w a =
+    step_by_record set signature (club_after club history) words moment reply (recorded_since club history words reply w) a
 
-pub left_out : TestsTheSignature → (club : Club) (history : List Event) (words : Words) (moment : ℕ) (reply : Reply) (rest : List Event)
+pub left_out : TestsTheSet → TestsTheSignature → (club : Club) (history : List Event) (words : Words) (moment : ℕ) (reply : Reply) (rest : List Event)
     → WasServed club history words reply
     → IsAcceptedIn (club_after club history) words moment → MayBeLeftOut club history (Asked words moment) rest (Replied reply)
-left_out signature club history words moment reply rest w a =
+left_out set signature club history words moment reply rest w a =
     let end = club_after club history in
-    let again = step_of_repeat signature club history words moment reply w a in
+    let again = step_of_repeat set signature club history words moment reply w a in
     record {
       replies =
           replies_of-append club history (Asked words moment ∷ rest)

@@ -5,6 +5,7 @@ use Rattle.club_core.specs.declared.command.OfficeFault.{OfficeFault}
 use Rattle.std.specs.Str.{bytes_eq}
 use Rattle.std.proofs.lemmas.Bool.{both_ways, or_left, or_right}
 use Rattle.std.proofs.lemmas.Option.{same_Some}
+use Rattle.pass_caveats.specs.Laws.{TestsTheSet}
 use Rattle.club_core.specs.Laws.{TestsTheSignature}
 use Rattle.club_rows.specs.declared.key.Key.{Key}
 use Rattle.club_core.specs.declared.change.Change.{Change}
@@ -71,11 +72,11 @@ revoked_since club history name was =
     subst (IsRevoked name) (sym end) (kept_by_run (IsRevoked name) (stays_revoked name) then was.rest (now_revoked start name was.reply_is))
 
 -- a served request has a key that isn't revoked
-pub serves_nothing : TestsTheSignature → (club : Club) (history : List Event) (name : List ℕ) (words : Words) (moment : ℕ)
+pub serves_nothing : TestsTheSet → TestsTheSignature → (club : Club) (history : List Event) (name : List ℕ) (words : Words) (moment : ℕ)
     → WasRevoked club history name → key_of words.pass ≡ Some name → ¬ IsServed (verdict_in (club_after club history) words moment).reply
-serves_nothing signature club history name words moment was named served =
+serves_nothing set signature club history name words moment was named served =
     let end = club_after club history in
-    let entitled = served_entitled signature words moment end words.pass (basis_of end words) refl refl served in
+    let entitled = served_entitled set signature words moment end words.pass (basis_of end words) refl refl served in
     let same : name ≡ entitled.basis.key.name = same_Some name entitled.basis.key.name (sym named ∙ (ap key_of entitled.read ∙ entitled.key_name)) in
     let since = subst (λ (n : List ℕ). IsRevoked n end) same (revoked_since club history name was) in
     let found : since.key ≡ entitled.basis.key = same_Some since.key entitled.basis.key (sym since.row ∙ entitled.row) in

@@ -8,8 +8,9 @@ use Rattle.pass_caveats.specs.declared.ask.Ask.{Ask}
 use Rattle.pass_caveats.specs.declared.caveat.Caveat.{Caveat}
 use Rattle.pass_caveats.specs.declared.fault.CaveatFault.{CaveatFault}
 use Rattle.pass_caveats.specs.declared.fault.CaveatFault.TheVariants.{NotUnderstood, Denied}
-use Rattle.pass_caveats.specs.Caveat.{permits}
+use Rattle.pass_caveats.specs.Tests.{permits}
 use Rattle.pass_caveats.specs.Fault.{first_fault_from, first_fault_of}
+use Rattle.pass_caveats.specs.Laws.{TestsTheSet}
 use Rattle.club_core.specs.Laws.{TestsTheSignature}
 use Rattle.club_core.specs.declared.view.View.{View}
 use Rattle.club_rows.specs.declared.key.Key.{Key}
@@ -70,30 +71,30 @@ permitted_first : (b : Bool) (rest : Option CaveatFault) (n : ℕ) → cond b re
 permitted_first true rest n e = (refl, e)
 permitted_first false rest n e = absurd (cc)
 
-pub all_allowed : (n : ℕ) (caveats : List (Option Caveat)) (ask : Ask) → first_fault_from n caveats ask ≡ None → All (IsAllowedBy ask) caveats
-all_allowed n [] ask e = All-nil (IsAllowedBy ask)
-all_allowed n (None ∷ caveats) ask e = absurd (cc)
-all_allowed n (Some caveat ∷ caveats) ask e =
+pub all_allowed : TestsTheSet → (n : ℕ) (caveats : List (Option Caveat)) (ask : Ask) → first_fault_from n caveats ask ≡ None → All (IsAllowedBy ask) caveats
+all_allowed tests n [] ask e = All-nil (IsAllowedBy ask)
+all_allowed tests n (None ∷ caveats) ask e = absurd (cc)
+all_allowed tests n (Some caveat ∷ caveats) ask e =
     let parts = permitted_first (permits caveat ask) (first_fault_from (n + 1) caveats ask) n e in
-    All-cons (IsAllowedBy ask) (Some caveat) caveats parts.0 (all_allowed (n + 1) caveats ask parts.1)
+    All-cons (IsAllowedBy ask) (Some caveat) caveats ((tests caveat ask).1 parts.0) (all_allowed tests (n + 1) caveats ask parts.1)
 
 -- and a list whose caveats all allow the request has no fault
-none_at_fault : (n : ℕ) (caveats : List (Option Caveat)) (ask : Ask) → All (IsAllowedBy ask) caveats → first_fault_from n caveats ask ≡ None
-none_at_fault n [] ask h = refl
-none_at_fault n (None ∷ caveats) ask h = absurd (All-head (IsAllowedBy ask) None caveats h)
-none_at_fault n (Some caveat ∷ caveats) ask h =
-    let permitted = All-head (IsAllowedBy ask) (Some caveat) caveats h in
-    let rest = none_at_fault (n + 1) caveats ask (All-tail (IsAllowedBy ask) (Some caveat) caveats h) in
+none_at_fault : TestsTheSet → (n : ℕ) (caveats : List (Option Caveat)) (ask : Ask) → All (IsAllowedBy ask) caveats → first_fault_from n caveats ask ≡ None
+none_at_fault tests n [] ask h = refl
+none_at_fault tests n (None ∷ caveats) ask h = absurd (All-head (IsAllowedBy ask) None caveats h)
+none_at_fault tests n (Some caveat ∷ caveats) ask h =
+    let permitted = (tests caveat ask).0 (All-head (IsAllowedBy ask) (Some caveat) caveats h) in
+    let rest = none_at_fault tests (n + 1) caveats ask (All-tail (IsAllowedBy ask) (Some caveat) caveats h) in
     ap (λ (b : Bool). cond b (first_fault_from (n + 1) caveats ask) (Some (Denied n))) permitted ∙ rest
 
 -- what is accepted, the decision answers
-pub accepted_under : TestsTheSignature → (pass : Pass) (request : Request) (moment : ℕ) (view : View)
+pub accepted_under : TestsTheSet → TestsTheSignature → (pass : Pass) (request : Request) (moment : ℕ) (view : View)
     → IsAcceptedPass pass request moment view → answer_to (Ok pass) request moment (Some view) ≡ verdict_of view request moment
-accepted_under signature pass request moment view h =
+accepted_under set signature pass request moment view h =
     passing_under pass request moment view (record {
       signed = (signature pass view.key moment).1 h.signed;
       not_revoked = h.not_revoked;
-      faultless = none_at_fault 1 pass.caveats (ask_of view request moment) h.permission;
+      faultless = none_at_fault set 1 pass.caveats (ask_of view request moment) h.permission;
     })
 
 -- a list without a fault has none with its end cut off
@@ -107,12 +108,12 @@ faultless_front n (Some caveat ∷ caveats) more ask e =
     ap (λ (b : Bool). cond b (first_fault_from (n + 1) caveats ask) (Some (Denied n))) parts.0 ∙ rest
 
 -- so what is served is entitled
-pub served_entitled : TestsTheSignature → (words : Words) (moment : ℕ) (club : Club) (pass : Result Pass PassFault) (basis : Option Basis)
+pub served_entitled : TestsTheSet → TestsTheSignature → (words : Words) (moment : ℕ) (club : Club) (pass : Result Pass PassFault) (basis : Option Basis)
     → words.pass ≡ pass → basis_of club words ≡ basis → IsServed (answer_to pass words.request moment
     (option_map (λ (b : Basis). view_of b words.request moment) basis)).reply → IsEntitled club words moment
-served_entitled signature words moment club (Err fault) basis e f h = absurd (h (form_refusal fault) refl)
-served_entitled signature words moment club (Ok pass) None e f h = absurd (h NotVerified refl)
-served_entitled signature words moment club (Ok pass) (Some basis) e f h =
+served_entitled set signature words moment club (Err fault) basis e f h = absurd (h (form_refusal fault) refl)
+served_entitled set signature words moment club (Ok pass) None e f h = absurd (h NotVerified refl)
+served_entitled set signature words moment club (Ok pass) (Some basis) e f h =
     let accepted = served_under pass words.request moment (view_of basis words.request moment) h in
     let rests = rests_on_name club words basis f in
     record {
@@ -124,7 +125,7 @@ served_entitled signature words moment club (Ok pass) (Some basis) e f h =
       known = f;
       not_revoked = accepted.not_revoked;
       signed = (signature pass basis.key moment).0 accepted.signed;
-      permission = all_allowed 1 pass.caveats (ask_of (view_of basis words.request moment) words.request moment) accepted.faultless;
+      permission = all_allowed set 1 pass.caveats (ask_of (view_of basis words.request moment) words.request moment) accepted.faultless;
     }
 
 -- without a basis

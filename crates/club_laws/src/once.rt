@@ -4,11 +4,13 @@ ghost use Rattle.club_laws.specs.Repeats.{RepeatsReturnTheSame, RepeatsMayBeLeft
 ghost use Rattle.club_laws.specs.ExampleRuns.{AcceptsARepeat};
 
 use club_core::laws::tests_the_signature;
+use pass_caveats::laws::tests_the_set;
 
 /// A repeat of a served booking or cancellation gets the first reply, and changes nothing.
 pub fn repeats_return_the_same()
     ensures { RepeatsReturnTheSame }
 {
+    tests_the_set();
     tests_the_signature();
 }
 
@@ -16,6 +18,7 @@ pub fn repeats_return_the_same()
 pub fn repeats_may_be_left_out()
     ensures { RepeatsMayBeLeftOut }
 {
+    tests_the_set();
     tests_the_signature();
 }
 

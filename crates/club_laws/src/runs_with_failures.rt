@@ -12,6 +12,7 @@ ghost use Rattle.club_laws.specs.RunsWithFailures.{
 };
 
 use club_core::laws::tests_the_signature;
+use pass_caveats::laws::tests_the_set;
 
 /// A run from a sound club ends in a sound club.
 pub fn keeps_sound<O>()
@@ -32,6 +33,7 @@ pub fn never_overbooks<O>()
 pub fn repeats_return_the_same<O>()
     ensures { RepeatsWithFailures O }
 {
+    tests_the_set();
     tests_the_signature();
 }
 
@@ -40,6 +42,7 @@ pub fn repeats_return_the_same<O>()
 pub fn repeats_after_one_more<O>()
     ensures { RepeatsAfterOneMore O }
 {
+    tests_the_set();
     tests_the_signature();
 }
 

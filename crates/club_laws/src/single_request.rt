@@ -11,6 +11,7 @@ ghost use Rattle.club_laws.specs.SingleRequest.{
 ghost use Rattle.club_laws.specs.Revoked.{ServesNoRevokedKey};
 
 use club_core::laws::tests_the_signature;
+use pass_caveats::laws::tests_the_set;
 
 /// If two clubs have the same basis for a request, they give the same reply at the same moment.
 pub fn depends_on_the_basis_alone()
@@ -35,6 +36,7 @@ pub fn refuses_the_unsigned()
 pub fn serves_only_the_entitled()
     ensures { ServesOnlyTheEntitled }
 {
+    tests_the_set();
     tests_the_signature();
 }
 
@@ -42,6 +44,7 @@ pub fn serves_only_the_entitled()
 pub fn serves_no_revoked_key()
     ensures { ServesNoRevokedKey }
 {
+    tests_the_set();
     tests_the_signature();
 }
 

@@ -9,7 +9,8 @@ use Rattle.pass_caveats.specs.declared.ask.Ask.{Ask}
 use Rattle.pass_caveats.specs.declared.fault.CaveatFault.{CaveatFault}
 use Rattle.pass_caveats.specs.declared.fault.CaveatFault.TheVariants.{NotUnderstood, Denied}
 use Rattle.club_values.specs.Reading.{Reads}
-use Rattle.pass_caveats.specs.Caveat.{Understood, permits}
+use Rattle.pass_caveats.specs.Caveat.{Understood}
+use Rattle.pass_caveats.specs.Tests.{permits}
 use Rattle.pass_caveats.specs.computed.CaveatOf.{candidate, spells, caveat_of}
 use Rattle.pass_caveats.specs.Fault.{first_fault_from, first_fault_of}
 use Rattle.pass_caveats.specs.Fault.{Allows, Allowed, IsUnknown, Denies, IsFaultAt, IsFirstFault}

@@ -17,8 +17,8 @@ use Rattle.club_values.specs.Name.{IsName}
 use Rattle.pass_caveats.specs.Names.{AreNames}
 use Rattle.pass_caveats.specs.Actions.{action_texts}
 use Rattle.pass_caveats.specs.Weekdays.{weekday_texts}
-use Rattle.pass_caveats.specs.Caveat.{IsCaveat, caveat_text, is_kind, Understood, Permits, permits}
-use Rattle.pass_caveats.specs.Sets.{IsInSet}
+use Rattle.pass_caveats.specs.Caveat.{IsCaveat, caveat_text, Understood, Permits}
+use Rattle.pass_caveats.specs.Tests.{is_kind, permits}
 use Rattle.club_values.specs.computed.TextOf.{is_name}
 use Rattle.club_values.proofs.TestLemmas.{Decides-leb, Decides-range, Decides-is_name}
 use Rattle.pass_caveats.specs.computed.CaveatOf.{is_caveat, spells}
@@ -85,21 +85,18 @@ Decides-has names name =
     Decides-like _ (λ h. (h.0, h.1, h.2 name)) (at_from_Contains names name)
     (Decides-by_or (λ n. bytes_eq n name) (λ n. n ≡ name) (list_any (λ n. bytes_eq n name)) (λ n. bytes_eq-Decides n name) refl (λ _ _. refl) names)
 
--- `permits` tests whether a request is in the caveat's set
-pub Decides-set : (caveat : Caveat) (ask : Ask) → Decides (permits caveat ask) (IsInSet caveat ask)
-unfolding permits
-Decides-set (Facility names) ask = Decides-slot ask.slot _ _ (λ slot. Decides-has names slot.facility)
-Decides-set (Kind kind) ask = Decides-kind_of_slot ask.slot ask.kind kind
-Decides-set (Hours from until) ask = Decides-slot ask.slot _ _ (λ slot. Decides-and _ _ (Decides-leb from slot.hour) (Decides-ltb slot.hour until))
-Decides-set (Days first last) ask = Decides-slot ask.slot _ _ (λ slot. Decides-and _ _ (Decides-leb first slot.day) (Decides-leb slot.day last))
-Decides-set (Weekdays set) ask = Decides-slot ask.slot _ _ (λ slot. ((λ e. e), (λ e. e)))
-Decides-set (Until moment) ask = Decides-ltb ask.moment moment
-Decides-set (Guests n) ask = Decides-leb ask.guests n
-Decides-set (Spend n) ask = Decides-or _ _ (Decides-eqb ask.owed 0) (Decides-leb (ask.spent + ask.owed) n)
-Decides-set (Actions actions) ask = ((λ e. e), (λ e. e))
-
+-- `permits` tests whether a request is one that the caveat allows
 pub Decides-permits : (caveat : Caveat) (ask : Ask) → Decides (permits caveat ask) (Permits caveat ask)
-Decides-permits caveat ask = ((λ e. e), (λ e. e))
+unfolding permits
+Decides-permits (Facility names) ask = Decides-slot ask.slot _ _ (λ slot. Decides-has names slot.facility)
+Decides-permits (Kind kind) ask = Decides-kind_of_slot ask.slot ask.kind kind
+Decides-permits (Hours from until) ask = Decides-slot ask.slot _ _ (λ slot. Decides-and _ _ (Decides-leb from slot.hour) (Decides-ltb slot.hour until))
+Decides-permits (Days first last) ask = Decides-slot ask.slot _ _ (λ slot. Decides-and _ _ (Decides-leb first slot.day) (Decides-leb slot.day last))
+Decides-permits (Weekdays set) ask = Decides-slot ask.slot _ _ (λ slot. ((λ e. e), (λ e. e)))
+Decides-permits (Until moment) ask = Decides-ltb ask.moment moment
+Decides-permits (Guests n) ask = Decides-leb ask.guests n
+Decides-permits (Spend n) ask = Decides-or _ _ (Decides-eqb ask.owed 0) (Decides-leb (ask.spent + ask.owed) n)
+Decides-permits (Actions actions) ask = ((λ e. e), (λ e. e))
 
-pub same_as_permits : (caveat : Caveat) (ask : Ask) (r : Bool) → IsTrue r ↔ IsInSet caveat ask → r ≡ permits caveat ask
-same_as_permits caveat ask r h = same_from_decides r (permits caveat ask) h (Decides-set caveat ask)
+pub same_as_permits : (caveat : Caveat) (ask : Ask) (r : Bool) → IsTrue r ↔ Permits caveat ask → r ≡ permits caveat ask
+same_as_permits caveat ask r h = same_from_decides r (permits caveat ask) h (Decides-permits caveat ask)

@@ -8,7 +8,7 @@ use Rattle.pass_caveats.specs.declared.fault.CaveatFault.{CaveatFault}
 use Rattle.pass_caveats.specs.declared.fault.CaveatFault.TheVariants.{Denied}
 use Rattle.pass_caveats.specs.Kinds.{IsBlindToKind, at_kind, is_on_kind}
 use Rattle.pass_caveats.specs.computed.CaveatOf.{caveat_of}
-use Rattle.pass_caveats.specs.Caveat.{permits}
+use Rattle.pass_caveats.specs.Tests.{permits}
 use Rattle.pass_caveats.specs.Fault.{first_fault_from}
 
 permits_alike : (caveat : Caveat) (ask : Ask) (kind : Option AKind) → is_on_kind (Some caveat) ≡ false

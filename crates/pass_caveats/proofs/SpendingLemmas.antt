@@ -6,7 +6,8 @@ use Rattle.pass_caveats.specs.declared.ask.Ask.{Ask}
 use Rattle.pass_caveats.specs.declared.caveat.Caveat.{Caveat}
 use Rattle.pass_caveats.specs.declared.caveat.Caveat.TheVariants.{Spend}
 use Rattle.pass_caveats.specs.declared.fault.CaveatFault.TheVariants.{Denied, NotUnderstood}
-use Rattle.pass_caveats.specs.Caveat.{IsCaveat, permits}
+use Rattle.pass_caveats.specs.Caveat.{IsCaveat}
+use Rattle.pass_caveats.specs.Tests.{permits}
 use Rattle.pass_caveats.specs.computed.CaveatOf.{caveat_of}
 use Rattle.pass_caveats.specs.Fault.{first_fault_from}
 use Rattle.club_values.specs.Number.{number_limit}

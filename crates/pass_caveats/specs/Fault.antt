@@ -5,7 +5,8 @@ use Rattle.pass_caveats.specs.declared.caveat.Caveat.{Caveat}
 use Rattle.pass_caveats.specs.declared.ask.Ask.{Ask}
 use Rattle.pass_caveats.specs.declared.fault.CaveatFault.{CaveatFault}
 use Rattle.pass_caveats.specs.declared.fault.CaveatFault.TheVariants.{NotUnderstood, Denied}
-use Rattle.pass_caveats.specs.Caveat.{Understood, Permits, permits}
+use Rattle.pass_caveats.specs.Caveat.{Understood, Permits}
+use Rattle.pass_caveats.specs.Tests.{permits}
 
 -- the text is a caveat that allows the request; a text that isn't understood allows none (ours)
 abbrev pub Allows : List ℕ → Ask → Type 0

@@ -1,5 +1,5 @@
 -- Laws of the definitions.
-use Rattle.std.specs.Prelude.{◌≡◌, ◌↔◌, ℕ, ◌+◌, List, [], ◌∷◌, ◌++◌, length, map, Option, Some, None}
+use Rattle.std.specs.Prelude.{◌≡◌, ◌↔◌, ℕ, ◌+◌, List, [], ◌∷◌, ◌++◌, length, map, IsTrue, Option, Some, None}
 use Rattle.std.specs.Option.{option_or}
 use Rattle.pass_caveats.specs.declared.caveat.Caveat.{Caveat}
 use Rattle.pass_caveats.specs.declared.ask.Ask.{Ask}
@@ -7,7 +7,7 @@ use Rattle.pass_caveats.specs.declared.fault.CaveatFault.{CaveatFault}
 use Rattle.pass_caveats.specs.Caveat.{Understood, Permits}
 use Rattle.pass_caveats.specs.computed.CaveatOf.{caveat_of}
 use Rattle.pass_caveats.specs.Fault.{Allowed, IsFirstFault, first_fault_from, first_fault_of}
-use Rattle.pass_caveats.specs.Sets.{IsInSet}
+use Rattle.pass_caveats.specs.Tests.{permits}
 
 -- more caveats never open more
 abbrev pub Narrows : Type 0
@@ -33,9 +33,9 @@ FindsTheFaultOfOneMore =
 abbrev pub ReadsWhatIsUnderstood : Type 0
 ReadsWhatIsUnderstood = (text : List ℕ) (caveat : Caveat) → Understood text caveat ↔ (caveat_of text ≡ Some caveat)
 
--- a caveat permits exactly the requests of its set
+-- `permits` is true exactly if the caveat allows the request
 abbrev pub TestsTheSet : Type 0
-TestsTheSet = (caveat : Caveat) (ask : Ask) → Permits caveat ask ↔ IsInSet caveat ask
+TestsTheSet = (caveat : Caveat) (ask : Ask) → Permits caveat ask ↔ IsTrue (permits caveat ask)
 
 -- a text is understood as at most one caveat
 abbrev pub IsUnderstoodOnce : Type 0

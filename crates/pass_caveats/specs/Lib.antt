@@ -3,7 +3,7 @@ pub mod Parts
 pub mod Actions
 pub mod Weekdays
 pub mod Caveat
-pub mod Sets
+pub mod Tests
 pub mod Fault
 pub mod Laws
 pub mod Spending

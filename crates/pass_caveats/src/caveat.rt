@@ -2,10 +2,10 @@
 
 ghost use Rattle.std.specs.Prelude.{◌≡◌, ◌⊎◌, ◌+◌, ◌≤◌, ◌↔◌, IsTrue, Some, false};
 ghost use Rattle.club_values.specs.Reading.{Reads};
-ghost use Rattle.pass_caveats.specs.Caveat.{SpellsCaveat, Understood, Permits, permits};
+ghost use Rattle.pass_caveats.specs.Caveat.{SpellsCaveat, Understood, Permits};
 ghost use Rattle.pass_caveats.specs.Kinds.{IsBlindToKind, is_on_kind};
 ghost use Rattle.pass_caveats.specs.computed.CaveatOf.{caveat_of};
-ghost use Rattle.pass_caveats.specs.Sets.{IsInSet};
+ghost use Rattle.pass_caveats.specs.Tests.{permits};
 
 use crate::actions::Actions;
 use crate::ask::Ask;
@@ -103,7 +103,7 @@ pub fn read(bytes: &[u8]) -> Option<Caveat<'_>>
 }
 
 fn is_in_set(caveat: &Caveat, ask: &Ask) -> bool
-    ensures { IsTrue result ↔ IsInSet caveat.now ask.now }
+    ensures { IsTrue result ↔ Permits caveat.now ask.now }
 {
     match caveat {
         Caveat::Facility(names) => match &ask.slot {
@@ -134,8 +134,7 @@ fn is_within(ask: &Ask, points: u64) -> bool
 
 /// Whether a caveat allows a request.
 pub fn allows(caveat: &Caveat, ask: &Ask) -> bool
-    ensures permits { IsTrue result ↔ Permits caveat.now ask.now }
-    ensures set { IsTrue result ↔ IsInSet caveat.now ask.now }
+    ensures set { IsTrue result ↔ Permits caveat.now ask.now }
     ensures function { result ≡ permits caveat.now ask.now }
 {
     is_in_set(caveat, ask)

@@ -37,7 +37,7 @@ pub fn reads_what_is_understood()
     ensures { ReadsWhatIsUnderstood }
 {}
 
-/// A caveat permits exactly the requests of its set.
+/// `permits` is true exactly if the caveat allows the request.
 pub fn tests_the_set()
     ensures { TestsTheSet }
 {}

@@ -1,5 +1,5 @@
 use Rattle.std.proofs.Common.{refl}
-use Rattle.pass_caveats.specs.Caveat.{permits}
+use Rattle.pass_caveats.specs.Tests.{permits}
 use Rattle.club_core.proofs.laws.keeps_a_spend_limit.Goals as goal
 
 pub returns : goal.returns

@@ -4,7 +4,6 @@ use Rattle.std.proofs.lemmas.List.Elements.{All-nil, All-cons}
 use Rattle.club_values.specs.declared.kind.Kind.TheVariants.{Court}
 use Rattle.pass_caveats.specs.declared.ask.Ask.{Ask}
 use Rattle.pass_caveats.specs.declared.caveat.Caveat.TheVariants.{Spend}
-use Rattle.pass_caveats.specs.Caveat.{permits}
 use Rattle.club_core.specs.declared.request.Request.TheVariants as asked
 use Rattle.club_core.specs.Acceptance.{IsAllowedBy}
 use Rattle.club_core.specs.Answer.{ask_of}
@@ -29,7 +28,6 @@ abbrev asked_again : Ask
 asked_again = ask_of (view_of named words_again.request late) words_again.request late
 
 pub returns : goal.returns
-unfolding permits
 returns c = record {
   was_served = record {
     front = [];
@@ -53,7 +51,7 @@ returns c = record {
     acceptance = record {
       signed = record { root = root; good = inl refl; signed = refl };
       not_revoked = refl;
-      permission = All-cons (IsAllowedBy asked_again) (Some (Spend 0)) [] refl
+      permission = All-cons (IsAllowedBy asked_again) (Some (Spend 0)) [] (inl refl)
           (All-nil (IsAllowedBy asked_again));
     };
   };

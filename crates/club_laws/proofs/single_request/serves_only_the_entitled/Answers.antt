@@ -5,4 +5,4 @@ use Rattle.club_laws.proofs.single_request.serves_only_the_entitled.Goals as goa
 
 pub returns : goal.returns
 returns c = λ words moment club served.
-    served_entitled c.tests_the_signature.ensures words moment club words.pass (basis_of club words) refl refl served
+    served_entitled c.tests_the_set.ensures c.tests_the_signature.ensures words moment club words.pass (basis_of club words) refl refl served

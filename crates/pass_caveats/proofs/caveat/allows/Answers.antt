@@ -1,11 +1,5 @@
-use Rattle.std.proofs.Common.{sym, ◌∙◌}
 use Rattle.pass_caveats.proofs.DecisionLemmas.{same_as_permits}
 use Rattle.pass_caveats.proofs.caveat.allows.Goals as goal
-
-pub returns-clause-permits : goal.returns-clause-permits
-returns-clause-permits c =
-    let same = same_as_permits c.args.caveat.now c.args.ask.now c.is_in_set.result c.is_in_set.ensures in
-    ((λ h. sym same ∙ h), (λ h. same ∙ h))
 
 pub returns-clause-function : goal.returns-clause-function
 returns-clause-function c = same_as_permits c.args.caveat.now c.args.ask.now c.is_in_set.result c.is_in_set.ensures

@@ -1,5 +1,5 @@
-use Rattle.pass_caveats.proofs.DecisionLemmas.{Decides-set}
+use Rattle.pass_caveats.proofs.DecisionLemmas.{Decides-permits}
 use Rattle.pass_caveats.proofs.laws.tests_the_set.Goals as goal
 
 pub returns : goal.returns
-returns c = λ caveat ask. let d = Decides-set caveat ask in (d.0, d.1)
+returns c = λ caveat ask. let d = Decides-permits caveat ask in (d.1, d.0)

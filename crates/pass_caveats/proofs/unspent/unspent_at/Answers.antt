@@ -1,5 +1,5 @@
 use Rattle.std.proofs.Common.{◌≡◌, ℕ, true, false, Option, None, sym, subst, ◌∙◌}
-use Rattle.pass_caveats.specs.Caveat.{permits}
+use Rattle.pass_caveats.specs.Tests.{permits}
 use Rattle.pass_caveats.specs.Spending.{HoldsWithin, after_spending}
 use Rattle.pass_caveats.proofs.SpendingLemmas.{holds_allowed, holds_denied}
 use Rattle.pass_caveats.proofs.unspent.unspent_at.Goals as goal

@@ -1,0 +1,36 @@
+-- Whether a caveat permits a request, as a test (ours). `Permits` says which requests those are; the law `tests_the_set` says that both agree.
+use Rattle.std.specs.Prelude.{◌+◌, ◌==◌, ◌&&◌, ◌||◌, Bool, true, false, nat_lt, nat_le, Option, Some, is_some}
+use Rattle.std.specs.List.{list_any}
+use Rattle.std.specs.Option.{option_map_or}
+use Rattle.std.specs.Str.{bytes_eq}
+use Rattle.pass_caveats.specs.declared.caveat.Caveat.{Caveat}
+use Rattle.pass_caveats.specs.declared.caveat.Caveat.TheVariants.{Facility, Kind, Hours, Days, Weekdays, Until, Guests, Spend, Actions}
+use Rattle.pass_caveats.specs.declared.ask.Ask.{Ask}
+use Rattle.club_values.specs.declared.kind.Kind.{Kind as AKind}
+use Rattle.club_values.specs.declared.kind.Kind.TheVariants.{Court, Boat, Room}
+use Rattle.club_values.specs.declared.slot.Slot.{Slot}
+use Rattle.club_values.specs.Weekday.{weekday_of}
+use Rattle.pass_caveats.specs.Actions.{has_action}
+use Rattle.pass_caveats.specs.Weekdays.{has_weekday}
+
+-- the request is about a slot, and the test is true of it
+abbrev pub in_slot : (Slot → Bool) → Ask → Bool
+in_slot test ask = option_map_or test ask.slot false
+
+-- the kind is known, and is this one
+abbrev pub is_kind : Option AKind → AKind → Bool
+is_kind (Some Court) Court = true
+is_kind (Some Boat) Boat = true
+is_kind (Some Room) Room = true
+is_kind known kind = false
+
+unfoldable pub permits : Caveat → Ask → Bool
+permits (Facility names) ask = in_slot (λ slot. list_any (λ name. bytes_eq name slot.facility) names) ask
+permits (Kind kind) ask = is_some ask.slot && is_kind ask.kind kind
+permits (Hours from until) ask = in_slot (λ slot. nat_le from slot.hour && nat_lt slot.hour until) ask
+permits (Days first last) ask = in_slot (λ slot. nat_le first slot.day && nat_le slot.day last) ask
+permits (Weekdays set) ask = in_slot (λ slot. has_weekday set (weekday_of slot.day)) ask
+permits (Until moment) ask = nat_lt ask.moment moment
+permits (Guests n) ask = nat_le ask.guests n
+permits (Spend n) ask = ask.owed == 0 || nat_le (ask.spent + ask.owed) n
+permits (Actions actions) ask = has_action actions ask.action
