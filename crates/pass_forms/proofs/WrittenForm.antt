@@ -1,20 +1,19 @@
 -- The base64 text of a pass, in either form of its bytes.
 use Rattle.std.proofs.Common.{◌≡◌, ◌↔◌, ℕ, ◌≤◌, Bool, true, false, cond, ltb, List, length, Some, Result, Ok, Err, refl, sym, ap, subst, ◌∙◌, arith}
-use Rattle.std.specs.Prelude.{IfErr, IfOk, MatchResult}
+use Rattle.std.specs.Prelude.{IfErr, IfOk, IsOk, MatchResult}
 use Rattle.std.proofs.lemmas.Bool.{ltb-false, ltb-true}
-use Rattle.std.proofs.lemmas.Result.{IfErr-weaker, IfOk-weaker, MatchResult-from_both}
 use Rattle.base64.specs.GeneralPurpose.{IsBytes}
 use Rattle.pass_forms.specs.declared.fault.FormFault.{FormFault}
 use Rattle.pass_forms.specs.declared.fault.FormFault.TheVariants.{TooLong, Malformed, ThirdParty, TooMany, Memory}
 use Rattle.pass_forms.specs.declared.form.Form.{Form}
 use Rattle.pass_forms.specs.Envelope.{form_of}
 use Rattle.pass_forms.specs.Pass.{Plain, WidePass, as_wide_pass}
-use Rattle.pass_forms.specs.Putting.{FitsBuffer, RefusesBytes, WritesBytes, buffer_len}
+use Rattle.pass_forms.specs.Putting.{buffer_len}
 use Rattle.pass_forms.specs.Laws.{ReadsExactly}
 use Rattle.pass_forms.specs.Reading.{max_caveats, max_text_len}
 use Rattle.pass_forms.specs.Writing.{FailsAs, IsReadBack, IsWriteFault, IsWriting, IsTextBy, IsWritableText, in_base64}
 use Rattle.pass_forms.specs.computed.Writing.{writing_of}
-use Rattle.pass_forms.proofs.WrittenTexts.{bytes_fit, fails, text_fits, text_too_long, unwraps, writes}
+use Rattle.pass_forms.proofs.WrittenTexts.{bytes_fit, unwraps}
 
 -- A form: the bytes of a pass, which bytes spell a pass, and how they are read.
 pub record BytesForm : Type 1 where
@@ -28,24 +27,6 @@ pub record BytesForm : Type 1 where
 
 abbrev pub IsTextIn : BytesForm → Plain → List ℕ → Type 0
 IsTextIn f pass text = IsTextBy f.bytes_of f.Spells pass text
-
-has_text : (f : BytesForm) (pass : Plain) (text : List ℕ) → text ≡ in_base64 (f.bytes_of pass) → FitsBuffer (f.bytes_of pass) pass →
-    IsWritableText (IsTextIn f) pass text
-has_text f pass text encoding buffer = record {
-  is_text = record { encoding = encoding; spelling = f.spells pass buffer.fits buffer.signature };
-  short = rw encoding (text_fits (f.bytes_of pass) buffer.fits);
-  few = buffer.few;
-}
-
-pub is_written : (f : BytesForm) (pass : Plain) (text : List ℕ) → WritesBytes (f.bytes_of pass) pass text → IsWritableText (IsTextIn f) pass text
-is_written f pass text written = has_text f pass text written.encoding written.buffer
-
-pub is_refused : (f : BytesForm) (pass : Plain) (fault : FormFault) → RefusesBytes (f.bytes_of pass) pass fault → IsWriteFault (IsTextIn f) pass fault
-is_refused f pass TooMany many = many
-is_refused f pass TooLong long = (long.0, λ text is. rw is.encoding (text_too_long (f.bytes_of pass) long.1))
-is_refused f pass Memory buffer = (in_base64 (f.bytes_of pass), has_text f pass (in_base64 (f.bytes_of pass)) refl buffer)
-is_refused f pass Malformed never = never
-is_refused f pass ThirdParty never = never
 
 -- The bytes fit the buffer.
 pub fits_buffer : (f : BytesForm) (pass : Plain) (text : List ℕ) → IsWritableText (IsTextIn f) pass text → length (f.bytes_of pass) ≤ buffer_len
@@ -64,39 +45,25 @@ reads_back f pass text are written =
       read = (f.reads_exactly (f.bytes_of pass) (Ok pass)).0 (omega arith, spelling, written.few);
     }
 
--- what a writer of this form promises of its result, a text or a fault
-pub record Promises (f : BytesForm) (pass : Plain) (A : Type 0) (bytes : A → List ℕ) (result : Result A FormFault) : Type 0 where
-  pub ok : IfOk result (λ text. IsWritableText (IsTextIn f) pass (bytes text))
-  pub err : IfErr result (IsWriteFault (IsTextIn f) pass)
-  pub read_back : IfOk result (λ text. IsReadBack f.reading f.form (f.bytes_of pass) pass (bytes text))
-  pub computed : MatchResult result (λ text. writing_of (f.bytes_of pass) pass ≡ Ok (bytes text)) (FailsAs (writing_of (f.bytes_of pass) pass))
-
-pub keeps_promises : (f : BytesForm) (pass : Plain) (A : Type 0) (bytes : A → List ℕ) (result : Result A FormFault) →
-    IfOk result (λ text. WritesBytes (f.bytes_of pass) pass (bytes text)) → IfErr result (RefusesBytes (f.bytes_of pass) pass) →
-    Promises f pass A bytes result
-keeps_promises f pass A bytes result written refused = record {
-  ok = IfOk-weaker result _ _ (λ text w. is_written f pass _ w) written;
-  err = IfErr-weaker result _ _ (λ fault r. is_refused f pass fault r) refused;
-  read_back = IfOk-weaker result _ _ (λ text w. reads_back f pass _ w.buffer.are_bytes (is_written f pass _ w)) written;
-  computed = MatchResult-from_both result _ _ (IfOk-weaker result _ _ (λ text w. writes (f.bytes_of pass) pass _ w) written)
-      (IfErr-weaker result _ _ (λ fault r. fails (f.bytes_of pass) pass fault r) refused);
-}
-
 -- ---- the result, a text or a fault
 
 -- the computed result, by its two tests, is one that the relation allows
-allowed_by : (f : BytesForm) (pass : Plain) (many long : Bool) → length pass.signature ≡ 32 → ltb max_caveats (length pass.caveats) ≡ many
-    → ltb max_text_len (length (in_base64 (f.bytes_of pass))) ≡ long
-    → IsWriting (IsTextIn f) pass (cond many (Err TooMany) (cond long (Err TooLong) (Ok (in_base64 (f.bytes_of pass)))))
+abbrev result_by : BytesForm → Plain → Bool → Bool → Result (List ℕ) FormFault
+result_by f pass many long = cond many (Err TooMany) (cond long (Err TooLong) (Ok (in_base64 (f.bytes_of pass))))
+
+allowed_by : (f : BytesForm) (pass : Plain) (many long : Bool) → (IsOk (result_by f pass many long) → length pass.signature ≡ 32)
+    → ltb max_caveats (length pass.caveats) ≡ many → ltb max_text_len (length (in_base64 (f.bytes_of pass))) ≡ long
+    → IsWriting (IsTextIn f) pass (result_by f pass many long)
 allowed_by f pass true long len m l = ltb-true _ _ m
 allowed_by f pass false true len m l = (ltb-false _ _ m, λ text is. rw is.encoding (ltb-true _ _ l))
 allowed_by f pass false false len m l = record {
-  is_text = record { encoding = refl; spelling = f.spells pass (bytes_fit (f.bytes_of pass) (ltb-false _ _ l)) len };
+  is_text = record { encoding = refl; spelling = f.spells pass (bytes_fit (f.bytes_of pass) (ltb-false _ _ l)) (len refl) };
   short = ltb-false _ _ l;
   few = ltb-false _ _ m;
 }
 
-computed_is_allowed : (f : BytesForm) (pass : Plain) → length pass.signature ≡ 32 → IsWriting (IsTextIn f) pass (writing_of (f.bytes_of pass) pass)
+computed_is_allowed : (f : BytesForm) (pass : Plain) → (IsOk (writing_of (f.bytes_of pass) pass) → length pass.signature ≡ 32)
+    → IsWriting (IsTextIn f) pass (writing_of (f.bytes_of pass) pass)
 computed_is_allowed f pass len =
     allowed_by f pass (ltb max_caveats (length pass.caveats)) (ltb max_text_len (length (in_base64 (f.bytes_of pass)))) len refl refl
 
@@ -119,9 +86,37 @@ one_result f pass (Err Malformed) other h k = absurd h
 one_result f pass (Err ThirdParty) other h k = absurd h
 one_result f pass (Err Memory) other h k = absurd h
 
-pub exact : (f : BytesForm) (pass : Plain) (answer : Result (List ℕ) FormFault) → length pass.signature ≡ 32 →
-    (writing_of (f.bytes_of pass) pass ≡ answer) ↔ IsWriting (IsTextIn f) pass answer
+pub exact : (f : BytesForm) (pass : Plain) (answer : Result (List ℕ) FormFault)
+    → (IsOk (writing_of (f.bytes_of pass) pass) → length pass.signature ≡ 32) → (writing_of (f.bytes_of pass) pass ≡ answer) ↔ IsWriting (IsTextIn f) pass answer
 exact f pass answer len =
     let allowed = computed_is_allowed f pass len in
     let Allows : Result (List ℕ) FormFault → Type 0 = λ r. IsWriting (IsTextIn f) pass r in
     ((λ e. subst Allows e allowed), (λ h. one_result f pass _ answer allowed h))
+
+-- ---- what a writer promises of its result
+
+pub record Promises (f : BytesForm) (pass : Plain) (A : Type 0) (bytes : A → List ℕ) (result : Result A FormFault) : Type 0 where
+  pub ok : IfOk result (λ text. IsWritableText (IsTextIn f) pass (bytes text))
+  pub err : IfErr result (IsWriteFault (IsTextIn f) pass)
+  pub read_back : IfOk result (λ text. IsReadBack f.reading f.form (f.bytes_of pass) pass (bytes text))
+
+is_refused : (f : BytesForm) (pass : Plain) (fault : FormFault) → (IsOk (writing_of (f.bytes_of pass) pass) → length pass.signature ≡ 32)
+    → FailsAs (writing_of (f.bytes_of pass) pass) fault → IsWriteFault (IsTextIn f) pass fault
+is_refused f pass TooMany len e = (exact f pass (Err TooMany) len).0 e
+is_refused f pass TooLong len e = (exact f pass (Err TooLong) len).0 e
+is_refused f pass Memory len some = go (writing_of (f.bytes_of pass) pass) refl some
+  where
+    go : (result : Result (List ℕ) FormFault) → writing_of (f.bytes_of pass) pass ≡ result → IsOk result → IsWriteFault (IsTextIn f) pass Memory
+    go (Ok text) e h = (text, (exact f pass (Ok text) len).0 e)
+    go (Err fault) e h = absurd (cc)
+is_refused f pass Malformed len e = (exact f pass (Err Malformed) len).0 e
+is_refused f pass ThirdParty len e = (exact f pass (Err ThirdParty) len).0 e
+
+pub keeps_promises : (f : BytesForm) (pass : Plain) (A : Type 0) (bytes : A → List ℕ) (result : Result A FormFault)
+    → MatchResult result (λ text. writing_of (f.bytes_of pass) pass ≡ Ok (bytes text)) (FailsAs (writing_of (f.bytes_of pass) pass))
+    → (IsOk (writing_of (f.bytes_of pass) pass) → IsBytes (f.bytes_of pass) × (length pass.signature ≡ 32)) → Promises f pass A bytes result
+keeps_promises f pass A bytes (Ok text) e real =
+    let its = real (rw e refl) in
+    let written = (exact f pass (Ok (bytes text)) (λ _. its.1)).0 e in
+    record { ok = written; err = tt; read_back = reads_back f pass (bytes text) its.0 written }
+keeps_promises f pass A bytes (Err fault) e real = record { ok = tt; err = is_refused f pass fault (λ some. (real some).1) e; read_back = tt }

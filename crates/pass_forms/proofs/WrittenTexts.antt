@@ -1,5 +1,5 @@
 -- The text that is written of a pass: how long it is, and that it is read back, whatever the form.
-use Rattle.std.proofs.Common.{◌≡◌, ℕ, ◌<◌, ◌≤◌, true, false, ltb, List, length, Ok, Some, inl, inr, refl, sym, ap, arith}
+use Rattle.std.proofs.Common.{◌≡◌, ℕ, ◌<◌, ◌≤◌, true, false, ltb, List, length, Ok, Err, Some, inl, inr, refl, arith}
 use Rattle.std.proofs.lemmas.Bool.{le-ltb, lt-ltb}
 use Rattle.std.proofs.lemmas.List.{append-nil}
 use Rattle.base64.specs.Engines.{url_safe_no_pad}
@@ -7,15 +7,14 @@ use Rattle.base64.specs.GeneralPurpose.{IsBytes, engine_symbols}
 use Rattle.base64.specs.Rfc4648.{unpadded_len}
 use Rattle.base64.proofs.EngineFacts.{IsAscii-encode_of}
 use Rattle.base64.proofs.RoundTrip.{length-encode_symbols}
-use Rattle.pass_forms.specs.declared.fault.FormFault.{FormFault}
-use Rattle.pass_forms.specs.declared.fault.FormFault.TheVariants.{TooLong, Malformed, ThirdParty, TooMany, Memory}
+use Rattle.pass_forms.specs.declared.fault.FormFault.TheVariants.{TooLong, TooMany}
 use Rattle.pass_forms.specs.declared.form.Form.{Form}
 use Rattle.pass_forms.specs.Envelope.{IsBase64, form_of}
 use Rattle.pass_forms.specs.computed.Envelope.{unwrapping}
 use Rattle.pass_forms.specs.Pass.{Plain}
-use Rattle.pass_forms.specs.Putting.{RefusesBytes, WritesBytes, buffer_len}
+use Rattle.pass_forms.specs.Putting.{buffer_len}
 use Rattle.pass_forms.specs.Reading.{max_caveats, max_text_len}
-use Rattle.pass_forms.specs.Writing.{FailsAs, in_base64}
+use Rattle.pass_forms.specs.Writing.{in_base64}
 use Rattle.pass_forms.specs.computed.Writing.{writing_of}
 use Rattle.pass_forms.proofs.EnvelopeLaws.{unwrapped_is}
 
@@ -34,28 +33,21 @@ bytes_fit bytes h = omega (arith, length-in_base64 bytes)
 
 -- ---- the computed answer
 
-written_by : (bytes : List ℕ) (pass : Plain) (text : List ℕ) → text ≡ in_base64 bytes → length pass.caveats ≤ max_caveats → length bytes ≤ buffer_len →
-    writing_of bytes pass ≡ Ok text
-written_by bytes pass text encoding few fits =
-    let few_enough : ltb max_caveats (length pass.caveats) ≡ false = le-ltb _ _ few in
-    let short : ltb max_text_len (length (in_base64 bytes)) ≡ false = le-ltb _ _ (text_fits bytes fits) in
-    rw (few_enough, short) (ap (λ (t : List ℕ). Ok t) (sym encoding))
+module _ (bytes : List ℕ) (pass : Plain) where
+  pub too_many : max_caveats < length pass.caveats → writing_of bytes pass ≡ Err TooMany
+  too_many many = rw (lt-ltb _ _ many) refl
 
-pub writes : (bytes : List ℕ) (pass : Plain) (text : List ℕ) → WritesBytes bytes pass text → writing_of bytes pass ≡ Ok text
-writes bytes pass text written = written_by bytes pass text written.encoding written.buffer.few written.buffer.fits
+  pub too_long : length pass.caveats ≤ max_caveats → buffer_len < length bytes → writing_of bytes pass ≡ Err TooLong
+  too_long few long =
+      let few_enough : ltb max_caveats (length pass.caveats) ≡ false = le-ltb _ _ few in
+      let over : ltb max_text_len (length (in_base64 bytes)) ≡ true = lt-ltb _ _ (text_too_long bytes long) in
+      rw (few_enough, over) refl
 
-pub fails : (bytes : List ℕ) (pass : Plain) (fault : FormFault) → RefusesBytes bytes pass fault → FailsAs (writing_of bytes pass) fault
-fails bytes pass TooMany many = rw (lt-ltb _ _ many) refl
-fails bytes pass TooLong long =
-    let few : ltb max_caveats (length pass.caveats) ≡ false = le-ltb _ _ long.0 in
-    let over : ltb max_text_len (length (in_base64 bytes)) ≡ true = lt-ltb _ _ (text_too_long bytes long.1) in
-    rw (few, over) refl
-fails bytes pass Memory buffer =
-    let few : ltb max_caveats (length pass.caveats) ≡ false = le-ltb _ _ buffer.few in
-    let short : ltb max_text_len (length (in_base64 bytes)) ≡ false = le-ltb _ _ (text_fits bytes buffer.fits) in
-    rw (few, short) refl
-fails bytes pass Malformed never = absurd never
-fails bytes pass ThirdParty never = absurd never
+  pub written : length pass.caveats ≤ max_caveats → length bytes ≤ buffer_len → writing_of bytes pass ≡ Ok (in_base64 bytes)
+  written few fits =
+      let few_enough : ltb max_caveats (length pass.caveats) ≡ false = le-ltb _ _ few in
+      let short : ltb max_text_len (length (in_base64 bytes)) ≡ false = le-ltb _ _ (text_fits bytes fits) in
+      rw (few_enough, short) refl
 
 -- ---- reading back
 

@@ -77,4 +77,4 @@ law_v1 pass text are written =
 
 pub exact_v1 : (pass : Plain) (answer : Result (List ℕ) FormFault) → length pass.signature ≡ 32 → (writing_v1 pass ≡ answer) ↔ IsWriting IsV1Text pass answer
 unfolding writing_v1
-exact_v1 pass answer len = exact v1_form pass answer len
+exact_v1 pass answer len = exact v1_form pass answer (λ _. len)

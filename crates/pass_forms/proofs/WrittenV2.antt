@@ -42,4 +42,4 @@ law_v2 pass text are written = reads_back v2_form pass text (v2_is_bytes pass (f
 
 pub exact_v2 : (pass : Plain) (answer : Result (List ℕ) FormFault) → length pass.signature ≡ 32 → (writing_v2 pass ≡ answer) ↔ IsWriting IsV2Text pass answer
 unfolding writing_v2
-exact_v2 pass answer len = exact v2_form pass answer len
+exact_v2 pass answer len = exact v2_form pass answer (λ _. len)

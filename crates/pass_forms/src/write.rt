@@ -1,10 +1,9 @@
 //! The writers: a pass as its one text in V1 and in V2.
 
-ghost use Rattle.std.specs.Prelude.{◌≡◌, ◌≤◌, length, IfErr, IfOk, MatchResult, Ok};
+ghost use Rattle.std.specs.Prelude.{◌≡◌, length, IfErr, IfOk, IsOk, MatchResult, Ok};
 ghost use Rattle.std.specs.String.{string_bytes};
 ghost use Rattle.base64.specs.GeneralPurpose.{IsBytes};
 ghost use Rattle.pass_forms.specs.declared.form.Form.TheVariants.{V1, V2};
-ghost use Rattle.pass_forms.specs.Putting.{RefusesBytes, WritesBytes};
 ghost use Rattle.pass_forms.specs.computed.V1Reading.{reading_v1};
 ghost use Rattle.pass_forms.specs.computed.V2Reading.{reading_v2};
 ghost use Rattle.pass_forms.specs.Writing.{
@@ -18,7 +17,7 @@ ghost use Rattle.pass_forms.specs.Writing.{
   v1_bytes,
   v2_bytes,
 };
-ghost use Rattle.pass_forms.specs.computed.Writing.{writing_v1, writing_v2};
+ghost use Rattle.pass_forms.specs.computed.Writing.{writing_of, writing_v1, writing_v2};
 
 use crate::v1::Packets;
 use crate::v2::Sections;
@@ -86,9 +85,11 @@ pub fn write_v2(alloc: Global, pass: &Pass) -> Result<String, FormFault>
 
 // The text of a pass in this layout, or the first fault that applies.
 fn write_in<L: PutLayout>(alloc: Global, pass: &Pass) -> Result<String, FormFault>
-    ensures ok { IfOk result
-        (λ text. WritesBytes (L.bytes_of pass.now) pass.now (string_bytes text)) }
-    ensures err { IfErr result (RefusesBytes (L.bytes_of pass.now) pass.now) }
+    ensures written { MatchResult result
+        (λ text. writing_of (L.bytes_of pass.now) pass.now ≡ Ok (string_bytes text))
+        (FailsAs (writing_of (L.bytes_of pass.now) pass.now)) }
+    ensures real { IsOk (writing_of (L.bytes_of pass.now) pass.now)
+        → IsBytes (L.bytes_of pass.now) × (length pass.now.signature ≡ 32) }
 {
     if pass.caveats().len() > MAX_CAVEATS {
         return Err(FormFault::TooMany);

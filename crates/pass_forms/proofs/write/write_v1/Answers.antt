@@ -7,5 +7,5 @@ use Rattle.pass_forms.proofs.write.write_v1.Goals as goal
 pub returns : goal.returns
 unfolding writing_v1
 returns c =
-    let h = keeps_promises v1_form c.args.pass.now _ string_bytes c.write_in.result c.write_in.ensures.ok c.write_in.ensures.err in
-    record { ok = h.ok; err = h.err; read_back = h.read_back; computed = h.computed }
+    let h = keeps_promises v1_form c.args.pass.now _ string_bytes c.write_in.result c.write_in.ensures.written c.write_in.ensures.real in
+    record { ok = h.ok; err = h.err; read_back = h.read_back; computed = c.write_in.ensures.written }
