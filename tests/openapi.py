@@ -20,6 +20,7 @@ import yaml
 import desk
 import kinds
 from conftest import Reply
+from reference.wire import compact
 
 DOCS = desk.ROOT / "docs"
 SCHEMA = Path("/usr/share/openapi-specification/schemas/v3.0/schema.json")
@@ -35,10 +36,6 @@ def found(part):
 
 def obeys(value, schema):
     jsonschema.Draft4Validator(schema, resolver=RESOLVER, format_checker=jsonschema.FormatChecker()).validate(value)
-
-
-def compact(value):
-    return json.dumps(value, separators=(",", ":"))
 
 
 def media_of(part):
@@ -74,7 +71,7 @@ def example_of(row, reply):
     assert set(reply.fields) == set(described)
     assert all(reply.fields[name] in values for name, values in described.items())
     obeys(reply.value, media_of(response)["schema"])
-    name = next((name for name, it in examples_of(response).items() if compact(it["value"]) == reply.body), None)
+    name = next((name for name, it in examples_of(response).items() if compact(it["value"]) == reply.body.encode()), None)
     if reply.status != 200 and reply.value.get("caveat", 1) == 1:
         assert name == f"fault-{reply.value['fault']}"
     return operation, reply.status, name
@@ -97,7 +94,7 @@ def test_requests_obey_their_description():
 
 def test_examples_of_a_body_are_sent():
     for example in examples_of(next(item["put"]["requestBody"] for _, item in ITEMS if "put" in item)).values():
-        assert compact(example["value"]) in {row.body for row in kinds.ROWS}
+        assert compact(example["value"]).decode() in {row.body for row in kinds.ROWS}
 
 
 @pytest.mark.parametrize("scene", kinds.SCENES)

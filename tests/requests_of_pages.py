@@ -12,6 +12,7 @@ import os
 import re
 import shutil
 import subprocess
+from collections import Counter
 
 import pytest
 
@@ -25,45 +26,33 @@ UNDER = re.compile(r"Under `([^`]+)` at (\S+) \|.*")
 ASKED = re.compile(r"`(\S+) (\S+)(?: -d ([^`]+))?` \| (\d+) `([^`]+)` \|")
 
 
-class Page:
-    """A page that is played in a folder: its club, and the copy that a section's requests meet."""
-
-    def __init__(self, clubdesk, play, folder):
-        self.clubdesk, self.play, self.asked, self.refused = clubdesk, play, 0, 0
-        self.place = self.made = folder / "made"
-        self.made.mkdir()
-        (folder / "bin").mkdir()
-        for name in ("clubdesk", "passtool"):
-            (folder / "bin" / name).symlink_to(desk.program(name))
-        self.variables = {**os.environ, "PATH": f"{folder / 'bin'}:{os.environ['PATH']}"}
-
-    def block(self, text):
-        """Runs the commands of a console block, where it has no server of its own."""
-        for command in [] if "clubdesk serve" in text else re.findall(r"^\$ (.*)", text, re.MULTILINE):
-            subprocess.run(["sh", "-c", command], cwd=self.place, check=True, stdin=subprocess.DEVNULL, env=self.variables)
-
-    def section(self, _heading):
-        self.place = self.made
-
-    def under(self, head):
-        name, moment = UNDER.fullmatch(head).groups()
-        if self.place == self.made:
-            self.place = self.made.with_name("copy")
-            shutil.rmtree(self.place, ignore_errors=True)
-            shutil.copytree(self.made, self.place)
-        self.row = Row(passed=(self.place / name).read_text().strip(), moment=moment)
-
-    def ask(self, line):
-        method, path, body, status, reply = ASKED.fullmatch(line).groups()
-        row = self.row.but(method=method, path=path, body=body, wanted=wire.bytes_with(int(status), reply.encode()))
-        self.play(Club(self.clubdesk, self.place / "club"), [row])
-        self.asked += 1
-        self.refused += status != "200"
-
-
 @pytest.mark.parametrize("name", ["HANDING_ON.md", "CLIENT.md"])
 def test_page(clubdesk, play, tmp_path, name):
-    page = Page(clubdesk, play, tmp_path)
+    made, copy, bin_folder = (tmp_path / it for it in ("made", "copy", "bin"))
+    made.mkdir()
+    bin_folder.mkdir()
+    for program in ("clubdesk", "passtool"):
+        (bin_folder / program).symlink_to(desk.program(program))
+    variables = {**os.environ, "PATH": f"{bin_folder}:{os.environ['PATH']}"}
+    place, asked = made, Counter()
     for part in PART.finditer((desk.ROOT / "docs" / name).read_text(encoding="utf-8")):
-        {"block": page.block, "section": page.section, "under": page.under, "asked": page.ask}[part.lastgroup](part[part.lastgroup])
-    assert page.asked > page.refused > 0
+        text = part[part.lastgroup]
+        match part.lastgroup:
+            case "block":
+                for command in [] if "clubdesk serve" in text else re.findall(r"^\$ (.*)", text, re.MULTILINE):
+                    subprocess.run(["sh", "-c", command], cwd=place, check=True, stdin=subprocess.DEVNULL, env=variables)
+            case "section":
+                place = made
+            case "under":
+                key, moment = UNDER.fullmatch(text).groups()
+                if place == made:
+                    place = copy
+                    shutil.rmtree(copy, ignore_errors=True)
+                    shutil.copytree(made, copy)
+                row = Row(passed=(place / key).read_text().strip(), moment=moment)
+            case "asked":
+                method, path, body, status, reply = ASKED.fullmatch(text).groups()
+                wanted = wire.bytes_with(int(status), reply.encode())
+                play(Club(clubdesk, place / "club"), [row.but(method=method, path=path, body=body, wanted=wanted)])
+                asked[status == "200"] += 1
+    assert asked[True] and asked[False]
