@@ -67,10 +67,7 @@ class Browser:
         return answers
 
     def press(self, *keys):
-        chain = ActionChains(self.driver)
-        for key in keys:
-            chain.send_keys(key)
-        chain.perform()
+        ActionChains(self.driver).send_keys(*keys).perform()
 
     def click(self, name):
         self.driver.find_element("id", name).click()

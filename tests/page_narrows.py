@@ -546,51 +546,49 @@ SENTENCES = {
     "actions = view,cancel,account": "Only to look at slots, cancel bookings or look at the account.",
     "shoe = red": "This one isn't understood: the desk refuses this pass.",
 }
-# Fields that make a line; None: the page says what it wants, and adds nothing.
+# Lines that fields make, also those that somebody spells in another way.
 CHOSEN = [
-    ({"kind": ["boat"]}, "kind = boat"), ({"facility": "court-1"}, "facility = court-1"),
-    ({"facility": " court-1 , court-2;room-1 "}, "facility = court-1,court-2,room-1"), ({"facility": "Court-1"}, None), ({"facility": "court 1 -"}, None),
-    ({"facility": "a b c d e f g h i"}, None), ({"facility": "é"}, None), ({"actions": ["view"]}, "actions = view"),
-    ({"actions": ["account", "view", "book"]}, "actions = view,book,account"), ({"actions": ACTIONS}, "actions = view,book,cancel,account"),
-    ({"days-first": "2026-05-01", "days-last": "2026-05-31"}, "days = 2026-05-01..2026-05-31"),
-    ({"days-first": "2026-05-01", "days-last": "2026-05-01"}, "days = 2026-05-01..2026-05-01"), ({"days-first": "2026-05-01"}, None),
-    ({"days-last": "2026-05-01"}, None), ({"days-first": "2026-05-02", "days-last": "2026-05-01"}, None),
-    ({"days-first": "1999-12-31", "days-last": "2026-05-01"}, None), ({"days-first": "2026-05-01", "days-last": "2100-01-01"}, None),
-    ({"weekday": ["sun", "sat"]}, "weekday = sat,sun"), ({"weekday": WEEKDAYS}, "weekday = mon,tue,wed,thu,fri,sat,sun"),
-    ({"hours-from": "18", "hours-to": "20"}, "hours = 18-20"), ({"hours-from": "00", "hours-to": "24"}, "hours = 00-24"), ({"hours-from": "18"}, None),
-    ({"hours-to": "18"}, None), ({"hours-from": "20", "hours-to": "18"}, None), ({"hours-from": "18", "hours-to": "18"}, None),
-    ({"until": "2026-05-01T18:00"}, "until < 2026-05-01T18:00"), ({"until": "1999-12-31T23:59"}, None), ({"until": "2026-05-01T18:00:30"}, None),
-    ({"guests": "0"}, "guests <= 0"), ({"guests": " 49 "}, "guests <= 49"), ({"guests": "50"}, None), ({"guests": "-1"}, None), ({"guests": "two"}, None),
-    ({"guests": "01"}, None), ({"guests": "1.5"}, None), ({"spend": "600"}, "spend <= 600"), ({"spend": "999999999"}, "spend <= 999999999"),
-    ({"spend": "1000000000"}, None), ({"spend": "1,000"}, None), ({"spend": "1e3"}, None), ({"spend": "-5"}, None),
+    ("facility = court-1,court-2,room-1", [("facility", " court-1 , court-2;room-1 ")]), ("actions = view,book,account", [("actions", ["account", "view", "book"])]),
+    ("weekday = sat,sun", [("weekday", ["sun", "sat"])]), ("guests <= 49", [("guests", " 49 ")]), *((line, fields_of(line)) for line in (
+        "kind = boat", "facility = court-1", "actions = view", "actions = view,book,cancel,account", "days = 2026-05-01..2026-05-31",
+        "days = 2026-05-01..2026-05-01", "weekday = mon,tue,wed,thu,fri,sat,sun", "hours = 18-20", "hours = 00-24", "until < 2026-05-01T18:00",
+        "guests <= 0", "spend <= 600", "spend <= 999999999")),
 ]
+# Of these the page says what it wants, and adds nothing.
+WRONG = {
+    "facility": ["Court-1", "court 1 -", "a b c d e f g h i", "é"], "until": ["1999-12-31T23:59", "2026-05-01T18:00:30"],
+    "guests": ["50", "-1", "two", "01", "1.5"], "spend": ["1000000000", "1,000", "1e3", "-5"], "days-first": ["2026-05-01"], "days-last": ["2026-05-01"],
+    "days-first days-last": ["2026-05-02 2026-05-01", "1999-12-31 2026-05-01", "2026-05-01 2100-01-01"], "hours-from": ["18"], "hours-to": ["18"],
+    "hours-from hours-to": ["20 18", "18 18"],
+}
 
 
 def choices_say_what_they_add(page):
     for line, sentence in SENTENCES.items():
         limits = page.each("read", [amys("v2", line)])[0]["limits"]
         check(limits[0]["words"] == sentence and limits[0]["text"] == line, "a sentence", line, sentence, limits)
-    for fields, line in CHOSEN:
-        name = re.sub("-.*", "", [*fields][0])
-        answer = page.each("narrow", [(AMY, list(fields.items()))])[0]
-        made, wrong, marked = page.run("return shownOf(arguments[0])", name)
-        if line is None:
-            check("A choice isn't right yet" in answer.get("fault", ""), "a wrong choice", fields, answer)
-            check(wrong and marked and not made, "a wrong choice and its words", fields, made, wrong, marked)
-            # It is taken back as soon as the field is empty again.
-            page.run("for (const name of arguments[0]) choose(name, '');", [*fields])
-            _, wrong, marked = page.run("return shownOf(arguments[0])", name)
-            check(not wrong and not marked, "an emptied choice", fields, wrong)
-            continue
+    for line, fields in CHOSEN:
+        answer = page.each("narrow", [(AMY, fields)])[0]
+        made, wrong, marked = page.run("return shownOf(arguments[0])", line.split()[0])
         check(not wrong and not marked and made.split("\n")[-1] == line, "what a choice says", fields, made, wrong)
         sentence = page.run("return sentenceOf(bytesOf(arguments[0]))", line)
         check(made.split("\n")[0] == sentence, "the sentence of a choice", fields, made)
         check(answer.get("text") == narrowed_by_tool(AMY, [line]), "what a choice adds", fields, answer)
+    for names, value in ((names.split(), it) for names, its in WRONG.items() for it in its):
+        fields, choice = list(zip(names, value.split() if names[1:] else [value])), names[0].partition("-")[0]
+        answer = page.each("narrow", [(AMY, fields)])[0]
+        made, wrong, marked = page.run("return shownOf(arguments[0])", choice)
+        check("A choice isn't right yet" in answer.get("fault", ""), "a wrong choice", fields, answer)
+        check(wrong and marked and not made, "a wrong choice and its words", fields, made, wrong, marked)
+        # It is taken back as soon as the field is empty again.
+        page.run("for (const name of arguments[0]) choose(name, '');", names)
+        _, wrong, marked = page.run("return shownOf(arguments[0])", choice)
+        check(not wrong and not marked, "an emptied choice", fields, wrong)
     nothing = page.each("narrow", [(AMY, [])])[0]
     check(nothing.get("fault") == "Choose at least one limit.", "no choice", nothing)
     nothing = page.each("narrow", [("", [("guests", "1")])])[0]
     check("First there must be a pass" in nothing.get("fault", ""), "no pass", nothing)
-    print(f"{len(SENTENCES)} sentences, and {len(CHOSEN)} choices that say and add their lines, or what they want")
+    print(f"{len(SENTENCES)} sentences, and {len(CHOSEN) + sum(map(len, WRONG.values()))} choices that say and add their lines, or what they want")
 
 
 def half_a_date_is_no_date(page):
