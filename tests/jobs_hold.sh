@@ -13,20 +13,7 @@ deploy=$(CDPATH='' cd -P -- "$here/../deploy" && pwd)
 CLUBDESK=$desk
 SENDMAIL=$work/mailer
 export CLUBDESK SENDMAIL
-checks=0
-
-fail() {
-    echo "$1" >&2
-    exit 1
-}
-
-# same WHAT WANTED FOUND
-same() {
-    checks=$((checks + 1))
-    [ "$2" = "$3" ] || fail "$1: wanted and found
-$2
-$3"
-}
+. "$here/checks.sh"
 
 # ends WHAT STATUS COMMAND..: the command's status; what it prints is in `told` and `said`.
 ends() {

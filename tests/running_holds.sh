@@ -84,9 +84,8 @@ sed "s,/var/lib/clubdesk/club,$PWD/state/club," "$top/deploy/club.conf" >club.co
 unit=units/clubdesk@.service
 exposure=
 for file in units/*; do
-    SYSTEMD_UNIT_PATH=$PWD/units: systemd-analyze verify --man=no "$(echo "$file" | sed 's/@/@club/')" >said 2>&1 || fail "$file: $(cat said)"
-    [ ! -s said ] || fail "$file: $(cat said)"
-    checks=$((checks + 1))
+    holds "$file" env SYSTEMD_UNIT_PATH="$PWD/units:" systemd-analyze verify --man=no "$(echo "$file" | sed 's/@/@club/')"
+    same "what is said of $file" '' "$(cat told)"
     case $file in *report@* | *.timer) continue ;; esac
     found=$(systemd-analyze security --offline=yes --no-pager "$file" | sed -n 's/.*exposure level for [^:]*: \([0-9.]*\).*/\1/p')
     awk -v found="$found" 'BEGIN { exit !(found != "" && found < 1.5) }' || fail "the exposure of $file is $found"
@@ -127,7 +126,7 @@ client=$!
 copies=0
 while [ ! -e answered.all ] && [ "$copies" -lt 500 ]; do
     copies=$((copies + 1))
-    "$top/deploy/back_up" club "copy.$copies" >told 2>said || fail "copy $copies: $(cat said)"
+    holds "copy $copies" "$top/deploy/back_up" club "copy.$copies"
     [ ! -e "copy.$copies-wal" ] || fail "copy $copies has a log"
     # The bookings are the first ones, all but the last of them cancelled, and the totals are their sums.
     sqlite3 "copy.$copies" "SELECT count(*) = coalesce(max(number), 0), sum(cancelled = 0) > 1 FROM bookings;
@@ -140,7 +139,6 @@ done
 wait "$client" || { kill -0 "$server" || echo 'the server is gone' >&2; cat fault >&2; exit 1; }
 [ "$(grep -c '"refund":1}' answered)" = 900 ] || fail "$(grep -vc '"refund":1}\|"charge":1,' answered) requests were refused"
 [ "$(sort -un counts | wc -l)" -ge 3 ] || fail "the copies were made at one time: $(xargs <counts)"
-checks=$((checks + copies))
 same 'a sheet meanwhile' 'Day sheet 2026-05-01' "$("$desk" sheet club 2026-05-01 2>&1 | head -n 1)"
 rm copy.*
 
