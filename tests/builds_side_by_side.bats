@@ -96,10 +96,8 @@ proved_behind() { clone/bin/proved top "$@" >out 2>said 3>&- & }
 # stopped SIGNAL: ends each rt, and leaves no rooms and no program that counts as built.
 stopped() {
     edit low
-    # In a shell of its own, since a background command ignores INT.
-    TAKES=1 /usr/bin/python3 -c "import os, signal, sys
-signal.signal(signal.SIGINT, signal.SIG_DFL)
-os.execv('clone/bin/proved', ['proved', 'top'])" >out 2>said 3>&- &
+    # A background command ignores INT.
+    TAKES=1 env --default-signal=INT clone/bin/proved top >out 2>said 3>&- &
     wait_for 'begin low'
     kill -s "$1" "$!"
     status=0; wait "$!" || status=$?
