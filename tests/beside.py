@@ -213,16 +213,14 @@ def show(title, found):
         print(f"{title:>28} {kind:8}{times}  {ratios}", flush=True)
 
 
-def show_ratio(title, found, most):
-    print(f"{title:>60} {found:6.2f}  at most {most}", flush=True)
-
-
 def show_ratios(size, found, big, new):
     """The ratios that are asked for, over the last file."""
-    show_ratio(f"booking under a slack limit, {BIG_ROWS} own over none", ratio(big["booking"][OURS], new["booking"][OURS]), 1.2)
+    rows = [(f"booking under a slack limit, {BIG_ROWS} own over none", big["booking"][OURS], new["booking"][OURS], 1.2)]
     if "c" in found["repeat"]:
-        show_ratio("repeat, clubdesk over C", ratio(found["repeat"][OURS], found["repeat"]["c"]), 1.0)
-        show_ratio(f"booking at {size}, clubdesk over C", ratio(found["booking"][OURS], found["booking"]["c"]), 1.35)
+        rows.append(("repeat, clubdesk over C", found["repeat"][OURS], found["repeat"]["c"], 1.0))
+        rows.append((f"booking at {size}, clubdesk over C", found["booking"][OURS], found["booking"]["c"], 1.35))
+    for title, times, others, most in rows:
+        print(f"{title:>60} {ratio(times, others):6.2f}  at most {most}", flush=True)
 
 
 def calls(clubdesk, requests):
