@@ -231,10 +231,8 @@ static bool read_request(char *bytes, struct request *it) {
     it->pass = field + 24;
     it->pass_len = strcspn(it->pass, "\r");
     it->number = it->guests = 0;
-    if (!strcmp(path, "/account")) {
-        it->action = ACCOUNT;
-        return true;
-    }
+    it->action = ACCOUNT;
+    if (!strcmp(path, "/account")) return true;
     int found = sscanf(path, "/slots/%24[a-z0-9-]/%4d-%2d-%2d/%2d/bookings/%9d",
         it->facility, &year, &month, &date, &it->hour, &it->number);
     if (found < 5) return refuse(2, 0), false;
@@ -331,17 +329,14 @@ static int first_fault(const struct pass *pass, const struct request *request, c
         int limit, year, month, date, hour, minute;
         if (pass->caveats[n].len > 256) return -(n + 1);
         snprintf(text, sizeof text, "%.*s", (int)pass->caveats[n].len, pass->caveats[n].at);
-        if (sscanf(text, "guests <= %d", &limit) == 1) {
-            if (request->guests > limit) return n + 1;
-        } else if (sscanf(text, "until < %d-%d-%dT%d:%d", &year, &month, &date, &hour, &minute) == 5) {
-            if (moment >= day_number(year, month, date) * DAY + hour * 60 + minute) return n + 1;
-        } else if (sscanf(text, "spend <= %d", &limit) == 1) {
-            if (owed && has_spent_above(row, limit - owed)) return n + 1;
-        } else if (!strncmp(text, "actions = ", 10)) {
-            if (!strstr(text + 10, actions[request->action])) return n + 1;
-        } else {
-            return -(n + 1);
-        }
+        bool denies;
+        if (sscanf(text, "guests <= %d", &limit) == 1) denies = request->guests > limit;
+        else if (sscanf(text, "until < %d-%d-%dT%d:%d", &year, &month, &date, &hour, &minute) == 5)
+            denies = moment >= day_number(year, month, date) * DAY + hour * 60 + minute;
+        else if (sscanf(text, "spend <= %d", &limit) == 1) denies = owed && has_spent_above(row, limit - owed);
+        else if (!strncmp(text, "actions = ", 10)) denies = !strstr(text + 10, actions[request->action]);
+        else return -(n + 1);
+        if (denies) return n + 1;
     }
     return 0;
 }
