@@ -180,12 +180,8 @@ by_both GET account "$pass"
 wait "$slow" || :
 
 # ---- The limit: 200 at once pass, and then there is a sentence. Another second, and requests pass again.
-seq 300 >numbers
-awk 'FILENAME == ".curlrc" { common = common $0 "\n"; next }
-    FNR > 1 { print "next" }
-    { printf "%surl = https://desk.example.org/account\noutput = got.%d\nwrite-out = \"%%{http_code}\\n\"\n", common, $1 }' .curlrc numbers >asked
 sleep 2
-curl --no-progress-meter -Z --parallel-max 20 -K asked >statuses || :
+curl --no-progress-meter -Z --parallel-max 20 -o 'got.#1' -w '%{http_code}\n' "$site/account#[1-300]" >statuses || :
 limited=$(grep -c '^429' statuses || :)
 passed=$(grep -c '^401' statuses || :)
 { [ "$passed" -ge 200 ] && [ "$limited" -ge 20 ] && [ $((passed + limited)) = 300 ]; } || fail "of 300 at once $passed passed and $limited were limited"
