@@ -13,11 +13,11 @@ are. Each narrowed pass is signed under its root. Not part of the gate.
 import os
 import random
 import subprocess
-import sys
 import tempfile
 from collections import Counter
 
 import desk
+from both import expect
 
 TOOL, EXAMPLES = desk.program("passtool"), desk.ROOT / "examples"
 ROOM = tempfile.TemporaryDirectory()
@@ -67,9 +67,7 @@ class Pass:
     def narrow(self, texts, form):
         """Narrows it by passtool."""
         self.narrowed = {form: line_of([TOOL, "narrow", "--any", "--", *texts], text) for form, text in self.texts.items()}
-        signed = line_of([TOOL, "verify", "--root", self.root], self.narrowed[form])
-        if signed != "signed":
-            sys.exit(f"passtool: {self.narrowed[form]} is {signed}")
+        expect(self.narrowed[form], line_of([TOOL, "verify", "--root", self.root], self.narrowed[form]), "signed")
 
     def suits(self, program, form):
         return program != PYMACAROONS or form != "v1" or (self.identifier + self.location).isascii()
@@ -77,8 +75,7 @@ class Pass:
     def compare(self, program, form, got):
         if form == "json" or (program == PYMACAROONS and form == "v2" and self.location == ""):
             got = line_of([TOOL, "convert", "--form", form], got)
-        if self.narrowed[form] != got:
-            sys.exit(f"{program}, {form}: passtool has\n{self.narrowed[form]}\nand {program}\n{got}")
+        expect(f"{program}, {form}", got, self.narrowed[form])
 
 
 def main():

@@ -33,7 +33,7 @@ PLANTS = {
     "man_pages": ("man/clubdesk.1", ".It Cm revoke-key Ar FILE KEY", ".It Cm revoke-key Ar FILE", "revoke-key KEY"),
     "memory_after_commit": ("tests/refused_memory.c", 'tell("send");', 'seen++; tell("send");', "allocations after the commit"),
     "modules_hold": ("web/src/dates.mjs", '"mon", "tue"', '"tue", "mon"', "not ok"),
-    "narrowing_elsewhere": ("examples/narrow.mjs", "signature = await hmac(signature, data)", "await hmac(signature, data)", "Node.js, v2: passtool has"),
+    "narrowing_elsewhere": ("examples/narrow.mjs", "signature = await hmac(signature, data)", "await hmac(signature, data)", "'Node.js, v2'"),
     "office_beside_desk": ("clubdesk", BY_HAND, '[ "$1" != close-slot ] || { echo done; exit; }; exec "$PROGRAM" "$@"', "closed no"),
     "office_door": ("clubdesk", BY_HAND, '[ "$1" != credit ] || "$PROGRAM" "$@"; exec "$PROGRAM" "$@"', "test_fifty_at_once"),
     "office_holds": ("deploy/office", "SET credited = credited - ?", "SET credited = credited + ?", "wanted"),
