@@ -475,7 +475,7 @@ def main():
     parser.add_argument("--below", metavar="NAME")
     try:
         sys.exit(run(parser.parse_args()))
-    except (Fault, shown.Disagreement) as fault:
+    except (Fault, AssertionError) as fault:
         sys.exit(f"tests/audit.py: {fault}")
 
 

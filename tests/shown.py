@@ -10,12 +10,13 @@ import re
 import sys
 from pathlib import Path
 
+from both import KINDS_OF_VALUES, expect
+from kinds import Row
 from reference import caveats, club as rules, passes, wire
 
 ROOT = Path(__file__).resolve().parent.parent
 REFERENCE = ROOT / "tests" / "reference"
 VECTORS = ROOT / "docs" / "vectors.json"
-FORMS = ("v1", "v2", "json")
 
 # FUNCTION ..: the definitions by their modules, `CRATE.FILE: NAME ..`
 WRITTEN = {
@@ -105,15 +106,6 @@ WRITTEN = {
 }
 
 
-class Disagreement(Exception):
-    """The reference and a vector differ."""
-
-
-def equal(what, found, wanted):
-    if found != wanted:
-        raise Disagreement(f"{what}: {found!r}, not {wanted!r}")
-
-
 # ---- the vectors
 
 
@@ -129,21 +121,21 @@ def pass_of(vector):
 def check_passes(vectors):
     for vector in vectors["passes"]:
         it = pass_of(vector)
-        for form in FORMS:
-            equal(f"{vector['what']} in {form}", passes.read(vector[form].encode()), it)
-            equal(f"the text of {vector['what']} in {form}", passes.text_of(it, form).decode(), vector[form])
+        for form in passes.FORMS:
+            expect(f"{vector['what']} in {form}", passes.read(vector[form].encode()), it)
+            expect(f"the text of {vector['what']} in {form}", passes.text_of(it, form).decode(), vector[form])
         if "root" in vector:
             root = bytes.fromhex(vector["root"])
-            equal(f"{vector['what']}, signed", it.is_signed(root), True)
-            equal(f"{vector['what']}, under another root", it.is_signed(root + b"\x01"), False)
+            expect(f"{vector['what']}, signed", it.is_signed(root), True)
+            expect(f"{vector['what']}, under another root", it.is_signed(root + b"\x01"), False)
             without = passes.minted(root, it.identifier, it.location)
             narrowed = [without.signature.hex()]
             for caveat in it.caveats:
                 without = without.narrowed(caveat)
                 narrowed.append(without.signature.hex())
-            equal(f"signatures of {vector['what']}", narrowed, vector["signatures"])
+            expect(f"signatures of {vector['what']}", narrowed, vector["signatures"])
     for vector in vectors["also read as the third pass"]:
-        equal(vector["what"], passes.read(vector["text"].encode()), pass_of(vectors["passes"][2]))
+        expect(vector["what"], passes.read(vector["text"].encode()), pass_of(vectors["passes"][2]))
 
 
 # A line of passtool's has its own numbers of faults: the words behind them say which of the desk's it is.
@@ -156,17 +148,11 @@ def check_faults(vectors):
             found = passes.read(vector["text"].encode())
         except passes.NoPass as fault:
             found = fault.fault
-        equal(vector["what"], found, FAULTS[vector["fault"].partition(": ")[2]])
+        expect(vector["what"], found, FAULTS[vector["fault"].partition(": ")[2]])
 
 
-def value_of(name, word):
-    """A word of an order as the rules take it: a root, a number, a day, a moment or a name."""
-    if re.fullmatch(r"[0-9a-f]{32,128}", word):
-        return bytes.fromhex(word)
-    moment, day = caveats.moment_of(word), caveats.day_of(word)
-    if word.isdigit():
-        return caveats.hour_of(word) if name == "close-slot" else int(word)
-    return moment if moment is not None else day if day is not None else word
+READERS = {"word": lambda word: int(word) if word.isdigit() else word, "root": bytes.fromhex, "moment": caveats.moment_of, "day": caveats.day_of,
+           "hour": caveats.hour_of}
 
 
 def made_club(commands):
@@ -174,17 +160,11 @@ def made_club(commands):
     made, first = rules.Club(), None
     for command in commands:
         name, _, *words = command.split()[1:]
-        values = [value_of(name, it) for it in words]
+        values = [READERS[kind](word) for kind, word in zip(KINDS_OF_VALUES.get(name, ["word"] * len(words)), words, strict=True)]
         made.order([name, *values])
         if name == "add-key" and first is None:
             first = passes.minted(values[2], b"key:" + values[0].encode())
     return made, first
-
-
-def request_of(asked, text):
-    body = json.dumps({"guests": asked["guests"]}, separators=(",", ":")) if "guests" in asked else ""
-    length = f"Content-Length: {len(body)}\r\n" if body else ""
-    return f"{asked['method']} {asked['path']} HTTP/1.1\r\nAuthorization: Bearer {text}\r\n{length}\r\n{body}".encode()
 
 
 def check_caveats(vectors):
@@ -195,9 +175,10 @@ def check_caveats(vectors):
         text = passes.text_of(amy.narrowed(caveat.encode()), "v2").decode()
         for name, verdict in verdicts.items():
             asked = vectors["asks"][name]
-            reply = wire.exchange(copy.deepcopy(made), request_of(asked, text), caveats.moment_of(asked["at"]))
+            row = Row(asked["method"], asked["path"], f'{{"guests":{asked["guests"]}}}' if "guests" in asked else None, text)
+            reply = wire.exchange(copy.deepcopy(made), row.data, caveats.moment_of(asked["at"]))
             fault = json.loads(reply.partition(b"\r\n\r\n")[2]).get("fault")
-            equal(f"{caveat!r} of {name}", {11: "not understood", 12: "denies"}.get(fault, "allows"), verdict)
+            expect(f"{caveat!r} of {name}", {11: "not understood", 12: "denies"}.get(fault, "allows"), verdict)
 
 
 def check_runs(vectors):
@@ -205,7 +186,7 @@ def check_runs(vectors):
         made, _ = made_club(vectors["club"]["commands"])
         for exchange in run["exchanges"]:
             found = wire.exchange(made, exchange["request"].encode(), caveats.moment_of(exchange["at"])).decode()
-            equal(run["what"], found, exchange["reply"])
+            expect(run["what"], found, exchange["reply"])
 
 
 def check_all():
@@ -280,10 +261,3 @@ def marks():
             for word in words.split():
                 found[(*place.split("."), word)] = mark
     return found
-
-
-def unrun():
-    """Of each function that `WRITTEN` names the lines that no vector runs."""
-    run, functions = lines_run(), lines_of_functions()
-    named = {name for names in WRITTEN for name in names.split()}
-    return {name: sorted({it[3] for it in functions[name] - run}) for name in sorted(named) if functions[name] - run}
