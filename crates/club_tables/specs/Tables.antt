@@ -1,5 +1,5 @@
 -- When a database holds a club, and which club a connection represents (ours).
-use Rattle.std.specs.Prelude.{◌≡◌, ◌⊎◌, ℕ, ℤ, List, [], ◌∷◌, IsTrue}
+use Rattle.std.specs.Prelude.{◌≡◌, ◌⊎◌, ℕ, ℤ, ◌==◌, if◌then◌else◌, List, [], ◌∷◌, IsTrue}
 use Rattle.std.specs.List.{AllZip}
 use Rattle.sqlite_value.specs.declared.value.Value.TheVariants.{Int}
 use Rattle.sqlite_value.specs.Order.{Row}
@@ -43,54 +43,55 @@ pub record Holds {X : Type 0} (values : X → Row) (rows : List Row) (xs : List 
   pub rising : IsTable rows
   pub same : AllZip (λ row x. IsRowOf (values x) row) rows xs
 
--- tables of version 2, with these indexes, hold these rows and no others
-pub record HoldsRowsWith (tables : Schema) (db : Database) (rows : Rows) : Type 0 where
+-- the trees of the tables of a version hold these rows and no others
+pub record HoldsTrees (number : ℕ) (trees : Trees) (rows : Rows) : Type 0 where
+  pub version : Holds version_values (trees desk_tree) (number ∷ [])
+  pub members : Holds member_values (trees members_tree) rows.members
+  pub facilities : Holds facility_values (trees facilities_tree) rows.facilities
+  pub keys : Holds key_values (trees keys_tree) rows.keys
+  pub slots : Holds slot_values (trees slots_tree) rows.slots
+  pub bookings : Holds booking_values (trees bookings_tree) rows.bookings
+  pub olders : Holds older_values (trees olders_tree) rows.olders
+
+-- a database has this schema, and these trees of it hold these rows and no others
+pub record HoldsRowsBy (tables : Schema) (number : ℕ) (trees : Trees) (db : Database) (rows : Rows) : Type 0 where
   pub schema : db.schema ≡ tables
-  pub version : Holds version_values (db.trees desk_tree) (2 ∷ [])
-  pub members : Holds member_values (db.trees members_tree) rows.members
-  pub facilities : Holds facility_values (db.trees facilities_tree) rows.facilities
-  pub keys : Holds key_values (db.trees keys_tree) rows.keys
-  pub slots : Holds slot_values (db.trees slots_tree) rows.slots
-  pub bookings : Holds booking_values (db.trees bookings_tree) rows.bookings
-  pub olders : Holds older_values (db.trees olders_tree) rows.olders
+  pub held : HoldsTrees number trees rows
   -- the catalog lists this schema, and the rows obey it
   pub database : IsDatabase db
+
+-- tables of version 2, with these indexes, hold these rows and no others
+abbrev pub HoldsRowsWith : Schema → Database → Rows → Type 0
+HoldsRowsWith tables db = HoldsRowsBy tables 2 db.trees db
 
 -- the tables of version 2 hold these rows and no others
 abbrev pub HoldsRows : Database → Rows → Type 0
 HoldsRows = HoldsRowsWith club_schema
 
--- the tables hold the rows of the club, which is sound, and no others
-pub record HoldsClub (db : Database) (club : Club) : Type 0 where
-  pub rows : Rows
-  pub holds_rows : HoldsRows db rows
-  pub storage : IsStoredAs club rows
-  pub sound : IsSound club
-
--- the same of tables of version 2 without the index of the bookings
-pub record HoldsClubUnindexed (db : Database) (club : Club) : Type 0 where
-  pub rows : Rows
-  pub holds_rows : HoldsRowsWith unindexed_schema db rows
-  pub storage : IsStoredAs club rows
-  pub sound : IsSound club
+-- no rows for older roots
+abbrev pub without_olders : Trees → Trees
+without_olders trees tree = if tree == olders_tree then [] else trees tree
 
 -- the tables of version 1 hold these rows and no others: they have none for older roots
-pub record HoldsRowsVersion1 (db : Database) (rows : Rows) : Type 0 where
-  pub schema : db.schema ≡ first_schema
-  pub version : Holds version_values (db.trees desk_tree) (1 ∷ [])
-  pub members : Holds member_values (db.trees members_tree) rows.members
-  pub facilities : Holds facility_values (db.trees facilities_tree) rows.facilities
-  pub keys : Holds key_values (db.trees keys_tree) rows.keys
-  pub slots : Holds slot_values (db.trees slots_tree) rows.slots
-  pub bookings : Holds booking_values (db.trees bookings_tree) rows.bookings
-  pub olders : rows.olders ≡ []
-  pub database : IsDatabase db
+abbrev pub HoldsRowsVersion1 : Database → Rows → Type 0
+HoldsRowsVersion1 db = HoldsRowsBy first_schema 1 (without_olders db.trees) db
 
-pub record HoldsClubVersion1 (db : Database) (club : Club) : Type 0 where
+-- tables of a form hold the rows of the club, which is sound, and no others
+pub record HoldsClubBy (HoldThem : Database → Rows → Type 0) (db : Database) (club : Club) : Type 0 where
   pub rows : Rows
-  pub holds_rows : HoldsRowsVersion1 db rows
+  pub holds_rows : HoldThem db rows
   pub storage : IsStoredAs club rows
   pub sound : IsSound club
+
+abbrev pub HoldsClub : Database → Club → Type 0
+HoldsClub = HoldsClubBy HoldsRows
+
+-- the same of tables of version 2 without the index of the bookings, and of those of version 1
+abbrev pub HoldsClubUnindexed : Database → Club → Type 0
+HoldsClubUnindexed = HoldsClubBy (HoldsRowsWith unindexed_schema)
+
+abbrev pub HoldsClubVersion1 : Database → Club → Type 0
+HoldsClubVersion1 = HoldsClubBy HoldsRowsVersion1
 
 -- a database without tables holds the empty club
 abbrev pub IsBlank : Database → Club → Type 0

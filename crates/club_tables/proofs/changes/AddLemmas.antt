@@ -47,10 +47,9 @@ member_put old new rows holds_rows member count ran =
     let put = inserts old new club_schema holds_rows.schema ADD_MEMBER.now member_means.plain 1 member_table member_terms 5 (Text member.name ∷ whole member.credited
     ∷ whole member.quota ∷ []) (member_values (new_row member)) refl member_means.is refl refl refl
     (rw (cast_null, cast_int (pos member.credited), cast_int (pos member.quota), cast_int (pos 0))) (λ row. refl) count ran in (
-      on_members old.now new.now rows holds_rows put.0 put.3 put.2 (rows.members ++ (new_row member) ∷ [])
-          (subst (λ rs. Holds member_values rs (rows.members ++ (new_row member) ∷ [])) (sym put.1)
-          (holds_more member_values _ rows.members (new_row member) holds_rows.members)),
-      put.4,
+      on_members holds_rows put.0
+          (subst (λ rs. Holds member_values rs (rows.members ++ new_row member ∷ [])) (sym put.1) (holds_more member_values _ rows.members (new_row member) holds_rows.held.members)),
+      put.2,
     )
 
 -- ---- facilities
@@ -73,10 +72,9 @@ facility_put old new rows holds_rows facility count ran =
     (facility_values facility) refl facility_means.is refl refl refl
     (rw (cast_null, cast_int (pos facility.places), cast_int (pos facility.price), cast_int (pos facility.opens), cast_int (pos facility.shuts))) (λ row.
     refl) count ran in (
-      on_facilities old.now new.now rows holds_rows put.0 put.3 put.2 (rows.facilities ++ facility ∷ [])
-          (subst (λ rs. Holds facility_values rs (rows.facilities ++ facility ∷ [])) (sym put.1)
-          (holds_more facility_values _ rows.facilities facility holds_rows.facilities)),
-      put.4,
+      on_facilities holds_rows put.0
+          (subst (λ rs. Holds facility_values rs (rows.facilities ++ facility ∷ [])) (sym put.1) (holds_more facility_values _ rows.facilities facility holds_rows.held.facilities)),
+      put.2,
     )
 
 -- ---- keys
@@ -97,9 +95,9 @@ key_put old new rows holds_rows key count ran =
     let put = inserts old new club_schema holds_rows.schema ADD_KEY.now key_means.plain 3 key_table key_terms 5 (key_values key)
     (key_values key) refl key_means.is refl refl refl
     (rw (cast_null, cast_int (pos (truth key.revoked)))) (λ row. refl) count ran in (
-      on_keys old.now new.now rows holds_rows put.0 put.3 put.2 (rows.keys ++ key ∷ [])
-          (subst (λ rs. Holds key_values rs (rows.keys ++ key ∷ [])) (sym put.1) (holds_more key_values _ rows.keys key holds_rows.keys)),
-      put.4,
+      on_keys holds_rows put.0
+          (subst (λ rs. Holds key_values rs (rows.keys ++ key ∷ [])) (sym put.1) (holds_more key_values _ rows.keys key holds_rows.held.keys)),
+      put.2,
     )
 
 -- ---- bookings
@@ -132,8 +130,7 @@ booking_put old new rows holds_rows booking count ran =
       cast_int (pos booking.refund),
     )) (λ row.
     refl) count ran in (
-      on_bookings old.now new.now rows holds_rows put.0 put.3 put.2 (rows.bookings ++ booking ∷ [])
-          (subst (λ rs. Holds booking_values rs (rows.bookings ++ booking ∷ [])) (sym put.1)
-          (holds_more booking_values _ rows.bookings booking holds_rows.bookings)),
-      put.4,
+      on_bookings holds_rows put.0
+          (subst (λ rs. Holds booking_values rs (rows.bookings ++ booking ∷ [])) (sym put.1) (holds_more booking_values _ rows.bookings booking holds_rows.held.bookings)),
+      put.2,
     )

@@ -1,8 +1,7 @@
 -- What the statement that cancels a booking makes of the tables.
-use Rattle.std.proofs.Common.{◌≡◌, ◌≢◌, ℕ, ◌≤◌, pos, ℤ, Ok, Some, Bool, true, false, ◌&&◌, ◌||◌, ◌==◌, cond, List, [], ◌∷◌, ◌++◌, length, map}
+use Rattle.std.proofs.Common.{◌≡◌, ℕ, ◌≤◌, pos, ℤ, Ok, Some, Bool, true, false, ◌&&◌, ◌||◌, ◌==◌, cond, List, [], ◌∷◌, ◌++◌, length, map}
 use Rattle.std.proofs.Common.{refl, sym, ap, subst, ◌∙◌, arith}
 use Rattle.std.specs.Prelude.{filter, find, AllPairs}
-use Rattle.std.specs.List.{AllByRecursion, AllZip}
 use Rattle.std.specs.Cmp.{unsigned_Decides}
 use Rattle.std.proofs.lemmas.Slice.Eq.{bytes_eq-Decides}
 use Rattle.std.proofs.lemmas.Bool.{and_parts}
@@ -17,10 +16,6 @@ use Rattle.sqlite.specs.Order.{Row}
 use Rattle.sqlite.specs.Table.{Table}
 use Rattle.sqlite.specs.Term.{Term, lit, col, op2}
 use Rattle.sqlite.specs.Query.{inner, end}
-use Rattle.sqlite.specs.Rowids.TheVariants.{Given}
-use Rattle.sqlite.specs.Edit.{edit_of, edited}
-use Rattle.sqlite_rules.specs.Calls.{ids_of}
-use Rattle.sqlite.specs.Effect.{IsDatabase, Answers}
 use Rattle.sqlite.specs.Command.TheVariants.{Update}
 use Rattle.sqlite.specs.Listing.{understood}
 use Rattle.sqlite.specs.State.{State, Executes}
@@ -34,15 +29,14 @@ use Rattle.club_tables.specs.Schema.{bookings_table, club_schema}
 use Rattle.club_tables.specs.Columns.{whole, flag, booking_values}
 use Rattle.club_tables.specs.Statements.{select, is_given}
 use Rattle.club_tables.specs.Stored.{Rows}
-use Rattle.club_tables.specs.Tables.{HoldsRows, Holds, bookings_tree}
+use Rattle.club_tables.specs.Tables.{HoldsRows, bookings_tree}
 use Rattle.club_tables.proofs.statements.HoldsRowsLemmas.{on_bookings}
 use Rattle.club_tables.proofs.statements.InsertLemmas.{cast_int}
-use Rattle.club_tables.proofs.statements.PassLemmas.{contains_counts, rows_found}
-use Rattle.club_tables.proofs.statements.PassLemmas.{Implies, each_row, some_found, agree, found_by_both, zip_agree}
-use Rattle.club_tables.proofs.statements.SelectLemmas.{text_equal, whole_equal, apart_from_pairs, one_passes, test, shows, answered}
-use Rattle.club_tables.proofs.statements.UpdateLemmas.{updates}
-use Rattle.club_tables.proofs.statements.ReplaceLemmas.{replaced_where}
-use Rattle.club_tables.proofs.changes.ChangeLemmas.{nothing_more, or_true, or_false}
+use Rattle.club_tables.proofs.statements.PassLemmas.{contains_counts}
+use Rattle.club_tables.proofs.statements.PassLemmas.{Implies, agree, found_by_both}
+use Rattle.club_tables.proofs.statements.SelectLemmas.{text_equal, whole_equal, apart_from_pairs, one_passes, test, shows}
+use Rattle.club_tables.proofs.statements.UpdateLemmas.{updates, Finds, finds, passes_one, writes_one, changes_one, each_of}
+use Rattle.club_tables.proofs.changes.ChangeLemmas.{or_true, or_false}
 use Rattle.club_tables.proofs.lists.FindLemmas.{found}
 
 abbrev booking_table : Table
@@ -129,19 +123,9 @@ module _ (old new : State) (rows : Rows) (holds_rows : HoldsRows old.now rows) (
   abbrev is_as_given : Booking → Bool
   is_as_given b = hit (Int (pos 0) ∷ booking_values b)
 
-  cancel_put : (rs : List Row) × Answers (record { schema = club_schema; trees = old.now.trees }) (record {
-    lets = [];
-    body =
-        select (inner bookings_tree end) cancel_tests cancel_terms;
-  }) params rs × (new.now.schema ≡ club_schema)
-      × (new.now.trees bookings_tree ≡ edited old.now.trees (edit_of old.now.trees booking_table (ids_of rs) Given 1 rs))
-      × AllByRecursion (λ (t : Table). t.tree ≢ bookings_tree → new.now.trees t.tree ≡ old.now.trees t.tree) club_schema.tables × IsDatabase new.now
-      × (count ≡ length rs)
-  cancel_put = updates old new holds_rows.schema CANCEL_BOOKING.now cancel_means.plain 5 booking_table
-      (select (inner bookings_tree end) cancel_tests cancel_terms) params refl cancel_means.is count ran
-
-  hits : AllZip (λ row x. hit row ≡ is_as_given x) (old.now.trees bookings_tree) rows.bookings
-  hits = each_row booking_values hit is_as_given (λ id b. refl) (old.now.trees bookings_tree) rows.bookings holds_rows.bookings.same
+  cancel_finds : Finds booking_values is_as_given rows.bookings (shows params cancel_tests cancel_terms) old new booking_table count
+  cancel_finds = finds booking_values is_as_given rows.bookings (updates cancel_means booking_table refl holds_rows.schema ran) holds_rows.held.bookings
+      (λ id b. refl)
 
   text_same : (a b : List ℕ) → is_true (binary (Compare Eq Binary) (Text a) (Text b)) ≡ true → a ≡ b
   text_same a b h = (bytes_eq-Decides a b).0 (sym (text_equal a b) ∙ h)
@@ -210,16 +194,11 @@ module _ (old new : State) (rows : Rows) (holds_rows : HoldsRows old.now rows) (
         number booking.refund,
         none,
       ) refl in
-      let some = rows_found hit (shows params cancel_tests cancel_terms) is_as_given (old.now.trees bookings_tree) cancel_put.0 rows.bookings hits
-      (answered params cancel_tests cancel_terms bookings_tree (record { schema = club_schema; trees = old.now.trees }) cancel_put.0 cancel_put.1)
-      (contains_counts is_as_given rows.bookings booking it.0 passes) in
-      omega (arith, some, cancel_put.6)
+      writes_one cancel_finds (contains_counts is_as_given rows.bookings booking it.0 passes)
 
   module _ (some : 1 ≤ count) where
     passing : (b : Booking) × (find is_as_given rows.bookings ≡ Some b)
-    passing = some_found hit (shows params cancel_tests cancel_terms) is_as_given (old.now.trees bookings_tree) cancel_put.0 rows.bookings hits
-        (answered params cancel_tests cancel_terms bookings_tree (record { schema = club_schema; trees = old.now.trees }) cancel_put.0 cancel_put.1)
-        (omega (arith, some, cancel_put.6))
+    passing = passes_one cancel_finds some
 
     -- the booking is on record as it was given
     pub cancel_found : (booking_under booking.key booking.number rows.bookings ≡ Some booking) × (booking.cancelled ≡ false)
@@ -237,13 +216,12 @@ module _ (old new : State) (rows : Rows) (holds_rows : HoldsRows old.now rows) (
         let p : Booking → Bool = is_marked booking.key booking.number in
         let change = cancelled_booking booking.key booking.number refund in
         let as_marked : Booking → Bool → Booking = λ b c. record b { cancelled = b.cancelled || c; refund = cond c refund b.refund } in
-        let same : (b : Booking) → p b ≡ false → change b ≡ b = λ b fails.
-        ap (as_marked b) fails ∙ ap (λ c. let k : Booking = record b { cancelled = c } in k) (or_false b.cancelled) in
         let shown : ℤ → Booking → Value → Value → Row = λ id b v w. Int id ∷ Int id ∷ Text b.key ∷ whole b.number ∷ Text b.slot.facility ∷ whole b.slot.day
         ∷ whole b.slot.hour ∷ whole b.guests ∷ whole b.charge ∷ whole b.left ∷ v ∷ w ∷ [] in
-        let both = agree is_as_given p marked rows.bookings passing.0 (one_marked booking.key booking.number rows.bookings unique) passing.1 in
-        let bookings = replaced_where booking_values p change same params cancel_tests cancel_terms booking_table
-        (record { schema = club_schema; trees = old.now.trees }) rows.bookings cancel_put.0 (λ _. Unit {0}) (nothing_more rows.bookings)
+        let low = one_marked booking.key booking.number rows.bookings unique in
+        let bookings = changes_one cancel_finds p (agree is_as_given p marked rows.bookings passing.0 low passing.1) change (λ b fails.
+        ap (as_marked b) fails ∙ ap (λ c. let k : Booking = record b { cancelled = c } in k) (or_false b.cancelled))
+        (λ _. Unit {0}) (each_of _ (λ b. tt) rows.bookings)
         (λ id b _ passes.
         ap (λ v. shown id b v (whole refund)) (sym (ap (λ c. flag (b.cancelled || c)) passes ∙ ap flag (or_true b.cancelled)))
         ∙ ap (λ w. shown id b (flag (change b).cancelled) w) (sym (ap (λ c. whole (cond c refund b.refund)) passes)))
@@ -257,8 +235,5 @@ module _ (old new : State) (rows : Rows) (holds_rows : HoldsRows old.now rows) (
           cast_int (pos b.left),
           cast_int (pos (truth b.cancelled)),
           cast_int (pos b.refund),
-        ))
-        (zip_agree hit is_as_given p (old.now.trees bookings_tree) rows.bookings hits both)
-        holds_rows.bookings (one_marked booking.key booking.number rows.bookings unique) cancel_put.1 in
-        on_bookings old.now new.now rows holds_rows cancel_put.2 cancel_put.5 cancel_put.4 (map change rows.bookings)
-        (subst (λ rs. Holds booking_values rs (map change rows.bookings)) (sym cancel_put.3) bookings)
+        )) low in
+        on_bookings holds_rows cancel_finds.wrote bookings

@@ -1,7 +1,7 @@
 -- What the statements that change a row of a member make of the tables.
 use Rattle.std.proofs.Common.{◌≡◌, ◌+◌, ◌≤◌, ℕ, ℤ, pos, Ok, Some, Bool, true, false, ◌&&◌, ◌||◌, cond, if◌then◌else◌, List, [], ◌∷◌, length, map, ◌≢◌}
-use Rattle.std.proofs.Common.{refl, sym, ap, subst, ◌∙◌, arith}
-use Rattle.std.specs.Prelude.{filter, find, AllPairs, IsPermutation}
+use Rattle.std.proofs.Common.{refl, sym, ap, ◌∙◌}
+use Rattle.std.specs.Prelude.{filter, find, AllPairs}
 use Rattle.std.specs.List.{AllByRecursion, AllZip, list_all}
 use Rattle.std.specs.Str.{bytes_eq}
 use Rattle.std.proofs.lemmas.Bool.{and_parts}
@@ -18,10 +18,6 @@ use Rattle.sqlite.specs.Table.{Table}
 use Rattle.sqlite.specs.Order.{Row}
 use Rattle.sqlite.specs.Term.{Term, col, op2, holds}
 use Rattle.sqlite.specs.Query.{Query, inner, end, counted}
-use Rattle.sqlite.specs.Rowids.TheVariants.{Given}
-use Rattle.sqlite.specs.Edit.{edit_of, edited}
-use Rattle.sqlite_rules.specs.Calls.{ids_of}
-use Rattle.sqlite.specs.Effect.{IsDatabase, Answers}
 use Rattle.sqlite.specs.Command.TheVariants.{Update}
 use Rattle.sqlite.specs.Listing.{understood}
 use Rattle.sqlite.specs.State.{State, Executes}
@@ -35,22 +31,17 @@ use Rattle.club_tables.specs.ChangeStatements.{used_values}
 use Rattle.club_tables.specs.Columns.{whole, member_values, key_values}
 use Rattle.club_tables.specs.Statements.{select, is_given}
 use Rattle.club_tables.specs.Stored.{Rows}
-use Rattle.club_tables.specs.Tables.{HoldsRows, Holds, members_tree, keys_tree}
+use Rattle.club_tables.specs.Tables.{HoldsRows, members_tree, keys_tree}
 use Rattle.club_tables.proofs.statements.InsertLemmas.{cast_int}
 use Rattle.club_tables.proofs.queries.KeyLemmas.{and_true, one_named}
 use Rattle.club_tables.proofs.statements.HoldsRowsLemmas.{on_members}
 use Rattle.club_tables.proofs.statements.CountedLemmas.{is_counted, some_counted, counted_some, passes, shown, count_in, with_count, answered_counted}
 use Rattle.club_tables.proofs.statements.CountedLemmas.{counts_elements}
-use Rattle.club_tables.proofs.statements.PassLemmas.{contains_counts, found_counts, rows_found, updated_rows}
-use Rattle.club_tables.proofs.statements.PassLemmas.{each_row, find_some, some_found, updated_found, agree, found_by_both, zip_agree}
-use Rattle.club_tables.proofs.statements.SelectLemmas.{text_equal}
-use Rattle.club_tables.proofs.statements.UpdateLemmas.{updates}
-use Rattle.club_tables.proofs.statements.ReplaceLemmas.{replaced, replaced_by}
+use Rattle.club_tables.proofs.statements.PassLemmas.{contains_counts, found_counts}
+use Rattle.club_tables.proofs.statements.PassLemmas.{each_row, find_some, agree, found_by_both}
+use Rattle.club_tables.proofs.statements.SelectLemmas.{text_equal, shows}
+use Rattle.club_tables.proofs.statements.UpdateLemmas.{Updates, updates, Finds, finds, passes_one, writes_one, changes_one, each_of}
 use Rattle.club_tables.proofs.lists.FindLemmas.{found}
-
-pub nothing_more : {X : Type 0} (xs : List X) → AllByRecursion (λ _. Unit {0}) xs
-nothing_more [] = tt
-nothing_more (x ∷ xs) = (tt, nothing_more xs)
 
 pub or_true : (b : Bool) → (b || true) ≡ true
 or_true true = refl
@@ -124,54 +115,33 @@ Credits name points row = bytes_eq row.member.name name ≡ true → binary (Ari
 abbrev pub Uses : List ℕ → ℤ → (ℕ → ℕ) → MemberRow → Type 0
 Uses name points next row = bytes_eq row.member.name name ≡ true → binary (Arith Add) (whole row.used) (Int points) ≡ whole (next row.used)
 
--- the member is there
-pub credit_found : (old new : State) (rows : Rows) → HoldsRows old.now rows → (name : List ℕ) (points : ℕ) (count : ℕ) → 1 ≤ count
-    → Executes ADD_CREDIT.now (Text name ∷ whole points ∷ []) old new (Ok count)
-    → (row : MemberRow) × (find (λ (row : MemberRow). bytes_eq (name_of row) name) rows.members ≡ Some row)
-credit_found old new rows holds_rows name points count some ran =
-    let params = Text name ∷ whole points ∷ [] in
-    let put = updates old new holds_rows.schema ADD_CREDIT.now credit_means.plain 1 member_table
-    (select (inner members_tree end) (is_given 1 0 ∷ []) credit_terms) params refl credit_means.is count ran in
-    updated_found member_values (λ (row : MemberRow). bytes_eq (name_of row) name) params (is_given 1 0 ∷ []) credit_terms (λ id row. and_true _
-    ∙ text_equal row.member.name name) members_tree (record { schema = club_schema; trees = old.now.trees }) rows.members put.0 holds_rows.members put.1
-    (omega (arith, some, put.6))
+module _ (old new : State) (rows : Rows) (holds_rows : HoldsRows old.now rows) (name : List ℕ) (points count : ℕ)
+    (ran : Executes ADD_CREDIT.now (Text name ∷ whole points ∷ []) old new (Ok count)) where
+  abbrev is_named : MemberRow → Bool
+  is_named row = bytes_eq (name_of row) name
 
--- where the member is there, its row is updated
-pub credit_some : (old new : State) (rows : Rows) → HoldsRows old.now rows → (name : List ℕ) (points : ℕ) (row : MemberRow)
-    → find (λ (row : MemberRow). bytes_eq (name_of row) name) rows.members ≡ Some row → (count : ℕ)
-    → Executes ADD_CREDIT.now (Text name ∷ whole points ∷ []) old new (Ok count) → 1 ≤ count
-credit_some old new rows holds_rows name points row stores count ran =
-    let params = Text name ∷ whole points ∷ [] in
-    let is_named : MemberRow → Bool = λ row. bytes_eq (name_of row) name in
-    let put = updates old new holds_rows.schema ADD_CREDIT.now credit_means.plain 1 member_table
-    (select (inner members_tree end) (is_given 1 0 ∷ []) credit_terms) params refl credit_means.is count ran in
-    let some = updated_rows member_values is_named params (is_given 1 0 ∷ []) credit_terms (λ id row. and_true _
-    ∙ text_equal row.member.name name) members_tree (record { schema = club_schema; trees = old.now.trees }) rows.members put.0 holds_rows.members put.1
-    (found_counts is_named rows.members row stores) in
-    omega (arith, some, put.6)
+  credit_finds : Finds member_values is_named rows.members (shows (Text name ∷ whole points ∷ []) (is_given 1 0 ∷ []) credit_terms) old new member_table count
+  credit_finds = finds member_values is_named rows.members (updates credit_means member_table refl holds_rows.schema ran) holds_rows.held.members
+      (λ id row. and_true _ ∙ text_equal row.member.name name)
 
-pub member_credited : (old new : State) (rows : Rows) → HoldsRows old.now rows → AreNamedOnce rows.members → (name : List ℕ) (points : ℕ)
-    → AllByRecursion (Credits name points) rows.members
-    → (count : ℕ) → Executes ADD_CREDIT.now (Text name ∷ whole points ∷ []) old new (Ok count)
-    → HoldsRows new.now (record rows { members = map (credited_row name points) rows.members })
-member_credited old new rows holds_rows unique name points sums count ran =
-    let params = Text name ∷ whole points ∷ [] in
-    let p : MemberRow → Bool = λ row. bytes_eq row.member.name name in
-    let change = credited_row name points in
-    let put = updates old new holds_rows.schema ADD_CREDIT.now credit_means.plain 1 member_table
-    (select (inner members_tree end) (is_given 1 0 ∷ []) credit_terms) params
-    refl credit_means.is count ran in
-    let same : (row : MemberRow) → p row ≡ false → change row ≡ row = λ row fails.
-    ap (λ b. let m : MemberRow = record row { member = record row.member { credited = cond b (row.member.credited + points) row.member.credited } } in
-    m) fails in
-    let members = replaced member_values p change same params (is_given 1 0 ∷ []) credit_terms (λ id row. and_true _
-    ∙ text_equal row.member.name name) member_table
-    (record { schema = club_schema; trees = old.now.trees }) rows.members put.0 (Credits name points) sums
-    (λ id row sum passes. ap (λ v. Int id ∷ Int id ∷ Text row.member.name ∷ v ∷ whole row.member.quota ∷ whole row.used ∷ [])
-    (sum passes ∙ ap (λ b. whole (cond b (row.member.credited + points) row.member.credited)) (sym passes)))
-    casts_member holds_rows.members (one_named name_of name rows.members unique) put.1 in
-    on_members old.now new.now rows holds_rows put.2 put.5 put.4 (map change rows.members)
-    (subst (λ rs. Holds member_values rs (map change rows.members)) (sym put.3) members)
+  -- the member is there
+  pub credit_found : 1 ≤ count → (row : MemberRow) × (find is_named rows.members ≡ Some row)
+  credit_found some = passes_one credit_finds some
+
+  -- where the member is there, its row is updated
+  pub credit_some : (row : MemberRow) → find is_named rows.members ≡ Some row → 1 ≤ count
+  credit_some row stores = writes_one credit_finds (found_counts is_named rows.members row stores)
+
+  pub member_credited : AreNamedOnce rows.members → AllByRecursion (Credits name points) rows.members
+      → HoldsRows new.now (record rows { members = map (credited_row name points) rows.members })
+  member_credited unique sums =
+      let members = changes_one credit_finds is_named (each_of _ (λ row. refl) rows.members) (credited_row name points) (λ row fails.
+      ap (λ b. let m : MemberRow = record row { member = record row.member { credited = cond b (row.member.credited + points) row.member.credited } } in
+      m) fails)
+      (Credits name points) sums (λ id row sum passes. ap (λ v. Int id ∷ Int id ∷ Text row.member.name ∷ v ∷ whole row.member.quota ∷ whole row.used ∷ [])
+      (sum passes ∙ ap (λ b. whole (cond b (row.member.credited + points) row.member.credited)) (sym passes)))
+      casts_member (one_named name_of name rows.members unique) in
+      on_members holds_rows credit_finds.wrote members
 
 module _ (old new : State) (rows : Rows) (holds_rows : HoldsRows old.now rows) (name : List ℕ) (points : ℤ) (key : List ℕ) (count : ℕ)
     (ran : Executes ADD_USED.now (used_values name points key) old new (Ok count)) where
@@ -196,16 +166,12 @@ module _ (old new : State) (rows : Rows) (holds_rows : HoldsRows old.now rows) (
   abbrev used_hit : Row → Bool
   used_hit = passes used_params owner_tests used_tests used_terms others
 
-  used_put : (rs : List Row) × Answers (record { schema = club_schema; trees = old.now.trees }) (record { lets = []; body = used_query }) used_params rs
-      × (new.now.schema ≡ club_schema)
-      × (new.now.trees members_tree ≡ edited old.now.trees (edit_of old.now.trees member_table (ids_of rs) Given 1 rs))
-      × AllByRecursion (λ (t : Table). t.tree ≢ members_tree → new.now.trees t.tree ≡ old.now.trees t.tree) club_schema.tables × IsDatabase new.now
-      × (count ≡ length rs)
-  used_put = updates old new holds_rows.schema ADD_USED.now used_means.plain 1 member_table used_query used_params refl used_means.is count ran
+  used_put : Updates old new member_table used_query used_params count
+  used_put = updates used_means member_table refl holds_rows.schema ran
 
   used_count : (row : Row) → count_in used_params owner_tests used_tests used_terms others row ≡ length (filter owns rows.keys)
   used_count = counts_elements used_params owner_tests used_tests used_terms key_values owns
-      (λ id row k. both_tests _ _ _ _ (text_equal k.name key) (text_equal k.member name)) others rows.keys holds_rows.keys
+      (λ id row k. both_tests _ _ _ _ (text_equal k.name key) (text_equal k.member name)) others rows.keys holds_rows.held.keys
 
   used_hits : AllZip (λ row x. used_hit row ≡ is_owner x) (old.now.trees members_tree) rows.members
   used_hits = each_row member_values used_hit is_owner (λ id row.
@@ -213,11 +179,20 @@ module _ (old new : State) (rows : Rows) (holds_rows : HoldsRows old.now rows) (
       let counted_so : used_hit as_row ≡ list_all (holds (with_count used_params owner_tests used_tests used_terms (length (filter owns rows.keys)) as_row))
       used_tests =
       ap (λ n. list_all (holds (with_count used_params owner_tests used_tests used_terms n as_row)) used_tests) (used_count as_row) in
-      counted_so ∙ both_tests _ _ _ _ (text_equal row.member.name name) refl) (old.now.trees members_tree) rows.members holds_rows.members.same
+      counted_so ∙ both_tests _ _ _ _ (text_equal row.member.name name) refl) (old.now.trees members_tree) rows.members holds_rows.held.members.same
 
-  used_answer : IsPermutation (map (shown used_params owner_tests used_tests used_terms others) (filter used_hit (old.now.trees members_tree))) used_put.0
-  used_answer = answered_counted used_params owner_tests used_tests used_terms members_tree keys_tree
-      (record { schema = club_schema; trees = old.now.trees }) used_put.0 used_put.1
+  used_finds : Finds member_values is_owner rows.members (shown used_params owner_tests used_tests used_terms others) old new member_table count
+  used_finds = record {
+    rows = used_put.rows;
+    hit = used_hit;
+    held = holds_rows.held.members;
+    hits = used_hits;
+    answer = answered_counted used_params owner_tests used_tests used_terms members_tree keys_tree (record { schema = club_schema; trees = old.now.trees })
+        used_put.rows used_put.answers;
+    wrote = used_put.wrote;
+    left = used_put.left;
+    counted = used_put.counted;
+  }
 
   -- where the key is the member's, the member's row is updated
   pub used_some : (k : Key) → StoresKey key rows.keys k → k.member ≡ name → (row : MemberRow) → find is_member rows.members ≡ Some row → 1 ≤ count
@@ -228,14 +203,11 @@ module _ (old new : State) (rows : Rows) (holds_rows : HoldsRows old.now rows) (
       let owned = counted_some (filter owns rows.keys) (contains_counts owns rows.keys k it.0 passes) in
       let one = found is_member rows.members row stored in
       let is_hit : is_owner row ≡ true = ap (λ b. is_member row && b) owned ∙ and_true (is_member row) ∙ one.1 in
-      let some = rows_found used_hit (shown used_params owner_tests used_tests used_terms others) is_owner (old.now.trees members_tree) used_put.0
-      rows.members used_hits used_answer (contains_counts is_owner rows.members row one.0 is_hit) in
-      omega (arith, some, used_put.6)
+      writes_one used_finds (contains_counts is_owner rows.members row one.0 is_hit)
 
   module _ (some : 1 ≤ count) where
     used_passes : (row : MemberRow) × (find is_owner rows.members ≡ Some row)
-    used_passes = some_found used_hit (shown used_params owner_tests used_tests used_terms others) is_owner (old.now.trees members_tree) used_put.0 rows.members
-        used_hits used_answer (omega (arith, some, used_put.6))
+    used_passes = passes_one used_finds some
 
     owned : is_owned ≡ true
     owned = (and_parts (is_member used_passes.0) is_owned (found is_owner rows.members used_passes.0 used_passes.1).1).1
@@ -251,23 +223,13 @@ module _ (old new : State) (rows : Rows) (holds_rows : HoldsRows old.now rows) (
           (bytes_eq-Decides one.0.member name).0 (and_parts (is_key one.0) (bytes_eq one.0.member name) (found owns rows.keys one.0 one.1).1).1,
         )
 
-    -- any member passes that has this name
-    all_agree : (ms : List MemberRow) → AllByRecursion (λ (row : MemberRow). is_owner row ≡ is_member row) ms
-    all_agree [] = tt
-    all_agree (row ∷ ms) = (ap (λ b. is_member row && b) owned ∙ and_true (is_member row), all_agree ms)
-
     pub member_used : AreNamedOnce rows.members → (next : ℕ → ℕ) → AllByRecursion (Uses name points next) rows.members
         → HoldsRows new.now (record rows { members = map (used_row name next) rows.members })
     member_used unique next sums =
-        let change = used_row name next in
-        let same : (row : MemberRow) → is_member row ≡ false → change row ≡ row = λ row fails.
-        ap (λ b. let m : MemberRow = record row { used = cond b (next row.used) row.used } in m) fails in
-        let members = replaced_by member_values is_member change same used_hit (shown used_params owner_tests used_tests used_terms others) member_table
-        (record { schema = club_schema; trees = old.now.trees }) rows.members used_put.0 (Uses name points next) sums
+        let members = changes_one used_finds is_member (each_of _ (λ row. ap (λ b. is_member row && b) owned ∙ and_true (is_member row)) rows.members)
+        (used_row name next) (λ row fails. ap (λ b. let m : MemberRow = record row { used = cond b (next row.used) row.used } in m) fails)
+        (Uses name points next) sums
         (λ id row sum passes. ap (λ v. Int id ∷ Int id ∷ Text row.member.name ∷ whole row.member.credited ∷ whole row.member.quota ∷ v ∷ [])
         (sum passes ∙ ap (λ b. whole (cond b (next row.used) row.used)) (sym passes)))
-        casts_member
-        (zip_agree used_hit is_owner is_member (old.now.trees members_tree) rows.members used_hits (all_agree rows.members)) holds_rows.members
-        (one_named name_of name rows.members unique) used_answer in
-        on_members old.now new.now rows holds_rows used_put.2 used_put.5 used_put.4 (map change rows.members)
-        (subst (λ rs. Holds member_values rs (map change rows.members)) (sym used_put.3) members)
+        casts_member (one_named name_of name rows.members unique) in
+        on_members holds_rows used_finds.wrote members

@@ -113,8 +113,8 @@ module _ {S : Type 0} (g : Ghosts S) (old new : Held S) (fault : StoreFault) (cl
   pub revoke_less : (name : List ℕ) → FitsClub (MarkRevoked name) club → Less (revoking name)
   revoke_less name fits = one_less g _ start new fault (λ mid opened count ran.
       let tables = tables_if opened in
-      revoke_some (state g start) (state g mid) tables.rows tables.holds_rows name fits.carries.0
-      (stored_key tables name fits.carries.0 fits.carries.1) count ran)
+      revoke_some (state g start) (state g mid) tables.rows tables.holds_rows name count ran fits.carries.0
+      (stored_key tables name fits.carries.0 fits.carries.1))
 
   stored_member : (tables : HoldsClub (state g old).now club) (name : List ℕ) (member : Member) → member_named name club ≡ Some member
       → find (λ (row : MemberRow). bytes_eq (name_of row) name) tables.rows.members ≡ Some (member_row club member)
@@ -126,7 +126,7 @@ module _ {S : Type 0} (g : Ghosts S) (old new : Held S) (fault : StoreFault) (cl
   pub credit_less : (name : List ℕ) (points : ℕ) → FitsClub (AddCredit name points) club → Less (adding_credit name points)
   credit_less name points fits = one_less g _ start new fault (λ mid opened count ran.
       let tables = tables_if opened in
-      credit_some (state g start) (state g mid) tables.rows tables.holds_rows name points _ (stored_member tables name fits.carries.0 fits.carries.1) count ran)
+      credit_some (state g start) (state g mid) tables.rows tables.holds_rows name points count ran _ (stored_member tables name fits.carries.0 fits.carries.1))
 
   pub rotate_less : (name root was : List ℕ) (until : ℕ) → FitsClub (ReplaceRoot name was root until) club
       → Less (replacing_root name root (good_until until was))

@@ -82,8 +82,8 @@ module _ {S : Type 0} (g : Ghosts S) (old : Held S) (db : Database) (club : Club
       let sums = subst (AllByRecursion (Credits name points)) (sym tables.storage.members) (credits_of club name points club.members within) in
       held_by g old db _ t.mid t.left (record {
         rows = _;
-        holds_rows = member_credited (state g (transaction_start old)) (state g t.mid) tables.rows tables.holds_rows
-            (named_once club tables.rows.members tables.storage.members tables.sound) name points sums t.count t.ran;
+        holds_rows = member_credited (state g (transaction_start old)) (state g t.mid) tables.rows tables.holds_rows name points t.count t.ran
+            (named_once club tables.rows.members tables.storage.members tables.sound) sums;
         storage = credit_stored club tables.rows tables.storage name points;
         sound = fits.sound;
       })
@@ -94,8 +94,8 @@ module _ {S : Type 0} (g : Ghosts S) (old : Held S) (db : Database) (club : Club
       let t = one_turn g old db _ ran in
       held_by g old db _ t.mid t.left (record {
         rows = _;
-        holds_rows = key_revoked (state g (transaction_start old)) (state g t.mid) tables.rows tables.holds_rows (keys_once g old db club tables) name
-            t.count t.ran;
+        holds_rows = key_revoked (state g (transaction_start old)) (state g t.mid) tables.rows tables.holds_rows name t.count t.ran
+            (keys_once g old db club tables);
         storage = revoke_stored club tables.rows tables.storage name;
         sound = fits.sound;
       })

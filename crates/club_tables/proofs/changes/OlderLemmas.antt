@@ -3,7 +3,6 @@ use Rattle.std.proofs.Common.{◌≡◌, ◌≢◌, ◌≤◌, ℕ, ℤ, pos, Bo
 use Rattle.std.proofs.Common.{sym}
 use Rattle.std.proofs.Common.{ap, ◌∙◌}
 use Rattle.std.specs.Prelude.{AllPairs, option_map}
-use Rattle.std.specs.List.{AllByRecursion}
 use Rattle.std.specs.Str.{bytes_eq}
 use Rattle.std.proofs.lemmas.Slice.Eq.{bytes_eq-Decides}
 use Rattle.sqlite_tied.specs.Compute.{everything}
@@ -31,6 +30,7 @@ use Rattle.club_tables.proofs.changes.ChangeLemmas.{or_false}
 use Rattle.club_tables.proofs.statements.InsertLemmas.{cast_null, cast_int}
 use Rattle.club_tables.proofs.queries.KeyLemmas.{and_true}
 use Rattle.club_tables.proofs.statements.HoldsRowsLemmas.{on_olders}
+use Rattle.club_tables.proofs.statements.UpdateLemmas.{each_of}
 use Rattle.club_tables.proofs.statements.PutLemmas.{first_clause, sets_by, row_put}
 use Rattle.club_tables.proofs.lists.KeyedRows.{lone, by_put, put_once as once_put}
 use Rattle.club_tables.proofs.lists.PutRows.{put_among}
@@ -109,10 +109,6 @@ module _ (key : List ℕ) (older : OlderRoot) where
   casts : (id : ℤ) (row : OlderRow) → cast_row older_table (Int id ∷ older_values row) ≡ Int id ∷ older_values row
   casts id row = rw (cast_int id, cast_int (pos row.older.until)) refl
 
-  yields_each : (P : OlderRow → Type 0) → ((x : OlderRow) → P x) → (rows : List OlderRow) → AllByRecursion P rows
-  yields_each P h [] = tt
-  yields_each P h (x ∷ rows) = (h x, yields_each P h rows)
-
 pub older_represents : (old new : State) (rows : Rows) → HoldsRows old.now rows → AllPairs (λ (a : OlderRow) (b : OlderRow). a.key ≢ b.key) rows.olders
     → (key : List ℕ) (older : OlderRoot) (count : ℕ)
     → Executes PUT_OLDER_ROOT.now (Text key ∷ older_root_values older) old new (Ok count)
@@ -124,8 +120,8 @@ older_represents old new rows holds_rows once key older count executed =
     put_plain put_target put_update old new holds_rows.schema params params refl
     (rw (cast_null, cast_int (pos older.until)) refl) (λ id. rw (cast_int id, cast_int (pos older.until)) refl)
     older_values (is_of key older) (renewed key older) (unchanged key older) (record { key = key; older = older }) (λ id row.
-    olders_conflict id (next_rowid (old.now.trees olders_tree)) row key older) (casts key older) rows.olders holds_rows.olders
+    olders_conflict id (next_rowid (old.now.trees olders_tree)) row key older) (casts key older) rows.olders holds_rows.held.olders
     (lone (λ (row : OlderRow). row.key) bytes_eq same_names itself key rows.olders (apart_from_pairs (λ (a : OlderRow) (b : OlderRow). a.key ≢ b.key) rows.olders once))
-    (λ _. refl) (λ there. refl) (yields_each key older _ (λ x id there passes.
+    (λ _. refl) (λ there. refl) (each_of _ (λ x id there passes.
     ap (λ b. Int id ∷ Int id ∷ Text x.key ∷ older_root_values (if b then older else x.older)) (sym passes)) rows.olders) count executed in
-    (on_olders old.now new.now rows holds_rows put.0 put.3 put.2 (put_older key older rows.olders) put.1, put.4)
+    (on_olders holds_rows put.0 put.1, put.2)

@@ -44,7 +44,7 @@ module _ {S : Type 0} (g : Ghosts S) (old : Held S) (db : Database) (club : Club
   pub credit_true : (name : List ℕ) (points : ℕ) → Ran g 1 (adding_credit name points) old db → IsTrueOf (AddCredit name points) club
   credit_true name points ran =
       let t = one_turn g old db _ ran in
-      let row = credit_found (state g (transaction_start old)) (state g t.mid) tables.rows tables.holds_rows name points t.count t.some t.ran in
+      let row = credit_found (state g (transaction_start old)) (state g t.mid) tables.rows tables.holds_rows name points t.count t.ran t.some in
       let is_of : MemberRow → Bool = λ row. bytes_eq (name_of row) name in
       found_member name (member_named name club) row.0 (sym (find_mapped is_of (member_row club) club.members)
       ∙ subst (λ ms. find is_of ms ≡ Some row.0) tables.storage.members row.1)
@@ -52,7 +52,7 @@ module _ {S : Type 0} (g : Ghosts S) (old : Held S) (db : Database) (club : Club
   pub revoke_true : (name : List ℕ) → Ran g 1 (revoking name) old db → IsTrueOf (MarkRevoked name) club
   revoke_true name ran =
       let t = one_turn g old db _ ran in
-      let one = revoke_found (state g (transaction_start old)) (state g t.mid) tables.rows tables.holds_rows name t.count t.some t.ran in
+      let one = revoke_found (state g (transaction_start old)) (state g t.mid) tables.rows tables.holds_rows name t.count t.ran t.some in
       (one.0, subst (λ keys. StoresKey name keys one.0) tables.storage.keys one.1)
 
   pub rotate_true : (name root was : List ℕ) (until : ℕ) → Ran g 1 (replacing_root name root (good_until until was)) old db

@@ -38,6 +38,7 @@ use Rattle.club_tables.proofs.statements.InsertLemmas.{cast_null, cast_int}
 use Rattle.club_tables.proofs.statements.HoldsRowsLemmas.{on_slots}
 use Rattle.club_tables.proofs.statements.SelectLemmas.{apart_from_pairs}
 use Rattle.club_tables.proofs.queries.BookingLemmas.{same_slots}
+use Rattle.club_tables.proofs.statements.UpdateLemmas.{each_of}
 use Rattle.club_tables.proofs.statements.PutLemmas as put
 use Rattle.club_tables.proofs.statements.PutLemmas.{first_clause, row_put}
 use Rattle.club_tables.proofs.lists.KeyedRows.{lone}
@@ -93,9 +94,9 @@ module _ (text : List ℕ) (terms sets : List Term) (at : ℕ) (clause : Upsert)
       slot_values (λ (row : SlotRow). same_slot row.slot slot) (changed slot change) (unchanged slot change) (new_row_of slot change) (λ id x.
       slots_conflict id (next_rowid (old.now.trees slots_tree)) x slot closed taken)
       (λ id x. rw (cast_int id, cast_int (pos x.slot.day), cast_int (pos x.slot.hour), cast_int (pos (truth x.held.closed)), cast_int (pos x.held.taken)) refl)
-      rows.slots holds_rows.slots (lone (λ (row : SlotRow). row.slot) same_slot same_slots same_itself slot rows.slots (apart_from_pairs (λ (a : SlotRow) (b : SlotRow). a.slot ≢ b.slot) rows.slots once))
+      rows.slots holds_rows.held.slots (lone (λ (row : SlotRow). row.slot) same_slot same_slots same_itself slot rows.slots (apart_from_pairs (λ (a : SlotRow) (b : SlotRow). a.slot ≢ b.slot) rows.slots once))
       (λ none. ap (λ vs. name_values slot ++ vs) (values none)) ids (each_yields rows.slots yields) count executed in
-      (on_slots old.now new.now rows holds_rows left.0 left.3 left.2 (put_slot slot change rows.slots) left.1, left.4)
+      (on_slots holds_rows left.0 left.1, left.2)
 
 -- ---- a slot is closed
 
@@ -127,10 +128,6 @@ close_plain = (refl, refl)
 abbrev pub close_use : SlotUse → SlotUse
 close_use held = record held { closed = true }
 
-each_slot : (P : SlotRow → Type 0) → ((x : SlotRow) → P x) → (xs : List SlotRow) → AllByRecursion P xs
-each_slot P h [] = tt
-each_slot P h (x ∷ xs) = (h x, each_slot P h xs)
-
 pub slot_closed : (old new : State) (rows : Rows) → HoldsRows old.now rows → AllPairs (λ (a : SlotRow) (b : SlotRow). a.slot ≢ b.slot) rows.slots
     → (slot : Slot) (count : ℕ)
     → Executes CLOSE_SLOT.now (name_values slot) old new (Ok count) → HoldsRows new.now (record rows { slots = put_slot slot close_use rows.slots }) ×
@@ -139,7 +136,7 @@ slot_closed old new rows holds_rows once slot count executed =
     slot_put CLOSE_SLOT.now close_terms close_sets 3 close_clause close_is close_plain close_target close_update old new rows holds_rows once slot
     (name_values slot)
     (whole 1) (whole 0) refl (cast_int (pos 1)) (cast_int (pos 0))
-    close_use (λ _. refl) (λ there. refl) (each_slot _ (λ x id there same. refl) rows.slots) count executed
+    close_use (λ _. refl) (λ there. refl) (each_of _ (λ x id there same. refl) rows.slots) count executed
 
 -- ---- persons are added to a slot
 

@@ -129,7 +129,7 @@ survives_none a b c p q = survives_then a b c (λ _. ⊥) (λ _. ⊥) (λ _. ⊥
 
 -- the tables hold the club's own keys and bookings
 pub keys_held : (db : Database) (club : Club) → (tables : HoldsClub db club) → Holds key_values (db.trees keys_tree) club.keys
-keys_held db club tables = subst (Holds key_values (db.trees keys_tree)) tables.storage.keys tables.holds_rows.keys
+keys_held db club tables = subst (Holds key_values (db.trees keys_tree)) tables.storage.keys tables.holds_rows.held.keys
 
 pub bookings_held : (db : Database) (club : Club) → (tables : HoldsClub db club) → Holds booking_values (db.trees bookings_tree) club.bookings
-bookings_held db club tables = subst (Holds booking_values (db.trees bookings_tree)) tables.storage.bookings tables.holds_rows.bookings
+bookings_held db club tables = subst (Holds booking_values (db.trees bookings_tree)) tables.storage.bookings tables.holds_rows.held.bookings

@@ -1,5 +1,5 @@
 -- The index of the bookings over tables of version 2 without it.
-use Rattle.std.proofs.Common.{◌≡◌, true≢false, List, [], ◌∷◌, inl, inr, sym, ap, subst, ◌∙◌, arith}
+use Rattle.std.proofs.Common.{◌≡◌, true≢false, List, inl, inr, sym, ap, subst, ◌∙◌, arith}
 use Rattle.std.specs.Prelude.{is_ok}
 use Rattle.sqlite.specs.Store.{Ghosts}
 use Rattle.sqlite.specs.Effect.{Database}
@@ -9,11 +9,11 @@ use Rattle.sqlite.specs.Held.{Held, state}
 use Rattle.club_core.specs.Club.{Club}
 use Rattle.club_tables.specs.declared.texts.TheConstants.{MAKE_BOOKINGS_BY_KEY, DROP_BOOKINGS_BY_KEY}
 use Rattle.club_tables.specs.Schema.{bookings_by_key, unindexed_schema, club_schema}
-use Rattle.club_tables.specs.Columns.{version_values, member_values, facility_values, key_values, slot_values, booking_values, older_values}
 use Rattle.club_tables.specs.Opening.{index_batch}
 use Rattle.club_tables.specs.Stored.{Rows}
-use Rattle.club_tables.specs.Tables.{HoldsClub, HoldsClubUnindexed, HoldsRowsWith, HoldsRows, Holds, Represents, RepresentsVersion2}
+use Rattle.club_tables.specs.Tables.{HoldsClub, HoldsClubUnindexed, HoldsRowsWith, HoldsRows, Represents, RepresentsVersion2}
 use Rattle.club_tables.specs.Transaction.{Ran, IsKept, IsUnderstood, transaction_start}
+use Rattle.club_tables.proofs.statements.HoldsRowsLemmas.{trees_kept}
 use Rattle.club_tables.proofs.statements.InsertLemmas.{indexes}
 use Rattle.club_tables.proofs.opening.MakesLemmas.{makes_bookings_by_key, bookings_made, indexes_again, drops_none}
 use Rattle.club_tables.proofs.crashes.RepresentsLemmas.{keeps_second}
@@ -26,21 +26,8 @@ module _ {S : Type 0} (g : Ghosts S) (old : Held S) (db : Database) (ran : Ran g
       let c1 = indexes (state g (transaction_start old))
       (state g t1.0) unindexed_schema holds_rows.schema MAKE_BOOKINGS_BY_KEY.now makes_bookings_by_key.plain 5 bookings_made
       bookings_by_key makes_bookings_by_key.listed makes_bookings_by_key.is makes_bookings_by_key.whole makes_bookings_by_key.defined t1.1 t1.2 in
-      let kept = c1.1 in
-      let next = (state g t1.0).now in
-      let is : db ≡ next = ran.is ∙ ap (λ h. (state g h).now) t1.3 in
-      let left : HoldsRows next rows = record {
-        schema = c1.0;
-        version = subst (λ rs. Holds version_values rs (2 ∷ [])) (sym kept.0) holds_rows.version;
-        members = subst (λ rs. Holds member_values rs rows.members) (sym kept.1.0) holds_rows.members;
-        facilities = subst (λ rs. Holds facility_values rs rows.facilities) (sym kept.1.1.0) holds_rows.facilities;
-        keys = subst (λ rs. Holds key_values rs rows.keys) (sym kept.1.1.1.0) holds_rows.keys;
-        slots = subst (λ rs. Holds slot_values rs rows.slots) (sym kept.1.1.1.1.0) holds_rows.slots;
-        bookings = subst (λ rs. Holds booking_values rs rows.bookings) (sym kept.1.1.1.1.1.0) holds_rows.bookings;
-        olders = subst (λ rs. Holds older_values rs rows.olders) (sym kept.1.1.1.1.1.1.0) holds_rows.olders;
-        database = c1.2;
-      } in
-      subst (λ (d : Database). HoldsRows d rows) (sym is) left
+      let is : db ≡ (state g t1.0).now = ran.is ∙ ap (λ h. (state g h).now) t1.3 in
+      subst (λ (d : Database). HoldsRows d rows) (sym is) (record { schema = c1.0; held = trees_kept c1.1 holds_rows.held; database = c1.2 })
 
   indexed_tables : (club : Club) → HoldsClubUnindexed (state g old).now club → HoldsClub db club
   indexed_tables club it = record { rows = it.rows; holds_rows = indexed_rows it.rows it.holds_rows; storage = it.storage; sound = it.sound }

@@ -130,19 +130,21 @@ module _ {S : Type 0} (g : Ghosts S) (old : Held S) (db : Database) (ran : Ran g
       let slots : (state g t9.0).now.trees 7 ≡ [] = kept.1.1.1.1.0 ∙ c8.3.1.1.1.1.0 ∙ c7.1.1.1.1.1.0 ∙ c6.3.1.1.1.1.0 ∙ c5.2 in
       let bookings : (state g t9.0).now.trees 9 ≡ [] = kept.1.1.1.1.1.0 ∙ c8.3.1.1.1.1.1.0 ∙ c7.1.1.1.1.1.1.0 ∙ c6.2 in
       let olders : (state g t9.0).now.trees 12 ≡ [] = kept.1.1.1.1.1.1.0 ∙ c8.2 in
-      let others = c10.2 in
+      let others = c10.0.others in
       let is : db ≡ (state g t10.0).now = ran.is ∙ ap (λ h. (state g h).now) t10.3 in
       let before : Holds version_values ((state g t9.0).now.trees 0) [] = holds_none version_values _ desk in
       let holds_rows : HoldsRows (state g t10.0).now no_rows = record {
-        schema = c10.0;
-        version = subst (λ rows. Holds version_values rows (2 ∷ [])) (sym c10.1) (holds_more version_values _ [] 2 before);
-        members = holds_none _ _ (others.1.0 (λ e. omega arith) ∙ members);
-        facilities = holds_none _ _ (others.1.1.0 (λ e. omega arith) ∙ facilities);
-        keys = holds_none _ _ (others.1.1.1.0 (λ e. omega arith) ∙ keys);
-        slots = holds_none _ _ (others.1.1.1.1.0 (λ e. omega arith) ∙ slots);
-        bookings = holds_none _ _ (others.1.1.1.1.1.0 (λ e. omega arith) ∙ bookings);
-        olders = holds_none _ _ (others.1.1.1.1.1.1.0 (λ e. omega arith) ∙ olders);
-        database = c10.3;
+        schema = c10.0.schema;
+        held = record {
+          version = subst (λ rows. Holds version_values rows (2 ∷ [])) (sym c10.1) (holds_more version_values _ [] 2 before);
+          members = holds_none _ _ (others.1.0 (λ e. omega arith) ∙ members);
+          facilities = holds_none _ _ (others.1.1.0 (λ e. omega arith) ∙ facilities);
+          keys = holds_none _ _ (others.1.1.1.0 (λ e. omega arith) ∙ keys);
+          slots = holds_none _ _ (others.1.1.1.1.0 (λ e. omega arith) ∙ slots);
+          bookings = holds_none _ _ (others.1.1.1.1.1.0 (λ e. omega arith) ∙ bookings);
+          olders = holds_none _ _ (others.1.1.1.1.1.1.0 (λ e. omega arith) ∙ olders);
+        };
+        database = c10.0.sound;
       } in
       let held : HoldsClub
       (state g t10.0).now empty_club = record { rows = no_rows; holds_rows = holds_rows; storage = empty_is_stored; sound = empty_is_sound } in

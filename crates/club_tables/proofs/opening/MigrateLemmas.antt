@@ -15,18 +15,16 @@ use Rattle.club_tables.proofs.statements.MeansLemmas.{Means}
 use Rattle.club_core.specs.Club.{Club}
 use Rattle.club_tables.specs.declared.texts.TheConstants.{MAKE_OLD_ROOTS, MAKE_BOOKINGS_BY_KEY, SET_VERSION}
 use Rattle.club_tables.specs.Schema.{desk_table, old_roots_table, bookings_by_key, first_schema, unindexed_schema, club_schema}
-use Rattle.club_tables.specs.Columns.{version_values, member_values, facility_values, key_values, slot_values, booking_values}
+use Rattle.club_tables.specs.Columns.{version_values}
 use Rattle.club_tables.specs.Opening.{migration}
 use Rattle.club_tables.specs.Statements.{select}
 use Rattle.club_tables.specs.Stored.{Rows}
-use Rattle.club_tables.specs.Tables.{HoldsClub, HoldsClubVersion1, HoldsRowsVersion1, HoldsRows, Holds, RepresentsVersion1, desk_tree}
+use Rattle.club_tables.specs.Tables.{HoldsClub, HoldsClubVersion1, HoldsRowsVersion1, HoldsRows, HoldsTrees, RepresentsVersion1, desk_tree}
 use Rattle.club_tables.specs.Transaction.{Ran, transaction_start}
-use Rattle.club_tables.proofs.changes.ChangeLemmas.{nothing_more}
 use Rattle.club_tables.proofs.statements.InsertLemmas.{creates, indexes, cast_int}
 use Rattle.club_tables.proofs.opening.MakesLemmas.{makes_old_roots, makes_bookings_by_key, bookings_made}
-use Rattle.club_tables.proofs.statements.ReplaceLemmas.{replaced}
-use Rattle.club_tables.proofs.lists.RowLemmas.{holds_none}
-use Rattle.club_tables.proofs.statements.UpdateLemmas.{updates}
+use Rattle.club_tables.proofs.statements.HoldsRowsLemmas.{but, others_kept, trees_kept}
+use Rattle.club_tables.proofs.statements.UpdateLemmas.{updates, finds, changes_one}
 
 abbrev version_table : Table
 version_table = record desk_table { tree = desk_tree }
@@ -51,30 +49,25 @@ module _ {S : Type 0} (g : Ghosts S) (old : Held S) (db : Database) (ran : Ran g
       makes_old_roots.whole makes_old_roots.defined makes_old_roots.uncounted t1.1 t1.2 in
       let c2 = indexes (state g t1.0) (state g t2.0) unindexed_schema c1.1 MAKE_BOOKINGS_BY_KEY.now makes_bookings_by_key.plain 5 bookings_made bookings_by_key
       makes_bookings_by_key.listed makes_bookings_by_key.is makes_bookings_by_key.whole makes_bookings_by_key.defined t2.1 t2.2 in
-      let c3 = updates (state g t2.0) (state g t3.0) c2.0 SET_VERSION.now version_means.plain 0 version_table (select (inner desk_tree end) [] version_terms) [] refl
-      version_means.is t3.1 t3.2 in
+      let put = updates version_means version_table refl {old = state g t2.0} {new = state g t3.0} c2.0 t3.2 in
       let next = (state g t3.0).now in
       let kept = c2.1 in
-      let others = c3.4 in
       let is : db ≡ next = ran.is ∙ ap (λ h. (state g h).now) t3.3 in
-      let one : Holds version_values (mid.trees desk_tree) (1 ∷ []) = subst
-      (λ rs. Holds version_values rs (1 ∷ [])) (sym (kept.0 ∙ c1.3.0)) holds_rows.version in
-      let two = replaced version_values (λ _. true) (λ _. 2) (λ n fails. absurd cc) [] [] version_terms (λ id n.
-      refl) version_table (record { schema = club_schema; trees = mid.trees }) (1 ∷ []) c3.0
-      (λ _. Unit {0}) (nothing_more {X = ℕ} (1 ∷ [])) (λ id n _ passes. refl) (λ id n. rw (cast_int id, cast_int (pos n)) refl) one (omega arith) c3.1 in
-      let left : HoldsRows next rows = record {
-        schema = c3.2;
-        version = subst (λ rs. Holds version_values rs (2 ∷ [])) (sym c3.3) two;
-        members = subst (λ rs. Holds member_values rs rows.members) (sym (others.1.0 (λ e. omega arith) ∙ kept.1.0 ∙ c1.3.1.0)) holds_rows.members;
-        facilities = subst
-            (λ rs. Holds facility_values rs rows.facilities) (sym (others.1.1.0 (λ e. omega arith) ∙ kept.1.1.0 ∙ c1.3.1.1.0)) holds_rows.facilities;
-        keys = subst (λ rs. Holds key_values rs rows.keys) (sym (others.1.1.1.0 (λ e. omega arith) ∙ kept.1.1.1.0 ∙ c1.3.1.1.1.0)) holds_rows.keys;
-        slots = subst (λ rs. Holds slot_values rs rows.slots) (sym (others.1.1.1.1.0 (λ e. omega arith) ∙ kept.1.1.1.1.0 ∙ c1.3.1.1.1.1.0)) holds_rows.slots;
-        bookings = subst (λ rs. Holds booking_values rs rows.bookings) (sym (others.1.1.1.1.1.0 (λ e. omega arith) ∙ kept.1.1.1.1.1.0 ∙ c1.3.1.1.1.1.1.0))
-            holds_rows.bookings;
-        olders = subst (Holds _ (next.trees 12)) (sym holds_rows.olders) (holds_none _ _ (others.1.1.1.1.1.1.0 (λ e. omega arith) ∙ kept.1.1.1.1.1.1.0 ∙ c1.2));
-        database = c3.5;
-      } in
+      let was : HoldsTrees 1 mid.trees rows = trees_kept (
+        kept.0 ∙ c1.3.0,
+        (
+          kept.1.0 ∙ c1.3.1.0,
+          (
+            kept.1.1.0 ∙ c1.3.1.1.0,
+            (kept.1.1.1.0 ∙ c1.3.1.1.1.0, (kept.1.1.1.1.0 ∙ c1.3.1.1.1.1.0, (kept.1.1.1.1.1.0 ∙ c1.3.1.1.1.1.1.0, (kept.1.1.1.1.1.1.0 ∙ c1.2, tt)))),
+          ),
+        ),
+      ) holds_rows.held in
+      let found = finds {X = ℕ} version_values (λ _. true) (1 ∷ []) put was.version (λ id n. refl) in
+      let two = changes_one found (λ _. true) (refl, tt) (λ _. 2) (λ n fails. absurd cc) (λ _. Unit {0}) (tt, tt) (λ id n _ passes. refl)
+      (λ id n. rw (cast_int id, cast_int (pos n)) refl) (omega arith) in
+      let k = trees_kept {new = but desk_tree mid.trees next.trees} (others_kept desk_tree mid.trees next.trees club_schema.tables put.wrote.others) was in
+      let left : HoldsRows next rows = record { schema = put.wrote.schema; database = put.wrote.sound; held = record { version = two; members = k.members; facilities = k.facilities; keys = k.keys; slots = k.slots; bookings = k.bookings; olders = k.olders } } in
       subst (λ (d : Database). HoldsRows d rows) (sym is) left
 
   pub migrated_tables : (club : Club) → HoldsClubVersion1 (state g old).now club → HoldsClub db club

@@ -130,17 +130,17 @@ version_returned g old rows clean asked club others found =
       | inl (inl tables) ↦ inl (
         second (inl tables),
         version_row g old rows asked club_schema asks_club (schema ∙ tables.holds_rows.schema) 2
-            (subst (λ (d : Database). Holds version_values (d.trees desk_tree) (2 ∷ [])) (sym now) tables.holds_rows.version),
+            (subst (λ (d : Database). Holds version_values (d.trees desk_tree) (2 ∷ [])) (sym now) tables.holds_rows.held.version),
       )
       | inl (inr unindexed) ↦ inl (
         second (inr unindexed),
         version_row g old rows asked unindexed_schema asks_unindexed (schema ∙ unindexed.holds_rows.schema) 2
-            (subst (λ (d : Database). Holds version_values (d.trees desk_tree) (2 ∷ [])) (sym now) unindexed.holds_rows.version),
+            (subst (λ (d : Database). Holds version_values (d.trees desk_tree) (2 ∷ [])) (sym now) unindexed.holds_rows.held.version),
       )
       | inr (inl first) ↦ inr (
         record { held = λ _ _. first; idle = found.idle; left = found.left },
         version_row g old rows asked first_schema asks_first (schema ∙ first.holds_rows.schema) 1
-            (subst (λ (d : Database). Holds version_values (d.trees desk_tree) (1 ∷ [])) (sym now) first.holds_rows.version),
+            (subst (λ (d : Database). Holds version_values (d.trees desk_tree) (1 ∷ [])) (sym now) first.holds_rows.held.version),
       )
       | inr (inr blank) ↦
           let none : is_ok (understood (state g old).now.schema VERSION.now) ≡ false = ap (λ s. is_ok (understood s VERSION.now)) (schema ∙ blank.0)

@@ -98,7 +98,7 @@ older_shown g old name rows clean asked club others represents =
     let show : OlderRow → Row = λ row. older_root_values row.older in
     let olders = tables.rows.olders in
     let same = asked_shows asked older_asks tables older_values p show (λ id row. and_true _ ∙ text_equal row.key name) (λ id row. refl) olders
-    tables.holds_rows.olders in
+    tables.holds_rows.held.olders in
     first_returned show p olders rows (one_named (λ (row : OlderRow). row.key) name olders tables.storage.olders_once) same
     ∙ shown_again (find p olders) ∙ ap (λ o. map older_root_values (option_to_list o)) (tables.storage.olders name)
 
@@ -113,7 +113,7 @@ member_shown g old name rows clean asked club others represents =
     let tables = asked_tables asked clean club others represents in
     let p : MemberRow → Bool = λ row. bytes_eq row.member.name name in
     let same = asked_shows asked member_asks tables member_values p member_values (λ id row. and_true _ ∙ text_equal row.member.name name) (λ id row. refl)
-    (map (member_row club) club.members) (subst (Holds member_values _) tables.storage.members tables.holds_rows.members) in
+    (map (member_row club) club.members) (subst (Holds member_values _) tables.storage.members tables.holds_rows.held.members) in
     let low = one_named (λ (member : Member). member.name) name club.members tables.sound.unique.members in
     let fewer = filter_mapped p (member_row club) club.members in
     first_returned member_values p (map (member_row club) club.members) rows (rw fewer (omega (
@@ -134,6 +134,6 @@ facility_shown g old name rows clean asked club others represents =
     let tables = asked_tables asked clean club others represents in
     let p : Facility → Bool = λ facility. bytes_eq facility.name name in
     let same = asked_shows asked facility_asks tables facility_values p facility_values (λ id facility. and_true _ ∙ text_equal facility.name name)
-    (λ id facility. refl) club.facilities (subst (Holds facility_values _) tables.storage.facilities tables.holds_rows.facilities) in
+    (λ id facility. refl) club.facilities (subst (Holds facility_values _) tables.storage.facilities tables.holds_rows.held.facilities) in
     first_returned facility_values p club.facilities rows
     (one_named (λ (facility : Facility). facility.name) name club.facilities tables.sound.unique.facilities) same

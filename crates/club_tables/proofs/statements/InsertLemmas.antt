@@ -34,6 +34,7 @@ use Rattle.sqlite.specs.Effect.{Database, IsDatabase, value_rows}
 use Rattle.sqlite.specs.Listing.{understood}
 use Rattle.sqlite.specs.State.{State, mode_of, Writes, Executes}
 use Rattle.sqlite.proofs.Callers.{IsPlain, command_of, statement_of, runs_as, one_step}
+use Rattle.club_tables.proofs.statements.MeansLemmas.{Wrote}
 
 -- a part that gave a value did not stop on the way
 pub went : {B E R : Type 0} {b : B} {Stops : E → Type 0} → ((stop : E) × Stops stop × (Ok b ≡ Err stop)) ⊎ R → R
@@ -111,8 +112,8 @@ module _ (old new : State) (schema : Schema) (has : old.now.schema ≡ schema) (
       → value_rows params width (length terms / width) terms ≡ (Null ∷ values) ∷ [] → cast_row table (Null ∷ values) ≡ Null ∷ values
       → ((row : Row) → works schema Enforced 0 table.tree [] (row ∷ []) ≡ [])
       → (count : ℕ) → Executes text params old new (Ok count)
-      → (new.now.schema ≡ schema) × (new.now.trees table.tree ≡ put_row (Int (next_rowid (old.now.trees table.tree)) ∷ values) (old.now.trees table.tree))
-      × AllByRecursion (λ t. t.tree ≢ table.tree → new.now.trees t.tree ≡ old.now.trees t.tree) schema.tables × IsDatabase new.now × (1 ≤ count)
+      → Wrote schema old.now new.now table.tree
+      × (new.now.trees table.tree ≡ put_row (Int (next_rowid (old.now.trees table.tree)) ∷ values) (old.now.trees table.tree)) × (1 ≤ count)
   inserts at table terms width params values listed is uncounted unstamped gives casts still count h =
       let db = old.now.trees in
       let command = Insert at (Values terms width) in
@@ -148,9 +149,11 @@ module _ (old new : State) (schema : Schema) (has : old.now.schema ≡ schema) (
       let put : ActionWrites schema Enforced db edit (Ok written.0) = subst (λ row. ActionWrites schema Enforced db (as_edit row) (Ok written.0)) casts wrote in
       let applied = one_step schema Enforced db written.0 edit (still (Int (next_rowid (db table.tree)) ∷ values)) put in
       let whole : new.now.trees ≡ written.0 = ap (λ (d : Database). d.trees) now ∙ trees in (
-        ap (λ (d : Database). d.schema) now,
+        record {
+          schema = ap (λ (d : Database). d.schema) now;
+          others = subst (λ (trees : Trees). AllByRecursion (λ t. t.tree ≢ table.tree → trees t.tree ≡ db t.tree) schema.tables) (sym whole) applied.tables;
+          sound = w.sound;
+        },
         ap (λ (t : Trees). t table.tree) whole ∙ applied.rows,
-        subst (λ (trees : Trees). AllByRecursion (λ t. t.tree ≢ table.tree → trees t.tree ≡ db t.tree) schema.tables) (sym whole) applied.tables,
-        w.sound,
         omega (arith, counted, ap length rows, numbered, one),
       )

@@ -1,5 +1,5 @@
 -- What an UPDATE found that wrote a row.
-use Rattle.std.proofs.Common.{◌≡◌, ℕ, zero, suc, ◌≤◌, ℤ, Contains, Bool, true, false, ◌||◌, cond, Some, List, [], ◌∷◌, length, map, refl, sym, ap, subst, ◌∙◌}
+use Rattle.std.proofs.Common.{◌≡◌, zero, suc, ◌≤◌, ℤ, Contains, Bool, true, false, ◌||◌, cond, Some, List, [], ◌∷◌, length, map, refl, sym, ap, subst, ◌∙◌}
 use Rattle.std.proofs.Common.{arith, true≢false}
 use Rattle.std.specs.Prelude.{filter, find, IsPermutation}
 use Rattle.std.specs.List.{AllByRecursion, AllZip, list_any}
@@ -7,12 +7,7 @@ use Rattle.std.proofs.lemmas.List.{length-map}
 use Rattle.std.proofs.lemmas.List.Sorted.{length_permutation}
 use Rattle.sqlite_value.specs.declared.value.Value.TheVariants.{Int}
 use Rattle.sqlite.specs.Order.{Row}
-use Rattle.sqlite.specs.Term.{Term}
-use Rattle.sqlite.specs.Query.{inner, end}
-use Rattle.sqlite.specs.Effect.{Database, Answers}
-use Rattle.club_tables.specs.Statements.{select}
-use Rattle.club_tables.specs.Tables.{IsRowOf, Holds}
-use Rattle.club_tables.proofs.statements.SelectLemmas.{test, shows, answered}
+use Rattle.club_tables.specs.Tables.{IsRowOf}
 
 -- as many rows pass as elements
 pub as_many : {X : Type 0} (hit : Row → Bool) (p : X → Bool) (rows : List Row) (xs : List X) → AllZip (λ row x. hit row ≡ p x) rows xs
@@ -77,21 +72,6 @@ contains_counts {X} p (x ∷ xs) one (zero, low, is) passes =
 contains_counts {X} p (x ∷ xs) one (suc k, low, is) passes =
     let later = contains_counts p xs one (k, omega (arith, low), is) passes in
     elim (p x) as (λ b. 1 ≤ length (cond b (x ∷ filter p xs) (filter p xs))) [ true ↦ omega arith | false ↦ later ]
-
--- the same of an UPDATE of one table
-pub updated_found : {X : Type 0} (values : X → Row) (p : X → Bool) (params : Row) (tests project : List Term) → ((id : ℤ) (x : X)
-    → test params tests project (Int id ∷ values x) ≡ p x) → (tree : ℕ) (db : Database) (xs : List X) (rows : List Row) → Holds values (db.trees tree) xs
-    → Answers db (record { lets = []; body = select (inner tree end) tests project }) params rows → 1 ≤ length rows → (x : X) × (find p xs ≡ Some x)
-updated_found values p params tests project tested tree db xs rows held answers some =
-    some_found (test params tests project) (shows params tests project) p (db.trees tree) rows xs
-    (each_row values (test params tests project) p tested (db.trees tree) xs held.same) (answered params tests project tree db rows answers) some
-
-pub updated_rows : {X : Type 0} (values : X → Row) (p : X → Bool) (params : Row) (tests project : List Term) → ((id : ℤ) (x : X)
-    → test params tests project (Int id ∷ values x) ≡ p x) → (tree : ℕ) (db : Database) (xs : List X) (rows : List Row) → Holds values (db.trees tree) xs
-    → Answers db (record { lets = []; body = select (inner tree end) tests project }) params rows → 1 ≤ length (filter p xs) → 1 ≤ length rows
-updated_rows values p params tests project tested tree db xs rows held answers some =
-    rows_found (test params tests project) (shows params tests project) p (db.trees tree) rows xs
-    (each_row values (test params tests project) p tested (db.trees tree) xs held.same) (answered params tests project tree db rows answers) some
 
 -- what passes the one test passes the other
 abbrev pub Implies : {X : Type 0} → (X → Bool) → (X → Bool) → Type 0

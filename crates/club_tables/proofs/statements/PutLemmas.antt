@@ -43,6 +43,7 @@ use Rattle.club_tables.specs.Statements.{select}
 use Rattle.club_tables.specs.Tables.{Holds}
 use Rattle.club_tables.proofs.lists.RowLemmas.{holds_more}
 use Rattle.club_tables.proofs.statements.InsertLemmas.{went, same_value}
+use Rattle.club_tables.proofs.statements.MeansLemmas.{Wrote}
 use Rattle.club_tables.proofs.statements.UpdateLemmas.{no_works}
 use Rattle.club_tables.proofs.queries.KeyLemmas.{and_true}
 use Rattle.club_tables.proofs.statements.PassLemmas.{any_counts, rows_found}
@@ -288,24 +289,17 @@ module _ (name : List ℕ) (columns : List Column) (keys : List (List ℕ)) (che
         -- the row is put, where there was one and where there was none
         pub row_put : (list_any p xs ≡ false → source ≡ values first) → ((there : Row) → column (env there) there_at ≡ rowid there) → AllByRecursion Yields xs
             → (count : ℕ) → Executes text params old new (Ok count)
-            → (new.now.schema ≡ club_schema) × Holds values (new.now.trees tree) (put_among values p change first xs)
-            × AllByRecursion (λ (t : Table). t.tree ≢ tree → new.now.trees t.tree ≡ db t.tree) club_schema.tables × IsDatabase new.now × (1 ≤ count)
+            → Wrote club_schema old.now new.now tree × Holds values (new.now.trees tree) (put_among values p change first xs) × (1 ≤ count)
         row_put same ids yields count executed = let it = ran count executed in go it (list_any p xs) refl
           where
-            go : (it : Ran count) (b : Bool) → list_any p xs ≡ b
-                → (new.now.schema ≡ club_schema) × Holds values (new.now.trees tree) (if b then map change xs else xs ++ first ∷ [])
-                × AllByRecursion (λ (t : Table). t.tree ≢ tree → new.now.trees t.tree ≡ db t.tree) club_schema.tables × IsDatabase new.now × (1 ≤ count)
-            go it true any = let put = put_old ids yields any count it in (
-              it.schema,
-              subst (λ rows. Holds values rows (map change xs)) (sym put.1.0) put.2,
-              put.1.1,
-              it.sound,
-              put.3,
-            )
-            go it false none = let put = put_new (same none) none count it in (
-              it.schema,
-              subst (λ rows. Holds values rows (xs ++ first ∷ [])) (sym put.1.0) put.2,
-              put.1.1,
-              it.sound,
-              put.3,
-            )
+            wrote : (it : Ran count) (left : List Row) → Leaves db new.now.trees left → Wrote club_schema old.now new.now tree
+            wrote it left leaves = record { schema = it.schema; others = leaves.1; sound = it.sound }
+
+            go : (it : Ran count) (b : Bool) → list_any p xs ≡ b → Wrote club_schema old.now new.now tree
+                × Holds values (new.now.trees tree) (if b then map change xs else xs ++ first ∷ []) × (1 ≤ count)
+            go it true any =
+                let put = put_old ids yields any count it in
+                (wrote it put.0 put.1, subst (λ rows. Holds values rows (map change xs)) (sym put.1.0) put.2, put.3)
+            go it false none =
+                let put = put_new (same none) none count it in
+                (wrote it put.0 put.1, subst (λ rows. Holds values rows (xs ++ first ∷ [])) (sym put.1.0) put.2, put.3)

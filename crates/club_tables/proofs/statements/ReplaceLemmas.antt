@@ -2,7 +2,7 @@
 use Rattle.std.proofs.Common.{◌≡◌, ◌⊎◌, inl, inr, ◌≤◌, ℤ, Bool, true, false, not, cond, List, [], ◌∷◌, length, map, refl, sym, ap, subst, ◌∙◌, arith, Less}
 use Rattle.std.proofs.Common.{Greater}
 use Rattle.std.specs.Prelude.{filter, IsPermutation}
-use Rattle.std.specs.List.{AllByRecursion, AllZip, list_all, list_any}
+use Rattle.std.specs.List.{AllByRecursion, AllZip, list_any}
 use Rattle.std.specs.Ordering.{is_eq, match_ordering, ordering_reverse}
 use Rattle.std.proofs.lemmas.Cmp.{tied_itself}
 use Rattle.std.proofs.lemmas.Bool.{or_from}
@@ -12,7 +12,7 @@ use Rattle.sqlite.specs.Order.{Row, value_cmp}
 use Rattle.sqlite_value.proofs.OrderLemmas.{value_cmp_total}
 use Rattle.sqlite.specs.Tree.{rowid, has_rowid, put_row, without_rowid, IsTable}
 use Rattle.sqlite_trees.proofs.TreeLemmas.{IsTable-put_row}
-use Rattle.sqlite.specs.Term.{Term, holds, eval_all}
+use Rattle.sqlite.specs.Term.{Term, eval_all}
 use Rattle.sqlite.specs.Query.{inner, end}
 use Rattle.sqlite.specs.Table.{Table}
 use Rattle.sqlite.specs.Cast.{cast_row}
@@ -220,21 +220,3 @@ module _ {X : Type 0} (values : X → Row) (p : X → Bool) (change : X → X) (
     replaced_where table db xs rows Q all sets casts hits held low answers =
         replaced_by (test params tests project) (shows params tests project) table db xs rows Q all sets casts hits held low
         (answered params tests project table.tree db rows answers)
-
-    -- the same, where the tests see the columns alone
-    pub replaced : ((id : ℤ) (x : X) → list_all (holds (params ∷ (Int id ∷ values x) ∷ [])) tests ≡ p x)
-        → (table : Table) (db : Database) (xs : List X) (rows : List Row) (Q : X → Type 0) → AllByRecursion Q xs
-        → ((id : ℤ) (x : X) → Q x → p x ≡ true → eval_all project (params ∷ (Int id ∷ values x) ∷ []) ≡ Int id ∷ Int id ∷ values (change x))
-        → ((id : ℤ) (x : X) → cast_row table (Int id ∷ values x) ≡ Int id ∷ values x)
-        → Holds values (db.trees table.tree) xs → length (filter p xs) ≤ 1
-        → Answers db (record { lets = []; body = select (inner table.tree end) tests project }) params rows
-        → Holds values (edited db.trees (edit_of db.trees table (ids_of rows) Given 1 rows)) (map change xs)
-    replaced tested table db xs rows Q all sets casts held low answers =
-        replaced_where table db xs rows Q all sets casts (each (db.trees table.tree) xs held.same) held low answers
-      where
-        each : (before : List Row) (elements : List X) → AllZip (λ row x. IsRowOf (values x) row) before elements
-            → AllZip (λ row x. test params tests project row ≡ p x) before elements
-        each [] [] same = tt
-        each [] (x ∷ elements) same = absurd same
-        each (r ∷ before) [] same = absurd same
-        each (r ∷ before) (x ∷ elements) same = (ap (test params tests project) same.0.1 ∙ tested same.0.0 x, each before elements same.1)
