@@ -14,3 +14,4 @@ pub mod PartLemmas
 pub mod MadeLemmas
 pub mod EnoughLemmas
 pub mod WriteLemmas
+pub mod ChangedLemmas

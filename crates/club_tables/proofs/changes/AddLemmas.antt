@@ -26,7 +26,7 @@ use Rattle.club_tables.proofs.lists.RowLemmas.{holds_more}
 
 -- ---- members
 
-abbrev member_table : Table
+abbrev pub member_table : Table
 member_table = record members_table { tree = members_tree }
 
 abbrev member_terms : List Term
@@ -79,7 +79,7 @@ facility_put old new rows holds_rows facility count ran =
 
 -- ---- keys
 
-abbrev key_table : Table
+abbrev pub key_table : Table
 key_table = record keys_table { tree = keys_tree }
 
 abbrev key_terms : List Term
@@ -102,7 +102,7 @@ key_put old new rows holds_rows key count ran =
 
 -- ---- bookings
 
-abbrev booking_table : Table
+abbrev pub booking_table : Table
 booking_table = record bookings_table { tree = bookings_tree }
 
 abbrev booking_terms : List Term

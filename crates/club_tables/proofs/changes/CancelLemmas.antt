@@ -1,7 +1,7 @@
 -- What the statement that cancels a booking makes of the tables.
-use Rattle.std.proofs.Common.{◌≡◌, ℕ, ◌≤◌, pos, ℤ, Ok, Some, Bool, true, false, ◌&&◌, ◌||◌, ◌==◌, cond, List, [], ◌∷◌, ◌++◌, length, map}
+use Rattle.std.proofs.Common.{◌≡◌, ℕ, ◌≤◌, pos, ℤ, Ok, Some, Bool, true, false, ◌||◌, cond, List, [], ◌∷◌, ◌++◌, length, map}
 use Rattle.std.proofs.Common.{refl, sym, ap, subst, ◌∙◌, arith}
-use Rattle.std.specs.Prelude.{filter, find, AllPairs}
+use Rattle.std.specs.Prelude.{filter, find}
 use Rattle.std.specs.Cmp.{unsigned_Decides}
 use Rattle.std.proofs.lemmas.Slice.Eq.{bytes_eq-Decides}
 use Rattle.std.proofs.lemmas.Bool.{and_parts}
@@ -13,8 +13,7 @@ use Rattle.sqlite_sql.specs.declared.ops.BinaryOp.TheVariants.{Compare}
 use Rattle.sqlite_sql.specs.declared.ops.CompareOp.TheVariants.{Eq}
 use Rattle.sqlite_sql.specs.Ops.{binary, is_true}
 use Rattle.sqlite.specs.Order.{Row}
-use Rattle.sqlite.specs.Table.{Table}
-use Rattle.sqlite.specs.Term.{Term, lit, col, op2}
+use Rattle.sqlite.specs.Term.{Term, lit, col}
 use Rattle.sqlite.specs.Query.{inner, end}
 use Rattle.sqlite.specs.Command.TheVariants.{Update}
 use Rattle.sqlite.specs.Listing.{understood}
@@ -23,9 +22,9 @@ use Rattle.club_tables.proofs.statements.MeansLemmas.{Means}
 use Rattle.club_rows.specs.Columns.{truth}
 use Rattle.club_rows.specs.declared.booking.Booking.{Booking}
 use Rattle.club_core.specs.After.{cancelled_booking, is_marked}
-use Rattle.club_core.specs.Sums.{is_under, booking_under}
+use Rattle.club_core.specs.Sums.{booking_under}
 use Rattle.club_tables.specs.declared.texts.TheConstants.{CANCEL_BOOKING}
-use Rattle.club_tables.specs.Schema.{bookings_table, club_schema}
+use Rattle.club_tables.specs.Schema.{club_schema}
 use Rattle.club_tables.specs.Columns.{whole, flag, booking_values}
 use Rattle.club_tables.specs.Statements.{select, is_given}
 use Rattle.club_tables.specs.Stored.{Rows}
@@ -33,18 +32,14 @@ use Rattle.club_tables.specs.Tables.{HoldsRows, bookings_tree}
 use Rattle.club_tables.proofs.statements.HoldsRowsLemmas.{on_bookings}
 use Rattle.club_tables.proofs.statements.InsertLemmas.{cast_int}
 use Rattle.club_tables.proofs.statements.PassLemmas.{contains_counts}
-use Rattle.club_tables.proofs.statements.PassLemmas.{Implies, agree, found_by_both}
-use Rattle.club_tables.proofs.statements.SelectLemmas.{text_equal, whole_equal, apart_from_pairs, one_passes, test, shows}
+use Rattle.club_tables.proofs.statements.PassLemmas.{Implies, agree, fewer, found_by_both}
+use Rattle.club_tables.proofs.statements.SelectLemmas.{text_equal, whole_equal, test, shows}
 use Rattle.club_tables.proofs.statements.UpdateLemmas.{updates, Finds, finds, passes_one, writes_one, changes_one, each_of}
 use Rattle.club_tables.proofs.changes.ChangeLemmas.{or_true, or_false}
+use Rattle.club_tables.proofs.changes.AddLemmas.{booking_table}
+use Rattle.club_tables.proofs.lists.BookingRows.{truths}
 use Rattle.club_tables.proofs.lists.FindLemmas.{found}
-
-abbrev booking_table : Table
-booking_table = record bookings_table { tree = bookings_tree }
-
--- not cancelled
-abbrev is_uncancelled : Term
-is_uncancelled = op2 (Compare Eq Binary) (col 1 9) (lit (Int (pos 0)))
+use Rattle.club_tables.proofs.queries.BookingLemmas.{AreBookingsOnce, is_numbered, is_uncancelled, one_numbered}
 
 abbrev cancel_tests : List Term
 cancel_tests =
@@ -58,46 +53,11 @@ cancel_means : Means club_schema CANCEL_BOOKING.now (Update 5 (record { lets = [
 unfolding understood everything
 cancel_means = record { is = refl; plain = (refl, refl) }
 
--- keys and numbers identify the bookings
-pub one_marked : (key : List ℕ) (number : ℕ) (bookings : List Booking) → AllPairs (λ (a : Booking) (b : Booking). ¬ ((a.key ≡ b.key)
-    × (a.number ≡ b.number))) bookings → length (filter (is_marked key number) bookings) ≤ 1
+pub one_marked : (key : List ℕ) (number : ℕ) (bookings : List Booking) → AreBookingsOnce bookings → length (filter (is_marked key number) bookings) ≤ 1
 one_marked key number bookings unique =
-    let R : Booking → Booking → Type 0 = λ a b. ¬ ((a.key ≡ b.key) × (a.number ≡ b.number)) in
-    one_passes R (is_marked key number) bookings (λ x y a b apart.
-    let p = and_parts _ _ (and_parts _ _ a).0 in
-    let q = and_parts _ _ (and_parts _ _ b).0 in
-    apart (
-      (bytes_eq-Decides x.key key).0 p.0 ∙ sym ((bytes_eq-Decides y.key key).0 q.0),
-      (unsigned_Decides x.number number).0 p.1
-          ∙ sym ((unsigned_Decides y.number number).0 q.1),
-    ))
-    (apart_from_pairs R bookings unique)
-
--- a booking of this key and number
-abbrev pub is_numbered : List ℕ → ℕ → Booking → Bool
-is_numbered key number booking = is_under key booking && booking.number == number
-
-abbrev pub AreBookingsOnce : List Booking → Type 0
-AreBookingsOnce = AllPairs (λ (a : Booking) (b : Booking). ¬ ((a.key ≡ b.key) × (a.number ≡ b.number)))
-
-one_numbered : (key : List ℕ) (number : ℕ) (bookings : List Booking) → AreBookingsOnce bookings → length (filter (is_numbered key number) bookings) ≤ 1
-one_numbered key number bookings unique =
-    let R : Booking → Booking → Type 0 = λ a b. ¬ ((a.key ≡ b.key) × (a.number ≡ b.number)) in
-    one_passes R (is_numbered key number) bookings (λ x y a b apart.
-    let p = and_parts _ _ a in
-    let q = and_parts _ _ b in
-    apart (
-      (bytes_eq-Decides x.key key).0 p.0 ∙ sym ((bytes_eq-Decides y.key key).0 q.0),
-      (unsigned_Decides x.number number).0 p.1
-          ∙ sym ((unsigned_Decides y.number number).0 q.1),
-    ))
-    (apart_from_pairs R bookings unique)
-
-same_truth : (a b : Bool) → truth a ≡ truth b → a ≡ b
-same_truth true true h = refl
-same_truth true false h = absurd (omega arith)
-same_truth false true h = absurd (omega arith)
-same_truth false false h = refl
+    let few = fewer (is_marked key number) (is_numbered key number) (λ b h. (and_parts _ _ h).0) bookings in
+    let one = one_numbered key number bookings unique in
+    omega (arith, few, one)
 
 abbrev booking_of : List ℕ → ℕ → List ℕ → ℕ → ℕ → ℕ → ℕ → ℕ → Bool → ℕ → Booking
 booking_of key number facility day hour guests charge left cancelled refund = record {
@@ -156,13 +116,13 @@ module _ (old new : State) (rows : Rows) (holds_rows : HoldsRows old.now rows) (
       let charge : b.charge ≡ booking.charge = whole_same b.charge booking.charge t7.0 in
       let left : b.left ≡ booking.left = whole_same b.left booking.left t8.0 in
       let cancelled : b.cancelled ≡ booking.cancelled =
-      same_truth b.cancelled booking.cancelled (whole_same (truth b.cancelled) (truth booking.cancelled) t9.0) in
+      truths b.cancelled booking.cancelled (whole_same (truth b.cancelled) (truth booking.cancelled) t9.0) in
       let refunded : b.refund ≡ booking.refund = whole_same b.refund booking.refund t10.0 in
       let none : truth b.cancelled ≡ truth false = whole_same (truth b.cancelled) 0 t11.0 in
       let same : booking_of b.key b.number b.slot.facility b.slot.day b.slot.hour b.guests b.charge b.left b.cancelled b.refund
       ≡ booking_of booking.key booking.number booking.slot.facility booking.slot.day booking.slot.hour booking.guests booking.charge booking.left
       booking.cancelled booking.refund = cc in
-      (same, same_truth b.cancelled false none)
+      (same, truths b.cancelled false none)
 
   named : Implies is_as_given (is_numbered booking.key booking.number)
   named b h = let same = (as_given b h).0 in subst (λ (x : Booking). is_numbered booking.key booking.number x ≡ true) (sym same)

@@ -14,7 +14,6 @@ use Rattle.sqlite_sql.specs.declared.ops.ArithOp.TheVariants.{Add}
 use Rattle.sqlite_sql.specs.declared.ops.CompareOp.TheVariants.{Eq}
 use Rattle.sqlite_sql.specs.Ops.{binary}
 use Rattle.sqlite.specs.Cast.{cast_row}
-use Rattle.sqlite.specs.Table.{Table}
 use Rattle.sqlite.specs.Order.{Row}
 use Rattle.sqlite.specs.Term.{Term, col, op2, holds}
 use Rattle.sqlite.specs.Query.{Query, inner, end, counted}
@@ -26,14 +25,15 @@ use Rattle.club_rows.specs.declared.key.Key.{Key}
 use Rattle.club_core.specs.After.{credited_member}
 use Rattle.club_tables.specs.declared.row.MemberRow.{MemberRow}
 use Rattle.club_tables.specs.declared.texts.TheConstants.{ADD_CREDIT, ADD_USED}
-use Rattle.club_tables.specs.Schema.{members_table, club_schema}
+use Rattle.club_tables.specs.Schema.{club_schema}
 use Rattle.club_tables.specs.ChangeStatements.{used_values}
 use Rattle.club_tables.specs.Columns.{whole, member_values, key_values}
 use Rattle.club_tables.specs.Statements.{select, is_given}
 use Rattle.club_tables.specs.Stored.{Rows}
 use Rattle.club_tables.specs.Tables.{HoldsRows, members_tree, keys_tree}
 use Rattle.club_tables.proofs.statements.InsertLemmas.{cast_int}
-use Rattle.club_tables.proofs.queries.KeyLemmas.{and_true, one_named}
+use Rattle.club_tables.proofs.queries.KeyLemmas.{and_true, both_tests, one_named}
+use Rattle.club_tables.proofs.changes.AddLemmas.{member_table}
 use Rattle.club_tables.proofs.statements.HoldsRowsLemmas.{on_members}
 use Rattle.club_tables.proofs.statements.CountedLemmas.{is_counted, some_counted, counted_some, passes, shown, count_in, with_count, answered_counted}
 use Rattle.club_tables.proofs.statements.CountedLemmas.{counts_elements}
@@ -60,13 +60,7 @@ AreKeysOnce = AllPairs (λ (a : Key) (b : Key). a.name ≢ b.name)
 abbrev pub StoresKey : List ℕ → List Key → Key → Type 0
 StoresKey name keys key = find (λ (key : Key). bytes_eq key.name name) keys ≡ Some key
 
-pub both_tests : (a a' b b' : Bool) → a ≡ a' → b ≡ b' → (a && (b && true)) ≡ (a' && b')
-both_tests a a' b b' p q = let e = and_true b in cc
-
 -- ---- the numbers of a member's row
-
-abbrev member_table : Table
-member_table = record members_table { tree = members_tree }
 
 abbrev pub name_of : MemberRow → List ℕ
 name_of row = row.member.name

@@ -7,12 +7,10 @@ use Rattle.sqlite_value.specs.declared.value.Value.TheVariants.{Int, Text, Blob}
 use Rattle.sqlite.specs.Store.{Ghosts}
 use Rattle.sqlite.specs.State.{Executes}
 use Rattle.sqlite.specs.Held.{Held, state}
-use Rattle.club_values.specs.declared.slot.Slot.{Slot}
-use Rattle.club_rows.specs.declared.booking.Booking.{Booking}
-use Rattle.club_rows.specs.declared.facility.Facility.{Facility}
 use Rattle.club_rows.specs.declared.key.Key.{Key}
 use Rattle.club_rows.specs.declared.member.Member.{Member}
-use Rattle.club_core.specs.declared.change.Change.TheVariants.{AddCredit, MarkRevoked, ReplaceRoot}
+use Rattle.club_core.specs.declared.change.Change.{Change}
+use Rattle.club_core.specs.declared.change.Change.TheVariants.{InsertMember, AddCredit, InsertFacility, InsertKey, MarkRevoked, ReplaceRoot, MarkClosed}
 use Rattle.club_core.specs.declared.change.Change.TheVariants.{InsertBooking, MarkCancelled}
 use Rattle.club_core.specs.After.{good_until}
 use Rattle.club_rows.specs.Booking.{persons_of}
@@ -25,10 +23,10 @@ use Rattle.club_tables.specs.Columns.{name_values}
 use Rattle.club_tables.specs.Stored.{Rows, member_row, persons_taken}
 use Rattle.club_tables.specs.Tables.{HoldsClub, HoldsRows}
 use Rattle.club_tables.specs.Transaction.{BoundStatement, transaction_start}
-use Rattle.club_tables.specs.ChangeStatements.{used_values, adding_credit, revoking, adding_booking, cancelling, replacing_root}
+use Rattle.club_tables.specs.ChangeStatements.{used_values, statements_of}
 use Rattle.club_tables.proofs.queries.KeyLemmas.{find_mapped}
 use Rattle.club_tables.proofs.changes.AddLemmas.{member_put, facility_put, key_put}
-use Rattle.club_tables.proofs.changes.CancelLemmas.{AreBookingsOnce}
+use Rattle.club_tables.proofs.queries.BookingLemmas.{AreBookingsOnce}
 use Rattle.club_tables.proofs.changes.ChangeLemmas.{AreKeysOnce, StoresKey, name_of}
 use Rattle.club_tables.proofs.changes.OlderLemmas.{older_represents}
 use Rattle.club_tables.proofs.changes.UpsertLemmas.{slot_closed}
@@ -36,7 +34,6 @@ use Rattle.club_core.specs.Club.{key_named}
 use Rattle.club_core.specs.declared.store.StoreFault.{StoreFault}
 use Rattle.club_tables.specs.declared.texts.TheConstants.{PUT_OLDER_ROOT, SET_ROOT, ADD_TAKEN}
 use Rattle.club_tables.specs.Columns.{older_root_values}
-use Rattle.club_tables.specs.ChangeStatements.{adding_member, adding_facility, adding_key, closing}
 use Rattle.club_tables.specs.Fault.{StopsAt, FailsInTurn}
 use Rattle.club_tables.proofs.changes.CancelLemmas.{cancel_some}
 use Rattle.club_tables.proofs.changes.ChangeLemmas.{credit_some, used_some}
@@ -87,34 +84,8 @@ module _ {S : Type 0} (g : Ghosts S) (old new : Held S) (fault : StoreFault) (cl
   abbrev start : Held S
   start = transaction_start old
 
-  -- fewer rows than one: none of the statements
-  abbrev pub Less : List BoundStatement → Type 0
-  Less statements = FailsInTurn g 1 statements start new fault → FailsInTurn g 0 statements start new fault
-
-  pub member_less : (member : Member) → Less (adding_member member)
-  member_less member = one_less g _ start new fault (λ mid opened count ran.
-      let tables = tables_if opened in (member_put (state g start) (state g mid) tables.rows tables.holds_rows member count ran).1)
-
-  pub facility_less : (facility : Facility) → Less (adding_facility facility)
-  facility_less facility = one_less g _ start new fault (λ mid opened count ran.
-      let tables = tables_if opened in (facility_put (state g start) (state g mid) tables.rows tables.holds_rows facility count ran).1)
-
-  pub key_less : (key : Key) → Less (adding_key key)
-  key_less key = one_less g _ start new fault (λ mid opened count ran.
-      let tables = tables_if opened in (key_put (state g start) (state g mid) tables.rows tables.holds_rows key count ran).1)
-
-  pub close_less : (slot : Slot) → Less (closing slot)
-  close_less slot = one_less g _ start new fault (λ mid opened count ran.
-      let tables = tables_if opened in (slot_closed (state g start) (state g mid) tables.rows tables.holds_rows tables.storage.once slot count ran).1)
-
   stored_key : (tables : HoldsClub (state g old).now club) (name : List ℕ) (key : Key) → key_named name club ≡ Some key → StoresKey name tables.rows.keys key
   stored_key tables name key h = subst (λ keys. StoresKey name keys key) (sym tables.storage.keys) h
-
-  pub revoke_less : (name : List ℕ) → FitsClub (MarkRevoked name) club → Less (revoking name)
-  revoke_less name fits = one_less g _ start new fault (λ mid opened count ran.
-      let tables = tables_if opened in
-      revoke_some (state g start) (state g mid) tables.rows tables.holds_rows name count ran fits.carries.0
-      (stored_key tables name fits.carries.0 fits.carries.1))
 
   stored_member : (tables : HoldsClub (state g old).now club) (name : List ℕ) (member : Member) → member_named name club ≡ Some member
       → find (λ (row : MemberRow). bytes_eq (name_of row) name) tables.rows.members ≡ Some (member_row club member)
@@ -122,24 +93,6 @@ module _ {S : Type 0} (g : Ghosts S) (old new : Held S) (fault : StoreFault) (cl
       let is_of : MemberRow → Bool = λ row. bytes_eq (name_of row) name in
       subst (λ ms. find is_of ms ≡ Some (member_row club member)) (sym tables.storage.members)
       (find_mapped is_of (member_row club) club.members ∙ ap (option_map (member_row club)) h)
-
-  pub credit_less : (name : List ℕ) (points : ℕ) → FitsClub (AddCredit name points) club → Less (adding_credit name points)
-  credit_less name points fits = one_less g _ start new fault (λ mid opened count ran.
-      let tables = tables_if opened in
-      credit_some (state g start) (state g mid) tables.rows tables.holds_rows name points count ran _ (stored_member tables name fits.carries.0 fits.carries.1))
-
-  pub rotate_less : (name root was : List ℕ) (until : ℕ) → FitsClub (ReplaceRoot name was root until) club
-      → Less (replacing_root name root (good_until until was))
-  rotate_less name root was until fits =
-      let put = λ (tables : HoldsClub (state g old).now club) (mid : Held S) (count : ℕ)
-      (ran : Executes PUT_OLDER_ROOT.now (Text name ∷ older_root_values (good_until until was)) (state g start) (state g mid) (Ok count)).
-      older_represents (state g start) (state g mid) tables.rows tables.holds_rows tables.storage.olders_once name (good_until until was) count ran in
-      let set : List BoundStatement = (SET_ROOT.now, Text name ∷ Blob root ∷ Blob was ∷ []) ∷ [] in
-      less_in_turn g _ set start new fault (λ mid opened count ran. (put (tables_if opened) mid count ran).1) (λ mid opened count ran enough.
-      let tables = tables_if opened in
-      one_less g _ mid new fault (λ end still n ran2.
-      root_some (state g mid) (state g end) _ (put tables mid count ran).0 (subst AreKeysOnce (sym tables.storage.keys) tables.sound.unique.keys) name root was
-      n ran2 fits.carries.0 (stored_key tables name fits.carries.0 fits.carries.1) fits.carries.2))
 
   -- the member of a key is there
   owned_some : (tables : HoldsClub (state g old).now club) (at now : Held S) (rows : Rows) → HoldsRows (state g at).now rows
@@ -159,8 +112,35 @@ module _ {S : Type 0} (g : Ghosts S) (old new : Held S) (fault : StoreFault) (cl
       (subst (λ ms. find (λ (row : MemberRow). bytes_eq (name_of row) member) ms ≡ Some (member_row club one.0)) (sym same_members)
       (stored_member tables member one.0 one.1))
 
-  pub booking_less : (booking : Booking) (member : List ℕ) → FitsClub (InsertBooking booking member) club → Less (adding_booking booking member)
-  booking_less booking member fits =
+  -- fewer rows than one: none of the statements
+  pub less : (change : Change) → FitsClub change club → FailsInTurn g 1 (statements_of change) start new fault
+      → FailsInTurn g 0 (statements_of change) start new fault
+  less (InsertMember member) fits = one_less g _ start new fault (λ mid opened count ran.
+      let tables = tables_if opened in (member_put (state g start) (state g mid) tables.rows tables.holds_rows member count ran).1)
+  less (AddCredit name points) fits = one_less g _ start new fault (λ mid opened count ran.
+      let tables = tables_if opened in
+      credit_some (state g start) (state g mid) tables.rows tables.holds_rows name points count ran _ (stored_member tables name fits.carries.0 fits.carries.1))
+  less (InsertFacility facility) fits = one_less g _ start new fault (λ mid opened count ran.
+      let tables = tables_if opened in (facility_put (state g start) (state g mid) tables.rows tables.holds_rows facility count ran).1)
+  less (InsertKey key) fits = one_less g _ start new fault (λ mid opened count ran.
+      let tables = tables_if opened in (key_put (state g start) (state g mid) tables.rows tables.holds_rows key count ran).1)
+  less (MarkRevoked name) fits = one_less g _ start new fault (λ mid opened count ran.
+      let tables = tables_if opened in
+      revoke_some (state g start) (state g mid) tables.rows tables.holds_rows name count ran fits.carries.0
+      (stored_key tables name fits.carries.0 fits.carries.1))
+  less (ReplaceRoot name was root until) fits =
+      let put = λ (tables : HoldsClub (state g old).now club) (mid : Held S) (count : ℕ)
+      (ran : Executes PUT_OLDER_ROOT.now (Text name ∷ older_root_values (good_until until was)) (state g start) (state g mid) (Ok count)).
+      older_represents (state g start) (state g mid) tables.rows tables.holds_rows tables.storage.olders_once name (good_until until was) count ran in
+      let set : List BoundStatement = (SET_ROOT.now, Text name ∷ Blob root ∷ Blob was ∷ []) ∷ [] in
+      less_in_turn g _ set start new fault (λ mid opened count ran. (put (tables_if opened) mid count ran).1) (λ mid opened count ran enough.
+      let tables = tables_if opened in
+      one_less g _ mid new fault (λ end still n ran2.
+      root_some (state g mid) (state g end) _ (put tables mid count ran).0 (subst AreKeysOnce (sym tables.storage.keys) tables.sound.unique.keys) name root was
+      n ran2 fits.carries.0 (stored_key tables name fits.carries.0 fits.carries.1) fits.carries.2))
+  less (MarkClosed slot) fits = one_less g _ start new fault (λ mid opened count ran.
+      let tables = tables_if opened in (slot_closed (state g start) (state g mid) tables.rows tables.holds_rows tables.storage.once slot count ran).1)
+  less (InsertBooking booking member) fits =
       let taken : List BoundStatement = (ADD_TAKEN.now, name_values booking.slot ++ Int (pos (persons_taken booking)) ∷ []) ∷ [] in
       let used : List BoundStatement = (ADD_USED.now, used_values member (pos (cost_of booking)) booking.key) ∷ taken in
       less_in_turn g _ used start new fault (λ mid opened count ran. (booking_first g old club (tables_if opened) booking member fits mid count ran).1)
@@ -172,10 +152,7 @@ module _ {S : Type 0} (g : Ghosts S) (old new : Held S) (fault : StoreFault) (cl
       ran2) (λ m2 still n2 ran2 some2.
       let second = booking_second g old club tables booking member fits m1 m2 n2 first ran2 some2 in
       one_less g _ m2 new fault (λ m3 yet n3 ran3. (booking_third g old club tables booking member fits m2 m3 n3 second ran3).1)))
-
-  pub cancel_less : (booking : Booking) (member : List ℕ) (refund : ℕ) → FitsClub (MarkCancelled booking member refund) club
-      → Less (cancelling booking member refund)
-  cancel_less booking member refund fits =
+  less (MarkCancelled booking member refund) fits =
       let unique = λ (tables : HoldsClub (state g old).now club). let it : AreBookingsOnce tables.rows.bookings =
       subst AreBookingsOnce (sym tables.storage.bookings) tables.sound.unique.bookings in it in
       let taken : List BoundStatement = (ADD_TAKEN.now, name_values booking.slot ++ Int (neg_ℤ (pos (persons_of booking))) ∷ []) ∷ [] in

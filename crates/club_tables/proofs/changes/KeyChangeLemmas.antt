@@ -8,7 +8,6 @@ use Rattle.std.proofs.lemmas.Bool.{and_parts}
 use Rattle.std.proofs.lemmas.Slice.Eq.{bytes_eq-Decides}
 use Rattle.sqlite_tied.specs.Compute.{everything}
 use Rattle.sqlite_value.specs.declared.value.Value.TheVariants.{Int, Text, Blob}
-use Rattle.sqlite.specs.Table.{Table}
 use Rattle.sqlite.specs.Cast.{cast_row}
 use Rattle.sqlite.specs.Order.{Row}
 use Rattle.sqlite.specs.Term.{Term, lit, col}
@@ -21,25 +20,23 @@ use Rattle.club_rows.specs.Columns.{truth}
 use Rattle.club_rows.specs.declared.key.Key.{Key}
 use Rattle.club_core.specs.After.{revoked_key, good_until, rotated_key}
 use Rattle.club_tables.specs.declared.texts.TheConstants.{REVOKE_KEY, SET_ROOT}
-use Rattle.club_tables.specs.Schema.{keys_table, club_schema}
+use Rattle.club_tables.specs.Schema.{club_schema}
 use Rattle.club_tables.specs.Columns.{whole, flag, key_values}
 use Rattle.club_tables.specs.Statements.{select, is_given}
 use Rattle.club_tables.specs.Stored.{Rows}
 use Rattle.club_tables.specs.Tables.{HoldsRows, keys_tree}
 use Rattle.club_tables.proofs.statements.InsertLemmas.{cast_int}
-use Rattle.club_tables.proofs.queries.KeyLemmas.{and_true, one_named}
+use Rattle.club_tables.proofs.queries.KeyLemmas.{and_true, both_tests, one_named}
+use Rattle.club_tables.proofs.changes.AddLemmas.{key_table}
 use Rattle.club_tables.proofs.statements.HoldsRowsLemmas.{on_keys}
 use Rattle.club_tables.proofs.statements.PassLemmas.{contains_counts, found_counts}
 use Rattle.club_tables.proofs.statements.PassLemmas.{agree, found_by_both}
 use Rattle.club_tables.proofs.statements.SelectLemmas.{text_equal, blob_equal, shows}
 use Rattle.club_tables.proofs.statements.UpdateLemmas.{updates, Finds, finds, passes_one, writes_one, changes_one, each_of}
 use Rattle.club_tables.proofs.lists.FindLemmas.{found}
-use Rattle.club_tables.proofs.changes.ChangeLemmas.{or_true, or_false, both_tests, AreKeysOnce, StoresKey}
+use Rattle.club_tables.proofs.changes.ChangeLemmas.{or_true, or_false, AreKeysOnce, StoresKey}
 
 -- ---- a key is revoked
-
-abbrev key_table : Table
-key_table = record keys_table { tree = keys_tree }
 
 abbrev revoke_terms : List Term
 revoke_terms = col 1 0 ∷ col 1 0 ∷ col 1 1 ∷ col 1 2 ∷ col 1 3 ∷ lit (Int (pos 1)) ∷ []

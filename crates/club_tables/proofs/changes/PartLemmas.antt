@@ -25,7 +25,8 @@ use Rattle.club_tables.specs.Tables.{HoldsClub, HoldsRows}
 use Rattle.club_tables.specs.Transaction.{transaction_start}
 use Rattle.club_tables.specs.ChangeStatements.{used_values}
 use Rattle.club_tables.proofs.changes.AddLemmas.{booking_put}
-use Rattle.club_tables.proofs.changes.CancelLemmas.{AreBookingsOnce, booking_cancelled}
+use Rattle.club_tables.proofs.queries.BookingLemmas.{AreBookingsOnce}
+use Rattle.club_tables.proofs.changes.CancelLemmas.{booking_cancelled}
 use Rattle.club_tables.proofs.changes.ChangeLemmas.{member_used}
 use Rattle.club_tables.proofs.changes.ChangeLemmas.{AreNamedOnce, Uses}
 use Rattle.club_tables.proofs.queries.MemberLemmas.{total}

@@ -1,5 +1,5 @@
 -- Rows of slots: which of them a new row meets, and each slot's use once a row is put.
-use Rattle.std.proofs.Common.{◌≡◌, ◌≢◌, ℤ, Bool, true, false, ◌&&◌, ◌==◌, if◌then◌else◌, Some, List, [], ◌∷◌, ◌++◌, map, refl}
+use Rattle.std.proofs.Common.{◌≡◌, ◌≢◌, ℤ, true, false, ◌==◌, if◌then◌else◌, Some, List, [], ◌∷◌, ◌++◌, map, refl}
 use Rattle.std.proofs.Common.{ap, ◌∙◌}
 use Rattle.std.specs.Prelude.{AllPairs, option_map, unwrap_or}
 use Rattle.std.specs.List.{list_any}
@@ -21,7 +21,7 @@ use Rattle.club_tables.specs.Stored.{SlotRow, no_slot_use, stored_slot_use}
 use Rattle.club_tables.specs.Tables.{slots_tree}
 use Rattle.club_tables.proofs.statements.SelectLemmas.{text_equal, whole_equal, Apart}
 use Rattle.club_tables.proofs.changes.ChangeLemmas.{or_false}
-use Rattle.club_tables.proofs.queries.BookingLemmas.{same_slots}
+use Rattle.club_tables.proofs.queries.BookingLemmas.{same_slots, three}
 use Rattle.club_tables.proofs.lists.KeyedRows.{by_put, put_once as once_put}
 
 abbrev pub slot_table : Table
@@ -29,12 +29,6 @@ slot_table = record slots_table { tree = slots_tree }
 
 abbrev pub AreApart : List SlotRow → Type 0
 AreApart = Apart (λ (a : SlotRow) (b : SlotRow). a.slot ≢ b.slot)
-
-three : (a b c : Bool) → (a && (b && (c && true))) ≡ (a && b && c)
-three true true true = refl
-three true true false = refl
-three true false c = refl
-three false b c = refl
 
 -- a row conflicts with a new one where both are of one slot
 pub slots_conflict : (id id' : ℤ) (a : SlotRow) (b : Slot) (v w : Value) → conflicts (Some (1 ∷ 2 ∷ 3 ∷ [])) club_schema.indexes slot_table (Int id'

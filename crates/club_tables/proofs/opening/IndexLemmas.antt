@@ -1,21 +1,21 @@
 -- The index of the bookings over tables of version 2 without it.
-use Rattle.std.proofs.Common.{◌≡◌, true≢false, List, inl, inr, sym, ap, subst, ◌∙◌, arith}
+use Rattle.std.proofs.Common.{◌≡◌, List, inl, inr, sym, ap, subst, ◌∙◌, arith}
 use Rattle.std.specs.Prelude.{is_ok}
 use Rattle.sqlite.specs.Store.{Ghosts}
 use Rattle.sqlite.specs.Effect.{Database}
 use Rattle.sqlite.specs.Listing.{understood}
-use Rattle.sqlite.specs.State.{HasCleanDisk, Survives, ExecutesIn}
+use Rattle.sqlite.specs.State.{HasCleanDisk, Survives}
 use Rattle.sqlite.specs.Held.{Held, state}
 use Rattle.club_core.specs.Club.{Club}
 use Rattle.club_tables.specs.declared.texts.TheConstants.{MAKE_BOOKINGS_BY_KEY, DROP_BOOKINGS_BY_KEY}
-use Rattle.club_tables.specs.Schema.{bookings_by_key, unindexed_schema, club_schema}
+use Rattle.club_tables.specs.Schema.{bookings_by_key, unindexed_schema}
 use Rattle.club_tables.specs.Opening.{index_batch}
 use Rattle.club_tables.specs.Stored.{Rows}
 use Rattle.club_tables.specs.Tables.{HoldsClub, HoldsClubUnindexed, HoldsRowsWith, HoldsRows, Represents, RepresentsVersion2}
 use Rattle.club_tables.specs.Transaction.{Ran, IsKept, IsUnderstood, transaction_start}
 use Rattle.club_tables.proofs.statements.HoldsRowsLemmas.{trees_kept}
 use Rattle.club_tables.proofs.statements.InsertLemmas.{indexes}
-use Rattle.club_tables.proofs.opening.MakesLemmas.{makes_bookings_by_key, bookings_made, indexes_again, drops_none}
+use Rattle.club_tables.proofs.opening.MakesLemmas.{makes_bookings_by_key, bookings_made, indexes_again, drops_none, never_ran}
 use Rattle.club_tables.proofs.crashes.RepresentsLemmas.{keeps_second}
 
 module _ {S : Type 0} (g : Ghosts S) (old : Held S) (db : Database) (ran : Ran g 0 index_batch old db) where
@@ -32,13 +32,6 @@ module _ {S : Type 0} (g : Ghosts S) (old : Held S) (db : Database) (ran : Ran g
   indexed_tables : (club : Club) → HoldsClubUnindexed (state g old).now club → HoldsClub db club
   indexed_tables club it = record { rows = it.rows; holds_rows = indexed_rows it.rows it.holds_rows; storage = it.storage; sound = it.sound }
 
-  -- it doesn't run where the index is there
-  indexes_no_more : (state g old).now.schema ≡ club_schema → ⊥
-  unfolding ExecutesIn
-  indexes_no_more has =
-      let statement = ran.turns.2.1 in
-      true≢false (sym (ap is_ok statement.is) ∙ ap (λ s. is_ok (understood s MAKE_BOOKINGS_BY_KEY.now)) has ∙ indexes_again)
-
 -- the tables with the index hold the same club
 pub holds_second : {S : Type 0} (g : Ghosts S) (old : Held S) (db : Database) → Ran g 0 index_batch old db → HasCleanDisk (state g old)
     → (club : Club) (others : List Club) → RepresentsVersion2 (state g old) club others → HoldsClub db club
@@ -46,7 +39,7 @@ holds_second g old db ran clean club others second =
     let is_open = ran.was_open (omega arith) in
     let now = second.idle clean is_open in
     elim (second.held clean is_open) [
-      | inl tables ↦ absurd (indexes_no_more g old db ran (ap (λ (d : Database). d.schema) now ∙ tables.holds_rows.schema))
+      | inl tables ↦ absurd (never_ran ran (ap (λ (d : Database). d.schema) now ∙ tables.holds_rows.schema) indexes_again)
       | inr it ↦ indexed_tables g old db ran club (subst (λ (d : Database). HoldsClubUnindexed d club) (sym now) it)
     ]
 

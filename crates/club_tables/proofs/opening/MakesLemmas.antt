@@ -1,5 +1,10 @@
 -- What the texts of the tables mean, each over the tables before it.
-use Rattle.std.proofs.Common.{◌≡◌, ℕ, List, Ok, Some, slice_get, false, refl}
+use Rattle.std.proofs.Common.{◌≡◌, ℕ, List, [], ◌∷◌, Ok, Some, slice_get, false, refl, sym, ap, ◌∙◌, true≢false}
+use Rattle.sqlite.specs.Store.{Ghosts}
+use Rattle.sqlite.specs.Effect.{Database}
+use Rattle.sqlite.specs.State.{ExecutesIn}
+use Rattle.sqlite.specs.Held.{Held, state}
+use Rattle.club_tables.specs.Transaction.{BoundStatement, Ran}
 use Rattle.std.specs.Prelude.{is_ok}
 use Rattle.sqlite_tied.specs.Compute.{everything}
 use Rattle.sqlite.specs.Schema.{Schema}
@@ -89,6 +94,12 @@ bookings_made = record bookings_table { tree = 9 }
 pub makes_bookings_by_key : MakesIndex unindexed_schema MAKE_BOOKINGS_BY_KEY.now 5 bookings_made bookings_by_key
 unfolding understood everything
 makes_bookings_by_key = record { plain = (refl, refl); listed = refl; is = refl; whole = refl; defined = refl }
+
+-- a batch doesn't run over tables where its first text is refused
+pub never_ran : {S : Type 0} {g : Ghosts S} {old : Held S} {db : Database} {text : List ℕ} {more : List BoundStatement} {schema : Schema}
+    → Ran g 0 ((text, []) ∷ more) old db → (state g old).now.schema ≡ schema → is_ok (understood schema text) ≡ false → ⊥
+unfolding ExecutesIn
+never_ran {text = text} ran has refused = true≢false (sym (ap is_ok ran.turns.2.1.is) ∙ ap (λ s. is_ok (understood s text)) has ∙ refused)
 
 -- the index is made once
 pub indexes_again : is_ok (understood club_schema MAKE_BOOKINGS_BY_KEY.now) ≡ false

@@ -1,5 +1,5 @@
 -- The batch that makes the tables.
-use Rattle.std.proofs.Common.{◌≡◌, pos, List, [], ◌∷◌, refl, sym, ap, subst, ◌∙◌, true≢false, arith}
+use Rattle.std.proofs.Common.{◌≡◌, pos, List, [], ◌∷◌, refl, sym, ap, subst, ◌∙◌, arith}
 use Rattle.std.specs.Prelude.{is_ok}
 use Rattle.sqlite_tied.specs.Compute.{everything}
 use Rattle.sqlite_value.specs.declared.value.Value.TheVariants.{Null, Int}
@@ -35,7 +35,6 @@ use Rattle.club_tables.proofs.opening.MakesLemmas.{
   makes_old_roots,
   makes_bookings_by_key,
 }
-use Rattle.club_tables.proofs.opening.MakesLemmas.{makes_again, makes_over_unindexed, makes_over_first}
 
 abbrev version_terms : List Term
 version_terms = lit Null ∷ lit (Int (pos 2)) ∷ []
@@ -149,27 +148,6 @@ module _ {S : Type 0} (g : Ghosts S) (old : Held S) (db : Database) (ran : Ran g
       let held : HoldsClub
       (state g t10.0).now empty_club = record { rows = no_rows; holds_rows = holds_rows; storage = empty_is_stored; sound = empty_is_sound } in
       subst (λ (d : Database). HoldsClub d empty_club) (sym is) held
-
-  -- it does not run over the club's tables
-  pub makes_no_more : (state g old).now.schema ≡ club_schema → ⊥
-  unfolding ExecutesIn
-  makes_no_more has =
-      let statement = ran.turns.2.1 in
-      true≢false (sym (ap is_ok statement.is) ∙ ap (λ s. is_ok (understood s MAKE_DESK.now)) has ∙ makes_again)
-
-  -- nor over those without the index
-  pub makes_no_unindexed : (state g old).now.schema ≡ unindexed_schema → ⊥
-  unfolding ExecutesIn
-  makes_no_unindexed has =
-      let statement = ran.turns.2.1 in
-      true≢false (sym (ap is_ok statement.is) ∙ ap (λ s. is_ok (understood s MAKE_DESK.now)) has ∙ makes_over_unindexed)
-
-  -- nor over those of version 1
-  pub makes_no_second : (state g old).now.schema ≡ first_schema → ⊥
-  unfolding ExecutesIn
-  makes_no_second has =
-      let statement = ran.turns.2.1 in
-      true≢false (sym (ap is_ok statement.is) ∙ ap (λ s. is_ok (understood s MAKE_DESK.now)) has ∙ makes_over_first)
 
   -- it runs only where there is no version
   pub makes_free : HasNoDesk (state g old).now.schema

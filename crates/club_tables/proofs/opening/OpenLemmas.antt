@@ -26,7 +26,8 @@ use Rattle.club_tables.specs.Fault.{Commits}
 use Rattle.club_tables.proofs.statements.SelectLemmas.{selected, short_permutation}
 use Rattle.club_tables.proofs.crashes.RepresentsLemmas.{Asks, asked_open, asked_reads, on_ok, on_err}
 use Rattle.club_tables.proofs.crashes.SurviveLemmas.{may_commit, was_clean}
-use Rattle.club_tables.proofs.opening.MakingLemmas.{made_tables, makes_no_more, makes_no_unindexed, makes_no_second}
+use Rattle.club_tables.proofs.opening.MakingLemmas.{made_tables}
+use Rattle.club_tables.proofs.opening.MakesLemmas.{never_ran, makes_again, makes_over_unindexed, makes_over_first}
 
 -- every crash leaves what was committed last
 abbrev pub IsSettled : State → Type 0
@@ -78,9 +79,9 @@ holds_found g old db ran clean club others found =
     let is_open = ran.was_open (omega arith) in
     let now = found.idle clean is_open in
     elim (found.held clean is_open) [
-      | inl (inl tables) ↦ absurd (makes_no_more g old db ran (ap (λ (d : Database). d.schema) now ∙ tables.holds_rows.schema))
-      | inl (inr unindexed) ↦ absurd (makes_no_unindexed g old db ran (ap (λ (d : Database). d.schema) now ∙ unindexed.holds_rows.schema))
-      | inr (inl first) ↦ absurd (makes_no_second g old db ran (ap (λ (d : Database). d.schema) now ∙ first.holds_rows.schema))
+      | inl (inl tables) ↦ absurd (never_ran ran (ap (λ (d : Database). d.schema) now ∙ tables.holds_rows.schema) makes_again)
+      | inl (inr unindexed) ↦ absurd (never_ran ran (ap (λ (d : Database). d.schema) now ∙ unindexed.holds_rows.schema) makes_over_unindexed)
+      | inr (inl first) ↦ absurd (never_ran ran (ap (λ (d : Database). d.schema) now ∙ first.holds_rows.schema) makes_over_first)
       | inr (inr blank) ↦ subst (HoldsClub db) (sym blank.1) (made_tables g old db ran (ap (λ (d : Database). d.schema) now ∙ blank.0))
     ]
 

@@ -1,7 +1,7 @@
 -- Rows that are asked for by slot, by key and number, and by key.
-use Rattle.std.proofs.Common.{◌≡◌, ◌≢◌, ℕ, pos, Bool, true, false, not, ◌&&◌, ◌==◌, Option, Some, None, inl, inr, List, [], ◌∷◌, map, codes, refl, sym, ap}
+use Rattle.std.proofs.Common.{◌≡◌, ◌≢◌, ◌≤◌, ℕ, pos, Bool, true, false, not, ◌&&◌, ◌==◌, Option, Some, None, inl, inr, List, length, [], ◌∷◌, map, codes, refl, sym, ap}
 use Rattle.std.proofs.Common.{◌∙◌}
-use Rattle.std.specs.Prelude.{filter, option_map, unwrap_or, IsPermutation}
+use Rattle.std.specs.Prelude.{AllPairs, filter, option_map, unwrap_or, IsPermutation}
 use Rattle.std.specs.Option.{option_to_list}
 use Rattle.std.specs.Cmp.{unsigned_Decides}
 use Rattle.std.proofs.lemmas.Slice.Eq.{bytes_eq-Decides}
@@ -33,21 +33,21 @@ use Rattle.club_tables.specs.Tables.{slots_tree, bookings_tree}
 use Rattle.club_tables.specs.Statements.{select, is_given}
 use Rattle.club_tables.proofs.statements.SelectLemmas.{text_equal, whole_equal, apart_from_pairs, one_passes}
 use Rattle.club_tables.proofs.crashes.RepresentsLemmas.{Asks, Shows, asked_tables, asked_shows, bookings_held}
-use Rattle.club_tables.proofs.queries.KeyLemmas.{and_true, first_returned}
+use Rattle.club_tables.proofs.queries.KeyLemmas.{and_true, both_tests, first_returned}
 
 slot_asks : Asks club_schema SLOT.now (select (inner slots_tree end) (is_given 1 0 ∷ is_given 2 1 ∷ is_given 3 2 ∷ []) (col 1 4 ∷ col 1 5 ∷ []))
     (codes "closed" ∷ codes "taken" ∷ [])
 unfolding understood everything
 slot_asks = record { is = refl; plain = (refl, refl); unlisted = refl }
 
+pub three : (a b c : Bool) → (a && (b && (c && true))) ≡ (a && b && c)
+three true true true = refl
+three true true false = refl
+three true false c = refl
+three false b c = refl
+
 three_tests : (a a' b b' c c' : Bool) → a ≡ a' → b ≡ b' → c ≡ c' → (a && (b && (c && true))) ≡ (a' && b' && c')
 three_tests a a' b b' c c' p q r = three a b c ∙ cc
-  where
-    three : (a b c : Bool) → (a && (b && (c && true))) ≡ (a && b && c)
-    three true true true = refl
-    three true true false = refl
-    three true false c = refl
-    three false b c = refl
 
 pub same_slots : (a b : Slot) → same_slot a b ≡ true → a ≡ b
 same_slots a b h =
@@ -75,14 +75,30 @@ slot_shown g old slot rows clean asked club others represents =
     (apart_from_pairs R tables.rows.slots tables.storage.once) in
     shows_by club slot (row_of slot tables.rows.slots) rows (first_returned show p tables.rows.slots rows low same) (tables.storage.slots slot)
 
-two_tests : (a a' b b' : Bool) → a ≡ a' → b ≡ b' → (a && (b && true)) ≡ (a' && b')
-two_tests a a' b b' p q = let e = and_true b in cc
-
 abbrev pub booking_terms : List Term
 booking_terms = map (col 1) (1 ∷ 2 ∷ 3 ∷ 4 ∷ 5 ∷ 6 ∷ 7 ∷ 8 ∷ 9 ∷ 10 ∷ [])
 
 abbrev pub booking_names : List (List ℕ)
 booking_names = map codes ("pass_key" ∷ "number" ∷ "facility" ∷ "day" ∷ "hour" ∷ "guests" ∷ "charge" ∷ "remains" ∷ "cancelled" ∷ "refund" ∷ [])
+
+-- keys and numbers identify the bookings
+abbrev pub AreBookingsOnce : List Booking → Type 0
+AreBookingsOnce = AllPairs (λ (a : Booking) (b : Booking). ¬ ((a.key ≡ b.key) × (a.number ≡ b.number)))
+
+abbrev pub is_numbered : List ℕ → ℕ → Booking → Bool
+is_numbered key number booking = is_under key booking && booking.number == number
+
+pub one_numbered : (key : List ℕ) (number : ℕ) (bookings : List Booking) → AreBookingsOnce bookings → length (filter (is_numbered key number) bookings) ≤ 1
+one_numbered key number bookings unique =
+    let R : Booking → Booking → Type 0 = λ a b. ¬ ((a.key ≡ b.key) × (a.number ≡ b.number)) in
+    one_passes R (is_numbered key number) bookings (λ x y a b apart.
+    let p = and_parts _ _ a in
+    let q = and_parts _ _ b in
+    apart (
+      (bytes_eq-Decides x.key key).0 p.0 ∙ sym ((bytes_eq-Decides y.key key).0 q.0),
+      (unsigned_Decides x.number number).0 p.1 ∙ sym ((unsigned_Decides y.number number).0 q.1),
+    ))
+    (apart_from_pairs R bookings unique)
 
 booking_asks : Asks club_schema BOOKING.now (select (inner bookings_tree end) (is_given 1 0 ∷ is_given 2 1 ∷ []) booking_terms) booking_names
 unfolding understood everything
@@ -92,20 +108,10 @@ pub booking_shown : {S : Type 0} (g : Ghosts S) (old : Held S) (key : List ℕ) 
     (λ club rows. rows ≡ map booking_values (option_to_list (booking_under key number club.bookings)))
 booking_shown g old key number rows clean asked club others represents =
     let tables = asked_tables asked clean club others represents in
-    let p : Booking → Bool = λ booking. is_under key booking && booking.number == number in
-    let R : Booking → Booking → Type 0 = λ a b. ¬ ((a.key ≡ b.key) × (a.number ≡ b.number)) in
+    let p = is_numbered key number in
     let same = asked_shows asked booking_asks tables booking_values p booking_values (λ id b.
-    two_tests _ _ _ _ (text_equal b.key key) (whole_equal b.number number)) (λ id b. refl) club.bookings (bookings_held _ club tables) in
-    let low = one_passes R p club.bookings (λ x y a b apart.
-    let m = and_parts _ _ a in
-    let n = and_parts _ _ b in
-    apart (
-      (bytes_eq-Decides x.key key).0 m.0 ∙ sym ((bytes_eq-Decides y.key key).0 n.0),
-      (unsigned_Decides x.number number).0 m.1
-          ∙ sym ((unsigned_Decides y.number number).0 n.1),
-    ))
-    (apart_from_pairs R club.bookings tables.sound.unique.bookings) in
-    first_returned booking_values p club.bookings rows low same
+    both_tests _ _ _ _ (text_equal b.key key) (whole_equal b.number number)) (λ id b. refl) club.bookings (bookings_held _ club tables) in
+    first_returned booking_values p club.bookings rows (one_numbered key number club.bookings tables.sound.unique.bookings) same
 
 abbrev pub is_uncancelled : Term
 is_uncancelled = op2 (Compare Eq Binary) (col 1 9) (lit (Int (pos 0)))

@@ -47,6 +47,9 @@ pub and_true : (b : Bool) → (b && true) ≡ b
 and_true true = refl
 and_true false = refl
 
+pub both_tests : (a a' b b' : Bool) → a ≡ a' → b ≡ b' → (a && (b && true)) ≡ (a' && b')
+both_tests a a' b b' p q = let e = and_true b in cc
+
 one_listed : {X : Type 0} (xs : List X) → length xs ≤ 1 → xs ≡ option_to_list (slice_get xs 0)
 one_listed [] low = refl
 one_listed (x ∷ []) low = refl

@@ -102,7 +102,7 @@ found_counts {X} p (x ∷ xs) one found = go (p x) found (found_counts p xs one)
     go true found more = omega arith
     go false found more = more found
 
-fewer : {X : Type 0} (p q : X → Bool) → Implies p q → (xs : List X) → length (filter p xs) ≤ length (filter q xs)
+pub fewer : {X : Type 0} (p q : X → Bool) → Implies p q → (xs : List X) → length (filter p xs) ≤ length (filter q xs)
 fewer p q implies [] = omega arith
 fewer {X} p q implies (x ∷ xs) = go (p x) (q x) refl refl (fewer p q implies xs)
   where

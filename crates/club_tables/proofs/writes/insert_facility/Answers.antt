@@ -1,8 +1,5 @@
-use Rattle.std.proofs.Common.{arith}
 use Rattle.club_core.specs.declared.change.Change.TheVariants.{InsertFacility}
-use Rattle.club_tables.proofs.changes.MadeLemmas.{facility_made}
-use Rattle.club_tables.proofs.changes.EnoughLemmas.{facility_less}
-use Rattle.club_tables.proofs.changes.WriteLemmas.{makes}
+use Rattle.club_tables.proofs.changes.ChangedLemmas.{changes}
 use Rattle.club_tables.proofs.writes.insert_facility.Goals as goal
 
 pub returns-clause-commits : goal.returns-clause-commits
@@ -10,8 +7,5 @@ returns-clause-commits g c = rw c.of_facility-values.ensures at c.write.ensures.
 
 pub returns-clause-makes : goal.returns-clause-makes
 returns-clause-makes g c =
-    makes g.S.Store (InsertFacility c.args.facility.now) (omega arith) c.args.conn.now c.write.new.conn c.write.result (returns-clause-commits g c)
+    changes (InsertFacility c.args.facility.now) (λ none. none) (returns-clause-commits g c)
     (λ is_open trees may. g.met.S.Store.settled c.write.new.conn.store trees is_open may)
-    (λ db club tables ran. tt)
-    (λ db club tables fits ran. facility_made g.S.Store c.args.conn.now db club tables c.args.facility.now fits ran)
-    (λ club fits tables mid fault failed. facility_less g.S.Store c.args.conn.now mid fault club tables c.args.facility.now failed)
