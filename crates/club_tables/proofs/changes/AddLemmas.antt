@@ -44,9 +44,8 @@ pub member_put : (old new : State) (rows : Rows) → HoldsRows old.now rows → 
     → Executes ADD_MEMBER.now (Text member.name ∷ whole member.credited ∷ whole member.quota ∷ []) old new (Ok count)
     → HoldsRows new.now (record rows { members = rows.members ++ (new_row member) ∷ [] }) × (1 ≤ count)
 member_put old new rows holds_rows member count ran =
-    let put = inserts old new club_schema holds_rows.schema ADD_MEMBER.now member_means.plain 1 member_table member_terms 5 (Text member.name ∷ whole member.credited
-    ∷ whole member.quota ∷ []) (member_values (new_row member)) refl member_means.is refl refl refl
-    (rw (cast_null, cast_int (pos member.credited), cast_int (pos member.quota), cast_int (pos 0))) (λ row. refl) count ran in (
+    let put = inserts member_means member_table refl refl refl (λ row. refl) old new holds_rows.schema (Text member.name ∷ whole member.credited ∷ whole member.quota ∷ []) (member_values (new_row member)) refl
+    (rw (cast_null, cast_int (pos member.credited), cast_int (pos member.quota), cast_int (pos 0))) count ran in (
       on_members holds_rows put.0
           (subst (λ rs. Holds member_values rs (rows.members ++ new_row member ∷ [])) (sym put.1) (holds_more member_values _ rows.members (new_row member) holds_rows.held.members)),
       put.2,
@@ -68,10 +67,8 @@ pub facility_put : (old new : State) (rows : Rows) → HoldsRows old.now rows �
     → Executes ADD_FACILITY.now (facility_values facility) old new (Ok count)
     → HoldsRows new.now (record rows { facilities = rows.facilities ++ facility ∷ [] }) × (1 ≤ count)
 facility_put old new rows holds_rows facility count ran =
-    let put = inserts old new club_schema holds_rows.schema ADD_FACILITY.now facility_means.plain 2 facility_table facility_terms 7 (facility_values facility)
-    (facility_values facility) refl facility_means.is refl refl refl
-    (rw (cast_null, cast_int (pos facility.places), cast_int (pos facility.price), cast_int (pos facility.opens), cast_int (pos facility.shuts))) (λ row.
-    refl) count ran in (
+    let put = inserts facility_means facility_table refl refl refl (λ row. refl) old new holds_rows.schema (facility_values facility) (facility_values facility) refl
+    (rw (cast_null, cast_int (pos facility.places), cast_int (pos facility.price), cast_int (pos facility.opens), cast_int (pos facility.shuts))) count ran in (
       on_facilities holds_rows put.0
           (subst (λ rs. Holds facility_values rs (rows.facilities ++ facility ∷ [])) (sym put.1) (holds_more facility_values _ rows.facilities facility holds_rows.held.facilities)),
       put.2,
@@ -92,9 +89,8 @@ key_means = record { is = refl; plain = (refl, refl) }
 pub key_put : (old new : State) (rows : Rows) → HoldsRows old.now rows → (key : Key) (count : ℕ) → Executes ADD_KEY.now (key_values key) old new (Ok count)
     → HoldsRows new.now (record rows { keys = rows.keys ++ key ∷ [] }) × (1 ≤ count)
 key_put old new rows holds_rows key count ran =
-    let put = inserts old new club_schema holds_rows.schema ADD_KEY.now key_means.plain 3 key_table key_terms 5 (key_values key)
-    (key_values key) refl key_means.is refl refl refl
-    (rw (cast_null, cast_int (pos (truth key.revoked)))) (λ row. refl) count ran in (
+    let put = inserts key_means key_table refl refl refl (λ row. refl) old new holds_rows.schema (key_values key) (key_values key) refl
+    (rw (cast_null, cast_int (pos (truth key.revoked)))) count ran in (
       on_keys holds_rows put.0
           (subst (λ rs. Holds key_values rs (rows.keys ++ key ∷ [])) (sym put.1) (holds_more key_values _ rows.keys key holds_rows.held.keys)),
       put.2,
@@ -116,8 +112,7 @@ pub booking_put : (old new : State) (rows : Rows) → HoldsRows old.now rows →
     → Executes ADD_BOOKING.now (booking_values booking) old new (Ok count)
     → HoldsRows new.now (record rows { bookings = rows.bookings ++ booking ∷ [] }) × (1 ≤ count)
 booking_put old new rows holds_rows booking count ran =
-    let put = inserts old new club_schema holds_rows.schema ADD_BOOKING.now booking_means.plain 5 booking_table booking_terms 11 (booking_values booking)
-    (booking_values booking) refl booking_means.is refl refl refl
+    let put = inserts booking_means booking_table refl refl refl (λ row. refl) old new holds_rows.schema (booking_values booking) (booking_values booking) refl
     (rw (
       cast_null,
       cast_int (pos booking.number),
@@ -128,8 +123,7 @@ booking_put old new rows holds_rows booking count ran =
       cast_int (pos booking.left),
       cast_int (pos (truth booking.cancelled)),
       cast_int (pos booking.refund),
-    )) (λ row.
-    refl) count ran in (
+    )) count ran in (
       on_bookings holds_rows put.0
           (subst (λ rs. Holds booking_values rs (rows.bookings ++ booking ∷ [])) (sym put.1) (holds_more booking_values _ rows.bookings booking holds_rows.held.bookings)),
       put.2,

@@ -27,7 +27,6 @@ use Rattle.club_core.specs.Sums.{taken_in}
 use Rattle.club_tables.specs.declared.row.MemberRow.{MemberRow}
 use Rattle.club_tables.specs.Columns.{whole}
 use Rattle.club_tables.specs.Stored.{SlotRow, member_row, used_by, no_slot_use, stored_slot_use}
-use Rattle.club_tables.specs.Tables.{HoldsClub}
 use Rattle.club_tables.specs.Transaction.{BoundStatement, Ran, transaction_start}
 use Rattle.club_tables.proofs.queries.BookingLemmas.{same_slots}
 use Rattle.club_tables.proofs.changes.ChangeLemmas.{AreNamedOnce, Credits, Uses, name_of}
@@ -52,9 +51,6 @@ module _ {S : Type 0} (g : Ghosts S) (old : Held S) (db : Database) where
 
   pub one_turn : (statement : BoundStatement) → Ran g 1 (statement ∷ []) old db → Turn statement
   one_turn statement ran = let t = ran.turns in record { mid = t.0; count = t.1; ran = t.2; left = ran.is ∙ ap (λ h. (state g h).now) t.3; some = t.4 }
-
-  pub held_by : (club : Club) (mid : Held S) → db ≡ (state g mid).now → HoldsClub (state g mid).now club → HoldsClub db club
-  held_by club mid left tables = subst (λ (d : Database). HoldsClub d club) (sym left) tables
 
 -- ---- rows of members
 

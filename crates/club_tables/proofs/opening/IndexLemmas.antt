@@ -7,15 +7,15 @@ use Rattle.sqlite.specs.Listing.{understood}
 use Rattle.sqlite.specs.State.{HasCleanDisk, Survives}
 use Rattle.sqlite.specs.Held.{Held, state}
 use Rattle.club_core.specs.Club.{Club}
-use Rattle.club_tables.specs.declared.texts.TheConstants.{MAKE_BOOKINGS_BY_KEY, DROP_BOOKINGS_BY_KEY}
-use Rattle.club_tables.specs.Schema.{bookings_by_key, unindexed_schema}
+use Rattle.club_tables.specs.declared.texts.TheConstants.{DROP_BOOKINGS_BY_KEY}
+use Rattle.club_tables.specs.Schema.{unindexed_schema}
 use Rattle.club_tables.specs.Opening.{index_batch}
 use Rattle.club_tables.specs.Stored.{Rows}
 use Rattle.club_tables.specs.Tables.{HoldsClub, HoldsClubUnindexed, HoldsRowsWith, HoldsRows, Represents, RepresentsVersion2}
 use Rattle.club_tables.specs.Transaction.{Ran, IsKept, IsUnderstood, transaction_start}
 use Rattle.club_tables.proofs.statements.HoldsRowsLemmas.{trees_kept}
 use Rattle.club_tables.proofs.statements.InsertLemmas.{indexes}
-use Rattle.club_tables.proofs.opening.MakesLemmas.{makes_bookings_by_key, bookings_made, indexes_again, drops_none, never_ran}
+use Rattle.club_tables.proofs.opening.MakesLemmas.{makes_bookings_by_key, indexes_again, drops_none, never_ran}
 use Rattle.club_tables.proofs.crashes.RepresentsLemmas.{keeps_second}
 
 module _ {S : Type 0} (g : Ghosts S) (old : Held S) (db : Database) (ran : Ran g 0 index_batch old db) where
@@ -23,9 +23,7 @@ module _ {S : Type 0} (g : Ghosts S) (old : Held S) (db : Database) (ran : Ran g
   indexed_rows : (rows : Rows) → HoldsRowsWith unindexed_schema (state g old).now rows → HoldsRows db rows
   indexed_rows rows holds_rows =
       let t1 = ran.turns in
-      let c1 = indexes (state g (transaction_start old))
-      (state g t1.0) unindexed_schema holds_rows.schema MAKE_BOOKINGS_BY_KEY.now makes_bookings_by_key.plain 5 bookings_made
-      bookings_by_key makes_bookings_by_key.listed makes_bookings_by_key.is makes_bookings_by_key.whole makes_bookings_by_key.defined t1.1 t1.2 in
+      let c1 = indexes makes_bookings_by_key (state g (transaction_start old)) (state g t1.0) holds_rows.schema t1.1 t1.2 in
       let is : db ≡ (state g t1.0).now = ran.is ∙ ap (λ h. (state g h).now) t1.3 in
       subst (λ (d : Database). HoldsRows d rows) (sym is) (record { schema = c1.0; held = trees_kept c1.1 holds_rows.held; database = c1.2 })
 

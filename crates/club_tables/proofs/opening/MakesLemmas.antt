@@ -1,5 +1,5 @@
 -- What the texts of the tables mean, each over the tables before it.
-use Rattle.std.proofs.Common.{◌≡◌, ℕ, List, [], ◌∷◌, Ok, Some, slice_get, false, refl, sym, ap, ◌∙◌, true≢false}
+use Rattle.std.proofs.Common.{◌≡◌, ℕ, List, [], ◌∷◌, false, refl, sym, ap, ◌∙◌, true≢false}
 use Rattle.sqlite.specs.Store.{Ghosts}
 use Rattle.sqlite.specs.Effect.{Database}
 use Rattle.sqlite.specs.State.{ExecutesIn}
@@ -9,26 +9,13 @@ use Rattle.std.specs.Prelude.{is_ok}
 use Rattle.sqlite_tied.specs.Compute.{everything}
 use Rattle.sqlite.specs.Schema.{Schema}
 use Rattle.sqlite.specs.Table.{Table}
-use Rattle.sqlite.specs.Compile.{table_defined_by}
-use Rattle.sqlite_resolve.specs.Compile.{index_defined_by}
-use Rattle.sqlite_schema.specs.declared.schema.Index.{Index}
 use Rattle.sqlite.specs.Change.{created}
-use Rattle.sqlite.specs.Command.TheVariants.{CreateTable, CreateIndex}
-use Rattle.sqlite.specs.Does.{lacks_sequence}
 use Rattle.sqlite.specs.Listing.{understood}
-use Rattle.sqlite.proofs.Callers.{IsPlain, command_of, statement_of}
+use Rattle.club_tables.proofs.statements.MeansLemmas.{Makes, MakesIndex}
 use Rattle.club_tables.specs.Schema.{no_schema, desk_table, members_table, facilities_table, keys_table, slots_table, bookings_table, six_tables}
 use Rattle.club_tables.specs.Schema.{old_roots_table, keys_by_member, first_schema, unindexed_schema, bookings_by_key, club_schema}
 use Rattle.club_tables.specs.declared.texts.TheConstants.{MAKE_DESK, MAKE_MEMBERS, MAKE_FACILITIES, MAKE_KEYS, MAKE_SLOTS, MAKE_BOOKINGS, MAKE_KEYS_BY_MEMBER}
 use Rattle.club_tables.specs.declared.texts.TheConstants.{MAKE_OLD_ROOTS, MAKE_BOOKINGS_BY_KEY, DROP_BOOKINGS_BY_KEY}
-
--- the text makes the table
-pub record Makes (schema : Schema) (text : List ℕ) (table : Table) : Type 0 where
-  pub plain : IsPlain (understood schema text)
-  pub is : command_of (understood schema text) ≡ CreateTable
-  pub whole : statement_of text (understood schema text) ≡ text
-  pub defined : table_defined_by text ≡ Ok table
-  pub uncounted : lacks_sequence (created schema table) ≡ false
 
 pub makes_desk : Makes no_schema MAKE_DESK.now desk_table
 unfolding understood everything
@@ -71,14 +58,6 @@ makes_bookings = record { plain = (refl, refl); is = refl; whole = refl; defined
 
 abbrev pub keys_made : Table
 keys_made = record keys_table { tree = 5 }
-
--- the text makes the index
-pub record MakesIndex (schema : Schema) (text : List ℕ) (at : ℕ) (table : Table) (index : Index) : Type 0 where
-  pub plain : IsPlain (understood schema text)
-  pub listed : slice_get schema.tables at ≡ Some table
-  pub is : command_of (understood schema text) ≡ CreateIndex at
-  pub whole : statement_of text (understood schema text) ≡ text
-  pub defined : index_defined_by table text ≡ Ok index
 
 pub makes_keys_by_member : MakesIndex six_tables MAKE_KEYS_BY_MEMBER.now 3 keys_made keys_by_member
 unfolding understood everything

@@ -13,10 +13,9 @@ use Rattle.sqlite.specs.State.{ExecutesIn}
 use Rattle.sqlite.specs.Held.{Held, state}
 use Rattle.club_tables.proofs.statements.MeansLemmas.{Means}
 use Rattle.club_core.specs.Club.{IsSound, empty_club}
-use Rattle.club_tables.specs.declared.texts.TheConstants.{MAKE_DESK, MAKE_MEMBERS, MAKE_FACILITIES, MAKE_KEYS, MAKE_SLOTS, MAKE_BOOKINGS, MAKE_KEYS_BY_MEMBER}
-use Rattle.club_tables.specs.declared.texts.TheConstants.{MAKE_OLD_ROOTS, MAKE_BOOKINGS_BY_KEY, ADD_VERSION}
-use Rattle.club_tables.specs.Schema.{no_schema, desk_table, members_table, facilities_table, keys_table, slots_table, bookings_table, six_tables}
-use Rattle.club_tables.specs.Schema.{old_roots_table, keys_by_member, first_schema, unindexed_schema, bookings_by_key, club_schema}
+use Rattle.club_tables.specs.declared.texts.TheConstants.{ADD_VERSION}
+use Rattle.club_tables.specs.Schema.{no_schema, desk_table}
+use Rattle.club_tables.specs.Schema.{club_schema}
 use Rattle.club_tables.specs.Columns.{whole, version_values}
 use Rattle.club_tables.specs.Opening.{table_batch, HasNoDesk}
 use Rattle.club_tables.specs.Stored.{Rows, IsStoredAs}
@@ -25,16 +24,8 @@ use Rattle.club_tables.specs.Transaction.{Ran, transaction_start}
 use Rattle.club_tables.proofs.opening.DeskLemmas.{desk_made}
 use Rattle.club_tables.proofs.statements.InsertLemmas.{creates, indexes, inserts, cast_null, cast_int}
 use Rattle.club_tables.proofs.lists.RowLemmas.{holds_more, holds_none}
-use Rattle.club_tables.proofs.opening.MakesLemmas.{schema_1, schema_2, schema_3, schema_4, schema_5, makes_desk, makes_members, makes_facilities, makes_keys}
-use Rattle.club_tables.proofs.opening.MakesLemmas.{
-  makes_slots,
-  makes_bookings,
-  keys_made,
-  bookings_made,
-  makes_keys_by_member,
-  makes_old_roots,
-  makes_bookings_by_key,
-}
+use Rattle.club_tables.proofs.opening.MakesLemmas.{makes_desk, makes_members, makes_facilities, makes_keys}
+use Rattle.club_tables.proofs.opening.MakesLemmas.{makes_slots, makes_bookings, makes_keys_by_member, makes_old_roots, makes_bookings_by_key}
 
 abbrev version_terms : List Term
 version_terms = lit Null ∷ lit (Int (pos 2)) ∷ []
@@ -101,26 +92,17 @@ module _ {S : Type 0} (g : Ghosts S) (old : Held S) (db : Database) (ran : Ran g
       let t8 = t7.3 in
       let t9 = t8.3 in
       let t10 = t9.3 in
-      let c1 = creates (state g (transaction_start old)) (state g t1.0) no_schema has MAKE_DESK.now makes_desk.plain desk_table makes_desk.is makes_desk.whole
-      makes_desk.defined makes_desk.uncounted t1.1 t1.2 in
-      let c2 = creates (state g t1.0) (state g t2.0) schema_1 c1.1 MAKE_MEMBERS.now makes_members.plain members_table makes_members.is makes_members.whole
-      makes_members.defined makes_members.uncounted t2.1 t2.2 in
-      let c3 = creates (state g t2.0) (state g t3.0) schema_2 c2.1 MAKE_FACILITIES.now makes_facilities.plain facilities_table makes_facilities.is
-      makes_facilities.whole makes_facilities.defined makes_facilities.uncounted t3.1 t3.2 in
-      let c4 = creates (state g t3.0) (state g t4.0) schema_3 c3.1 MAKE_KEYS.now makes_keys.plain keys_table makes_keys.is makes_keys.whole makes_keys.defined
-      makes_keys.uncounted t4.1 t4.2 in
-      let c5 = creates (state g t4.0) (state g t5.0) schema_4 c4.1 MAKE_SLOTS.now makes_slots.plain slots_table makes_slots.is makes_slots.whole
-      makes_slots.defined makes_slots.uncounted t5.1 t5.2 in
-      let c6 = creates (state g t5.0) (state g t6.0) schema_5 c5.1 MAKE_BOOKINGS.now makes_bookings.plain bookings_table makes_bookings.is makes_bookings.whole
-      makes_bookings.defined makes_bookings.uncounted t6.1 t6.2 in
-      let c7 = indexes (state g t6.0) (state g t7.0) six_tables c6.1 MAKE_KEYS_BY_MEMBER.now makes_keys_by_member.plain 3 keys_made keys_by_member
-      makes_keys_by_member.listed makes_keys_by_member.is makes_keys_by_member.whole makes_keys_by_member.defined t7.1 t7.2 in
-      let c8 = creates (state g t7.0) (state g t8.0) first_schema c7.0 MAKE_OLD_ROOTS.now makes_old_roots.plain old_roots_table makes_old_roots.is
-      makes_old_roots.whole makes_old_roots.defined makes_old_roots.uncounted t8.1 t8.2 in
-      let c9 = indexes (state g t8.0) (state g t9.0) unindexed_schema c8.1 MAKE_BOOKINGS_BY_KEY.now makes_bookings_by_key.plain 5 bookings_made bookings_by_key
-      makes_bookings_by_key.listed makes_bookings_by_key.is makes_bookings_by_key.whole makes_bookings_by_key.defined t9.1 t9.2 in
-      let c10 = inserts (state g t9.0) (state g t10.0) club_schema c9.0 ADD_VERSION.now version_means.plain 0 desk_table version_terms 2 [] (whole 2 ∷ []) refl
-      version_means.is refl refl refl (rw (cast_null, cast_int (pos 2))) (λ row. refl) t10.1 t10.2 in
+      let c1 = creates makes_desk (state g (transaction_start old)) (state g t1.0) has t1.1 t1.2 in
+      let c2 = creates makes_members (state g t1.0) (state g t2.0) c1.1 t2.1 t2.2 in
+      let c3 = creates makes_facilities (state g t2.0) (state g t3.0) c2.1 t3.1 t3.2 in
+      let c4 = creates makes_keys (state g t3.0) (state g t4.0) c3.1 t4.1 t4.2 in
+      let c5 = creates makes_slots (state g t4.0) (state g t5.0) c4.1 t5.1 t5.2 in
+      let c6 = creates makes_bookings (state g t5.0) (state g t6.0) c5.1 t6.1 t6.2 in
+      let c7 = indexes makes_keys_by_member (state g t6.0) (state g t7.0) c6.1 t7.1 t7.2 in
+      let c8 = creates makes_old_roots (state g t7.0) (state g t8.0) c7.0 t8.1 t8.2 in
+      let c9 = indexes makes_bookings_by_key (state g t8.0) (state g t9.0) c8.1 t9.1 t9.2 in
+      let c10 = inserts version_means desk_table refl refl refl (λ row. refl) (state g t9.0) (state g t10.0) c9.0 [] (whole 2 ∷ []) refl
+      (rw (cast_null, cast_int (pos 2))) t10.1 t10.2 in
       let kept = c9.1 in
       let desk : (state g t9.0).now.trees 0 ≡ [] = kept.0 ∙ c8.3.0 ∙ c7.1.0 ∙ c6.3.0 ∙ c5.3.0 ∙ c4.3.0 ∙ c3.3.0 ∙ c2.3.0 ∙ c1.2 in
       let members : (state g t9.0).now.trees 1 ≡ [] = kept.1.0 ∙ c8.3.1.0 ∙ c7.1.1.0 ∙ c6.3.1.0 ∙ c5.3.1.0 ∙ c4.3.1.0 ∙ c3.3.1.0 ∙ c2.2 in

@@ -13,8 +13,8 @@ use Rattle.sqlite.specs.State.{HasCleanDisk}
 use Rattle.sqlite.specs.Held.{Held, state}
 use Rattle.club_tables.proofs.statements.MeansLemmas.{Means}
 use Rattle.club_core.specs.Club.{Club}
-use Rattle.club_tables.specs.declared.texts.TheConstants.{MAKE_OLD_ROOTS, MAKE_BOOKINGS_BY_KEY, SET_VERSION}
-use Rattle.club_tables.specs.Schema.{desk_table, old_roots_table, bookings_by_key, first_schema, unindexed_schema, club_schema}
+use Rattle.club_tables.specs.declared.texts.TheConstants.{SET_VERSION}
+use Rattle.club_tables.specs.Schema.{desk_table, club_schema}
 use Rattle.club_tables.specs.Columns.{version_values}
 use Rattle.club_tables.specs.Opening.{migration}
 use Rattle.club_tables.specs.Statements.{select}
@@ -22,7 +22,7 @@ use Rattle.club_tables.specs.Stored.{Rows}
 use Rattle.club_tables.specs.Tables.{HoldsClub, HoldsClubVersion1, HoldsRowsVersion1, HoldsRows, HoldsTrees, RepresentsVersion1, desk_tree}
 use Rattle.club_tables.specs.Transaction.{Ran, transaction_start}
 use Rattle.club_tables.proofs.statements.InsertLemmas.{creates, indexes, cast_int}
-use Rattle.club_tables.proofs.opening.MakesLemmas.{makes_old_roots, makes_bookings_by_key, bookings_made}
+use Rattle.club_tables.proofs.opening.MakesLemmas.{makes_old_roots, makes_bookings_by_key}
 use Rattle.club_tables.proofs.statements.HoldsRowsLemmas.{but, others_kept, trees_kept}
 use Rattle.club_tables.proofs.statements.UpdateLemmas.{updates, finds, changes_one}
 
@@ -44,11 +44,8 @@ module _ {S : Type 0} (g : Ghosts S) (old : Held S) (db : Database) (ran : Ran g
       let t2 = t1.3 in
       let t3 = t2.3 in
       let mid = (state g t2.0).now in
-      let c1 = creates (state g (transaction_start old))
-      (state g t1.0) first_schema holds_rows.schema MAKE_OLD_ROOTS.now makes_old_roots.plain old_roots_table makes_old_roots.is
-      makes_old_roots.whole makes_old_roots.defined makes_old_roots.uncounted t1.1 t1.2 in
-      let c2 = indexes (state g t1.0) (state g t2.0) unindexed_schema c1.1 MAKE_BOOKINGS_BY_KEY.now makes_bookings_by_key.plain 5 bookings_made bookings_by_key
-      makes_bookings_by_key.listed makes_bookings_by_key.is makes_bookings_by_key.whole makes_bookings_by_key.defined t2.1 t2.2 in
+      let c1 = creates makes_old_roots (state g (transaction_start old)) (state g t1.0) holds_rows.schema t1.1 t1.2 in
+      let c2 = indexes makes_bookings_by_key (state g t1.0) (state g t2.0) c1.1 t2.1 t2.2 in
       let put = updates version_means version_table refl {old = state g t2.0} {new = state g t3.0} c2.0 t3.2 in
       let next = (state g t3.0).now in
       let kept = c2.1 in

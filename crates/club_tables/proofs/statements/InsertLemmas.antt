@@ -17,8 +17,6 @@ use Rattle.sqlite.specs.Table.{Table}
 use Rattle.sqlite.specs.Kind.TheVariants.{Integer}
 use Rattle.sqlite.specs.Source.TheVariants.{Values}
 use Rattle.sqlite.specs.Command.TheVariants.{Insert, CreateTable, CreateIndex}
-use Rattle.sqlite.specs.Compile.{table_defined_by}
-use Rattle.sqlite_resolve.specs.Compile.{index_defined_by}
 use Rattle.sqlite_schema.specs.declared.schema.Index.{Index}
 use Rattle.sqlite_catalog.specs.Change.{indexed}
 use Rattle.sqlite.specs.Change.{created, next_tree, is_used, KeepsRows}
@@ -33,8 +31,8 @@ use Rattle.sqlite.specs.Rows.{Written, stamped, count_of, rowids_for}
 use Rattle.sqlite.specs.Effect.{Database, IsDatabase, value_rows}
 use Rattle.sqlite.specs.Listing.{understood}
 use Rattle.sqlite.specs.State.{State, mode_of, Writes, Executes}
-use Rattle.sqlite.proofs.Callers.{IsPlain, command_of, statement_of, runs_as, one_step}
-use Rattle.club_tables.proofs.statements.MeansLemmas.{Wrote}
+use Rattle.sqlite.proofs.Callers.{statement_of, runs_as, one_step}
+use Rattle.club_tables.proofs.statements.MeansLemmas.{Makes, MakesIndex, Means, Wrote}
 
 -- a part that gave a value did not stop on the way
 pub went : {B E R : Type 0} {b : B} {Stops : E → Type 0} → ((stop : E) × Stops stop × (Ok b ≡ Err stop)) ⊎ R → R
@@ -60,100 +58,98 @@ cast_int n = either _ (Int n)
 uncounts : (b x : Bool) (Y G : Type 0) → b ≡ false → MatchBool (cond b x false) Y G → G
 uncounts b x Y G none h = subst (λ b. MatchBool (cond b x false) Y G) none h
 
-module _ (old new : State) (schema : Schema) (has : old.now.schema ≡ schema) (text : List ℕ) (plain : IsPlain (understood schema text)) where
-  -- CREATE TABLE makes a table that is empty, and keeps the others
-  pub creates : (table : Table) → command_of (understood schema text) ≡ CreateTable → statement_of text (understood schema text) ≡ text
-      → table_defined_by text ≡ Ok table
-      → lacks_sequence (created schema table) ≡ false → (count : ℕ) → Executes text [] old new (Ok count)
-      → (is_used schema table.name ≡ false) × (new.now.schema ≡ created schema table) × (new.now.trees (next_tree schema) ≡ [])
-      × KeepsRows schema.tables old.now.trees new.now.trees
-  creates table is whole defined counts count h =
-      let w = subst (λ t. Writes old new None CreateTable t [] count) whole (runs_as text [] old new schema has CreateTable is plain count h) in
-      let all = went w.changed in
-      let first = went all.1 in
-      let made = first.1 in
-      let both : Ok made.table ≡ Ok table = sym made.defined ∙ defined in
-      let same : made.table ≡ table = cc in
-      let after : first.0.schema ≡ created schema table = made.is ∙ ap (λ s. created s made.table) has ∙ ap (created schema) same in
-      let none : lacks_sequence first.0.schema ≡ false = ap lacks_sequence after ∙ counts in
-      let now : new.now ≡ first.0 = ap (λ (p : Tally × Database). p.1) (same_value all.2) ∙ same_value (rw none at first.2) in
-      let free : is_used schema table.name ≡ false = subst (λ (t : Table). is_used schema t.name
-      ≡ false) same (subst (λ s. is_used s made.table.name ≡ false) has made.free) in (
-        free,
-        ap (λ (d : Database). d.schema) now ∙ after,
-        ap (λ (d : Database). d.trees (next_tree schema)) now ∙ subst (λ s. first.0.trees (next_tree s) ≡ []) has made.empty,
-        subst (λ (d : Database). KeepsRows schema.tables old.now.trees d.trees) (sym now)
-            (subst (λ (s : Schema). KeepsRows s.tables old.now.trees first.0.trees) has made.others),
-      )
+-- CREATE TABLE makes a table that is empty, and keeps the others
+pub creates : {schema : Schema} {text : List ℕ} {table : Table} → Makes schema text table → (old new : State) → old.now.schema ≡ schema
+    → (count : ℕ) → Executes text [] old new (Ok count)
+    → (is_used schema table.name ≡ false) × (new.now.schema ≡ created schema table) × (new.now.trees (next_tree schema) ≡ [])
+    × KeepsRows schema.tables old.now.trees new.now.trees
+creates {schema = schema} {text = text} {table = table} makes old new has count h =
+    let w = subst (λ t. Writes old new None CreateTable t [] count) makes.whole (runs_as text [] old new schema has CreateTable makes.is makes.plain count h) in
+    let all = went w.changed in
+    let first = went all.1 in
+    let made = first.1 in
+    let both : Ok made.table ≡ Ok table = sym made.defined ∙ makes.defined in
+    let same : made.table ≡ table = cc in
+    let after : first.0.schema ≡ created schema table = made.is ∙ ap (λ s. created s made.table) has ∙ ap (created schema) same in
+    let none : lacks_sequence first.0.schema ≡ false = ap lacks_sequence after ∙ makes.uncounted in
+    let now : new.now ≡ first.0 = ap (λ (p : Tally × Database). p.1) (same_value all.2) ∙ same_value (rw none at first.2) in
+    let free : is_used schema table.name ≡ false = subst (λ (t : Table). is_used schema t.name
+    ≡ false) same (subst (λ s. is_used s made.table.name ≡ false) has made.free) in (
+      free,
+      ap (λ (d : Database). d.schema) now ∙ after,
+      ap (λ (d : Database). d.trees (next_tree schema)) now ∙ subst (λ s. first.0.trees (next_tree s) ≡ []) has made.empty,
+      subst (λ (d : Database). KeepsRows schema.tables old.now.trees d.trees) (sym now)
+          (subst (λ (s : Schema). KeepsRows s.tables old.now.trees first.0.trees) has made.others),
+    )
 
-  -- CREATE INDEX keeps the rows
-  pub indexes : (at : ℕ) (table : Table) (index : Index) → slice_get schema.tables at ≡ Some table → command_of (understood schema text) ≡ CreateIndex at
-      → statement_of text (understood schema text) ≡ text
-      → index_defined_by table text ≡ Ok index → (count : ℕ) → Executes text [] old new (Ok count) → (new.now.schema ≡ indexed schema table index)
-      × KeepsRows schema.tables old.now.trees new.now.trees × IsDatabase new.now
-  indexes at table index listed is whole defined count h =
-      let w = subst (λ t. Writes old new None (CreateIndex at) t [] count) whole (runs_as text [] old new schema has (CreateIndex at) is plain count h) in
-      let does = subst (λ s. Does old.step_limit (mode_of old) [] (record old.now { schema = s }) text None (CreateIndex at) (Ok (w.tally, new.now))) has
-      w.changed in
-      let made = went (rw listed at does) in
-      let it = made.1 in
-      let both : Ok it.index ≡ Ok index = sym it.defined ∙ defined in
-      let same : it.index ≡ index = cc in
-      let now : new.now ≡ made.0 = ap (λ (p : Tally × Database). p.1) (same_value made.2) in (
-        ap (λ (d : Database). d.schema) now ∙ it.is ∙ ap (indexed schema table) same,
-        subst (λ (d : Database). KeepsRows schema.tables old.now.trees d.trees) (sym now) it.rows,
-        w.sound,
-      )
+-- CREATE INDEX keeps the rows
+pub indexes : {schema : Schema} {text : List ℕ} {at : ℕ} {table : Table} {index : Index} → MakesIndex schema text at table index → (old new : State)
+    → old.now.schema ≡ schema → (count : ℕ) → Executes text [] old new (Ok count)
+    → (new.now.schema ≡ indexed schema table index) × KeepsRows schema.tables old.now.trees new.now.trees × IsDatabase new.now
+indexes {schema = schema} {text = text} {at = at} {table = table} {index = index} makes old new has count h =
+    let listed = makes.listed in
+    let w = subst (λ t. Writes old new None (CreateIndex at) t [] count) makes.whole (runs_as text [] old new schema has (CreateIndex at) makes.is makes.plain count h) in
+    let does = subst (λ s. Does old.step_limit (mode_of old) [] (record old.now { schema = s }) text None (CreateIndex at) (Ok (w.tally, new.now))) has
+    w.changed in
+    let made = went (rw listed at does) in
+    let it = made.1 in
+    let both : Ok it.index ≡ Ok index = sym it.defined ∙ makes.defined in
+    let same : it.index ≡ index = cc in
+    let now : new.now ≡ made.0 = ap (λ (p : Tally × Database). p.1) (same_value made.2) in (
+      ap (λ (d : Database). d.schema) now ∙ it.is ∙ ap (indexed schema table) same,
+      subst (λ (d : Database). KeepsRows schema.tables old.now.trees d.trees) (sym now) it.rows,
+      w.sound,
+    )
 
-  -- INSERT puts a row at the next rowid, and keeps the other tables
-  pub inserts : (at : ℕ) (table : Table) (terms : List Term) (width : ℕ) (params values : Row) → slice_get schema.tables at ≡ Some table
-      → command_of (understood schema text) ≡ Insert at (Values terms width)
-      → table.is_counted ≡ false → table.stamps ≡ record { places = []; terms = []; formats = [] }
-      → value_rows params width (length terms / width) terms ≡ (Null ∷ values) ∷ [] → cast_row table (Null ∷ values) ≡ Null ∷ values
-      → ((row : Row) → works schema Enforced 0 table.tree [] (row ∷ []) ≡ [])
-      → (count : ℕ) → Executes text params old new (Ok count)
-      → Wrote schema old.now new.now table.tree
-      × (new.now.trees table.tree ≡ put_row (Int (next_rowid (old.now.trees table.tree)) ∷ values) (old.now.trees table.tree)) × (1 ≤ count)
-  inserts at table terms width params values listed is uncounted unstamped gives casts still count h =
-      let db = old.now.trees in
-      let command = Insert at (Values terms width) in
-      let w = runs_as text params old new schema has command is plain count h in
-      let statement = statement_of text (understood schema text) in
-      let does = subst (λ s. Does old.step_limit (mode_of old) params (record old.now { schema = s }) statement None command (Ok (w.tally, new.now))) has
-      w.changed in
-      let done = went (rw listed at does) in
-      let noted = same_value (went (went done.2).2).2 in
-      let now = ap (λ (p : Tally × Database). p.1) noted in
-      let given = went done.1 in
-      let stamp : stamped table params ≡ params = rw unstamped (append-nil params) in
-      let sourced : given.0 ≡ (Null ∷ values) ∷ [] = given.1.1 ∙ ap (λ p. value_rows p width (length terms / width) terms) stamp ∙ gives in
-      let c1 = went given.2 in
-      let written = went c1.2 in
-      let written_count = went written.2 in
-      let top : Ok written_count.0 ≡ Ok written.0 = uncounts table.is_counted _ _ _ uncounted written_count.1 in
-      let trees : done.0.trees ≡ written.0 = ap (λ (it : Written). it.trees) (same_value written_count.2) ∙ same_value top in
-      let edit_from : Rowids → List Row → Edit = λ rowids rows. edit_of db table [] rowids 0 rows in
-      let news = (edit_from (rowids_for table (count_of c1.0)) given.0).news in
-      let rows : done.0.rows ≡ news = ap (λ (it : Written). it.rows) (same_value written_count.2) in
-      let counted : count ≡ length done.0.rows = w.counted ∙ ap (λ (p : Tally × Database). unwrap_or p.0.rows 0) noted in
-      let numbered : length news ≡ length given.0 =
-      length-numbered (rowids_for table (count_of c1.0)) _ (map (λ (s : Row). cast_row table (drop 0 s)) given.0)
-      ∙ length-map given.0 (λ (s : Row). cast_row table (drop 0 s)) in
-      let one : length given.0 ≡ 1 = ap length sourced in
-      let chosen : ActionWrites schema Enforced db (edit_from Chosen given.0) (Ok written.0) =
-      subst (λ b. ActionWrites schema Enforced db (edit_from (cond b (Above (count_of c1.0)) Chosen) given.0) (Ok written.0)) uncounted written.1 in
-      let edit : Edit = record { table = table; gone = []; news = (Int (next_rowid (db table.tree)) ∷ values) ∷ [] } in
-      let wrote : ActionWrites schema Enforced db (edit_from Chosen ((Null ∷ values) ∷ [])) (Ok written.0) =
-      subst (λ rows. ActionWrites schema Enforced db (edit_from Chosen rows) (Ok written.0)) sourced chosen in
-      let as_edit : Row → Edit = λ row. record { table = table; gone = []; news = with_rowid Chosen (db table.tree) row ∷ [] } in
-      let put : ActionWrites schema Enforced db edit (Ok written.0) = subst (λ row. ActionWrites schema Enforced db (as_edit row) (Ok written.0)) casts wrote in
-      let applied = one_step schema Enforced db written.0 edit (still (Int (next_rowid (db table.tree)) ∷ values)) put in
-      let whole : new.now.trees ≡ written.0 = ap (λ (d : Database). d.trees) now ∙ trees in (
-        record {
-          schema = ap (λ (d : Database). d.schema) now;
-          others = subst (λ (trees : Trees). AllByRecursion (λ t. t.tree ≢ table.tree → trees t.tree ≡ db t.tree) schema.tables) (sym whole) applied.tables;
-          sound = w.sound;
-        },
-        ap (λ (t : Trees). t table.tree) whole ∙ applied.rows,
-        omega (arith, counted, ap length rows, numbered, one),
-      )
+-- INSERT puts a row at the next rowid, and keeps the other tables
+pub inserts : {schema : Schema} {text : List ℕ} {at width : ℕ} {terms : List Term} → Means schema text (Insert at (Values terms width)) → (table : Table)
+    → slice_get schema.tables at ≡ Some table → table.is_counted ≡ false → table.stamps ≡ record { places = []; terms = []; formats = [] }
+    → ((row : Row) → works schema Enforced 0 table.tree [] (row ∷ []) ≡ [])
+    → (old new : State) → old.now.schema ≡ schema → (params values : Row) → value_rows params width (length terms / width) terms ≡ (Null ∷ values) ∷ []
+    → cast_row table (Null ∷ values) ≡ Null ∷ values → (count : ℕ) → Executes text params old new (Ok count)
+    → Wrote schema old.now new.now table.tree
+    × (new.now.trees table.tree ≡ put_row (Int (next_rowid (old.now.trees table.tree)) ∷ values) (old.now.trees table.tree)) × (1 ≤ count)
+inserts {schema = schema} {text = text} {at = at} {width = width} {terms = terms} means table listed uncounted unstamped still old new has params values gives
+    casts count h =
+    let db = old.now.trees in
+    let command = Insert at (Values terms width) in
+    let w = runs_as text params old new schema has command means.is means.plain count h in
+    let statement = statement_of text (understood schema text) in
+    let does = subst (λ s. Does old.step_limit (mode_of old) params (record old.now { schema = s }) statement None command (Ok (w.tally, new.now))) has
+    w.changed in
+    let done = went (rw listed at does) in
+    let noted = same_value (went (went done.2).2).2 in
+    let now = ap (λ (p : Tally × Database). p.1) noted in
+    let given = went done.1 in
+    let stamp : stamped table params ≡ params = rw unstamped (append-nil params) in
+    let sourced : given.0 ≡ (Null ∷ values) ∷ [] = given.1.1 ∙ ap (λ p. value_rows p width (length terms / width) terms) stamp ∙ gives in
+    let c1 = went given.2 in
+    let written = went c1.2 in
+    let written_count = went written.2 in
+    let top : Ok written_count.0 ≡ Ok written.0 = uncounts table.is_counted _ _ _ uncounted written_count.1 in
+    let trees : done.0.trees ≡ written.0 = ap (λ (it : Written). it.trees) (same_value written_count.2) ∙ same_value top in
+    let edit_from : Rowids → List Row → Edit = λ rowids rows. edit_of db table [] rowids 0 rows in
+    let news = (edit_from (rowids_for table (count_of c1.0)) given.0).news in
+    let rows : done.0.rows ≡ news = ap (λ (it : Written). it.rows) (same_value written_count.2) in
+    let counted : count ≡ length done.0.rows = w.counted ∙ ap (λ (p : Tally × Database). unwrap_or p.0.rows 0) noted in
+    let numbered : length news ≡ length given.0 =
+    length-numbered (rowids_for table (count_of c1.0)) _ (map (λ (s : Row). cast_row table (drop 0 s)) given.0)
+    ∙ length-map given.0 (λ (s : Row). cast_row table (drop 0 s)) in
+    let one : length given.0 ≡ 1 = ap length sourced in
+    let chosen : ActionWrites schema Enforced db (edit_from Chosen given.0) (Ok written.0) =
+    subst (λ b. ActionWrites schema Enforced db (edit_from (cond b (Above (count_of c1.0)) Chosen) given.0) (Ok written.0)) uncounted written.1 in
+    let edit : Edit = record { table = table; gone = []; news = (Int (next_rowid (db table.tree)) ∷ values) ∷ [] } in
+    let wrote : ActionWrites schema Enforced db (edit_from Chosen ((Null ∷ values) ∷ [])) (Ok written.0) =
+    subst (λ rows. ActionWrites schema Enforced db (edit_from Chosen rows) (Ok written.0)) sourced chosen in
+    let as_edit : Row → Edit = λ row. record { table = table; gone = []; news = with_rowid Chosen (db table.tree) row ∷ [] } in
+    let put : ActionWrites schema Enforced db edit (Ok written.0) = subst (λ row. ActionWrites schema Enforced db (as_edit row) (Ok written.0)) casts wrote in
+    let applied = one_step schema Enforced db written.0 edit (still (Int (next_rowid (db table.tree)) ∷ values)) put in
+    let whole : new.now.trees ≡ written.0 = ap (λ (d : Database). d.trees) now ∙ trees in (
+      record {
+        schema = ap (λ (d : Database). d.schema) now;
+        others = subst (λ (trees : Trees). AllByRecursion (λ t. t.tree ≢ table.tree → trees t.tree ≡ db t.tree) schema.tables) (sym whole) applied.tables;
+        sound = w.sound;
+      },
+      ap (λ (t : Trees). t table.tree) whole ∙ applied.rows,
+      omega (arith, counted, ap length rows, numbered, one),
+    )
