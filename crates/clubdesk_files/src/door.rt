@@ -63,10 +63,8 @@ fn bind_private(rt: &HostRuntime, path: &str) -> io::Result<UnixListener> {
 
 impl Door for FileDoor<'_> {
     fn listener(&self) -> Option<&UnixListener> {
-        match &self.at {
-            Some((_, listener)) => Some(listener),
-            None => None,
-        }
+        let (_, listener) = self.at.as_ref()?;
+        Some(listener)
     }
 }
 

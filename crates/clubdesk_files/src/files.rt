@@ -57,10 +57,7 @@ impl<'a> Databases for Files<'a> {
     fn open(&mut self, name: &str) -> Result<FileClub, StoreFault> {
         self.tried = self.tried.saturating_add(1);
         let mut openings = ServerOpenings { rt: self.rt, name };
-        match gain(&mut openings, self.rt, MAX_OPENINGS) {
-            Some(found) => found,
-            None => Err(StoreFault::Storage),
-        }
+        gain(&mut openings, self.rt, MAX_OPENINGS).unwrap_or(Err(StoreFault::Storage))
     }
 
     fn reach(&mut self, name: &str) -> Result<Reached<FileClub, FileVisit<'a>>, StoreFault> {
@@ -80,9 +77,6 @@ impl<'a> Databases for Files<'a> {
     }
 
     fn make_door(&self, name: &str) -> Result<FileDoor<'a>, StoreFault> {
-        match FileDoor::make(self.rt, name) {
-            Ok(door) => Ok(door),
-            Err(error) => Err(fault_of(&error)),
-        }
+        FileDoor::make(self.rt, name).map_err(|error| fault_of(&error))
     }
 }

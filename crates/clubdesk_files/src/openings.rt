@@ -56,10 +56,9 @@ impl<'a> Attempts for OfficeOpenings<'a, '_> {
         match look(self.rt, self.name) {
             Found::Greeted(visit) => Some(Ok(Reached::Served(visit))),
             Found::Failed(fault) => Some(Err(fault)),
-            Found::Nobody => match try_open(self.rt, self.name) {
-                Some(Ok(store)) => Some(Ok(Reached::Opened(store))),
-                Some(Err(fault)) => Some(Err(fault)),
-                None => None,
+            Found::Nobody => match try_open(self.rt, self.name)? {
+                Ok(store) => Some(Ok(Reached::Opened(store))),
+                Err(fault) => Some(Err(fault)),
             },
         }
     }
