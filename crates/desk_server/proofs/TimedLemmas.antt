@@ -6,7 +6,7 @@ use Rattle.std.proofs.KnownBytes.{Keeps-trans}
 use Rattle.std.proofs.Math.Seq.{take-append-add}
 use Rattle.std.proofs.lemmas.List.{take-append-le, length-take-le}
 use borrow.Rule.Slice.PartMut.{put_mid}
-use Rattle.std.specs.Io.KnownBytes.{Appends, Consumes, Keeps}
+use Rattle.std.specs.Io.KnownBytes.{Keeps}
 use Rattle.club_http.specs.Ends.{Fills, Takes}
 use Rattle.desk_server.specs.Limits.{AreInterrupted, AtShown, Calls, EndsUnder, IsCalled, ended, left_until, nanos_of}
 use Rattle.desk_server.specs.declared.limit.Limit.{Limit}

@@ -1,5 +1,5 @@
 -- What a server does to its arrivals, its clock, its desk and its log (ours).
-use Rattle.std.specs.Prelude.{◌≡◌, ℕ, List, length, Option, Result}
+use Rattle.std.specs.Prelude.{ℕ, length, Option, Result}
 use Rattle.club_clock.specs.Moments.{GivesMoment}
 use Rattle.club_http.specs.Replied.{AnswerRelation}
 use Rattle.desk_server.specs.Served.{AreNoted, CountsOn, Ends, IsCarriedOut, Notes, Orders, Serves}

@@ -1,4 +1,4 @@
-use Rattle.std.proofs.Common.{◌≡◌, ◌≤◌, ◌^◌, ◌∷◌, suc, [], length, length-append, arith, refl}
+use Rattle.std.proofs.Common.{◌≤◌, ◌^◌, ◌∷◌, suc, [], length, length-append, arith, refl}
 use Rattle.desk_server.specs.Served as spec
 use Rattle.desk_server.specs.Served.{alone}
 use Rattle.desk_server.specs.declared.log.Fate.TheVariants.{Absent, Overrun, Unanswered, Exchanged, Ordered}
