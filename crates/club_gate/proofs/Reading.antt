@@ -1,6 +1,6 @@
 -- The parts that are read for a signed pass give the same verdict as the whole view.
 use Rattle.std.proofs.Common.{◌≡◌, ◌≢◌, ℕ, Bool, true, false, cond, List, [], ◌∷◌, map, refl, sym, ap, ◌∙◌, subst}
-use Rattle.std.proofs.Common.{Option, Some, None, Ok, option_map, option_and_then}
+use Rattle.std.proofs.Common.{Option, Some, None, Ok, option_map, option_and_then, if◌then◌else◌}
 use Rattle.std.specs.Str.{bytes_eq}
 use Rattle.std.proofs.lemmas.Slice.Eq.{bytes_eq-Decides}
 use Rattle.pass_caveats.specs.declared.ask.Ask.{Ask}
@@ -30,10 +30,42 @@ use Rattle.club_core.specs.Verdict.{refusal_verdict, verdict_of}
 use Rattle.club_core.specs.declared.refusal.Refusal.TheVariants.{KeyRevoked, NotVerified}
 use Rattle.club_laws.specs.SingleRequest.{words_with}
 use Rattle.club_gate.specs.Identifier.{key_name_in}
-use Rattle.club_gate.specs.Reading.{answer_read, fault_read, first_view, last_view, verdict_read, with_account, with_member, with_slot, with_spent}
+use Rattle.club_gate.specs.Reading.{first_view, with_account, with_member, with_slot, with_spent}
 use Rattle.club_gate.specs.computed.DecodedPass.{machine_pass}
-use Rattle.club_gate.specs.Verify.{signer_in}
-use Rattle.club_gate.proofs.Signers.{IsSigner, found, is_signer, owned}
+use Rattle.club_gate.proofs.Signers.{IsSigner, found, owned}
+
+-- ---- what is read for a signed pass
+
+-- with what the decision depends on. For a view of a slot: its state. For a new booking: the slot's state and the member's sums. For the
+-- account: the sums of the member and of the key. Otherwise: nothing more.
+abbrev pub last_view : Club → Request → ℕ → View → Option View
+last_view club (asked.View slot) moment view = Some (with_slot club slot view)
+last_view club (asked.Book slot number guests) moment view =
+    if books_anew view then with_member club moment (with_slot club slot view) else Some view
+last_view club (asked.Cancel slot number) moment view = Some view
+last_view club asked.Account moment view = option_map (with_spent club) (with_member club moment view)
+
+-- the first caveat of a pass that refuses the request, if the key has spent this much before
+abbrev pub fault_after : Plain → ℕ → Ask → Option CaveatFault
+fault_after pass spent ask = first_fault_of (map caveat_of pass.caveats) (after_spending spent ask)
+
+-- that caveat, for what the key has spent
+abbrev pub fault_read : Club → Key → Plain → Request → ℕ → Option CaveatFault
+fault_read club key pass request moment =
+    fault_after pass (spent_under key.name club.bookings) (ask_of (first_view club key request) request moment)
+
+-- the answer by a view, to which the rest is added if no caveat refuses
+abbrev pub answer_from : Club → View → Request → ℕ → Option CaveatFault → Verdict
+answer_from club view request moment None = answer_by_view (last_view club request moment view) true None request moment
+answer_from club view request moment (Some fault) = answer_by_view (Some view) true (Some fault) request moment
+
+abbrev pub answer_read : Club → Key → Request → ℕ → Option CaveatFault → Verdict
+answer_read club key request moment fault = answer_from club (first_view club key request) request moment fault
+
+-- the verdict on a pass that is signed under the key of a row
+abbrev pub verdict_read : Club → Key → Plain → Request → ℕ → Verdict
+verdict_read club key pass request moment =
+    answer_read club key request moment (fault_read club key pass request moment)
 
 -- ---- the parts of the whole view
 
@@ -97,13 +129,23 @@ last_part club key member asked.Account moment has spent =
     ∙ ap (λ (n : ℕ). Some (let view : View = record (seen_by_decision asked.Account (whole club key member asked.Account moment)) { spent = n } in view))
     (sym spent)
 
--- a new booking reads the slot and the member's sums
-pub of_new_booking : (club : Club) (request : Request) (moment : ℕ) (view : View) (slot : Slot) (number guests : ℕ)
-    → request ≡ asked.Book slot number guests → books_anew view ≡ true
-    → with_member club moment (with_slot club slot view) ≡ last_view club request moment view
-of_new_booking club request moment view slot number guests is anew =
-    ap (λ (b : Bool). cond b (with_member club moment (with_slot club slot view)) (Some view)) (sym anew)
-    ∙ ap (λ (r : Request). last_view club r moment view) (sym is)
+-- a new booking reads the slot and the member's sums; a repeat reads nothing more
+module _ (club : Club) (request : Request) (moment : ℕ) (view : View) (slot : Slot) (number guests : ℕ)
+    (is : request ≡ asked.Book slot number guests) where
+  last_by : Bool → Option View
+  last_by anew = cond anew (with_member club moment (with_slot club slot view)) (Some view)
+
+  of_booking : (anew : Bool) → books_anew view ≡ anew → last_by anew ≡ last_view club request moment view
+  unfolding last_by
+  of_booking anew e = ap last_by (sym e) ∙ ap (λ (r : Request). last_view club r moment view) (sym is)
+
+  pub of_new_booking : books_anew view ≡ true → with_member club moment (with_slot club slot view) ≡ last_view club request moment view
+  unfolding last_by
+  of_new_booking e = of_booking true e
+
+  pub of_repeat : books_anew view ≡ false → Some view ≡ last_view club request moment view
+  unfolding last_by
+  of_repeat e = of_booking false e
 
 -- ---- the answer by the parts
 
@@ -135,83 +177,89 @@ decided_by_part view request moment law =
     ap (λ (k : Key). by_key k (verdict_of (seen_by_decision request view) request moment)) (same_key request view)
     ∙ ap (λ (v : Verdict). by_key view.key v) law.decision
 
--- ---- the answer to a signed pass
-
-module _ (club : Club) (key : Key) (pass : Plain) (request : Request) (moment : ℕ) (member : Member)
-    (first : first_view club key request ≡ seen_by_caveats (whole club key member request moment))
-    (spent : spent_under key.name (bookings_of member.name club) ≡ spent_under key.name club.bookings)
-    (law : RestsOnItsParts (whole club key member request moment) request moment) where
-  same_fault : fault_read club key pass request moment
-      ≡ first_fault_of (map caveat_of pass.caveats) (ask_of (whole club key member request moment) request moment)
-  same_fault =
-      ap (λ (v : View). first_fault_of (map caveat_of pass.caveats)
-      (after_spending (spent_under key.name club.bookings) (ask_of v request moment))) first
-      ∙ (ap (λ (a : Ask). first_fault_of (map caveat_of pass.caveats) (after_spending (spent_under key.name club.bookings) a)) law.caveats
-      ∙ ap (λ (n : ℕ). first_fault_of (map caveat_of pass.caveats)
-      (after_spending n (ask_of (whole club key member request moment) request moment))) (sym spent))
-
-  same_answer : member_named key.member club ≡ Some member → (fault : Option CaveatFault)
-      → answer_read club key request moment fault ≡ answer_by_view (Some (whole club key member request moment)) true fault request moment
-  same_answer has None =
-      ap (λ (v : View). answer_by_view (last_view club request moment v) true None request moment) first
-      ∙ (ap (λ (v : Option View). answer_by_view v true None request moment) (last_part club key member request moment has spent)
-      ∙ decided_by_part (whole club key member request moment) request moment law)
-  same_answer has (Some fault) =
-      ap (λ (v : View). answer_by_view (Some v) true (Some fault) request moment) first
-      ∙ refused_by_fault (whole club key member request moment) fault request moment
-
-  whole_answer : member_named key.member club ≡ Some member → IsSigner club pass request moment (key_name_in pass.identifier) key
-      → verdict_in club (words_with (machine_pass pass) request) moment
-      ≡ answer_by_view (Some (whole club key member request moment)) true
-      (first_fault_of (map caveat_of pass.caveats) (ask_of (whole club key member request moment) request moment))
-      request moment
-  whole_answer has is =
-      ap (λ (n : Option (List ℕ)). answer_to (Ok (machine_pass pass)) request moment
-      (option_map (λ (b : Basis). view_of b request moment)
-      (option_and_then (basis_under club request) (option_and_then (λ (m : List ℕ). key_named m club) n)))) is.names
-      ∙ (ap (λ (k : Option Key). answer_to (Ok (machine_pass pass)) request moment
-      (option_map (λ (b : Basis). view_of b request moment) (option_and_then (basis_under club request) k))) is.row
-      ∙ (ap (λ (m : Option Member). answer_to (Ok (machine_pass pass)) request moment
-      (option_map (λ (b : Basis). view_of b request moment)
-      (option_map (λ (it : Member). whole_basis club key it request moment) m))) has
-      ∙ ap (λ (b : Bool). answer_by_view (Some (whole club key member request moment)) b
-      (first_fault_of (map caveat_of pass.caveats) (ask_of (whole club key member request moment) request moment))
-      request moment) is.signed))
-
-  answers_alike : member_named key.member club ≡ Some member → IsSigner club pass request moment (key_name_in pass.identifier) key
-      → verdict_read club key pass request moment ≡ verdict_in club (words_with (machine_pass pass) request) moment
-  answers_alike has is =
-      ap (λ (f : Option CaveatFault). answer_read club key request moment f) same_fault
-      ∙ (same_answer has (first_fault_of (map caveat_of pass.caveats) (ask_of (whole club key member request moment) request moment))
-      ∙ sym (whole_answer has is))
+-- ---- the whole view of a key of the club
 
 there : (member : Option Member) → member ≢ None → (found : Member) × (member ≡ Some found)
 there None some = absurd (some refl)
 there (Some member) some = (member, refl)
 
--- the parts that are read for a signed pass give the machine's verdict
-pub read_alike : OwnBookings → LooksNoFurther → (club : Club) (key : Key) (pass : Plain) (request : Request) (moment : ℕ) → IsSound club
-    → signer_in club pass moment ≡ Ok key → verdict_read club key pass request moment ≡ verdict_in club (words_with (machine_pass pass) request) moment
-read_alike own law club key pass request moment sound e =
-    let is = is_signer club pass request moment key e in
-    let has = there (member_named key.member club) (owned club is.named key sound is.row) in
-    let its = found (λ (m : Member). bytes_eq m.name key.member) club.members has.0 has.1 in
-    let same : key.member ≡ has.0.name = sym ((bytes_eq-Decides has.0.name key.member).0 its.1) in
-    let among = found (λ (k : Key). bytes_eq k.name is.named) club.keys key is.row in
-    let both = own_member club key has.0.name same (own club key among.0) in
-    answers_alike club key pass request moment has.0 (first_part club key has.0 request moment both.1) both.0
-    (law (whole club key has.0 request moment) request moment) has.1 is
+-- the member of a key, and that its bookings have those of the key
+pub record IsOwned (club : Club) (key : Key) : Type 0 where
+  pub member : Member
+  pub is : member_named key.member club ≡ Some member
+  pub spent : spent_under key.name (bookings_of member.name club) ≡ spent_under key.name club.bookings
+  pub booking : (number : ℕ) → booking_under key.name number (bookings_of member.name club) ≡ booking_under key.name number club.bookings
 
--- a key's sums are what it sees for its account
-pub account_seen : OwnBookings → (club : Club) (name : List ℕ) (key : Key) (moment : ℕ) → IsSound club → key_named name club ≡ Some key
-    → option_map (with_spent club) (with_member club moment (bare_view key)) ≡ view_in club name asked.Account moment
-account_seen own club name key moment sound row =
+owner : OwnBookings → (club : Club) (name : List ℕ) (key : Key) → IsSound club → key_named name club ≡ Some key → IsOwned club key
+owner own club name key sound row =
     let has = there (member_named key.member club) (owned club name key sound row) in
     let its = found (λ (m : Member). bytes_eq m.name key.member) club.members has.0 has.1 in
     let same : key.member ≡ has.0.name = sym ((bytes_eq-Decides has.0.name key.member).0 its.1) in
     let among = found (λ (k : Key). bytes_eq k.name name) club.keys key row in
     let both = own_member club key has.0.name same (own club key among.0) in
-    last_part club key has.0 asked.Account moment has.1 both.0
-    ∙ sym (ap (λ (k : Option Key). option_map (λ (b : Basis). view_of b asked.Account moment) (option_and_then (basis_under club asked.Account) k)) row
-    ∙ ap (λ (m : Option Member). option_map (λ (b : Basis). view_of b asked.Account moment)
-    (option_map (λ (it : Member). whole_basis club key it asked.Account moment) m)) has.1)
+    record { member = has.0; is = has.1; spent = both.0; booking = both.1 }
+
+module _ (club : Club) (key : Key) (request : Request) (moment : ℕ) (its : IsOwned club key) where
+  abbrev its_view : View
+  its_view = whole club key its.member request moment
+
+  shown : (name : List ℕ) → key_named name club ≡ Some key → view_in club name request moment ≡ Some its_view
+  shown name row =
+      ap (λ (k : Option Key). option_map (λ (b : Basis). view_of b request moment) (option_and_then (basis_under club request) k)) row
+      ∙ ap (λ (m : Option Member). option_map (λ (b : Basis). view_of b request moment)
+      (option_map (λ (it : Member). whole_basis club key it request moment) m)) its.is
+
+  first : first_view club key request ≡ seen_by_caveats its_view
+  first = first_part club key its.member request moment its.booking
+
+  same_answer : LooksNoFurther → (fault : Option CaveatFault)
+      → answer_read club key request moment fault ≡ answer_by_view (Some its_view) true fault request moment
+  same_answer law None =
+      ap (λ (v : View). answer_by_view (last_view club request moment v) true None request moment) first
+      ∙ (ap (λ (v : Option View). answer_by_view v true None request moment) (last_part club key its.member request moment its.is its.spent)
+      ∙ decided_by_part its_view request moment (law its_view request moment))
+  same_answer law (Some fault) =
+      ap (λ (v : View). answer_by_view (Some v) true (Some fault) request moment) first ∙ refused_by_fault its_view fault request moment
+
+  abbrev its_fault : Plain → Option CaveatFault
+  its_fault pass = first_fault_of (map caveat_of pass.caveats) (ask_of its_view request moment)
+
+  same_fault : LooksNoFurther → (pass : Plain) → fault_read club key pass request moment ≡ its_fault pass
+  same_fault law pass =
+      ap (λ (v : View). fault_after pass (spent_under key.name club.bookings) (ask_of v request moment)) first
+      ∙ (ap (λ (a : Ask). fault_after pass (spent_under key.name club.bookings) a) (law its_view request moment).caveats
+      ∙ ap (λ (n : ℕ). fault_after pass n (ask_of its_view request moment)) (sym its.spent))
+
+  whole_answer : (pass : Plain) → IsSigner club pass request moment (key_name_in pass.identifier) key
+      → verdict_in club (words_with (machine_pass pass) request) moment ≡ answer_by_view (Some its_view) true (its_fault pass) request moment
+  whole_answer pass is =
+      ap (λ (n : Option (List ℕ)). answer_to (Ok (machine_pass pass)) request moment
+      (option_map (λ (b : Basis). view_of b request moment)
+      (option_and_then (basis_under club request) (option_and_then (λ (m : List ℕ). key_named m club) n)))) is.names
+      ∙ (ap (λ (v : Option View). answer_to (Ok (machine_pass pass)) request moment v) (shown is.named is.row)
+      ∙ ap (λ (b : Bool). answer_by_view (Some its_view) b (its_fault pass) request moment) is.signed)
+
+-- where no caveat refuses, what is read gives the answer by the key's whole view
+pub decides_whole : OwnBookings → LooksNoFurther → (club : Club) (key : Key) (request : Request) (moment : ℕ) → IsSound club
+    → key_named key.name club ≡ Some key
+    → answer_read club key request moment None ≡ answer_by_view (view_in club key.name request moment) true None request moment
+decides_whole own law club key request moment sound row =
+    let its = owner own club key.name key sound row in
+    same_answer club key request moment its law None
+    ∙ ap (λ (v : Option View). answer_by_view v true None request moment) (sym (shown club key request moment its key.name row))
+
+-- what is read for a signed pass gives the machine's verdict
+pub read_alike : OwnBookings → LooksNoFurther → (club : Club) (key : Key) (pass : Plain) (request : Request) (moment : ℕ) → IsSound club
+    → IsSigner club pass request moment (key_name_in pass.identifier) key
+    → verdict_read club key pass request moment ≡ verdict_in club (words_with (machine_pass pass) request) moment
+read_alike own law club key pass request moment sound is =
+    let its = owner own club is.named key sound is.row in
+    ap (λ (f : Option CaveatFault). answer_read club key request moment f) (same_fault club key request moment its law pass)
+    ∙ (same_answer club key request moment its law (its_fault club key request moment its pass) ∙ sym (whole_answer club key request moment its pass is))
+
+-- a key's sums are what it sees for its account
+pub account_seen : OwnBookings → (club : Club) (name : List ℕ) (key : Key) (moment : ℕ) → IsSound club → key_named name club ≡ Some key
+    → option_map (with_spent club) (with_member club moment (bare_view key)) ≡ view_in club name asked.Account moment
+account_seen own club name key moment sound row =
+    let its = owner own club name key sound row in
+    last_part club key its.member asked.Account moment its.is its.spent ∙ sym (shown club key asked.Account moment its name row)

@@ -1,24 +1,30 @@
 -- A key's row without its older root: what it tells of a pass, and that the rest of a verdict doesn't need more.
-use Rattle.std.proofs.Common.{◌≡◌, ℕ, Bool, true, false, cond, List, Option, Some, None, Result, Ok, Err, option_map, option_and_then, refl, sym, ap, ◌∙◌}
+use Rattle.std.proofs.Common.{◌≡◌, inl, ℕ, Bool, true, false, cond, List, Option, Some, None, Ok, is_some, option_map, option_and_then, refl, sym, ap, ◌∙◌}
+use Rattle.pass_caveats.specs.declared.ask.Ask.{Ask}
 use Rattle.pass_caveats.specs.declared.fault.CaveatFault.{CaveatFault}
 use Rattle.pass_caveats.specs.declared.fault.CaveatFault.TheVariants.{Denied, NotUnderstood}
 use Rattle.pass_forms.specs.Pass.{Plain}
 use Rattle.club_values.specs.declared.slot.Slot.{Slot}
 use Rattle.club_rows.specs.declared.key.Key.{Key}
 use Rattle.club_rows.specs.declared.member.Member.{Member}
-use Rattle.club_core.specs.declared.refusal.Refusal.{Refusal}
 use Rattle.club_core.specs.declared.request.Request.{Request}
 use Rattle.club_core.specs.declared.request.Request.TheVariants as asked
 use Rattle.club_core.specs.declared.view.View.{View}
-use Rattle.club_core.specs.Answer.{answer_by_view}
-use Rattle.club_core.specs.Basis.{club_account}
-use Rattle.club_core.specs.Club.{Club, key_named, member_named}
-use Rattle.club_core.specs.Looks.{books_anew}
+use Rattle.club_core.specs.Answer.{answer_by_view, ask_of, verdict_in}
+use Rattle.club_core.specs.Basis.{club_account, view_in}
+use Rattle.club_core.specs.Club.{Club, IsSound, key_named, member_named}
+use Rattle.club_core.specs.Laws.{OwnBookings}
+use Rattle.club_core.specs.Looks.{LooksNoFurther, books_anew}
 use Rattle.club_core.specs.KeyParts.{row_alone}
-use Rattle.club_gate.specs.Identifier.{key_name_in}
-use Rattle.club_gate.specs.Reading.{answer_from, fault_read, first_view, verdict_read, with_account, with_slot, with_spent}
-use Rattle.club_gate.specs.Verify.{key_in, key_unless, refusal_by_row, signer_alone, signer_by, signer_in}
-use Rattle.club_gate.proofs.Signers.{named}
+use Rattle.club_core.specs.Sums.{spent_under}
+use Rattle.club_laws.specs.SingleRequest.{words_with}
+use Rattle.club_gate.specs.Identifier.{key_in, key_name_in}
+use Rattle.club_gate.specs.Reading.{IsOnRecord, Suffices, first_view, with_account, with_slot, with_spent}
+use Rattle.club_gate.specs.Verify.{signer_of}
+use Rattle.club_gate.specs.computed.DecodedPass.{machine_pass}
+use Rattle.club_gate.proofs.Reading.{answer_from, answer_read, decides_whole, fault_after, fault_read, last_view, read_alike, verdict_read}
+use Rattle.club_gate.proofs.ShortViews.{seen_alike, unrefused}
+use Rattle.club_gate.proofs.Signers.{is_signer, named}
 
 -- ---- the signer
 
@@ -52,9 +58,9 @@ row_of club identifier key e = go (key_name_in identifier) refl e
 
 -- the whole row decides as the signer does
 pub decides_signer : (club : Club) (pass : Plain) (moment : ℕ) (identifier : List ℕ) (row : Key) → identifier ≡ pass.identifier
-    → key_in club identifier ≡ Some row → signer_alone (key_unless row (refusal_by_row pass row moment)) ≡ signer_alone (signer_in club pass moment)
+    → key_in club identifier ≡ Some row → signer_of pass moment (Some row) ≡ signer_of pass moment (key_in club pass.identifier)
 decides_signer club pass moment identifier row same is =
-    sym (ap (λ (found : Option Key). signer_alone (signer_by pass moment found)) (ap (λ (i : List ℕ). key_in club i) (sym same) ∙ is))
+    sym (ap (λ (found : Option Key). signer_of pass moment found) (ap (λ (i : List ℕ). key_in club i) (sym same) ∙ is))
 
 -- ---- the rest of the verdict
 
@@ -100,11 +106,34 @@ module _ (club : Club) (row : Key) (moment : ℕ) where
   pub reads_alone : (pass : Plain) (request : Request) → verdict_read club (row_alone row) pass request moment ≡ verdict_read club row pass request moment
   reads_alone pass request = answers_to request (fault_read club row pass request moment)
 
--- the whole row of a signer
-pub whole_signer : (signer : Result Key Refusal) (key : Key) → Ok key ≡ signer_alone signer → (row : Key) × (signer ≡ Ok row) × (key ≡ row_alone row)
-whole_signer (Ok row) key e = let same : key ≡ row_alone row = cc in (row, refl, same)
-whole_signer (Err refusal) key e = absurd (cc)
+-- the answer by the last view is that by the key's whole view
+pub last_reads : OwnBookings → LooksNoFurther → (club : Club) (request : Request) (moment : ℕ) (view : View) (found : Option View) → IsSound club
+    → found ≡ last_view club request moment view → (pass : Plain) (key : Key) → IsOnRecord club key
+    → Suffices pass (first_view club key request) view → answer_by_view found true None request moment
+    ≡ answer_by_view (view_in club key.name request moment) true None request moment
+last_reads own law club request moment view found sound e pass key on seen =
+    ap (λ (v : Option View). answer_by_view v true None request moment) e
+    ∙ (seen_alike club key moment pass request view seen None
+    ∙ (ap (λ (k : Key). answer_read club k request moment None) on.2
+    ∙ (answers_alone club on.0 moment request
+    ∙ (decides_whole own law club on.0 request moment sound on.1
+    ∙ ap (λ (k : Key). answer_by_view (view_in club k.name request moment) true None request moment) (sym on.2)))))
 
-pub same_refusal : (signer : Result Key Refusal) (refusal : Refusal) → Err refusal ≡ signer_alone signer → signer ≡ Err refusal
-same_refusal (Ok row) refusal e = absurd (cc)
-same_refusal (Err other) refusal e = let same : refusal ≡ other = cc in ap (λ (r : Refusal). Err r) (sym same)
+pub decided : OwnBookings → LooksNoFurther → (club : Club) (key : Key) (moment : ℕ) (pass : Plain) (request : Request) (view : View) (ask : Ask)
+    (fault : Option CaveatFault) (shown last : Option View) → IsSound club → IsOnRecord club key → Suffices pass (first_view club key request) view
+    → ask ≡ ask_of view request moment → fault ≡ fault_after pass (spent_under key.name club.bookings) ask → is_some fault ≡ false → shown ≡ last
+    → answer_by_view last true None request moment ≡ answer_by_view (view_in club key.name request moment) true None request moment
+    → answer_by_view shown true None request moment ≡ verdict_read club key pass request moment
+decided own law club key moment pass request view ask fault shown last sound on seen asks found none is whole =
+    ap (λ (v : Option View). answer_by_view v true None request moment) is
+    ∙ (whole ∙ (sym (last_reads own law club request moment (first_view club key request) _ sound refl pass key on (inl refl))
+    ∙ unrefused club key moment pass request view ask fault seen asks found none))
+
+-- what is read for the signer of a pass gives the machine's verdict
+pub signer_reads : OwnBookings → LooksNoFurther → (club : Club) (key : Key) (pass : Plain) (request : Request) (moment : ℕ) → IsSound club
+    → signer_of pass moment (key_in club pass.identifier) ≡ Ok key
+    → verdict_read club key pass request moment ≡ verdict_in club (words_with (machine_pass pass) request) moment
+signer_reads own law club key pass request moment sound e =
+    let its = is_signer club pass request moment key e in
+    ap (λ (k : Key). verdict_read club k pass request moment) (sym its.2)
+    ∙ (reads_alone club its.0 moment pass request ∙ read_alike own law club its.0 pass request moment sound its.1)

@@ -21,7 +21,8 @@ use Rattle.club_core.specs.Club.{Club}
 use Rattle.club_core.specs.Looks.{bare_view}
 use Rattle.club_core.specs.Request.{request_action, request_guests, request_slot}
 use Rattle.club_core.specs.Sums.{booking_under, spent_under}
-use Rattle.club_gate.specs.Reading.{Suffices, answer_from, fault_after, first_view, last_view, verdict_read}
+use Rattle.club_gate.specs.Reading.{Suffices, first_view}
+use Rattle.club_gate.proofs.Reading.{answer_from, answer_read, fault_after, fault_read, verdict_read}
 
 -- nothing is owed under a number that has a booking
 nothing_owed : (request : Request) (recorded : Bool) (facility : Option Facility) → recorded ≡ true → owed_at request recorded facility ≡ 0
@@ -81,47 +82,48 @@ module _ (club : Club) (key : Key) (moment : ℕ) where
   answers_alike request (Some (NotUnderstood n)) e = refl
   answers_alike request (Some (Denied n)) e = refl
 
-  -- the view that was read gives the verdict of the whole one
-  pub suffices : (pass : Plain) (request : Request) (view : View) (fault : Option CaveatFault) → Suffices pass (first_view club key request) view
-      → fault ≡ fault_after pass (spent_under key.name club.bookings) (ask_of view request moment)
-      → answer_from club view request moment fault ≡ verdict_read club key pass request moment
-  suffices pass request view fault (inl same) e =
-      ap (λ (f : Option CaveatFault). answer_from club view request moment f) e
-      ∙ ap (λ (v : View). answer_from club v request moment (fault_after pass (spent_under key.name club.bookings) (ask_of v request moment))) same
-  suffices pass request view fault (inr part) e =
+  -- the view that was read gives the same answer and the same fault
+  pub seen_alike : (pass : Plain) (request : Request) (view : View) → Suffices pass (first_view club key request) view → (fault : Option CaveatFault)
+      → answer_from club view request moment fault ≡ answer_from club (first_view club key request) request moment fault
+  seen_alike pass request view (inl same) fault = ap (λ (v : View). answer_from club v request moment fault) same
+  seen_alike pass request view (inr part) fault =
+      ap (λ (v : View). answer_from club v request moment fault) part.2 ∙ answers_alike request fault part.1
+
+  same_fault : (pass : Plain) (request : Request) (view : View) → Suffices pass (first_view club key request) view
+      → fault_after pass (spent_under key.name club.bookings) (ask_of view request moment) ≡ fault_read club key pass request moment
+  same_fault pass request view (inl same) =
+      ap (λ (v : View). fault_after pass (spent_under key.name club.bookings) (ask_of v request moment)) same
+  same_fault pass request view (inr part) =
       let whole = first_view club key request in
       let spent = spent_under key.name club.bookings in
-      let of_part : fault_after pass spent (ask_of (short whole) request moment) ≡ fault_after pass spent (ask_of whole request moment) =
-      ap (λ (a : Ask). first_fault_of (map caveat_of pass.caveats) a) (asks_alike whole request moment spent part.1)
-      ∙ part.0 (after_spending spent (ask_of whole request moment)) None in
-      ap (λ (f : Option CaveatFault). answer_from club view request moment f) e
-      ∙ (ap (λ (v : View). answer_from club v request moment (fault_after pass spent (ask_of v request moment))) part.2
-      ∙ (ap (λ (f : Option CaveatFault). answer_from club (short whole) request moment f) of_part
-      ∙ answers_alike request (fault_after pass spent (ask_of whole request moment)) part.1))
+      ap (λ (v : View). fault_after pass spent (ask_of v request moment)) part.2
+      ∙ (ap (λ (a : Ask). first_fault_of (map caveat_of pass.caveats) a) (asks_alike whole request moment spent part.1)
+      ∙ part.0 (after_spending spent (ask_of whole request moment)) None)
 
--- so does the answer to a fault, and the decision where there is none
+-- so it gives the verdict, where a caveat refuses, and where none does
 module _ (club : Club) (key : Key) (moment : ℕ) (pass : Plain) (request : Request) (view : View) (ask : Ask) (fault : Option CaveatFault)
     (seen : Suffices pass (first_view club key request) view) (asks : ask ≡ ask_of view request moment)
     (found : fault ≡ fault_after pass (spent_under key.name club.bookings) ask) where
-  by_view : fault ≡ fault_after pass (spent_under key.name club.bookings) (ask_of view request moment)
-  by_view = found ∙ ap (λ (a : Ask). fault_after pass (spent_under key.name club.bookings) a) asks
+  fault_is : fault ≡ fault_read club key pass request moment
+  fault_is =
+      found ∙ (ap (λ (a : Ask). fault_after pass (spent_under key.name club.bookings) a) asks ∙ same_fault club key moment pass request view seen)
+
+  by_fault : answer_from club view request moment fault ≡ verdict_read club key pass request moment
+  by_fault =
+      seen_alike club key moment pass request view seen fault
+      ∙ ap (λ (f : Option CaveatFault). answer_from club (first_view club key request) request moment f) fault_is
 
   pub refused : (verdict : Verdict) → is_some fault ≡ true → verdict ≡ answer_by_view (Some view) true fault request moment
       → verdict ≡ verdict_read club key pass request moment
-  refused verdict some e = e ∙ (go fault some ∙ suffices club key moment pass request view fault seen by_view)
+  refused verdict some e = e ∙ (go fault some ∙ by_fault)
     where
       go : (f : Option CaveatFault) → is_some f ≡ true → answer_by_view (Some view) true f request moment ≡ answer_from club view request moment f
       go None h = absurd (cc)
       go (Some f) h = refl
 
-  pub decided : (last : Option View) (verdict : Verdict) → is_some fault ≡ false → last ≡ last_view club request moment view
-      → verdict ≡ answer_by_view last true None request moment → verdict ≡ verdict_read club key pass request moment
-  decided last verdict none is e =
-      e
-      ∙ (ap (λ (v : Option View). answer_by_view v true None request moment) is
-      ∙ (go fault none ∙ suffices club key moment pass request view fault seen by_view))
+  pub unrefused : is_some fault ≡ false → answer_read club key request moment None ≡ verdict_read club key pass request moment
+  unrefused none = ap (λ (f : Option CaveatFault). answer_read club key request moment f) (go fault none ∙ fault_is)
     where
-      go : (f : Option CaveatFault) → is_some f ≡ false
-          → answer_by_view (last_view club request moment view) true None request moment ≡ answer_from club view request moment f
+      go : (f : Option CaveatFault) → is_some f ≡ false → None ≡ f
       go None h = refl
       go (Some f) h = absurd (cc)

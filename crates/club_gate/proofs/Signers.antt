@@ -2,6 +2,7 @@
 use Rattle.std.proofs.Common.{◌≡◌, ◌≢◌, ℕ, zero, suc, ◌<◌, Bool, true, false, cond, not, List, [], ◌∷◌, length, get_or, map, refl, sym, ap, ◌∙◌, arith}
 use Rattle.std.proofs.Common.{Option, Some, None, Ok, Err, option_map, option_and_then}
 use Rattle.std.specs.Prelude.{Contains, find}
+use Rattle.std.specs.Option.{option_map_or}
 use Rattle.std.specs.Str.{bytes_eq}
 use Rattle.std.proofs.lemmas.List.Elements.{All-contains}
 use Rattle.std.proofs.lemmas.Slice.Eq.{bytes_eq-Decides}
@@ -16,15 +17,16 @@ use Rattle.club_core.specs.declared.view.View.{View}
 use Rattle.club_core.specs.Answer.{answer_to, verdict_in}
 use Rattle.club_core.specs.Basis.{Basis, basis_under, state_of, view_in, view_of}
 use Rattle.club_core.specs.Club.{Club, IsSound, bookings_of, key_named, member_named}
+use Rattle.club_core.specs.KeyParts.{row_alone}
 use Rattle.club_core.specs.Laws.{ViewsDecide}
 use Rattle.club_core.specs.Lines.{line_if, first_of}
 use Rattle.club_core.specs.Pass.{is_signed_under}
 use Rattle.club_core.specs.Request.{request_slot}
 use Rattle.club_core.specs.Verdict.{refusal_verdict}
 use Rattle.club_laws.specs.SingleRequest.{words_with}
-use Rattle.club_gate.specs.Identifier.{key_name_in}
+use Rattle.club_gate.specs.Identifier.{key_in, key_name_in}
 use Rattle.club_gate.specs.computed.DecodedPass.{machine_pass}
-use Rattle.club_gate.specs.Verify.{key_unless, refusal_by_row, signer_by, signer_in}
+use Rattle.club_gate.specs.Verify.{refusal_by_row, signer_of}
 
 -- ---- rows that are found
 
@@ -81,20 +83,20 @@ module _ (pass : Plain) (key : Key) (moment : ℕ) where
   unrevoked_row found e f r = ap (λ (b : Bool). by_lines true b) (sym r) ∙ ap (λ (b : Bool). by_lines b key.revoked) (sym f ∙ e)
 
 -- the refusal by the row is the whole refusal
-refused_alike : (is_signed revoked : Bool) (key : Key) (last : Verdict) (refusal : Refusal)
-    → key_unless key (first_of (line_if (not is_signed) (Some NotVerified) ∷ line_if revoked (Some KeyRevoked) ∷ []) None) ≡ Err refusal
+refused_alike : (is_signed revoked : Bool) (alone : Key) (last : Verdict) (refusal : Refusal)
+    → option_map_or Err (first_of (line_if (not is_signed) (Some NotVerified) ∷ line_if revoked (Some KeyRevoked) ∷ []) None) (Ok alone) ≡ Err refusal
     → first_of (line_if (not is_signed) (refusal_verdict NotVerified) ∷ line_if revoked (refusal_verdict KeyRevoked) ∷ []) last ≡ refusal_verdict refusal
-refused_alike false revoked key last refusal e = let same : NotVerified ≡ refusal = cc in ap refusal_verdict same
-refused_alike true true key last refusal e = let same : KeyRevoked ≡ refusal = cc in ap refusal_verdict same
-refused_alike true false key last refusal e = absurd (cc)
+refused_alike false revoked alone last refusal e = let same : NotVerified ≡ refusal = cc in ap refusal_verdict same
+refused_alike true true alone last refusal e = let same : KeyRevoked ≡ refusal = cc in ap refusal_verdict same
+refused_alike true false alone last refusal e = absurd (cc)
 
 -- a pass that the row doesn't refuse is signed
-signed_row : (is_signed revoked : Bool) (key other : Key)
-    → key_unless key (first_of (line_if (not is_signed) (Some NotVerified) ∷ line_if revoked (Some KeyRevoked) ∷ []) None) ≡ Ok other
-    → (is_signed ≡ true) × (revoked ≡ false) × (key ≡ other)
-signed_row false revoked key other e = absurd (cc)
-signed_row true true key other e = absurd (cc)
-signed_row true false key other e = let same : key ≡ other = cc in (refl, refl, same)
+signed_row : (is_signed revoked : Bool) (alone other : Key)
+    → option_map_or Err (first_of (line_if (not is_signed) (Some NotVerified) ∷ line_if revoked (Some KeyRevoked) ∷ []) None) (Ok alone) ≡ Ok other
+    → (is_signed ≡ true) × (revoked ≡ false) × (alone ≡ other)
+signed_row false revoked alone other e = absurd (cc)
+signed_row true true alone other e = absurd (cc)
+signed_row true false alone other e = let same : alone ≡ other = cc in (refl, refl, same)
 
 -- the view of a key
 abbrev view_by : Club → Request → ℕ → Option Key → Option View
@@ -111,25 +113,25 @@ module _ (club : Club) (pass : Plain) (request : Request) (moment : ℕ) where
 
   -- ---- refused
 
-  of_member : (key : Key) (member : Option Member) → member ≢ None → (refusal : Refusal) → signer_by pass moment (Some key) ≡ Err refusal
+  of_member : (key : Key) (member : Option Member) → member ≢ None → (refusal : Refusal) → signer_of pass moment (Some key) ≡ Err refusal
       → answer_by (view_with club request moment key member) ≡ refusal_verdict refusal
   of_member key None some refusal e = absurd (some refl)
   of_member key (Some member) some refusal e =
-      refused_alike (is_signed_under (machine_pass pass) key moment) key.revoked key _ refusal e
+      refused_alike (is_signed_under (machine_pass pass) key moment) key.revoked (row_alone key) _ refusal e
 
-  of_row : IsSound club → (name : List ℕ) (key : Option Key) → key_named name club ≡ key → (refusal : Refusal) → signer_by pass moment key ≡ Err refusal
+  of_row : IsSound club → (name : List ℕ) (key : Option Key) → key_named name club ≡ key → (refusal : Refusal) → signer_of pass moment key ≡ Err refusal
       → answer_by (view_by club request moment key) ≡ refusal_verdict refusal
   of_row sound name None row refusal e = let same : NotVerified ≡ refusal = cc in ap refusal_verdict same
   of_row sound name (Some key) row refusal e = of_member key (member_named key.member club) (owned club name key sound row) refusal e
 
   of_name : IsSound club → (name : Option (List ℕ)) (refusal : Refusal)
-      → signer_by pass moment (option_and_then (λ (n : List ℕ). key_named n club) name) ≡ Err refusal
+      → signer_of pass moment (option_and_then (λ (n : List ℕ). key_named n club) name) ≡ Err refusal
       → answer_by (option_and_then (λ (n : List ℕ). view_in club n request moment) name) ≡ refusal_verdict refusal
   of_name sound None refusal e = let same : NotVerified ≡ refusal = cc in ap refusal_verdict same
   of_name sound (Some name) refusal e = of_row sound name (key_named name club) refl refusal e
 
   -- a pass that isn't signed, or whose key is revoked, is refused, whatever else the club holds
-  pub refused_by_row : ViewsDecide → IsSound club → (refusal : Refusal) → signer_in club pass moment ≡ Err refusal
+  pub refused_by_row : ViewsDecide → IsSound club → (refusal : Refusal) → signer_of pass moment (key_in club pass.identifier) ≡ Err refusal
       → refusal_verdict refusal ≡ verdict_in club (words_with (machine_pass pass) request) moment
   refused_by_row decides sound refusal e =
       sym (decides club (words_with (machine_pass pass) request) moment ∙ of_name sound (key_name_in pass.identifier) refusal e)
@@ -144,23 +146,21 @@ module _ (club : Club) (pass : Plain) (request : Request) (moment : ℕ) where
     pub signed : is_signed_under (machine_pass pass) key moment ≡ true
     pub not_revoked : key.revoked ≡ false
 
-  of_signer : (named : List ℕ) (row : Option Key) → key_named named club ≡ row → (key : Key) → signer_by pass moment row ≡ Ok key
-      → IsSigner (Some named) key
-  of_signer named None is key e = absurd (cc)
-  of_signer named (Some row) is key e =
-      let found = signed_row (is_signed_under (machine_pass pass) row moment) row.revoked row key e in
-      record {
-        named = named;
-        names = refl;
-        row = is ∙ ap Some found.2;
-        signed = ap (λ (k : Key). is_signed_under (machine_pass pass) k moment) (sym found.2) ∙ found.0;
-        not_revoked = ap (λ (k : Key). k.revoked) (sym found.2) ∙ found.1;
-      }
+  -- the row of a signer, which is read without its older root
+  abbrev SignerBy : Option (List ℕ) → Key → Type 0
+  SignerBy name alone = (row : Key) × IsSigner name row × (row_alone row ≡ alone)
 
-  signer_named : (name : Option (List ℕ)) (key : Key) → signer_by pass moment (option_and_then (λ (n : List ℕ). key_named n club) name) ≡ Ok key
-      → IsSigner name key
-  signer_named None key e = absurd (cc)
-  signer_named (Some name) key e = of_signer name (key_named name club) refl key e
+  of_signer : (named : List ℕ) (found : Option Key) → key_named named club ≡ found → (alone : Key) → signer_of pass moment found ≡ Ok alone
+      → SignerBy (Some named) alone
+  of_signer named None is alone e = absurd (cc)
+  of_signer named (Some row) is alone e =
+      let signed = signed_row (is_signed_under (machine_pass pass) row moment) row.revoked (row_alone row) alone e in
+      (row, record { named = named; names = refl; row = is; signed = signed.0; not_revoked = signed.1 }, signed.2)
 
-  pub is_signer : (key : Key) → signer_in club pass moment ≡ Ok key → IsSigner (key_name_in pass.identifier) key
-  is_signer key e = signer_named (key_name_in pass.identifier) key e
+  signer_named : (name : Option (List ℕ)) (alone : Key) → signer_of pass moment (option_and_then (λ (n : List ℕ). key_named n club) name) ≡ Ok alone
+      → SignerBy name alone
+  signer_named None alone e = absurd (cc)
+  signer_named (Some name) alone e = of_signer name (key_named name club) refl alone e
+
+  pub is_signer : (alone : Key) → signer_of pass moment (key_in club pass.identifier) ≡ Ok alone → SignerBy (key_name_in pass.identifier) alone
+  is_signer alone e = signer_named (key_name_in pass.identifier) alone e

@@ -1,6 +1,7 @@
 -- The chains of a pass are those under the valid roots.
-use Rattle.std.proofs.Common.{◌≡◌, ℕ, ◌||◌, Bool, false, List, [], ◌∷◌, fold, option_map, Option, Some, None, refl, ap, ◌∙◌}
+use Rattle.std.proofs.Common.{◌≡◌, ℕ, ◌||◌, Bool, false, List, [], ◌∷◌, fold, option_map, Option, Some, None, refl, ap}
 use Rattle.std.specs.Option.{option_map_or}
+use Rattle.std.specs.Str.{bytes_eq}
 use Rattle.pass_mac.specs.Chain.{chain, derived_key}
 use Rattle.pass_mac.specs.Hmac.{hmac}
 use Rattle.pass_forms.specs.Pass.{Plain}
@@ -10,7 +11,19 @@ use Rattle.club_rows.specs.Key.{older_root_at}
 use Rattle.club_core.specs.Pass.{is_signed_under}
 use Rattle.club_gate.specs.declared.signing.Signing.{Signing}
 use Rattle.club_gate.specs.computed.DecodedPass.{machine_pass}
-use Rattle.club_gate.specs.Signing.{initial_signing, signing_with, is_one_of}
+use Rattle.club_gate.specs.Signing.{chains_under}
+
+-- the chains, extended by a caveat
+abbrev pub signing_with : Signing → List ℕ → Signing
+signing_with signing caveat = record {
+  current = hmac signing.current caveat;
+  older = option_map (λ signature. hmac signature caveat) signing.older;
+}
+
+-- whether a signature is that of one of the chains
+abbrev pub is_one_of : Signing → List ℕ → Bool
+is_one_of signing signature =
+    bytes_eq signing.current signature || option_map_or (λ other. bytes_eq other signature) signing.older false
 
 abbrev chains : List ℕ → Option (List ℕ) → Signing
 chains current older = record { current = current; older = older }
@@ -36,14 +49,6 @@ signed_as root (Some older) pass =
     (grown_by_all (chain (derived_key root) pass.identifier []) (Some (chain (derived_key older) pass.identifier [])) pass.caveats)
 
 -- the signature is one of them if and only if the pass is signed
-signed_alike : (pass : Plain) (key : Key) (moment : ℕ)
-    → is_one_of (fold signing_with (initial_signing key moment pass.identifier) pass.caveats) pass.signature ≡ is_signed_under (machine_pass pass) key moment
+pub signed_alike : (pass : Plain) (key : Key) (moment : ℕ)
+    → is_one_of (fold signing_with (chains_under key moment pass.identifier []) pass.caveats) pass.signature ≡ is_signed_under (machine_pass pass) key moment
 signed_alike pass key moment = signed_as key.root (older_root_at key.older moment) pass
-
--- a scan that begins with them tests whether the pass is signed
-pub tested_alike : (pass : Plain) (key : Key) (moment : ℕ) (identifier : List ℕ) (signing : Signing) (found : Bool)
-    → identifier ≡ pass.identifier → signing ≡ initial_signing key moment identifier
-    → found ≡ is_one_of (fold signing_with signing pass.caveats) pass.signature → found ≡ is_signed_under (machine_pass pass) key moment
-tested_alike pass key moment identifier signing found i s f =
-    let begins : signing ≡ initial_signing key moment pass.identifier = s ∙ ap (λ (xs : List ℕ). initial_signing key moment xs) i in
-    f ∙ (ap (λ (x : Signing). is_one_of (fold signing_with x pass.caveats) pass.signature) begins ∙ signed_alike pass key moment)

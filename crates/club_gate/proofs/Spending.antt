@@ -2,28 +2,25 @@
 use Rattle.std.proofs.Common.{◌≡◌, ℕ, ◌-◌, ◌≤◌, List, Some, Ok, ap, sym, subst, ◌∙◌, arith}
 use Rattle.std.specs.Prelude.{sum_by}
 use Rattle.std.specs.Str.{bytes_eq}
-use Rattle.std.proofs.lemmas.Slice.Eq.{bytes_eq-Decides}
 use Rattle.pass_forms.specs.Pass.{Plain}
 use Rattle.club_rows.specs.declared.key.Key.{Key}
 use Rattle.club_core.specs.declared.account.MemberAccount.{MemberAccount}
 use Rattle.club_core.specs.declared.request.Request.{Request}
 use Rattle.club_core.specs.Basis.{account_named}
 use Rattle.club_core.specs.Club.{Club, IsSound, bookings_of, key_named}
-use Rattle.club_core.specs.KeyParts.{row_alone}
 use Rattle.club_core.specs.Sums.{cost_of, spent_under}
 use Rattle.club_laws.specs.Spending.{AccountsShowWhatIsUsed, SpendsWithinItsMember}
+use Rattle.club_gate.specs.Identifier.{key_in}
 use Rattle.club_gate.specs.Reading.{IsOnRecord}
-use Rattle.club_gate.specs.Verify.{signer_in}
-use Rattle.club_gate.proofs.Signers.{found, is_signer}
+use Rattle.club_gate.specs.Verify.{signer_of}
+use Rattle.club_gate.proofs.Signers.{found, is_signer, named}
 
 -- the row by which a pass is signed is one of the club's
-pub on_record : (club : Club) (pass : Plain) (request : Request) (moment : ℕ) (row key : Key) → signer_in club pass moment ≡ Ok row
-    → key ≡ row_alone row → IsOnRecord club key
-on_record club pass request moment row key e alone =
-    let is = is_signer club pass request moment row e in
-    let its = found (λ (k : Key). bytes_eq k.name is.named) club.keys row is.row in
-    let same : row.name ≡ is.named = (bytes_eq-Decides row.name is.named).0 its.1 in
-    (row, ap (λ (n : List ℕ). key_named n club) same ∙ is.row, alone)
+pub on_record : (club : Club) (pass : Plain) (request : Request) (moment : ℕ) (key : Key) → signer_of pass moment (key_in club pass.identifier) ≡ Ok key
+    → IsOnRecord club key
+on_record club pass request moment key e =
+    let its = is_signer club pass request moment key e in
+    (its.0, ap (λ (n : List ℕ). key_named n club) (named club its.1.named its.0 its.1.row) ∙ its.1.row, sym its.2)
 
 pub spent_within : SpendsWithinItsMember → AccountsShowWhatIsUsed → (club : Club) (key : Key) (account : MemberAccount) (used most : ℕ) → IsSound club
     → IsOnRecord club key → account_named key.member club ≡ Some account → used ≡ account.member.credited - account.balance → used ≤ most

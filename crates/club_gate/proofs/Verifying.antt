@@ -18,9 +18,9 @@ use Rattle.club_core.specs.declared.verdict.Verdict.{Verdict}
 use Rattle.club_core.specs.Answer.{verdict_in}
 use Rattle.club_core.specs.Club.{Club}
 use Rattle.club_laws.specs.SingleRequest.{words_with}
-use Rattle.club_gate.specs.computed.DecodedPass.{machine_pass, decoded_or_fault, without_form, decoded_words}
+use Rattle.club_gate.specs.computed.DecodedPass.{machine_pass, decoded_or_fault, without_form, decoded_words, words_in_form}
 use Rattle.club_gate.specs.Served.{IsJson, IsReadInPlace}
-use Rattle.club_gate.specs.Verify.{ReadsOrLacksMemory, words_in_form}
+use Rattle.club_gate.specs.Verify.{ReadsOrLacksMemory}
 
 abbrev IsVerdict : Result Verdict StoreFault → Verdict → Type 0
 IsVerdict result verdict = IfOk result (λ found. found ≡ verdict)

@@ -1,6 +1,6 @@
 -- The result of a scan of the fields of a pass.
-use Rattle.std.proofs.Common.{Bor, ◌≡◌, ℕ, ◌+◌, ◌-◌, ◌^◌, ◌≤◌, ◌<◌, min, List, [], ◌∷◌, ◌++◌, fold, length, map, Option, Some, None, Bool, true, false, cond}
-use Rattle.std.proofs.Common.{◌⊎◌, inl, inr, is_some, refl, sym, ap, ◌∙◌, arith}
+use Rattle.std.proofs.Common.{Bor, ◌≡◌, ℕ, ◌+◌, ◌-◌, ◌^◌, ◌≤◌, ◌<◌, min, List, [], ◌∷◌, ◌++◌, fold, length, drop, map, Option, Some, None}
+use Rattle.std.proofs.Common.{Bool, true, false, cond, ◌⊎◌, inl, inr, is_some, refl, sym, ap, ◌∙◌, arith}
 use Rattle.std.specs.Option.{option_or}
 use Rattle.pass_caveats.specs.declared.ask.Ask.{Ask}
 use Rattle.pass_caveats.specs.declared.caveat.Caveat.{Caveat}
@@ -13,9 +13,12 @@ use Rattle.pass_forms.specs.declared.field_source.Field.{Field}
 use Rattle.pass_forms.specs.declared.field_source.Field.TheVariants as fields
 use Rattle.pass_forms.specs.FieldSource.{PassField, caveat_field, signature_field, location_field, identifier_field, pass_fields, as_field}
 use Rattle.pass_forms.specs.Pass.{Plain}
+use Rattle.club_rows.specs.declared.key.Key.{Key}
+use Rattle.club_core.specs.Pass.{is_signed_under}
 use Rattle.club_gate.specs.declared.signing.Signing.{Signing}
-use Rattle.club_gate.specs.Signing.{signing_with, is_one_of}
-use Rattle.club_gate.specs.Verify.{fields_behind}
+use Rattle.club_gate.specs.Signing.{chains_under}
+use Rattle.club_gate.specs.computed.DecodedPass.{machine_pass}
+use Rattle.club_gate.proofs.SigningLemmas.{is_one_of, signed_alike, signing_with}
 
 -- ---- the signature
 
@@ -34,10 +37,11 @@ signed_behind signature signing (caveat ∷ caveats) = signed_behind signature (
 
 -- the answer of a walk, of which this is left
 pub signed_at_last : (signing now : Signing) (fields left : List PassField) (answer : Bool) → answer ≡ signed_in now left
-    → signed_in now left ≡ signed_in signing fields → (pass : Plain) → fields ≡ fields_behind pass
-    → answer ≡ is_one_of (fold signing_with signing pass.caveats) pass.signature
-signed_at_last signing now fields left answer e f pass g =
-    e ∙ (f ∙ (ap (λ (fs : List PassField). signed_in signing fs) g ∙ signed_behind pass.signature signing pass.caveats))
+    → signed_in now left ≡ signed_in signing fields → (pass : Plain) (key : Key) (moment : ℕ) → fields ≡ drop 2 (pass_fields pass)
+    → signing ≡ chains_under key moment pass.identifier [] → answer ≡ is_signed_under (machine_pass pass) key moment
+signed_at_last signing now fields left answer e f pass key moment g begins =
+    e ∙ (f ∙ (ap (λ (fs : List PassField). signed_in signing fs) g ∙ (signed_behind pass.signature signing pass.caveats
+    ∙ (ap (λ (s : Signing). is_one_of (fold signing_with s pass.caveats) pass.signature) begins ∙ signed_alike pass key moment))))
 
 -- the next field is a signature, another field, or missing
 module _ (now : Signing) (left : List PassField) where

@@ -1,13 +1,19 @@
 -- The key that a pass names, by the identifier `key:` and the name (ours).
-use Rattle.std.specs.Prelude.{◌≡◌, ◌↔◌, ℕ, List, take, drop, codes, Option, Some, None, if◌then◌else◌}
+use Rattle.std.specs.Prelude.{◌≡◌, ◌↔◌, ℕ, List, take, drop, codes, Option, Some, None, option_and_then, if◌then◌else◌}
 use Rattle.std.specs.Str.{bytes_eq}
 use Rattle.club_values.specs.Name.{IsName}
 use Rattle.club_values.specs.computed.TextOf.{name_of_text}
+use Rattle.club_rows.specs.declared.key.Key.{Key}
+use Rattle.club_core.specs.Club.{Club, key_named}
 use Rattle.club_gate.specs.Minted.{identifier_of}
 
 -- the name of the key that an identifier names; none if it names none
 unfoldable pub key_name_in : List ℕ → Option (List ℕ)
 key_name_in identifier = if bytes_eq (take 4 identifier) (codes "key:") then name_of_text (drop 4 identifier) else None
+
+-- the row of the key that an identifier names; none if it names no key of the club
+abbrev pub key_in : Club → List ℕ → Option Key
+key_in club identifier = option_and_then (λ (name : List ℕ). key_named name club) (key_name_in identifier)
 
 -- An identifier names a key if and only if it is the identifier of that name.
 abbrev pub FindsNames : Type 0

@@ -19,12 +19,11 @@ use Rattle.club_core.specs.declared.request.Request.TheVariants as asked
 use Rattle.club_core.specs.declared.store.StoreFault.{StoreFault}
 use Rattle.club_core.specs.declared.store.StoreFault.TheVariants.{Memory}
 use Rattle.club_core.specs.declared.view.View.{View}
-use Rattle.club_core.specs.Basis.{view_in}
-use Rattle.club_core.specs.Club.{Club}
+use Rattle.club_core.specs.Basis.{slot_use, view_in}
+use Rattle.club_core.specs.Club.{Club, facility_named}
 use Rattle.club_core.specs.Store.{IsRead, KeepsClub}
-use Rattle.club_core.specs.Verdict.{account_verdict, verdict_of, view_verdict}
+use Rattle.club_core.specs.Verdict.{account_verdict, verdict_of}
 use Rattle.club_gate.specs.Desk.{OfItsClub}
-use Rattle.club_gate.specs.Reading.{first_view, with_slot}
 use Rattle.club_gate.specs.declared.fault.Fault.{Fault}
 use Rattle.club_gate.specs.declared.fault.Fault.TheVariants.{Refused, Store}
 
@@ -81,32 +80,30 @@ account_look_text view = lines (named_values (account_verdict view).reply ++ val
 abbrev pub account_look : Club → List ℕ → ℕ → Option (List ℕ)
 account_look club key moment = option_map account_look_text (view_in club key asked.Account moment)
 
--- what a key sees of a slot
-abbrev pub slot_view : Club → Slot → Key → View
-slot_view club slot key = with_slot club slot (first_view club key (asked.View slot))
-
-abbrev pub unless_refused : Reply → Option Reply
-unless_refused (replies.Refused refusal) = None
-unless_refused reply = Some reply
-
--- the reply to a view of a slot by a key; none where the facility is unknown
-abbrev pub slot_reply : Club → Slot → Key → Option Reply
-slot_reply club slot key = unless_refused (view_verdict (slot_view club slot key) slot).reply
+-- a slot with its facility, and what is taken of it; none where the facility is unknown
+abbrev pub slot_reply : Club → Slot → Option Reply
+slot_reply club slot =
+    option_map (λ facility. SlotShown slot facility.kind facility.price facility.places (slot_use club slot).taken (slot_use club slot).closed)
+    (facility_named slot.facility club)
 
 -- the lines of a reply
 abbrev pub reply_lines : Option Reply → Option (List ℕ)
 reply_lines reply = option_map (λ r. lines (named_values r)) reply
 
--- what a look at a slot shows, by whichever key
-abbrev pub slot_look : Club → Slot → Key → Option (List ℕ)
-slot_look club slot key = reply_lines (slot_reply club slot key)
+-- what a look at a slot shows
+abbrev pub slot_look : Club → Slot → Option (List ℕ)
+slot_look club slot = reply_lines (slot_reply club slot)
+
+abbrev pub unless_refused : Reply → Option Reply
+unless_refused (replies.Refused refusal) = None
+unless_refused reply = Some reply
 
 -- A look at a slot shows the values of the reply that each key of the club gets for the slot, at whatever moment; and nothing if that is a refusal.
 abbrev pub ShowsSlotsToKeys : Type 0
 ShowsSlotsToKeys =
-    (club : Club) (slot : Slot) (key : Key) (name : List ℕ) (moment : ℕ) (view : View)
+    (club : Club) (slot : Slot) (name : List ℕ) (moment : ℕ) (view : View)
     → view_in club name (asked.View slot) moment ≡ Some view
-    → slot_look club slot key ≡ reply_lines (unless_refused (verdict_of view (asked.View slot) moment).reply)
+    → slot_look club slot ≡ reply_lines (unless_refused (verdict_of view (asked.View slot) moment).reply)
 
 -- why a look gives no text: there is nothing of the name; or memory or storage was refused
 abbrev pub IsUnshown : Option (List ℕ) → Fault → Type 0

@@ -1,24 +1,19 @@
 -- What the desk reads of the club to answer a signed pass (ours).
-use Rattle.std.specs.Prelude.{◌≡◌, ◌⊎◌, ℕ, IsTrue, true, map, Option, Some, None, is_some, option_map, option_and_then, if◌then◌else◌}
+use Rattle.std.specs.Prelude.{◌≡◌, ◌⊎◌, ℕ, IsTrue, map, Option, Some, None, is_some, option_map, option_and_then}
 use Rattle.pass_caveats.specs.declared.ask.Ask.{Ask}
-use Rattle.pass_caveats.specs.declared.fault.CaveatFault.{CaveatFault}
 use Rattle.pass_caveats.specs.computed.CaveatOf.{caveat_of}
 use Rattle.pass_caveats.specs.Fault.{first_fault_of}
 use Rattle.pass_caveats.specs.Kinds.{at_kind}
-use Rattle.pass_caveats.specs.Spending.{after_spending}
 use Rattle.pass_forms.specs.Pass.{Plain}
 use Rattle.club_values.specs.declared.kind.Kind.{Kind}
 use Rattle.club_values.specs.declared.slot.Slot.{Slot}
 use Rattle.club_rows.specs.declared.key.Key.{Key}
 use Rattle.club_core.specs.declared.account.MemberAccount.{MemberAccount}
 use Rattle.club_core.specs.declared.request.Request.{Request}
-use Rattle.club_core.specs.declared.request.Request.TheVariants as asked
-use Rattle.club_core.specs.declared.verdict.Verdict.{Verdict}
 use Rattle.club_core.specs.declared.view.View.{View}
-use Rattle.club_core.specs.Answer.{answer_by_view, ask_of}
 use Rattle.club_core.specs.Basis.{account_named, slot_use, state_of}
 use Rattle.club_core.specs.Club.{Club, bookings_of, key_named}
-use Rattle.club_core.specs.Looks.{bare_view, books_anew}
+use Rattle.club_core.specs.Looks.{bare_view}
 use Rattle.club_core.specs.Request.{request_number, request_slot}
 use Rattle.club_core.specs.KeyParts.{row_alone}
 use Rattle.club_core.specs.Sums.{booking_under, count_to_come, spent_under}
@@ -61,37 +56,6 @@ with_member club moment view = option_map (with_account club moment view) (accou
 abbrev pub with_spent : Club → View → View
 with_spent club view = record view { spent = spent_under view.key.name club.bookings }
 
--- with what the decision depends on. For a view of a slot: its state. For a new booking: the slot's state and the member's sums. For the
--- account: the sums of the member and of the key. Otherwise: nothing more.
-abbrev pub last_view : Club → Request → ℕ → View → Option View
-last_view club (asked.View slot) moment view = Some (with_slot club slot view)
-last_view club (asked.Book slot number guests) moment view =
-    if books_anew view then with_member club moment (with_slot club slot view) else Some view
-last_view club (asked.Cancel slot number) moment view = Some view
-last_view club asked.Account moment view = option_map (with_spent club) (with_member club moment view)
-
 -- the key is one of the club's, without its older root
 abbrev pub IsOnRecord : Club → Key → Type 0
 IsOnRecord club key = (row : Key) × (key_named row.name club ≡ Some row) × (key ≡ row_alone row)
-
--- the first caveat of a pass that refuses the request, if the key has spent this much before
-abbrev pub fault_after : Plain → ℕ → Ask → Option CaveatFault
-fault_after pass spent ask = first_fault_of (map caveat_of pass.caveats) (after_spending spent ask)
-
--- that caveat, for what the key has spent
-abbrev pub fault_read : Club → Key → Plain → Request → ℕ → Option CaveatFault
-fault_read club key pass request moment =
-    fault_after pass (spent_under key.name club.bookings) (ask_of (first_view club key request) request moment)
-
--- the answer by a view, to which the rest is added if no caveat refuses
-abbrev pub answer_from : Club → View → Request → ℕ → Option CaveatFault → Verdict
-answer_from club view request moment None = answer_by_view (last_view club request moment view) true None request moment
-answer_from club view request moment (Some fault) = answer_by_view (Some view) true (Some fault) request moment
-
-abbrev pub answer_read : Club → Key → Request → ℕ → Option CaveatFault → Verdict
-answer_read club key request moment fault = answer_from club (first_view club key request) request moment fault
-
--- the verdict on a pass that is signed under the key of a row
-abbrev pub verdict_read : Club → Key → Plain → Request → ℕ → Verdict
-verdict_read club key pass request moment =
-    answer_read club key request moment (fault_read club key pass request moment)

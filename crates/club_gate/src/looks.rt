@@ -2,7 +2,6 @@
 
 ghost use Rattle.std.specs.Prelude.{◌≡◌, ◌++◌, IfOk, OnOk};
 ghost use Rattle.std.specs.String.{string_bytes};
-ghost use Rattle.club_rows.specs.declared.key.Key.{Key as KeyRow};
 ghost use Rattle.club_core.specs.declared.request.Request.TheVariants as asked;
 ghost use Rattle.club_core.specs.Basis.{view_in};
 ghost use Rattle.club_core.specs.Store.{ReadsOrFails};
@@ -42,7 +41,7 @@ impl<S: ClubStore> Desk<S> {
     /// refused.
     pub fn show_slot(&mut self, slot: &Slot) -> Result<String, Fault>
         ensures { spec.LooksAtClub S.disk_is_clean S.represents S.fails self.old self.new result
-            (λ club. (key : KeyRow) → spec.ReturnsLook (spec.slot_look club slot.now key) result) }
+            (λ club. spec.ReturnsLook (spec.slot_look club slot.now) result) }
     {
         let Some(reply) = self.slot_reply(slot)? else {
             return Err(Fault::Refused(OfficeFault::Unknown));
@@ -66,7 +65,7 @@ impl<S: ClubStore> Desk<S> {
     // The reply to a view of a slot, whoever asks; `None` where the facility is unknown.
     fn slot_reply(&mut self, slot: &Slot) -> Result<Option<Reply>, StoreFault>
         ensures reads { ReadsStore S.disk_is_clean S.represents self.old self.new result
-            (λ club reply. (key : KeyRow) → reply ≡ spec.slot_reply club slot.now key) }
+            (λ club reply. reply ≡ spec.slot_reply club slot.now) }
         ensures failed { S.disk_is_clean self.new → ReadsOrFails S.fails self.old self.new result }
     {
         let Some(facility) = self.store.facility(&slot.facility)? else {

@@ -1,7 +1,14 @@
 //! What the desk reads of the club to answer a signed pass: only what the caveats and the decision
 //! depend on.
 
-ghost use Rattle.std.specs.Prelude.{◌≡◌, ◌≤◌, true, option_map};
+ghost use Rattle.std.specs.Prelude.{◌≡◌, ◌≤◌, None, true, map, option_map};
+ghost use Rattle.pass_caveats.specs.computed.CaveatOf.{caveat_of};
+ghost use Rattle.pass_caveats.specs.Fault.{first_fault_of};
+ghost use Rattle.pass_caveats.specs.Spending.{after_spending};
+ghost use Rattle.pass_forms.specs.Pass.{Plain};
+ghost use Rattle.club_rows.specs.declared.key.Key.{Key as KeyRow};
+ghost use Rattle.club_core.specs.Answer.{answer_by_view};
+ghost use Rattle.club_core.specs.Basis.{view_in};
 ghost use Rattle.club_core.specs.Store.{ReadsOrFails};
 ghost use Rattle.club_core.specs.Sums.{spent_under};
 ghost use Rattle.club_gate.specs.Desk.{ReadsStore};
@@ -11,6 +18,7 @@ ghost use Rattle.club_gate.specs.Verify.{OfItsPass};
 
 use crate::desk::Desk;
 use crate::walk::{fault_after, has_kind, unspent_fault};
+use club_core::laws::{looks_no_further, own_bookings_suffice};
 use club_core::{ClubStore, Request, SlotUse, StoreFault, View};
 use club_laws::spending::{accounts_show_what_is_used, spends_within_its_member};
 use club_rows::Key;
@@ -58,7 +66,8 @@ impl<S: ClubStore> Desk<S> {
     ) -> Result<Option<CaveatFault>, StoreFault>
         ensures reads { ReadsStore S.disk_is_clean S.represents self.old self.new result
             (λ club fault. IsOnRecord club key.now → OfItsPass (F.left source.now) (λ pass. fault
-            ≡ read.fault_after pass (spent_under key.now.name club.bookings) ask.now)) }
+            ≡ first_fault_of (map caveat_of pass.caveats)
+            (after_spending (spent_under key.now.name club.bookings) ask.now))) }
         ensures failed { S.disk_is_clean self.new → ReadsOrFails S.fails self.old self.new result }
     {
         let Unspent { fault, slack } = unspent_fault(source, ask);
@@ -155,7 +164,8 @@ impl<S: ClubStore> Desk<S> {
         Ok(Some(View { spent, ..view }))
     }
 
-    /// Adds all that the decision depends on; `None` if the club doesn't have the key's member.
+    /// Adds all that the decision depends on to a view of what caveats depend on; `None` if the
+    /// club doesn't have the key's member. The answer is the same as by the key's whole view.
     pub(crate) fn last_view(
         &mut self,
         view: View,
@@ -163,9 +173,15 @@ impl<S: ClubStore> Desk<S> {
         moment: Moment,
     ) -> Result<Option<View>, StoreFault>
         ensures reads { ReadsStore S.disk_is_clean S.represents self.old self.new result
-            (λ club found. found ≡ read.last_view club request.now moment view) }
+            (λ club found. (pass : Plain) (key : KeyRow) → IsOnRecord club key
+            → read.Suffices pass (read.first_view club key request.now) view
+            → answer_by_view found true None request.now moment
+            ≡ answer_by_view (view_in club key.name request.now moment) true None request.now
+            moment) }
         ensures failed { S.disk_is_clean self.new → ReadsOrFails S.fails self.old self.new result }
     {
+        own_bookings_suffice();
+        looks_no_further();
         match request {
             Request::View { slot } => {
                 let view = self.with_slot(view, slot)?;

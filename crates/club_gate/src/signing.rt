@@ -1,8 +1,10 @@
 //! The signatures that a pass may have: one for each root of its key that is valid at the moment.
 
-ghost use Rattle.std.specs.Prelude.{◌≡◌};
+ghost use Rattle.std.specs.Prelude.{◌≡◌, ◌||◌, ℕ, List, [], false, option_map};
+ghost use Rattle.std.specs.Option.{option_map_or};
+ghost use Rattle.std.specs.Str.{bytes_eq};
 ghost use Rattle.pass_mac.specs.Hmac.{hmac};
-ghost use Rattle.club_gate.specs.Signing.{initial_signing, signing_with, is_one_of};
+ghost use Rattle.club_gate.specs.Signing.{chains_under};
 
 use club_rows::Key;
 use club_values::Moment;
@@ -20,7 +22,7 @@ pub(crate) struct Signing {
 impl Signing {
     /// Starts the chains with an identifier.
     pub fn start(kept: &mut KeptKeys, key: &Key, moment: Moment, identifier: &[u8]) -> Signing
-        ensures { result ≡ initial_signing key.now moment identifier.now }
+        ensures { result ≡ chains_under key.now moment identifier.now [] }
     {
         let older = match key.older_root_at(moment) {
             Some(root) => {
@@ -38,7 +40,10 @@ impl Signing {
 
     /// Extends the chains by a caveat.
     pub fn with(self, caveat: &[u8]) -> Signing
-        ensures { result ≡ signing_with self caveat.now }
+        ensures { result ≡ record {
+          current = hmac self.current caveat.now;
+          older = option_map (λ (signature : List ℕ). hmac signature caveat.now) self.older;
+        } }
     {
         let Signing { current, older } = self;
         Signing {
@@ -49,7 +54,9 @@ impl Signing {
 
     /// Whether a signature is that of one of the chains.
     pub fn is(&self, signature: &[u8; 32]) -> bool
-        ensures { result ≡ is_one_of self.now signature.now }
+        ensures { result ≡ (bytes_eq self.now.current signature.now
+            || option_map_or (λ (older : List ℕ). bytes_eq older signature.now) self.now.older
+            false) }
     {
         if same(&self.current.signature(), signature) {
             return true;

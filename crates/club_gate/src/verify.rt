@@ -11,36 +11,35 @@ ghost use Rattle.std.specs.Prelude.{
   Some,
   Ok,
   Err,
+  drop,
   option_map,
 };
 ghost use Rattle.pass_forms.specs.declared.fault.FormFault.{FormFault as FaultOfForm};
+ghost use Rattle.pass_forms.specs.declared.fault.FormFault.TheVariants.{Memory};
 ghost use Rattle.pass_forms.specs.declared.form.Form.TheVariants.{Json};
 ghost use Rattle.pass_forms.specs.FieldSource.{pass_fields};
 ghost use Rattle.pass_forms.specs.Pass.{Plain};
 ghost use Rattle.pass_json.specs.computed.AnyForm.{reading, reading_in_form};
 ghost use Rattle.club_core.specs.declared.refusal.Refusal.TheVariants.{NotVerified};
-ghost use Rattle.club_core.specs.Answer.{verdict_in};
+ghost use Rattle.club_core.specs.declared.store.StoreFault.TheVariants as store;
+ghost use Rattle.club_core.specs.Answer.{form_refusal, verdict_in};
 ghost use Rattle.club_core.specs.Club.{key_named};
 ghost use Rattle.club_core.specs.KeyParts.{row_alone};
 ghost use Rattle.club_core.specs.Store.{ReadsOrFails};
+ghost use Rattle.club_core.specs.Verdict.{refusal_verdict};
 ghost use Rattle.club_laws.specs.SingleRequest.{words_with};
 ghost use Rattle.club_gate.specs.Desk.{ReadsStore};
-ghost use Rattle.club_gate.specs.computed.DecodedPass.{machine_pass, decoded_words};
+ghost use Rattle.club_gate.specs.DecodedPass.{fault_of};
+ghost use Rattle.club_gate.specs.Identifier.{key_in};
+ghost use Rattle.club_gate.specs.computed.DecodedPass.{machine_pass, decoded_words, words_in_form};
 ghost use Rattle.club_gate.specs.Served.{IsJson, IsReadInPlace};
 ghost use Rattle.club_gate.specs.Verify.{
   OfItsPass,
   ReadsOrLacksMemory,
   RefusesText,
-  answer_to_fault,
-  fields_behind,
-  key_in,
-  key_unless,
   refusal_by_row,
-  signer_alone,
-  signer_in,
-  words_in_form,
+  signer_of,
 };
-ghost use Rattle.club_gate.specs.Reading.{IsOnRecord, verdict_read};
 
 use crate::desk::Desk;
 use crate::identifier::key_name_in;
@@ -60,7 +59,7 @@ use pass_json::read_json;
 fn identifier_from<'a, F: FieldSource<'a>>(source: &mut F) -> Option<&'a [u8]>
     ensures { (pass : Plain) → F.left source.old ≡ pass_fields pass
         → IsSomeAnd result (λ identifier. identifier.now ≡ pass.identifier)
-        × (F.left source.new ≡ fields_behind pass) }
+        × (F.left source.new ≡ drop 2 (pass_fields pass)) }
 {
     let Some(Field::Location(_)) = source.next() else {
         return None;
@@ -81,7 +80,7 @@ fn row_refusal<'a, F: FieldSource<'a>>(
     moment: Moment,
 ) -> Option<Refusal>
     ensures { (pass : Plain) → identifier.now ≡ pass.identifier
-        → F.left source.old ≡ fields_behind pass
+        → F.left source.old ≡ drop 2 (pass_fields pass)
         → result ≡ refusal_by_row pass key.now moment }
 {
     let signing = Signing::start(kept, key, moment, identifier);
@@ -96,7 +95,9 @@ fn row_refusal<'a, F: FieldSource<'a>>(
 
 /// The verdict on a text that isn't a pass. Fails if the reader ran out of memory.
 fn verdict_of_fault(fault: FormFault) -> Result<Verdict, StoreFault>
-    ensures returned { result ≡ answer_to_fault fault }
+    ensures memory { fault ≡ Memory → result ≡ Err store.Memory }
+    ensures refused { fault ≢ Memory
+        → result ≡ Ok (refusal_verdict (form_refusal (fault_of fault))) }
     ensures unchanged { IfOk result (λ verdict. verdict.change ≡ None) }
 {
     let fault = match fault {
@@ -134,10 +135,10 @@ impl<S: ClubStore> Desk<S> {
     ) -> Result<Result<Key, Refusal>, StoreFault>
         ensures reads { ReadsStore S.disk_is_clean S.represents self.old self.new result
             (λ club signer. (pass : Plain) (row : Key) → identifier.now ≡ pass.identifier
-            → F.left source.old ≡ fields_behind pass
+            → F.left source.old ≡ drop 2 (pass_fields pass)
             → key_named row.name club ≡ Some row → key.now ≡ row_alone row
             → refusal_by_row pass key.now moment ≡ Some NotVerified
-            → signer ≡ signer_alone (key_unless row (refusal_by_row pass row moment))) }
+            → signer ≡ signer_of pass moment (Some row)) }
         ensures failed { S.disk_is_clean self.new → ReadsOrFails S.fails self.old self.new result }
     {
         let Some(older) = self.store.older_root(&key.name)? else {
@@ -167,7 +168,7 @@ impl<S: ClubStore> Desk<S> {
     ) -> Result<Result<Key, Refusal>, StoreFault>
         ensures reads { ReadsStore S.disk_is_clean S.represents self.old self.new result
             (λ club signer. (pass : Plain) → F.left source.now ≡ pass_fields pass
-            → signer ≡ signer_alone (signer_in club pass moment)) }
+            → signer ≡ signer_of pass moment (key_in club pass.identifier)) }
         ensures failed { S.disk_is_clean self.new → ReadsOrFails S.fails self.old self.new result }
     {
         let mut fields = source.again();
@@ -188,7 +189,7 @@ impl<S: ClubStore> Desk<S> {
         }
     }
 
-    /// The verdict on a request with a pass that is signed under this key. If a caveat refuses the
+    /// The verdict on a request with a pass whose signer is this key. If a caveat refuses the
     /// request, no sum is read but what the key's member has used and the key has spent, and these
     /// only if a caveat depends on them.
     fn verdict_under<'a, F: FieldSource<'a> + Drop>(
@@ -199,10 +200,13 @@ impl<S: ClubStore> Desk<S> {
         moment: Moment,
     ) -> Result<Verdict, StoreFault>
         ensures reads { ReadsStore S.disk_is_clean S.represents self.old self.new result
-            (λ club verdict. IsOnRecord club key.now → OfItsPass (F.left source.now) (λ pass.
-            verdict ≡ verdict_read club key.now pass request.now moment)) }
+            (λ club verdict. OfItsPass (F.left source.now) (λ pass.
+            signer_of pass moment (key_in club pass.identifier) ≡ Ok key.now
+            → verdict ≡ verdict_in club (words_with (machine_pass pass) request.now) moment)) }
         ensures failed { S.disk_is_clean self.new → ReadsOrFails S.fails self.old self.new result }
     {
+        own_bookings_suffice();
+        looks_no_further();
         let view = self.first_view(source, key, request)?;
         let fault = self.caveat_fault(source, key, &view.ask(request, moment))?;
         if fault.is_some() {
@@ -226,8 +230,6 @@ impl<S: ClubStore> Desk<S> {
         ensures failed { S.disk_is_clean self.new → ReadsOrFails S.fails self.old self.new result }
     {
         views_decide();
-        own_bookings_suffice();
-        looks_no_further();
         match self.signer(source, moment)? {
             Ok(key) => self.verdict_under(&key, source, request, moment),
             Err(refusal) => Ok(Verdict::refuse(refusal)),

@@ -1,24 +1,29 @@
 //! Scans of the fields of a pass: for its signature, and for its caveats.
 
-ghost use Rattle.std.specs.Prelude.{◌≡◌, ℕ, false, fold, map};
+ghost use Rattle.std.specs.Prelude.{◌≡◌, ℕ, [], false, drop, map};
 ghost use Rattle.pass_caveats.specs.computed.CaveatOf.{caveat_of};
 ghost use Rattle.pass_caveats.specs.Fault.{first_fault_of};
-ghost use Rattle.pass_caveats.specs.Spending.{IsWithin};
+ghost use Rattle.pass_caveats.specs.Spending.{IsWithin, after_spending};
+ghost use Rattle.pass_forms.specs.FieldSource.{pass_fields};
 ghost use Rattle.pass_forms.specs.Pass.{Plain};
-ghost use Rattle.club_gate.specs.Signing.{signing_with, is_one_of};
-ghost use Rattle.club_gate.specs.Reading as read;
+ghost use Rattle.club_rows.specs.declared.key.Key.{Key};
+ghost use Rattle.club_core.specs.Pass.{is_signed_under};
+ghost use Rattle.club_gate.specs.computed.DecodedPass.{machine_pass};
+ghost use Rattle.club_gate.specs.Signing.{chains_under};
 ghost use Rattle.club_gate.specs.Reading.{IsBlindPass};
-ghost use Rattle.club_gate.specs.Verify.{OfItsPass, fields_behind};
+ghost use Rattle.club_gate.specs.Verify.{OfItsPass};
 
 use crate::signing::Signing;
 use pass_caveats::{Ask, CaveatFault, Unspent, fault_at, looks_at_kind, unspent_at};
 use pass_forms::{Field, FieldSource};
 
-/// Whether a pass is signed: extended by all its caveats, one of these chains has its signature.
-/// The source has already yielded the identifier.
+/// Whether a pass is signed: extended by all its caveats, one of these chains, which begin with its
+/// identifier, has its signature. The source has already yielded the identifier.
 pub(crate) fn is_signed<'a, F: FieldSource<'a>>(source: &mut F, signing: Signing) -> bool
-    ensures { (pass : Plain) → F.left source.old ≡ fields_behind pass
-        → result ≡ is_one_of (fold signing_with signing pass.caveats) pass.signature }
+    ensures { (pass : Plain) (key : Key) (moment : ℕ)
+        → F.left source.old ≡ drop 2 (pass_fields pass)
+        → signing ≡ chains_under key moment pass.identifier []
+        → result ≡ is_signed_under (machine_pass pass) key moment }
 {
     let mut signing = signing;
     while let Some(field) = source.next() {
@@ -55,7 +60,8 @@ pub(crate) fn fault_after<'a, F: FieldSource<'a> + Drop>(
     ask: &Ask,
     spent: u64,
 ) -> Option<CaveatFault>
-    ensures { OfItsPass (F.left source.now) (λ pass. result ≡ read.fault_after pass spent ask.now) }
+    ensures { OfItsPass (F.left source.now) (λ pass.
+        result ≡ first_fault_of (map caveat_of pass.caveats) (after_spending spent ask.now)) }
 {
     let mut source = source.again();
     first_fault(&mut source, &Ask { spent, ..*ask })
@@ -65,7 +71,8 @@ pub(crate) fn fault_after<'a, F: FieldSource<'a> + Drop>(
 /// the most that the key may have spent for the same result.
 fn first_unspent<'a, F: FieldSource<'a>>(source: &mut F, ask: &Ask) -> Unspent
     ensures { OfItsPass (F.left source.old) (λ pass. (spent : ℕ) → IsWithin result.slack spent
-        → read.fault_after pass spent ask.now ≡ result.fault) }
+        → first_fault_of (map caveat_of pass.caveats) (after_spending spent ask.now)
+        ≡ result.fault) }
 {
     let mut slack: Option<u64> = None;
     let mut number: usize = 1;
@@ -99,7 +106,8 @@ fn least(bound: Option<u64>, other: Option<u64>) -> Option<u64>
 /// As `first_unspent`, but leaves the source unchanged.
 pub(crate) fn unspent_fault<'a, F: FieldSource<'a> + Drop>(source: &F, ask: &Ask) -> Unspent
     ensures { OfItsPass (F.left source.now) (λ pass. (spent : ℕ) → IsWithin result.slack spent
-        → read.fault_after pass spent ask.now ≡ result.fault) }
+        → first_fault_of (map caveat_of pass.caveats) (after_spending spent ask.now)
+        ≡ result.fault) }
 {
     let mut source = source.again();
     first_unspent(&mut source, ask)

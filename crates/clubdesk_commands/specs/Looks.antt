@@ -1,6 +1,5 @@
 -- What the commands that show do (ours).
 use Rattle.std.specs.Prelude.{◌≡◌, ◌⊎◌, ℕ, ℤ, List, Option, Some, None, Result, Ok, Err}
-use Rattle.club_rows.specs.declared.key.Key.{Key}
 use Rattle.club_values.specs.declared.slot.Slot.{Slot}
 use Rattle.club_core.specs.Club.{Club}
 use Rattle.club_core.specs.Store.{KeepsClub}
@@ -26,9 +25,8 @@ GivesLook look (Err fault) = IsUnshown look fault
 abbrev pub ShowsAccount : List ℕ → ℕ → Club → Result (List ℕ) DeskFault → Type 0
 ShowsAccount key moment club shown = GivesLook (account_look club key moment) shown
 
--- the same to whichever key
 abbrev pub ShowsSlot : Slot → Club → Result (List ℕ) DeskFault → Type 0
-ShowsSlot slot club shown = (key : Key) → GivesLook (slot_look club slot key) shown
+ShowsSlot slot club shown = GivesLook (slot_look club slot) shown
 
 -- The desk was asked for a look at the club, which is unchanged, and what it returned was given.
 pub record Looks {S : Type 0} (Clean : S → Type 0) (Represents : S → Club → List Club → Type 0) (old new : S)

@@ -5,7 +5,7 @@ use Rattle.pass_forms.specs.declared.fault.FormFault.{FormFault}
 use Rattle.pass_forms.specs.declared.form.Form.{Form}
 use Rattle.pass_forms.specs.Pass.{Plain}
 use Rattle.pass_forms.specs.computed.Pass.{is_signed}
-use Rattle.pass_json.specs.computed.AnyForm.{reading}
+use Rattle.pass_json.specs.computed.AnyForm.{reading, reading_in_form}
 use Rattle.club_core.specs.declared.pass_fault.PassFault.{PassFault}
 use Rattle.club_core.specs.declared.request.Request.{Request}
 use Rattle.club_core.specs.Pass.{Pass, Words}
@@ -39,6 +39,10 @@ decoded_pass text = decoded_or_fault (without_form (reading text))
 -- the words of a request with this text
 abbrev pub decoded_words : List ℕ → Request → Words
 decoded_words text request = record { pass = decoded_pass text; request = request }
+
+-- the words of a request whose pass is these bytes in a form
+abbrev pub words_in_form : Form → List ℕ → Request → Words
+words_in_form form bytes request = record { pass = decoded_or_fault (reading_in_form form bytes); request = request }
 
 -- an event at the desk, as the machine sees it
 abbrev pub machine_event : Event → machine.Event

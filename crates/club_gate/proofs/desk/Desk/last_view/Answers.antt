@@ -1,15 +1,70 @@
-use Rattle.std.proofs.Common.{◌≡◌, true, sym, ◌∙◌}
+use Rattle.std.proofs.Common.{◌≡◌, true, false, Some, ap, sym, ◌∙◌, rules}
+use Rattle.std.proofs.lemmas.List.Elements.{All-head}
 use Rattle.std.proofs.lemmas.Result.{IfOk-weaker}
-use Rattle.club_gate.proofs.Reading.{of_new_booking}
+use Rattle.club_core.specs.declared.request.Request.{Request}
+use Rattle.club_core.specs.declared.view.View.{View}
+use Rattle.club_core.specs.Club.{IsSound}
+use Rattle.club_gate.proofs.Reading.{last_view, of_new_booking, of_repeat}
+use Rattle.club_gate.proofs.RowsAlone.{last_reads}
 use Rattle.club_gate.proofs.desk.Desk.last_view.Goals as goal
+
+pub returns-in_ok-view-in-View-clause-reads : goal.returns-in_ok-view-in-View-clause-reads
+returns-in_ok-view-in-View-clause-reads g c = record {
+  was_clean = c.with_slot.ensures.reads.was_clean;
+  kept = c.with_slot.ensures.reads.kept;
+  returns = λ clean club others represents.
+      let sound = All-head IsSound club others (g.met.S.ClubStore.sound c.args.self.now club others represents) in
+      let found = c.in_ok-view-in-View.ensures.reads.returns clean club others represents in
+      last_reads c.own_bookings_suffice.ensures c.looks_no_further.ensures club c.args.request.now c.args.moment c.args.view
+      (Some c.in_ok-view-in-View.view) sound
+      (ap (λ (v : View). Some v) found ∙ ap (λ (r : Request). last_view club r c.args.moment c.args.view) (sym c.in-View.is));
+}
+
+pub returns-then-not-books_anew-clause-reads : goal.returns-then-not-books_anew-clause-reads
+returns-then-not-books_anew-clause-reads g c = record {
+  was_clean = search rules;
+  kept = search rules;
+  returns = λ clean club others represents.
+      let sound = All-head IsSound club others (g.met.S.ClubStore.sound c.args.self.now club others represents) in
+      let fails : c.books_anew.result ≡ false = cc in
+      last_reads c.own_bookings_suffice.ensures c.looks_no_further.ensures club c.args.request.now c.args.moment c.args.view (Some c.args.view) sound
+      (of_repeat club c.args.request.now c.args.moment c.args.view c.in-Book.slot c.in-Book.number c.in-Book.guests c.in-Book.is
+      (sym c.books_anew.ensures ∙ fails));
+}
 
 pub returns-else-not-books_anew-clause-reads : goal.returns-else-not-books_anew-clause-reads
 returns-else-not-books_anew-clause-reads g c = record {
   was_clean = c.with_slot_and_member.ensures.reads.was_clean;
   kept = c.with_slot_and_member.ensures.reads.kept;
-  returns = λ was_clean club others represents.
+  returns = λ clean club others represents.
+      let sound = All-head IsSound club others (g.met.S.ClubStore.sound c.args.self.now club others represents) in
       let passes : c.books_anew.result ≡ true = cc in
       let is = of_new_booking club c.args.request.now c.args.moment c.args.view c.in-Book.slot c.in-Book.number c.in-Book.guests c.in-Book.is
       (sym c.books_anew.ensures ∙ passes) in
-      IfOk-weaker c.with_slot_and_member.result _ _ (λ found e. e ∙ is) (c.with_slot_and_member.ensures.reads.returns was_clean club others represents);
+      IfOk-weaker c.with_slot_and_member.result _ _
+      (λ found e. last_reads c.own_bookings_suffice.ensures c.looks_no_further.ensures club c.args.request.now c.args.moment c.args.view found sound (e ∙ is))
+      (c.with_slot_and_member.ensures.reads.returns clean club others represents);
+}
+
+pub returns-in-Cancel-clause-reads : goal.returns-in-Cancel-clause-reads
+returns-in-Cancel-clause-reads g c = record {
+  was_clean = search rules;
+  kept = search rules;
+  returns = λ clean club others represents.
+      let sound = All-head IsSound club others (g.met.S.ClubStore.sound c.args.self.now club others represents) in
+      last_reads c.own_bookings_suffice.ensures c.looks_no_further.ensures club c.args.request.now c.args.moment c.args.view (Some c.args.view) sound
+      (ap (λ (r : Request). last_view club r c.args.moment c.args.view) (sym c.in-Cancel.is));
+}
+
+pub returns-in-Account-clause-reads : goal.returns-in-Account-clause-reads
+returns-in-Account-clause-reads g c = record {
+  was_clean = c.with_sums.ensures.reads.was_clean;
+  kept = c.with_sums.ensures.reads.kept;
+  returns = λ clean club others represents.
+      let sound = All-head IsSound club others (g.met.S.ClubStore.sound c.args.self.now club others represents) in
+      IfOk-weaker c.with_sums.result _ _
+      (λ found e.
+      last_reads c.own_bookings_suffice.ensures c.looks_no_further.ensures club c.args.request.now c.args.moment c.args.view found sound
+      (e ∙ ap (λ (r : Request). last_view club r c.args.moment c.args.view) (sym c.in-Account.is)))
+      (c.with_sums.ensures.reads.returns clean club others represents);
 }
