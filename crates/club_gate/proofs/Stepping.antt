@@ -1,6 +1,7 @@
 -- An event that was decided: its change was applied, or the store failed.
 use Rattle.std.proofs.Common.{◌≡◌, ◌≢◌, inr, ℕ, true, false, List, [], ◌∷◌, Option, Some, None, Result, Ok, Err, refl, sym, ap, ◌∙◌, subst}
 use Rattle.std.specs.Prelude.{IsErr}
+use Rattle.base64.specs.GeneralPurpose.{IsBytes}
 use Rattle.club_core.specs.declared.change.Change.{Change}
 use Rattle.club_core.specs.declared.command.Command.{Command}
 use Rattle.club_core.specs.declared.command.Command.TheVariants.{AddMember, Credit, AddFacility, AddKey, RevokeKey, RotateKey, CloseSlot}
@@ -10,6 +11,7 @@ use Rattle.club_core.specs.declared.event.EventReply.TheVariants.{Replied}
 use Rattle.club_core.specs.declared.refusal.Refusal.TheVariants.{Unavailable}
 use Rattle.club_core.specs.declared.reply.Reply.{Reply}
 use Rattle.club_core.specs.declared.reply.Reply.TheVariants.{Refused}
+use Rattle.club_core.specs.declared.request.Request.{Request}
 use Rattle.club_core.specs.declared.store.StoreFault.{StoreFault}
 use Rattle.club_core.specs.declared.verdict.Verdict.{Verdict}
 use Rattle.club_core.specs.After.{after}
@@ -22,7 +24,11 @@ use Rattle.club_core.specs.Run.{Asked, Ordered, after_change, done_answer, order
 use Rattle.club_laws.specs.Failed.{ToMember, ToOffice, present_reply, is_unavailable, NeverUnavailable}
 use Rattle.club_laws.specs.SoundRuns.{ChangesFit}
 use Rattle.club_core.specs.Store.{IsRead}
+use Rattle.club_gate.specs.computed.DecodedPass.{decoded_words}
+use Rattle.club_gate.specs.DecodedPass.{AreWordsOf}
+use Rattle.club_gate.specs.Laws.{Decodes}
 use Rattle.club_gate.specs.Desk.{FailsAt, FitsIfAny, IsAnsweredBy, IsRefusedBy, change_by, others_after}
+use Rattle.club_gate.proofs.Decoding.{words_are}
 use Rattle.club_gate.specs.Response.{answer_or_fault, is_failure, reply_or_unavailable, office_reply_of, desk_presentation, unavailable}
 
 -- a command that is done is no failure
@@ -68,6 +74,14 @@ pub changed_fault : {S : Type 0} (Fails : Option Change → S → StoreFault →
     → FailsAt Fails old new club (Asked words moment) fault
 changed_fault {S} Fails old now new club words moment verdict e fault read failed =
     inr (subst (λ (v : Verdict). Fails v.change old fault new) e (read verdict.change fault new failed))
+
+-- so it is at the request of any words that the text decodes to
+pub fails_at_its_words : {S : Type 0} (Fails : Option Change → S → StoreFault → S → Type 0) (old new : S) (club : Club) (text : List ℕ)
+    (request : Request) (moment : ℕ) (fault : StoreFault) → Decodes → IsBytes text
+    → FailsAt Fails old new club (Asked (decoded_words text request) moment) fault
+    → (words : Words) → AreWordsOf text request words → FailsAt Fails old new club (Asked words moment) fault
+fails_at_its_words Fails old new club text request moment fault law bytes failed words are =
+    subst (λ (w : Words). FailsAt Fails old new club (Asked w moment) fault) (words_are law text request words bytes are) failed
 
 module _ {S : Type 0} (Represents : S → Club → List Club → Type 0) (new : S) (club : Club) (others : List Club) where
   pub order_done : (command : Command) (change : Change) → office_verdict club command ≡ Ok change

@@ -9,6 +9,7 @@ use Rattle.club_core.specs.declared.store.StoreFault.TheVariants.{Memory}
 use Rattle.club_core.specs.Answer.{verdict_in}
 use Rattle.club_core.specs.Club.{Club}
 use Rattle.club_core.specs.Office.{office_verdict}
+use Rattle.club_core.specs.Pass.{Words}
 use Rattle.club_core.specs.Run.{Event, Asked, Ordered, after_change, step}
 use Rattle.club_core.specs.Store.{FitsClub, IsRead, KeepsClub, Returns}
 use Rattle.club_laws.specs.Failed.{Response, present_reply, has_failed}
@@ -16,7 +17,7 @@ use Rattle.club_gate.specs.declared.event.OfficeReply.{OfficeReply}
 use Rattle.club_gate.specs.declared.event.OfficeReply.TheVariants.{Refused}
 use Rattle.club_gate.specs.declared.fault.Fault.{Fault}
 use Rattle.club_gate.specs.declared.fault.Fault.TheVariants as faults
-use Rattle.club_gate.specs.computed.DecodedPass.{decoded_words}
+use Rattle.club_gate.specs.DecodedPass.{AreWordsOf}
 use Rattle.club_gate.specs.Response.{desk_presentation, unavailable}
 use Rattle.club_gate.specs.Served.{IsJson}
 
@@ -91,7 +92,8 @@ NamesItsFault Fails old new club event reply =
 abbrev pub FailsForCause : {S : Type 0} → (Option Change → S → StoreFault → S → Type 0) → S → S → Club → List ℕ → Request → ℕ → Reply → Type 0
 FailsForCause Fails old new club text request moment reply =
     reply ≡ unavailable
-    → ((fault : StoreFault) × FailsAt Fails old new club (Asked (decoded_words text request) moment) fault) ⊎ (IsJson text × (new ≡ old))
+    → ((fault : StoreFault) × ((words : Words) → AreWordsOf text request words → FailsAt Fails old new club (Asked words moment) fault))
+    ⊎ (IsJson text × (new ≡ old))
 
 -- memory or storage was refused
 abbrev pub IsStoreFault : Fault → Type 0

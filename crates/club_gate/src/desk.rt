@@ -147,6 +147,8 @@ impl<S: ClubStore> Desk<S> {
     {
         changes_fit();
         never_unavailable();
+        decodes();
+        are_bytes(words.pass);
         words.request.within();
         let verdict = self.verdict(words, moment)?;
         self.settle(verdict.change)?;

@@ -2,7 +2,7 @@ use Rattle.std.proofs.Common.{inl, inr, ◌∙◌}
 use Rattle.std.proofs.lemmas.List.Elements.{All-head}
 use Rattle.club_core.specs.Club.{IsSound}
 use Rattle.club_gate.specs.computed.DecodedPass.{decoded_words}
-use Rattle.club_gate.proofs.Stepping.{always_decided, ask_done, ask_failed, ask_fits, changed_fault}
+use Rattle.club_gate.proofs.Stepping.{always_decided, ask_done, ask_failed, ask_fits, changed_fault, fails_at_its_words}
 use Rattle.club_gate.proofs.desk.Desk.reply_to.Goals as goal
 
 pub returns-in_err-settle-clause-steps : goal.returns-in_err-settle-clause-steps
@@ -41,7 +41,7 @@ returns-clause-untouched g c = λ fault e.
 
 pub returns-in_err-verdict-clause-failed : goal.returns-in_err-verdict-clause-failed
 returns-in_err-verdict-clause-failed g c = λ was_clean club others represents is. elim (c.in_err-verdict.ensures.failed was_clean) [
-  | inl failed ↦ inl (_, inl failed)
+  | inl failed ↦ inl (_, λ words are. inl failed)
   | inr json ↦ inr json
 ]
 
@@ -52,7 +52,11 @@ returns-in_err-settle-clause-failed g c = λ was_clean club others represents is
     let decided = c.in_ok-verdict.ensures.reads.returns before club others represents in
     let failed = changed_fault g.S.ClubStore.fails c.args.self.now c.verdict.new.self c.settle.new.self club words c.args.moment c.in_ok-verdict.verdict
     decided _ (c.in_ok-verdict.ensures.failed before) (c.in_err-settle.ensures.failed was_clean) in
-    inl (_, failed)
+    inl (
+      _,
+      fails_at_its_words g.S.ClubStore.fails c.args.self.now c.settle.new.self club c.args.words.now.pass.now c.args.words.now.request c.args.moment _
+          c.decodes.ensures c.are_bytes.ensures failed,
+    )
 
 pub returns-clause-failed : goal.returns-clause-failed
 returns-clause-failed g c = λ was_clean club others represents is.
