@@ -33,6 +33,7 @@ from selenium.webdriver.common.action_chains import ActionChains
 from selenium.webdriver.common.keys import Keys
 
 import desk
+import kinds
 from page_browser import Browser, check, policy_holds, CONTRASTS, SMALL_TARGETS
 from reference import passes
 from reference.caveats import ACTIONS, WEEKDAYS
@@ -69,12 +70,6 @@ def written(form, it):
 def amys(form, *caveats):
     """A pass of Amy's with these caveats, under some signature."""
     return written(form, Pass(b"", b"key:amy-1", [it if isinstance(it, bytes) else it.encode() for it in caveats], bytes(32)))
-
-
-def narrowed(it, lines):
-    for line in lines:
-        it = it.narrowed(line.encode())
-    return it
 
 
 # ---- What passtool answers
@@ -201,11 +196,6 @@ def drawn_line(choice):
     }[choice]
 
 
-def drawn_lines():
-    chosen = draw.sample(CHOICES, draw.randint(1, 5))
-    return [drawn_line(choice) for choice in CHOICES if choice in chosen]
-
-
 def fields_of(*lines):
     """The fields of the page that make lines: names with values."""
     found = []
@@ -253,12 +243,13 @@ def drawn_spelling(form, drawn):
 
 
 def narrows_as_passtool(page):
-    drawn = [(FORMS[place % 3], drawn_pass(), drawn_lines()) for place in range(PASSES)]
+    choices = [sorted(draw.sample(CHOICES, draw.randint(1, 5)), key=CHOICES.index) for _ in range(PASSES)]
+    drawn = [(FORMS[place % 3], drawn_pass(), list(map(drawn_line, its))) for place, its in enumerate(choices)]
     texts = [drawn_spelling(form, it) for form, it, _ in drawn]
     fields = [fields_of(*lines) for _, _, lines in drawn]
     answers = page.each("narrow", list(zip(texts, fields)))
     for (form, it, lines), text, answer in zip(drawn, texts, answers):
-        wanted = written(form, narrowed(it, lines))
+        wanted = kinds.text(it, *lines, form=form)
         by_tool = narrowed_by_tool(text, lines)
         check(by_tool == wanted, "passtool and the formats differ", text, lines, by_tool, wanted)
         check(answer.get("text") == wanted, "the page narrows otherwise", text, lines, answer, wanted)
@@ -440,14 +431,13 @@ def with_third_party(text):
     if text.startswith("{"):
         return re.sub(r'\{"i', draw.choice(['{"v":"","i', '{"l64":"_w","i']), text, count=1)
     data = bytes_of(text)
-    behind = b"cid " if data[0] != 2 else b"\0"
-    places = [found.start() for found in re.finditer(re.escape(behind), data)]
-    place = draw.choice(places or [0])
     if data[0] == 2:
-        data[place:place] = b"\4\0"
-    else:
-        place += int(data[place - 4:place], 16) - 4 if places else 0
-        data[place:place] = draw.choice([b"0009vid \n", b"0008cl \n", b"000avid x\n0008cl \n"])
+        ends = data.split(b"\0")
+        ends[draw.randrange(len(ends))] += b"\4\0"
+        return unpadded(b"\0".join(ends))
+    caveat = draw.choice([*re.finditer(b"cid ", data)] or [None])
+    place = caveat.start() - 4 + int(data[caveat.start() - 4:caveat.start()], 16) if caveat else 0
+    data[place:place] = draw.choice([b"0009vid \n", b"0008cl \n", b"000avid x\n0008cl \n"])
     return unpadded(bytes(data))
 
 
