@@ -18,7 +18,7 @@ from reference.caveats import ACTIONS, day_of, listed, moment_of, number_of
 from reference.wire import STATUSES, TEXTS
 
 DAY, WINDOW = 1440, 86_400
-PRAGMAS = "locking_mode = EXCLUSIVE", "journal_mode = WAL", "synchronous = FULL", "foreign_keys = ON", "cache_size = 2000"
+PRAGMAS = "PRAGMA locking_mode = EXCLUSIVE; PRAGMA journal_mode = WAL; PRAGMA synchronous = FULL; PRAGMA foreign_keys = ON; PRAGMA cache_size = 2000"
 KEY, OLDER_ROOT, MEMBER, FACILITY, SLOT, BOOKING, COSTS, OPEN, ADD_BOOKING, ADD_USED, ADD_TAKEN = sys.stdin.read().splitlines()
 app = Flask(__name__)
 app.register_error_handler(404, lambda _fault: refusal(2))
@@ -173,8 +173,7 @@ class Server(BaseApplication):
 
     def load(self):
         app.database = sqlite3.connect(sys.argv[1])
-        for pragma in PRAGMAS:
-            app.database.execute(f"PRAGMA {pragma}").fetchall()
+        app.database.executescript(PRAGMAS)
         app.moment = int(sys.argv[2])
         return app
 

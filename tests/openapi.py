@@ -26,7 +26,6 @@ DOCS = desk.ROOT / "docs"
 SCHEMA = Path("/usr/share/openapi-specification/schemas/v3.0/schema.json")
 DOCUMENT = yaml.safe_load((DOCS / "openapi.yaml").read_text(encoding="utf-8"))
 RESOLVER = jsonschema.RefResolver.from_schema(DOCUMENT)
-METHODS = ("get", "put", "delete")
 
 
 def found(part):
@@ -49,7 +48,7 @@ def examples_of(response):
 # the path's expression, the path's item
 ITEMS = [(re.sub(r"\{(\w+)\}", r"(?P<\1>[^/]+)", path), item) for path, item in DOCUMENT["paths"].items()]
 # the name of the operation, or what stands for it, the status, the response
-RESPONSES = [(item[method]["operationId"], int(status), found(response)) for _, item in ITEMS for method in METHODS if method in item
+RESPONSES = [(item[method]["operationId"], int(status), found(response)) for _, item in ITEMS for method in ("get", "put", "delete") if method in item
              for status, response in item[method]["responses"].items()]
 RESPONSES += [(path, 405, found(item["x-any-other-method"])) for path, item in ITEMS]
 RESPONSES += [("other", 404, found(DOCUMENT["x-any-other-path"]))]
