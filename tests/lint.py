@@ -139,9 +139,9 @@ def unused_code(crate):
 def stale_edits(crate):
     for edit in [*texts_below(f"crates/{crate}/must-fail", ".edit"), *texts_below(f"crates/{crate}/more-edits", ".edit")]:
         try:
-            more_edits.edited_texts(f"crates/{crate}", edit)
-        except (more_edits.BadEdit, OSError) as fault:
-            yield f"edit doesn't apply: {edit}: {fault}"
+            more_edits.edited_texts(Path("crates", crate), edit)
+        except (more_edits.NoVerdict, OSError) as fault:
+            yield f"edit doesn't apply: {edit}: {fault.args[-1]}"
 
 
 def other_versions():
