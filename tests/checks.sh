@@ -34,3 +34,6 @@ soon() {
         sleep 0.1
     done
 }
+
+# unsound FILE: what of a club's totals is off.
+unsound() { sqlite3 "$1" "$(PYTHONPATH=$here /usr/bin/python3 -B -c 'import desk; print(desk.SUMS)')"; }

@@ -395,10 +395,7 @@ acknowledged=$(grep -c PUT booked)
 [ "$acknowledged" -gt 50 ] || fail "the client booked little: $(tail booked client.log)"
 inside sh -c 'rm -f /root/looked && /usr/lib/clubdesk/back_up /var/lib/clubdesk/club /root/looked' >told
 same 'what was acknowledged' "$acknowledged" "$(inside sqlite3 /root/looked 'SELECT count(*) FROM bookings WHERE number > 1000 AND cancelled = 1')"
-same 'the totals' '0 0' "$(inside sqlite3 /root/looked 'SELECT count(*) FROM members WHERE used <> (SELECT total(charge - refund)
-    FROM bookings JOIN keys ON keys.name = pass_key WHERE member = members.name);
-    SELECT count(*) FROM slots s WHERE taken <> (SELECT total(guests + 1) FROM bookings b WHERE cancelled = 0
-    AND b.facility = s.facility AND b.day = s.day AND b.hour = s.hour)' | xargs)"
+same 'the totals' '' "$(unsound "$root/root/looked")"
 grep -q '^tries [1-9]' client.log || fail 'the upgrades interrupted nobody: they restarted nothing'
 
 # ---- Removed: the desks end, what describes them and their files stay. Installed again: it goes on.
