@@ -23,11 +23,11 @@ holds() {
     "$@" >told 2>&1 || fail "$what: $(tail -n 30 told)"
 }
 
-# soon WHAT COMMAND..: it ends with status 0 within a minute; what it prints last is in `told`.
+# soon SECONDS WHAT COMMAND..: it ends with status 0 within these; what it prints last is in `told`.
 soon() {
-    what=$1
-    shift
-    tries=600
+    tries=$(($1 * 10))
+    what=$2
+    shift 2
     until "$@" >told 2>&1; do
         tries=$((tries - 1))
         [ "$tries" -gt 0 ] || fail "$what: $(tail -n 30 told)"

@@ -28,7 +28,7 @@ boot() {
     systemd-nspawn -q -D "$root" -M "clubdesk-$$" --register=no --keep-unit --private-network --link-journal=no --boot >console 2>&1 </dev/null &
     machine=$!
     leader=
-    soon "it doesn't boot" is_up
+    soon 60 "it doesn't boot" is_up
     same 'units that failed at boot' '' "$(inside systemctl --failed --plain --no-legend)"
 }
 is_up() {
@@ -113,9 +113,9 @@ gives() {
     inside sh /root/lines >told 2>&1 </dev/null || fail "RUNNING, $1: $(tail -n 30 told)"
 }
 
-# answers PORT: the desk listens there, and refuses a request without a pass.
+# answers PORT: the desk listens there, within ten seconds, and refuses a request without a pass.
 answers() {
-    soon "the desk at port $1" inside curl -sS --max-time 5 "http://127.0.0.1:$1/account"
+    soon 10 "the desk at port $1" inside curl -sS --max-time 5 "http://127.0.0.1:$1/account"
     same "the desk at port $1" '{"fault":4,"text":"no pass"}' "$(cat told)"
 }
 

@@ -75,10 +75,11 @@ direct=http://127.0.0.1:8080 site=https://desk.example.org slot=slots/court-1/20
 # asks BASE METHOD PATH PASS [BODY]: the reply to a request, its status behind it.
 asks() { curl -sS --noproxy '*' --max-time 20 -w ' %{http_code}' -X "$2" -H "Authorization: Bearer $4" ${5:+-d "$5"} "$1/$3"; }
 pass=$(cat club-pass)
-soon 'the desk' is_heard $direct/
+soon 10 'the desk' is_heard $direct/
 same 'a booking' '{"booking":"amy-1/7","charge":3,"left":1} 200' "$(asks $direct PUT $slot/bookings/7 "$pass" '{"guests":2}')"
 same 'a cancellation' '{"booking":"amy-1/7","refund":3} 200' "$(asks $direct DELETE $slot/bookings/7 "$pass")"
 by_page 'The pages'
+same 'the lines of the pages' 6 "$(wc -l <"$room/lines")"
 same 'a lost list' "record of amy-1
 7 court-1 2026-05-01 18 guests 2 charge 3 left 1 refund 3" "$(cat told)"
 same 'the link of a letter' 1 "$(grep -c "$site/book.html#$pass" "$room/page/amy-1.html")"
@@ -107,13 +108,13 @@ started="$started $!"
 cd "$work"
 printf '%s\n' 'non-interactive = true' 'agree-tos = true' 'register-unsafely-without-email = true' 'server = https://127.0.0.1:14000/dir' \
     >/etc/letsencrypt/cli.ini
-soon 'the authority' curl -sS --cacert "$room/authority/own.pem" -o "$room/authority/ca.pem" https://127.0.0.1:15000/roots/0
+soon 10 'the authority' curl -sS --cacert "$room/authority/own.pem" -o "$room/authority/ca.pem" https://127.0.0.1:15000/roots/0
 by_page 'A certificate'
 live=/etc/letsencrypt/live/desk.example.org
 sed -i "s,/etc/ssl/clubdesk/certificate.pem,$live/fullchain.pem,; s,/etc/ssl/clubdesk/key.pem,$live/privkey.pem," \
     /usr/share/doc/clubdesk/examples/nginx.conf
 by_page TLS
-soon 'the site' is_heard https://127.0.0.1/
+soon 10 'the site' is_heard https://127.0.0.1/
 code=0
 curl -s -o told http://127.0.0.1/account || code=$?
 same 'nothing else is answered at port 80' 52 "$code"
@@ -134,7 +135,7 @@ by_page 'Several clubs'
 member_of rowing boat-1 >told
 sed -i 's,/live/desk.example.org/,/live/rowing.example.org/,' /etc/nginx/sites-available/rowing
 nginx -t -q && systemctl reload nginx
-soon 'the second desk' is_heard http://127.0.0.1:8081/
+soon 10 'the second desk' is_heard http://127.0.0.1:8081/
 sleep 1
 printf 'cacert = "%s/authority/ca.pem"\nsilent\nshow-error\nnoproxy = "*"\n' "$room" >.curlrc
 CURL_HOME=$PWD
