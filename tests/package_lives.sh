@@ -193,12 +193,11 @@ same 'what the pages know of the club' 'Europe/Berlin court-1 Court 1' \
 same 'the account behind TLS' '{"member":"amy","balance":9997,"quota":5,"open":1,"spent":3} 200' "$(by_tls GET account)"
 
 # ---- Health.
+health_says() { inside journalctl -q -o cat -u clubdesk-health@club | grep "^well: the desk answers$1; its disk has"; }
 holds 'a check without a pass' inside systemctl start clubdesk-health@club
-inside journalctl -q -o cat -u clubdesk-health@club >told
-grep -q '^well: the desk answers; its disk has' told || fail "the check without a pass: $(cat told)"
+soon 10 'what the check without a pass says' health_says ''
 blocks 'Is it well?' | gives 'Is it well?'
-inside journalctl -q -o cat -u clubdesk-health@club >told
-grep -q '^well: the desk answers, and reads its file; its disk has' told || fail "the check: $(cat told)"
+soon 10 'what the check says' health_says ', and reads its file'
 same 'the pass of the check' '640 root clubdesk' "$(inside stat -c '%a %U %G' /etc/clubdesk/club.health)"
 
 # ---- Another club, half a day away, with mail: what is mailed goes to a file. Nobody has asked for it in the first.

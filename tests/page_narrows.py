@@ -356,11 +356,11 @@ def faulty_texts():
 def readable_texts():
     """Texts at the edge of what is read."""
     v2, known = passes.v2_bytes(KEYID), written("v2", KEYID)
-    third_as_text = packet(b"cid", b"vid a\n")
     return [
         *(it["text"] for it in VECTORS["also read as the third pass"]), known, f" \n{known}\n ", written("v1", KEYID), written("json", KEYID),
-        written("v1", README_PASS), unpadded(v2.replace(field(1, KEYID.location), field(1, b""))),
-        written("v1", Pass(b"", b"", [b"", b"x\n000acid y\n", third_as_text], bytes(32))), "{" + SHORT, "{" + SHORT + " " * 8127, '{"i":' + "[" * 126 + "]" * 126 + "," + SHORT, '{"v":1.5,"v":2,' + SHORT, '{"i64":"_w",' + S64 + "}",
+        written("v1", README_PASS), unpadded(v2.replace(field(1, KEYID.location), field(1, b""))), "{" + SHORT, "{" + SHORT + " " * 8127,
+        written("v1", Pass(b"", b"", [b"", b"x\n000acid y\n", packet(b"cid", b"vid a\n")], bytes(32))),
+        '{"i":' + "[" * 126 + "]" * 126 + "," + SHORT, '{"v":1.5,"v":2,' + SHORT, '{"i64":"_w",' + S64 + "}",
         '{"i":"a","i":"b",' + S64 + "}", '{"i":"\\"\\\\\\u0000\\u00e9\\/\\ud83d\\ude00",' + S64 + "}",
         unpadded(b"\2" + field(2, b"k") + b"\0" + (field(2, b"guests <= 1") + b"\0") * 64 + b"\0" + field(6, bytes(32))),
         unpadded(b"\2" + field(2, b"k") + b"\0" + field(2, b"x" * 128) + b"\0" + field(2, b"x" * 5000) + b"\0\0" + field(6, bytes(32))),
@@ -538,8 +538,9 @@ SENTENCES = {
 }
 # Lines that fields make, also those that somebody spells in another way.
 CHOSEN = [
-    ("facility = court-1,court-2,room-1", [("facility", " court-1 , court-2;room-1 ")]), ("actions = view,book,account", [("actions", ["account", "view", "book"])]),
-    ("weekday = sat,sun", [("weekday", ["sun", "sat"])]), ("guests <= 49", [("guests", " 49 ")]), *((line, fields_of(line)) for line in (
+    ("facility = court-1,court-2,room-1", [("facility", " court-1 , court-2;room-1 ")]), ("weekday = sat,sun", [("weekday", ["sun", "sat"])]),
+    ("actions = view,book,account", [("actions", ["account", "view", "book"])]), ("guests <= 49", [("guests", " 49 ")]),
+    *((line, fields_of(line)) for line in (
         "kind = boat", "facility = court-1", "actions = view", "actions = view,book,cancel,account", "days = 2026-05-01..2026-05-31",
         "days = 2026-05-01..2026-05-01", "weekday = mon,tue,wed,thu,fri,sat,sun", "hours = 18-20", "hours = 00-24", "until < 2026-05-01T18:00",
         "guests <= 0", "spend <= 600", "spend <= 999999999")),
@@ -630,11 +631,6 @@ def goes_by_keyboard(page):
         check(outline == ["solid", "3px"], "a focus that can't be seen", stops, outline)
         page.press(*keys)
 
-    tab(AMY)
-    tab(Keys.ARROW_RIGHT)
-    tab("court-1, court-2")
-    for action in ACTIONS:
-        tab(*([" "] if action in ("view", "book") else []))
     def enter(stop, *keys):
         """A date is entered part by part; its picker is the last stop of it."""
         check(page.focused() == stop, "a stop", stop, page.focused())
@@ -642,6 +638,11 @@ def goes_by_keyboard(page):
         while page.focused() == stop:
             page.press(Keys.TAB)
 
+    tab(AMY)
+    tab(Keys.ARROW_RIGHT)
+    tab("court-1, court-2")
+    for action in ACTIONS:
+        tab(*([" "] if action in ("view", "book") else []))
     page.press(Keys.TAB)
     enter("days-first", "05012026")
     enter("days-last", "05312026")
