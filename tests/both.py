@@ -23,6 +23,19 @@ def spelled_moment(moment):
 SPELLINGS = {"word": str, "root": bytes.hex, "moment": spelled_moment, "day": spelled_day, "hour": "{:02d}".format}
 
 
+def finds_each_plant(run):
+    """Whether a run under each planted fault of the rules meets a difference."""
+    missed = set(rules.PLANTS)
+    for plant in rules.PLANTS:
+        try:
+            run(plant)
+            print(f"{plant} isn't found")
+        except AssertionError as difference:
+            print(f"{plant} is found: {str(difference).splitlines()[0][:90]}")
+            missed.remove(plant)
+    return not missed
+
+
 class Both:
     """A club in a file, which the programs keep, and the same in the reference. What differs is an AssertionError."""
 

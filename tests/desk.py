@@ -11,7 +11,6 @@ import signal
 import socket
 import sqlite3
 import subprocess
-import time
 from concurrent.futures import ThreadPoolExecutor
 from pathlib import Path
 
@@ -200,13 +199,9 @@ def add_past_bookings(file, count, root):
     database.close()
 
 
-class Pace:
-    """Prints how far a test is, every ten seconds."""
-
-    def __init__(self, whole):
-        self.whole, self.begun, self.next = whole, time.monotonic(), time.monotonic() + 10
-
-    def at(self, done, what):
-        if time.monotonic() >= self.next:
-            self.next = time.monotonic() + 10
-            print(f"{done} of {self.whole} {what}, {time.monotonic() - self.begun:.0f} s", flush=True)
+def paced(whole, step, what):
+    """So many things in steps, of which each tenth is printed."""
+    for done in range(0, whole, step):
+        yield done
+        if (done + step) * 10 // whole > done * 10 // whole:
+            print(f"{done + step} of {whole} {what}", flush=True)

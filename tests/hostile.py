@@ -21,7 +21,7 @@ from pathlib import Path
 
 sys.dont_write_bytecode = True
 import desk as programs
-from both import Both, spelled_day, spelled_moment
+from both import Both, finds_each_plant, spelled_day, spelled_moment
 from reference import caveats, club as rules, passes
 
 AT_ONE_SERVER = 500  # requests
@@ -261,28 +261,12 @@ def begin(world):
 
 def run(seed, count, desk, plant=None):
     """So many requests, at a new club after every 10,000."""
-    pace = programs.Pace(count)
-    with tempfile.TemporaryDirectory(dir="/dev/shm" if Path("/dev/shm").is_dir() else None) as folder:
-        for done in range(0, count, AT_ONE_SERVER):
+    with tempfile.TemporaryDirectory(dir=programs.IN_MEMORY) as folder:
+        for done in programs.paced(count, AT_ONE_SERVER, "requests"):
             if done % AT_ONE_CLUB == 0:
                 world = World(f"{seed}-{done // AT_ONE_CLUB}", desk, folder, plant)
                 begin(world)
             world.round(min(AT_ONE_SERVER, count - done))
-            pace.at(done + AT_ONE_SERVER, "requests")
-
-
-def self_test(seed, count, desk):
-    """Whether each planted fault is found."""
-    missed = []
-    for plant in rules.PLANTS:
-        try:
-            run(seed, count, desk, plant)
-            missed.append(plant)
-        except AssertionError as difference:
-            print(f"{plant} is found: {str(difference).splitlines()[0][:90]}")
-    for plant in missed:
-        print(f"{plant} isn't found in {count} requests")
-    return not missed
 
 
 def main():
@@ -294,7 +278,7 @@ def main():
     given = parser.parse_args()
     desk = programs.program("clubdesk")
     if given.self_test:
-        return 0 if self_test(given.seed, min(given.count, 20_000), desk) else 1
+        return 0 if finds_each_plant(lambda plant: run(given.seed, min(given.count, 20_000), desk, plant)) else 1
     run(given.seed, given.count, desk, given.plant)
     print(f"{given.count} requests, seed {given.seed}: each reply is the reference's")
     return 0
