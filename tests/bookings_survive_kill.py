@@ -8,7 +8,6 @@ there too, whole. The totals are the sums. At the end all 200 bookings are there
 # groups: faults
 # wants: python3-pytest
 
-import copy
 import os
 import random
 import threading
@@ -34,18 +33,12 @@ GETS = [Row("GET", path, passed=KEYS[0]).data for path in SLOTS] + [ACCOUNT.unde
 class Desk(Both):
     """Four members, each with a key, and a court with 4 places for 7 points. 10,000 points are enough."""
 
-    def begin(self):
+    def __init__(self, program, file):
+        super().__init__(program, file)
         self.give(("add-facility", "court-1", "court", 4, 7, 8, 22))
         for key in range(1, 5):
-            self.give(("add-member", f"m{key}", 99))
-            self.give(("credit", f"m{key}", 10_000))
-            self.give(("add-key", f"k{key}", f"m{key}", bytes.fromhex(ROOT)))
-
-    def copied_to(self, file):
-        desk.copy(self.file, file)
-        other = copy.deepcopy(self)
-        other.file = file
-        return other
+            for order in (("add-member", f"m{key}", 99), ("credit", f"m{key}", 10_000), ("add-key", f"k{key}", f"m{key}", bytes.fromhex(ROOT))):
+                self.give(order)
 
     def server(self, count=None):
         return desk.Server(self.desk, self.file, count, "--at", NOON)
@@ -76,22 +69,20 @@ class Desk(Both):
 
 
 @pytest.fixture(scope="module")
-def begun(clubdesk, tmp_path_factory):
-    """The club without bookings, and how long they take."""
-    club = Desk(clubdesk, tmp_path_factory.mktemp("begun") / "club")
-    club.begin()
-    whole = club.copied_to(club.file.with_name("whole"))
+def seconds(clubdesk, tmp_path_factory):
+    """How long the bookings take."""
+    club = Desk(clubdesk, tmp_path_factory.mktemp("whole") / "club")
     start = time.monotonic()
-    whole.asks(PUTS)
-    seconds = time.monotonic() - start
-    whole.holds()
-    return club, seconds
+    club.asks(PUTS)
+    taken = time.monotonic() - start
+    club.holds()
+    return taken
 
 
 @pytest.mark.parametrize("number", range(ROUNDS))
-def test_server_that_is_killed(begun, tmp_path, number):
-    club = begun[0].copied_to(tmp_path / "club")
-    replies = club.killed_after(random.Random(number).random() * begun[1])
+def test_server_that_is_killed(clubdesk, seconds, tmp_path, number):
+    club = Desk(clubdesk, tmp_path / "club")
+    replies = club.killed_after(random.Random(number).random() * seconds)
     acknowledged = [it for it in replies if it]
     there = len(desk.rows(club.file, "SELECT * FROM bookings"))
     assert there in (len(acknowledged), len(acknowledged) + 1)

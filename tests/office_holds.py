@@ -78,25 +78,13 @@ def as_nobody_else():
 
 def orders_and_looks():
     """clubdesk's own statuses, lines and output."""
-    for words, status, out in (
-        (["add-member", "amy", "5"], 0, "done\n"),
-        (["credit", "amy", "10000"], 0, "done\n"),
-        (["add-member", "bob", "2"], 0, "done\n"),
-        (["credit", "bob", "3000"], 0, "done\n"),
-        (["add-facility", "court-1", "court", "4", "200", "8", "22"], 0, "done\n"),
-        (["add-facility", "court-2", "court", "4", "200", "8", "22"], 0, "done\n"),
-        (["add-facility", "boat-1", "boat", "2", "50", "6", "20"], 0, "done\n"),
-        (["close-slot", "court-1", DAY, "09"], 0, "done\n"),
-        (["add-member", "amy", "5"], 1, "refused: exists\n"),
-        (["credit", "nobody", "5"], 1, "refused: unknown\n"),
-        (["credit", "amy", "0"], 1, "refused: out of range\n"),
-        (["add-member", "Amy", "5"], 3, "bad value\n"),
-        (["credit", "amy'; DROP TABLE members; --", "5"], 3, "bad value\n"),
-        (["close-slot", "court-1", "2026-02-30", "09"], 3, "bad value\n"),
-        (["revoke-key", "nobody-1"], 1, "refused: unknown\n"),
-    ):
-        found, printed, errors = office(*words)
-        same(f"office {' '.join(words)}", (found, printed + errors), (status, out))
+    for words in ("add-member amy 5", "credit amy 10000", "add-member bob 2", "credit bob 3000", "add-facility court-1 court 4 200 8 22",
+                  "add-facility court-2 court 4 200 8 22", "add-facility boat-1 boat 2 50 6 20", f"close-slot court-1 {DAY} 09"):
+        same(words, office(*words.split()), (0, "done\n", ""))
+    for words, line in (("add-member amy 5", "exists"), ("credit nobody 5", "unknown"), ("credit amy 0", "out of range"), ("revoke-key nobody-1", "unknown")):
+        same(words, office(*words.split()), (1, "", f"refused: {line}\n"))
+    for words in (["add-member", "Amy", "5"], ["credit", "amy'; DROP TABLE members; --", "5"], ["close-slot", "court-1", "2026-02-30", "09"]):
+        same(" ".join(words), office(*words), (3, "", "bad value\n"))
     for words in (["add-member", "amy"], ["credit"], ["serve", "--port", "0"], ["pause", "5"], ["import-row", "amy", "1", "1", "x"], ["credi", "amy", "1"]):
         same(f"no words: {words}", office(*words)[0], 2)
     same("the version", run_as("anna", "office", "--version")[1], run_as("anna", "clubdesk", "--version")[1].replace("clubdesk", "office"))
