@@ -84,10 +84,9 @@ class Order:
     def given(self, limits=None, **variables):
         """How it ends; a fault wrote nothing."""
         with self.copy() as (club, words):
-            run = subprocess.run(words, capture_output=True, check=False, text=True, stdin=subprocess.DEVNULL, env={**os.environ, **variables},
-                                 preexec_fn=limits, restore_signals=False)
-            self.keeps_a_club(club, self.rows if run.returncode else self.after)
-        return run.returncode, run.stdout, run.stderr
+            ended = desk.order(*words, env={**os.environ, **variables}, preexec_fn=limits, restore_signals=False)
+            self.keeps_a_club(club, self.rows if ended[0] else self.after)
+        return ended
 
     def fails(self, ended, fault, *statuses):
         """Whether it ended with one of these statuses and no output, else as if nothing were refused."""

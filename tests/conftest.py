@@ -4,7 +4,6 @@ Files lie in memory, where a sync costs nothing."""
 
 import shutil
 import sqlite3
-import subprocess
 import tempfile
 
 import pytest
@@ -97,8 +96,8 @@ def passtool():
     program = desk.program("passtool")
 
     def run(*words, given=""):
-        ended = subprocess.run([program, *words], input=given.encode(), capture_output=True, check=False)
-        return ended.returncode, (ended.stdout + ended.stderr).decode()
+        status, printed, fault = desk.order(program, *words, text=given)
+        return status, printed + fault
 
     return run
 

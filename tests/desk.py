@@ -143,9 +143,9 @@ def exchange(port, data, seconds=30):
         raise
 
 
-def order(desk, *words, text=None):
+def order(desk, *words, text=None, **more):
     """The status and the output of a command of `clubdesk`, and its line on standard error; `text` is its input."""
-    done = subprocess.run([desk, *map(str, words)], capture_output=True, input=text, text=True, check=False)
+    done = subprocess.run([desk, *map(str, words)], capture_output=True, input=text, text=True, check=False, **more)
     return done.returncode, done.stdout, done.stderr
 
 

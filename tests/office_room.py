@@ -19,7 +19,7 @@ from pathlib import Path
 
 import psutil
 
-from desk import SUMS, TESTS
+from desk import SUMS, TESTS, order
 
 if "ROOM" not in os.environ:
     os.execv("/bin/sh", ["sh", str(TESTS / "office_room.sh"), sys.executable, "-B", os.path.abspath(sys.argv[0]), *sys.argv[1:]])
@@ -47,9 +47,7 @@ def leave():
 
 def run_as(user, *line, given=None, folder=None):
     """Runs a command as a user, in its home; its status, output and errors."""
-    ended = subprocess.run(["runuser", "-u", user, "--", *map(str, line)], cwd=folder or f"/home/{user}", input=given, text=True,
-                           capture_output=True, check=False)
-    return ended.returncode, ended.stdout, ended.stderr
+    return order("runuser", "-u", user, "--", *line, text=given, cwd=folder or f"/home/{user}")
 
 
 def office(*words, by="anna", given="", club="club"):

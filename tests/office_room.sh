@@ -33,8 +33,7 @@ for folder in /run/systemd /run/log /dev/shm; do
 done
 [ ! -d /var/log/journal ] || mount -t tmpfs tmpfs /var/log/journal
 rm -f /etc/sudoers.d/*
-adduser --system --group --home /var/lib/clubdesk --no-create-home clubdesk >/dev/null 2>&1 || useradd -r -U -d /var/lib/clubdesk clubdesk
-getent group office >/dev/null || groupadd -r office
+systemd-sysusers "$top/deploy/clubdesk.sysusers" 2>/dev/null
 for user in ben carl; do useradd -m "$user"; done
 usermod -a -G office ben
 install -m 755 "$desk" /usr/bin/clubdesk
@@ -42,14 +41,9 @@ install -m 755 "$tool" /usr/bin/passtool
 install -m 755 "$top/deploy/office" /usr/bin/office
 install -m 440 "$top/deploy/office.sudoers" /etc/sudoers.d/clubdesk-office
 mkdir -p /usr/lib/clubdesk /usr/share/doc/clubdesk/examples /usr/share/clubdesk/web
-for file in "$top"/deploy/*; do
-    case $file in
-        */office | */office.sudoers | *.service | *.timer) ;;
-        *.conf) install -m 644 "$file" /usr/share/doc/clubdesk/examples ;;
-        *) if [ -f "$file" ] && [ -x "$file" ]; then install -m 755 "$file" /usr/lib/clubdesk; fi ;;
-    esac
-done
-for file in "$top"/web/*; do [ ! -f "$file" ] || install -m 644 "$file" /usr/share/clubdesk/web; done
+find "$top/deploy" -maxdepth 1 -type f -perm -100 ! -name office -exec install -m 755 -t /usr/lib/clubdesk {} +
+install -m 644 -t /usr/share/doc/clubdesk/examples "$top"/deploy/*.conf
+find "$top/web" -maxdepth 1 -type f -exec install -m 644 -t /usr/share/clubdesk/web {} +
 
 # page_block HEADING: the lines of docs/RUNNING.md for root under this heading, but for those that install Debian's packages.
 page_block() {
