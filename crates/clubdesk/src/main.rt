@@ -42,6 +42,7 @@ impl DatabasesUser for Program<'_> {
         let mut log = LogLines::new(WriteOutlet::new(rt.stderr()), rt);
         run(
             rt,
+            rt,
             databases,
             words.as_slice(),
             &mut rt.stdin(),

@@ -13,11 +13,7 @@ use Rattle.command_line.specs.Table.{asked, refusals}
 use Rattle.club_clock.specs.Zone.{zone_of}
 use Rattle.clubdesk_arguments.specs.Application.{clubdesk, log_flag, root_flag}
 use Rattle.clubdesk_arguments.specs.JobModel.{JobModel}
-use Rattle.clubdesk_arguments.specs.Laws.{AddMemberTakesItsParts, CreditTakesItsParts, AddFacilityTakesItsParts, AddKeyTakesItsParts, AddKeyTakesV2}
-use Rattle.clubdesk_arguments.specs.Laws.{AddKeyTakesItsInput, RevokeKeyTakesItsKey, RotateKeyTakesItsParts, RotateKeyTakesV2, RotateKeyTakesItsInput}
-use Rattle.clubdesk_arguments.specs.Laws.{CloseSlotTakesItsSlot, SheetTakesItsDay, ShowAccountTakesItsParts, ShowAccountTakesUtc, ShowAccountTakesItsMoment}
-use Rattle.clubdesk_arguments.specs.Laws.{ShowSlotTakesItsSlot, ServeTakesItsParts, ServeTakesUtc, ServeTakesItsMoment, ServeTakesItsLog}
-use Rattle.clubdesk_arguments.specs.Laws.{ServeTakesItsPatience, CommandsTakeTheirWords}
+use Rattle.clubdesk_arguments.specs.Laws.{CommandsTakeTheirWords}
 use Rattle.clubdesk_arguments.specs.Values.{parse_number, patience_of}
 use Rattle.clubdesk_arguments.specs.Words.{asked_job, job_found, job_of_words}
 use Rattle.clubdesk_arguments.specs.declared.table.CommandName.{CommandName}
@@ -68,168 +64,83 @@ named_by_itself V1 = refl
 named_by_itself V2 = refl
 named_by_itself Json = refl
 
-add_member_takes_its_parts-law : AddMemberTakesItsParts
-unfolding clap_on_literals clubdesk refusals asked
-add_member_takes_its_parts-law program file name quota who most named counted =
-    asked_is (program ∷ codes "add-member" ∷ codes "--" ∷ file ∷ name ∷ quota ∷ []) row.AddMember
-    (given (codes "FILE") file ∷ given (codes "NAME") name ∷ given (codes "QUOTA") quota ∷ []) _ refl refl (rw (named, counted) refl)
-
-credit_takes_its_parts-law : CreditTakesItsParts
-unfolding clap_on_literals clubdesk refusals asked
-credit_takes_its_parts-law program file member points who many named counted =
-    asked_is (program ∷ codes "credit" ∷ codes "--" ∷ file ∷ member ∷ points ∷ []) row.Credit
-    (given (codes "FILE") file ∷ given (codes "MEMBER") member ∷ given (codes "POINTS") points ∷ []) _ refl refl (rw (named, counted) refl)
-
-add_facility_takes_its_parts-law : AddFacilityTakesItsParts
-unfolding clap_on_literals clubdesk refusals asked
-add_facility_takes_its_parts-law program file name kind places price opens shuts what of_kind p q o s named kinded a b d e =
-    asked_is (program ∷ codes "add-facility" ∷ codes "--" ∷ file ∷ name ∷ kind ∷ places ∷ price ∷ opens ∷ shuts ∷ []) row.AddFacility
-    (given (codes "FILE") file ∷ given (codes "NAME") name ∷ given (codes "KIND") kind ∷ given (codes "PLACES") places ∷ given (codes "PRICE") price
-    ∷ given (codes "OPENS") opens ∷ given (codes "SHUTS") shuts ∷ []) _ refl refl (rw (named, kinded, a, b, d, e) refl)
-
-add_key_takes_its_parts-law : AddKeyTakesItsParts
-unfolding clap_on_literals clubdesk refusals asked
-add_key_takes_its_parts-law program file key member hex form what who root a b d =
-    asked_is (program ∷ codes "add-key" ∷ (codes "--form=" ++ form_name form) ∷ codes "--" ∷ file ∷ key ∷ member ∷ hex ∷ []) row.AddKey
-    (given (codes "form") (form_name form) ∷ given (codes "FILE") file ∷ given (codes "KEY") key ∷ given (codes "MEMBER") member ∷ given (codes "ROOT") hex
-    ∷ root_flag_left_out ∷ []) _ refl refl (rw (named_by_itself form, a, b, d) refl)
-
-add_key_takes_v2-law : AddKeyTakesV2
-unfolding clap_on_literals clubdesk refusals asked
-add_key_takes_v2-law program file key member hex what who root a b d =
-    asked_is (program ∷ codes "add-key" ∷ codes "--" ∷ file ∷ key ∷ member ∷ hex ∷ []) row.AddKey
-    (given (codes "FILE") file ∷ given (codes "KEY") key ∷ given (codes "MEMBER") member ∷ given (codes "ROOT") hex ∷ root_flag_left_out
-    ∷ left_out (codes "form") (codes "v2") ∷ []) _ refl refl (rw (a, b, d) refl)
-
-add_key_takes_its_input-law : AddKeyTakesItsInput
-unfolding clap_on_literals clubdesk refusals asked
-add_key_takes_its_input-law program file key member what who a b =
-    asked_is (program ∷ codes "add-key" ∷ codes "--root-stdin" ∷ codes "--" ∷ file ∷ key ∷ member ∷ []) row.AddKey
-    (root_flag_given ∷ given (codes "FILE") file ∷ given (codes "KEY") key ∷ given (codes "MEMBER") member ∷ left_out (codes "form") (codes "v2") ∷ [])
-    _ refl refl (rw (a, b) refl)
-
-revoke_key_takes_its_key-law : RevokeKeyTakesItsKey
-unfolding clap_on_literals clubdesk refusals asked
-revoke_key_takes_its_key-law program file key what named =
-    asked_is (program ∷ codes "revoke-key" ∷ codes "--" ∷ file ∷ key ∷ []) row.RevokeKey
-    (given (codes "FILE") file ∷ given (codes "KEY") key ∷ []) _ refl refl (rw (named) refl)
-
-rotate_key_takes_its_parts-law : RotateKeyTakesItsParts
-unfolding clap_on_literals clubdesk refusals asked
-rotate_key_takes_its_parts-law program file key hex moment form what root until a b d =
-    asked_is (program ∷ codes "rotate-key" ∷ (codes "--form=" ++ form_name form) ∷ codes "--" ∷ file ∷ key ∷ hex ∷ moment ∷ []) row.RotateKey
-    (given (codes "form") (form_name form) ∷ given (codes "FILE") file ∷ given (codes "KEY") key ∷ given (codes "ROOT") hex ∷ given (codes "MOMENT") moment
-    ∷ root_flag_left_out ∷ []) _ refl refl (rw (named_by_itself form, a, b, d) refl)
-
-rotate_key_takes_v2-law : RotateKeyTakesV2
-unfolding clap_on_literals clubdesk refusals asked
-rotate_key_takes_v2-law program file key hex moment what root until a b d =
-    asked_is (program ∷ codes "rotate-key" ∷ codes "--" ∷ file ∷ key ∷ hex ∷ moment ∷ []) row.RotateKey
-    (given (codes "FILE") file ∷ given (codes "KEY") key ∷ given (codes "ROOT") hex ∷ given (codes "MOMENT") moment ∷ root_flag_left_out
-    ∷ left_out (codes "form") (codes "v2") ∷ []) _ refl refl (rw (a, b, d) refl)
-
-rotate_key_takes_its_input-law : RotateKeyTakesItsInput
-unfolding clap_on_literals clubdesk refusals asked
-rotate_key_takes_its_input-law program file key moment what until a b =
-    asked_is (program ∷ codes "rotate-key" ∷ codes "--root-stdin" ∷ codes "--" ∷ file ∷ key ∷ moment ∷ []) row.RotateKey
-    (root_flag_given ∷ given (codes "FILE") file ∷ given (codes "KEY") key ∷ given (codes "ROOT") moment ∷ left_out (codes "form") (codes "v2") ∷ [])
-    _ refl refl (rw (a, b) refl)
-
-close_slot_takes_its_slot-law : CloseSlotTakesItsSlot
-unfolding clap_on_literals clubdesk refusals asked
-close_slot_takes_its_slot-law program file facility day hour what on at a b d =
-    asked_is (program ∷ codes "close-slot" ∷ codes "--" ∷ file ∷ facility ∷ day ∷ hour ∷ []) row.CloseSlot
-    (given (codes "FILE") file ∷ given (codes "FACILITY") facility ∷ given (codes "DAY") day ∷ given (codes "HOUR") hour ∷ []) _ refl refl (rw (a, b, d) refl)
-
-sheet_takes_its_day-law : SheetTakesItsDay
-unfolding clap_on_literals clubdesk refusals asked
-sheet_takes_its_day-law program file day on spelled =
-    asked_is (program ∷ codes "sheet" ∷ codes "--" ∷ file ∷ day ∷ []) row.Sheet
-    (given (codes "FILE") file ∷ given (codes "DAY") day ∷ []) _ refl refl (rw (spelled) refl)
-
-show_account_takes_its_parts-law : ShowAccountTakesItsParts
-unfolding clap_on_literals clubdesk refusals asked
-show_account_takes_its_parts-law program file key zone what rule a b =
-    asked_is (program ∷ codes "show-account" ∷ (codes "--zone=" ++ zone) ∷ codes "--" ∷ file ∷ key ∷ []) row.ShowAccount
-    (given (codes "zone") zone ∷ given (codes "FILE") file ∷ given (codes "KEY") key ∷ []) _ refl refl (rw (a, b) refl)
-
-show_account_takes_utc-law : ShowAccountTakesUtc
-unfolding clap_on_literals clubdesk refusals asked
-show_account_takes_utc-law program file key what a =
-    asked_is (program ∷ codes "show-account" ∷ codes "--" ∷ file ∷ key ∷ []) row.ShowAccount
-    (given (codes "FILE") file ∷ given (codes "KEY") key ∷ left_out (codes "zone") (codes "UTC0") ∷ []) _ refl refl (rw (a, utc_is_a_zone) refl)
-
-show_account_takes_its_moment-law : ShowAccountTakesItsMoment
-unfolding clap_on_literals clubdesk refusals asked
-show_account_takes_its_moment-law program file key fixed what moment a b =
-    asked_is (program ∷ codes "show-account" ∷ (codes "--at=" ++ fixed) ∷ codes "--" ∷ file ∷ key ∷ []) row.ShowAccount
-    (given (codes "at") fixed ∷ given (codes "FILE") file ∷ given (codes "KEY") key ∷ left_out (codes "zone") (codes "UTC0") ∷ [])
-    _ refl refl (rw (a, utc_is_a_zone, b) refl)
-
-show_slot_takes_its_slot-law : ShowSlotTakesItsSlot
-unfolding clap_on_literals clubdesk refusals asked
-show_slot_takes_its_slot-law program file facility day hour what on at a b d =
-    asked_is (program ∷ codes "show-slot" ∷ codes "--" ∷ file ∷ facility ∷ day ∷ hour ∷ []) row.ShowSlot
-    (given (codes "FILE") file ∷ given (codes "FACILITY") facility ∷ given (codes "DAY") day ∷ given (codes "HOUR") hour ∷ []) _ refl refl (rw (a, b, d) refl)
-
-serve_takes_its_parts-law : ServeTakesItsParts
-unfolding clap_on_literals clubdesk refusals asked
-serve_takes_its_parts-law program file port count zone at many rule a b d =
-    asked_is (program ∷ codes "serve" ∷ (codes "--port=" ++ port) ∷ (codes "--count=" ++ count) ∷ (codes "--zone=" ++ zone) ∷ codes "--" ∷ file ∷ []) row.Serve
-    (given (codes "port") port ∷ given (codes "count") count ∷ given (codes "zone") zone ∷ given (codes "FILE") file ∷ patience_left_out ∷ log_left_out ∷ [])
-    _ refl refl (rw (a, b, d, ten_is_a_patience) refl)
-
-serve_takes_utc-law : ServeTakesUtc
-unfolding clap_on_literals clubdesk refusals asked
-serve_takes_utc-law program file port count at many a b =
-    asked_is (program ∷ codes "serve" ∷ (codes "--port=" ++ port) ∷ (codes "--count=" ++ count) ∷ codes "--" ∷ file ∷ []) row.Serve
-    (given (codes "port") port ∷ given (codes "count") count ∷ given (codes "FILE") file ∷ left_out (codes "zone") (codes "UTC0") ∷ patience_left_out
-    ∷ log_left_out ∷ []) _ refl refl (rw (a, b, utc_is_a_zone, ten_is_a_patience) refl)
-
-serve_takes_its_moment-law : ServeTakesItsMoment
-unfolding clap_on_literals clubdesk refusals asked
-serve_takes_its_moment-law program file port count fixed at many moment a b d =
-    asked_is (program ∷ codes "serve" ∷ (codes "--port=" ++ port) ∷ (codes "--count=" ++ count) ∷ (codes "--at=" ++ fixed) ∷ codes "--" ∷ file ∷ []) row.Serve
-    (given (codes "port") port ∷ given (codes "count") count ∷ given (codes "at") fixed ∷ given (codes "FILE") file ∷ left_out (codes "zone") (codes "UTC0")
-    ∷ patience_left_out ∷ log_left_out ∷ []) _ refl refl (rw (a, b, utc_is_a_zone, d, ten_is_a_patience) refl)
-
-serve_takes_its_log-law : ServeTakesItsLog
-unfolding clap_on_literals clubdesk refusals asked
-serve_takes_its_log-law program file port count fixed at many moment a b d =
-    asked_is (program ∷ codes "serve" ∷ (codes "--port=" ++ port) ∷ (codes "--count=" ++ count) ∷ (codes "--at=" ++ fixed) ∷ codes "--log" ∷ codes "--"
-    ∷ file ∷ []) row.Serve
-    (given (codes "port") port ∷ given (codes "count") count ∷ given (codes "at") fixed ∷ log_given ∷ given (codes "FILE") file
-    ∷ left_out (codes "zone") (codes "UTC0") ∷ patience_left_out ∷ []) _ refl refl (rw (a, b, utc_is_a_zone, d, ten_is_a_patience) refl)
-
-serve_takes_its_patience-law : ServeTakesItsPatience
-unfolding clap_on_literals clubdesk refusals asked
-serve_takes_its_patience-law program file port count seconds at many long a b d =
-    asked_is (program ∷ codes "serve" ∷ (codes "--port=" ++ port) ∷ (codes "--count=" ++ count) ∷ (codes "--patience=" ++ seconds) ∷ codes "--" ∷ file
-    ∷ []) row.Serve
-    (given (codes "port") port ∷ given (codes "count") count ∷ given (codes "patience") seconds ∷ given (codes "FILE") file
-    ∷ left_out (codes "zone") (codes "UTC0") ∷ log_left_out ∷ []) _ refl refl (rw (a, b, utc_is_a_zone, d) refl)
-
 pub commands_take_their_words : CommandsTakeTheirWords
+unfolding clap_on_literals clubdesk refusals asked
 commands_take_their_words = record {
-  add_member_takes_its_parts = add_member_takes_its_parts-law;
-  credit_takes_its_parts = credit_takes_its_parts-law;
-  add_facility_takes_its_parts = add_facility_takes_its_parts-law;
-  add_key_takes_its_parts = add_key_takes_its_parts-law;
-  add_key_takes_v2 = add_key_takes_v2-law;
-  add_key_takes_its_input = add_key_takes_its_input-law;
-  revoke_key_takes_its_key = revoke_key_takes_its_key-law;
-  rotate_key_takes_its_parts = rotate_key_takes_its_parts-law;
-  rotate_key_takes_v2 = rotate_key_takes_v2-law;
-  rotate_key_takes_its_input = rotate_key_takes_its_input-law;
-  close_slot_takes_its_slot = close_slot_takes_its_slot-law;
-  sheet_takes_its_day = sheet_takes_its_day-law;
-  show_account_takes_its_parts = show_account_takes_its_parts-law;
-  show_account_takes_utc = show_account_takes_utc-law;
-  show_account_takes_its_moment = show_account_takes_its_moment-law;
-  show_slot_takes_its_slot = show_slot_takes_its_slot-law;
-  serve_takes_its_parts = serve_takes_its_parts-law;
-  serve_takes_utc = serve_takes_utc-law;
-  serve_takes_its_moment = serve_takes_its_moment-law;
-  serve_takes_its_log = serve_takes_its_log-law;
-  serve_takes_its_patience = serve_takes_its_patience-law;
+  add_member_takes_its_parts = λ program file name quota who most named counted.
+      asked_is (program ∷ codes "add-member" ∷ codes "--" ∷ file ∷ name ∷ quota ∷ []) row.AddMember (given (codes "FILE") file ∷ given (codes "NAME") name
+      ∷ given (codes "QUOTA") quota ∷ []) _ refl refl (rw (named, counted) refl);
+  credit_takes_its_parts = λ program file member points who many named counted.
+      asked_is (program ∷ codes "credit" ∷ codes "--" ∷ file ∷ member ∷ points ∷ []) row.Credit (given (codes "FILE") file ∷ given (codes "MEMBER") member
+      ∷ given (codes "POINTS") points ∷ []) _ refl refl (rw (named, counted) refl);
+  add_facility_takes_its_parts = λ program file name kind places price opens shuts what of_kind p q o s named kinded a b d e.
+      asked_is (program ∷ codes "add-facility" ∷ codes "--" ∷ file ∷ name ∷ kind ∷ places ∷ price ∷ opens ∷ shuts ∷ []) row.AddFacility (given (codes
+      "FILE") file ∷ given (codes "NAME") name ∷ given (codes "KIND") kind ∷ given (codes "PLACES") places ∷ given (codes "PRICE") price ∷ given (codes
+      "OPENS") opens ∷ given (codes "SHUTS") shuts ∷ []) _ refl refl (rw (named, kinded, a, b, d, e) refl);
+  add_key_takes_its_parts = λ program file key member hex form what who root a b d.
+      asked_is (program ∷ codes "add-key" ∷ (codes "--form=" ++ form_name form) ∷ codes "--" ∷ file ∷ key ∷ member ∷ hex ∷ []) row.AddKey (given (codes
+      "form") (form_name form) ∷ given (codes "FILE") file ∷ given (codes "KEY") key ∷ given (codes "MEMBER") member ∷ given (codes "ROOT") hex ∷
+      root_flag_left_out ∷ []) _ refl refl (rw (named_by_itself form, a, b, d) refl);
+  add_key_takes_v2 = λ program file key member hex what who root a b d.
+      asked_is (program ∷ codes "add-key" ∷ codes "--" ∷ file ∷ key ∷ member ∷ hex ∷ []) row.AddKey (given (codes "FILE") file ∷ given (codes "KEY") key ∷
+      given (codes "MEMBER") member ∷ given (codes "ROOT") hex ∷ root_flag_left_out ∷ left_out (codes "form") (codes "v2") ∷ []) _ refl refl (rw (a, b, d)
+      refl);
+  add_key_takes_its_input = λ program file key member what who a b.
+      asked_is (program ∷ codes "add-key" ∷ codes "--root-stdin" ∷ codes "--" ∷ file ∷ key ∷ member ∷ []) row.AddKey (root_flag_given ∷ given (codes
+      "FILE") file ∷ given (codes "KEY") key ∷ given (codes "MEMBER") member ∷ left_out (codes "form") (codes "v2") ∷ []) _ refl refl (rw (a, b) refl);
+  revoke_key_takes_its_key = λ program file key what named.
+      asked_is (program ∷ codes "revoke-key" ∷ codes "--" ∷ file ∷ key ∷ []) row.RevokeKey (given (codes "FILE") file ∷ given (codes "KEY") key ∷ []) _
+      refl refl (rw (named) refl);
+  rotate_key_takes_its_parts = λ program file key hex moment form what root until a b d.
+      asked_is (program ∷ codes "rotate-key" ∷ (codes "--form=" ++ form_name form) ∷ codes "--" ∷ file ∷ key ∷ hex ∷ moment ∷ []) row.RotateKey (given
+      (codes "form") (form_name form) ∷ given (codes "FILE") file ∷ given (codes "KEY") key ∷ given (codes "ROOT") hex ∷ given (codes "MOMENT") moment ∷
+      root_flag_left_out ∷ []) _ refl refl (rw (named_by_itself form, a, b, d) refl);
+  rotate_key_takes_v2 = λ program file key hex moment what root until a b d.
+      asked_is (program ∷ codes "rotate-key" ∷ codes "--" ∷ file ∷ key ∷ hex ∷ moment ∷ []) row.RotateKey (given (codes "FILE") file ∷ given (codes "KEY")
+      key ∷ given (codes "ROOT") hex ∷ given (codes "MOMENT") moment ∷ root_flag_left_out ∷ left_out (codes "form") (codes "v2") ∷ []) _ refl refl (rw (
+        a,
+        b,
+        d,
+      ) refl);
+  rotate_key_takes_its_input = λ program file key moment what until a b.
+      asked_is (program ∷ codes "rotate-key" ∷ codes "--root-stdin" ∷ codes "--" ∷ file ∷ key ∷ moment ∷ []) row.RotateKey (root_flag_given ∷ given (codes
+      "FILE") file ∷ given (codes "KEY") key ∷ given (codes "ROOT") moment ∷ left_out (codes "form") (codes "v2") ∷ []) _ refl refl (rw (a, b) refl);
+  close_slot_takes_its_slot = λ program file facility day hour what on at a b d.
+      asked_is (program ∷ codes "close-slot" ∷ codes "--" ∷ file ∷ facility ∷ day ∷ hour ∷ []) row.CloseSlot (given (codes "FILE") file ∷ given (codes
+      "FACILITY") facility ∷ given (codes "DAY") day ∷ given (codes "HOUR") hour ∷ []) _ refl refl (rw (a, b, d) refl);
+  sheet_takes_its_day = λ program file day on spelled.
+      asked_is (program ∷ codes "sheet" ∷ codes "--" ∷ file ∷ day ∷ []) row.Sheet (given (codes "FILE") file ∷ given (codes "DAY") day ∷ []) _ refl refl
+      (rw (spelled) refl);
+  show_account_takes_its_parts = λ program file key zone what rule a b.
+      asked_is (program ∷ codes "show-account" ∷ (codes "--zone=" ++ zone) ∷ codes "--" ∷ file ∷ key ∷ []) row.ShowAccount (given (codes "zone") zone ∷
+      given (codes "FILE") file ∷ given (codes "KEY") key ∷ []) _ refl refl (rw (a, b) refl);
+  show_account_takes_utc = λ program file key what a.
+      asked_is (program ∷ codes "show-account" ∷ codes "--" ∷ file ∷ key ∷ []) row.ShowAccount (given (codes "FILE") file ∷ given (codes "KEY") key ∷
+      left_out (codes "zone") (codes "UTC0") ∷ []) _ refl refl (rw (a, utc_is_a_zone) refl);
+  show_account_takes_its_moment = λ program file key fixed what moment a b.
+      asked_is (program ∷ codes "show-account" ∷ (codes "--at=" ++ fixed) ∷ codes "--" ∷ file ∷ key ∷ []) row.ShowAccount (given (codes "at") fixed ∷ given
+      (codes "FILE") file ∷ given (codes "KEY") key ∷ left_out (codes "zone") (codes "UTC0") ∷ []) _ refl refl (rw (a, utc_is_a_zone, b) refl);
+  show_slot_takes_its_slot = λ program file facility day hour what on at a b d.
+      asked_is (program ∷ codes "show-slot" ∷ codes "--" ∷ file ∷ facility ∷ day ∷ hour ∷ []) row.ShowSlot (given (codes "FILE") file ∷ given (codes
+      "FACILITY") facility ∷ given (codes "DAY") day ∷ given (codes "HOUR") hour ∷ []) _ refl refl (rw (a, b, d) refl);
+  serve_takes_its_parts = λ program file port count zone at many rule a b d.
+      asked_is (program ∷ codes "serve" ∷ (codes "--port=" ++ port) ∷ (codes "--count=" ++ count) ∷ (codes "--zone=" ++ zone) ∷ codes "--" ∷ file ∷ [])
+      row.Serve (given (codes "port") port ∷ given (codes "count") count ∷ given (codes "zone") zone ∷ given (codes "FILE") file ∷ patience_left_out ∷
+      log_left_out ∷ []) _ refl refl (rw (a, b, d, ten_is_a_patience) refl);
+  serve_takes_utc = λ program file port count at many a b.
+      asked_is (program ∷ codes "serve" ∷ (codes "--port=" ++ port) ∷ (codes "--count=" ++ count) ∷ codes "--" ∷ file ∷ []) row.Serve (given (codes "port")
+      port ∷ given (codes "count") count ∷ given (codes "FILE") file ∷ left_out (codes "zone") (codes "UTC0") ∷ patience_left_out ∷ log_left_out ∷ []) _
+      refl refl (rw (a, b, utc_is_a_zone, ten_is_a_patience) refl);
+  serve_takes_its_moment = λ program file port count fixed at many moment a b d.
+      asked_is (program ∷ codes "serve" ∷ (codes "--port=" ++ port) ∷ (codes "--count=" ++ count) ∷ (codes "--at=" ++ fixed) ∷ codes "--" ∷ file ∷ [])
+      row.Serve (given (codes "port") port ∷ given (codes "count") count ∷ given (codes "at") fixed ∷ given (codes "FILE") file ∷ left_out (codes "zone")
+      (codes "UTC0") ∷ patience_left_out ∷ log_left_out ∷ []) _ refl refl (rw (a, b, utc_is_a_zone, d, ten_is_a_patience) refl);
+  serve_takes_its_log = λ program file port count fixed at many moment a b d.
+      asked_is (program ∷ codes "serve" ∷ (codes "--port=" ++ port) ∷ (codes "--count=" ++ count) ∷ (codes "--at=" ++ fixed) ∷ codes "--log" ∷ codes "--" ∷
+      file ∷ []) row.Serve (given (codes "port") port ∷ given (codes "count") count ∷ given (codes "at") fixed ∷ log_given ∷ given (codes "FILE") file ∷
+      left_out (codes "zone") (codes "UTC0") ∷ patience_left_out ∷ []) _ refl refl (rw (a, b, utc_is_a_zone, d, ten_is_a_patience) refl);
+  serve_takes_its_patience = λ program file port count seconds at many long a b d.
+      asked_is (program ∷ codes "serve" ∷ (codes "--port=" ++ port) ∷ (codes "--count=" ++ count) ∷ (codes "--patience=" ++ seconds) ∷ codes "--" ∷ file ∷
+      []) row.Serve (given (codes "port") port ∷ given (codes "count") count ∷ given (codes "patience") seconds ∷ given (codes "FILE") file ∷ left_out
+      (codes "zone") (codes "UTC0") ∷ log_left_out ∷ []) _ refl refl (rw (a, b, utc_is_a_zone, d) refl);
 }

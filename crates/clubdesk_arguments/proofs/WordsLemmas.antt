@@ -1,7 +1,7 @@
 -- Lemmas on what the words ask for.
-use Rattle.std.proofs.Common.{◌≡◌, ◌∙◌, ℕ, List, [], length, Some, Result, Ok, Err, inl, inr, refl, sym, ap, take}
+use Rattle.std.proofs.Common.{◌≡◌, ◌∙◌, ℕ, List, [], length, Result, Ok, Err, inl, inr, refl, sym, ap, take}
 use Rattle.std.specs.List.{slice_index_or}
-use Rattle.clap.specs.Words.{Shape, Text, built, found_of, rows_of}
+use Rattle.clap.specs.Words.{Shape, Text, built, found_of, kind_of, rows_of}
 use Rattle.clap.specs.Simple.{help_shape}
 use Rattle.clap.proofs.OnLiterals.{clap_on_literals}
 use Rattle.clap.specs.declared.error.Error.{Error}
@@ -18,11 +18,10 @@ use Rattle.pass_forms.specs.declared.form.Form.{Form}
 use Rattle.clubdesk_arguments.specs.Application.{clubdesk}
 use Rattle.clubdesk_arguments.specs.Fault.{IsNotText, of_words}
 use Rattle.clubdesk_arguments.specs.JobModel.{JobModel}
-use Rattle.clubdesk_arguments.specs.Words.{AnswersAsked, AsksText, IsFaultOf, IsWordsFault, ArgumentRefusal, job_found, bad_form, bad_value}
+use Rattle.clubdesk_arguments.specs.Words.{ArgumentRefusal, AsksText, IsFaultFor, IsFaultOf, bad_value, job_found, refused_as}
 use Rattle.clubdesk_arguments.specs.Words.{job_named, job_of_words}
 use Rattle.clubdesk_arguments.specs.declared.fault.Fault.{Fault}
-use Rattle.clubdesk_arguments.specs.declared.fault.Fault.TheVariants.{Refused, Words, BadValue, Memory, Storage}
-use Rattle.clubdesk_arguments.specs.declared.fault.Fault.TheVariants.{ClockOutOfRange, InputOutput, NoAnswer, Answered}
+use Rattle.clubdesk_arguments.specs.declared.fault.Fault.TheVariants.{Words, BadValue, Memory}
 use Rattle.clubdesk_arguments.specs.declared.table.CommandName.{CommandName}
 
 abbrev subs : List Shape
@@ -44,16 +43,11 @@ is_good = record {
 
 -- what is refused is refused alike by what keeps refusals
 pub refused_through : {A B : Type 0} (f : Result A ArgumentRefusal → Result B ArgumentRefusal) → ((refusal : ArgumentRefusal) → f (Err refusal) ≡ Err refusal)
-    → (expected : Result A ArgumentRefusal) (fault : Fault) → AnswersAsked {A = A} expected (Err fault) → AnswersAsked {A = B} (f expected) (Err fault)
-refused_through f keeps expected (Words error) (refusal, is, of_kind) = (refusal, ap f is ∙ keeps refusal, of_kind)
+    → (expected : Result A ArgumentRefusal) (fault : Fault) → IsFaultFor expected fault → IsFaultFor (f expected) fault
+refused_through f keeps expected (Words error) is = ap f is ∙ keeps (refused_as (kind_of error))
 refused_through f keeps expected BadValue is = ap f is ∙ keeps bad_value
-refused_through f keeps expected Memory h = tt
-refused_through f keeps expected (Refused fault) h = absurd h
-refused_through f keeps expected Storage h = absurd h
-refused_through f keeps expected ClockOutOfRange h = absurd h
-refused_through f keeps expected InputOutput h = absurd h
-refused_through f keeps expected NoAnswer h = absurd h
-refused_through f keeps expected (Answered status line) h = absurd h
+refused_through f keeps expected Memory is = tt
+refused_through f keeps expected fault is = absurd is
 
 -- the row that clap found, and the job that its words make
 module _ (words : List Text) (name : CommandName) (options : ArgMatches) (is : IsAsked clubdesk words (Ok (Perform name options))) where
@@ -63,16 +57,11 @@ module _ (words : List Text) (name : CommandName) (options : ArgMatches) (is : I
   command_found job made = (is.0, ap job_found is.1 ∙ made)
 
   -- a fault of these is one of the words
-  pub faulted : (fault : Fault) → AnswersAsked {A = JobModel} (job_named name (rows_of (found_of options))) (Err fault) → IsFaultOf words fault
-  faulted (Words error) (refusal, refused, of_kind) = let found = command_found _ refused in inr (found.0, (refusal, found.1, of_kind))
-  faulted BadValue h = command_found _ h
-  faulted Memory h = tt
-  faulted (Refused fault) h = absurd h
-  faulted Storage h = absurd h
-  faulted ClockOutOfRange h = absurd h
-  faulted InputOutput h = absurd h
-  faulted NoAnswer h = absurd h
-  faulted (Answered status line) h = absurd h
+  pub faulted : (fault : Fault) → IsFaultFor (job_named name (rows_of (found_of options))) fault → IsFaultOf words fault
+  faulted (Words error) refused = inr (command_found _ refused)
+  faulted BadValue refused = command_found _ refused
+  faulted Memory refused = tt
+  faulted fault refused = absurd refused
 
 pub text_asked : (words : List Text) (text : Error) → IsAsked clubdesk words (Ok (ShowText text)) → AsksText words
 text_asked words text is = is
@@ -83,14 +72,15 @@ words_refused words (clap_fault.Refused error) is = inl is
 words_refused words clap_fault.Memory is = tt
 
 -- a fault of the words that clap doesn't find itself
-pub fault_of_kind : (of_kind : ErrorKind) (fault : WordsFault) → IsOfKind of_kind fault → IsWordsFault of_kind (of_words fault)
-fault_of_kind of_kind (clap_fault.Refused error) is = is
+pub fault_of_kind : (of_kind : ErrorKind) (fault : WordsFault) → IsOfKind of_kind fault
+    → IsFaultFor {A = Unit} (Err (refused_as of_kind)) (of_words fault)
+fault_of_kind of_kind (clap_fault.Refused error) is = ap (λ (k : ErrorKind). Err (refused_as k)) (sym is)
 fault_of_kind of_kind clap_fault.Memory is = tt
 
 -- a name that is no form's
-pub form_refused : (expected : Result Form ArgumentRefusal) (fault : WordsFault) → expected ≡ Err bad_form → IsOfKind kind.InvalidValue fault
-    → AnswersAsked {A = Form} expected (Err (of_words fault))
-form_refused expected (clap_fault.Refused error) none of_kind = (bad_form, none, ap Some (sym of_kind))
+pub form_refused : (expected : Result Form ArgumentRefusal) (fault : WordsFault) → expected ≡ Err (refused_as kind.InvalidValue)
+    → IsOfKind kind.InvalidValue fault → IsFaultFor expected (of_words fault)
+form_refused expected (clap_fault.Refused error) none of_kind = none ∙ ap (λ (k : ErrorKind). Err (refused_as k)) (sym of_kind)
 form_refused expected clap_fault.Memory none of_kind = tt
 
 -- words that aren't UTF-8

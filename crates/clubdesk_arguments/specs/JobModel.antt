@@ -1,8 +1,8 @@
 -- The model of `Job` (ours).
 use Rattle.std.specs.Prelude.{ℕ, List}
-use Rattle.clubdesk_arguments.specs.declared.task.Task.{Task}
+use Rattle.clubdesk_arguments.specs.declared.task.Work.{Work}
 
--- the file of the database, and the task
+-- the file of the database, and what is done over it
 pub record JobModel : Type 0 where
   pub file : List ℕ
-  pub task : Task
+  pub work : Work

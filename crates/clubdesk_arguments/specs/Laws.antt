@@ -11,169 +11,115 @@ use Rattle.clubdesk_arguments.specs.Values.{count_of, parse_number, patience_of,
 use Rattle.club_clock.specs.Zone.{zone_of}
 use Rattle.clubdesk_arguments.specs.Words.{asked_job}
 use Rattle.clubdesk_arguments.specs.declared.clock.Clock.TheVariants.{Fixed, InZone}
-use Rattle.clubdesk_arguments.specs.declared.task.Task.{Task}
-use Rattle.clubdesk_arguments.specs.declared.task.Task.TheVariants.{Order, AddKey, AddKeyByInput, RotateKey, RotateKeyByInput}
-use Rattle.clubdesk_arguments.specs.declared.task.Task.TheVariants.{Sheet, Serve, ShowAccount, ShowSlot}
+use Rattle.clubdesk_arguments.specs.declared.task.KeyChange.TheVariants.{Add, Rotate}
+use Rattle.clubdesk_arguments.specs.declared.task.KeyOrder.{KeyOrder}
+use Rattle.clubdesk_arguments.specs.declared.task.Task.TheVariants.{Order, Key, Sheet, ShowAccount, ShowSlot}
+use Rattle.clubdesk_arguments.specs.declared.task.Work.{Work}
+use Rattle.clubdesk_arguments.specs.declared.task.Work.TheVariants.{Office, Rootless, Serve}
 
--- words ask for a task over a file
-abbrev pub AsksFor : List Text → Text → Task → Type 0
-AsksFor words file task = asked_job words ≡ Some (record { file = file; task = task })
+-- words ask for this over a file
+abbrev pub AsksFor : List Text → Text → Work → Type 0
+AsksFor words file work = asked_job words ≡ Some (record { file = file; work = work })
 
--- `add-member FILE NAME QUOTA`, of whatever name the program has
-abbrev pub AddMemberTakesItsParts : Type 0
-AddMemberTakesItsParts = (program file name quota : Text) (who : Text) (most : ℕ)
-    → name_of_text name ≡ Some who → parse_number quota ≡ Some most
-    → AsksFor (program ∷ codes "add-member" ∷ codes "--" ∷ file ∷ name ∷ quota ∷ []) file (Order (order.AddMember who most))
+abbrev added : Text → Text → Form → KeyOrder
+added key member form = record { name = key; change = Add member; form = form }
 
--- `credit FILE MEMBER POINTS`
-abbrev pub CreditTakesItsParts : Type 0
-CreditTakesItsParts = (program file member points : Text) (who : Text) (many : ℕ)
-    → name_of_text member ≡ Some who → parse_number points ≡ Some many
-    → AsksFor (program ∷ codes "credit" ∷ codes "--" ∷ file ∷ member ∷ points ∷ []) file (Order (order.Credit who many))
+abbrev rotated : Text → ℕ → Form → KeyOrder
+rotated key until form = record { name = key; change = Rotate until; form = form }
 
--- `add-facility FILE NAME KIND PLACES PRICE OPENS SHUTS`
-abbrev pub AddFacilityTakesItsParts : Type 0
-AddFacilityTakesItsParts = (program file name kind places price opens shuts : Text) (what : Text) (of_kind : Kind) (p q o s : ℕ)
-    → name_of_text name ≡ Some what → kind_of_text kind ≡ Some of_kind → parse_number places ≡ Some p → parse_number price ≡ Some q
-    → parse_number opens ≡ Some o → parse_number shuts ≡ Some s
-    → AsksFor (program ∷ codes "add-facility" ∷ codes "--" ∷ file ∷ name ∷ kind ∷ places ∷ price ∷ opens ∷ shuts ∷ [])
-    file (Order (order.AddFacility what of_kind p q o s))
-
--- `add-key --form=FORM -- FILE KEY MEMBER ROOT`
-abbrev pub AddKeyTakesItsParts : Type 0
-AddKeyTakesItsParts = (program file key member hex : Text) (form : Form) (what who root : Text)
-    → name_of_text key ≡ Some what → name_of_text member ≡ Some who → key_root_of hex ≡ Some root
-    → AsksFor (program ∷ codes "add-key" ∷ (codes "--form=" ++ form_name form) ∷ codes "--" ∷ file ∷ key ∷ member ∷ hex ∷ [])
-    file (AddKey what who root form)
-
--- the same without a form
-abbrev pub AddKeyTakesV2 : Type 0
-AddKeyTakesV2 = (program file key member hex : Text) (what who root : Text)
-    → name_of_text key ≡ Some what → name_of_text member ≡ Some who → key_root_of hex ≡ Some root
-    → AsksFor (program ∷ codes "add-key" ∷ codes "--" ∷ file ∷ key ∷ member ∷ hex ∷ []) file (AddKey what who root V2)
-
--- `add-key --root-stdin -- FILE KEY MEMBER`, whose root is read from the input
-abbrev pub AddKeyTakesItsInput : Type 0
-AddKeyTakesItsInput = (program file key member : Text) (what who : Text)
-    → name_of_text key ≡ Some what → name_of_text member ≡ Some who
-    → AsksFor (program ∷ codes "add-key" ∷ codes "--root-stdin" ∷ codes "--" ∷ file ∷ key ∷ member ∷ []) file (AddKeyByInput what who V2)
-
--- `revoke-key FILE KEY`
-abbrev pub RevokeKeyTakesItsKey : Type 0
-RevokeKeyTakesItsKey = (program file key : Text) (what : Text) → name_of_text key ≡ Some what
-    → AsksFor (program ∷ codes "revoke-key" ∷ codes "--" ∷ file ∷ key ∷ []) file (Order (order.RevokeKey what))
-
--- `rotate-key --form=FORM -- FILE KEY ROOT MOMENT`
-abbrev pub RotateKeyTakesItsParts : Type 0
-RotateKeyTakesItsParts = (program file key hex moment : Text) (form : Form) (what root : Text) (until : ℕ)
-    → name_of_text key ≡ Some what → key_root_of hex ≡ Some root → moment_of_text moment ≡ Some until
-    → AsksFor (program ∷ codes "rotate-key" ∷ (codes "--form=" ++ form_name form) ∷ codes "--" ∷ file ∷ key ∷ hex ∷ moment ∷ [])
-    file (RotateKey what root until form)
-
--- the same without a form
-abbrev pub RotateKeyTakesV2 : Type 0
-RotateKeyTakesV2 = (program file key hex moment : Text) (what root : Text) (until : ℕ)
-    → name_of_text key ≡ Some what → key_root_of hex ≡ Some root → moment_of_text moment ≡ Some until
-    → AsksFor (program ∷ codes "rotate-key" ∷ codes "--" ∷ file ∷ key ∷ hex ∷ moment ∷ []) file (RotateKey what root until V2)
-
--- `rotate-key --root-stdin -- FILE KEY MOMENT`, whose root is read from the input
-abbrev pub RotateKeyTakesItsInput : Type 0
-RotateKeyTakesItsInput = (program file key moment : Text) (what : Text) (until : ℕ)
-    → name_of_text key ≡ Some what → moment_of_text moment ≡ Some until
-    → AsksFor (program ∷ codes "rotate-key" ∷ codes "--root-stdin" ∷ codes "--" ∷ file ∷ key ∷ moment ∷ []) file (RotateKeyByInput what until V2)
-
--- `close-slot FILE FACILITY DAY HOUR`
-abbrev pub CloseSlotTakesItsSlot : Type 0
-CloseSlotTakesItsSlot = (program file facility day hour : Text) (what : Text) (on at : ℕ)
-    → name_of_text facility ≡ Some what → day_of_text day ≡ Some on → hour_of_text hour ≡ Some at
-    → AsksFor (program ∷ codes "close-slot" ∷ codes "--" ∷ file ∷ facility ∷ day ∷ hour ∷ [])
-    file (Order (order.CloseSlot (record { facility = what; day = on; hour = at })))
-
--- `sheet FILE DAY`
-abbrev pub SheetTakesItsDay : Type 0
-SheetTakesItsDay = (program file day : Text) (on : ℕ) → day_of_text day ≡ Some on
-    → AsksFor (program ∷ codes "sheet" ∷ codes "--" ∷ file ∷ day ∷ []) file (Sheet on)
-
--- `show-account --zone=RULE -- FILE KEY`
-abbrev pub ShowAccountTakesItsParts : Type 0
-ShowAccountTakesItsParts = (program file key zone : Text) (what rule : Text)
-    → name_of_text key ≡ Some what → zone_of zone ≡ Some rule
-    → AsksFor (program ∷ codes "show-account" ∷ (codes "--zone=" ++ zone) ∷ codes "--" ∷ file ∷ key ∷ []) file (ShowAccount what (InZone rule))
-
--- the same without a zone
-abbrev pub ShowAccountTakesUtc : Type 0
-ShowAccountTakesUtc = (program file key : Text) (what : Text) → name_of_text key ≡ Some what
-    → AsksFor (program ∷ codes "show-account" ∷ codes "--" ∷ file ∷ key ∷ []) file (ShowAccount what (InZone (codes "UTC0")))
-
--- `show-account --at=MOMENT -- FILE KEY`
-abbrev pub ShowAccountTakesItsMoment : Type 0
-ShowAccountTakesItsMoment = (program file key fixed : Text) (what : Text) (moment : ℕ)
-    → name_of_text key ≡ Some what → moment_of_text fixed ≡ Some moment
-    → AsksFor (program ∷ codes "show-account" ∷ (codes "--at=" ++ fixed) ∷ codes "--" ∷ file ∷ key ∷ []) file (ShowAccount what (Fixed moment))
-
--- `show-slot FILE FACILITY DAY HOUR`
-abbrev pub ShowSlotTakesItsSlot : Type 0
-ShowSlotTakesItsSlot = (program file facility day hour : Text) (what : Text) (on at : ℕ)
-    → name_of_text facility ≡ Some what → day_of_text day ≡ Some on → hour_of_text hour ≡ Some at
-    → AsksFor (program ∷ codes "show-slot" ∷ codes "--" ∷ file ∷ facility ∷ day ∷ hour ∷ [])
-    file (ShowSlot (record { facility = what; day = on; hour = at }))
-
--- `serve --port=P --count=N --zone=RULE -- FILE`, with ten seconds of patience
-abbrev pub ServeTakesItsParts : Type 0
-ServeTakesItsParts = (program file port count zone : Text) (at many : ℕ) (rule : Text)
-    → port_of port ≡ Some at → count_of count ≡ Some many → zone_of zone ≡ Some rule
-    → AsksFor (program ∷ codes "serve" ∷ (codes "--port=" ++ port) ∷ (codes "--count=" ++ count) ∷ (codes "--zone=" ++ zone) ∷ codes "--" ∷ file ∷ [])
-    file (Serve (record { port = at; count = many; clock = InZone rule; patience = 10; log = false }))
-
--- the same without a zone
-abbrev pub ServeTakesUtc : Type 0
-ServeTakesUtc = (program file port count : Text) (at many : ℕ)
-    → port_of port ≡ Some at → count_of count ≡ Some many
-    → AsksFor (program ∷ codes "serve" ∷ (codes "--port=" ++ port) ∷ (codes "--count=" ++ count) ∷ codes "--" ∷ file ∷ [])
-    file (Serve (record { port = at; count = many; clock = InZone (codes "UTC0"); patience = 10; log = false }))
-
--- the same with a moment for all connections
-abbrev pub ServeTakesItsMoment : Type 0
-ServeTakesItsMoment = (program file port count fixed : Text) (at many moment : ℕ)
-    → port_of port ≡ Some at → count_of count ≡ Some many → moment_of_text fixed ≡ Some moment
-    → AsksFor (program ∷ codes "serve" ∷ (codes "--port=" ++ port) ∷ (codes "--count=" ++ count) ∷ (codes "--at=" ++ fixed) ∷ codes "--" ∷ file ∷ [])
-    file (Serve (record { port = at; count = many; clock = Fixed moment; patience = 10; log = false }))
-
--- the same with a log
-abbrev pub ServeTakesItsLog : Type 0
-ServeTakesItsLog = (program file port count fixed : Text) (at many moment : ℕ)
-    → port_of port ≡ Some at → count_of count ≡ Some many → moment_of_text fixed ≡ Some moment
-    → AsksFor (program ∷ codes "serve" ∷ (codes "--port=" ++ port) ∷ (codes "--count=" ++ count) ∷ (codes "--at=" ++ fixed) ∷ codes "--log" ∷ codes "--" ∷ file
-    ∷ [])
-    file (Serve (record { port = at; count = many; clock = Fixed moment; patience = 10; log = true }))
-
--- `serve --port=P --count=N --patience=SECONDS -- FILE`
-abbrev pub ServeTakesItsPatience : Type 0
-ServeTakesItsPatience = (program file port count seconds : Text) (at many long : ℕ)
-    → port_of port ≡ Some at → count_of count ≡ Some many → patience_of seconds ≡ Some long
-    → AsksFor (program ∷ codes "serve" ∷ (codes "--port=" ++ port) ∷ (codes "--count=" ++ count) ∷ (codes "--patience=" ++ seconds) ∷ codes "--" ∷ file ∷ [])
-    file (Serve (record { port = at; count = many; clock = InZone (codes "UTC0"); patience = long; log = false }))
-
--- each command takes its words
+-- Each command takes its words.
 pub record CommandsTakeTheirWords : Type 0 where
-  pub add_member_takes_its_parts : AddMemberTakesItsParts
-  pub credit_takes_its_parts : CreditTakesItsParts
-  pub add_facility_takes_its_parts : AddFacilityTakesItsParts
-  pub add_key_takes_its_parts : AddKeyTakesItsParts
-  pub add_key_takes_v2 : AddKeyTakesV2
-  pub add_key_takes_its_input : AddKeyTakesItsInput
-  pub revoke_key_takes_its_key : RevokeKeyTakesItsKey
-  pub rotate_key_takes_its_parts : RotateKeyTakesItsParts
-  pub rotate_key_takes_v2 : RotateKeyTakesV2
-  pub rotate_key_takes_its_input : RotateKeyTakesItsInput
-  pub close_slot_takes_its_slot : CloseSlotTakesItsSlot
-  pub sheet_takes_its_day : SheetTakesItsDay
-  pub show_account_takes_its_parts : ShowAccountTakesItsParts
-  pub show_account_takes_utc : ShowAccountTakesUtc
-  pub show_account_takes_its_moment : ShowAccountTakesItsMoment
-  pub show_slot_takes_its_slot : ShowSlotTakesItsSlot
-  pub serve_takes_its_parts : ServeTakesItsParts
-  pub serve_takes_utc : ServeTakesUtc
-  pub serve_takes_its_moment : ServeTakesItsMoment
-  pub serve_takes_its_log : ServeTakesItsLog
-  pub serve_takes_its_patience : ServeTakesItsPatience
+  -- `add-member FILE NAME QUOTA`, of whatever name the program has
+  pub add_member_takes_its_parts : (program file name quota : Text) (who : Text) (most : ℕ)
+      → name_of_text name ≡ Some who → parse_number quota ≡ Some most
+      → AsksFor (program ∷ codes "add-member" ∷ codes "--" ∷ file ∷ name ∷ quota ∷ []) file (Office (Order (order.AddMember who most)))
+  -- `credit FILE MEMBER POINTS`
+  pub credit_takes_its_parts : (program file member points : Text) (who : Text) (many : ℕ)
+      → name_of_text member ≡ Some who → parse_number points ≡ Some many
+      → AsksFor (program ∷ codes "credit" ∷ codes "--" ∷ file ∷ member ∷ points ∷ []) file (Office (Order (order.Credit who many)))
+  -- `add-facility FILE NAME KIND PLACES PRICE OPENS SHUTS`
+  pub add_facility_takes_its_parts : (program file name kind places price opens shuts : Text) (what : Text) (of_kind : Kind) (p q o s : ℕ)
+      → name_of_text name ≡ Some what → kind_of_text kind ≡ Some of_kind → parse_number places ≡ Some p → parse_number price ≡ Some q
+      → parse_number opens ≡ Some o → parse_number shuts ≡ Some s
+      → AsksFor (program ∷ codes "add-facility" ∷ codes "--" ∷ file ∷ name ∷ kind ∷ places ∷ price ∷ opens ∷ shuts ∷ [])
+      file (Office (Order (order.AddFacility what of_kind p q o s)))
+  -- `add-key --form=FORM -- FILE KEY MEMBER ROOT`
+  pub add_key_takes_its_parts : (program file key member hex : Text) (form : Form) (what who root : Text)
+      → name_of_text key ≡ Some what → name_of_text member ≡ Some who → key_root_of hex ≡ Some root
+      → AsksFor (program ∷ codes "add-key" ∷ (codes "--form=" ++ form_name form) ∷ codes "--" ∷ file ∷ key ∷ member ∷ hex ∷ [])
+      file (Office (Key (added what who form) root))
+  -- the same without a form
+  pub add_key_takes_v2 : (program file key member hex : Text) (what who root : Text)
+      → name_of_text key ≡ Some what → name_of_text member ≡ Some who → key_root_of hex ≡ Some root
+      → AsksFor (program ∷ codes "add-key" ∷ codes "--" ∷ file ∷ key ∷ member ∷ hex ∷ []) file (Office (Key (added what who V2) root))
+  -- `add-key --root-stdin -- FILE KEY MEMBER`, whose root is read from the input
+  pub add_key_takes_its_input : (program file key member : Text) (what who : Text)
+      → name_of_text key ≡ Some what → name_of_text member ≡ Some who
+      → AsksFor (program ∷ codes "add-key" ∷ codes "--root-stdin" ∷ codes "--" ∷ file ∷ key ∷ member ∷ []) file (Rootless (added what who V2))
+  -- `revoke-key FILE KEY`
+  pub revoke_key_takes_its_key : (program file key : Text) (what : Text) → name_of_text key ≡ Some what
+      → AsksFor (program ∷ codes "revoke-key" ∷ codes "--" ∷ file ∷ key ∷ []) file (Office (Order (order.RevokeKey what)))
+  -- `rotate-key --form=FORM -- FILE KEY ROOT MOMENT`
+  pub rotate_key_takes_its_parts : (program file key hex moment : Text) (form : Form) (what root : Text) (until : ℕ)
+      → name_of_text key ≡ Some what → key_root_of hex ≡ Some root → moment_of_text moment ≡ Some until
+      → AsksFor (program ∷ codes "rotate-key" ∷ (codes "--form=" ++ form_name form) ∷ codes "--" ∷ file ∷ key ∷ hex ∷ moment ∷ [])
+      file (Office (Key (rotated what until form) root))
+  -- the same without a form
+  pub rotate_key_takes_v2 : (program file key hex moment : Text) (what root : Text) (until : ℕ)
+      → name_of_text key ≡ Some what → key_root_of hex ≡ Some root → moment_of_text moment ≡ Some until
+      → AsksFor (program ∷ codes "rotate-key" ∷ codes "--" ∷ file ∷ key ∷ hex ∷ moment ∷ []) file (Office (Key (rotated what until V2) root))
+  -- `rotate-key --root-stdin -- FILE KEY MOMENT`, whose root is read from the input
+  pub rotate_key_takes_its_input : (program file key moment : Text) (what : Text) (until : ℕ)
+      → name_of_text key ≡ Some what → moment_of_text moment ≡ Some until
+      → AsksFor (program ∷ codes "rotate-key" ∷ codes "--root-stdin" ∷ codes "--" ∷ file ∷ key ∷ moment ∷ []) file (Rootless (rotated what until V2))
+  -- `close-slot FILE FACILITY DAY HOUR`
+  pub close_slot_takes_its_slot : (program file facility day hour : Text) (what : Text) (on at : ℕ)
+      → name_of_text facility ≡ Some what → day_of_text day ≡ Some on → hour_of_text hour ≡ Some at
+      → AsksFor (program ∷ codes "close-slot" ∷ codes "--" ∷ file ∷ facility ∷ day ∷ hour ∷ [])
+      file (Office (Order (order.CloseSlot (record { facility = what; day = on; hour = at }))))
+  -- `sheet FILE DAY`
+  pub sheet_takes_its_day : (program file day : Text) (on : ℕ) → day_of_text day ≡ Some on
+      → AsksFor (program ∷ codes "sheet" ∷ codes "--" ∷ file ∷ day ∷ []) file (Office (Sheet on))
+  -- `show-account --zone=RULE -- FILE KEY`
+  pub show_account_takes_its_parts : (program file key zone : Text) (what rule : Text)
+      → name_of_text key ≡ Some what → zone_of zone ≡ Some rule
+      → AsksFor (program ∷ codes "show-account" ∷ (codes "--zone=" ++ zone) ∷ codes "--" ∷ file ∷ key ∷ [])
+      file (Office (ShowAccount what (InZone rule)))
+  -- the same without a zone
+  pub show_account_takes_utc : (program file key : Text) (what : Text) → name_of_text key ≡ Some what
+      → AsksFor (program ∷ codes "show-account" ∷ codes "--" ∷ file ∷ key ∷ []) file (Office (ShowAccount what (InZone (codes "UTC0"))))
+  -- `show-account --at=MOMENT -- FILE KEY`
+  pub show_account_takes_its_moment : (program file key fixed : Text) (what : Text) (moment : ℕ)
+      → name_of_text key ≡ Some what → moment_of_text fixed ≡ Some moment
+      → AsksFor (program ∷ codes "show-account" ∷ (codes "--at=" ++ fixed) ∷ codes "--" ∷ file ∷ key ∷ [])
+      file (Office (ShowAccount what (Fixed moment)))
+  -- `show-slot FILE FACILITY DAY HOUR`
+  pub show_slot_takes_its_slot : (program file facility day hour : Text) (what : Text) (on at : ℕ)
+      → name_of_text facility ≡ Some what → day_of_text day ≡ Some on → hour_of_text hour ≡ Some at
+      → AsksFor (program ∷ codes "show-slot" ∷ codes "--" ∷ file ∷ facility ∷ day ∷ hour ∷ [])
+      file (Office (ShowSlot (record { facility = what; day = on; hour = at })))
+  -- `serve --port=P --count=N --zone=RULE -- FILE`, with ten seconds of patience
+  pub serve_takes_its_parts : (program file port count zone : Text) (at many : ℕ) (rule : Text)
+      → port_of port ≡ Some at → count_of count ≡ Some many → zone_of zone ≡ Some rule
+      → AsksFor (program ∷ codes "serve" ∷ (codes "--port=" ++ port) ∷ (codes "--count=" ++ count) ∷ (codes "--zone=" ++ zone) ∷ codes "--" ∷ file ∷ [])
+      file (Serve (record { port = at; count = many; clock = InZone rule; patience = 10; log = false }))
+  -- the same without a zone
+  pub serve_takes_utc : (program file port count : Text) (at many : ℕ)
+      → port_of port ≡ Some at → count_of count ≡ Some many
+      → AsksFor (program ∷ codes "serve" ∷ (codes "--port=" ++ port) ∷ (codes "--count=" ++ count) ∷ codes "--" ∷ file ∷ [])
+      file (Serve (record { port = at; count = many; clock = InZone (codes "UTC0"); patience = 10; log = false }))
+  -- the same with a moment for all connections
+  pub serve_takes_its_moment : (program file port count fixed : Text) (at many moment : ℕ)
+      → port_of port ≡ Some at → count_of count ≡ Some many → moment_of_text fixed ≡ Some moment
+      → AsksFor (program ∷ codes "serve" ∷ (codes "--port=" ++ port) ∷ (codes "--count=" ++ count) ∷ (codes "--at=" ++ fixed) ∷ codes "--" ∷ file ∷ [])
+      file (Serve (record { port = at; count = many; clock = Fixed moment; patience = 10; log = false }))
+  -- the same with a log
+  pub serve_takes_its_log : (program file port count fixed : Text) (at many moment : ℕ)
+      → port_of port ≡ Some at → count_of count ≡ Some many → moment_of_text fixed ≡ Some moment
+      → AsksFor (program ∷ codes "serve" ∷ (codes "--port=" ++ port) ∷ (codes "--count=" ++ count) ∷ (codes "--at=" ++ fixed) ∷ codes "--log"
+      ∷ codes "--" ∷ file ∷ []) file (Serve (record { port = at; count = many; clock = Fixed moment; patience = 10; log = true }))
+  -- `serve --port=P --count=N --patience=SECONDS -- FILE`
+  pub serve_takes_its_patience : (program file port count seconds : Text) (at many long : ℕ)
+      → port_of port ≡ Some at → count_of count ≡ Some many → patience_of seconds ≡ Some long
+      → AsksFor (program ∷ codes "serve" ∷ (codes "--port=" ++ port) ∷ (codes "--count=" ++ count) ∷ (codes "--patience=" ++ seconds) ∷ codes "--"
+      ∷ file ∷ []) file (Serve (record { port = at; count = many; clock = InZone (codes "UTC0"); patience = long; log = false }))

@@ -25,18 +25,18 @@ use Rattle.clubdesk_arguments.specs.declared.clock.Clock.{Clock}
 use Rattle.clubdesk_arguments.specs.declared.clock.Clock.TheVariants.{Fixed, InZone}
 use Rattle.clubdesk_arguments.specs.declared.table.CommandName.{CommandName}
 use Rattle.clubdesk_arguments.specs.declared.table.CommandName.TheVariants as command
-use Rattle.clubdesk_arguments.specs.declared.task.Task.{Task}
-use Rattle.clubdesk_arguments.specs.declared.task.Task.TheVariants.{Order, AddKey, AddKeyByInput, RotateKey, RotateKeyByInput}
-use Rattle.clubdesk_arguments.specs.declared.task.Task.TheVariants.{Sheet, Serve, ShowAccount, ShowSlot}
+use Rattle.clubdesk_arguments.specs.declared.task.KeyChange.TheVariants.{Add, Rotate}
+use Rattle.clubdesk_arguments.specs.declared.task.KeyOrder.{KeyOrder}
+use Rattle.clubdesk_arguments.specs.declared.task.Task.TheVariants.{Order, Key, Sheet, ShowAccount, ShowSlot}
+use Rattle.clubdesk_arguments.specs.declared.task.Work.{Work}
+use Rattle.clubdesk_arguments.specs.declared.task.Work.TheVariants.{Office, Rootless, Serve}
 use Rattle.clubdesk_arguments.specs.declared.words.Asked.{Asked}
 use Rattle.clubdesk_arguments.specs.declared.words.Asked.TheVariants.{Perform, ShowText}
 
--- why words that clap accepts ask for no command
+-- why words that clap accepts ask for no command: their error's kind, or a word spells no value of its place
 pub data ArgumentRefusal : Type 0 where
   no_command : ArgumentRefusal
-  no_root : ArgumentRefusal
-  two_roots : ArgumentRefusal
-  bad_form : ArgumentRefusal
+  refused_as : ErrorKind → ArgumentRefusal
   bad_value : ArgumentRefusal
 
 -- the `?` of the logic
@@ -57,19 +57,19 @@ number_value id rows = parse_number (word_in id rows)
 
 -- ---- the commands, each from the values that its words spell
 
-abbrev pub add_member_of : List Row → Option Task
+abbrev pub add_member_of : List Row → Option Work
 add_member_of rows = do
   name ← name_value (codes "NAME") rows
   quota ← number_value (codes "QUOTA") rows
-  Some (Order (order.AddMember name quota))
+  Some (Office (Order (order.AddMember name quota)))
 
-abbrev pub credit_of : List Row → Option Task
+abbrev pub credit_of : List Row → Option Work
 credit_of rows = do
   member ← name_value (codes "MEMBER") rows
   points ← number_value (codes "POINTS") rows
-  Some (Order (order.Credit member points))
+  Some (Office (Order (order.Credit member points)))
 
-abbrev pub add_facility_of : List Row → Option Task
+abbrev pub add_facility_of : List Row → Option Work
 add_facility_of rows = do
   name ← name_value (codes "NAME") rows
   of_kind ← kind_of_text (word_in (codes "KIND") rows)
@@ -77,24 +77,25 @@ add_facility_of rows = do
   price ← number_value (codes "PRICE") rows
   opens ← number_value (codes "OPENS") rows
   shuts ← number_value (codes "SHUTS") rows
-  Some (Order (order.AddFacility name of_kind places price opens shuts))
+  Some (Office (Order (order.AddFacility name of_kind places price opens shuts)))
 
--- with the word of the root, where it isn't read from the input
-abbrev pub add_key_of : Option Text → Form → List Row → Option Task
-add_key_of None form rows = do
-  key ← name_value (codes "KEY") rows
-  member ← name_value (codes "MEMBER") rows
-  Some (AddKeyByInput key member form)
-add_key_of (Some word) form rows = do
-  key ← name_value (codes "KEY") rows
-  member ← name_value (codes "MEMBER") rows
+-- a key's order with the root of its word, or without the word as it waits for one
+abbrev pub key_work : KeyOrder → Option Text → Option Work
+key_work order None = Some (Rootless order)
+key_work order (Some word) = do
   root ← key_root_of word
-  Some (AddKey key member root form)
+  Some (Office (Key order root))
 
-abbrev pub revoke_key_of : List Row → Option Task
+abbrev pub add_key_of : Option Text → Form → List Row → Option Work
+add_key_of root form rows = do
+  key ← name_value (codes "KEY") rows
+  member ← name_value (codes "MEMBER") rows
+  key_work (record { name = key; change = Add member; form = form }) root
+
+abbrev pub revoke_key_of : List Row → Option Work
 revoke_key_of rows = do
   key ← name_value (codes "KEY") rows
-  Some (Order (order.RevokeKey key))
+  Some (Office (Order (order.RevokeKey key)))
 
 -- the last word of a rotation, which is the moment, and the word before it, which is the root's, where there are two
 abbrev pub moment_word_in : List Row → Text
@@ -103,17 +104,11 @@ moment_word_in rows = unwrap_or (first_of (codes "MOMENT") rows) (word_in (codes
 abbrev pub rotation_word_in : List Row → Option Text
 rotation_word_in rows = option_and_then (λ (moment : Text). first_of (codes "ROOT") rows) (first_of (codes "MOMENT") rows)
 
--- with the word of the root, where it isn't read from the input
-abbrev pub rotate_key_of : Option Text → Form → List Row → Option Task
-rotate_key_of None form rows = do
+abbrev pub rotate_key_of : Option Text → Form → List Row → Option Work
+rotate_key_of root form rows = do
   key ← name_value (codes "KEY") rows
   until ← moment_of_text (moment_word_in rows)
-  Some (RotateKeyByInput key until form)
-rotate_key_of (Some word) form rows = do
-  key ← name_value (codes "KEY") rows
-  until ← moment_of_text (moment_word_in rows)
-  root ← key_root_of word
-  Some (RotateKey key root until form)
+  key_work (record { name = key; change = Rotate until; form = form }) root
 
 abbrev pub slot_in : List Row → Option Slot
 slot_in rows = do
@@ -122,15 +117,15 @@ slot_in rows = do
   hour ← hour_of_text (word_in (codes "HOUR") rows)
   Some (record { facility = facility; day = day; hour = hour })
 
-abbrev pub close_slot_of : List Row → Option Task
+abbrev pub close_slot_of : List Row → Option Work
 close_slot_of rows = do
   slot ← slot_in rows
-  Some (Order (order.CloseSlot slot))
+  Some (Office (Order (order.CloseSlot slot)))
 
-abbrev pub sheet_of : List Row → Option Task
+abbrev pub sheet_of : List Row → Option Work
 sheet_of rows = do
   day ← day_of_text (word_in (codes "DAY") rows)
-  Some (Sheet day)
+  Some (Office (Sheet day))
 
 -- the moment that `--at` fixes, else the clock in the zone
 abbrev pub clock_of : Text → Option Text → Option Clock
@@ -139,7 +134,7 @@ clock_of zone (Some at) = do
   moment ← moment_of_text at
   Some (Fixed moment)
 
-abbrev pub serve_of : List Row → Option Task
+abbrev pub serve_of : List Row → Option Work
 serve_of rows = do
   port ← port_of (word_in (codes "port") rows)
   count ← count_of (word_in (codes "count") rows)
@@ -148,73 +143,62 @@ serve_of rows = do
   patience ← patience_of (word_in (codes "patience") rows)
   Some (Serve (record { port = port; count = count; clock = clock; patience = patience; log = is_set (codes "log") rows }))
 
-abbrev pub show_account_of : List Row → Option Task
+abbrev pub show_account_of : List Row → Option Work
 show_account_of rows = do
   key ← name_value (codes "KEY") rows
   zone ← zone_of (word_in (codes "zone") rows)
   clock ← clock_of zone (first_of (codes "at") rows)
-  Some (ShowAccount key clock)
+  Some (Office (ShowAccount key clock))
 
-abbrev pub show_slot_of : List Row → Option Task
+abbrev pub show_slot_of : List Row → Option Work
 show_slot_of rows = do
   slot ← slot_in rows
-  Some (ShowSlot slot)
+  Some (Office (ShowSlot slot))
 
 -- ---- the words
 
-abbrev pub unless_bad : Option Task → Result Task ArgumentRefusal
-unless_bad task = ok_or task bad_value
-
--- a form is checked before other values
-abbrev pub with_form_value : List Row → (Form → List Row → Option Task) → Result Form ArgumentRefusal → Result Task ArgumentRefusal
-with_form_value rows of (Err refusal) = Err refusal
-with_form_value rows of (Ok form) = unless_bad (of form rows)
+abbrev pub unless_bad : Option Work → Result Work ArgumentRefusal
+unless_bad work = ok_or work bad_value
 
 abbrev pub form_given : List Row → Result Form ArgumentRefusal
-form_given rows = ok_or (form_named (value_in (codes "form") rows)) bad_form
+form_given rows = ok_or (form_named (value_in (codes "form") rows)) (refused_as kind.InvalidValue)
 
--- a root is given by its word or by the input
-abbrev pub root_word_for : Option Text → Bool → Result (Option Text) ArgumentRefusal
-root_word_for (Some word) true = Err two_roots
-root_word_for None false = Err no_root
-root_word_for (Some word) false = Ok (Some word)
-root_word_for None true = Ok None
+-- A root is given by its word, or by the input, which the flag asks for; that is checked before the form.
+abbrev pub root_and_form : Option Text → Bool → Result Form ArgumentRefusal → Result (Option Text × Form) ArgumentRefusal
+root_and_form (Some word) true form = Err (refused_as kind.ArgumentConflict)
+root_and_form None false form = Err (refused_as kind.MissingRequiredArgument)
+root_and_form word by_input (Err refusal) = Err refusal
+root_and_form word by_input (Ok form) = Ok (word, form)
 
--- that is checked before a form
-abbrev pub with_root_word : List Row → (Option Text → Form → List Row → Option Task) → Result (Option Text) ArgumentRefusal → Result Task ArgumentRefusal
-with_root_word rows of (Err refusal) = Err refusal
-with_root_word rows of (Ok word) = with_form_value rows (of word) (form_given rows)
+abbrev pub root_and_form_in : Option Text → List Row → Result (Option Text × Form) ArgumentRefusal
+root_and_form_in word rows = root_and_form word (is_set (codes "root-stdin") rows) (form_given rows)
 
--- the flag that reads the root from the input
-abbrev pub root_by_input : List Row → Bool
-root_by_input rows = is_set (codes "root-stdin") rows
+-- both are checked before the other values
+abbrev pub of_root_and_form : List Row → (Option Text → Form → List Row → Option Work) → Result (Option Text × Form) ArgumentRefusal
+    → Result Work ArgumentRefusal
+of_root_and_form rows of (Err refusal) = Err refusal
+of_root_and_form rows of (Ok given) = unless_bad (of given.0 given.1 rows)
 
-abbrev pub add_key_asked : List Row → Result Task ArgumentRefusal
-add_key_asked rows = with_root_word rows add_key_of (root_word_for (first_of (codes "ROOT") rows) (root_by_input rows))
+-- the work of a command
+abbrev pub work_named : CommandName → List Row → Result Work ArgumentRefusal
+work_named command.AddMember rows = unless_bad (add_member_of rows)
+work_named command.Credit rows = unless_bad (credit_of rows)
+work_named command.AddFacility rows = unless_bad (add_facility_of rows)
+work_named command.AddKey rows = of_root_and_form rows add_key_of (root_and_form_in (first_of (codes "ROOT") rows) rows)
+work_named command.RevokeKey rows = unless_bad (revoke_key_of rows)
+work_named command.RotateKey rows = of_root_and_form rows rotate_key_of (root_and_form_in (rotation_word_in rows) rows)
+work_named command.CloseSlot rows = unless_bad (close_slot_of rows)
+work_named command.Sheet rows = unless_bad (sheet_of rows)
+work_named command.Serve rows = unless_bad (serve_of rows)
+work_named command.ShowAccount rows = unless_bad (show_account_of rows)
+work_named command.ShowSlot rows = unless_bad (show_slot_of rows)
 
-abbrev pub rotate_key_asked : List Row → Result Task ArgumentRefusal
-rotate_key_asked rows = with_root_word rows rotate_key_of (root_word_for (rotation_word_in rows) (root_by_input rows))
-
--- the task of a command
-abbrev pub task_named : CommandName → List Row → Result Task ArgumentRefusal
-task_named command.AddMember rows = unless_bad (add_member_of rows)
-task_named command.Credit rows = unless_bad (credit_of rows)
-task_named command.AddFacility rows = unless_bad (add_facility_of rows)
-task_named command.AddKey rows = add_key_asked rows
-task_named command.RevokeKey rows = unless_bad (revoke_key_of rows)
-task_named command.RotateKey rows = rotate_key_asked rows
-task_named command.CloseSlot rows = unless_bad (close_slot_of rows)
-task_named command.Sheet rows = unless_bad (sheet_of rows)
-task_named command.Serve rows = unless_bad (serve_of rows)
-task_named command.ShowAccount rows = unless_bad (show_account_of rows)
-task_named command.ShowSlot rows = unless_bad (show_slot_of rows)
-
-abbrev pub over_file : Text → Result Task ArgumentRefusal → Result JobModel ArgumentRefusal
+abbrev pub over_file : Text → Result Work ArgumentRefusal → Result JobModel ArgumentRefusal
 over_file file (Err refusal) = Err refusal
-over_file file (Ok task) = Ok (record { file = file; task = task })
+over_file file (Ok work) = Ok (record { file = file; work = work })
 
 abbrev pub job_named : CommandName → List Row → Result JobModel ArgumentRefusal
-job_named name rows = over_file (word_in (codes "FILE") rows) (task_named name rows)
+job_named name rows = over_file (word_in (codes "FILE") rows) (work_named name rows)
 
 -- the command that clap found
 abbrev pub job_found : Option (CommandName × List Row) → Result JobModel ArgumentRefusal
@@ -233,43 +217,29 @@ asked_job words = if is_empty (refusals clubdesk words) then result_ok (job_of_w
 abbrev pub AsksText : List Text → Type 0
 AsksText words = HasText (refusals clubdesk words)
 
--- the kind of the error that words get for a refusal, if it is one of the words
-abbrev pub error_kind : ArgumentRefusal → Option ErrorKind
-error_kind no_root = Some kind.MissingRequiredArgument
-error_kind two_roots = Some kind.ArgumentConflict
-error_kind bad_form = Some kind.InvalidValue
-error_kind refusal = None
-
--- words are refused by an error of this kind
-abbrev pub HasRefusalOfKind : {A : Type 0} → ErrorKind → Result A ArgumentRefusal → Type 0
-HasRefusalOfKind of_kind expected = (refusal : ArgumentRefusal) × (expected ≡ Err refusal) × (error_kind refusal ≡ Some of_kind)
+-- the fault that fits a refusal, or out of memory
+abbrev pub IsFaultFor : {A : Type 0} → Result A ArgumentRefusal → Fault → Type 0
+IsFaultFor expected (Words error) = expected ≡ Err (refused_as (kind_of error))
+IsFaultFor expected BadValue = expected ≡ Err bad_value
+IsFaultFor expected Memory = Unit {0}
+IsFaultFor expected _ = ⊥
 
 -- A call answers what is asked for, or the fault that fits, or out of memory in place of either.
 abbrev pub AnswersAsked : {A : Type 0} → Result A ArgumentRefusal → Result A Fault → Type 0
 AnswersAsked expected (Ok answer) = expected ≡ Ok answer
-AnswersAsked expected (Err (Words error)) = HasRefusalOfKind (kind_of error) expected
-AnswersAsked expected (Err BadValue) = expected ≡ Err bad_value
-AnswersAsked expected (Err Memory) = Unit {0}
-AnswersAsked expected (Err _) = ⊥
+AnswersAsked expected (Err fault) = IsFaultFor expected fault
 
--- a fault of the words of this kind, or out of memory
-abbrev pub IsWordsFault : ErrorKind → Fault → Type 0
-IsWordsFault of_kind (Words error) = kind_of error ≡ of_kind
-IsWordsFault of_kind Memory = Unit {0}
-IsWordsFault of_kind fault = ⊥
-
--- The same of the word of a root.
-abbrev pub AnswersRoot : Result (Option Text) ArgumentRefusal → Result (Option (Bor Text)) Fault → Type 0
-AnswersRoot expected (Ok word) = expected ≡ Ok (option_map (λ text. text.now) word)
-AnswersRoot expected (Err fault) = AnswersAsked {A = Option Text} expected (Err fault)
+-- The same of a root's word and a form.
+abbrev pub AnswersRoot : Result (Option Text × Form) ArgumentRefusal → Result (Option (Bor Text) × Form) Fault → Type 0
+AnswersRoot expected (Ok answer) = expected ≡ Ok (option_map (λ text. text.now) answer.0, answer.1)
+AnswersRoot expected (Err fault) = IsFaultFor expected fault
 
 -- The fault of the words: clap decides first, then whether a root is given once, then a form, then the other values.
 abbrev pub IsFaultOf : List Text → Fault → Type 0
 IsFaultOf words (Words error) = IsRefusedAs (refusals clubdesk words) (kind_of error)
-    ⊎ ((refusals clubdesk words ≡ []) × HasRefusalOfKind (kind_of error) (job_of_words words))
-IsFaultOf words BadValue = (refusals clubdesk words ≡ []) × (job_of_words words ≡ Err bad_value)
+    ⊎ ((refusals clubdesk words ≡ []) × IsFaultFor (job_of_words words) (Words error))
 IsFaultOf words Memory = Unit {0}
-IsFaultOf words _ = ⊥
+IsFaultOf words fault = (refusals clubdesk words ≡ []) × IsFaultFor (job_of_words words) fault
 
 -- the results that parsing the words may have
 abbrev pub ReadsWords : List Text → Result Asked Fault → Type 0

@@ -1,4 +1,4 @@
-//! The task of each command, from the values that its words spell.
+//! The work of each command, from the values that its words spell.
 
 ghost use Rattle.std.specs.Prelude.{◌≡◌, option_map};
 ghost use Rattle.clap.specs.Words.{found_of, rows_of};
@@ -7,9 +7,9 @@ ghost use Rattle.clubdesk_arguments.specs.Words.{AnswersAsked};
 
 use crate::clock::Clock;
 use crate::fault::Fault;
-use crate::options::{form_of, given, moment_word, name_of, number_at, root_word, rotation_word};
+use crate::options::{given, moment_word, name_of, number_at, root_and_form, rotation_word};
 use crate::table::CommandName;
-use crate::task::{Service, Task};
+use crate::task::{KeyChange, KeyOrder, Service, Task, Work};
 use crate::values::{count_of, patience_of, port_of, root_of};
 use clap::ArgMatches;
 use club_clock::Zone;
@@ -19,25 +19,31 @@ use command_line::{is_set, value_of};
 use pass_forms::Form;
 use std::alloc::Global;
 
-/// The task of this command.
+/// The work of this command.
 ///
 /// # Errors
 ///
 /// As `command_of`, of which `clap` found the command.
-pub fn task_of<'a>(
+pub fn work_of<'a>(
     alloc: Global,
     name: CommandName,
     words: &ArgMatches<'a>,
-) -> Result<Task<'a>, Fault>
-    ensures { AnswersAsked (spec.task_named name (rows_of (found_of words.now))) result }
+) -> Result<Work<'a>, Fault>
+    ensures { AnswersAsked (spec.work_named name (rows_of (found_of words.now))) result }
 {
     match name {
         CommandName::AddMember => or_bad_value(add_member(words)),
         CommandName::Credit => or_bad_value(credit(words)),
         CommandName::AddFacility => or_bad_value(add_facility(words)),
-        CommandName::AddKey => add_key_from(alloc, words),
+        CommandName::AddKey => match root_and_form(alloc, words, given(words, "ROOT")) {
+            Ok((root, form)) => or_bad_value(add_key(words, root, form)),
+            Err(fault) => Err(fault),
+        },
         CommandName::RevokeKey => or_bad_value(revoke_key(words)),
-        CommandName::RotateKey => rotate_key_from(alloc, words),
+        CommandName::RotateKey => match root_and_form(alloc, words, rotation_word(words)) {
+            Ok((root, form)) => or_bad_value(rotate_key(words, root, form)),
+            Err(fault) => Err(fault),
+        },
         CommandName::CloseSlot => or_bad_value(close_slot(words)),
         CommandName::Sheet => or_bad_value(sheet(words)),
         CommandName::Serve => or_bad_value(serve(words)),
@@ -47,25 +53,25 @@ pub fn task_of<'a>(
 }
 
 // `add-member FILE NAME QUOTA`
-fn add_member<'a>(words: &ArgMatches<'a>) -> Option<Task<'a>>
+fn add_member<'a>(words: &ArgMatches<'a>) -> Option<Work<'a>>
     ensures { result ≡ spec.add_member_of (rows_of (found_of words.now)) }
 {
     let name = name_of(words, "NAME")?;
     let quota = number_at(words, "QUOTA")?;
-    Some(Task::Order(Command::AddMember { name, quota }))
+    Some(Work::Office(Task::Order(Command::AddMember { name, quota })))
 }
 
 // `credit FILE MEMBER POINTS`
-fn credit<'a>(words: &ArgMatches<'a>) -> Option<Task<'a>>
+fn credit<'a>(words: &ArgMatches<'a>) -> Option<Work<'a>>
     ensures { result ≡ spec.credit_of (rows_of (found_of words.now)) }
 {
     let member = name_of(words, "MEMBER")?;
     let points = number_at(words, "POINTS")?;
-    Some(Task::Order(Command::Credit { member, points }))
+    Some(Work::Office(Task::Order(Command::Credit { member, points })))
 }
 
 // `add-facility FILE NAME KIND PLACES PRICE OPENS SHUTS`
-fn add_facility<'a>(words: &ArgMatches<'a>) -> Option<Task<'a>>
+fn add_facility<'a>(words: &ArgMatches<'a>) -> Option<Work<'a>>
     ensures { result ≡ spec.add_facility_of (rows_of (found_of words.now)) }
 {
     let name = name_of(words, "NAME")?;
@@ -74,86 +80,79 @@ fn add_facility<'a>(words: &ArgMatches<'a>) -> Option<Task<'a>>
     let price = number_at(words, "PRICE")?;
     let opens = number_at(words, "OPENS")?;
     let shuts = number_at(words, "SHUTS")?;
-    Some(Task::Order(Command::AddFacility {
+    Some(Work::Office(Task::Order(Command::AddFacility {
         name,
         kind,
         places,
         price,
         opens,
         shuts,
-    }))
+    })))
 }
 
 // `add-key FILE KEY MEMBER ROOT [--form FORM]`, or without the root's word where the root is read
 // from the input.
-fn add_key<'a>(words: &ArgMatches<'a>, root: Option<&str>, form: Form) -> Option<Task<'a>>
+fn add_key<'a>(words: &ArgMatches<'a>, root: Option<&str>, form: Form) -> Option<Work<'a>>
     ensures { result ≡ spec.add_key_of (option_map (λ text. text.now) root.entry) form
         (rows_of (found_of words.now)) }
 {
     let name = name_of(words, "KEY")?;
     let member = name_of(words, "MEMBER")?;
-    match root {
-        None => Some(Task::AddKeyByInput { name, member, form }),
-        Some(text) => {
-            let root = root_of(text)?;
-            Some(Task::AddKey {
-                name,
-                member,
-                root,
-                form,
-            })
-        }
-    }
+    let change = KeyChange::Add { member };
+    key_work(KeyOrder { name, change, form }, root)
 }
 
 // `revoke-key FILE KEY`
-fn revoke_key<'a>(words: &ArgMatches<'a>) -> Option<Task<'a>>
+fn revoke_key<'a>(words: &ArgMatches<'a>) -> Option<Work<'a>>
     ensures { result ≡ spec.revoke_key_of (rows_of (found_of words.now)) }
 {
     let name = name_of(words, "KEY")?;
-    Some(Task::Order(Command::RevokeKey { name }))
+    Some(Work::Office(Task::Order(Command::RevokeKey { name })))
 }
 
 // `rotate-key FILE KEY ROOT MOMENT [--form FORM]`, or without the root's word where the root is
 // read from the input.
-fn rotate_key<'a>(words: &ArgMatches<'a>, root: Option<&str>, form: Form) -> Option<Task<'a>>
+fn rotate_key<'a>(words: &ArgMatches<'a>, root: Option<&str>, form: Form) -> Option<Work<'a>>
     ensures { result ≡ spec.rotate_key_of (option_map (λ text. text.now) root.entry) form
         (rows_of (found_of words.now)) }
 {
     let name = name_of(words, "KEY")?;
     let until = Moment::read(moment_word(words).as_bytes())?;
+    let change = KeyChange::Rotate { until };
+    key_work(KeyOrder { name, change, form }, root)
+}
+
+// A key's order with the root of its word, or without the word as it waits for one.
+fn key_work<'a>(order: KeyOrder, root: Option<&str>) -> Option<Work<'a>>
+    ensures { result ≡ spec.key_work order (option_map (λ text. text.now) root.entry) }
+{
     match root {
-        None => Some(Task::RotateKeyByInput { name, until, form }),
+        None => Some(Work::Rootless(order)),
         Some(text) => {
             let root = root_of(text)?;
-            Some(Task::RotateKey {
-                name,
-                root,
-                until,
-                form,
-            })
+            Some(Work::Office(Task::Key(order, root)))
         }
     }
 }
 
 // `close-slot FILE FACILITY DAY HOUR`
-fn close_slot<'a>(words: &ArgMatches<'a>) -> Option<Task<'a>>
+fn close_slot<'a>(words: &ArgMatches<'a>) -> Option<Work<'a>>
     ensures { result ≡ spec.close_slot_of (rows_of (found_of words.now)) }
 {
     let slot = slot_of(words)?;
-    Some(Task::Order(Command::CloseSlot(slot)))
+    Some(Work::Office(Task::Order(Command::CloseSlot(slot))))
 }
 
 // `sheet FILE DAY`
-fn sheet<'a>(words: &ArgMatches<'a>) -> Option<Task<'a>>
+fn sheet<'a>(words: &ArgMatches<'a>) -> Option<Work<'a>>
     ensures { result ≡ spec.sheet_of (rows_of (found_of words.now)) }
 {
     let day = Day::read(value_of(words, "DAY").as_bytes())?;
-    Some(Task::Sheet(day))
+    Some(Work::Office(Task::Sheet(day)))
 }
 
 // `serve FILE --port P --count N [--zone RULE] [--at MOMENT] [--patience SECONDS] [--log]`
-fn serve<'a>(words: &ArgMatches<'a>) -> Option<Task<'a>>
+fn serve<'a>(words: &ArgMatches<'a>) -> Option<Work<'a>>
     ensures { result ≡ spec.serve_of (rows_of (found_of words.now)) }
 {
     let port = port_of(value_of(words, "port"))?;
@@ -161,7 +160,7 @@ fn serve<'a>(words: &ArgMatches<'a>) -> Option<Task<'a>>
     let zone = Zone::from_rule(value_of(words, "zone"))?;
     let clock = clock_of(zone, given(words, "at"))?;
     let patience = patience_of(value_of(words, "patience"))?;
-    Some(Task::Serve(Service {
+    Some(Work::Serve(Service {
         port,
         count,
         clock,
@@ -171,21 +170,21 @@ fn serve<'a>(words: &ArgMatches<'a>) -> Option<Task<'a>>
 }
 
 // `show-account FILE KEY [--zone RULE] [--at MOMENT]`
-fn show_account<'a>(words: &ArgMatches<'a>) -> Option<Task<'a>>
+fn show_account<'a>(words: &ArgMatches<'a>) -> Option<Work<'a>>
     ensures { result ≡ spec.show_account_of (rows_of (found_of words.now)) }
 {
     let key = name_of(words, "KEY")?;
     let zone = Zone::from_rule(value_of(words, "zone"))?;
     let clock = clock_of(zone, given(words, "at"))?;
-    Some(Task::ShowAccount { key, clock })
+    Some(Work::Office(Task::ShowAccount { key, clock }))
 }
 
 // `show-slot FILE FACILITY DAY HOUR`
-fn show_slot<'a>(words: &ArgMatches<'a>) -> Option<Task<'a>>
+fn show_slot<'a>(words: &ArgMatches<'a>) -> Option<Work<'a>>
     ensures { result ≡ spec.show_slot_of (rows_of (found_of words.now)) }
 {
     let slot = slot_of(words)?;
-    Some(Task::ShowSlot(slot))
+    Some(Work::Office(Task::ShowSlot(slot)))
 }
 
 // `FACILITY DAY HOUR`
@@ -215,36 +214,8 @@ fn clock_of<'a>(zone: Zone<'a>, at: Option<&str>) -> Option<Clock<'a>>
     }
 }
 
-// The task of `add-key`.
-fn add_key_from<'a>(alloc: Global, words: &ArgMatches<'a>) -> Result<Task<'a>, Fault>
-    ensures { AnswersAsked (spec.add_key_asked (rows_of (found_of words.now))) result }
+fn or_bad_value(work: Option<Work<'_>>) -> Result<Work<'_>, Fault>
+    ensures { AnswersAsked (spec.unless_bad work.entry) result }
 {
-    let root = match root_word(alloc, words, given(words, "ROOT")) {
-        Ok(root) => root,
-        Err(fault) => return Err(fault),
-    };
-    match form_of(alloc, words) {
-        Ok(form) => or_bad_value(add_key(words, root, form)),
-        Err(fault) => Err(fault),
-    }
-}
-
-// The task of `rotate-key`.
-fn rotate_key_from<'a>(alloc: Global, words: &ArgMatches<'a>) -> Result<Task<'a>, Fault>
-    ensures { AnswersAsked (spec.rotate_key_asked (rows_of (found_of words.now))) result }
-{
-    let root = match root_word(alloc, words, rotation_word(words)) {
-        Ok(root) => root,
-        Err(fault) => return Err(fault),
-    };
-    match form_of(alloc, words) {
-        Ok(form) => or_bad_value(rotate_key(words, root, form)),
-        Err(fault) => Err(fault),
-    }
-}
-
-fn or_bad_value(task: Option<Task<'_>>) -> Result<Task<'_>, Fault>
-    ensures { AnswersAsked (spec.unless_bad task.entry) result }
-{
-    task.ok_or(Fault::BadValue)
+    work.ok_or(Fault::BadValue)
 }

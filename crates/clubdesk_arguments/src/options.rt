@@ -1,19 +1,9 @@
 //! The words and options of a command, out of what `clap` found.
 
-ghost use Rattle.std.specs.Prelude.{◌≡◌, IfOk, codes, option_map};
+ghost use Rattle.std.specs.Prelude.{◌≡◌, Err, option_map};
 ghost use Rattle.clap.specs.Words.{first_of, found_of, rows_of};
-ghost use Rattle.command_line.specs.Words.{is_set};
-ghost use Rattle.clubdesk_arguments.specs.Words.{
-  AnswersAsked,
-  AnswersRoot,
-  IsWordsFault,
-  form_given,
-  moment_word_in,
-  name_value,
-  number_value,
-  root_word_for,
-  rotation_word_in,
-};
+ghost use Rattle.clubdesk_arguments.specs.Words as spec;
+ghost use Rattle.clubdesk_arguments.specs.Words.{AnswersAsked, IsFaultFor, refused_as};
 
 use crate::fault::Fault;
 use crate::table::CLUBDESK;
@@ -27,14 +17,14 @@ use std::alloc::Global;
 
 /// The value of a word, parsed as a name.
 pub fn name_of(words: &ArgMatches<'_>, id: &str) -> Option<Name>
-    ensures { result ≡ name_value id.now (rows_of (found_of words.now)) }
+    ensures { result ≡ spec.name_value id.now (rows_of (found_of words.now)) }
 {
     Name::read(value_of(words, id).as_bytes())
 }
 
 /// The value of a word, parsed as a number.
 pub fn number_at(words: &ArgMatches<'_>, id: &str) -> Option<u32>
-    ensures { result ≡ number_value id.now (rows_of (found_of words.now)) }
+    ensures { result ≡ spec.number_value id.now (rows_of (found_of words.now)) }
 {
     parse_number(value_of(words, id))
 }
@@ -50,7 +40,7 @@ pub fn given<'a>(words: &ArgMatches<'a>, id: &str) -> Option<&'a str>
 /// The word of a new root of a key; `None` where the moment is the last word.
 pub fn rotation_word<'a>(words: &ArgMatches<'a>) -> Option<&'a str>
     ensures { option_map (λ text. text.now) result
-        ≡ rotation_word_in (rows_of (found_of words.now)) }
+        ≡ spec.rotation_word_in (rows_of (found_of words.now)) }
 {
     match given(words, "MOMENT") {
         Some(_) => given(words, "ROOT"),
@@ -60,7 +50,7 @@ pub fn rotation_word<'a>(words: &ArgMatches<'a>) -> Option<&'a str>
 
 /// The last word, which is the moment.
 pub fn moment_word<'a>(words: &ArgMatches<'a>) -> &'a str
-    ensures { result.now ≡ moment_word_in (rows_of (found_of words.now)) }
+    ensures { result.now ≡ spec.moment_word_in (rows_of (found_of words.now)) }
 {
     match given(words, "MOMENT") {
         Some(moment) => moment,
@@ -68,18 +58,20 @@ pub fn moment_word<'a>(words: &ArgMatches<'a>) -> &'a str
     }
 }
 
-/// The word of a root; `None` where it is read from the input, by `--root-stdin`.
+/// The word of a root, `None` where it is read from the input, by `--root-stdin`; and the form that
+/// `--form` names.
 ///
 /// # Errors
 ///
-/// `Words` where there is neither the word nor the flag, or both; `Memory`.
-pub fn root_word<'a>(
+/// `Words` where there is neither the word nor the flag, or both, or else where the form is none of
+/// the three; `Memory`.
+pub fn root_and_form<'a>(
     alloc: Global,
     words: &ArgMatches<'_>,
     word: Option<&'a str>,
-) -> Result<Option<&'a str>, Fault>
-    ensures { AnswersRoot (root_word_for (option_map (λ text. text.now) word.entry)
-        (is_set (codes "root-stdin") (rows_of (found_of words.now)))) result }
+) -> Result<(Option<&'a str>, Form), Fault>
+    ensures { spec.AnswersRoot (spec.root_and_form_in (option_map (λ text. text.now) word.entry)
+        (rows_of (found_of words.now))) result }
 {
     match (word, is_set(words, "root-stdin")) {
         (Some(_), true) => Err(argument_fault(
@@ -92,24 +84,23 @@ pub fn root_word<'a>(
             ErrorKind::MissingRequiredArgument,
             "one of these is required: <ROOT>, --root-stdin",
         )),
-        (word, _) => Ok(word),
+        (word, _) => match form_of(alloc, words) {
+            Ok(form) => Ok((word, form)),
+            Err(fault) => Err(fault),
+        },
     }
 }
 
 // A fault of the words that clap doesn't find itself.
 fn argument_fault(alloc: Global, kind: ErrorKind, message: &str) -> Fault
-    ensures { IsWordsFault kind result }
+    ensures { IsFaultFor {A = Unit} (Err (refused_as kind)) result }
 {
     Fault::from(words_fault(make_application(alloc, &CLUBDESK), kind, message))
 }
 
-/// The form that `--form` names.
-///
-/// # Errors
-///
-/// `Words` where it names none of the three, and `Memory`.
-pub fn form_of(alloc: Global, words: &ArgMatches<'_>) -> Result<Form, Fault>
-    ensures { AnswersAsked (form_given (rows_of (found_of words.now))) result }
+// The form that `--form` names.
+fn form_of(alloc: Global, words: &ArgMatches<'_>) -> Result<Form, Fault>
+    ensures { AnswersAsked (spec.form_given (rows_of (found_of words.now))) result }
 {
     match read_value(words, "form") {
         Some(form) => Ok(form),

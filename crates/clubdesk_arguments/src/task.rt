@@ -1,4 +1,4 @@
-//! The tasks of the program.
+//! What arguments ask for.
 
 use crate::clock::Clock;
 use club_core::Command;
@@ -7,49 +7,36 @@ use club_values::{Day, Moment, Name, Slot};
 use pass_forms::Form;
 use std::marker::Model;
 
-/// A task over a database.
+/// A task of the office.
 #[derive(Drop)]
 pub enum Task<'a> {
-    /// An order of the office that makes no pass.
+    /// An order that makes no pass.
     Order(Command),
-    /// A new key, whose pass is printed in the form.
-    AddKey {
-        name: Name,
-        member: Name,
-        root: Root,
-        form: Form,
-    },
-    /// A new key, whose root is read from the input.
-    AddKeyByInput {
-        name: Name,
-        member: Name,
-        form: Form,
-    },
-    /// A new root for a key, whose new pass is printed in the form. The older root is good until
-    /// the moment.
-    RotateKey {
-        name: Name,
-        root: Root,
-        until: Moment,
-        form: Form,
-    },
-    /// A new root for a key, which is read from the input.
-    RotateKeyByInput {
-        name: Name,
-        until: Moment,
-        form: Form,
-    },
+    /// An order that gives a key this root, and makes its pass.
+    Key(KeyOrder, Root),
     /// The day sheet of a day.
     Sheet(Day),
-    /// The server.
-    Serve(Service<'a>),
     /// What the desk shows of a key's account, at the moment of the clock.
-    ShowAccount {
-        key: Name,
-        clock: Clock<'a>,
-    },
+    ShowAccount { key: Name, clock: Clock<'a> },
     /// What the desk shows of a slot.
     ShowSlot(Slot),
+}
+
+/// An order that gives a key a root. The key's pass is printed in the form.
+#[derive(Drop)]
+pub struct KeyOrder {
+    pub name: Name,
+    pub change: KeyChange,
+    pub form: Form,
+}
+
+/// What becomes of a key that is given a root.
+#[derive(Drop)]
+pub enum KeyChange {
+    /// It is added, for a member.
+    Add { member: Name },
+    /// The root that it has is good until the moment.
+    Rotate { until: Moment },
 }
 
 /// The settings of the server.
@@ -67,11 +54,20 @@ pub struct Service<'a> {
     pub log: bool,
 }
 
-/// A task, and the file of its database.
+/// What is done over a database.
+#[derive(Drop)]
+pub enum Work<'a> {
+    Office(Task<'a>),
+    /// A key's order, whose root is read from the input.
+    Rootless(KeyOrder),
+    Serve(Service<'a>),
+}
+
+/// What is done, and the file of its database.
 #[derive(Drop)]
 pub struct Job<'a> {
     pub file: &'a str,
-    pub task: Task<'a>,
+    pub work: Work<'a>,
 }
 
 impl<'a> Model for Job<'a> {
@@ -79,5 +75,5 @@ impl<'a> Model for Job<'a> {
 
     ghost Value = { JobModel };
 
-    ghost view = { λ job. record { file = job.file.now; task = job.task } };
+    ghost view = { λ job. record { file = job.file.now; work = job.work } };
 }

@@ -4,7 +4,7 @@ ghost use Rattle.std.specs.Prelude.{◌≡◌, map};
 ghost use Rattle.clap.specs.Words.{found_of, rows_of};
 ghost use Rattle.clubdesk_arguments.specs.Words.{AnswersAsked, ReadsWords, job_named};
 
-use crate::commands::task_of;
+use crate::commands::work_of;
 use crate::fault::Fault;
 use crate::table::{CLUBDESK, CommandName};
 use crate::task::Job;
@@ -18,7 +18,7 @@ use std::convert::AsStr;
 pub enum Asked<'a> {
     /// The help text or the version, which `clap` made.
     ShowText(clap::Error),
-    /// A task over a database.
+    /// Work over a database.
     Perform(Job<'a>),
 }
 
@@ -48,8 +48,8 @@ fn job_from<'a>(alloc: Global, name: CommandName, words: &ArgMatches<'a>) -> Res
     ensures { AnswersAsked (job_named name (rows_of (found_of words.now))) result }
 {
     let file = value_of(words, "FILE");
-    match task_of(alloc, name, words) {
-        Ok(task) => Ok(Job { file, task }),
+    match work_of(alloc, name, words) {
+        Ok(work) => Ok(Job { file, work }),
         Err(fault) => Err(fault),
     }
 }

@@ -2,7 +2,9 @@
 
 use crate::expect::expect_case;
 use club_rows::Root;
-use clubdesk_arguments::{Asked, Clock, Job, Service, Task, command_of, laws};
+use clubdesk_arguments::{
+    Asked, Clock, KeyChange, KeyOrder, Service, Task, Work, command_of, laws,
+};
 use std::alloc::AllocError;
 use std::fmt::Write;
 use std::process::Abort;
@@ -42,6 +44,16 @@ fn describe_look(output: &mut String, key: &str, clock: &Clock<'_>) -> Result<()
     }
 }
 
+fn describe_key(output: &mut String, order: &KeyOrder, root: &str) -> Result<(), AllocError> {
+    let (name, form) = (&order.name, order.form);
+    match &order.change {
+        KeyChange::Add { member } => write!(output, "add {name} of {member} {root} {form:?}"),
+        KeyChange::Rotate { until } => {
+            write!(output, "rotate {name} {root} until {until} {form:?}")
+        }
+    }
+}
+
 fn describe_task(
     rt: &(impl Abort + AllocGlobal),
     output: &mut String,
@@ -49,41 +61,29 @@ fn describe_task(
 ) -> Result<(), AllocError> {
     match task {
         Task::Order(order) => write!(output, "{order:?}"),
-        Task::AddKey {
-            name,
-            member,
-            root,
-            form,
-        } => {
-            let root = hex_of(rt, root);
-            write!(output, "add {name} of {member} {root} {form:?}")
-        }
-        Task::RotateKey {
-            name,
-            root,
-            until,
-            form,
-        } => {
-            let root = hex_of(rt, root);
-            write!(output, "rotate {name} {root} until {until} {form:?}")
-        }
-        Task::AddKeyByInput { name, member, form } => {
-            write!(output, "add {name} of {member} by input {form:?}")
-        }
-        Task::RotateKeyByInput { name, until, form } => {
-            write!(output, "rotate {name} by input until {until} {form:?}")
-        }
+        Task::Key(order, root) => describe_key(output, order, hex_of(rt, root).as_str()),
         Task::Sheet(day) => write!(output, "sheet {day}"),
-        Task::Serve(service) => describe_service(output, service),
         Task::ShowAccount { key, clock } => describe_look(output, key.as_str(), clock),
         Task::ShowSlot(slot) => write!(output, "show {slot:?}"),
     }
 }
 
-// The task, as a text.
-fn task_text(rt: &(impl Abort + AllocGlobal), task: &Task<'_>) -> String {
+fn describe_work(
+    rt: &(impl Abort + AllocGlobal),
+    output: &mut String,
+    work: &Work<'_>,
+) -> Result<(), AllocError> {
+    match work {
+        Work::Office(task) => describe_task(rt, output, task),
+        Work::Rootless(order) => describe_key(output, order, "by input"),
+        Work::Serve(service) => describe_service(output, service),
+    }
+}
+
+// The work, as a text.
+fn work_text(rt: &(impl Abort + AllocGlobal), work: &Work<'_>) -> String {
     let mut output = String::new(rt.alloc());
-    describe_task(rt, &mut output, task).expect(rt, "memory");
+    describe_work(rt, &mut output, work).expect(rt, "memory");
     output
 }
 
@@ -93,8 +93,8 @@ fn expect_asked(rt: &(impl Abort + AllocGlobal), line: &str, file: &str, want: &
     let asked = command_of(rt.alloc(), words.as_slice());
     match &asked {
         Ok(Asked::Perform(job)) => {
-            let task = task_text(rt, &job.task);
-            expect_case(rt, line, &(task.as_str(), job.file), &(want, file));
+            let work = work_text(rt, &job.work);
+            expect_case(rt, line, &(work.as_str(), job.file), &(want, file));
         }
         _ => panic!(rt; "{line}"),
     }

@@ -18,22 +18,19 @@ use Rattle.club_http.specs.declared.fault.AnswerFault.{AnswerFault}
 use Rattle.club_http.specs.declared.fault.AnswerFault.TheVariants.{Read, Write}
 use Rattle.club_laws.specs.Failed.{IsStep, Response}
 use Rattle.clubdesk_arguments.specs.declared.fault.Fault.{Fault}
-use Rattle.clubdesk_arguments.specs.declared.fault.Fault.TheVariants.{Refused, Words, BadValue, Memory, Storage, ClockOutOfRange, InputOutput}
-use Rattle.clubdesk_arguments.specs.declared.fault.Fault.TheVariants.{NoAnswer, Answered}
+use Rattle.clubdesk_arguments.specs.declared.fault.Fault.TheVariants.{Memory, ClockOutOfRange, InputOutput}
 use Rattle.clubdesk_arguments.specs.declared.task.Service.{Service}
 use Rattle.clubdesk_arguments.specs.declared.task.Task.{Task}
-use Rattle.clubdesk_arguments.specs.declared.task.Task.TheVariants.{Order, AddKey, AddKeyByInput, RotateKey, RotateKeyByInput}
-use Rattle.clubdesk_arguments.specs.declared.task.Task.TheVariants.{Sheet, Serve, ShowAccount, ShowSlot}
-use Rattle.clubdesk_arguments.specs.declared.words.Asked.{Asked}
+use Rattle.clubdesk_arguments.specs.declared.task.Task.TheVariants.{Order, Key, Sheet, ShowAccount, ShowSlot}
 use Rattle.clubdesk_commands.specs.Does.{Does}
-use Rattle.clubdesk_commands.specs.Looks.{Looks}
+use Rattle.clubdesk_commands.specs.Looks.{Looks, showing}
 use Rattle.clubdesk_commands.specs.Looks as looks
 use Rattle.clubdesk_commands.specs.Machine.{Always, IsItself, machine_answers, machine_orders}
 use Rattle.clubdesk_commands.specs.Office.{IsAnswered}
 use Rattle.clubdesk_commands.specs.Office as office
-use Rattle.clubdesk_commands.specs.OfficeDesk.{DoesAsked, DoesWords, Orders}
+use Rattle.clubdesk_commands.specs.OfficeDesk.{DoesWords, Orders}
 use Rattle.clubdesk_commands.specs.OfficeDesk as spec
-use Rattle.clubdesk_commands.specs.Run.{FollowsMachine, RunsServer, over_socket, showing}
+use Rattle.clubdesk_commands.specs.Run.{FollowsMachine, RunsServer, over_socket}
 use Rattle.desk_server.specs.Served.{AreOrdered, AreServed, IsAttended, IsCarriedOut, IsExchanged, ServesOne, Turn}
 use Rattle.desk_server.specs.Served as served
 use Rattle.desk_server.specs.declared.log.Fate.{Fate}
@@ -157,8 +154,7 @@ module _ {S : Type 0} (Clean : S → Type 0) (Represents : S → Club → List C
   done : (task : Task) (answer : Result (List ℕ) Fault) (old new : S) → Does Clean Represents task answer old new
       → Simulates old new (λ club next. Does Always IsItself task answer club next)
   done (Order given) answer old new does = answered old new given _ answer does
-  done (AddKey name member root form) answer old new does = answered old new _ _ answer does
-  done (RotateKey name root until form) answer old new does = answered old new _ _ answer does
+  done (Key order root) answer old new does = answered old new _ _ answer does
   done (Sheet day) answer old new (was, kept, sheet) = record {
     was_clean = was;
     follows = λ clean club others represents. (
@@ -176,26 +172,20 @@ module _ {S : Type 0} (Clean : S → Type 0) (Represents : S → Club → List C
       ),
     );
   }
-  done (Serve service) answer old new does = absurd does
-  done (AddKeyByInput name member form) answer old new does = absurd does
-  done (RotateKeyByInput name until form) answer old new does = absurd does
   done (ShowAccount key clock) answer old new (looks.at_moment moment shows look) =
       so old new _ _ (looked old new _ _ look) (λ club next shown. looks.at_moment moment shows shown)
   done (ShowAccount key clock) answer old new (looks.at_none shows stopped) =
       same old new _ stopped.same (λ club. looks.at_none shows (record { out_of_range = stopped.out_of_range; same = refl }))
   done (ShowSlot slot) answer old new look = looked old new _ _ look
 
-  asked : (root : Text) (it : Asked) (answer : Result (List ℕ) Fault) (old new : S) → DoesAsked Clean Represents root it answer old new
-      → Simulates old new (λ club next. DoesAsked Always IsItself root it answer club next)
-  asked root it answer old new (spec.task_done job whole is rooted of_office does) =
-      so old new _ _ (done whole.task answer old new does) (λ club next does. spec.task_done job whole is rooted of_office does)
-  asked root it answer old new (spec.root_refused job fault is takes refused kept) =
-      same old new _ kept (λ club. spec.root_refused job fault is takes refused refl)
-
   worded : (root : Text) (words : List Text) (answer : Result (List ℕ) Fault) (old new : S) → DoesWords Clean Represents root words answer old new
       → Simulates old new (λ club next. DoesWords Always IsItself root words answer club next)
-  worded root words answer old new (spec.words_done it reads does) =
-      so old new _ _ (asked root it answer old new does) (λ club next does. spec.words_done it reads does)
+  worded root words answer old new (spec.task_done file task asks does) =
+      so old new _ _ (done task answer old new does) (λ club next does. spec.task_done file task asks does)
+  worded root words answer old new (spec.key_done file order given asks is does) =
+      so old new _ _ (done (Key order given) answer old new does) (λ club next does. spec.key_done file order given asks is does)
+  worded root words answer old new (spec.root_refused file order asks none refused kept) =
+      same old new _ kept (λ club. spec.root_refused file order asks none refused refl)
   worded root words answer old new (spec.words_refused fault reads refused kept) = same old new _ kept (λ club. spec.words_refused fault reads refused refl)
 
   ordered : (bytes : List ℕ) (answer : Answer) (old new : S) → Orders Clean Represents bytes old answer new
@@ -264,12 +254,13 @@ module _ {S : Type 0} (Clean : S → Type 0) (Represents : S → Club → List C
     -- a server over a store is one over the club that this represents
     pub follows_machine : (result : Result Unit Fault) → RunsServer (AnswersBy Clean Represents Fails) (Orders Clean Represents) service store left Noted result
         → FollowsMachine Clean Represents service store left Noted result
-    follows_machine (Ok done) (turns, failures, so_many, were, besides) =
-        (so store left _ _ (all (showing service.clock) Fails tt store 0 turns tt left failures were)
-        (λ club next were. (turns, failures, so_many, were, besides))).follows
-    follows_machine (Err ClockOutOfRange) (failures, stop) =
-        (so store left _ _ (all (showing service.clock) Fails tt store 0 stop.turns stop.last left failures stop.before)
+    follows_machine (Ok done) (turns, last, failures, so_many, were, besides) =
+        (so store left _ _ (all showing Fails service.clock store 0 turns last left failures were)
+        (λ club next were. (turns, last, failures, so_many, were, besides))).follows
+    follows_machine (Err ClockOutOfRange) (last, failures, stop) =
+        (so store left _ _ (all showing Fails service.clock store 0 stop.turns stop.last left failures stop.before)
         (λ club next before. (
+          last,
           failures,
           record {
             turns = stop.turns;
@@ -282,9 +273,4 @@ module _ {S : Type 0} (Clean : S → Type 0) (Represents : S → Club → List C
         ))).follows
     follows_machine (Err Memory) (kept, nothing) = (same store left _ kept (λ club. (refl, nothing))).follows
     follows_machine (Err InputOutput) (kept, nothing) = (same store left _ kept (λ club. (refl, nothing))).follows
-    follows_machine (Err (Refused fault)) never = absurd never
-    follows_machine (Err (Words error)) never = absurd never
-    follows_machine (Err BadValue) never = absurd never
-    follows_machine (Err Storage) never = absurd never
-    follows_machine (Err NoAnswer) never = absurd never
-    follows_machine (Err (Answered status line)) never = absurd never
+    follows_machine (Err fault) never = absurd never

@@ -10,7 +10,7 @@ use Rattle.std.specs.List.{AllByRecursion}
 use Rattle.std.specs.Str.{IsUtf8}
 use Rattle.std.specs.Str.Iter.{LacksByte}
 use Rattle.clap.specs.Words.{Text}
-use Rattle.clubdesk_commands.specs.Order.{IsWord, order_bytes, piece, pieces}
+use Rattle.clubdesk_commands.specs.Order.{IsOrder, IsWord, order_bytes, piece, pieces}
 
 module _ {X : Type 0} (text : X → Text) where
   pieces_append : (xs ys : List X) → pieces (map text (xs ++ ys)) ≡ pieces (map text xs) ++ pieces (map text ys)
@@ -33,6 +33,10 @@ module _ {X : Type 0} (text : X → Text) where
       ∙ sym (append_assoc (pieces (map text xs)) (piece (text x)) after)
       ∙ ap (λ (l : List ℕ). (pieces (map text xs) ++ l) ++ after) (sym (append-nil (piece (text x))))
       ∙ ap (λ (l : List ℕ). l ++ after) (sym (pieces_append xs (x ∷ [])))
+
+  pub all_more : (xs : List X) (x : X) → AllByRecursion IsWord (map text xs) → IsWord (text x) → AllByRecursion IsWord (map text (xs ++ x ∷ []))
+  all_more [] x all is = (is, tt)
+  all_more (y ∷ ys) x all is = (all.0, all_more ys x all.1 is)
 
 -- ---- words that are split again
 
@@ -117,21 +121,14 @@ pieces_utf8 : (words : List Text) → AllByRecursion IsWord words → IsUtf8 (pi
 pieces_utf8 [] all = IsUtf8-nil
 pieces_utf8 (word ∷ words) all = IsUtf8-append (piece word) (pieces words) (piece_utf8 word all.0.0) (pieces_utf8 words all.1)
 
--- an order's bytes, of which there are no more than a slice has
-pub record IsOrder (bytes : List ℕ) (root : Text) (words : List Text) : Type 0 where
-  pub spelled : bytes ≡ order_bytes root words
-  pub root_word : IsWord root
-  pub all_words : AllByRecursion IsWord words
-  pub fits : length bytes < 2 ^ 64
-
-module _ (bytes : List ℕ) (root : Text) (words : List Text) (order : IsOrder bytes root words) where
+-- there are no more bytes than a slice has
+module _ (bytes : List ℕ) (root : Text) (words : List Text) (order : IsOrder bytes root words) (fits : length bytes < 2 ^ 64) where
   so_many : length words < 2 ^ 64
   so_many =
       let h : length bytes ≡ length (decimal (length words)) + suc (length (piece root ++ pieces words)) =
       ap length order.spelled ∙ length_piece (decimal (length words)) (piece root ++ pieces words) in
       let k : length (piece root ++ pieces words) ≡ length root + suc (length (pieces words)) = length_piece root (pieces words) in
-      let m : length words ≤ length (pieces words) = many_pieces words in
-      let f : length bytes < 2 ^ 64 = order.fits in omega arith
+      let m : length words ≤ length (pieces words) = many_pieces words in omega arith
 
   pub order_utf8 : IsUtf8 bytes
   order_utf8 =

@@ -1,194 +1,117 @@
--- How a run ends, and when it writes nothing.
-use Rattle.std.proofs.Common.{◌≡◌, ◌⊎◌, List, [], ◌∷◌, false, Option, Some, None, Result, Ok, Err, inl, inr, refl, subst, ◌∙◌, ℕ, arith}
-use Rattle.std.proofs.lemmas.Bool.Decides.{nat_tests}
-use Rattle.std.specs.Prelude.{IsSome, IfErr}
-use Rattle.clap.specs.Words.{IsAmong, Kinds, Text}
-use Rattle.clap.specs.Walk.{is_empty}
-use Rattle.clap.specs.declared.error.kind.ErrorKind.{ErrorKind}
-use Rattle.clap.specs.declared.error.kind.ErrorKind.TheVariants as kind
-use Rattle.club_core.specs.declared.command.Command.{Command}
+-- How work ends, and when it writes nothing.
+use Rattle.std.proofs.Common.{◌≡◌, ℕ, List, Option, Result, Ok, Err, ap, subst, sym, ◌∙◌}
+use Rattle.clap.specs.Words.{Text}
 use Rattle.club_core.specs.Club.{Club}
-use Rattle.club_core.specs.declared.change.Change.{Change}
+use Rattle.club_core.specs.declared.command.Command.{Command}
+use Rattle.club_core.specs.declared.store.ClubStore.{Ghosts as StoreWords}
 use Rattle.club_core.specs.declared.store.StoreFault.{StoreFault}
 use Rattle.club_core.specs.declared.store.StoreFault.TheVariants as store
 use Rattle.club_gate.specs.declared.event.OfficeReply.{OfficeReply}
 use Rattle.club_gate.specs.declared.event.OfficeReply.TheVariants as replies
 use Rattle.club_gate.specs.declared.fault.Fault.{Fault as DeskFault}
 use Rattle.club_gate.specs.declared.fault.Fault.TheVariants as desk
+use Rattle.desk_server.specs.Databases.{Giving}
 use Rattle.desk_server.specs.Served.{Turn}
-use Rattle.command_line.specs.Table.{refusals}
-use Rattle.clubdesk_arguments.specs.Application.{clubdesk}
+use Rattle.desk_server.specs.declared.databases.Databases.{Ghosts as DatabasesWords}
+use Rattle.desk_server.specs.declared.databases.Visit.{Ghosts as VisitWords}
+use Rattle.clubdesk_arguments.specs.Fault.{fault_of_opening}
 use Rattle.clubdesk_arguments.specs.JobModel.{JobModel}
+use Rattle.clubdesk_arguments.specs.Words.{ReadsWords}
+use Rattle.clubdesk_arguments.specs.declared.fault.Fault.{Fault}
+use Rattle.clubdesk_arguments.specs.declared.fault.Fault.TheVariants.{Words, BadValue, Memory, ClockOutOfRange, InputOutput, NoAnswer, Answered}
+use Rattle.clubdesk_arguments.specs.declared.task.Service.{Service}
+use Rattle.clubdesk_arguments.specs.declared.task.Task.{Task}
+use Rattle.clubdesk_arguments.specs.declared.task.Task.TheVariants.{Order, Key, Sheet, ShowAccount, ShowSlot}
+use Rattle.clubdesk_arguments.specs.declared.task.Work.{Work}
+use Rattle.clubdesk_arguments.specs.declared.words.Asked.{Asked}
+use Rattle.clubdesk_arguments.specs.declared.words.Asked.TheVariants.{Perform}
+use Rattle.clubdesk_commands.specs.Does.{AskFor, Does}
 use Rattle.clubdesk_commands.specs.Looks as looks
 use Rattle.clubdesk_commands.specs.Office as office
 use Rattle.clubdesk_commands.specs.Office.{GivesText, GivesReply, IsAnswered, fault_of_desk}
 use Rattle.clubdesk_commands.specs.Order.{order_bytes}
 use Rattle.clubdesk_commands.specs.Output.{Output, Prints, WritesText}
-use Rattle.desk_server.specs.Databases.{Closing, Giving, Opening, Reaching}
-use Rattle.clubdesk_arguments.specs.Fault.{fault_of_opening}
-use Rattle.clubdesk_commands.specs.Does.{Does}
-use Rattle.clubdesk_commands.specs.Run.{Announces, AnswersWords, EndsFor, IsHandedOver, IsOfTask, IsReply, IsSilent, Performs, job_of}
+use Rattle.clubdesk_commands.specs.Run.{Announces, EndsWork, IsHandedOver, IsReply, Performs, Serves}
 use Rattle.clubdesk_commands.specs.Run as spec
-use Rattle.clubdesk_arguments.specs.Words.{AsksText, IsFaultOf, ReadsWords, asked_job, job_of_words}
-use Rattle.clubdesk_arguments.specs.declared.fault.Fault.{Fault}
-use Rattle.clubdesk_arguments.specs.declared.fault.Fault.TheVariants.{Refused, Words, BadValue, Memory, Storage}
-use Rattle.clubdesk_arguments.specs.declared.fault.Fault.TheVariants.{ClockOutOfRange, InputOutput, NoAnswer, Answered}
-use Rattle.clubdesk_arguments.specs.declared.task.Service.{Service}
-use Rattle.clubdesk_arguments.specs.declared.task.Task.{Task}
-use Rattle.clubdesk_arguments.specs.declared.task.Task.TheVariants.{Order, AddKey, AddKeyByInput, RotateKey, RotateKeyByInput}
-use Rattle.clubdesk_arguments.specs.declared.task.Task.TheVariants.{Sheet, Serve, ShowAccount, ShowSlot}
-use Rattle.clubdesk_arguments.specs.declared.words.Asked.{Asked}
-use Rattle.clubdesk_arguments.specs.declared.words.Asked.TheVariants.{Perform, ShowText}
 
--- ---- what the words ask for
+-- words that were read as a job ask for its work
+pub asks_for : (given words : List Text) (read : Asked) (job whole : JobModel) (work : Work) → given ≡ words → ReadsWords given (Ok read)
+    → read ≡ Perform whole → job ≡ whole → job.work ≡ work → AskFor words job.file work
+asks_for given words read job whole work same reads is as_whole asked =
+    let reads_job : ReadsWords words (Ok (Perform whole)) = rw (← same) (rw is at reads) in
+    (reads_job.0, reads_job.1 ∙ ap (λ (it : JobModel). Ok it) (sym as_whole) ∙ ap (λ (it : Work). Ok (record { file = job.file; work = it })) asked)
 
-some_asked : (words : List Text) (command : JobModel) → refusals clubdesk words ≡ [] → job_of_words words ≡ Ok command → asked_job words ≡ Some command
-some_asked words command clear is = rw (clear, is) refl
+-- an answer that is no fault of the words
+abbrev IsAnswer : Result (List ℕ) Fault → Type 0
+IsAnswer answer = EndsWork (Unit {0}) answer
 
--- words that give a fault ask for nothing
-among_some : (k : ErrorKind) (kinds : Kinds) → IsAmong k kinds → is_empty kinds ≡ false
-among_some k [] among = absurd among
-among_some k (x ∷ kinds) among = grind (arith, nat_tests)
+-- ---- what is written
 
-none_asked : (words : List Text) (k : ErrorKind) → IsAmong k (refusals clubdesk words) → asked_job words ≡ None
-none_asked words k among = rw (among_some k (refusals clubdesk words) among) refl
+text_ends : (written : Output) (text : List ℕ) (result : Result Unit Fault) → WritesText text written result → EndsWork written.no_change result
+text_ends written text (Ok done) wrote = tt
+text_ends written text (Err InputOutput) wrote = tt
+text_ends written text (Err fault) wrote = absurd wrote
 
-no_text_asked : (words : List Text) → AsksText words → asked_job words ≡ None
-no_text_asked words (inl help) = none_asked words kind.DisplayHelp help
-no_text_asked words (inr version) = none_asked words kind.DisplayVersion version
+unwritten : (Unwritten : Type 0) (fault : Fault) → IsAnswer (Err fault) → Unwritten → EndsWork {A = Unit} Unwritten (Err fault)
+unwritten Unwritten (Words error) is kept = is
+unwritten Unwritten BadValue is kept = is
+unwritten Unwritten ClockOutOfRange is kept = tt
+unwritten Unwritten InputOutput is kept = tt
+unwritten Unwritten fault is kept = kept
 
-pub task_asked : (words : List Text) (of_words : Asked) → ReadsWords words (Ok of_words) → asked_job words ≡ job_of of_words
-task_asked words (ShowText text) reads = no_text_asked words reads
-task_asked words (Perform job) reads = some_asked words job reads.0 reads.1
+prints_well : (written : Output) (answer : Result (List ℕ) Fault) (result : Result Unit Fault) → IsAnswer answer → Prints answer written result
+    → EndsWork written.no_change result
+prints_well written (Ok text) result is prints = text_ends written text result prints
+prints_well written (Err fault) result is prints = rw prints.0 (unwritten written.no_change fault is prints.1)
 
--- words that were parsed as a job ask for that job
-pub same_job : (of_words : Asked) (job asked_for : JobModel) → of_words ≡ Perform job → job_of of_words ≡ Some asked_for → job ≡ asked_for
-same_job of_words job asked_for is requested = let found : job_of (Perform job) ≡ Some asked_for = rw is at requested in cc
+announces_well : (port : ℕ) (written : Output) (result : Result Unit Fault) → Announces port written result → EndsWork written.no_change result
+announces_well port written (Ok done) wrote = tt
+announces_well port written (Err InputOutput) wrote = tt
+announces_well port written (Err ClockOutOfRange) wrote = tt
+announces_well port written (Err Memory) wrote = wrote
+announces_well port written (Err fault) wrote = absurd wrote
 
--- and so do words with a fault, memory aside
-pub nothing_asked : (words : List Text) (fault : Fault) → IsFaultOf words fault → (fault ≡ Memory) ⊎ (asked_job words ≡ None)
-nothing_asked words (Words error) (inl among) = inr (none_asked words _ among.0)
-nothing_asked words (Words error) (inr (clear, (refusal, is, of_kind))) = inr (rw (clear, is) refl)
-nothing_asked words BadValue bad = inr (rw (bad.0, bad.1) refl)
-nothing_asked words Memory bad = inl refl
-nothing_asked words (Refused fault) bad = absurd bad
-nothing_asked words Storage bad = absurd bad
-nothing_asked words NoAnswer bad = absurd bad
-nothing_asked words (Answered status line) bad = absurd bad
-nothing_asked words ClockOutOfRange bad = absurd bad
-nothing_asked words InputOutput bad = absurd bad
+not_opened : (Unwritten : Type 0) (fault : StoreFault) (result : Result Unit Fault) → result ≡ Err (fault_of_opening fault) → Unwritten
+    → EndsWork Unwritten result
+not_opened Unwritten store.Memory result is kept = rw is kept
+not_opened Unwritten store.Storage result is kept = rw is kept
 
-some_is : (words : List Text) (command : JobModel) → asked_job words ≡ Some command → IsSome (asked_job words)
-some_is words command is = rw is refl
+-- ---- answers
 
-pub run_words : (words : List Text) (of_words : Asked) (result : Result Unit Fault) → ReadsWords words (Ok of_words) → EndsFor of_words result
-    → AnswersWords words result
-run_words words (ShowText text) (Ok done) reads ends = inr reads
-run_words words (ShowText text) (Err fault) reads ends = rw ends (inr reads)
-run_words words (Perform job) (Ok done) reads ends = inl (some_is words job (some_asked words job reads.0 reads.1))
-run_words words (Perform job) (Err (Refused fault)) reads ends = some_is words job (some_asked words job reads.0 reads.1)
-run_words words (Perform job) (Err (Words error)) reads ends = absurd ends
-run_words words (Perform job) (Err BadValue) reads ends = inr (rw (some_asked words job reads.0 reads.1) ends)
-run_words words (Perform job) (Err Memory) reads ends = tt
-run_words words (Perform job) (Err Storage) reads ends = some_is words job (some_asked words job reads.0 reads.1)
-run_words words (Perform job) (Err NoAnswer) reads ends = some_is words job (some_asked words job reads.0 reads.1)
-run_words words (Perform job) (Err (Answered status line)) reads ends = some_is words job (some_asked words job reads.0 reads.1)
-run_words words (Perform job) (Err ClockOutOfRange) reads ends = some_is words job (some_asked words job reads.0 reads.1)
-run_words words (Perform job) (Err InputOutput) reads ends = inl (some_is words job (some_asked words job reads.0 reads.1))
-
--- help and the version fail only by the writer
-pub text_is_silent : (Same : Type 0) (result : Result Unit Fault) → IfErr result (λ fault. fault ≡ InputOutput)
-    → IfErr result (λ fault. IsSilent fault → Same)
-text_is_silent Same (Ok done) of_writer = tt
-text_is_silent Same (Err fault) of_writer = λ silent. absurd (subst IsSilent of_writer silent)
-
--- ---- the faults of a task
-
--- a result that is no fault of the words; if it is silent, nothing was written
-pub record EndsWell (Silent : Type 0) (result : Result Unit Fault) : Type 0 where
-  pub of_task : IfErr result IsOfTask
-  pub silent : IfErr result (λ fault. IsSilent fault → Silent)
-
-text_ends : (written : Output) (text : List ℕ) (result : Result Unit Fault) → WritesText text written result → EndsWell written.no_change result
-text_ends written text (Ok done) h = record { of_task = tt; silent = tt }
-text_ends written text (Err InputOutput) h = record { of_task = tt; silent = λ s. absurd s }
-text_ends written text (Err (Refused fault)) h = absurd h
-text_ends written text (Err (Words error)) h = absurd h
-text_ends written text (Err BadValue) h = absurd h
-text_ends written text (Err Memory) h = absurd h
-text_ends written text (Err Storage) h = absurd h
-text_ends written text (Err NoAnswer) h = absurd h
-text_ends written text (Err (Answered status line)) h = absurd h
-text_ends written text (Err ClockOutOfRange) h = absurd h
-
-prints_well : (written : Output) (answer : Result (List ℕ) Fault) (result : Result Unit Fault) → IfErr answer IsOfTask → Prints answer written result
-    → EndsWell written.no_change result
-prints_well written (Ok text) result of_task prints = text_ends written text result prints
-prints_well written (Err fault) result of_task prints = rw prints.0 (record { of_task = of_task; silent = λ s. prints.1 })
-
-of_server : (port : ℕ) (written : Output) (result : Result Unit Fault) → Announces port written result → EndsWell written.no_change result
-of_server port written (Ok done) h = record { of_task = tt; silent = tt }
-of_server port written (Err InputOutput) h = record { of_task = tt; silent = λ s. absurd s }
-of_server port written (Err ClockOutOfRange) h = record { of_task = tt; silent = λ s. absurd s }
-of_server port written (Err Memory) h = record { of_task = tt; silent = λ s. h }
-of_server port written (Err (Refused fault)) h = absurd h
-of_server port written (Err (Words error)) h = absurd h
-of_server port written (Err BadValue) h = absurd h
-of_server port written (Err Storage) h = absurd h
-of_server port written (Err NoAnswer) h = absurd h
-of_server port written (Err (Answered status line)) h = absurd h
-
--- an answer of the desk is no fault of the words
-desk_faults : (fault : DeskFault) → IsOfTask (fault_of_desk fault)
+desk_faults : (fault : DeskFault) → IsAnswer (Err (fault_of_desk fault))
 desk_faults (desk.Refused refusal) = tt
 desk_faults (desk.Store store.Memory) = tt
 desk_faults (desk.Store store.Storage) = tt
 
-of_reply : (text : List ℕ) (answer : Result (List ℕ) Fault) (reply : OfficeReply) → GivesReply text answer reply → IfErr answer IsOfTask
+of_reply : (text : List ℕ) (answer : Result (List ℕ) Fault) (reply : OfficeReply) → GivesReply text answer reply → IsAnswer answer
 of_reply text answer (replies.Refused fault) is = rw is (desk_faults fault)
-of_reply text answer replies.Done is = rw is tt
-of_reply text answer (replies.Key signature) is = rw is tt
+of_reply text answer reply is = rw is tt
 
-of_read : (answer : Result (List ℕ) Fault) (read : Result (List ℕ) DeskFault) → GivesText answer read → IfErr answer IsOfTask
+of_read : (answer : Result (List ℕ) Fault) (read : Result (List ℕ) DeskFault) → GivesText answer read → IsAnswer answer
 of_read answer (Ok text) is = rw is tt
 of_read answer (Err fault) is = rw is (desk_faults fault)
 
 module _ {S : Type 0} (Clean : S → Type 0) (Represents : S → Club → List Club → Type 0) (old new : S) (answer : Result (List ℕ) Fault) where
-  of_order : (order : Command) (IsText : List ℕ → Type 0) → IsAnswered Represents Clean old new order IsText answer → IfErr answer IsOfTask
+  of_order : (order : Command) (IsText : List ℕ → Type 0) → IsAnswered Represents Clean old new order IsText answer → IsAnswer answer
   of_order order IsText (office.out_of_memory memory) = rw memory.0 tt
-  of_order order IsText (office.order_given text made h) = of_reply text answer h.reply h.answers
+  of_order order IsText (office.order_given text made given) = of_reply text answer given.reply given.answers
 
-  of_task : (task : Task) → Does Clean Represents task answer old new → IfErr answer IsOfTask
-  of_task (Order given) h = of_order given _ h
-  of_task (AddKey name member root form) h = of_order _ _ h
-  of_task (RotateKey name root until form) h = of_order _ _ h
-  of_task (Sheet day) h = of_read answer h.2.read h.2.gives
-  of_task (Serve service) h = absurd h
-  of_task (AddKeyByInput name member form) h = absurd h
-  of_task (RotateKeyByInput name until form) h = absurd h
-  of_task (ShowAccount key clock) (looks.at_moment moment shows h) = of_read answer h.shown h.gives
-  of_task (ShowAccount key clock) (looks.at_none shows h) = rw h.out_of_range tt
-  of_task (ShowSlot slot) h = of_read answer h.shown h.gives
+  of_task : (task : Task) → Does Clean Represents task answer old new → IsAnswer answer
+  of_task (Order given) does = of_order given _ does
+  of_task (Key order root) does = of_order _ _ does
+  of_task (Sheet day) does = of_read answer does.2.read does.2.gives
+  of_task (ShowAccount key clock) (looks.at_moment moment shows look) = of_read answer look.shown look.gives
+  of_task (ShowAccount key clock) (looks.at_none shows stopped) = rw stopped.out_of_range tt
+  of_task (ShowSlot slot) look = of_read answer look.shown look.gives
 
-of_opening : (Silent : Type 0) (fault : StoreFault) (result : Result Unit Fault) → result ≡ Err (fault_of_opening fault) → Silent
-    → EndsWell Silent result
-of_opening Silent store.Memory result is silent = rw is (record { of_task = tt; silent = λ s. silent })
-of_opening Silent store.Storage result is silent = rw is (record { of_task = tt; silent = λ s. silent })
-
-replied : (reply : Option (ℕ × List ℕ)) (answer : Result (List ℕ) Fault) → IsReply reply answer → IfErr answer IsOfTask
+replied : (reply : Option (ℕ × List ℕ)) (answer : Result (List ℕ) Fault) → IsReply reply answer → IsAnswer answer
 replied reply (Ok text) is = tt
 replied reply (Err NoAnswer) is = tt
 replied reply (Err (Answered status line)) is = tt
-replied reply (Err Memory) is = absurd is
-replied reply (Err (Refused fault)) is = absurd is
-replied reply (Err (Words error)) is = absurd is
-replied reply (Err BadValue) is = absurd is
-replied reply (Err Storage) is = absurd is
-replied reply (Err ClockOutOfRange) is = absurd is
-replied reply (Err InputOutput) is = absurd is
+replied reply (Err fault) is = absurd is
 
 of_handing : {V : Type 0} (Gives : Giving V) (visit : V) (root : Text) (words : List Text) (answer : Result (List ℕ) Fault)
-    → IsHandedOver Gives visit root words answer → IfErr answer IsOfTask
+    → IsHandedOver Gives visit root words answer → IsAnswer answer
 of_handing Gives visit root words answer (spec.not_handed memory) = rw memory tt
 of_handing Gives visit root words answer (spec.handed reply gives is) = replied reply answer is
 
@@ -199,32 +122,21 @@ pub handed_reply : {V : Type 0} (Gives : Giving V) (visit : V) (root : Text) (wo
 handed_reply Gives visit root words given bytes reply answer same made gives is =
     spec.handed reply (subst (λ (text : List ℕ). Gives visit text reply) (same ∙ made) gives) is
 
-module _ {D S V : Type 0} (Opens : Opening D S) (Reaches : Reaching D S V) (Gives : Giving V) (Closes : Closing D S) (Clean : S → Type 0)
-    (Represents : S → Club → List Club → Type 0) (Fails : Option Change → S → StoreFault → S → Type 0)
-    (job : JobModel) (old new : D) (written : Output) (Noted : List Turn → Type 0) (result : Result Unit Fault)
-  where
-    -- however a task ends
-    pub performs_well : Performs Opens Reaches Gives Closes Clean Represents Fails job old new written Noted result → EndsWell written.no_change result
-    performs_well (spec.out_of_memory memory same silent nothing) = rw memory (record { of_task = tt; silent = λ s. silent })
-    performs_well (spec.not_opened fault opens is silent nothing) = of_opening written.no_change fault result is silent
-    performs_well (spec.not_reached fault reaches is silent nothing) = of_opening written.no_change fault result is silent
-    performs_well (spec.task_done answer store left between reaches does closes prints nothing) =
-        prints_well written answer result (of_task Clean Represents store left answer job.task does) prints
-    performs_well (spec.handed_over visit words answer reaches handed prints nothing) =
-        prints_well written answer result (of_handing Gives visit _ words answer handed) prints
-    performs_well (spec.server_done service store left between is opens serves follows announces closes) = of_server service.port written result announces
-    performs_well (spec.no_door service fault store between serves opens closes is silent nothing) = of_opening written.no_change fault result is silent
+-- ---- work
 
-    -- what isn't a server's task notes nothing, whatever a log would note
-    pub notes_nothing : ((service : Service) → job.task ≡ Serve service → ⊥) → Noted []
-        → Performs Opens Reaches Gives Closes Clean Represents Fails job old new written (λ turns. turns ≡ []) result
-        → Performs Opens Reaches Gives Closes Clean Represents Fails job old new written Noted result
-    notes_nothing none noted (spec.out_of_memory memory same silent nothing) = spec.out_of_memory memory same silent noted
-    notes_nothing none noted (spec.not_opened fault opens is silent nothing) = spec.not_opened fault opens is silent noted
-    notes_nothing none noted (spec.not_reached fault reaches is silent nothing) = spec.not_reached fault reaches is silent noted
-    notes_nothing none noted (spec.task_done answer store left between reaches does closes prints nothing) =
-        spec.task_done answer store left between reaches does closes prints noted
-    notes_nothing none noted (spec.handed_over visit words answer reaches handed prints nothing) =
-        spec.handed_over visit words answer reaches handed prints noted
-    notes_nothing none noted (spec.server_done service store left between is opens serves follows announces closes) = absurd (none service is)
-    notes_nothing none noted (spec.no_door service fault store between serves opens closes is silent nothing) = absurd (none service serves)
+module _ {D S R V : Type 0} (databases : DatabasesWords D S R V) (visits : VisitWords V) (stores : StoreWords S) (file : Text) (old new : D)
+    (written : Output) (result : Result Unit Fault) where
+  pub performs_well : (words : List Text) (task : Task) → Performs databases visits stores words file task old new written result
+      → EndsWork written.no_change result
+  performs_well words task (spec.not_reached fault reaches is kept) = not_opened written.no_change fault result is kept
+  performs_well words task (spec.task_done answer store left between reaches does closes prints) =
+      prints_well written answer result (of_task stores.disk_is_clean stores.represents store left answer task does) prints
+  performs_well words task (spec.handed_over answer visit reaches handing prints) =
+      prints_well written answer result (of_handing visits.gives visit _ words answer handing) prints
+
+  pub serves_well : (service : Service) (Noted : List Turn → Type 0) → Serves databases visits stores file service old new written Noted result
+      → EndsWork written.no_change result
+  serves_well service Noted (spec.not_opened fault opens is kept nothing) = not_opened written.no_change fault result is kept
+  serves_well service Noted (spec.no_door fault store between opens closes is kept nothing) = not_opened written.no_change fault result is kept
+  serves_well service Noted (spec.server_done store left between opens serves follows announces closes) =
+      announces_well service.port written result announces

@@ -7,4 +7,3 @@ pub mod OfficeDesk
 pub mod Machine
 pub mod Input
 pub mod Run
-pub mod ByTraits

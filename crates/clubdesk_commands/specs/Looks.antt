@@ -5,6 +5,7 @@ use Rattle.club_core.specs.Club.{Club}
 use Rattle.club_core.specs.Store.{KeepsClub}
 use Rattle.club_gate.specs.Looks.{IsUnshown, account_look, slot_look}
 use Rattle.club_gate.specs.declared.fault.Fault.{Fault as DeskFault}
+use Rattle.club_clock.specs.Moments.{GivesMoment}
 use Rattle.club_clock.specs.Zone.{IsShown}
 use Rattle.clubdesk_commands.specs.Office.{GivesText}
 use Rattle.clubdesk_arguments.specs.declared.clock.Clock.{Clock}
@@ -16,6 +17,10 @@ use Rattle.clubdesk_arguments.specs.declared.fault.Fault.TheVariants.{ClockOutOf
 abbrev pub IsMomentOf : Clock → Option ℕ → Type 0
 IsMomentOf (Fixed moment) shown = shown ≡ Some moment
 IsMomentOf (InZone rule) shown = ((instant : ℤ) × IsShown rule instant shown) ⊎ (shown ≡ None)
+
+-- the same as a source of moments, which stays the same
+abbrev pub showing : GivesMoment Clock
+showing clock shown next = IsMomentOf clock shown × (next ≡ clock)
 
 -- what a look at a club gives: its text; or there is none, or memory or storage was refused
 abbrev pub GivesLook : Option (List ℕ) → Result (List ℕ) DeskFault → Type 0

@@ -23,9 +23,15 @@ order_bytes root words = piece (decimal (length words)) ++ (piece root ++ pieces
 abbrev pub IsWord : Text → Type 0
 IsWord text = IsUtf8 text × LacksByte 0 text
 
+-- The bytes are those of the order with this root and these words.
+pub record IsOrder (bytes : List ℕ) (root : Text) (words : List Text) : Type 0 where
+  pub spelled : bytes ≡ order_bytes root words
+  pub root_word : IsWord root
+  pub all_words : AllByRecursion IsWord words
+
 -- the bytes are those of no order
 abbrev pub SpellsNoOrder : List ℕ → Type 0
-SpellsNoOrder bytes = (root : Text) (words : List Text) → IsWord root → AllByRecursion IsWord words → bytes ≢ order_bytes root words
+SpellsNoOrder bytes = (root : Text) (words : List Text) → IsOrder bytes root words → ⊥
 
 -- the bytes are those of no words
 abbrev pub SpellsNoWords : List ℕ → Type 0
@@ -37,5 +43,5 @@ AreSoMany bytes many = (words : List Text) → AllByRecursion IsWord words → b
 
 -- the bytes are those of the order; or of none
 abbrev pub IsOrderOf : List ℕ → Option Order → Type 0
-IsOrderOf bytes (Some order) = bytes ≡ order_bytes (string_bytes order.root) (map string_bytes order.words.items)
+IsOrderOf bytes (Some order) = IsOrder bytes (string_bytes order.root) (map string_bytes order.words.items)
 IsOrderOf bytes None = SpellsNoOrder bytes

@@ -3,6 +3,8 @@ use Rattle.std.specs.Prelude.{◌≡◌, ℕ, List, Option, Result, Ok, Err, Str
 use Rattle.std.specs.String.{string_bytes}
 use Rattle.std.specs.Io.KnownBytes.{Appends}
 use Rattle.command_line.specs.Output.{AppendsFront}
+use Rattle.desk_server.specs.Served.{AreNoted, Turn}
+use Rattle.desk_server.specs.declared.log.Log.{Ghosts as LogWords}
 use Rattle.clubdesk_arguments.specs.declared.fault.Fault.{Fault}
 use Rattle.clubdesk_arguments.specs.declared.fault.Fault.TheVariants.{InputOutput}
 
@@ -25,6 +27,14 @@ pub record Input : Type 1 where
 -- the input of a reader whose trait knows its bytes
 abbrev pub input : {R : Type 0} → (R → Option (List ℕ)) → R → R → Input
 input remaining old new = record { before = remaining old; after = remaining new; no_change = new ≡ old }
+
+-- a log before and after: what it notes of connections, and the statement that it is unchanged
+pub record LogChange : Type 1 where
+  pub notes : List Turn → Type 0
+  pub no_change : Type 0
+
+abbrev pub log_change : {L : Type 0} → LogWords L → L → L → LogChange
+log_change log old new = record { notes = λ turns. AreNoted log.begins log.notes old turns new; no_change = new ≡ old }
 
 -- the whole text was written, or, if the writer failed, a prefix of it
 abbrev pub WritesText : List ℕ → Output → Result Unit Fault → Type 0

@@ -4,6 +4,7 @@
 
 mod input;
 mod looks;
+mod moments;
 mod office;
 mod office_desk;
 mod order;
@@ -14,5 +15,5 @@ pub use looks::{show_account, show_slot};
 pub use office::{give_order, order_pass, show_sheet};
 pub use office_desk::OfficeDesk;
 pub use order::{Order, order_bytes, read_order};
-pub use program::{run, run_with_clock};
+pub use program::run;
 pub use server::{serve, serve_file};

@@ -5,8 +5,9 @@ ghost use Rattle.clubdesk_commands.specs.Looks as spec;
 ghost use Rattle.clubdesk_commands.specs.Office.{GivesText};
 ghost use Rattle.clubdesk_commands.specs.Output.{text_of};
 
+use crate::moments::MomentsOf;
 use crate::office::fault_of_desk;
-use club_clock::{ClockIn, Moments};
+use club_clock::Moments;
 use club_core::ClubStore;
 use club_gate::Desk;
 use club_values::{Moment, Name, Slot};
@@ -28,7 +29,7 @@ pub fn show_account<S: ClubStore, C: time::Clock>(
     ensures { spec.IsAccountShown S.disk_is_clean S.represents key.now clock.entry
         (text_of result) desk.old desk.new }
 {
-    match moment_of(machine, clock) {
+    match (MomentsOf { clock, machine }).now() {
         Some(moment) => show_account_at(desk, key, moment),
         None => Err(Fault::ClockOutOfRange),
     }
@@ -62,15 +63,5 @@ fn show_account_at<S: ClubStore>(
     match desk.show_account(key, moment) {
         Ok(text) => Ok(text),
         Err(fault) => Err(fault_of_desk(fault)),
-    }
-}
-
-// The moment that a clock shows; `None` where it shows none of the club's.
-fn moment_of<C: time::Clock>(machine: &C, clock: Clock<'_>) -> Option<Moment>
-    ensures { spec.IsMomentOf clock.entry result }
-{
-    match clock {
-        Clock::Fixed(moment) => Some(moment),
-        Clock::InZone(zone) => ClockIn::new(zone, machine).now(),
     }
 }

@@ -2,19 +2,18 @@
 
 ghost use Rattle.std.specs.Prelude.{◌≡◌, map, MatchOption, Err};
 ghost use Rattle.std.specs.String.{string_bytes};
-ghost use Rattle.clubdesk_commands.specs.Does.{Does, IsOffice};
 ghost use Rattle.clubdesk_commands.specs.OfficeDesk as spec;
 ghost use Rattle.clubdesk_commands.specs.OfficeDesk.{AnswersWith};
 ghost use Rattle.clubdesk_commands.specs.Output.{text_of};
 
-use crate::input::with_root_of;
+use crate::input::root_in;
 use crate::order::{Order, read_order};
-use crate::program::{carry_out, is_office};
+use crate::program::carry_out;
 use club_core::{ClubStore, Reply};
 use club_gate::Desk;
 use club_http::{Responder, Words};
 use club_values::Moment;
-use clubdesk_arguments::{Asked, Fault, Job, command_of};
+use clubdesk_arguments::{Asked, Fault, Job, Task, Work, command_of};
 use desk_server::{Answer, Carried, Office, RequestLine};
 use http_response::Line;
 use std::alloc::Global;
@@ -107,54 +106,25 @@ fn answer_order<S: ClubStore, C: Clock>(
     desk: &mut Desk<S>,
     order: &Order,
 ) -> Option<Result<String, Fault>>
-    ensures { MatchOption result ((desk.new ≡ desk.old) × spec.AskOther
-        (string_bytes order.now.root) (map string_bytes order.now.words.items))
+    ensures { MatchOption result
+        ((desk.new ≡ desk.old) × spec.AskOther (map string_bytes order.now.words.items))
         (λ answer. spec.DoesWords S.disk_is_clean S.represents (string_bytes order.now.root)
         (map string_bytes order.now.words.items) (text_of answer) desk.old desk.new) }
 {
-    match command_of(alloc, order.words.as_slice()) {
-        Ok(asked) => answer_asked(alloc, machine, desk, order.root.as_str(), asked),
-        Err(fault) => Some(Err(fault)),
-    }
-}
-
-// Does what words ask for, with the root that was read for them.
-fn answer_asked<S: ClubStore, C: Clock>(
-    alloc: Global,
-    machine: &C,
-    desk: &mut Desk<S>,
-    root: &str,
-    asked: Asked<'_>,
-) -> Option<Result<String, Fault>>
-    ensures { MatchOption result ((desk.new ≡ desk.old) × spec.AsksOther root.now asked.entry)
-        (λ answer. spec.DoesAsked S.disk_is_clean S.represents root.now asked.entry
-        (text_of answer) desk.old desk.new) }
-{
-    match asked {
-        Asked::ShowText(_text) => None,
-        Asked::Perform(job) => match with_root_of(root.as_bytes(), job) {
-            Ok(job) => perform(alloc, machine, desk, job),
-            Err(fault) => Some(Err(fault)),
+    let job = match command_of(alloc, order.words.as_slice()) {
+        Ok(Asked::Perform(job)) => job,
+        Ok(Asked::ShowText(_text)) => return None,
+        Err(fault) => return Some(Err(fault)),
+    };
+    let Job { file: _, work } = job;
+    match work {
+        Work::Office(task) => Some(carry_out(alloc, machine, desk, task)),
+        Work::Rootless(given) => match root_in(order.root.as_bytes()) {
+            Some(root) => Some(carry_out(alloc, machine, desk, Task::Key(given, root))),
+            None => Some(Err(Fault::BadValue)),
         },
+        Work::Serve(_service) => None,
     }
-}
-
-// Does a task that has its root; `None` if it isn't the office's.
-fn perform<S: ClubStore, C: Clock>(
-    alloc: Global,
-    machine: &C,
-    desk: &mut Desk<S>,
-    job: Job<'_>,
-) -> Option<Result<String, Fault>>
-    ensures { MatchOption result ((desk.new ≡ desk.old) × (IsOffice job.entry.task → ⊥))
-        (λ answer. IsOffice job.entry.task × Does S.disk_is_clean S.represents job.entry.task
-        (text_of answer) desk.old desk.new) }
-{
-    let Job { file: _, task } = job;
-    if !is_office(&task) {
-        return None;
-    }
-    Some(carry_out(alloc, machine, desk, task))
 }
 
 // The answer with this status and text. Only the name of a command is kept for a log.

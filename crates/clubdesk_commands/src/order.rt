@@ -1,6 +1,7 @@
 //! The bytes of an order, as its command hands them to a server.
 
 ghost use Rattle.std.specs.Prelude.{◌≡◌, ◌++◌, ◌∷◌, [], IfOk, MatchOption, OnOk, length, map};
+ghost use Rattle.std.specs.List.{AllByRecursion};
 ghost use Rattle.std.specs.String.{string_bytes};
 ghost use Rattle.clubdesk_commands.specs.Order as spec;
 
@@ -87,7 +88,8 @@ pub fn read_order(alloc: Global, bytes: &[u8]) -> Result<Option<Order>, AllocErr
 fn split_words(alloc: Global, text: &str) -> Result<Option<Vec<String>>, AllocError>
     ensures { IfOk result (λ words. MatchOption words (spec.SpellsNoWords text.now)
         (λ words. (text.now ≡ spec.pieces (map string_bytes words.items))
-        × spec.AreSoMany text.now (length words.items))) }
+        × spec.AreSoMany text.now (length words.items)
+        × AllByRecursion spec.IsWord (map string_bytes words.items))) }
 {
     let mut words = Vec::new(alloc);
     let mut rest = text;

@@ -1,22 +1,18 @@
 //! The server over a desk.
 
 ghost use Rattle.std.specs.Prelude.{◌≡◌, IfOk, MatchResult, false};
-ghost use Rattle.std.specs.String.{string_bytes};
 ghost use Rattle.desk_server.specs.Served.{AreNoted};
-ghost use Rattle.clubdesk_arguments.specs.declared.task.Task.TheVariants.{Serve};
-ghost use Rattle.clubdesk_commands.specs.ByTraits.{PerformsOver, log_change};
 ghost use Rattle.clubdesk_commands.specs.Output.{output};
 ghost use Rattle.clubdesk_commands.specs.Run as spec;
 
+use crate::moments::MomentsOf;
 use crate::office_desk::OfficeDesk;
-use club_clock::{ClockIn, Fixed, Moments};
 use club_http::Face;
-use clubdesk_arguments::{Clock, Fault, Service};
+use clubdesk_arguments::{Fault, Service};
 use command_line::write_text;
 use desk_server::{
-    Arrivals, ClockOutOfRange, Databases, Door, Listening, Log, Office, Unlogged, serve_logged,
+    ClockOutOfRange, Databases, Door, Listening, Log, Office, serve_logged, serve_on,
 };
-use std::alloc::{AllocError, Global};
 use std::io::Write;
 use std::net::TcpListener;
 use std::os::unix::net::UnixListener;
@@ -42,9 +38,9 @@ pub fn serve_file<C: time::Clock, D: Databases, W: Write, G: Log>(
     writer: &mut W,
     log: &mut G,
 ) -> Result<(), Fault>
-    ensures done { PerformsOver D.Databases D.Visit.Visit D.Store.ClubStore
-        (record { file = file.now; task = Serve service.entry }) databases.old databases.new
-        (output W.contents writer.old writer.new) (log_change G.Log log.old log.new).notes result }
+    ensures done { spec.Serves D.Databases D.Visit.Visit D.Store.ClubStore file.now service.entry
+        databases.old databases.new (output W.contents writer.old writer.new)
+        (λ turns. AreNoted G.begins G.notes log.old turns log.new) result }
     ensures unlogged { service.entry.log ≡ false → log.new ≡ log.old }
 {
     let store = match databases.open(file) {
@@ -101,18 +97,20 @@ pub fn serve<D: Office, C: time::Clock, W: Write, G: Log>(
         Ok(listening) => listening,
         Err(fault) => return Err(fault),
     };
-    if service.log {
-        serve_by(machine, &listener, door, service, &mut face, desk, log)
+    let Service {
+        port: _,
+        count,
+        clock,
+        patience,
+        log: logs,
+    } = service;
+    let patience = Duration::from_secs(u64::from(patience));
+    let mut arrivals = Listening::new(&listener, door, machine, patience);
+    let mut moments = MomentsOf { clock, machine };
+    if logs {
+        outcome_of(serve_logged(&mut arrivals, count, &mut moments, &mut face, desk, log))
     } else {
-        serve_by(
-            machine,
-            &listener,
-            door,
-            service,
-            &mut face,
-            desk,
-            &mut Unlogged,
-        )
+        outcome_of(serve_on(&mut arrivals, count, &mut moments, &mut face, desk))
     }
 }
 
@@ -127,30 +125,17 @@ fn listen<W: Write>(
         (spec.StopsBefore port (output W.contents writer.old writer.new)) }
 {
     let alloc = rt.alloc();
-    let (listener, bound) = match bind(rt, port) {
-        Ok(listening) => listening,
-        Err(_) => return Err(Fault::InputOutput),
+    let Ok((listener, port)) = bind(rt, port) else {
+        return Err(Fault::InputOutput);
     };
-    let face = match Face::new(alloc) {
-        Ok(face) => face,
-        Err(_) => return Err(Fault::Memory),
+    let Ok(face) = Face::new(alloc) else {
+        return Err(Fault::Memory);
     };
-    match announce(alloc, bound, writer) {
-        Ok(()) => Ok((listener, face)),
-        Err(fault) => Err(fault),
-    }
-}
-
-// Writes the line of a server that listens at this port.
-fn announce<W: Write>(alloc: Global, port: u16, writer: &mut W) -> Result<(), Fault>
-    ensures { spec.WritesLine port (output W.contents writer.old writer.new) result }
-{
-    let line = match line_of(alloc, port) {
-        Ok(line) => line,
-        Err(_) => return Err(Fault::Memory),
+    let Ok(line) = format!(in alloc; "listening on {LOOPBACK}:{port}\n") else {
+        return Err(Fault::Memory);
     };
     match write_text(writer, line.as_str()) {
-        Ok(()) => Ok(()),
+        Ok(()) => Ok((listener, face)),
         Err(_) => Err(Fault::InputOutput),
     }
 }
@@ -168,63 +153,11 @@ fn bind(rt: &HostRuntime, port: u16) -> io::Result<(TcpListener, u16)>
     Ok((listener, chosen))
 }
 
-// The line of a server that listens at this port.
-fn line_of(alloc: Global, port: u16) -> Result<String, AllocError>
-    ensures { IfOk result (λ line. string_bytes line ≡ spec.listening_line port) }
+// The program's outcome for a server's.
+fn outcome_of(outcome: Result<(), ClockOutOfRange>) -> Result<(), Fault>
+    ensures { result ≡ spec.outcome_of_server outcome }
 {
-    format!(in alloc; "listening on {LOOPBACK}:{port}\n")
-}
-
-// Serves the clients of a listener, and the orders of a door, by a clock.
-fn serve_by<D: Office, C: time::Clock, G: Log>(
-    machine: &C,
-    listener: &TcpListener,
-    door: Option<&UnixListener>,
-    service: Service<'_>,
-    face: &mut Face,
-    desk: &mut D,
-    log: &mut G,
-) -> Result<(), Fault>
-    ensures { spec.ServesAll (spec.showing service.entry.clock) D.answers D.orders
-        service.entry.count tt desk.old tt desk.new
-        (λ turns. AreNoted G.begins G.notes log.old turns log.new) result }
-{
-    let Service {
-        port: _,
-        count,
-        clock,
-        patience,
-        log: _,
-    } = service;
-    let patience = Duration::from_secs(u64::from(patience));
-    let mut arrivals = Listening::new(listener, door, machine, patience);
-    match clock {
-        Clock::Fixed(moment) => {
-            let mut moments = Fixed { moment };
-            serve_at(&mut arrivals, &mut moments, count, face, desk, log)
-        }
-        Clock::InZone(zone) => {
-            let mut moments = ClockIn::new(zone, machine);
-            serve_at(&mut arrivals, &mut moments, count, face, desk, log)
-        }
-    }
-}
-
-// Serves arrivals of which none has failed yet.
-fn serve_at<D: Office, L: Arrivals, M: Moments, G: Log>(
-    arrivals: &mut L,
-    moments: &mut M,
-    count: u32,
-    face: &mut Face,
-    desk: &mut D,
-    log: &mut G,
-) -> Result<(), Fault>
-    requires { L.failures arrivals.old ≡ 0 }
-    ensures { spec.ServesAll M.gives D.answers D.orders count
-        moments.old desk.old moments.new desk.new
-        (λ turns. AreNoted G.begins G.notes log.old turns log.new) result }
-{
-    match serve_logged(arrivals, count, moments, face, desk, log) {
+    match outcome {
         Ok(()) => Ok(()),
         Err(ClockOutOfRange) => Err(Fault::ClockOutOfRange),
     }

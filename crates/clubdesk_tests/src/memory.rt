@@ -6,7 +6,7 @@ use crate::terminal::{Input, NO_INPUT};
 use club_core::{ClubStore, StoreFault};
 use club_http::WriteOutlet;
 use club_store::Store;
-use clubdesk_commands::{run, run_with_clock};
+use clubdesk_commands::run;
 use desk_server::{Databases, Door, LogLines, Reached, Unlogged, Visit};
 use std::alloc::AllocError;
 use std::cell::Cell;
@@ -194,7 +194,7 @@ fn run_in<D: Databases>(
     let mut caller = Caller::new(rt, asked.requests, asked.room);
     let mut log = Vec::new(rt.alloc());
     let mut lines = LogLines::new(WriteOutlet::new(&mut log), machine);
-    let outcome = run_with_clock(
+    let outcome = run(
         rt,
         machine,
         databases,
@@ -380,6 +380,7 @@ fn watch_over<S: ClubStore + Drop>(
     let words = words.as_slice();
     let mut input = NO_INPUT;
     let outcome = run(
+        rt,
         rt,
         &mut databases,
         words,

@@ -145,7 +145,15 @@ fn run_over<D: Databases>(
     let mut log = Vec::new(rt.alloc());
     let mut lines = LogLines::new(WriteOutlet::new(&mut log), rt);
     let words = words.as_slice();
-    let outcome = run(rt, databases, words, &mut input, &mut caller, &mut lines);
+    let outcome = run(
+        rt,
+        rt,
+        databases,
+        words,
+        &mut input,
+        &mut caller,
+        &mut lines,
+    );
     Output::of(rt, &outcome, caller, log)
 }
 

@@ -13,6 +13,7 @@ abbrev pub invariant-loop-word : goal.invariant-loop-word
 invariant-loop-word l = record {
   text : shadow (Utf8 l.rest);
   before : l.fn.text ≡ pieces (map string_bytes l.words.items) ++ l.rest;
+  words : AllByRecursion IsWord (map string_bytes l.words.items);
   left : (words : List Text) → AllByRecursion IsWord words → l.fn.text ≡ pieces words → AreLeft l.rest (length l.words.items) (length words);
 }
 

@@ -9,12 +9,12 @@ returns-in-Err-clause-done g c = spec.not_opened c.in-Err.fault c.in-Err.ensures
 
 pub returns-in-Err-make_door-clause-done : goal.returns-in-Err-make_door-clause-done
 returns-in-Err-make_door-clause-done g c =
-    spec.no_door c.args.service c.in-Err-make_door.fault c.in-Ok.store c.open.new.self refl c.in-Ok.ensures c.close.ensures
+    spec.no_door c.in-Err-make_door.fault c.in-Ok.store c.open.new.self c.in-Ok.ensures c.close.ensures
     (ap Err c.from-in-Err-make_door.ensures) refl served.nothing
 
 pub returns-clause-done : goal.returns-clause-done
 returns-clause-done g c =
     let served = rw c.new-desk.ensures at c.serve-outcome.ensures.served in
-    spec.server_done c.args.service c.in-Ok.store c.serve-outcome.new.desk c.open.new.self refl c.in-Ok.ensures
+    spec.server_done c.in-Ok.store c.serve-outcome.new.desk c.open.new.self c.in-Ok.ensures
     served (follows_machine _ _ _ c.args.service _ _ _ c.serve-outcome.result served) c.serve-outcome.ensures.announced
     (rw c.into_store.ensures at c.close-2.ensures)
