@@ -1,7 +1,8 @@
 //! The reader of the JSON form.
 
-ghost use Rattle.std.specs.Prelude.{◌≡◌, length, IfErr, IfOk, Some};
-ghost use Rattle.pass_forms.specs.Reading.{IsReadAs, UnlessMemory};
+ghost use Rattle.std.specs.Prelude.{◌≡◌, ◌≤◌, length, Err, IfErr, IfOk, Some};
+ghost use Rattle.pass_forms.specs.declared.fault.FormFault.TheVariants.{Memory};
+ghost use Rattle.pass_forms.specs.Reading.{IsReadAs, UnlessMemory, max_text_len};
 ghost use Rattle.serde_json.specs.View.{view};
 ghost use Rattle.pass_json.specs.Json.{SpellsJson};
 ghost use Rattle.pass_json.specs.computed.JsonReading as reading;
@@ -20,12 +21,13 @@ use std::alloc::Global;
 ///
 /// The first that applies: `TooLong` for more than 8,192 bytes, `Malformed` if the bytes spell no
 /// pass, `ThirdParty` if a caveat is a third party's, `TooMany` for more than 64 caveats. `Memory`
-/// only if an allocation fails.
+/// only if an allocation fails, and only for bytes within the limit.
 pub fn read_json(alloc: Global, bytes: &[u8]) -> Result<Pass, FormFault>
     // The pass that the bytes spell.
     ensures spelling { UnlessMemory (IsReadAs (length bytes.now) (SpellsJson bytes.now)) result }
     // The same, computed.
     ensures computed { UnlessMemory (λ answer. reading.reading_json bytes.now ≡ answer) result }
+    ensures memory { result ≡ Err Memory → length bytes.now ≤ max_text_len }
 {
     reads_json_exactly();
     read_object(alloc, bytes)
@@ -34,7 +36,8 @@ pub fn read_json(alloc: Global, bytes: &[u8]) -> Result<Pass, FormFault>
 // The pass of an object, or the first fault that applies.
 #[tactic(auto, unfolding(crate::specs::computed::JsonReading::reading_json, crate::specs::computed::JsonReading::wide_json))]
 fn read_object(alloc: Global, bytes: &[u8]) -> Result<Pass, FormFault>
-    ensures { UnlessMemory (λ answer. reading.reading_json bytes.now ≡ answer) result }
+    ensures answer { UnlessMemory (λ answer. reading.reading_json bytes.now ≡ answer) result }
+    ensures memory { result ≡ Err Memory → length bytes.now ≤ max_text_len }
 {
     if bytes.len() > MAX_TEXT {
         return Err(FormFault::TooLong);

@@ -9,4 +9,4 @@ pub returns-clause-spelling : goal.returns-clause-spelling
 returns-clause-spelling c =
     let bytes = c.args.bytes.now in
     unless_memory (λ answer. reading_json bytes ≡ answer) (IsReadAs (length bytes) (SpellsJson bytes)) c.read_object.result
-    (λ answer e. (c.reads_json_exactly.ensures bytes answer).1 e) c.read_object.ensures
+    (λ answer e. (c.reads_json_exactly.ensures bytes answer).1 e) c.read_object.ensures.answer
