@@ -12,14 +12,11 @@ use Rattle.sqlite.specs.Table.{Table}
 use Rattle.sqlite.specs.Term.{Term, lit, col}
 use Rattle.sqlite.specs.Cast.{cast_row}
 use Rattle.sqlite.specs.Edit.{next_rowid}
-use Rattle.sqlite.specs.Source.TheVariants.{Values}
-use Rattle.sqlite.specs.Command.TheVariants.{InsertOr}
-use Rattle.sqlite_schema.specs.declared.command.Conflict.TheVariants.{Abort}
 use Rattle.sqlite_schema.specs.declared.command.Upsert.{Upsert}
 use Rattle.sqlite_rules.specs.Keys.{conflicts}
 use Rattle.sqlite.specs.Listing.{understood}
 use Rattle.sqlite.specs.State.{State, Executes}
-use Rattle.sqlite.proofs.Callers.{IsPlain, command_of}
+use Rattle.sqlite.proofs.Callers.{command_of}
 use Rattle.club_rows.specs.declared.key.OlderRoot.{OlderRoot}
 use Rattle.club_tables.specs.declared.texts.TheConstants.{PUT_OLDER_ROOT}
 use Rattle.club_tables.specs.Schema.{old_roots_table, club_schema}
@@ -31,7 +28,7 @@ use Rattle.club_tables.proofs.statements.InsertLemmas.{cast_null, cast_int}
 use Rattle.club_tables.proofs.queries.KeyLemmas.{and_true}
 use Rattle.club_tables.proofs.statements.HoldsRowsLemmas.{on_olders}
 use Rattle.club_tables.proofs.statements.UpdateLemmas.{each_of}
-use Rattle.club_tables.proofs.statements.PutLemmas.{first_clause, sets_by, row_put}
+use Rattle.club_tables.proofs.statements.PutLemmas.{PutsRow, first_clause, row_put}
 use Rattle.club_tables.proofs.lists.KeyedRows.{lone, by_put, put_once as once_put}
 use Rattle.club_tables.proofs.lists.PutRows.{put_among}
 use Rattle.club_tables.proofs.statements.SelectLemmas.{apart_from_pairs, text_equal}
@@ -57,22 +54,10 @@ put_sets = col 1 0 ∷ col 1 0 ∷ col 1 1 ∷ col 0 1 ∷ col 0 2 ∷ []
 abbrev put_clause : Upsert
 put_clause = first_clause (command_of (understood club_schema PUT_OLDER_ROOT.now))
 
-put_is : command_of (understood club_schema PUT_OLDER_ROOT.now) ≡ InsertOr 6 Abort (Values put_terms 4) (put_clause ∷ [])
+put_puts : PutsRow old_roots_table.name old_roots_table.columns old_roots_table.uniques old_roots_table.checks old_roots_table.references olders_tree target 6
+    PUT_OLDER_ROOT.now put_terms put_sets 4 3 put_clause
 unfolding understood everything
-put_is = refl
-
-put_target : put_clause.target ≡ target
-unfolding understood everything
-put_target = refl
-
-put_update : put_clause.update ≡ sets_by old_roots_table.name old_roots_table.columns old_roots_table.uniques old_roots_table.checks old_roots_table.references
-    olders_tree target 3 put_sets
-unfolding understood everything
-put_update = refl
-
-put_plain : IsPlain (understood club_schema PUT_OLDER_ROOT.now)
-unfolding understood everything
-put_plain = (refl, refl)
+put_puts = record { is = refl; plain = (refl, refl); aims = refl; by = refl }
 
 same_names : (a b : List ℕ) → bytes_eq a b ≡ true → a ≡ b
 same_names a b same = (bytes_eq-Decides a b).0 same
@@ -116,8 +101,7 @@ pub older_represents : (old new : State) (rows : Rows) → HoldsRows old.now row
 older_represents old new rows holds_rows once key older count executed =
     let params = Text key ∷ older_root_values older in
     let t = old_roots_table in
-    let put = row_put t.name t.columns t.uniques t.checks t.references olders_tree target 6 refl PUT_OLDER_ROOT.now put_terms put_sets 4 3 put_clause put_is
-    put_plain put_target put_update old new holds_rows.schema params params refl
+    let put = row_put t.name t.columns t.uniques t.checks t.references olders_tree target 6 refl PUT_OLDER_ROOT.now put_terms put_sets 4 3 put_clause put_puts old new holds_rows.schema params params refl
     (rw (cast_null, cast_int (pos older.until)) refl) (λ id. rw (cast_int id, cast_int (pos older.until)) refl)
     older_values (is_of key older) (renewed key older) (unchanged key older) (record { key = key; older = older }) (λ id row.
     olders_conflict id (next_rowid (old.now.trees olders_tree)) row key older) (casts key older) rows.olders holds_rows.held.olders

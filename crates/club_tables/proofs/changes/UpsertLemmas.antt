@@ -12,11 +12,7 @@ use Rattle.sqlite_sql.specs.Ops.{binary}
 use Rattle.sqlite.specs.Order.{Row, column}
 use Rattle.sqlite.specs.Tree.{rowid}
 use Rattle.sqlite.specs.Term.{Term, lit, col, op2, eval_all}
-use Rattle.sqlite.specs.Source.TheVariants.{Values}
-use Rattle.sqlite.specs.Command.TheVariants.{InsertOr}
-use Rattle.sqlite_schema.specs.declared.command.Conflict.TheVariants.{Abort}
 use Rattle.sqlite_schema.specs.declared.command.Upsert.{Upsert}
-use Rattle.sqlite_schema.specs.declared.program.Program.{Program}
 use Rattle.sqlite.specs.Kind.TheVariants.{Integer}
 use Rattle.sqlite.specs.Cast.{cast}
 use Rattle.sqlite.specs.Edit.{next_rowid}
@@ -24,7 +20,7 @@ use Rattle.sqlite.specs.Rows.{shown}
 use Rattle.sqlite.specs.Effect.{value_rows}
 use Rattle.sqlite.specs.State.{State, Executes}
 use Rattle.sqlite.specs.Listing.{understood}
-use Rattle.sqlite.proofs.Callers.{IsPlain, command_of}
+use Rattle.sqlite.proofs.Callers.{command_of}
 use Rattle.club_values.specs.declared.slot.Slot.{Slot}
 use Rattle.club_rows.specs.Booking.{same_slot}
 use Rattle.club_rows.specs.Columns.{truth}
@@ -39,22 +35,20 @@ use Rattle.club_tables.proofs.statements.HoldsRowsLemmas.{on_slots}
 use Rattle.club_tables.proofs.statements.SelectLemmas.{apart_from_pairs}
 use Rattle.club_tables.proofs.queries.BookingLemmas.{same_slots}
 use Rattle.club_tables.proofs.statements.UpdateLemmas.{each_of}
-use Rattle.club_tables.proofs.statements.PutLemmas as put
-use Rattle.club_tables.proofs.statements.PutLemmas.{first_clause, row_put}
+use Rattle.club_tables.proofs.statements.PutLemmas.{PutsRow, first_clause, row_put}
 use Rattle.club_tables.proofs.lists.KeyedRows.{lone}
 use Rattle.club_tables.proofs.lists.SlotRows.{slots_conflict, slot_table, same_itself, changed, unchanged, put_slot, new_row as new_row_of}
 
 abbrev target : Option (List ℕ)
 target = Some (1 ∷ 2 ∷ 3 ∷ [])
 
-abbrev sets_by : ℕ → List Term → Option Program
-sets_by = put.sets_by slots_table.name slots_table.columns slots_table.uniques slots_table.checks slots_table.references slots_tree target
+abbrev PutsSlot : List ℕ → List Term → List Term → ℕ → Upsert → Type 0
+PutsSlot text terms sets at clause =
+    PutsRow slots_table.name slots_table.columns slots_table.uniques slots_table.checks slots_table.references slots_tree target 4 text terms sets 6 at clause
 
 -- ---- a statement of this form
 
-module _ (text : List ℕ) (terms sets : List Term) (at : ℕ) (clause : Upsert) (is : command_of (understood club_schema text)
-    ≡ InsertOr 4 Abort (Values terms 6) (clause ∷ [])) (plain : IsPlain (understood club_schema text))
-    (aims : clause.target ≡ target) (by : clause.update ≡ sets_by at sets)
+module _ (text : List ℕ) (terms sets : List Term) (at : ℕ) (clause : Upsert) (puts : PutsSlot text terms sets at clause)
     (old new : State) (rows : Rows) (holds_rows : HoldsRows old.now rows) (once : AllPairs (λ (a : SlotRow) (b : SlotRow). a.slot ≢ b.slot) rows.slots)
     (slot : Slot)
     (params : Row) (closed taken : Value)
@@ -87,7 +81,7 @@ module _ (text : List ℕ) (terms sets : List Term) (at : ℕ) (clause : Upsert)
       → HoldsRows new.now (record rows { slots = put_slot slot change rows.slots }) × (1 ≤ count)
   slot_put values ids yields count executed =
       let t = slots_table in
-      let left = row_put t.name t.columns t.uniques t.checks t.references slots_tree target 4 refl text terms sets 6 at clause is plain aims by old new
+      let left = row_put t.name t.columns t.uniques t.checks t.references slots_tree target 4 refl text terms sets 6 at clause puts old new
       holds_rows.schema params (name_values slot ++ closed ∷ taken ∷ []) gives
       (rw (cast_null, cast_int (pos slot.day), cast_int (pos slot.hour), casts_closed, casts_taken) refl) (λ id.
       rw (cast_int id, cast_int (pos slot.day), cast_int (pos slot.hour), casts_closed, casts_taken) refl)
@@ -109,21 +103,9 @@ close_sets = col 1 0 ∷ col 1 0 ∷ col 1 1 ∷ col 1 2 ∷ col 1 3 ∷ lit (In
 abbrev close_clause : Upsert
 close_clause = first_clause (command_of (understood club_schema CLOSE_SLOT.now))
 
-close_is : command_of (understood club_schema CLOSE_SLOT.now) ≡ InsertOr 4 Abort (Values close_terms 6) (close_clause ∷ [])
+close_puts : PutsSlot CLOSE_SLOT.now close_terms close_sets 3 close_clause
 unfolding understood everything
-close_is = refl
-
-close_target : close_clause.target ≡ target
-unfolding understood everything
-close_target = refl
-
-close_update : close_clause.update ≡ sets_by 3 close_sets
-unfolding understood everything
-close_update = refl
-
-close_plain : IsPlain (understood club_schema CLOSE_SLOT.now)
-unfolding understood everything
-close_plain = (refl, refl)
+close_puts = record { is = refl; plain = (refl, refl); aims = refl; by = refl }
 
 abbrev pub close_use : SlotUse → SlotUse
 close_use held = record held { closed = true }
@@ -133,7 +115,7 @@ pub slot_closed : (old new : State) (rows : Rows) → HoldsRows old.now rows →
     → Executes CLOSE_SLOT.now (name_values slot) old new (Ok count) → HoldsRows new.now (record rows { slots = put_slot slot close_use rows.slots }) ×
     (1 ≤ count)
 slot_closed old new rows holds_rows once slot count executed =
-    slot_put CLOSE_SLOT.now close_terms close_sets 3 close_clause close_is close_plain close_target close_update old new rows holds_rows once slot
+    slot_put CLOSE_SLOT.now close_terms close_sets 3 close_clause close_puts old new rows holds_rows once slot
     (name_values slot)
     (whole 1) (whole 0) refl (cast_int (pos 1)) (cast_int (pos 0))
     close_use (λ _. refl) (λ there. refl) (each_of _ (λ x id there same. refl) rows.slots) count executed
@@ -149,21 +131,9 @@ taken_sets = col 1 0 ∷ col 1 0 ∷ col 1 1 ∷ col 1 2 ∷ col 1 3 ∷ col 1 4
 abbrev taken_clause : Upsert
 taken_clause = first_clause (command_of (understood club_schema ADD_TAKEN.now))
 
-taken_is : command_of (understood club_schema ADD_TAKEN.now) ≡ InsertOr 4 Abort (Values taken_terms 6) (taken_clause ∷ [])
+taken_puts : PutsSlot ADD_TAKEN.now taken_terms taken_sets 4 taken_clause
 unfolding understood everything
-taken_is = refl
-
-taken_target : taken_clause.target ≡ target
-unfolding understood everything
-taken_target = refl
-
-taken_update : taken_clause.update ≡ sets_by 4 taken_sets
-unfolding understood everything
-taken_update = refl
-
-taken_plain : IsPlain (understood club_schema ADD_TAKEN.now)
-unfolding understood everything
-taken_plain = (refl, refl)
+taken_puts = record { is = refl; plain = (refl, refl); aims = refl; by = refl }
 
 abbrev pub take_use : (ℕ → ℕ) → SlotUse → SlotUse
 take_use next held = record held { taken = next held.taken }
@@ -189,7 +159,7 @@ pub slot_taken : (old new : State) (rows : Rows) → HoldsRows old.now rows → 
     → Executes ADD_TAKEN.now (name_values slot ++ Int persons ∷ []) old new (Ok count)
     → HoldsRows new.now (record rows { slots = put_slot slot (take_use next) rows.slots }) × (1 ≤ count)
 slot_taken old new rows holds_rows once slot persons next sums fresh count executed =
-    slot_put ADD_TAKEN.now taken_terms taken_sets 4 taken_clause taken_is taken_plain taken_target taken_update old new rows holds_rows once slot
+    slot_put ADD_TAKEN.now taken_terms taken_sets 4 taken_clause taken_puts old new rows holds_rows once slot
     (name_values slot
     ++ Int persons ∷ []) (whole 0) (Int persons) refl (cast_int (pos 0)) (cast_int persons)
     (take_use next) (λ none. ap (λ n. whole 0 ∷ Int n ∷ []) (fresh none)) (λ there.

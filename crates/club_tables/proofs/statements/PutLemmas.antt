@@ -68,6 +68,13 @@ module _ (name : List ℕ) (columns : List Column) (keys : List (List ℕ)) (che
     abbrev pub sets_by : ℕ → List Term → Option Program
     sets_by at sets = Some (record { lets = []; body = select (inner tree end) (is_there at ∷ []) sets })
 
+    -- the text puts a row of these terms, and its clause sets the row that it meets
+    pub record PutsRow (at : ℕ) (text : List ℕ) (terms sets : List Term) (width there_at : ℕ) (clause : Upsert) : Type 0 where
+      pub is : command_of (understood club_schema text) ≡ InsertOr at Abort (Values terms width) (clause ∷ [])
+      pub plain : IsPlain (understood club_schema text)
+      pub aims : clause.target ≡ target
+      pub by : clause.update ≡ sets_by there_at sets
+
     abbrev hit : Row → Row → Bool
     hit new row = conflicts target club_schema.indexes table new row
 
@@ -176,8 +183,7 @@ module _ (name : List ℕ) (columns : List Column) (keys : List (List ℕ)) (che
     -- ---- a statement of this form
 
     module _ (at : ℕ) (listed : slice_get club_schema.tables at ≡ Some table) (text : List ℕ) (terms sets : List Term) (width there_at : ℕ) (clause : Upsert)
-        (is : command_of (understood club_schema text) ≡ InsertOr at Abort (Values terms width) (clause ∷ [])) (plain : IsPlain (understood club_schema text))
-        (aims : clause.target ≡ target) (by : clause.update ≡ sets_by there_at sets)
+        (puts : PutsRow at text terms sets width there_at clause)
         (old new : State) (has : old.now.schema ≡ club_schema) (params source : Row) (gives : value_rows params width (length terms / width) terms
         ≡ (Null ∷ source) ∷ [])
         (casts_source : cast_row table (Null ∷ source) ≡ Null ∷ source) (casts_new : (id : ℤ) → cast_row table (Int id ∷ source) ≡ Int id ∷ source) where
@@ -202,7 +208,7 @@ module _ (name : List ℕ) (columns : List Column) (keys : List (List ℕ)) (che
       ran : (count : ℕ) → Executes text params old new (Ok count) → Ran count
       ran count h =
           let command = InsertOr at Abort (Values terms width) (clause ∷ []) in
-          let w = runs_as text params old new club_schema has command is plain count h in
+          let w = runs_as text params old new club_schema has command puts.is puts.plain count h in
           let statement = statement_of text (understood club_schema text) in
           let does = subst (λ s. Does old.step_limit (mode_of old) params (record old.now { schema = s }) statement None command (Ok (w.tally, new.now))) has
           w.changed in
@@ -246,7 +252,7 @@ module _ (name : List ℕ) (columns : List Column) (keys : List (List ℕ)) (che
         put_new : source ≡ values first → list_any p xs ≡ false → (count : ℕ) (it : Ran count) → (left : List Row) × Leaves db new.now.trees left
             × Holds values left (xs ++ first ∷ []) × (1 ≤ count)
         put_new same none count it =
-            let left = made old.step_limit params new_row db it.one clause (casts_new (next_rowid (db tree))) aims
+            let left = made old.step_limit params new_row db it.one clause (casts_new (next_rowid (db tree))) puts.aims
             (meets_none values p (hit new_row) hit_is (db tree) xs held.same none) it.meets in
             let as_row : new_row ≡ Int (next_rowid (db tree)) ∷ values first = ap (λ vs. Int (next_rowid (db tree)) ∷ vs) same in (
               _,
@@ -272,7 +278,7 @@ module _ (name : List ℕ) (columns : List Column) (keys : List (List ℕ)) (che
         put_old ids yields any count it =
             let q : Program = record { lets = []; body = select (inner tree end) (is_there there_at ∷ []) sets } in
             let one = meets_one values p (hit new_row) hit_is (db tree) xs held.same any in
-            let up = updated old.step_limit params new_row db it.one clause q aims by one.0 one.1 one.2 it.meets in
+            let up = updated old.step_limit params new_row db it.one clause q puts.aims puts.by one.0 one.1 one.2 it.meets in
             let there = up.0 in
             let place = met_at values p (hit new_row) hit_is (db tree) xs held.same up.1 up.2 up.3 in
             let id_is : rowid there ≡ Int place.0 = up.4 ∙ place.1 in
