@@ -44,10 +44,12 @@ pub member_put : (old new : State) (rows : Rows) → HoldsRows old.now rows → 
     → Executes ADD_MEMBER.now (Text member.name ∷ whole member.credited ∷ whole member.quota ∷ []) old new (Ok count)
     → HoldsRows new.now (record rows { members = rows.members ++ (new_row member) ∷ [] }) × (1 ≤ count)
 member_put old new rows holds_rows member count ran =
-    let put = inserts member_means member_table refl refl refl (λ row. refl) old new holds_rows.schema (Text member.name ∷ whole member.credited ∷ whole member.quota ∷ []) (member_values (new_row member)) refl
+    let put = inserts member_means member_table refl refl refl (λ row. refl) old new holds_rows.schema
+    (Text member.name ∷ whole member.credited ∷ whole member.quota ∷ []) (member_values (new_row member)) refl
     (rw (cast_null, cast_int (pos member.credited), cast_int (pos member.quota), cast_int (pos 0))) count ran in (
       on_members holds_rows put.0
-          (subst (λ rs. Holds member_values rs (rows.members ++ new_row member ∷ [])) (sym put.1) (holds_more member_values _ rows.members (new_row member) holds_rows.held.members)),
+          (subst (λ rs. Holds member_values rs (rows.members ++ new_row member ∷ [])) (sym put.1)
+          (holds_more member_values _ rows.members (new_row member) holds_rows.held.members)),
       put.2,
     )
 
@@ -67,10 +69,12 @@ pub facility_put : (old new : State) (rows : Rows) → HoldsRows old.now rows �
     → Executes ADD_FACILITY.now (facility_values facility) old new (Ok count)
     → HoldsRows new.now (record rows { facilities = rows.facilities ++ facility ∷ [] }) × (1 ≤ count)
 facility_put old new rows holds_rows facility count ran =
-    let put = inserts facility_means facility_table refl refl refl (λ row. refl) old new holds_rows.schema (facility_values facility) (facility_values facility) refl
+    let put = inserts facility_means facility_table refl refl refl (λ row. refl) old new holds_rows.schema (facility_values facility)
+    (facility_values facility) refl
     (rw (cast_null, cast_int (pos facility.places), cast_int (pos facility.price), cast_int (pos facility.opens), cast_int (pos facility.shuts))) count ran in (
       on_facilities holds_rows put.0
-          (subst (λ rs. Holds facility_values rs (rows.facilities ++ facility ∷ [])) (sym put.1) (holds_more facility_values _ rows.facilities facility holds_rows.held.facilities)),
+          (subst (λ rs. Holds facility_values rs (rows.facilities ++ facility ∷ [])) (sym put.1)
+          (holds_more facility_values _ rows.facilities facility holds_rows.held.facilities)),
       put.2,
     )
 
@@ -125,6 +129,7 @@ booking_put old new rows holds_rows booking count ran =
       cast_int (pos booking.refund),
     )) count ran in (
       on_bookings holds_rows put.0
-          (subst (λ rs. Holds booking_values rs (rows.bookings ++ booking ∷ [])) (sym put.1) (holds_more booking_values _ rows.bookings booking holds_rows.held.bookings)),
+          (subst (λ rs. Holds booking_values rs (rows.bookings ++ booking ∷ [])) (sym put.1)
+          (holds_more booking_values _ rows.bookings booking holds_rows.held.bookings)),
       put.2,
     )

@@ -55,11 +55,13 @@ module _ {S : Type 0} (g : Ghosts S) (old : Held S) (db : Database) (club : Club
       let within = all_mapped IsMember (credited_member name points) club.members
       (all_of IsMember (map (credited_member name points) club.members) fits.sound.rows.members) in
       let sums = subst (AllByRecursion (Credits name points)) (sym tables.storage.members) (credits_of club name points club.members within) in
-      left_by fits t.mid t.left (member_credited (state g (transaction_start old)) (state g t.mid) tables.rows tables.holds_rows name points t.count t.ran (named_once club tables.rows.members tables.storage.members tables.sound) sums)
+      left_by fits t.mid t.left (member_credited (state g (transaction_start old)) (state g t.mid) tables.rows tables.holds_rows name points t.count t.ran
+      (named_once club tables.rows.members tables.storage.members tables.sound) sums)
       (credit_stored club tables.rows tables.storage name points)
   made (MarkRevoked name) fits ran =
       let t = one_turn g old db _ ran in
-      left_by fits t.mid t.left (key_revoked (state g (transaction_start old)) (state g t.mid) tables.rows tables.holds_rows name t.count t.ran (keys_once g old db club tables))
+      left_by fits t.mid t.left (key_revoked (state g (transaction_start old)) (state g t.mid) tables.rows tables.holds_rows name t.count t.ran
+      (keys_once g old db club tables))
       (revoke_stored club tables.rows tables.storage name)
   made (ReplaceRoot name was root until) fits ran =
       let t1 = ran.turns in
@@ -67,11 +69,13 @@ module _ {S : Type 0} (g : Ghosts S) (old : Held S) (db : Database) (club : Club
       let put = older_represents (state g (transaction_start old)) (state g t1.0) tables.rows tables.holds_rows tables.storage.olders_once name
       (good_until until was) t1.1 t1.2 in
       let mid : Rows = record tables.rows { olders = put_older name (good_until until was) tables.rows.olders } in
-      left_by fits t2.0 (ran.is ∙ ap (λ h. (state g h).now) t2.3) (root_set (state g t1.0) (state g t2.0) mid put.0 (keys_once g old db club tables) name root was t2.1 t2.2 t2.4 until)
+      left_by fits t2.0 (ran.is ∙ ap (λ h. (state g h).now) t2.3)
+      (root_set (state g t1.0) (state g t2.0) mid put.0 (keys_once g old db club tables) name root was t2.1 t2.2 t2.4 until)
       (rotate_stored club tables.rows tables.storage name root was until fits.carries)
   made (MarkClosed slot) fits ran =
       let t = one_turn g old db _ ran in
-      left_by fits t.mid t.left ((slot_closed (state g (transaction_start old)) (state g t.mid) tables.rows tables.holds_rows tables.storage.once slot t.count t.ran).0)
+      left_by fits t.mid t.left
+      ((slot_closed (state g (transaction_start old)) (state g t.mid) tables.rows tables.holds_rows tables.storage.once slot t.count t.ran).0)
       (close_stored club tables.rows tables.storage slot)
   made (InsertBooking booking member) fits ran =
       let t1 = ran.turns in

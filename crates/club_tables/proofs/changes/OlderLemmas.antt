@@ -101,11 +101,13 @@ pub older_represents : (old new : State) (rows : Rows) → HoldsRows old.now row
 older_represents old new rows holds_rows once key older count executed =
     let params = Text key ∷ older_root_values older in
     let t = old_roots_table in
-    let put = row_put t.name t.columns t.uniques t.checks t.references olders_tree target 6 refl PUT_OLDER_ROOT.now put_terms put_sets 4 3 put_clause put_puts old new holds_rows.schema params params refl
+    let put = row_put t.name t.columns t.uniques t.checks t.references olders_tree target 6 refl PUT_OLDER_ROOT.now put_terms put_sets 4 3 put_clause
+    put_puts old new holds_rows.schema params params refl
     (rw (cast_null, cast_int (pos older.until)) refl) (λ id. rw (cast_int id, cast_int (pos older.until)) refl)
     older_values (is_of key older) (renewed key older) (unchanged key older) (record { key = key; older = older }) (λ id row.
     olders_conflict id (next_rowid (old.now.trees olders_tree)) row key older) (casts key older) rows.olders holds_rows.held.olders
-    (lone (λ (row : OlderRow). row.key) bytes_eq same_names itself key rows.olders (apart_from_pairs (λ (a : OlderRow) (b : OlderRow). a.key ≢ b.key) rows.olders once))
+    (lone (λ (row : OlderRow). row.key) bytes_eq same_names itself key rows.olders
+    (apart_from_pairs (λ (a : OlderRow) (b : OlderRow). a.key ≢ b.key) rows.olders once))
     (λ _. refl) (λ there. refl) (each_of _ (λ x id there passes.
     ap (λ b. Int id ∷ Int id ∷ Text x.key ∷ older_root_values (if b then older else x.older)) (sym passes)) rows.olders) count executed in
     (on_olders holds_rows put.0 put.1, put.2)

@@ -88,7 +88,8 @@ module _ (text : List ℕ) (terms sets : List Term) (at : ℕ) (clause : Upsert)
       slot_values (λ (row : SlotRow). same_slot row.slot slot) (changed slot change) (unchanged slot change) (new_row_of slot change) (λ id x.
       slots_conflict id (next_rowid (old.now.trees slots_tree)) x slot closed taken)
       (λ id x. rw (cast_int id, cast_int (pos x.slot.day), cast_int (pos x.slot.hour), cast_int (pos (truth x.held.closed)), cast_int (pos x.held.taken)) refl)
-      rows.slots holds_rows.held.slots (lone (λ (row : SlotRow). row.slot) same_slot same_slots same_itself slot rows.slots (apart_from_pairs (λ (a : SlotRow) (b : SlotRow). a.slot ≢ b.slot) rows.slots once))
+      rows.slots holds_rows.held.slots (lone (λ (row : SlotRow). row.slot) same_slot same_slots same_itself slot rows.slots
+      (apart_from_pairs (λ (a : SlotRow) (b : SlotRow). a.slot ≢ b.slot) rows.slots once))
       (λ none. ap (λ vs. name_values slot ++ vs) (values none)) ids (each_yields rows.slots yields) count executed in
       (on_slots holds_rows left.0 left.1, left.2)
 

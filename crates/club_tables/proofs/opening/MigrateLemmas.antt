@@ -64,7 +64,9 @@ module _ {S : Type 0} (g : Ghosts S) (old : Held S) (db : Database) (ran : Ran g
       let two = changes_one found (λ _. true) (refl, tt) (λ _. 2) (λ n fails. absurd cc) (λ _. Unit {0}) (tt, tt) (λ id n _ passes. refl)
       (λ id n. rw (cast_int id, cast_int (pos n)) refl) (omega arith) in
       let k = trees_kept {new = but desk_tree mid.trees next.trees} (others_kept desk_tree mid.trees next.trees club_schema.tables put.wrote.others) was in
-      let left : HoldsRows next rows = record { schema = put.wrote.schema; database = put.wrote.sound; held = record { version = two; members = k.members; facilities = k.facilities; keys = k.keys; slots = k.slots; bookings = k.bookings; olders = k.olders } } in
+      let held : HoldsTrees 2 next.trees rows =
+      record { version = two; members = k.members; facilities = k.facilities; keys = k.keys; slots = k.slots; bookings = k.bookings; olders = k.olders } in
+      let left : HoldsRows next rows = record { schema = put.wrote.schema; held = held; database = put.wrote.sound } in
       subst (λ (d : Database). HoldsRows d rows) (sym is) left
 
   pub migrated_tables : (club : Club) → HoldsClubVersion1 (state g old).now club → HoldsClub db club

@@ -1,5 +1,6 @@
 -- Rows that are asked for by slot, by key and number, and by key.
-use Rattle.std.proofs.Common.{◌≡◌, ◌≢◌, ◌≤◌, ℕ, pos, Bool, true, false, not, ◌&&◌, ◌==◌, Option, Some, None, inl, inr, List, length, [], ◌∷◌, map, codes, refl, sym, ap}
+use Rattle.std.proofs.Common.{◌≡◌, ◌≢◌, ◌≤◌, ℕ, pos, Bool, true, false, not, ◌&&◌, ◌==◌, Option, Some, None, inl, inr, List, length, [], ◌∷◌, map}
+use Rattle.std.proofs.Common.{codes, refl, sym, ap}
 use Rattle.std.proofs.Common.{◌∙◌}
 use Rattle.std.specs.Prelude.{AllPairs, filter, option_map, unwrap_or, IsPermutation}
 use Rattle.std.specs.Option.{option_to_list}

@@ -12,7 +12,7 @@ use Rattle.club_rows.specs.declared.key.Key.{Key}
 use Rattle.club_rows.specs.declared.booking.Booking.{Booking}
 use Rattle.club_tables.specs.declared.row.MemberRow.{MemberRow}
 use Rattle.club_tables.specs.Stored.{Rows, SlotRow, OlderRow}
-use Rattle.club_tables.specs.Tables.{Holds, HoldsTrees, HoldsRows, members_tree, facilities_tree, keys_tree, slots_tree, bookings_tree, olders_tree}
+use Rattle.club_tables.specs.Tables.{Holds, HoldsTrees, HoldsRows, desk_tree, members_tree, facilities_tree, keys_tree, slots_tree, bookings_tree, olders_tree}
 use Rattle.club_tables.proofs.statements.MeansLemmas.{Wrote}
 
 -- rows stay where their trees do
@@ -45,42 +45,43 @@ module _ {old new : Database} {rows : Rows} (holds_rows : HoldsRows old rows) wh
   kept : {tree : ℕ} → Wrote club_schema old new tree → HoldsTrees 2 (but tree old.trees new.trees) rows
   kept {tree = tree} wrote = trees_kept (others_kept tree old.trees new.trees club_schema.tables wrote.others) holds_rows.held
 
-  whole : {tree : ℕ} {next : Rows} → Wrote club_schema old new tree → HoldsTrees 2 new.trees next → HoldsRows new next
-  whole wrote held = record { schema = wrote.schema; held = held; database = wrote.sound }
+  whole : {tree : ℕ} {next : Rows} → Wrote club_schema old new tree → Holds version_values (new.trees desk_tree) (2 ∷ [])
+      → Holds member_values (new.trees members_tree) next.members → Holds facility_values (new.trees facilities_tree) next.facilities
+      → Holds key_values (new.trees keys_tree) next.keys → Holds slot_values (new.trees slots_tree) next.slots
+      → Holds booking_values (new.trees bookings_tree) next.bookings → Holds older_values (new.trees olders_tree) next.olders → HoldsRows new next
+  whole wrote version members facilities keys slots bookings olders = record {
+    schema = wrote.schema;
+    held = record { version = version; members = members; facilities = facilities; keys = keys; slots = slots; bookings = bookings; olders = olders };
+    database = wrote.sound;
+  }
 
   -- the rows of one table are others
   pub on_members : Wrote club_schema old new members_tree → {members : List MemberRow} → Holds member_values (new.trees members_tree) members
       → HoldsRows new (record rows { members = members })
   on_members wrote held =
-      let k = kept wrote in
-      whole wrote (record { version = k.version; members = held; facilities = k.facilities; keys = k.keys; slots = k.slots; bookings = k.bookings; olders = k.olders })
+      let k = kept wrote in whole wrote k.version held k.facilities k.keys k.slots k.bookings k.olders
 
   pub on_facilities : Wrote club_schema old new facilities_tree → {facilities : List Facility} → Holds facility_values (new.trees facilities_tree) facilities
       → HoldsRows new (record rows { facilities = facilities })
   on_facilities wrote held =
-      let k = kept wrote in
-      whole wrote (record { version = k.version; members = k.members; facilities = held; keys = k.keys; slots = k.slots; bookings = k.bookings; olders = k.olders })
+      let k = kept wrote in whole wrote k.version k.members held k.keys k.slots k.bookings k.olders
 
   pub on_keys : Wrote club_schema old new keys_tree → {keys : List Key} → Holds key_values (new.trees keys_tree) keys
       → HoldsRows new (record rows { keys = keys })
   on_keys wrote held =
-      let k = kept wrote in
-      whole wrote (record { version = k.version; members = k.members; facilities = k.facilities; keys = held; slots = k.slots; bookings = k.bookings; olders = k.olders })
+      let k = kept wrote in whole wrote k.version k.members k.facilities held k.slots k.bookings k.olders
 
   pub on_slots : Wrote club_schema old new slots_tree → {slots : List SlotRow} → Holds slot_values (new.trees slots_tree) slots
       → HoldsRows new (record rows { slots = slots })
   on_slots wrote held =
-      let k = kept wrote in
-      whole wrote (record { version = k.version; members = k.members; facilities = k.facilities; keys = k.keys; slots = held; bookings = k.bookings; olders = k.olders })
+      let k = kept wrote in whole wrote k.version k.members k.facilities k.keys held k.bookings k.olders
 
   pub on_bookings : Wrote club_schema old new bookings_tree → {bookings : List Booking} → Holds booking_values (new.trees bookings_tree) bookings
       → HoldsRows new (record rows { bookings = bookings })
   on_bookings wrote held =
-      let k = kept wrote in
-      whole wrote (record { version = k.version; members = k.members; facilities = k.facilities; keys = k.keys; slots = k.slots; bookings = held; olders = k.olders })
+      let k = kept wrote in whole wrote k.version k.members k.facilities k.keys k.slots held k.olders
 
   pub on_olders : Wrote club_schema old new olders_tree → {olders : List OlderRow} → Holds older_values (new.trees olders_tree) olders
       → HoldsRows new (record rows { olders = olders })
   on_olders wrote held =
-      let k = kept wrote in
-      whole wrote (record { version = k.version; members = k.members; facilities = k.facilities; keys = k.keys; slots = k.slots; bookings = k.bookings; olders = held })
+      let k = kept wrote in whole wrote k.version k.members k.facilities k.keys k.slots k.bookings held

@@ -88,7 +88,8 @@ pub indexes : {schema : Schema} {text : List ℕ} {at : ℕ} {table : Table} {in
     → (new.now.schema ≡ indexed schema table index) × KeepsRows schema.tables old.now.trees new.now.trees × IsDatabase new.now
 indexes {schema = schema} {text = text} {at = at} {table = table} {index = index} makes old new has count h =
     let listed = makes.listed in
-    let w = subst (λ t. Writes old new None (CreateIndex at) t [] count) makes.whole (runs_as text [] old new schema has (CreateIndex at) makes.is makes.plain count h) in
+    let w = subst (λ t. Writes old new None (CreateIndex at) t [] count) makes.whole
+    (runs_as text [] old new schema has (CreateIndex at) makes.is makes.plain count h) in
     let does = subst (λ s. Does old.step_limit (mode_of old) [] (record old.now { schema = s }) text None (CreateIndex at) (Ok (w.tally, new.now))) has
     w.changed in
     let made = went (rw listed at does) in
