@@ -10,6 +10,7 @@ the gate.
 # wants: sudo sqlite3 openssl util-linux bsdutils iproute2 systemd python3-psutil
 
 import argparse
+import itertools
 import os
 import random
 import shutil
@@ -17,6 +18,7 @@ import subprocess
 import threading
 import time
 from collections import Counter
+from concurrent.futures import ThreadPoolExecutor
 from pathlib import Path
 
 from office_room import CLUB, HOME, NOON, ROOM, Service, begun, configure, done, everything, kill, killed_after, leave, office, rows, run_as, same, whole
@@ -30,30 +32,18 @@ print(f"seed {given.seed}")
 YES = ["--yes", "--at", NOON]
 
 
-class Client(threading.Thread):
-    """Books, repeats, cancels and looks at a court of its own, as long as it may. Each reply has to be the one that it reckons."""
-
-    def __init__(self, server, place, text):
-        super().__init__()
-        self.server, self.place, self.text = server, place, text
-        self.number = self.replies = 0
-        self.wrong = []
-        self.may = True
-
-    def run(self):
-        while self.may:
-            self.number += 1
-            time.sleep(0.05)
-            day, hour = f"2026-05-{1 + self.number // 14 % 28:02d}", 8 + self.number % 14
-            path = f"/slots/court-{self.place}/{day}/{hour:02d}/bookings/{self.number}"
-            made = (200, f'{{"booking":"k{self.place}-1/{self.number}","charge":14,"left":2}}')
-            back = (200, f'{{"booking":"k{self.place}-1/{self.number}","refund":14}}')
-            for asked, wanted in ((("PUT", path, '{"guests":1}'), made), (("DELETE", path), back)):
-                for _ in range(2):
-                    reply = self.server.answer(self.text, *asked)
-                    self.replies += 1
-                    if reply != wanted:
-                        self.wrong.append((asked, reply))
+def books_and_cancels(server, place, text, is_over):
+    """A client at a court of its own, which books and cancels, each twice. Each reply has to be the one that it reckons: how many were, and the others."""
+    wrong = []
+    for number in itertools.count(1):
+        if is_over.wait(0.05):
+            return 4 * (number - 1), wrong[:3]
+        path = f"/slots/court-{place}/2026-05-{1 + number // 14 % 28:02d}/{8 + number % 14:02d}/bookings/{number}"
+        for asked, wanted in ((("PUT", path, '{"guests":1}'), '"charge":14,"left":2'), (("DELETE", path), '"refund":14')):
+            for _ in range(2):
+                reply = server.answer(text, *asked)
+                if reply != (200, f'{{"booking":"k{place}-1/{number}",{wanted}}}'):
+                    wrong.append((asked, reply))
 
 
 def seconds_of(*words):
@@ -78,23 +68,19 @@ def orders_beside_the_desk():
     server = Service()
     for number in range(1, 97):
         server.answer(text["zoe"], "PUT", f"/slots/room-1/2026-06-{1 + number // 24:02d}/{number % 24:02d}/bookings/{number}", '{"guests":0}')
-    clients = [Client(server, place, text[f"k{place}"]) for place in range(1, 5)]
-    for client in clients:
-        client.start()
-    orders, start = [order_of(attempt) for attempt in range(given.kills)], time.monotonic()
-    plain = seconds_of("debit", "zoe", "1", *YES)
-    print(f"a correction beside the desk takes {plain:.2f} s")
-    for attempt, words in enumerate(orders):
-        killed_after(chance.uniform(0, plain * (0.4 if words[0] == "credit" else 1.2)), words, chance if attempt % 3 == 0 else None)
-        if attempt % 10 == 0:
-            whole(f"kill {attempt}")
-    server.is_heard()
-    for client in clients:
-        client.may = False
-    for client in clients:
-        client.join()
-        same(f"the replies to client {client.place}", client.wrong[:3], [])
-    print(f"{given.kills} kills in {time.monotonic() - start:.0f} s, {server.starts} starts, {sum(c.replies for c in clients)} replies")
+    orders, start, is_over = [order_of(attempt) for attempt in range(given.kills)], time.monotonic(), threading.Event()
+    with ThreadPoolExecutor(4) as pool:
+        clients = [pool.submit(books_and_cancels, server, place, text[f"k{place}"], is_over) for place in range(1, 5)]
+        plain = seconds_of("debit", "zoe", "1", *YES)
+        print(f"a correction beside the desk takes {plain:.2f} s")
+        for attempt, words in enumerate(orders):
+            killed_after(chance.uniform(0, plain * (0.4 if words[0] == "credit" else 1.2)), words, chance if attempt % 3 == 0 else None)
+            if attempt % 10 == 0:
+                whole(f"kill {attempt}")
+        server.is_heard()
+        is_over.set()
+    same("replies that are wrong", [it for client in clients for it in client.result()[1]], [])
+    print(f"{given.kills} kills in {time.monotonic() - start:.0f} s, {server.starts} starts, {sum(it.result()[0] for it in clients)} replies")
     whole("all kills")
     hold_book(orders)
     same("the desk serves", server.is_heard(), True)
