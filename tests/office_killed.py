@@ -24,8 +24,8 @@ from pathlib import Path
 from office_room import CLUB, HOME, NOON, ROOM, Service, begun, configure, done, everything, kill, killed_after, leave, office, rows, run_as, same, whole
 
 parser = argparse.ArgumentParser()
-parser.add_argument("kills", type=int, nargs="?", default=100)
-parser.add_argument("seed", type=int, nargs="?", default=int(time.time()))
+parser.add_argument("kills", type=int, nargs="?", default=100, choices=range(1, 10_001), metavar="KILLS")
+parser.add_argument("seed", type=int, nargs="?", default=int(time.time()), metavar="SEED")
 given = parser.parse_args()
 chance = random.Random(given.seed)
 print(f"seed {given.seed}")

@@ -17,7 +17,7 @@ import subprocess
 from office_room import CLUB, HOME, ROOM, Service, configure, desk, done, killed_after, leave, mode, office, rows, same, whole
 
 parser = argparse.ArgumentParser()
-parser.add_argument("requests", type=int, nargs="?", default=1500)
+parser.add_argument("requests", type=int, nargs="?", default=1500, choices=range(10, 100_001), metavar="REQUESTS")
 count = parser.parse_args().requests
 chance = random.Random(count)
 NOW = "2026-12-31T20:00"

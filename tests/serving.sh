@@ -21,16 +21,6 @@ trap leave EXIT
 cd "$work" || exit 2
 mkfifo listening
 
-# number WORD LEAST MOST: ends the script unless the word is a number from LEAST to MOST.
-number() {
-    case $1 in
-        '' | *[!0-9]* | ??????????*) ;;
-        *) if [ "$1" -ge "$2" ] && [ "$1" -le "$3" ]; then return; fi ;;
-    esac
-    echo "$0: a number from $2 to $3 is wanted, not '$1'" >&2
-    exit 2
-}
-
 # serve FILE COUNT MOMENT [WORD..]: starts a server, with further options, which listens at $port once this is done. What it tells on
 # standard error lies in `fault`. `finish` waits for its end.
 serve() {
