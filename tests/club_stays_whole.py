@@ -108,7 +108,7 @@ def test_order(new_club, tmp_path, words):
     before.file.touch()
     before.does(*list(ORDERS)[:list(ORDERS).index(words)])
     order = Order(before, words)
-    assert any([order.fails(it, "out of memory\n", 4, 2) for it, _ in desk.refused_in_turn(order.given, tmp_path, STEP)])
+    assert any([order.fails(it, "out of memory\n", 4, 2) for it in desk.refused_in_turn(order.given, tmp_path, STEP)])
     assert any([order.fails(order.given(lambda: desk.limit_files(512 * blocks)), "storage failed\n", 5) for blocks in range(0, 2001, 50)])
     for milliseconds in range(1, 31):
         order.kill(milliseconds)

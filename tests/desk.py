@@ -40,20 +40,12 @@ def library(name, folder):
 
 
 def refused_in_turn(run, folder, step=1):
-    """What `run` gives where one allocation of its program is refused, each in turn or each so many, and whether it was met. It runs the program
-    with variables; first to count them."""
-    folder, preload = Path(folder), {"LD_PRELOAD": library("refused_memory", folder)}
-    run(ALLOCATIONS_COUNTED=str(folder / "counted"), **preload)
-
-    def refused(number):
-        met = folder / f"met.{number}"
-        given = run(REFUSED_ALLOCATION=str(number), REFUSAL_TOLD=str(met), **preload)
-        is_met = met.exists()
-        met.unlink(missing_ok=True)
-        return given, is_met
-
+    """What `run` gives where one allocation of its program is refused, each in turn, or each so many. It runs the program with variables, first
+    to count them."""
+    counted, preload = Path(folder, "counted"), {"LD_PRELOAD": library("refused_memory", folder)}
+    run(ALLOCATIONS_COUNTED=str(counted), **preload)
     with ThreadPoolExecutor(len(os.sched_getaffinity(0))) as pool:
-        return list(pool.map(refused, range(1, int((folder / "counted").read_text()) + 1, step)))
+        return list(pool.map(lambda number: run(REFUSED_ALLOCATION=str(number), **preload), range(1, int(counted.read_text()) + 1, step)))
 
 
 def limit_files(size):

@@ -1,7 +1,7 @@
-// Refuses the allocation whose number the variable REFUSED_ALLOCATION tells, counted from 1, and then makes the file whose path
-// the variable REFUSAL_TOLD tells, if any. A program that ends by itself writes how many allocations it made into the file whose
-// path the variable ALLOCATIONS_COUNTED tells, if any. Where the variable CALLS_TOLD tells the path of a file, it gets a line for
-// each call that ends a commit or sends a reply: `sync` or `send`, and how many allocations came before. Loaded before the C library.
+// Refuses the allocation whose number the variable REFUSED_ALLOCATION tells, counted from 1. A program that ends by itself writes how
+// many allocations it made into the file whose path the variable ALLOCATIONS_COUNTED tells, if any. Where the variable CALLS_TOLD tells
+// the path of a file, it gets a line for each call that ends a commit or sends a reply: `sync` or `send`, and how many allocations came
+// before. Loaded before the C library.
 #define _GNU_SOURCE
 #include <dlfcn.h>
 #include <errno.h>
@@ -21,8 +21,6 @@ static int refuses(void) {
     }
     seen++;
     if (seen != refused) return 0;
-    const char *told = getenv("REFUSAL_TOLD");
-    if (told) close(open(told, O_CREAT | O_WRONLY, 0600));
     errno = ENOMEM;
     return 1;
 }

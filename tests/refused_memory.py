@@ -32,5 +32,4 @@ def test_each_allocation_refused(tmp_path, form, words):
 
     whole, refused = ended(), (4, b"", b"out of memory\n")
     assert whole[0] == 0
-    found = desk.refused_in_turn(ended, tmp_path)
-    assert all(is_met for _, is_met in found) and refused in {it for it, _ in found} <= {whole, refused}
+    assert refused in set(desk.refused_in_turn(ended, tmp_path)) <= {whole, refused}

@@ -88,14 +88,14 @@ def refuse(crate, test, program):
     if status:
         sys.exit(f"{output}{crate} {test} fails with ample memory")
     found = desk.refused_in_turn(run, ROOM.name)
-    for number, ((status, output), _) in enumerate(found, 1):
+    for number, (status, output) in enumerate(found, 1):
         if status and not ends_without_memory(output):
             sys.exit(f"status {status}\n{output}{crate} {test}: fails otherwise where allocation {number} is refused")
-    count, ended = sum(is_met for _, is_met in found), sum(status != 0 for (status, _), _ in found)
-    if not count:
+    if not found:
         sys.exit(f"{crate} {test}: no allocation was seen")
-    print(f"{crate} {test}: of {count} allocations, refused in turn, {ended} ended the run, each with out of memory", flush=True)
-    return count
+    ended = sum(status != 0 for status, _ in found)
+    print(f"{crate} {test}: of {len(found)} allocations, refused in turn, {ended} ended the run, each with out of memory", flush=True)
+    return len(found)
 
 
 def main(crate=None, *tests):
