@@ -17,6 +17,7 @@ import time
 from concurrent.futures import ThreadPoolExecutor
 from pathlib import Path
 
+from helps import names_of, options_of, printed, words_of
 from office_room import CLUB, HOME, NOON, ROOM, TESTS, Service, begun, configure, desk, done, everything, leave, mode, office, rows, run_as, same, whole
 
 DAY = "2026-05-01"
@@ -26,7 +27,7 @@ COPIES, BOOK, TURN = HOME / "back-ups", HOME / "club-book", HOME / "club-orders"
 
 
 def refused(words, status, line, by="anna", given="", keeps=True):
-    """The office refuses these words, with a line on standard error, and the club keeps its rows."""
+    """The office refuses these words, with a line on standard error, and the club keeps its rows; what it prints."""
     before = everything() if keeps else None
     found, out, errors = office(*words, by=by, given=given)
     same(f"office {' '.join(words)}: refused", (found, line in errors), (status, True))
@@ -34,6 +35,7 @@ def refused(words, status, line, by="anna", given="", keeps=True):
         print(f"  it says {errors!r}, {out!r}")
     if keeps:
         same(f"office {' '.join(words)}: the rows", everything(), before)
+    return out
 
 
 def lines(*words):
@@ -115,8 +117,8 @@ def passes():
 def looks(server, amy):
     for words in (["sheet", DAY], ["show-slot", "court-1", DAY, "18"], ["show-account", "amy-1", *AT]):
         same(f"office {words}", (0, done(*words)), desk(*words))
-    told = dict(line.rsplit(" ", 1) for line in lines("show-account", "amy-1", *AT))
-    same("the account", {at: str(value) for at, value in account(server, amy).items()}, {at: told[at] for at in ("member", "balance", "quota", "open", "spent")})
+    told, names = dict(line.rsplit(" ", 1) for line in lines("show-account", "amy-1", *AT)), ("member", "balance", "quota", "open", "spent")
+    same("the account", {it: str(value) for it, value in account(server, amy).items()}, {it: told[it] for it in names})
 
 
 def asked(server, text, method, path, body=None):
@@ -214,10 +216,8 @@ def tournament_and_rain(server, bob):
     book(server, amy, "court-1", 12, 1, 1)
     book(server, bob, "court-2", 13, 21, 0)
     done("close-slot", "court-2", DAY, "12")
-    before = everything()
-    status, out, _ = office("close", DAY, "12-14", "court-1", "court-2", *AT, given="n\n")
-    same("a tournament that isn't confirmed", (status, out.splitlines()[0]), (1, f"cancels court-1 {DAY} 12:00, 2 persons, 500 points back: amy-3 1, amy"))
-    same("it changes nothing", everything(), before)
+    out = refused(["close", DAY, "12-14", "court-1", "court-2", *AT], 1, "refused: not confirmed; nothing changed", given="n\n")
+    same("a tournament that isn't confirmed", out.splitlines()[0], f"cancels court-1 {DAY} 12:00, 2 persons, 500 points back: amy-3 1, amy")
     refused(["close", DAY, "12-14", "court-1", *AT], 1, "refused: not confirmed; nothing changed", given="")
     status, out, _ = office("close", DAY, "12-14", "court-1", "court-2", *AT, given="y\n")
     same("a tournament", (status, out.count("cancels "), out.count("closes ")), (0, 2, 3))
@@ -305,16 +305,20 @@ def takes_turns():
     same("seven at once", balance(), before + 55)
 
 
-def changed_meanwhile(server):
-    """What was shown is what is done: where the club has changed since, nothing is."""
+def changed_meanwhile(words, shown, change):
+    """What was shown is what is done: where the club has changed between the question and its answer, nothing is."""
+    with begun(*words, *AT) as order:
+        same("what is shown", order.stdout.readline(), f"{shown}\n")
+        change()
+        _, errors = order.communicate("y\n")
+    same(f"a change before the answer: {words}", (order.returncode, "has changed since" in errors), (1, True))
+
+
+def booked_meanwhile(server):
     text = done("add-key", "amy-5", "amy").strip()
     book(server, text, "court-2", 17, 1, 0)
-    with begun("close", DAY, "17-18", "court-2", *AT) as order:
-        same("what is shown", order.stdout.readline(), f"cancels court-2 {DAY} 17:00, 1 persons, 200 points back: amy-5 1, amy\n")
-        order.stdout.readline()
-        book(server, text, "court-2", 17, 2, 0)
-        _, errors = order.communicate("y\n")
-    same("a booking between the question and its answer", (order.returncode, "has changed since" in errors), (1, True))
+    changed_meanwhile(["close", DAY, "17-18", "court-2"], f"cancels court-2 {DAY} 17:00, 1 persons, 200 points back: amy-5 1, amy",
+                      lambda: book(server, text, "court-2", 17, 2, 0))
     same("the slot", slot(server, text, "court-2", 17)["taken"], 2)
     whole("a change meanwhile")
 
@@ -365,9 +369,7 @@ def restores(server):
         "the facility boat-1 is as it was", f"opens court-2 {DAY} 11:00 again", f"loses court-2 {DAY} 09:00, 1 persons, 200 points: amy-6 63, amy",
         f"books again court-2 {DAY} 19:00, 2 persons, 400 points: amy-6 61, amy",
     ]
-    status, out, _ = office("restore", night, *AT, given="n\n")
-    same("a restore that isn't confirmed", (status, out.splitlines()[:-1]), (1, shown))
-    same("it changes nothing", everything(), after)
+    same("a restore that isn't confirmed", refused(["restore", night, *AT], 1, "refused: not confirmed", given="n\n").splitlines()[:-1], shown)
     starts = server.starts
     same("a restore", lines("restore", night, *YES), [*shown, "done"])
     same("the club of the copy", everything(), before)
@@ -400,17 +402,9 @@ def restores(server):
         subprocess.run(["chown", "clubdesk:", path], check=True)
         refused(["restore", called, *YES], 1, line)
         path.unlink()
-    changed_while_asked(server, night)
-    damaged(server, text, night, before, was)
-
-
-def changed_while_asked(server, night):
     done("add-key", "amy-7", "amy")
-    with begun("restore", night, *AT) as order:
-        same("what is shown", order.stdout.readline(), "forgets the member dora\n")
-        done("credit", "amy", "1")
-        _, errors = order.communicate("y\n")
-    same("a credit between the question and its answer", (order.returncode, "has changed since" in errors), (1, True))
+    changed_meanwhile(["restore", night], "forgets the member dora", lambda: done("credit", "amy", "1"))
+    damaged(server, text, night, before, was)
 
 
 def spoil(what):
@@ -499,17 +493,15 @@ def in_the_journal():
 def manual():
     """The manual page has each command of --help with its words and options, and no other."""
     page = {}
-    for line in (TESTS.parent / "man" / "office.1").read_text(encoding="ascii").splitlines():
-        if line.startswith(".It Cm ") and line.split()[2] not in ("FILE", "STOP", "ZONE", "PORT", "BOOK"):
-            words = line.replace(" Ns - Ns Ar ", "-").split()[2:]
-            page[words[0]] = {f"-{w}" if w.startswith("-") else w for w in words[1:] if re.fullmatch(r"-[a-z-]+|[A-Z][A-Z-]+", w)}
-    commands = set(re.findall(r"^    ([a-z][a-z-]+)(?: |$)", run_as("anna", "office", "--help")[1], re.M))
-    same("the commands of the manual page", set(page), commands)
+    for line in re.findall(r"^\.It Cm (?!FILE|STOP|ZONE|PORT|BOOK)(.*)", (TESTS.parent / "man" / "office.1").read_text(encoding="ascii"), re.MULTILINE):
+        command, *words = line.replace(" Ns - Ns Ar ", "-").split()
+        page[command] = {f"-{it}" if it.startswith("-") else it for it in words if re.fullmatch(r"-[a-z-]+|[A-Z][A-Z-]+", it)}
+    same("the commands of the manual page", set(page), names_of(printed("office", "--help")))
     for command, words in sorted(page.items()):
-        usage = run_as("anna", "office", "club", command, "--help")[1].split("\n\n")[0]
-        found = set(re.findall(r"--[a-z-]+|\b[A-Z]{2}[A-Z-]*", usage.replace("CLUB", "")))
+        text = printed("office", "club", command, "--help")
+        names = [*words_of(text), *filter(None, options_of(text).values()), *(f"--{it}" for it in options_of(text) if it != "help")]
+        found = set("|".join(names).split("|")) - {""}
         always = {"--yes", "--at", "MOMENT"} if "--yes" in found and command != "import" else set()
-        found, words = ({it.strip("-") if it.isupper() else it for it in each} for each in (found, words))
         same(f"the words of {command}", words, found - (always - words))
 
 
@@ -526,7 +518,7 @@ tournament_and_rain(server, bob)
 member_leaves(server, bob)
 breaks_no_total(server)
 takes_turns()
-changed_meanwhile(server)
+booked_meanwhile(server)
 back_ups()
 in_the_book()
 in_the_journal()
