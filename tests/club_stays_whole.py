@@ -58,7 +58,7 @@ class Order:
         self.before, self.words, self.found = before, words.split(), {}
         model = before.copied_to(before.file.with_name("model"))
         model.does("sheet 2026-05-01")
-        with contextlib.closing(sqlite3.connect(model.file)) as database:
+        with desk.opened(model.file) as database:
             database.executescript(f"PRAGMA foreign_keys = ON; {ORDERS[words]}")
         self.rows, self.after = rows(before), rows(model)
         self.whole = self.given()

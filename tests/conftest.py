@@ -3,7 +3,6 @@
 Files lie in memory, where a sync costs nothing."""
 
 import shutil
-import sqlite3
 import tempfile
 
 import pytest
@@ -52,10 +51,8 @@ class Club:
         return int(dict(line.split(" ", 1) for line in self.does(f"show-account {key} --at {kinds.NOON}").splitlines())["balance"])
 
     def sql(self, statement):
-        with sqlite3.connect(self.file) as database:
-            found = database.execute(statement).fetchall()
-        database.close()
-        return found
+        with desk.opened(self.file) as database:
+            return database.execute(statement).fetchall()
 
     def served(self, *words, count=None, at=kinds.NOON, **more):
         """A server over the club for so many connections, or until the end of its block."""

@@ -2,6 +2,7 @@
 
 The programs are those of the variables CLUBDESK and PASSTOOL. One without a variable is proved and built first, if that isn't done."""
 
+import contextlib
 import errno
 import json
 import os
@@ -149,13 +150,18 @@ def copy(file, to):
             shutil.copy(f"{file}{ending}", f"{to}{ending}")
 
 
+@contextlib.contextmanager
+def opened(file, **how):
+    """A database, whose changes are committed and which is closed at the end of the block."""
+    with contextlib.closing(sqlite3.connect(file, **how)) as database, database:
+        yield database
+
+
 def rows(file, statement):
     """The rows that a statement gives over a copy of the file."""
     copy(file, f"{file}.copy")
-    with sqlite3.connect(f"{file}.copy") as database:
-        found = database.execute(statement).fetchall()
-    database.close()
-    return found
+    with opened(f"{file}.copy") as database:
+        return database.execute(statement).fetchall()
 
 
 # docs/TABLES.md, an auditor's sums: each row of a file that isn't sound.
@@ -178,7 +184,7 @@ def add_past_bookings(file, count, root):
     """Adds members x000 to x999, each with a key of its name, and so many bookings of theirs in `old-court`, two after another in a slot; the totals
     are the sums."""
     thousand = "WITH n(i) AS (SELECT 0 UNION ALL SELECT i + 1 FROM n WHERE i < 999)"
-    with sqlite3.connect(file) as database:
+    with opened(file) as database:
         database.executescript(f"""BEGIN;
             {thousand} INSERT INTO members SELECT printf('x%03d', i), 900000, 99, 0 FROM n;
             {thousand} INSERT INTO keys SELECT printf('x%03d', i), printf('x%03d', i), x'{root}', 0 FROM n;
@@ -188,7 +194,6 @@ def add_past_bookings(file, count, root):
             INSERT INTO slots SELECT facility, day, hour, 0, sum(guests + 1) FROM bookings WHERE facility = 'old-court' GROUP BY 1, 2, 3;
             UPDATE members SET used = (SELECT coalesce(sum(charge - refund), 0) FROM bookings JOIN keys ON keys.name = pass_key WHERE member = members.name);
             COMMIT""")
-    database.close()
 
 
 def paced(whole, step, what):

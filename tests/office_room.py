@@ -10,7 +10,6 @@ import http.client
 import os
 import signal
 import socket
-import sqlite3
 import subprocess
 import sys
 import threading
@@ -19,7 +18,7 @@ from pathlib import Path
 
 import psutil
 
-from desk import SUMS, TESTS, order
+from desk import SUMS, TESTS, opened, order
 
 if "ROOM" not in os.environ:
     os.execv("/bin/sh", ["sh", str(TESTS / "office_room.sh"), sys.executable, "-B", os.path.abspath(sys.argv[0]), *sys.argv[1:]])
@@ -149,7 +148,7 @@ def copied():
         copy.unlink(missing_ok=True)
         made = subprocess.run(["/usr/lib/clubdesk/back_up", CLUB, copy], capture_output=True, text=True, check=False)
         if made.returncode == 0:
-            return contextlib.closing(sqlite3.connect(copy))
+            return opened(copy)
     raise RuntimeError(made.stderr)
 
 

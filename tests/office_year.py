@@ -11,9 +11,9 @@ club or the new one. Wants root, for a machine of its own (tests/office_room.sh)
 import argparse
 import hashlib
 import random
-import sqlite3
 import subprocess
 
+from desk import opened
 from office_room import CLUB, HOME, ROOM, Service, configure, desk, done, killed_after, leave, mode, office, rows, same, whole
 
 parser = argparse.ArgumentParser()
@@ -147,9 +147,8 @@ same("its owner and mode", mode(old_file), "clubdesk 100600")
 same_sums("")
 whole("a new year")
 carried = rows("SELECT count(*), sum(cancelled), sum(refund), max(day) FROM bookings WHERE day < 20818")[0]
-costs = sqlite3.connect(original).execute(
-    "SELECT sum(charge - refund) FROM bookings WHERE day < 20818 GROUP BY pass_key HAVING sum(charge - refund) > 0"
-).fetchall()
+with opened(original) as database:
+    costs = database.execute("SELECT sum(charge - refund) FROM bookings WHERE day < 20818 GROUP BY pass_key HAVING sum(charge - refund) > 0").fetchall()
 parts = sum(-(-cost // 499950) for (cost,) in costs)
 same("what is carried forward", carried, (parts, parts, 0, 20817))
 same("a key with more than a row holds", parts > len(costs), True)

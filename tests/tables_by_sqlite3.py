@@ -10,7 +10,6 @@ stays as it was, byte for byte. Not part of the gate.
 
 import re
 import shutil
-import sqlite3
 import subprocess
 
 import pytest
@@ -298,7 +297,6 @@ def test_path_where_no_file_can_lie(clubdesk, tmp_path, monkeypatch, path):
 
 
 def test_file_that_sqlite3_locked(club):
-    with sqlite3.connect(club.file, isolation_level=None) as database:
+    with desk.opened(club.file, isolation_level=None) as database:
         database.execute("BEGIN EXCLUSIVE")
         assert club.order("sheet", DAY) == (5, "", "storage failed\n")
-    database.close()
