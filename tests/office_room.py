@@ -20,7 +20,7 @@ import psutil
 
 from desk import SUMS, TESTS, opened, order
 
-if "ROOM" not in os.environ:
+if "OFFICE_ROOM" not in os.environ:
     os.execv("/bin/sh", ["sh", str(TESTS / "office_room.sh"), sys.executable, "-B", os.path.abspath(sys.argv[0]), *sys.argv[1:]])
 ROOM = Path(os.environ["ROOM"])
 HOME = Path("/var/lib/clubdesk")
