@@ -11,8 +11,6 @@ mod caveats;
 #[cfg(test)]
 mod counter;
 #[cfg(test)]
-mod drawn;
-#[cfg(test)]
 mod expect;
 #[cfg(test)]
 mod happens;

@@ -1,7 +1,6 @@
 //! Random lists of events, one by one and at once: the desk's replies are the reference machine's,
 //! and those to amy are the solo machine's, which holds only her part.
 
-use crate::drawn::{Event, Numbers};
 use crate::scene::{Scene, play};
 use crate::trial::Trial;
 use crate::values::push;
@@ -10,6 +9,7 @@ use club_gate::Desk;
 use std::alloc::Global;
 use std::process::Abort;
 use std::test::*;
+use test_kit::drawn::{Event, Numbers};
 
 // How many pairs of lists a test draws: the second begins with the club that the first one left. A
 // hundred lists in one test would take most of the minute that a test has.

@@ -6,6 +6,7 @@ use pass_forms::{Form, Pass, narrow};
 use pass_json::write_any;
 use std::alloc::Global;
 use std::process::Abort;
+use test_kit::drawn::Asking;
 use test_kit::roots::ROOT;
 
 pub(crate) static FORMS: [Form; 3] = [Form::V1, Form::V2, Form::Json];
@@ -77,6 +78,11 @@ impl Shown {
     pub fn text(&self, rt: &(impl Abort + Alloc<A = Global>), form: Form) -> String {
         text_of(rt, form, &self.pass(rt))
     }
+}
+
+/// The text of the pass of a drawn request.
+pub(crate) fn text_of_asking(rt: &(impl Abort + Alloc<A = Global>), asking: &Asking) -> String {
+    Shown::Of(asking.key, asking.root, asking.caveats).text(rt, asking.form)
 }
 
 pub(crate) const AMY: Shown = Shown::Of("amy-1", ROOT, &[]);

@@ -1,12 +1,12 @@
 //! The reference machine's replies to events.
 
-use crate::drawn::{Asking, Event};
 use crate::values::{at, name, push};
 use club_core::{OfficeAnswer, Reply, SlotUse, Words};
 use club_gate::{EventReply, Fault, OfficeReply, key_signature};
 use club_reference::Club;
 use std::alloc::Global;
 use std::process::Abort;
+use test_kit::drawn::{Asking, Event};
 use test_kit::{Order, signed_pass};
 
 /// The words of a request for the reference machine: the pass is signed under the one root.

@@ -1,15 +1,16 @@
 //! Random events as they are sent to the desk.
 
-use crate::drawn::{Asking, Event};
+use crate::passes::text_of_asking;
 use crate::values::{at, push};
 use club_gate::{Event as SentEvent, Words};
 use std::alloc::Global;
 use std::process::Abort;
+use test_kit::drawn::{Asking, Event};
 
 /// The text of the pass of an event; an order has none.
 fn text_of(rt: &(impl Abort + Alloc<A = Global>), event: &Event) -> String {
     match event {
-        Event::Asked(asking) => asking.shown_pass().text(rt, asking.form),
+        Event::Asked(asking) => text_of_asking(rt, asking),
         Event::Ordered(_) => String::new(rt.alloc()),
     }
 }

@@ -1,8 +1,8 @@
 //! A desk beside the reference machine, and beside the solo machine, which holds only amy's part.
 
 use crate::counter::reply;
-use crate::drawn::{AMY, Asking, Event, SLOTS};
 use crate::expect::expect_eq;
+use crate::passes::text_of_asking;
 use crate::reference_machine::{desk_reply, part_reply, reference_replies, reference_reply};
 use crate::sent::{sent_events, texts_of};
 use crate::values::{at, name, push};
@@ -13,39 +13,11 @@ use club_values::{Kind, Slot};
 use pass_forms::Form;
 use std::alloc::Global;
 use std::process::Abort;
-use test_kit::minutes::START;
-use test_kit::roots::ROOT;
+use test_kit::drawn::{AMY, AUDIT_AMY, AUDITORS, Asking, BEGINNING, Event, SLOTS, audit};
 use test_kit::{Order, PlainRequest, PlainSlot};
-
-// Keys of the three members, which no event names. Their accounts show the totals.
-const AUDIT_AMY: &str = "audit-amy";
-
-const AUDIT_BOB: &str = "audit-bob";
-
-const AUDIT_CY: &str = "audit-cy";
-
-static AUDITORS: [&str; 3] = [AUDIT_AMY, AUDIT_BOB, AUDIT_CY];
 
 // No member, so that others hold all of a slot.
 const NOBODY: &str = "nobody";
-
-/// Three members with a key each, and their auditors' keys; `court-1` and `room-1`.
-static BEGINNING: [Order; 14] = [
-    Order::AddMember(AMY, 2),
-    Order::Credit(AMY, 1_500),
-    Order::AddKey("amy-1", AMY, ROOT),
-    Order::AddKey(AUDIT_AMY, AMY, ROOT),
-    Order::AddMember("bob", 3),
-    Order::Credit("bob", 1_500),
-    Order::AddKey("bob-1", "bob", ROOT),
-    Order::AddKey(AUDIT_BOB, "bob", ROOT),
-    Order::AddMember("cy", 4),
-    Order::Credit("cy", 1_500),
-    Order::AddKey("cy-1", "cy", ROOT),
-    Order::AddKey(AUDIT_CY, "cy", ROOT),
-    Order::AddFacility("court-1", Kind::Court, 8, 200, 8, 22),
-    Order::AddFacility("room-1", Kind::Room, 1, 601, 8, 22),
-];
 
 /// The desk, the reference machine, the solo machine of amy, and the names of her keys.
 #[derive(Drop)]
@@ -167,18 +139,6 @@ fn expect_shown(
     expect_eq(rt, &text_of(shown), &text_of(&lines));
 }
 
-/// The asking for a member's account by a key that nothing else is asked for by.
-fn audit(key: &'static str) -> Asking {
-    Asking {
-        key,
-        root: ROOT,
-        caveats: &[],
-        form: Form::V2,
-        asked: PlainRequest::Account,
-        moment: START - 1_000,
-    }
-}
-
 impl<S: ClubStore> Trial<S> {
     fn of(rt: &impl Alloc<A = Global>, desk: Desk<S>) -> Trial<S> {
         Trial {
@@ -264,7 +224,7 @@ impl<S: ClubStore> Trial<S> {
 
     /// The desk's reply to a request.
     fn reply(&mut self, rt: &(impl Abort + Alloc<A = Global>), asking: &Asking) -> Reply {
-        let text = asking.shown_pass().text(rt, asking.form);
+        let text = text_of_asking(rt, asking);
         reply(
             rt,
             &mut self.desk,

@@ -2,6 +2,8 @@
 #![tactic(auto)]
 
 #[cfg(test)]
+mod arriving;
+#[cfg(test)]
 mod beside;
 #[cfg(test)]
 mod callers;
@@ -19,6 +21,8 @@ mod files;
 mod handed_over;
 #[cfg(test)]
 mod input;
+#[cfg(test)]
+mod lists;
 #[cfg(test)]
 mod looks;
 #[cfg(test)]

@@ -4,6 +4,7 @@
 //! memory, is `None`.
 #![tactic(auto)]
 
+pub mod drawn;
 mod ends;
 pub mod exchanges;
 pub mod lists;

@@ -1,13 +1,14 @@
-//! Random events from a fixed seed.
+//! Random events from a fixed seed, and the club that they happen in.
 
 ghost use Rattle.std.specs.Prelude.{◌<◌};
 
-use crate::passes::{FORMS, Shown};
+use crate::minutes::START;
+use crate::orders::Order;
+use crate::requests::PlainRequest;
+use crate::roots::{ROOT, SECOND_ROOT};
+use crate::slots::{COURT_AT_18, PlainSlot, ROOM_AT_18};
 use club_values::Kind;
 use pass_forms::Form;
-use test_kit::minutes::START;
-use test_kit::roots::{ROOT, SECOND_ROOT};
-use test_kit::{COURT_AT_18, Order, PlainRequest, PlainSlot, ROOM_AT_18};
 
 // The linear congruential generator of Knuth's MMIX, of whose 64 bits the upper 31 are used.
 const FACTOR: u64 = 6_364_136_223_846_793_005;
@@ -16,7 +17,7 @@ const SUMMAND: u64 = 1_442_695_040_888_963_407;
 
 const UNUSED_BITS: u32 = 33;
 
-pub(crate) const AMY: &str = "amy";
+pub const AMY: &str = "amy";
 
 static MEMBERS: [&str; 3] = [AMY, "bob", "cy"];
 
@@ -25,14 +26,42 @@ static KEYS: [&str; 4] = ["amy-1", "bob-1", "cy-1", SPARE];
 // The key that no member begins with.
 const SPARE: &str = "spare";
 
-// The slots on 2026-05-01.
-pub(crate) static SLOTS: [PlainSlot; 3] = [
+/// The slots on 2026-05-01.
+pub static SLOTS: [PlainSlot; 3] = [
     COURT_AT_18,
     PlainSlot {
         hour: 19,
         ..COURT_AT_18
     },
     ROOM_AT_18,
+];
+
+/// Keys of the three members, which no event names. Their accounts show the totals.
+pub const AUDIT_AMY: &str = "audit-amy";
+
+const AUDIT_BOB: &str = "audit-bob";
+
+const AUDIT_CY: &str = "audit-cy";
+
+pub static AUDITORS: [&str; 3] = [AUDIT_AMY, AUDIT_BOB, AUDIT_CY];
+
+/// What a club begins with: three members with a key each, and their auditors' keys; `court-1` and
+/// `room-1`.
+pub static BEGINNING: [Order; 14] = [
+    Order::AddMember(AMY, 2),
+    Order::Credit(AMY, 1_500),
+    Order::AddKey("amy-1", AMY, ROOT),
+    Order::AddKey(AUDIT_AMY, AMY, ROOT),
+    Order::AddMember("bob", 3),
+    Order::Credit("bob", 1_500),
+    Order::AddKey("bob-1", "bob", ROOT),
+    Order::AddKey(AUDIT_BOB, "bob", ROOT),
+    Order::AddMember("cy", 4),
+    Order::Credit("cy", 1_500),
+    Order::AddKey("cy-1", "cy", ROOT),
+    Order::AddKey(AUDIT_CY, "cy", ROOT),
+    Order::AddFacility("court-1", Kind::Court, 8, 200, 8, 22),
+    Order::AddFacility("room-1", Kind::Room, 1, 601, 8, 22),
 ];
 
 // The caveats of passes.
@@ -54,9 +83,12 @@ static CAVEATS: [&[&str]; 12] = [
 /// The roots of keys. The first is that of the keys that a club begins with.
 static ROOTS: [&[u8]; 2] = [ROOT, SECOND_ROOT];
 
-/// A request, and the pass that comes with it.
+static FORMS: [Form; 3] = [Form::V1, Form::V2, Form::Json];
+
+/// A request, and the pass of the office's that comes with it: of a key under a root, with caveats
+/// that were added without the root.
 #[derive(Clone, Copy)]
-pub(crate) struct Asking {
+pub struct Asking {
     pub key: &'static str,
     pub root: &'static [u8],
     pub caveats: &'static [&'static str],
@@ -65,22 +97,28 @@ pub(crate) struct Asking {
     pub moment: u32,
 }
 
-impl Asking {
-    pub fn shown_pass(&self) -> Shown {
-        Shown::Of(self.key, self.root, self.caveats)
+/// The asking for a member's account by a key that nothing else is asked for by.
+pub fn audit(key: &'static str) -> Asking {
+    Asking {
+        key,
+        root: ROOT,
+        caveats: &[],
+        form: Form::V2,
+        asked: PlainRequest::Account,
+        moment: START - 1_000,
     }
 }
 
 /// A random event.
 #[derive(Clone, Copy)]
-pub(crate) enum Event {
+pub enum Event {
     Asked(Asking),
     Ordered(Order),
 }
 
 /// The random numbers, from the next one on.
 #[derive(Drop)]
-pub(crate) struct Numbers {
+pub struct Numbers {
     state: u64,
 }
 
