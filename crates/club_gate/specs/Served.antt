@@ -23,14 +23,14 @@ use Rattle.club_gate.specs.Minted.{identifier_of}
 use Rattle.club_gate.specs.DecodedPass.{AreWordsOf, fault_of}
 use Rattle.club_gate.specs.Response.{unavailable}
 
--- the pass is signed under a root of the key's row that is valid at the moment
+-- the pass is signed under a root of the key's row that is good at the moment
 pub record IsSignedFor (pass : Plain) (key : Key) (moment : ℕ) : Type 0 where
   pub root : List ℕ
   pub good : IsGoodRoot key moment root
   pub signed : IsSigned root pass
 
 -- The text spells a pass that entitles to the request: its identifier names a key of the club that isn't revoked, its
--- signature is the chain under a root of that key's row that is valid at the moment, and each of its caveats allows the request, by the rows
+-- signature is the chain under a root of that key's row that is good at the moment, and each of its caveats allows the request, by the rows
 -- that the club has for that key.
 pub record EntitlesTo (club : Club) (text : List ℕ) (request : Request) (moment : ℕ) : Type 0 where
   pub form : Form

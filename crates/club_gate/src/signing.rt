@@ -1,4 +1,4 @@
-//! The signatures that a pass may have: one for each root of its key that is valid at the moment.
+//! The signatures that a pass may have: one for each root of its key that is good at the moment.
 
 ghost use Rattle.std.specs.Prelude.{◌≡◌, ◌||◌, ℕ, List, [], false, option_map};
 ghost use Rattle.std.specs.Option.{option_map_or};
@@ -11,7 +11,7 @@ use club_values::Moment;
 use key_cache::KeptKeys;
 use pass_mac::{Chain, same};
 
-/// The signature chains under the current root of a key and, if it is still valid, under its older
+/// The signature chains under the current root of a key and, if it is still good, under its older
 /// root. Each caveat extends both.
 #[derive(Drop)]
 pub(crate) struct Signing {

@@ -70,7 +70,7 @@ fn identifier_from<'a, F: FieldSource<'a>>(source: &mut F) -> Option<&'a [u8]>
     }
 }
 
-/// Why the row of its key refuses a pass: the pass isn't signed under a root that is valid at the
+/// Why the row of its key refuses a pass: the pass isn't signed under a root that is good at the
 /// moment, or the key is revoked. The source has already yielded the identifier.
 fn row_refusal<'a, F: FieldSource<'a>>(
     kept: &mut KeptKeys,

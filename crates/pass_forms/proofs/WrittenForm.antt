@@ -87,7 +87,8 @@ one_result f pass (Err ThirdParty) other h k = absurd h
 one_result f pass (Err Memory) other h k = absurd h
 
 pub exact : (f : BytesForm) (pass : Plain) (answer : Result (List ℕ) FormFault)
-    → (IsOk (writing_of (f.bytes_of pass) pass) → length pass.signature ≡ 32) → (writing_of (f.bytes_of pass) pass ≡ answer) ↔ IsWriting (IsTextIn f) pass answer
+    → (IsOk (writing_of (f.bytes_of pass) pass) → length pass.signature ≡ 32)
+    → (writing_of (f.bytes_of pass) pass ≡ answer) ↔ IsWriting (IsTextIn f) pass answer
 exact f pass answer len =
     let allowed = computed_is_allowed f pass len in
     let Allows : Result (List ℕ) FormFault → Type 0 = λ r. IsWriting (IsTextIn f) pass r in
