@@ -23,7 +23,7 @@ const OFFICE: &[u8] = b"office";
 pub enum Fate {
     /// Waiting failed.
     Absent,
-    /// More orders came in a row than a u64 counts, and no client.
+    /// More orders came than a u64 counts: a client counts that never came.
     Overrun,
     /// A client's connection was closed unanswered, since the clock showed no moment of the club's.
     Unanswered,
