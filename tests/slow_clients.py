@@ -1,7 +1,7 @@
 #!/usr/bin/env -S /usr/bin/python3 -B -m pytest -q -p no:cacheprovider
 """Runs clubdesk's server with a patience of two seconds, and clients that dawdle: one that sends nothing, one that begins its request,
 one that sends a byte a second, one that never reads its reply, and one that stays behind its request. The client behind each has its
-reply in time. Then 1,000 requests with 1 to 100,000 bytes behind them, and 1,000 heads of 100,000 bytes, half of them in two pieces,
+reply in time. Then 1,000 requests with 1 to 100,000 bytes after them, and 1,000 heads of 100,000 bytes, half of them in two pieces,
 by clients that send all before they read; 200 requests in three, four and six pieces each, by a length and by chunks, and 100 beside
 a server that is stopped and goes on: none loses its reply. Not part of the gate.
 
