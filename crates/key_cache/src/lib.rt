@@ -30,11 +30,17 @@ pub struct KeptKeys {
 }
 
 impl KeptKeys {
+    ghost use Rattle.key_cache.specs.Kept.{IsFresh};
+
     /// An empty cache for 64 keys.
-    pub fn new(alloc: Global) -> KeptKeys {
-        let capacity = NonZeroUsize::new(MAX_KEPT_KEYS);
+    pub fn new(alloc: Global) -> KeptKeys
+        ensures { IsFresh result }
+    {
+        let Some(capacity) = NonZeroUsize::new(MAX_KEPT_KEYS) else {
+            return KeptKeys { cache: None };
+        };
         KeptKeys {
-            cache: capacity.and_then(|capacity| LruCache::new(alloc, capacity).ok()),
+            cache: LruCache::new(alloc, capacity).ok(),
         }
     }
 
