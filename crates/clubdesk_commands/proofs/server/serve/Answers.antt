@@ -15,4 +15,4 @@ pub returns-clause-served : goal.returns-clause-served
 returns-clause-served g c =
     rw c.outcome_of-else-logs.ensures
     (serves _ _ _ c.args.service _ _ _ _ _ _ (λ turns noted asked. let left_out : c.args.service.log ≡ false = c.if-logs.false in cc) _
-    (rw c.new-arrivals.ensures.failures at c.serve_on.ensures))
+    (rw c.new-arrivals.ensures.failures at c.serve_on.ensures.2))
