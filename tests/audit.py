@@ -263,7 +263,9 @@ class Audit:
                     block = file.text[found.start():file.block_end(found.start())]
                     value = re.search(rf"\bghost {name} = \{{\s*(.*?)\s*\}};", block, re.DOTALL)
                     if value:
-                        stands.append(f"of `{found[1]}` in `{file.path.relative_to(ROOT)}`: `{' '.join(value[1].split())}`")
+                        below = [it for it in closure(file.cited_by(found.start() + value.start(), value[1])[0]) if it.kind in OF_SPECS]
+                        counts = f" ({len(below)}, {sum(it.is_computed for it in below)} computing)" if below else ""
+                        stands.append(f"of `{found[1]}` in `{file.path.relative_to(ROOT)}`: `{' '.join(value[1].split())}`{counts}")
             yield f"| `{it.name}`, `{it.file}` line {it.line} | {self.numbers(it)} | {'; '.join(stands)} |"
 
     # ---- what is trusted beside them
@@ -340,7 +342,8 @@ class Audit:
     def section_of_faults(self):
         computed = self.computed()
         if not computed:
-            return ["No promise rests on a computing definition of `specs/computed/`."]
+            return ["None of these clauses rests on a computing definition of `specs/computed/`. What stands for a [ghost](#ghosts-of-traits) may, "
+                    "and clauses that [PROMISES](PROMISES.md) names beside these."]
         return [
             f"These promises still rest on {len(computed)} computing definitions of `specs/computed/`, which say in steps what another definition "
             f"states. Laws say that both agree, but whoever reads a clause comes upon these. They aren't in the tables below. "
@@ -383,8 +386,9 @@ class Audit:
             "of SQL.",
             "\n".join(self.types()),
             "## Ghosts of traits",
-            "Promises over any store, reader or writer name it by a ghost of its trait. What a type of ours has for it is read with them; those of "
-            "a reader and a writer stand for the bytes that they give and take.",
+            "Promises over any store, reader, writer or desk name it by a ghost of its trait. What a type of ours has for it is read with them: in "
+            "brackets is how many definitions are below that, and how many of these compute; not all are in the tables above. Those of a reader and a "
+            "writer stand for the bytes that they give and take.",
             "\n".join(self.ghosts()),
             "## Trusted beside them",
             "The toolchain's contracts of the libraries that these promises rest on. Calls are those of the crates below a promise, by name: a "
