@@ -1,7 +1,8 @@
 #!/usr/bin/env python3
-"""docs/AUDIT.md, what has to be believed of each promise, is what the sources say, and none of it is a computing definition of
-`specs/computed/`; the vectors hold of the rules in Python (`tests/reference`) by which it marks what they show; and each step of a path
-through the definitions in docs/TOUR.md is cited by the one before it. Writes that page, unless it is asked to check.
+"""docs/AUDIT.md, what has to be believed of each promise, is what the sources say, and no clause in it rests on a computing definition of
+`specs/computed/`, but for what stands for a ghost; the vectors hold of the rules in Python (`tests/reference`) by which it marks what they
+show; and each step of a path through the definitions in docs/TOUR.md is cited by the one before it. Writes that page, unless it is asked to
+check.
 
 It reads the promises of docs/PROMISES.md, the clauses that carry them, and the definitions below these, by tests/definitions.py.
 
