@@ -1,9 +1,9 @@
 #!/usr/bin/env -S /usr/bin/python3 -B -m pytest -q -p no:cacheprovider
 """The door of a running desk, as a hostile or an unlucky office meets it: an order that is cut at each byte, of 70,000 bytes, with
 another count than its words, of words that are no UTF-8, of no command, and of `serve`; a sender that goes before it is greeted, in
-its words, or before its answer; 50 orders at once; root's order at another user's desk, a folder that a server can't write, and a
-full disk. What isn't a whole order changes nothing, each whole one is carried out once, and the server goes on. Wants root for the
-last three. Not part of the gate.
+its words, or before its answer, that is silent, or that doesn't take its answer; 50 orders at once; root's order at another user's
+desk, a folder that a server can't write, and a full disk. What isn't a whole order changes nothing, each whole one is carried out
+once, and the server goes on. Wants root for the last three. Not part of the gate.
 """
 # groups: faults
 # wants: python3-pytest sqlite3
@@ -13,6 +13,7 @@ import os
 import shutil
 import socket
 import subprocess
+import time
 
 import pytest
 
@@ -112,6 +113,21 @@ def test_a_silent_sender(club, serving):
     with visitor(club) as it:
         assert it.recv(1) == b""  # cut off after a second
     goes_on(serving)
+
+
+def test_a_sender_that_takes_no_answer(club):
+    """A sheet that no buffer of a socket holds: it is cut off after the patience of a second."""
+    club.sql("""WITH n(i) AS (SELECT 1 UNION ALL SELECT i + 1 FROM n WHERE i < 10000)
+        INSERT INTO bookings SELECT 'amy-1', 1000 + i, 'court-1', 10957, 8, 0, 0, 0, 0, 0 FROM n""")
+    with club.served("--patience", "1") as server, visitor(club) as it:
+        it.sendall(order_bytes("clubdesk", "sheet", "club", "2000-01-01"))
+        it.shutdown(socket.SHUT_WR)
+        began = time.monotonic()
+        assert answer(club, WHOLE) == (0, "done\n")
+        assert 0.5 < time.monotonic() - began < 3
+        cut = desk.read(it)
+        assert cut.startswith(b"\0Day sheet 2000-01-01\n") and len(cut) < 500_000 < len(club.does("sheet 2000-01-01"))
+        goes_on(server)
 
 
 def test_fifty_at_once(club, serving, clubdesk):
