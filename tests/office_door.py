@@ -1,9 +1,9 @@
 #!/usr/bin/env -S /usr/bin/python3 -B -m pytest -q -p no:cacheprovider
 """The door of a running desk, as a hostile or an unlucky office meets it: an order that is cut at each byte, of 70,000 bytes, with
 another count than its words, of words that are no UTF-8, of no command, and of `serve`; a sender that goes before it is greeted, in
-its words, or before its answer, that is silent, or that doesn't take its answer; 50 orders at once; root's order at another user's
-desk, a folder that a server can't write, and a full disk. What isn't a whole order changes nothing, each whole one is carried out
-once, and the server goes on. Wants root for the last three. Not part of the gate.
+its words, or before its answer, that is silent, or that doesn't take its answer; a server that doesn't greet, or doesn't answer; 50
+orders at once; root's order at another user's desk, a folder that a server can't write, and a full disk. What isn't a whole order
+changes nothing, each whole one is carried out once, and the server goes on. Wants root for the last three. Not part of the gate.
 """
 # groups: faults
 # wants: python3-pytest sqlite3
@@ -11,8 +11,10 @@ once, and the server goes on. Wants root for the last three. Not part of the gat
 import contextlib
 import os
 import shutil
+import signal
 import socket
 import subprocess
+import threading
 import time
 
 import pytest
@@ -29,7 +31,7 @@ def order_bytes(*words, root="", count=None):
 
 CREDIT = ("clubdesk", "credit", "club", "amy", "1")
 WHOLE = order_bytes(*CREDIT)
-DONE = (0, "done\n", "")
+DONE, FAILED, NO_ANSWER = (0, "done\n", ""), (5, "", "storage failed\n"), (8, "", "no answer\n")
 needs_root = pytest.mark.skipif(os.geteuid() != 0, reason="wants root")
 
 
@@ -130,6 +132,36 @@ def test_a_sender_that_takes_no_answer(club):
         goes_on(server)
 
 
+def test_a_server_that_does_not_greet(club, serving):
+    """It is stopped for as long as an order waits, and carries nothing out when it goes on."""
+    os.kill(serving.process.pid, signal.SIGSTOP)
+    began = time.monotonic()
+    assert club.order("credit", "amy", "1") == FAILED
+    assert 59 < time.monotonic() - began < 65
+    os.kill(serving.process.pid, signal.SIGCONT)
+    goes_on(serving)
+    assert credited(club) == 0
+
+
+@pytest.mark.parametrize("greeting, reply, wanted", [(b"!", b"\0done\n", DONE), (b"!", b"", NO_ANSWER), (b"?", b"\0done\n", FAILED), (b"", b"", FAILED)])
+def test_what_a_server_may_send(club, greeting, reply, wanted):
+    with socket.socket(socket.AF_UNIX) as door:
+        door.bind(f"{club.file}-office")
+        door.listen()
+
+        def serve_one():
+            with door.accept()[0] as it:
+                it.sendall(greeting)
+                if greeting == b"!":
+                    desk.read(it)
+                    it.sendall(reply)
+
+        server = threading.Thread(target=serve_one)
+        server.start()
+        assert club.order("credit", "amy", "1") == wanted
+        server.join()
+
+
 def test_fifty_at_once(club, serving, clubdesk):
     orders = [subprocess.Popen([clubdesk, "credit", club.file, "amy", "1"], stdout=subprocess.PIPE, stderr=subprocess.PIPE) for _ in range(50)]
     assert {(*it.communicate(), it.returncode) for it in orders} == {(b"done\n", b"", 0)}
@@ -183,7 +215,7 @@ def test_a_full_disk(club, small_disk):
             while True:
                 rest.write(bytes(4096))
         ended = [full.order("credit", "amy", "1") for _ in range(50)]
-        assert ended[-1] == (5, "", "storage failed\n")
+        assert ended[-1] == FAILED
         done = ended.count(DONE)
         assert done + ended.count(ended[-1]) == len(ended)
         os.unlink(small_disk / "rest")
