@@ -234,7 +234,9 @@ impl Plan {
         self.arriving
             .push(Arriving::Office(bytes))
             .expect(rt, "memory");
-        self.moments.push(at(rt, audit("").moment)).expect(rt, "memory");
+        self.moments
+            .push(at(rt, audit("").moment))
+            .expect(rt, "memory");
     }
 
     // A client comes with a request, and the office meanwhile with an order, if there is one.
