@@ -1,15 +1,18 @@
 #!/usr/bin/env -S /usr/bin/python3 -B -m pytest -q -x -s -p no:cacheprovider
 """The office beside the desk, with real processes: 500 orders of two offices, by the server's door, while four clients make 5,000
 requests of it, each order and each reply as it has to be, and the totals are the sums, by sqlite3 once the server is stopped. Then
-20 kills of servers and of orders, a client that is silent, a door that is stale or taken, a second server, links to the file and
-its folder, a file that is moved, another user, and the modes of the files. Prints how long orders and requests took, in one run
-with a server without orders, also at 300,000 bookings. Not part of the gate.
+20 kills of servers and of orders, clients of which one is silent and one sends a byte a second, a door that is stale or taken, a
+second server, links to the file and its folder, a file that is moved, replaced or removed, another user, the modes of the files, and
+the lines of orders. Prints how long orders and requests took, in one run with a server without orders, also at 300,000 bookings. Not
+part of the gate.
 """
 # groups: programs faults
 # wants: python3-pytest sqlite3 util-linux
 
 import contextlib
 import os
+import re
+import shutil
 import socket
 import stat
 import statistics
@@ -17,6 +20,7 @@ import subprocess
 import tempfile
 import threading
 import time
+from collections import Counter
 from concurrent.futures import ThreadPoolExecutor
 from pathlib import Path
 
@@ -121,7 +125,9 @@ def test_door_has_a_mode_and_orders_have_lines(club):
         assert stat.filemode(os.stat(f"{club.file}-office").st_mode) == "srw-------"
         beside(club, server, 500)
         log = server.log.read_text()
-    assert log.count(" office ") == 500 and ROOT not in log
+    names = ("add-member", "credit", "close-slot", "revoke-key", "show-slot")
+    assert Counter(re.findall(r" office (\S+) (\S+) ", log)) == {(name, "0"): 100 for name in names}
+    assert ROOT not in log
 
 
 def ends(wanted, most, *words):
@@ -150,6 +156,20 @@ def test_what_others_meet_beside_a_server(club):
             club.file.chmod(0o600)
 
 
+@pytest.mark.parametrize("is_replaced", [True, False], ids=["replaced", "removed"])
+def test_file_that_is_gone(made, is_replaced):
+    """The server goes on with the file that it opened, and leaves one in its place as it is."""
+    club = made.copied_to(made.file.with_name("gone"))
+    with club.served():
+        club.file.unlink()
+        if is_replaced:
+            shutil.copy(made.file, club.file)
+        ends(DONE, 1, club.program, "credit", club.file, "m2", "1")
+        assert club.balance("k2") == 10_001
+        assert club.file.exists() == is_replaced
+        assert not is_replaced or club.file.read_bytes() == made.file.read_bytes()
+
+
 def test_killed_server_leaves_a_door_and_whole_totals(club):
     assert Path(f"{club.file}-office").is_socket()
     ends(DONE, 2, club.program, "credit", club.file, "m3", "1")
@@ -173,6 +193,29 @@ def drip(client):
         for byte in b"GET /a":
             client.sendall(bytes([byte]))
             time.sleep(1)
+
+
+def test_orders_beside_four_clients_of_which_two_dawdle(club):
+    """One is silent, one sends a byte a second. Each order is carried out within a fraction of a second, and the other two have their replies."""
+    orders = Times()
+
+    def dawdles(server, act):
+        with socket.create_connection(("127.0.0.1", server.port), 60) as client, contextlib.suppress(ConnectionResetError):
+            act(client)
+            assert client.recv(1) == b""
+
+    def asks(server, place):
+        for _ in range(50):
+            assert desk.exchange(server.port, ACCOUNT.under(PASSES[place]).data, 60).startswith(b"HTTP/1.1 200 ")
+
+    with club.served("--patience", "2") as server, ThreadPoolExecutor(4) as pool:
+        begun = [pool.submit(dawdles, server, act) for act in (lambda _: None, drip)] + [pool.submit(asks, server, place) for place in (1, 2)]
+        while not all(it.done() for it in begun):
+            assert orders.of(club.order, "credit", "m4", 1) == DONE
+        for it in begun:
+            it.result()
+    assert max(orders) <= 0.9
+    orders.show("orders beside four clients, of which one is silent and one sends a byte a second")
 
 
 @pytest.mark.parametrize("dawdle", [lambda _: None, drip], ids=["silent", "a byte a second"])
