@@ -170,6 +170,17 @@ def test_file_that_is_gone(made, is_replaced):
         assert not is_replaced or club.file.read_bytes() == made.file.read_bytes()
 
 
+def test_door_in_a_folder_of_a_long_name(made):
+    """The path of the door has more bytes than a socket's address may."""
+    folder = made.file.with_name("f" * 120)
+    folder.mkdir()
+    club = made.copied_to(folder / "club")
+    with club.served():
+        assert Path(f"{club.file}-office").is_socket()
+        ends(DONE, 1, club.program, "credit", club.file, "m2", "1")
+        assert club.balance("k2") == 10_001
+
+
 def test_killed_server_leaves_a_door_and_whole_totals(club):
     assert Path(f"{club.file}-office").is_socket()
     ends(DONE, 2, club.program, "credit", club.file, "m3", "1")

@@ -1,6 +1,6 @@
 //! The verifier: the verdict on a request. It checks the signature first, and until then reads only
-//! the row of the key that the pass names. Next it reads what the caveats depend on, and last what
-//! the decision depends on.
+//! the row of the key that the pass names, and its older root if the current one doesn't sign the
+//! pass. Next it reads what the caveats depend on, and last what the decision depends on.
 
 ghost use Rattle.std.specs.Prelude.{
   ◌≡◌,

@@ -32,7 +32,7 @@ impl Fault {
     ghost use Rattle.std.specs.Prelude.{◌≡◌};
     ghost use Rattle.clubdesk_arguments.specs.Fault.{fault_status};
 
-    /// The exit status, 1 to 8.
+    /// The exit status, 1 to 8, or the one with which a server answered.
     pub fn status(&self) -> u8
         ensures { result ≡ fault_status self.now }
     {

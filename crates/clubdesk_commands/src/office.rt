@@ -17,7 +17,7 @@ use pass_json::write_any;
 use std::alloc::Global;
 use std::io::Write;
 
-/// The answer to an order that makes no pass, and to a pause.
+/// The answer to an order that makes no pass.
 pub(crate) const DONE: &str = "done\n";
 
 /// Gives an order to the desk, and returns the line `done`.

@@ -50,6 +50,30 @@ fn a_door_beside_its_file(rt: HostRuntime) -> Result<(), Fail> {
     Ok(())
 }
 
+// A folder whose name alone has more bytes than a socket's address may.
+fn new_folder(rt: &HostRuntime) -> Result<String, Fail> {
+    let path = new_path(rt, "deep")?;
+    let folder = format!(in rt.alloc(); "{path}-{:0>120}", 0)?;
+    fs::create_dir(rt, folder.as_str())?;
+    Ok(folder)
+}
+
+// A door stands beside its file however long their folder's path is.
+#[test]
+fn a_door_in_a_folder_of_a_long_name(rt: HostRuntime) -> Result<(), Fail> {
+    let folder = new_folder(&rt)?;
+    let path = format!(in rt.alloc(); "{}/club", folder.as_str())?;
+    expect_rows(&rt, path.as_str(), &AMY)?;
+    let place = door_of(&rt, path.as_str())?;
+    let door = FileDoor::make(&rt, path.as_str())?;
+    expect_eq(&rt, &socket_mode(&rt, place.as_str()), &OWN);
+    drop(door);
+    expect_eq(&rt, &socket_mode(&rt, place.as_str()), &None);
+    remove(&rt, path.as_str());
+    fs::remove_dir(&rt, folder.as_str())?;
+    Ok(())
+}
+
 // A file or a folder at the door's name stays, and there is no door.
 #[test]
 fn no_door_over_a_file(rt: HostRuntime) -> Result<(), Fail> {

@@ -4,6 +4,8 @@
 #[cfg(test)]
 mod arriving;
 #[cfg(test)]
+mod bad_orders;
+#[cfg(test)]
 mod beside;
 #[cfg(test)]
 mod callers;

@@ -173,7 +173,7 @@ fn keys(rt: HostRuntime) -> Result<(), Fail> {
 }
 
 // The passes were computed by a program of another language.
-static PASSES_OF_KEYS: [Row; 4] = [
+static PASSES_OF_KEYS: [Row; 5] = [
     Row(
         "add-key",
         "amy-2 amy 00112233445566778899aabbccddeeff",
@@ -195,6 +195,12 @@ static PASSES_OF_KEYS: [Row; 4] = [
         "amy-1 ffeeddccbbaa99887766554433221100 2026-04-25T00:00 --form json",
         "0 {\"c\":[],\"i\":\"key:amy-1\",\"l\":\"club-desk\",\
         \"s64\":\"KCFX6Yuml46qONOaXLd8NdScMHF3Rhger2bpvDhpHo8\",\"v\":2}\n",
+    ),
+    Row(
+        "add-key",
+        "abcdefghijklmnopqrstuvwx amy 00112233445566778899aabbccddeeff",
+        "0 AgEJY2x1Yi1kZXNrAhxrZXk6YWJjZGVmZ2hpamtsbW5vcHFyc3R1dnd4AAAGIBNlR4VGj8m96ZmIBUTHZTX\
+        VOtB9a8tjEv3fQ5S4lfFx\n",
     ),
 ];
 

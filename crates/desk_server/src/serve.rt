@@ -30,9 +30,8 @@ impl Error for ClockOutOfRange {}
 
 /// Serves this many clients, one after the other, and carries out each order of the office that
 /// comes before one of them, or while its request is awaited. A client gets the moment of the clock
-/// at its start. One that fails, on
-/// its way or in its exchange, counts like any other, and so does one whose request was refused.
-/// Orders don't count.
+/// at its start. One that fails, on its way or in its exchange, counts like any other, and so does
+/// one whose request was refused. Orders don't count.
 ///
 /// # Errors
 ///
