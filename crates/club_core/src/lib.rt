@@ -37,7 +37,7 @@ pub use event::{Event, EventReply, OfficeAnswer};
 pub use order_view::OrderView;
 pub use orders::decide_order;
 pub use pass_fault::PassFault;
-pub use refusal::{Methods, Refusal};
+pub use refusal::{Refusal, Resource};
 pub use reply::Reply;
 pub use request::Request;
 pub use sent_words::SentWords;

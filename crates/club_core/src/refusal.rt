@@ -1,14 +1,17 @@
-//! The refusals of a request, with their numbers, HTTP statuses and texts.
+//! The refusals of a request, with their numbers and texts.
 
 ghost use Rattle.std.specs.Prelude.{◌≡◌, Some};
 
 use std::fmt;
 
-/// The methods of a path.
+/// What a path names.
 #[derive(Clone, Copy, Debug, PartialEq, Eq)]
-pub enum Methods {
-    Get,
-    PutAndDelete,
+pub enum Resource {
+    Slot,
+    /// A booking of a slot under a number.
+    Booking,
+    /// The account of the key's member.
+    Account,
 }
 
 /// Why a request is refused. The causes are tested in this order, except that caveats are tested by
@@ -17,8 +20,8 @@ pub enum Methods {
 pub enum Refusal {
     BadRequest,
     NoSuchPath,
-    /// The path is known and has only these methods.
-    MethodNotAllowed(Methods),
+    /// The path names this, and has other methods.
+    MethodNotAllowed(Resource),
     NoPass,
     PassTooLong,
     PassMalformed,
@@ -76,31 +79,6 @@ impl Refusal {
             Refusal::BalanceTooLow => 20,
             Refusal::SlotHasBegun => 21,
             Refusal::Unavailable => 22,
-        }
-    }
-
-    /// The HTTP status of the reply.
-    pub fn status(self) -> u16
-        ensures { result ≡ (details_of self).status }
-    {
-        match self {
-            Refusal::BadRequest
-            | Refusal::PassTooLong
-            | Refusal::PassMalformed
-            | Refusal::ThirdPartyCaveat
-            | Refusal::TooManyCaveats => 400,
-            Refusal::NoPass | Refusal::NotVerified => 401,
-            Refusal::BalanceTooLow => 402,
-            Refusal::KeyRevoked | Refusal::CaveatNotUnderstood(_) | Refusal::CaveatDenies(_) => 403,
-            Refusal::NoSuchPath | Refusal::NoSuchFacility | Refusal::NoSuchBooking => 404,
-            Refusal::MethodNotAllowed(_) => 405,
-            Refusal::NumberUsed
-            | Refusal::NotBookable
-            | Refusal::SlotClosed
-            | Refusal::NoPlaces
-            | Refusal::QuotaReached
-            | Refusal::SlotHasBegun => 409,
-            Refusal::Unavailable => 503,
         }
     }
 

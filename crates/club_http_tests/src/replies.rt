@@ -1,7 +1,7 @@
 //! The text of each reply, byte for byte.
 
 use crate::rows::{expect_row, name, slot_at};
-use club_core::{Methods, Refusal, Reply};
+use club_core::{Refusal, Reply, Resource};
 use club_values::Kind;
 use http_response::{MAX_REPLY_LEN, reply_bytes};
 use std::process::Abort;
@@ -361,15 +361,23 @@ static NO_PASS: [Refused; 1] = [(
     "{\"fault\":4,\"text\":\"no pass\"}",
 )];
 
-static BY_GET: [Refused; 1] = [(
-    Refusal::MethodNotAllowed(Methods::Get),
-    "405 Method Not Allowed",
-    39,
-    "{\"fault\":3,\"text\":\"method not allowed\"}",
-)];
+static BY_GET: [Refused; 2] = [
+    (
+        Refusal::MethodNotAllowed(Resource::Slot),
+        "405 Method Not Allowed",
+        39,
+        "{\"fault\":3,\"text\":\"method not allowed\"}",
+    ),
+    (
+        Refusal::MethodNotAllowed(Resource::Account),
+        "405 Method Not Allowed",
+        39,
+        "{\"fault\":3,\"text\":\"method not allowed\"}",
+    ),
+];
 
 static BY_PUT_OR_DELETE: [Refused; 1] = [(
-    Refusal::MethodNotAllowed(Methods::PutAndDelete),
+    Refusal::MethodNotAllowed(Resource::Booking),
     "405 Method Not Allowed",
     39,
     "{\"fault\":3,\"text\":\"method not allowed\"}",

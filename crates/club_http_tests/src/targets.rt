@@ -1,12 +1,14 @@
 //! Targets of requests, their methods, and which refusal comes first.
 
 use crate::asked::{NO_PASS, NO_SUCH_PATH, PASS, Want, ask, asks};
-use club_core::{Methods, Refusal};
+use club_core::{Refusal, Resource};
 use std::process::Abort;
 
-const BY_PUT_OR_DELETE: Want = Want::Refused(Refusal::MethodNotAllowed(Methods::PutAndDelete));
+const NOT_OF_A_SLOT: Want = Want::Refused(Refusal::MethodNotAllowed(Resource::Slot));
 
-const BY_GET: Want = Want::Refused(Refusal::MethodNotAllowed(Methods::Get));
+const NOT_OF_A_BOOKING: Want = Want::Refused(Refusal::MethodNotAllowed(Resource::Booking));
+
+const NOT_OF_THE_ACCOUNT: Want = Want::Refused(Refusal::MethodNotAllowed(Resource::Account));
 
 // Methods and paths of requests that carry a pass.
 fn ask_by_path(rt: &(impl Abort + AllocGlobal), rows: &[(&'static str, &'static str, Want)]) {
@@ -90,25 +92,25 @@ fn paths(rt: HostRuntime) {
 }
 
 static METHODS: [(&str, &str, Want); 12] = [
-    ("get", "/account", BY_GET),
-    ("HEAD", "/account", BY_GET),
-    ("OPTIONS", "/account", BY_GET),
-    ("GETS", "/account", BY_GET),
-    ("!", "/account", BY_GET),
-    ("get", "/slots/court-1/2026-05-01/18", BY_GET),
-    ("HEAD", "/slots/court-1/2026-05-01/18", BY_GET),
-    ("OPTIONS", "/slots/court-1/2026-05-01/18", BY_GET),
-    ("GETS", "/slots/court-1/2026-05-01/18", BY_GET),
-    ("!", "/slots/court-1/2026-05-01/18", BY_GET),
+    ("get", "/account", NOT_OF_THE_ACCOUNT),
+    ("HEAD", "/account", NOT_OF_THE_ACCOUNT),
+    ("OPTIONS", "/account", NOT_OF_THE_ACCOUNT),
+    ("GETS", "/account", NOT_OF_THE_ACCOUNT),
+    ("!", "/account", NOT_OF_THE_ACCOUNT),
+    ("get", "/slots/court-1/2026-05-01/18", NOT_OF_A_SLOT),
+    ("HEAD", "/slots/court-1/2026-05-01/18", NOT_OF_A_SLOT),
+    ("OPTIONS", "/slots/court-1/2026-05-01/18", NOT_OF_A_SLOT),
+    ("GETS", "/slots/court-1/2026-05-01/18", NOT_OF_A_SLOT),
+    ("!", "/slots/court-1/2026-05-01/18", NOT_OF_A_SLOT),
     (
         "GET",
         "/slots/court-1/2026-05-01/18/bookings/7",
-        BY_PUT_OR_DELETE,
+        NOT_OF_A_BOOKING,
     ),
     (
         "put",
         "/slots/court-1/2026-05-01/18/bookings/7",
-        BY_PUT_OR_DELETE,
+        NOT_OF_A_BOOKING,
     ),
 ];
 
@@ -124,8 +126,8 @@ static ORDER: [(&str, Want); 5] = [
         Want::Refused(Refusal::BadRequest),
     ),
     ("POST /nowhere HTTP/1.1\r\n\r\n", NO_SUCH_PATH),
-    ("POST /account HTTP/1.1\r\n\r\n", BY_GET),
-    ("DELETE /account HTTP/1.1\r\n\r\n", BY_GET),
+    ("POST /account HTTP/1.1\r\n\r\n", NOT_OF_THE_ACCOUNT),
+    ("DELETE /account HTTP/1.1\r\n\r\n", NOT_OF_THE_ACCOUNT),
     ("GET /account HTTP/1.1\r\n\r\n", NO_PASS),
 ];
 

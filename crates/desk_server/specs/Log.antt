@@ -6,7 +6,7 @@ use Rattle.club_core.specs.declared.reply.Reply.{Reply}
 use Rattle.club_http.specs.Ends.{one_more}
 use Rattle.club_http.specs.declared.fault.AnswerFault.{AnswerFault}
 use Rattle.club_values.specs.Moment.{moment_text}
-use Rattle.http_response.specs.Text.{status_of}
+use Rattle.http_response.specs.Status.{status_of}
 use Rattle.desk_server.specs.RequestLine.{method_of, path_of}
 use Rattle.desk_server.specs.declared.log.Fate.{Fate}
 use Rattle.desk_server.specs.declared.log.Fate.TheVariants.{Absent, Overrun, Unanswered, Exchanged, Ordered}

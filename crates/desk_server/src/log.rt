@@ -9,11 +9,8 @@ use crate::request_line::RequestLine;
 use club_core::Reply;
 use club_http::{AnswerFault, Outlet, put_all};
 use club_values::Moment;
-use http_response::Line;
+use http_response::{Line, status_of};
 use std::time::{Clock, Instant};
-
-/// The status of a reply that serves.
-const OK: u16 = 200;
 
 /// The word of an order, in place of a method.
 const OFFICE: &[u8] = b"office";
@@ -213,8 +210,7 @@ fn written_status(outcome: &Result<Reply, AnswerFault>) -> Option<u16>
     ensures { result ≡ spec.written_status outcome.now }
 {
     match outcome {
-        Ok(Reply::Refused(refusal)) => Some(refusal.status()),
-        Ok(_) => Some(OK),
+        Ok(reply) => Some(status_of(reply)),
         Err(_) => None,
     }
 }

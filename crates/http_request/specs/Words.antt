@@ -3,9 +3,9 @@ use Rattle.std.specs.Prelude.{◌≡◌, ◌⊎◌, ℕ, ◌<◌, List, length, 
 use Rattle.std.specs.Option.{ok_or}
 use Rattle.std.specs.Str.{bytes_eq}
 use Rattle.httparse.specs.Grammar.{RequestHead}
-use Rattle.club_core.specs.declared.refusal.Methods.TheVariants.{Get, PutAndDelete}
 use Rattle.club_core.specs.declared.refusal.Refusal.{Refusal}
 use Rattle.club_core.specs.declared.refusal.Refusal.TheVariants.{BadRequest, NoSuchPath, MethodNotAllowed, NoPass, Unavailable}
+use Rattle.club_core.specs.declared.refusal.Resource.TheVariants as resources
 use Rattle.club_core.specs.declared.request.Request.{Request}
 use Rattle.club_core.specs.declared.request.Request.TheVariants as requests
 use Rattle.http_request.specs.declared.path.Place.{Place}
@@ -33,12 +33,12 @@ guests_by_method method body = if bytes_eq method (codes "PUT") then guests_in b
 -- what a method asks for at a place; methods are compared by their bytes
 abbrev pub request_at : Place → List ℕ → ℕ → Result Request Refusal
 request_at (SlotPlace slot) method guests =
-    if bytes_eq method (codes "GET") then Ok (requests.View slot) else Err (MethodNotAllowed Get)
+    if bytes_eq method (codes "GET") then Ok (requests.View slot) else Err (MethodNotAllowed resources.Slot)
 request_at (BookingPlace slot number) method guests =
     if bytes_eq method (codes "PUT") then Ok (requests.Book slot number guests)
-    else (if bytes_eq method (codes "DELETE") then Ok (requests.Cancel slot number) else Err (MethodNotAllowed PutAndDelete))
+    else (if bytes_eq method (codes "DELETE") then Ok (requests.Cancel slot number) else Err (MethodNotAllowed resources.Booking))
 request_at AccountPlace method guests =
-    if bytes_eq method (codes "GET") then Ok requests.Account else Err (MethodNotAllowed Get)
+    if bytes_eq method (codes "GET") then Ok requests.Account else Err (MethodNotAllowed resources.Account)
 
 -- a request, decoded from its method, the place of its target, its fields and its body; or the first refusal that fits
 unfoldable pub decoded_request : List ℕ → Option Place → List (List ℕ × List ℕ) → List ℕ → Result DecodedRequest Refusal

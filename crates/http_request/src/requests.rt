@@ -4,7 +4,7 @@ ghost use Rattle.std.specs.Prelude.{◌≡◌, Ok};
 ghost use Rattle.http_request.specs.Words as spec;
 
 use crate::path::Place;
-use club_core::{Methods, Refusal, Request};
+use club_core::{Refusal, Request, Resource};
 use club_rows::Guests;
 
 /// What a method asks for at a place.
@@ -16,7 +16,7 @@ pub(crate) fn request_at(place: Place, method: &[u8], guests: Guests) -> Result<
             if method == b"GET".as_slice() {
                 Ok(Request::View { slot })
             } else {
-                Err(Refusal::MethodNotAllowed(Methods::Get))
+                Err(Refusal::MethodNotAllowed(Resource::Slot))
             }
         }
         Place::BookingPlace(slot, number) => {
@@ -29,14 +29,14 @@ pub(crate) fn request_at(place: Place, method: &[u8], guests: Guests) -> Result<
             } else if method == b"DELETE".as_slice() {
                 Ok(Request::Cancel { slot, number })
             } else {
-                Err(Refusal::MethodNotAllowed(Methods::PutAndDelete))
+                Err(Refusal::MethodNotAllowed(Resource::Booking))
             }
         }
         Place::AccountPlace => {
             if method == b"GET".as_slice() {
                 Ok(Request::Account)
             } else {
-                Err(Refusal::MethodNotAllowed(Methods::Get))
+                Err(Refusal::MethodNotAllowed(Resource::Account))
             }
         }
     }

@@ -1,3 +1,4 @@
 pub mod Limits
 pub mod Body
+pub mod Status
 pub mod Text

@@ -2,12 +2,11 @@
 use Rattle.std.specs.Prelude.{ℕ, ◌==◌, List, [], ◌++◌, length, codes, if◌then◌else◌}
 use Rattle.std.specs.Fmt.{decimal}
 use Rattle.http.specs.StatusCode.{code_digits}
-use Rattle.club_core.specs.declared.refusal.Methods.TheVariants.{Get, PutAndDelete}
 use Rattle.club_core.specs.declared.refusal.Refusal.TheVariants.{MethodNotAllowed}
 use Rattle.club_core.specs.declared.reply.Reply.{Reply}
 use Rattle.club_core.specs.declared.reply.Reply.TheVariants.{Refused}
-use Rattle.club_core.specs.Refusal.{details_of}
 use Rattle.http_response.specs.Body.{body_text}
+use Rattle.http_response.specs.Status.{status_of, methods_of}
 
 -- the phrases of the statuses (RFC 9110, section 15)
 abbrev pub phrase_of : ℕ → List ℕ
@@ -21,10 +20,6 @@ phrase_of status =
     if status == 405 then codes "Method Not Allowed" else (
     if status == 409 then codes "Conflict" else codes "Service Unavailable")))))))
 
-abbrev pub status_of : Reply → ℕ
-status_of (Refused refusal) = (details_of refusal).status
-status_of served = 200
-
 abbrev pub status_line : Reply → List ℕ
 status_line reply = codes "HTTP/1.1 " ++ code_digits (status_of reply) ++ codes " " ++ phrase_of (status_of reply) ++ codes "\r\n"
 
@@ -32,10 +27,9 @@ status_line reply = codes "HTTP/1.1 " ++ code_digits (status_of reply) ++ codes 
 abbrev pub challenge_field : Reply → List ℕ
 challenge_field reply = if status_of reply == 401 then codes "WWW-Authenticate: Bearer\r\n" else []
 
--- on 405, the methods of the path (RFC 9110, section 10.2.1)
+-- on 405, the methods of what the path names (RFC 9110, section 10.2.1)
 abbrev pub allow_field : Reply → List ℕ
-allow_field (Refused (MethodNotAllowed Get)) = codes "Allow: GET\r\n"
-allow_field (Refused (MethodNotAllowed PutAndDelete)) = codes "Allow: PUT, DELETE\r\n"
+allow_field (Refused (MethodNotAllowed resource)) = codes "Allow: " ++ methods_of resource ++ codes "\r\n"
 allow_field reply = []
 
 -- the head of a reply whose body has `body_len` bytes

@@ -1,33 +1,31 @@
 //! The head of a reply.
 
 ghost use Rattle.std.specs.Prelude.{◌≡◌, ◌≤◌, ◌+◌, ◌++◌, length};
+ghost use Rattle.http_response.specs.Limits.{max_line_len};
+ghost use Rattle.http_response.specs.Status.{status_of as number_of};
 ghost use Rattle.http_response.specs.Text as spec;
 
 use crate::line::Line;
-use club_core::{Methods, Refusal, Reply};
+use crate::status::{methods_of, status_of};
+use club_core::{Refusal, Reply};
 use http::StatusCode;
 
-/// The status of a reply: 200 if the request is served, else that of the refusal.
-fn status_of(reply: &Reply) -> StatusCode
-    ensures { result ≡ spec.status_of reply.now }
+fn status_code(reply: &Reply) -> StatusCode
+    ensures { result ≡ number_of reply.now }
 {
-    let number = match reply {
-        Reply::Refused(refusal) => refusal.status(),
-        _ => 200,
-    };
-    StatusCode::from_u16(number).unwrap()
+    StatusCode::from_u16(status_of(reply)).unwrap()
 }
 
-/// The field `Allow` on 405: the methods of the path.
-fn allow_field(reply: &Reply) -> &'static [u8]
-    ensures text { result.now ≡ spec.allow_field reply.now }
-    ensures len { length result.now ≤ 20 }
+/// Appends the field `Allow` on 405: the methods of what the path names.
+fn push_allow(line: &mut Line, reply: &Reply)
+    requires { length line.old + 20 ≤ max_line_len }
+    ensures text { line.new ≡ line.old ++ spec.allow_field reply.now }
+    ensures len { length line.new ≤ length line.old + 20 }
 {
-    match reply {
-        Reply::Refused(Refusal::MethodNotAllowed(Methods::Get)) => b"Allow: GET\r\n",
-        Reply::Refused(Refusal::MethodNotAllowed(Methods::PutAndDelete)) =>
-            b"Allow: PUT, DELETE\r\n",
-        _ => b"",
+    if let Reply::Refused(Refusal::MethodNotAllowed(resource)) = reply {
+        line.push(b"Allow: ");
+        line.push(methods_of(*resource));
+        line.push(b"\r\n");
     }
 }
 
@@ -36,7 +34,7 @@ fn challenge(reply: &Reply) -> &'static [u8]
     ensures text { result.now ≡ spec.challenge_field reply.now }
     ensures len { length result.now ≤ 26 }
 {
-    if status_of(reply) == StatusCode::UNAUTHORIZED {
+    if status_code(reply) == StatusCode::UNAUTHORIZED {
         b"WWW-Authenticate: Bearer\r\n"
     } else {
         b""
@@ -47,7 +45,7 @@ fn status_line(reply: &Reply) -> Line
     ensures text { result ≡ spec.status_line reply.now }
     ensures len { length result ≤ 35 }
 {
-    let status = status_of(reply);
+    let status = status_code(reply);
     let mut line = Line::new();
     line.push(b"HTTP/1.1 ");
     line.push(status.as_str().as_bytes());
@@ -67,7 +65,7 @@ pub(crate) fn head_of(reply: &Reply, body_len: usize) -> Line
     line.push_number(body_len as u64);
     line.push(b"\r\n");
     line.push(challenge(reply));
-    line.push(allow_field(reply));
+    push_allow(&mut line, reply);
     line.push(b"Connection: close\r\n\r\n");
     line
 }

@@ -6,6 +6,8 @@ mod body;
 mod head;
 mod line;
 mod reply;
+mod status;
 
 pub use line::{Line, MAX_LINE_LEN};
 pub use reply::{MAX_REPLY_LEN, reply_bytes};
+pub use status::status_of;
