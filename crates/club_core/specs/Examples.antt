@@ -11,10 +11,8 @@ use Rattle.club_core.specs.declared.reply.Reply.TheVariants.{Booked, Cancelled, 
 use Rattle.club_core.specs.declared.request.Request.{Request}
 use Rattle.club_core.specs.declared.request.Request.TheVariants as asked
 use Rattle.club_core.specs.Club.{Club, empty_club}
-use Rattle.club_core.specs.declared.event.EventReply.{EventReply}
-use Rattle.club_core.specs.declared.event.EventReply.TheVariants.{Replied, Answered}
-use Rattle.club_core.specs.declared.event.OfficeAnswer.TheVariants.{Done, NotDone}
-use Rattle.club_core.specs.Run.{Event, Asked, Ordered, replies_of, club_after}
+use Rattle.club_core.specs.declared.command.OfficeAnswer.TheVariants.{Done, NotDone}
+use Rattle.club_core.specs.Run.{Event, Asked, Ordered, replies_of, club_after, EventReply, ToMember, ToOffice}
 
 abbrev pub root : List ℕ
 root = replicate 16 7
@@ -51,13 +49,13 @@ abbrev pub ask : Request → ℕ → Event
 ask request moment = ask_with [] request moment
 
 abbrev pub served_booking : ℕ → ℕ → ℕ → EventReply
-served_booking number charge left = Replied (Booked (codes "amy-1") number charge left)
+served_booking number charge left = ToMember (Booked (codes "amy-1") number charge left)
 
 abbrev pub served_cancellation : ℕ → ℕ → EventReply
-served_cancellation number refund = Replied (Cancelled (codes "amy-1") number refund)
+served_cancellation number refund = ToMember (Cancelled (codes "amy-1") number refund)
 
 abbrev pub account : ℕ → ℕ → ℕ → EventReply
-account balance count spent = Replied (AccountShown (codes "amy") balance 5 count spent)
+account balance count spent = ToMember (AccountShown (codes "amy") balance 5 count spent)
 
 -- one member's list: a booking, the account, a cancellation
 abbrev pub BooksAndCancels : Type 0
@@ -76,7 +74,7 @@ RepeatsAfterACancellation =
     ∷ ask (asked.Book (slot_at 18) 7 1) noon
     ∷ ask asked.Account late
     ∷ [])
-    ≡ served_booking 7 600 1 ∷ served_cancellation 7 600 ∷ served_booking 7 600 1 ∷ Replied (Refused refusals.NumberUsed) ∷ account 10_000 0 0 ∷ []
+    ≡ served_booking 7 600 1 ∷ served_cancellation 7 600 ∷ served_booking 7 600 1 ∷ ToMember (Refused refusals.NumberUsed) ∷ account 10_000 0 0 ∷ []
 
 -- a slot can be closed only while nobody has booked it; a closed slot can't be booked
 abbrev pub ClosesASlot : Type 0
@@ -90,11 +88,11 @@ ClosesASlot =
     ∷ ask (asked.Book (slot_at 18) 8 0) noon
     ∷ [])
     ≡ served_booking 7 600 1
-    ∷ Answered (NotDone SlotInUse)
+    ∷ ToOffice (NotDone SlotInUse)
     ∷ served_cancellation 7 600
-    ∷ Answered Done
-    ∷ Answered (NotDone Exists)
-    ∷ Replied (Refused refusals.SlotClosed)
+    ∷ ToOffice Done
+    ∷ ToOffice (NotDone Exists)
+    ∷ ToMember (Refused refusals.SlotClosed)
     ∷ []
 
 -- a pass that may spend 600 points may spend them again after a refund
@@ -107,4 +105,4 @@ KeepsASpendLimit =
     ∷ limited (asked.Cancel (slot_at 18) 7) noon
     ∷ limited (asked.Book (slot_at 19) 8 0) noon
     ∷ [])
-    ≡ served_booking 7 600 1 ∷ Replied (Refused (refusals.CaveatDenies 1)) ∷ served_cancellation 7 600 ∷ served_booking 8 200 3 ∷ []
+    ≡ served_booking 7 600 1 ∷ ToMember (Refused (refusals.CaveatDenies 1)) ∷ served_cancellation 7 600 ∷ served_booking 8 200 3 ∷ []

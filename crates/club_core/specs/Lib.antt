@@ -11,7 +11,6 @@ pub mod After
 pub mod Office
 pub mod Run
 pub mod Events
-pub mod Words
 pub mod Solo
 pub mod Refusal
 pub mod Faults

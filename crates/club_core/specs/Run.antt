@@ -5,10 +5,9 @@ use Rattle.club_core.specs.declared.change.Change.{Change}
 use Rattle.club_core.specs.declared.command.Command.{Command}
 use Rattle.club_core.specs.declared.command.Command.TheVariants.{AddMember, Credit, AddFacility, AddKey, RevokeKey, RotateKey, CloseSlot}
 use Rattle.club_core.specs.declared.command.OfficeFault.{OfficeFault}
-use Rattle.club_core.specs.declared.event.EventReply.{EventReply}
-use Rattle.club_core.specs.declared.event.EventReply.TheVariants.{Replied, Answered}
-use Rattle.club_core.specs.declared.event.OfficeAnswer.{OfficeAnswer}
-use Rattle.club_core.specs.declared.event.OfficeAnswer.TheVariants.{Done, NewKey, NotDone}
+use Rattle.club_core.specs.declared.command.OfficeAnswer.{OfficeAnswer}
+use Rattle.club_core.specs.declared.command.OfficeAnswer.TheVariants.{Done, NewKey, NotDone}
+use Rattle.club_core.specs.declared.reply.Reply.{Reply}
 use Rattle.club_core.specs.Pass.{Words}
 use Rattle.club_core.specs.Club.{Club}
 use Rattle.club_core.specs.Answer.{verdict_in}
@@ -19,6 +18,15 @@ use Rattle.club_core.specs.Office.{office_verdict}
 pub data Event : Type 0 where
   Asked : (words : Words) (moment : ℕ) → Event
   Ordered : (command : Command) → Event
+
+-- the response to an event: the reply to a request, or the answer to an order of the office, of whichever type
+pub data Response (O : Type 0) : Type 0 where
+  ToMember : (reply : Reply) → Response O
+  ToOffice : (answer : O) → Response O
+
+-- the machine's
+abbrev pub EventReply : Type 0
+EventReply = Response OfficeAnswer
 
 -- the reply to an event, and the club after it
 pub record Outcome : Type 0 where
@@ -41,11 +49,11 @@ done_answer (CloseSlot slot) = Done
 
 -- a refused order leaves the club unchanged
 abbrev pub order_outcome : Club → Command → Result Change OfficeFault → Outcome
-order_outcome club command (Err fault) = record { reply = Answered (NotDone fault); club = club }
-order_outcome club command (Ok change) = record { reply = Answered (done_answer command); club = after change club }
+order_outcome club command (Err fault) = record { reply = ToOffice (NotDone fault); club = club }
+order_outcome club command (Ok change) = record { reply = ToOffice (done_answer command); club = after change club }
 
 abbrev pub verdict_outcome : Club → Verdict → Outcome
-verdict_outcome club verdict = record { reply = Replied verdict.reply; club = after_change verdict.change club }
+verdict_outcome club verdict = record { reply = ToMember verdict.reply; club = after_change verdict.change club }
 
 abbrev pub step : Club → Event → Outcome
 step club (Asked words moment) = verdict_outcome club (verdict_in club words moment)

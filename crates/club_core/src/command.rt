@@ -1,4 +1,6 @@
-//! The orders of the office, and the faults with which they are refused.
+//! The orders of the office, the answers to them, and the faults with which they are refused.
+
+ghost use Rattle.std.specs.Prelude.{◌≡◌};
 
 use crate::request::slot_within;
 use club_rows::Root;
@@ -102,6 +104,34 @@ impl Command {
                 let _until = until.number();
             }
             Command::CloseSlot(slot) => slot_within(slot),
+        }
+    }
+}
+
+/// The reply to an order of the office.
+#[derive(Clone, Copy, Debug, PartialEq, Eq)]
+pub enum OfficeAnswer {
+    Done,
+    /// A key was added, or got a new root. The signature of its passes follows from its name and
+    /// root.
+    NewKey { name: Name, root: Root },
+    NotDone(OfficeFault),
+}
+
+impl OfficeAnswer {
+    ghost use Rattle.club_core.specs.Run.{done_answer};
+
+    /// The reply to an order that was carried out.
+    pub fn done(command: &Command) -> OfficeAnswer
+        ensures { result ≡ done_answer command.now }
+    {
+        match command {
+            Command::AddKey { name, root, .. } | Command::RotateKey { name, root, .. } =>
+                OfficeAnswer::NewKey {
+                    name: *name,
+                    root: *root,
+                },
+            _ => OfficeAnswer::Done,
         }
     }
 }

@@ -7,7 +7,6 @@ mod account;
 mod change;
 mod command;
 mod decisions;
-mod event;
 pub mod laws;
 mod order_view;
 mod orders;
@@ -21,7 +20,6 @@ mod slot_use;
 mod store;
 mod verdict;
 mod view;
-mod words;
 
 pub use acceptance::answer;
 pub use account::MemberAccount;
@@ -31,9 +29,8 @@ pub use club_rows::{
     MAX_BOOKING_NUMBER, MAX_CHARGE, MAX_CREDITED, MAX_GUESTS, MAX_PLACES, MAX_PRICE, MAX_QUOTA,
     MAX_ROOT_LEN, MIN_ROOT_LEN, Member, OlderRoot, Root, slot_from_columns,
 };
-pub use command::{Command, MAX_POINTS, OfficeFault};
+pub use command::{Command, MAX_POINTS, OfficeAnswer, OfficeFault};
 pub use decisions::{decide, decide_account, decide_book, decide_cancel, decide_view};
-pub use event::{Event, EventReply, OfficeAnswer};
 pub use order_view::OrderView;
 pub use orders::decide_order;
 pub use pass_fault::PassFault;
@@ -46,4 +43,3 @@ pub use slot_use::SlotUse;
 pub use store::{ClubStore, StoreFault};
 pub use verdict::Verdict;
 pub use view::View;
-pub use words::{Pass, Words};

@@ -1,7 +1,8 @@
 //! Passes and expected answers, as plain values.
 
 use crate::values::name;
-use club_core::{Change, Pass, PassFault, Refusal, Verdict, Words};
+use club_core::{Change, PassFault, Refusal, Verdict};
+use club_reference::{Pass, Words};
 use club_values::Name;
 use std::alloc::Global;
 use std::process::Abort;

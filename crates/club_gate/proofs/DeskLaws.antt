@@ -28,9 +28,9 @@ use Rattle.club_core.specs.Answer.{ask_of, verdict_in}
 use Rattle.club_core.specs.Basis.{Basis, basis_of, basis_under, key_of, view_of}
 use Rattle.club_core.specs.Club.{Club, key_named}
 use Rattle.club_core.specs.Pass.{Pass, Words, IsSignedUnder}
-use Rattle.club_core.specs.Run.{Asked}
+use Rattle.club_core.specs.Run.{Asked, ToMember}
 use Rattle.club_laws.specs.SingleRequest.{DependsOnTheBasisAlone, MoreCaveatsNeverOpenMore, RefusesWithoutABasis, ServesOnlyTheEntitled, words_with}
-use Rattle.club_laws.specs.Failed.{ToMember, is_unavailable}
+use Rattle.club_laws.specs.Failed.{is_unavailable}
 use Rattle.club_gate.specs.Desk.{IsAnsweredBy, IsRefusedBy}
 use Rattle.club_gate.specs.Identifier.{FindsNames, key_name_in}
 use Rattle.club_gate.specs.Minted.{identifier_of}

@@ -6,8 +6,7 @@ use Rattle.club_core.specs.declared.change.Change.{Change}
 use Rattle.club_core.specs.declared.command.Command.{Command}
 use Rattle.club_core.specs.declared.command.Command.TheVariants.{AddMember, Credit, AddFacility, AddKey, RevokeKey, RotateKey, CloseSlot}
 use Rattle.club_core.specs.declared.command.OfficeFault.{OfficeFault}
-use Rattle.club_core.specs.declared.event.OfficeAnswer.{OfficeAnswer}
-use Rattle.club_core.specs.declared.event.EventReply.TheVariants.{Replied}
+use Rattle.club_core.specs.declared.command.OfficeAnswer.{OfficeAnswer}
 use Rattle.club_core.specs.declared.refusal.Refusal.TheVariants.{Unavailable}
 use Rattle.club_core.specs.declared.reply.Reply.{Reply}
 use Rattle.club_core.specs.declared.reply.Reply.TheVariants.{Refused}
@@ -20,8 +19,8 @@ use Rattle.club_core.specs.Club.{Club, IsSound}
 use Rattle.club_core.specs.Events.{IsEvent}
 use Rattle.club_core.specs.Office.{office_verdict}
 use Rattle.club_core.specs.Pass.{Words}
-use Rattle.club_core.specs.Run.{Asked, Ordered, after_change, done_answer, order_outcome}
-use Rattle.club_laws.specs.Failed.{ToMember, ToOffice, present_reply, is_unavailable, NeverUnavailable}
+use Rattle.club_core.specs.Run.{Asked, Ordered, after_change, done_answer, order_outcome, EventReply, ToMember, ToOffice}
+use Rattle.club_laws.specs.Failed.{present_reply, is_unavailable, NeverUnavailable}
 use Rattle.club_laws.specs.SoundRuns.{ChangesFit}
 use Rattle.club_core.specs.Store.{IsRead}
 use Rattle.club_gate.specs.computed.DecodedPass.{decoded_words}
@@ -49,7 +48,7 @@ reply_fails : (result : Result Reply StoreFault) → IsErr result → reply_or_u
 reply_fails (Ok reply) h = absurd (cc)
 reply_fails (Err fault) h = refl
 
-other_reply : (reply : Reply) → Replied reply ≢ Replied (Refused Unavailable) → is_unavailable reply ≡ false
+other_reply : (reply : Reply) → ◌≢◌ {A = EventReply} (ToMember reply) (ToMember (Refused Unavailable)) → is_unavailable reply ≡ false
 other_reply (Refused Unavailable) h = absurd (h refl)
 other_reply reply h = refl
 
@@ -66,7 +65,7 @@ ask_fits fits club words moment verdict sound event e = go verdict.change (ap (�
 pub always_decided : NeverUnavailable → (club : Club) (words : Words) (moment : ℕ) (verdict : Verdict) → verdict ≡ verdict_in club words moment
     → verdict.reply ≡ unavailable → ⊥
 always_decided never club words moment verdict e is =
-    never club (Asked words moment) (ap (λ (v : Verdict). Replied v.reply) (sym e) ∙ ap Replied is)
+    never club (Asked words moment) (ap (λ (v : Verdict). ToMember v.reply) (sym e) ∙ ap ToMember is)
 
 -- a fault at the verdict's change is one at the request's
 pub changed_fault : {S : Type 0} (Fails : Option Change → S → StoreFault → S → Type 0) (old now new : S) (club : Club) (words : Words) (moment : ℕ)

@@ -10,9 +10,9 @@ use Rattle.club_core.specs.Answer.{verdict_in}
 use Rattle.club_core.specs.Club.{Club}
 use Rattle.club_core.specs.Office.{office_verdict}
 use Rattle.club_core.specs.Pass.{Words}
-use Rattle.club_core.specs.Run.{Event, Asked, Ordered, after_change, step}
+use Rattle.club_core.specs.Run.{Event, Asked, Ordered, after_change, step, Response}
 use Rattle.club_core.specs.Store.{FitsClub, IsRead, KeepsClub, Returns}
-use Rattle.club_laws.specs.Failed.{Response, present_reply, has_failed}
+use Rattle.club_laws.specs.Failed.{present_reply, has_failed}
 use Rattle.club_gate.specs.declared.event.OfficeReply.{OfficeReply}
 use Rattle.club_gate.specs.declared.event.OfficeReply.TheVariants.{Refused}
 use Rattle.club_gate.specs.declared.fault.Fault.{Fault}

@@ -1,14 +1,14 @@
 -- The desk's responses, and how the machine's replies become responses (ours).
 use Rattle.std.specs.Prelude.{ℕ, Bool, true, false, List, ◌++◌, codes, Result, Ok, Err}
-use Rattle.club_core.specs.declared.event.OfficeAnswer.{OfficeAnswer}
-use Rattle.club_core.specs.declared.event.OfficeAnswer.TheVariants as answers
+use Rattle.club_core.specs.declared.command.OfficeAnswer.{OfficeAnswer}
+use Rattle.club_core.specs.declared.command.OfficeAnswer.TheVariants as answers
 use Rattle.club_core.specs.declared.store.StoreFault.{StoreFault}
 use Rattle.club_core.specs.declared.refusal.Refusal.TheVariants.{Unavailable}
 use Rattle.club_core.specs.declared.reply.Reply.{Reply}
 use Rattle.club_core.specs.declared.reply.Reply.TheVariants as member_replies
 use Rattle.club_core.specs.Faults.{office_fault_text, store_fault_text}
-use Rattle.club_laws.specs.Failed.{Presentation, ToMember, ToOffice}
-use Rattle.club_laws.specs.Failed as laws
+use Rattle.club_core.specs.Run.{Response, ToMember, ToOffice}
+use Rattle.club_laws.specs.Failed.{Presentation}
 use Rattle.club_gate.specs.declared.event.EventReply.{EventReply}
 use Rattle.club_gate.specs.declared.event.EventReply.TheVariants.{Replied, Answered}
 use Rattle.club_gate.specs.declared.event.OfficeReply.{OfficeReply}
@@ -46,7 +46,7 @@ abbrev pub desk_presentation : Presentation OfficeReply
 desk_presentation = record { shown = office_reply_of; is_fault = is_failure }
 
 -- the response to an event
-abbrev pub response_of : EventReply → laws.Response OfficeReply
+abbrev pub response_of : EventReply → Response OfficeReply
 response_of (Replied reply) = ToMember reply
 response_of (Answered reply) = ToOffice reply
 

@@ -9,13 +9,13 @@ use Rattle.club_core.specs.declared.store.StoreFault.{StoreFault}
 use Rattle.club_core.specs.Acceptance.{IsAcceptedIn}
 use Rattle.club_core.specs.Club.{Club, empty_club, bookings_of, member_named, IsSound}
 use Rattle.club_core.specs.Pass.{Words}
-use Rattle.club_core.specs.Run.{Asked, step, replies_of, club_after}
+use Rattle.club_core.specs.Run.{Asked, step, replies_of, club_after, Response, ToMember}
 use Rattle.club_core.specs.Run as machine
 use Rattle.club_core.specs.Solo.{own_events, part_of, solo_replies}
 use Rattle.club_core.specs.Sums.{cost_of}
 use Rattle.club_laws.specs.RunsWithFailures.{RepeatsServedReplies, WasReturned}
 use Rattle.club_laws.specs.Conservation.{IsConserved, HasPlaces}
-use Rattle.club_laws.specs.Failed.{ToMember, has_failed, IsRun, answered_events, answers}
+use Rattle.club_laws.specs.Failed.{has_failed, IsRun, answered_events, answers}
 use Rattle.club_laws.specs.Failed as laws
 use Rattle.club_laws.specs.SoloLaw.{replies_to}
 use Rattle.club_gate.specs.Desk.{FailsForCause, NamesItsFault, OfItsClub, Steps, change_of}
@@ -29,7 +29,7 @@ use Rattle.club_gate.specs.computed.DecodedPass.{machine_event}
 
 -- the response to an event
 abbrev pub DeskResponse : Type 0
-DeskResponse = laws.Response OfficeReply
+DeskResponse = Response OfficeReply
 
 abbrev pub responses_of : List EventReply → List DeskResponse
 responses_of replies = map response_of replies

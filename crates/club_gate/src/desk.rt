@@ -20,7 +20,7 @@ ghost use Rattle.club_core.specs.Office.{order_view};
 ghost use Rattle.club_core.specs.Run as machine;
 ghost use Rattle.club_core.specs.Sheet.{IsSheet};
 ghost use Rattle.club_core.specs.Store.{KeepsClub, ReadsOrFails, Returns};
-ghost use Rattle.club_laws.specs.Failed.{ToMember, ToOffice};
+ghost use Rattle.club_core.specs.Run.{ToMember, ToOffice};
 ghost use Rattle.club_gate.specs.Desk.{
   FailsAt,
   FailsForCause,

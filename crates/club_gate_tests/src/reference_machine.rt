@@ -1,9 +1,9 @@
 //! The reference machine's replies to events.
 
 use crate::values::{at, name, push};
-use club_core::{OfficeAnswer, Reply, SlotUse, Words};
+use club_core::{OfficeAnswer, Reply, SlotUse};
 use club_gate::{EventReply, Fault, OfficeReply, key_signature};
-use club_reference::Club;
+use club_reference::{Club, Words};
 use std::alloc::Global;
 use std::process::Abort;
 use test_kit::drawn::{Asking, Event};

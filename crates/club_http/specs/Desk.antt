@@ -7,8 +7,7 @@ use Rattle.club_core.specs.declared.reply.Reply.{Reply}
 use Rattle.club_core.specs.declared.request.Request.{Request}
 use Rattle.club_core.specs.declared.store.StoreFault.{StoreFault}
 use Rattle.club_core.specs.Club.{Club}
-use Rattle.club_core.specs.Run.{Asked}
-use Rattle.club_laws.specs.Failed.{ToMember}
+use Rattle.club_core.specs.Run.{Asked, ToMember}
 use Rattle.club_gate.specs.Desk.{FailsForCause, OfItsClub, Steps}
 use Rattle.club_gate.specs.computed.DecodedPass.{decoded_words}
 use Rattle.club_gate.specs.Served.{IsLawful, RefusesByFormFault}

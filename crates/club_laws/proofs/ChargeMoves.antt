@@ -12,9 +12,7 @@ use Rattle.club_rows.specs.Booking.{refund_at}
 use Rattle.club_core.specs.Club.{Club}
 use Rattle.club_core.specs.Answer.{verdict_in}
 use Rattle.club_core.specs.After.{cancelled_booking}
-use Rattle.club_core.specs.declared.event.EventReply.{EventReply}
-use Rattle.club_core.specs.declared.event.EventReply.TheVariants.{Replied}
-use Rattle.club_core.specs.Run.{after_change}
+use Rattle.club_core.specs.Run.{after_change, EventReply, ToMember}
 use Rattle.club_laws.specs.Points.{charge_of_reply}
 use Rattle.club_laws.proofs.FoundRows.{found_is_there, none_found, any_passes, any-map}
 use Rattle.club_laws.proofs.NamedRows.{is_numbered, self_numbered, numbered_back}
@@ -40,7 +38,7 @@ or_nothing : (b : Bool) → (b || false) ≡ b
 or_nothing true = refl
 or_nothing false = refl
 
-no_charge_of_silent : (reply : Reply) → IsSilent reply → charge_of_reply (Replied reply) ≡ []
+no_charge_of_silent : (reply : Reply) → IsSilent reply → charge_of_reply (ToMember reply) ≡ []
 no_charge_of_silent (SlotShown slot kind price places taken closed) h = refl
 no_charge_of_silent (Booked key number charge left) h = absurd h
 no_charge_of_silent (Cancelled key number refund) h = refl
@@ -52,14 +50,14 @@ charges_stay p bookings reply e = Stays e refl (λ key number. refl)
 
 charge_again : (p : List ℕ → Bool) (bookings : List Booking) (key : List ℕ) (number : ℕ) (booking : Booking)
     → find (is_numbered key number) bookings ≡ Some booking → MovesCharge p bookings bookings
-    (Replied (Booked booking.key booking.number booking.charge booking.left))
+    (ToMember (Booked booking.key booking.number booking.charge booking.left))
 charge_again p bookings key number booking e =
     Repeats (record { key = booking.key; number = booking.number; points = booking.charge }) refl
     (any_passes (is_numbered booking.key booking.number) bookings booking (found_is_there (is_numbered key number) bookings booking e) (self_numbered booking))
     refl (λ k n. refl)
 
 charge_new : (p : List ℕ → Bool) (bookings : List Booking) (new : Booking) → find (is_numbered new.key new.number) bookings ≡ None
-    → MovesCharge p bookings (bookings ++ new ∷ []) (Replied (Booked new.key new.number new.charge new.left))
+    → MovesCharge p bookings (bookings ++ new ∷ []) (ToMember (Booked new.key new.number new.charge new.left))
 charge_new p bookings new none =
     Adds (record { key = new.key; number = new.number; points = new.charge }) refl
     (list_any_none (is_numbered new.key new.number) bookings (none_found (is_numbered new.key new.number) bookings none))
@@ -79,14 +77,14 @@ charge_cancelled p bookings key number refund reply e =
     (λ k n. any-map (cancelled_booking key number refund) (is_numbered k n) bookings)
 
 pub charge_moves : (p : List ℕ → Bool) (club : Club) (words : Words) (moment : ℕ)
-    → MovesCharge p club.bookings (after_change (verdict_in club words moment).change club).bookings (Replied (verdict_in club words moment).reply)
+    → MovesCharge p club.bookings (after_change (verdict_in club words moment).change club).bookings (ToMember (verdict_in club words moment).reply)
 charge_moves p club words moment =
-    answer_cases (λ (v : Verdict). MovesCharge p club.bookings (after_change v.change club).bookings (Replied v.reply)) club words moment (record {
-      silent = λ reply h. charges_stay p club.bookings (Replied reply) (no_charge_of_silent reply h);
+    answer_cases (λ (v : Verdict). MovesCharge p club.bookings (after_change v.change club).bookings (ToMember v.reply)) club words moment (record {
+      silent = λ reply h. charges_stay p club.bookings (ToMember reply) (no_charge_of_silent reply h);
       repeats_booking = λ key member slot number guests booking k e b. charge_again p club.bookings key.name number booking b.found;
       books = λ key member slot number guests facility k e b. charge_new p club.bookings (written club key slot number guests facility) b.new;
-      cancels_recorded = λ key member slot number booking k e b. charges_stay p club.bookings (Replied (Cancelled booking.key booking.number booking.refund))
+      cancels_recorded = λ key member slot number booking k e b. charges_stay p club.bookings (ToMember (Cancelled booking.key booking.number booking.refund))
           refl;
       cancels = λ key member slot number booking k e c. charge_cancelled p club.bookings booking.key booking.number (refund_at booking moment)
-          (Replied (Cancelled booking.key booking.number (refund_at booking moment))) refl;
+          (ToMember (Cancelled booking.key booking.number (refund_at booking moment))) refl;
     })

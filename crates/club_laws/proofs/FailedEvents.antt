@@ -5,11 +5,11 @@ use Rattle.club_core.specs.declared.change.Change.{Change}
 use Rattle.club_core.specs.declared.command.OfficeFault.{OfficeFault}
 use Rattle.club_core.specs.Club.{Club}
 use Rattle.club_core.specs.Office.{office_verdict}
-use Rattle.club_core.specs.declared.event.OfficeAnswer.{OfficeAnswer}
-use Rattle.club_core.specs.declared.event.OfficeAnswer.TheVariants.{NotDone}
-use Rattle.club_core.specs.Run.{Event, Asked, Ordered, done_answer, order_outcome, step, replies_of, club_after}
+use Rattle.club_core.specs.declared.command.OfficeAnswer.{OfficeAnswer}
+use Rattle.club_core.specs.declared.command.OfficeAnswer.TheVariants.{NotDone}
+use Rattle.club_core.specs.Run.{Event, Asked, Ordered, done_answer, order_outcome, step, replies_of, club_after, Response}
 use Rattle.club_core.specs.Events.{IsEvent}
-use Rattle.club_laws.specs.Failed.{Response, Presentation, present_reply, has_failed, IsStep, IsRun, IsRunOfAnswered, AreRuns, answered_events, answers}
+use Rattle.club_laws.specs.Failed.{Presentation, present_reply, has_failed, IsStep, IsRun, IsRunOfAnswered, AreRuns, answered_events, answers}
 use Rattle.club_laws.proofs.MachineAnswers.{answers_requests}
 
 module _ {O : Type 0} (presentation : Presentation O) where

@@ -10,12 +10,11 @@ use Rattle.club_core.specs.Club.{Club, empty_club, member_named, IsSound}
 use Rattle.club_core.specs.Laws.{TestsTheSignature}
 use Rattle.club_core.specs.Pass.{Words}
 use Rattle.club_core.specs.Answer.{verdict_in}
-use Rattle.club_core.specs.declared.event.EventReply.TheVariants.{Replied}
-use Rattle.club_core.specs.Run.{Event, Asked, Outcome, step, replies_of, club_after}
+use Rattle.club_core.specs.Run.{Event, Asked, Outcome, step, replies_of, club_after, ToMember, Response}
 use Rattle.club_laws.specs.RunsWithFailures.{WasReturned, RepeatsServedReplies}
 use Rattle.club_laws.specs.Conservation.{IsConserved, HasPlaces}
 use Rattle.club_core.specs.Events.{IsEvent}
-use Rattle.club_laws.specs.Failed.{Response, ToMember, Presentation, present_reply, is_unavailable, has_failed, IsStep, IsRun, answered_events}
+use Rattle.club_laws.specs.Failed.{Presentation, present_reply, is_unavailable, has_failed, IsStep, IsRun, answered_events}
 use Rattle.club_core.specs.Acceptance.{IsAcceptedIn}
 use Rattle.club_laws.specs.Repeats.{IsBookedOrCancelled, WasServed}
 use Rattle.club_laws.proofs.FailedEvents.{run_of_answered, events_left, cut, join}
@@ -68,12 +67,12 @@ module _ {O : Type 0} (presentation : Presentation O) where
   not_unavailable reply h = refl
 
   served_by_machine : (club next : Club) (words : Words) (moment : ℕ) (reply : Reply) → is_unavailable reply ≡ false
-      → IsStep presentation club (Asked words moment) (ToMember reply) next → (step club (Asked words moment)).reply ≡ Replied reply
+      → IsStep presentation club (Asked words moment) (ToMember reply) next → (step club (Asked words moment)).reply ≡ ToMember reply
   served_by_machine club next words moment reply e (inl a) =
       let verdict = verdict_in club words moment in
       let same : ToMember reply ≡ ToMember verdict.reply = a.reply in
       let same_reply : verdict.reply ≡ reply = cc in
-      ap Replied same_reply
+      ap ToMember same_reply
   served_by_machine club next words moment reply e (inr f) = absurd (both_ways (is_unavailable reply) e f.failure)
 
   -- a request with a serving reply was served in the machine's run of the answered events
@@ -101,7 +100,7 @@ module _ {O : Type 0} (presentation : Presentation O) where
             ∙ (answered-append w.front (first ∷ w.rest) w.before (ToMember reply ∷ w.since) w.beside
             ∙ ap (λ (failed : Bool). answered_events presentation w.front w.before ++ cond failed after_first (first ∷ after_first)) counts));
         reply_is =
-            subst (λ (c : Club). (step c first).reply ≡ Replied reply) left
+            subst (λ (c : Club). (step c first).reply ≡ ToMember reply) left
             (served_by_machine parts.now parts.second.0 w.first w.moment reply counts parts.second.1);
         success = w.success;
         same_key = w.same_key;
@@ -109,7 +108,7 @@ module _ {O : Type 0} (presentation : Presentation O) where
       }
 
   repeat_of_step : (club next : Club) (words : Words) (moment : ℕ) (returned : Response O) (reply : Reply)
-      → step club (Asked words moment) ≡ record { reply = Replied reply; club = club } → IsStep presentation club (Asked words moment) returned next
+      → step club (Asked words moment) ≡ record { reply = ToMember reply; club = club } → IsStep presentation club (Asked words moment) returned next
       → (has_failed presentation (Asked words moment) returned ≡ false → returned ≡ ToMember reply) × (next ≡ club)
   repeat_of_step club next words moment returned reply again (inl a) =
       (λ _. a.reply ∙ ap (λ (o : Outcome). present_reply presentation o.reply) again, a.steps_club ∙ ap (λ (o : Outcome). o.club) again)
@@ -129,7 +128,7 @@ module _ {O : Type 0} (presentation : Presentation O) where
       let left = (run_of_answered presentation club parts.now history before parts.first).left in
       let served = served_in_machine_run club parts.now history before words reply parts.first was in
       let again =
-      subst (λ (c : Club). step c (Asked words moment) ≡ record { reply = Replied reply; club = c }) (sym left)
+      subst (λ (c : Club). step c (Asked words moment) ≡ record { reply = ToMember reply; club = c }) (sym left)
       (step_of_repeat set signature club answered words moment reply served accepted)
       in
       let one = repeat_of_step parts.now parts.second.0 words moment returned reply again parts.second.1 in (

@@ -10,9 +10,7 @@ use Rattle.club_core.specs.Club.{Club, is_key_of}
 use Rattle.club_core.specs.Basis.{Basis, basis_of}
 use Rattle.club_core.specs.Answer.{answer_by_basis}
 use Rattle.club_core.specs.After.{after}
-use Rattle.club_core.specs.declared.event.EventReply.{EventReply}
-use Rattle.club_core.specs.declared.event.EventReply.TheVariants.{Replied}
-use Rattle.club_core.specs.Run.{after_change}
+use Rattle.club_core.specs.Run.{after_change, EventReply, ToMember}
 use Rattle.club_core.specs.Solo.{OwnEvent, OwnAsk, OwnChange, outside, own_ask, part_of, solo_verdict}
 use Rattle.club_laws.proofs.FoundRows.{found_passes, bytes_same, same_bytes_of}
 use Rattle.club_laws.proofs.ChangedParts.{HasKnownKeys, is_named, part_changed}
@@ -29,7 +27,7 @@ abbrev pub Follows : Club → List OwnEvent → EventReply → Club → Type 0
 Follows part [] reply next = next ≡ part
 Follows part (OwnChange change ∷ []) reply next = next ≡ after change part
 Follows part (OwnAsk words moment others ∷ []) reply next =
-    (reply ≡ Replied (solo_verdict part words moment others).reply)
+    (reply ≡ ToMember (solo_verdict part words moment others).reply)
     × (next ≡ after_change (solo_verdict part words moment others).change part)
 Follows part own reply next = ⊥
 
@@ -49,7 +47,7 @@ under_own name club key (Some change) b known under e = absurd under
 -- a request of the member's
 own_follows : (club : Club) (words : Words) (moment : ℕ) (basis : Basis) → IsKeyed club → basis_of club words ≡ Some basis
     → Follows (part_of basis.member.name club) (OwnAsk words moment (outside basis.member.name club (request_slot words.request)) ∷ [])
-    (Replied (answer_by_basis words moment (Some basis)).reply)
+    (ToMember (answer_by_basis words moment (Some basis)).reply)
     (part_of basis.member.name (after_change (answer_by_basis words moment (Some basis)).change club))
 own_follows club words moment basis keyed e =
     let own = basis.member.name in
@@ -58,7 +56,7 @@ own_follows club words moment basis keyed e =
     in
     let change = (answer_by_basis words moment (Some basis)).change in
     let under = answer_changes_under club words moment basis e in (
-      ap (λ (v : Verdict). Replied v.reply) same,
+      ap (λ (v : Verdict). ToMember v.reply) same,
       under_own own club basis.key.name change true keyed.known under (is_own_key club words basis.key basis.member (known_rows club words basis e))
           ∙ ap (λ (v : Verdict). after_change v.change (part_of own club)) same,
     )
@@ -78,10 +76,10 @@ not_own_key name club words basis keyed e other =
 
 asked_follows : (name : List ℕ) (club : Club) (words : Words) (moment : ℕ) (basis : Basis) (b : Bool) → IsKeyed club → basis_of club words ≡ Some basis
     → bytes_eq basis.member.name name ≡ b → Follows (part_of name club) (cond b (OwnAsk words moment (outside name club (request_slot words.request)) ∷ []) [])
-    (Replied (answer_by_basis words moment (Some basis)).reply) (part_of name (after_change (answer_by_basis words moment (Some basis)).change club))
+    (ToMember (answer_by_basis words moment (Some basis)).reply) (part_of name (after_change (answer_by_basis words moment (Some basis)).change club))
 asked_follows name club words moment basis true keyed e own =
     let family : List ℕ → Type 0 = λ n. Follows (part_of n club) (OwnAsk words moment (outside n club (request_slot words.request)) ∷ [])
-    (Replied (answer_by_basis words moment (Some basis)).reply) (part_of n (after_change (answer_by_basis words moment (Some basis)).change club)) in
+    (ToMember (answer_by_basis words moment (Some basis)).reply) (part_of n (after_change (answer_by_basis words moment (Some basis)).change club)) in
     subst family (bytes_same basis.member.name name own) (own_follows club words moment basis keyed e)
 asked_follows name club words moment basis false keyed e own =
     let under = answer_changes_under club words moment basis e in
@@ -89,7 +87,7 @@ asked_follows name club words moment basis false keyed e own =
     (not_own_key name club words basis keyed e own)
 
 pub ask_follows : (name : List ℕ) (club : Club) (words : Words) (moment : ℕ) (basis : Option Basis) → IsKeyed club → basis_of club words ≡ basis
-    → Follows (part_of name club) (own_ask name club words moment basis) (Replied (answer_by_basis words moment basis).reply)
+    → Follows (part_of name club) (own_ask name club words moment basis) (ToMember (answer_by_basis words moment basis).reply)
     (part_of name (after_change (answer_by_basis words moment basis).change club))
 ask_follows name club words moment None keyed e =
     ap (λ (v : Verdict). part_of name (after_change v.change club)) (refused_blind words.pass words.request moment)

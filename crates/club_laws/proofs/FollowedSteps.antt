@@ -12,8 +12,7 @@ use Rattle.club_core.specs.Basis.{Basis, basis_of}
 use Rattle.club_core.specs.Answer.{answer_by_basis}
 use Rattle.club_core.specs.After.{after}
 use Rattle.club_core.specs.Office.{office_verdict}
-use Rattle.club_core.specs.declared.event.EventReply.{EventReply}
-use Rattle.club_core.specs.Run.{Event, Asked, Ordered, step, after_change, order_outcome}
+use Rattle.club_core.specs.Run.{Event, Asked, Ordered, step, after_change, order_outcome, EventReply}
 use Rattle.club_core.specs.Solo.{OwnChange, is_own, own_change, own_part, part_of}
 use Rattle.club_laws.proofs.ChangedParts.{part_changed}
 use Rattle.club_laws.proofs.KnownKeys.{IsKeyed, keyed_after}

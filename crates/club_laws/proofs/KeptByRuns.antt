@@ -7,8 +7,7 @@ use Rattle.club_core.specs.Club.{Club}
 use Rattle.club_core.specs.Answer.{verdict_in}
 use Rattle.club_core.specs.After.{after}
 use Rattle.club_core.specs.Office.{office_verdict}
-use Rattle.club_core.specs.declared.event.EventReply.{EventReply}
-use Rattle.club_core.specs.Run.{Event, Asked, Ordered, step, after_change, order_outcome, replies_of, club_after}
+use Rattle.club_core.specs.Run.{Event, Asked, Ordered, step, after_change, order_outcome, replies_of, club_after, EventReply}
 
 module _ (P : Club → Type 0) (kept : (club : Club) (change : Change) → P club → P (after change club)) where
   kept_by_change : (club : Club) (change : Option Change) → P club → P (after_change change club)

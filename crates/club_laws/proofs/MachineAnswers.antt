@@ -4,7 +4,6 @@ use Rattle.std.proofs.lemmas.Bool.{both_ways}
 use Rattle.club_core.specs.declared.change.Change.{Change}
 use Rattle.club_core.specs.declared.command.Command.{Command}
 use Rattle.club_core.specs.declared.command.OfficeFault.{OfficeFault}
-use Rattle.club_core.specs.declared.event.EventReply.TheVariants.{Replied}
 use Rattle.club_core.specs.declared.refusal.Refusal.TheVariants.{Unavailable}
 use Rattle.club_core.specs.declared.reply.Reply.{Reply}
 use Rattle.club_core.specs.declared.reply.Reply.TheVariants.{Refused}
@@ -13,7 +12,7 @@ use Rattle.club_core.specs.Answer.{verdict_in}
 use Rattle.club_core.specs.Club.{Club}
 use Rattle.club_core.specs.Office.{office_verdict}
 use Rattle.club_core.specs.Pass.{Words}
-use Rattle.club_core.specs.Run.{Event, Asked, Ordered, step, order_outcome}
+use Rattle.club_core.specs.Run.{Event, Asked, Ordered, step, order_outcome, EventReply, ToMember}
 use Rattle.club_laws.specs.Failed.{is_unavailable}
 use Rattle.club_laws.proofs.AnswerCases.{IsSilent, answer_cases}
 
@@ -31,16 +30,16 @@ answers_requests club words moment =
       cancels = λ key member slot number booking k e c. refl;
     })
 
-other_reply : (reply : Reply) → is_unavailable reply ≡ false → Replied reply ≢ Replied (Refused Unavailable)
+other_reply : (reply : Reply) → is_unavailable reply ≡ false → ◌≢◌ {A = EventReply} (ToMember reply) (ToMember (Refused Unavailable))
 other_reply reply answers e =
     let same : reply ≡ Refused Unavailable = cc in
     both_ways (is_unavailable reply) answers (ap is_unavailable same)
 
 no_request : (club : Club) (command : Command) (verdict : Result Change OfficeFault)
-    → (order_outcome club command verdict).reply ≢ Replied (Refused Unavailable)
+    → (order_outcome club command verdict).reply ≢ ToMember (Refused Unavailable)
 no_request club command (Ok change) e = absurd (cc)
 no_request club command (Err fault) e = absurd (cc)
 
-pub never_unavailable : (club : Club) (event : Event) → (step club event).reply ≢ Replied (Refused Unavailable)
+pub never_unavailable : (club : Club) (event : Event) → (step club event).reply ≢ ToMember (Refused Unavailable)
 never_unavailable club (Asked words moment) = other_reply (verdict_in club words moment).reply (answers_requests club words moment)
 never_unavailable club (Ordered command) = no_request club command (office_verdict club command)

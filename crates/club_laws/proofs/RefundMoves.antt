@@ -16,9 +16,7 @@ use Rattle.club_rows.specs.Booking.{refund_at}
 use Rattle.club_core.specs.Club.{Club, IsSound}
 use Rattle.club_core.specs.Answer.{verdict_in}
 use Rattle.club_core.specs.After.{cancelled_booking, is_marked}
-use Rattle.club_core.specs.declared.event.EventReply.{EventReply}
-use Rattle.club_core.specs.declared.event.EventReply.TheVariants.{Replied}
-use Rattle.club_core.specs.Run.{after_change}
+use Rattle.club_core.specs.Run.{after_change, EventReply, ToMember}
 use Rattle.club_laws.specs.Points.{refund_of_reply}
 use Rattle.club_laws.proofs.FoundRows.{found_is_there, found_passes, at_found, any_passes, any-map, AllPairs-head, AllPairs-tail, All-each}
 use Rattle.club_laws.proofs.NamedRows.{is_numbered, numbered, only_numbered, self_numbered, numbered_back, tests_same}
@@ -39,7 +37,7 @@ abbrev pub MovesRefund : (List ℕ → Bool) → List Booking → List Booking �
 MovesRefund p bookings new_bookings reply = Moves p (refunded p bookings) (refunded p new_bookings) (has_cancelled bookings) (has_cancelled new_bookings)
     (refund_of_reply reply)
 
-no_refund_of_silent : (reply : Reply) → IsSilent reply → refund_of_reply (Replied reply) ≡ []
+no_refund_of_silent : (reply : Reply) → IsSilent reply → refund_of_reply (ToMember reply) ≡ []
 no_refund_of_silent (SlotShown slot kind price places taken closed) h = refl
 no_refund_of_silent (Booked key number charge left) h = refl
 no_refund_of_silent (Cancelled key number refund) h = absurd h
@@ -70,7 +68,7 @@ refund_booked p bookings new reply e none is_live =
 
 refund_again : (p : List ℕ → Bool) (bookings : List Booking) (key : List ℕ) (number : ℕ) (booking : Booking)
     → find (is_numbered key number) bookings ≡ Some booking → booking.cancelled ≡ true
-    → MovesRefund p bookings bookings (Replied (Cancelled booking.key booking.number booking.refund))
+    → MovesRefund p bookings bookings (ToMember (Cancelled booking.key booking.number booking.refund))
 refund_again p bookings key number booking e before =
     Repeats (record { key = booking.key; number = booking.number; points = booking.refund }) refl
     (any_passes (λ (b : Booking). is_numbered booking.key booking.number b
@@ -188,7 +186,7 @@ module _ (bookings : List Booking) (booking : Booking) (unique : AreUnique booki
 
 refund_new : (p : List ℕ → Bool) (bookings : List Booking) (name : List ℕ) (n refund : ℕ) (booking : Booking) → AreUnique bookings
     → find (is_numbered name n) bookings ≡ Some booking → booking.cancelled ≡ false → booking.refund ≡ 0
-    → MovesRefund p bookings (map (cancelled_booking booking.key booking.number refund) bookings) (Replied (Cancelled booking.key booking.number refund))
+    → MovesRefund p bookings (map (cancelled_booking booking.key booking.number refund) bookings) (ToMember (Cancelled booking.key booking.number refund))
 refund_new p bookings name n refund booking unique found still_booked none =
     let it = numbered name n booking (found_passes (is_numbered name n) bookings booking found) in
     let self : find (is_numbered booking.key booking.number) bookings ≡ Some booking = ap (λ (k : List ℕ). find (is_numbered k booking.number) bookings) it.0
@@ -206,15 +204,15 @@ refund_new p bookings name n refund booking unique found still_booked none =
     ∙ ap (λ b. has_cancelled bookings key number || b) (marked_alone bookings booking unique name n found still_booked key number)))
 
 pub refund_moves : (p : List ℕ → Bool) (club : Club) (words : Words) (moment : ℕ) → IsSound club
-    → MovesRefund p club.bookings (after_change (verdict_in club words moment).change club).bookings (Replied (verdict_in club words moment).reply)
+    → MovesRefund p club.bookings (after_change (verdict_in club words moment).change club).bookings (ToMember (verdict_in club words moment).reply)
 refund_moves p club words moment s =
-    answer_cases (λ (v : Verdict). MovesRefund p club.bookings (after_change v.change club).bookings (Replied v.reply)) club words moment (record {
-      silent = λ reply h. refunds_stay p club.bookings (Replied reply) (no_refund_of_silent reply h);
+    answer_cases (λ (v : Verdict). MovesRefund p club.bookings (after_change v.change club).bookings (ToMember v.reply)) club words moment (record {
+      silent = λ reply h. refunds_stay p club.bookings (ToMember reply) (no_refund_of_silent reply h);
       repeats_booking = λ key member slot number guests booking k e b. refunds_stay p club.bookings
-          (Replied (Booked booking.key booking.number booking.charge booking.left)) refl;
+          (ToMember (Booked booking.key booking.number booking.charge booking.left)) refl;
       books = λ key member slot number guests facility k e b.
           let new : Booking = written club key slot number guests facility in
-          refund_booked p club.bookings new (Replied (Booked new.key new.number new.charge new.left)) refl refl refl;
+          refund_booked p club.bookings new (ToMember (Booked new.key new.number new.charge new.left)) refl refl refl;
       cancels_recorded = λ key member slot number booking k e b. refund_again p club.bookings key.name number booking b.found b.before;
       cancels = λ key member slot number booking k e c.
           let row = at_found IsBooking (is_numbered key.name number) club.bookings booking s.rows.bookings c.found in

@@ -21,8 +21,7 @@ use Rattle.club_core.specs.Laws.{TestsTheSignature}
 use Rattle.club_core.specs.Basis.{Basis, key_of, basis_of, view_of}
 use Rattle.club_core.specs.Verdict as verdicts
 use Rattle.club_core.specs.Answer.{answer_to, verdict_in}
-use Rattle.club_core.specs.declared.event.EventReply.TheVariants.{Replied}
-use Rattle.club_core.specs.Run.{Event, Asked, Outcome, step, verdict_outcome, replies_of, club_after}
+use Rattle.club_core.specs.Run.{Event, Asked, Outcome, step, verdict_outcome, replies_of, club_after, ToMember}
 use Rattle.club_core.specs.Acceptance.{IsAcceptedIn}
 use Rattle.club_laws.specs.Repeats.{IsBookedOrCancelled, WasServed, MayBeLeftOut}
 use Rattle.club_laws.proofs.AnswerCases.{own_booking}
@@ -89,7 +88,7 @@ accepted_answer set signature club words moment a =
 
 step_by_record : TestsTheSet → TestsTheSignature → (club : Club) (words : Words) (moment : ℕ) (reply : Reply) → IsRecorded club.bookings words reply
     → IsAcceptedIn club words moment
-    → step club (Asked words moment) ≡ record { reply = Replied reply; club = club }
+    → step club (Asked words moment) ≡ record { reply = ToMember reply; club = club }
 step_by_record set signature club words moment reply r a =
     ap (verdict_outcome club)
     (accepted_answer set signature club words moment a
@@ -103,7 +102,7 @@ recorded_since club history words reply w =
     let start = club_after club w.front in
     let then = (step start (Asked w.first w.moment)).club in
     let verdict = verdict_in start w.first w.moment in
-    let returned : verdict.reply ≡ reply = let e : Replied verdict.reply ≡ Replied reply = w.reply_is in cc in
+    let returned : verdict.reply ≡ reply = let e : ToMember verdict.reply ≡ ToMember reply = w.reply_is in cc in
     let first : IsRecorded then.bookings w.first verdict.reply = recorded_when_served start w.first w.moment
     (subst IsBookedOrCancelled (sym returned) w.success) in
     let later = stays_on_record then w.rest first.key w.first.request verdict.reply first.on_record in
@@ -121,13 +120,13 @@ recorded_since club history words reply w =
 pub step_of_repeat : TestsTheSet → TestsTheSignature → (club : Club) (history : List Event) (words : Words) (moment : ℕ) (reply : Reply)
     → WasServed club history words reply
     → IsAcceptedIn (club_after club history) words moment → step (club_after club history) (Asked words moment)
-    ≡ record { reply = Replied reply; club = club_after club history }
+    ≡ record { reply = ToMember reply; club = club_after club history }
 step_of_repeat set signature club history words moment reply w a =
     step_by_record set signature (club_after club history) words moment reply (recorded_since club history words reply w) a
 
 pub left_out : TestsTheSet → TestsTheSignature → (club : Club) (history : List Event) (words : Words) (moment : ℕ) (reply : Reply) (rest : List Event)
     → WasServed club history words reply
-    → IsAcceptedIn (club_after club history) words moment → MayBeLeftOut club history (Asked words moment) rest (Replied reply)
+    → IsAcceptedIn (club_after club history) words moment → MayBeLeftOut club history (Asked words moment) rest (ToMember reply)
 left_out set signature club history words moment reply rest w a =
     let end = club_after club history in
     let again = step_of_repeat set signature club history words moment reply w a in

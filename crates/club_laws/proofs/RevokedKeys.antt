@@ -15,9 +15,8 @@ use Rattle.club_core.specs.Pass.{Words}
 use Rattle.club_core.specs.Basis.{key_of, basis_of}
 use Rattle.club_core.specs.Club.{Club, key_named}
 use Rattle.club_core.specs.After.{after, revoked_key, rotated_key}
-use Rattle.club_core.specs.declared.event.EventReply.TheVariants.{Answered}
-use Rattle.club_core.specs.declared.event.OfficeAnswer.TheVariants.{Done}
-use Rattle.club_core.specs.Run.{Event, Ordered, step, order_outcome, club_after}
+use Rattle.club_core.specs.declared.command.OfficeAnswer.TheVariants.{Done}
+use Rattle.club_core.specs.Run.{Event, Ordered, step, order_outcome, club_after, ToOffice}
 use Rattle.club_core.specs.Acceptance.{IsServed}
 use Rattle.club_core.specs.Answer.{verdict_in}
 use Rattle.club_laws.specs.Revoked.{WasRevoked}
@@ -49,11 +48,11 @@ stays_revoked name club (ReplaceRoot other former root until) h =
 stays_revoked name club change h = record { key = h.key; row = h.row; revoked = h.revoked }
 
 -- the office revokes only known keys
-now_revoked : (club : Club) (name : List ℕ) → (step club (Ordered (RevokeKey name))).reply ≡ Answered Done
+now_revoked : (club : Club) (name : List ℕ) → (step club (Ordered (RevokeKey name))).reply ≡ ToOffice Done
     → IsRevoked name (step club (Ordered (RevokeKey name))).club
 now_revoked club name =
     let order = RevokeKey name in
-    order_cases (λ (v : Result Change OfficeFault). (order_outcome club order v).reply ≡ Answered Done
+    order_cases (λ (v : Result Change OfficeFault). (order_outcome club order v).reply ≡ ToOffice Done
     → IsRevoked name (order_outcome club order v).club) club (λ fault returned. absurd (cc)) order
     (λ r returned. record {
       key = revoked_key name r.0;

@@ -2,31 +2,29 @@
 use Rattle.std.proofs.Common.{◌≡◌, ℕ, Bool, true, false, cond, List, [], ◌∷◌, ◌++◌, map, refl, sym, ap, ◌∙◌}
 use Rattle.std.proofs.lemmas.Simd.{map-map}
 use Rattle.club_core.specs.Club.{Club}
-use Rattle.club_core.specs.declared.event.EventReply.{EventReply}
-use Rattle.club_core.specs.declared.event.EventReply.TheVariants.{Replied}
-use Rattle.club_core.specs.Run.{Event, step, replies_of, club_after}
+use Rattle.club_core.specs.Run.{Event, step, replies_of, club_after, EventReply, ToMember, Response}
 use Rattle.club_core.specs.Solo.{OwnEvent, OwnAsk, OwnChange, own_part, own_events, part_of, solo_verdict, solo_replies}
 use Rattle.club_laws.specs.SoloLaw.{is_ask, replies_to, solo_part}
 use Rattle.club_laws.proofs.KnownKeys.{IsKeyed}
 use Rattle.club_laws.proofs.FollowedAsks.{Follows}
-use Rattle.club_laws.specs.Failed.{Response, ToMember, Presentation, present_reply, IsRun, answered_events, answers}
+use Rattle.club_laws.specs.Failed.{Presentation, present_reply, IsRun, answered_events, answers}
 use Rattle.club_laws.proofs.FailedEvents.{run_of_answered}
 use Rattle.club_laws.proofs.FollowedSteps.{follows, keyed_step}
 
 -- one event of the run is its own entry in the solo machine
 one_more : (own : List OwnEvent) (part next : Club) (reply : EventReply) (rest : List OwnEvent) (returned : List EventReply) → Follows part own reply next
-    → returned ≡ map Replied (solo_replies next rest) → cond (is_ask own) (reply ∷ returned) returned ≡ map Replied (solo_replies part (own ++ rest))
-one_more [] part next reply rest returned f e = e ∙ ap (λ (p : Club). map Replied (solo_replies p rest)) f
-one_more (OwnChange change ∷ []) part next reply rest returned f e = e ∙ ap (λ (p : Club). map Replied (solo_replies p rest)) f
+    → returned ≡ map ToMember (solo_replies next rest) → cond (is_ask own) (reply ∷ returned) returned ≡ map ToMember (solo_replies part (own ++ rest))
+one_more [] part next reply rest returned f e = e ∙ ap (λ (p : Club). map ToMember (solo_replies p rest)) f
+one_more (OwnChange change ∷ []) part next reply rest returned f e = e ∙ ap (λ (p : Club). map ToMember (solo_replies p rest)) f
 one_more (OwnAsk words moment others ∷ []) part next reply rest returned f e =
     ap (λ (r : EventReply). r ∷ returned) f.0
-    ∙ ap (λ (replies : List EventReply). Replied (solo_verdict part words moment others).reply ∷ replies) (e
-    ∙ ap (λ (p : Club). map Replied (solo_replies p rest)) f.1)
+    ∙ ap (λ (replies : List EventReply). ToMember (solo_verdict part words moment others).reply ∷ replies) (e
+    ∙ ap (λ (p : Club). map ToMember (solo_replies p rest)) f.1)
 one_more (OwnChange change ∷ other ∷ more) part next reply rest returned f e = absurd f
 one_more (OwnAsk words moment others ∷ other ∷ more) part next reply rest returned f e = absurd f
 
 pub solo : (name : List ℕ) (club : Club) (events : List Event) → IsKeyed club
-    → replies_to name club events (replies_of club events) ≡ map Replied (solo_replies (part_of name club) (own_events name club events))
+    → replies_to name club events (replies_of club events) ≡ map ToMember (solo_replies (part_of name club) (own_events name club events))
 solo name club [] keyed = refl
 solo name club (event ∷ events) keyed =
     let next = (step club event).club in
@@ -57,7 +55,7 @@ solo_with_failures {O} presentation name club last events replies keyed run =
     ap (λ (returned : List (Response O)). replies_to name club answered returned) (run_of_answered presentation club last events replies run).responses
     ∙ (replies_mapped (present_reply presentation) name club answered (replies_of club answered)
     ∙ (ap (λ (returned : List EventReply). map (present_reply presentation) returned) (solo name club answered keyed)
-    ∙ map-map (present_reply presentation) Replied (solo_replies (part_of name club) (own_events name club answered))))
+    ∙ map-map (present_reply presentation) ToMember (solo_replies (part_of name club) (own_events name club answered))))
 
 pub solo_of_two_with_failures : {O : Type 0} (presentation : Presentation O) (name : List ℕ) (a b last end : Club) (events others : List Event)
     (replies returned : List (Response O))

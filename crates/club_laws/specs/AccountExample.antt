@@ -5,9 +5,8 @@ use Rattle.club_core.specs.declared.reply.Reply.TheVariants.{Booked, Cancelled}
 use Rattle.club_core.specs.declared.request.Request.{Request}
 use Rattle.club_core.specs.declared.request.Request.TheVariants as asked
 use Rattle.club_core.specs.Examples.{opened_club, root, slot_at, noon, late, ask, served_booking, account}
-use Rattle.club_core.specs.declared.event.EventReply.TheVariants.{Replied, Answered}
-use Rattle.club_core.specs.declared.event.OfficeAnswer.TheVariants.{NewKey}
-use Rattle.club_core.specs.Run.{Event, Asked, Ordered, replies_of}
+use Rattle.club_core.specs.declared.command.OfficeAnswer.TheVariants.{NewKey}
+use Rattle.club_core.specs.Run.{Event, Asked, Ordered, replies_of, ToMember, ToOffice}
 
 -- a request of amy's other key, at noon
 abbrev pub ask_of_other_key : Request → Event
@@ -30,11 +29,11 @@ some_bookings =
 abbrev pub CountsOverAllKeys : Type 0
 CountsOverAllKeys =
     replies_of opened_club some_bookings
-    ≡ Answered (NewKey (codes "amy-2") root)
+    ≡ ToOffice (NewKey (codes "amy-2") root)
     ∷ served_booking 7 200 3
     ∷ served_booking 8 200 3
-    ∷ Replied (Booked (codes "amy-2") 7 200 3)
-    ∷ Replied (Booked (codes "amy-2") 8 200 3)
-    ∷ Replied (Cancelled (codes "amy-2") 8 200)
+    ∷ ToMember (Booked (codes "amy-2") 7 200 3)
+    ∷ ToMember (Booked (codes "amy-2") 8 200 3)
+    ∷ ToMember (Cancelled (codes "amy-2") 8 200)
     ∷ account 9_400 2 400
     ∷ []

@@ -5,8 +5,7 @@ use Rattle.club_rows.specs.declared.member.Member.{Member}
 use Rattle.club_rows.specs.declared.facility.Facility.{Facility}
 use Rattle.club_core.specs.Club.{Club, empty_club, member_named, facility_named, bookings_of, IsSound}
 use Rattle.club_core.specs.Sums.{cost_of, balance_of, taken_in}
-use Rattle.club_core.specs.declared.event.EventReply.{EventReply}
-use Rattle.club_core.specs.Run.{Event, replies_of, club_after}
+use Rattle.club_core.specs.Run.{Event, replies_of, club_after, EventReply}
 use Rattle.club_core.specs.Events.{IsEvent}
 use Rattle.club_laws.specs.Points.{keys_given, credits_accepted, charges_of_replies, refunds_of_replies, total_under}
 

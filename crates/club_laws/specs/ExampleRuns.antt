@@ -6,8 +6,7 @@ use Rattle.club_core.specs.declared.request.Request.TheVariants as asked
 use Rattle.club_core.specs.Pass.{Words}
 use Rattle.club_core.specs.Club.{empty_club}
 use Rattle.club_core.specs.Examples.{opening, opened_club, slot_at, noon, late, ask}
-use Rattle.club_core.specs.declared.event.EventReply.{EventReply}
-use Rattle.club_core.specs.Run.{Event, replies_of, club_after}
+use Rattle.club_core.specs.Run.{Event, replies_of, club_after, EventReply}
 use Rattle.club_laws.specs.Points.{keys_given, credits_accepted, charges_of_replies, refunds_of_replies, total_under}
 use Rattle.club_core.specs.Acceptance.{IsAcceptedIn}
 use Rattle.club_laws.specs.Repeats.{WasServed}

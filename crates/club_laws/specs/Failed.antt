@@ -4,16 +4,9 @@ use Rattle.club_core.specs.declared.refusal.Refusal.TheVariants.{Unavailable}
 use Rattle.club_core.specs.declared.reply.Reply.{Reply}
 use Rattle.club_core.specs.declared.reply.Reply.TheVariants.{Refused}
 use Rattle.club_core.specs.Club.{Club}
-use Rattle.club_core.specs.declared.event.EventReply.{EventReply}
-use Rattle.club_core.specs.declared.event.EventReply.TheVariants.{Replied, Answered}
-use Rattle.club_core.specs.declared.event.OfficeAnswer.{OfficeAnswer}
-use Rattle.club_core.specs.Run.{Event, Asked, Ordered, step, replies_of, club_after}
+use Rattle.club_core.specs.declared.command.OfficeAnswer.{OfficeAnswer}
+use Rattle.club_core.specs.Run.{Event, Asked, Ordered, step, replies_of, club_after, EventReply, Response, ToMember, ToOffice}
 use Rattle.club_core.specs.Events.{IsEvent}
-
--- the response to an event: the reply to a request, or the desk's answer to an order of the office, whose type `O` is left open
-pub data Response (O : Type 0) : Type 0 where
-  ToMember : (reply : Reply) → Response O
-  ToOffice : (answer : O) → Response O
 
 -- how a desk presents the machine's answers to the office, and which presented answers say that memory or storage was refused
 pub record Presentation (O : Type 0) : Type 0 where
@@ -21,8 +14,8 @@ pub record Presentation (O : Type 0) : Type 0 where
   pub is_fault : O → Bool
 
 abbrev pub present_reply : {O : Type 0} → Presentation O → EventReply → Response O
-present_reply presentation (Replied reply) = ToMember reply
-present_reply presentation (Answered answer) = ToOffice (presentation.shown answer)
+present_reply presentation (ToMember reply) = ToMember reply
+present_reply presentation (ToOffice answer) = ToOffice (presentation.shown answer)
 
 -- the reply that memory or storage was refused
 abbrev pub is_unavailable : Reply → Bool
@@ -119,4 +112,4 @@ RunsWithoutFailures O =
 
 -- the machine itself never replies that memory or storage was refused
 abbrev pub NeverUnavailable : Type 0
-NeverUnavailable = (club : Club) (event : Event) → (step club event).reply ≢ Replied (Refused Unavailable)
+NeverUnavailable = (club : Club) (event : Event) → (step club event).reply ≢ ToMember (Refused Unavailable)

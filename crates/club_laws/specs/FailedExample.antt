@@ -6,10 +6,10 @@ use Rattle.club_core.specs.declared.reply.Reply.TheVariants.{AccountShown, Refus
 use Rattle.club_core.specs.declared.request.Request.TheVariants as asked
 use Rattle.club_core.specs.Club.{empty_club}
 use Rattle.club_core.specs.Examples.{opening, root, slot_at, noon, ask}
-use Rattle.club_core.specs.declared.event.OfficeAnswer.{OfficeAnswer}
-use Rattle.club_core.specs.declared.event.OfficeAnswer.TheVariants.{Done, NewKey}
-use Rattle.club_core.specs.Run.{Event, Ordered, replies_of}
-use Rattle.club_laws.specs.Failed.{Response, ToMember, ToOffice, Presentation, present_reply, answered_events, answers}
+use Rattle.club_core.specs.declared.command.OfficeAnswer.{OfficeAnswer}
+use Rattle.club_core.specs.declared.command.OfficeAnswer.TheVariants.{Done, NewKey}
+use Rattle.club_core.specs.Run.{Event, Ordered, replies_of, Response, ToMember, ToOffice}
+use Rattle.club_laws.specs.Failed.{Presentation, present_reply, answered_events, answers}
 
 -- a desk that returns its answer to the office, or none if memory or storage was refused
 abbrev pub presentation : Presentation (Option OfficeAnswer)

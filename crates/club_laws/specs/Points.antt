@@ -4,10 +4,8 @@ use Rattle.std.specs.Str.{bytes_eq}
 use Rattle.std.specs.List.{list_any}
 use Rattle.club_core.specs.declared.reply.Reply.TheVariants.{Booked, Cancelled}
 use Rattle.club_core.specs.declared.command.Command.TheVariants.{Credit, AddKey}
-use Rattle.club_core.specs.declared.event.EventReply.{EventReply}
-use Rattle.club_core.specs.declared.event.EventReply.TheVariants.{Replied, Answered}
-use Rattle.club_core.specs.declared.event.OfficeAnswer.TheVariants.{Done, NewKey}
-use Rattle.club_core.specs.Run.{Event, Ordered}
+use Rattle.club_core.specs.declared.command.OfficeAnswer.TheVariants.{Done, NewKey}
+use Rattle.club_core.specs.Run.{Event, Ordered, EventReply, ToMember, ToOffice}
 
 -- points in a reply, with the key and the number of the booking
 pub record Entry : Type 0 where
@@ -25,7 +23,7 @@ firsts (entry ∷ entries) = entry ∷ filter (λ (other : Entry). not (is_entry
 
 -- the charge in the reply to a served booking
 abbrev pub charge_of_reply : EventReply → List Entry
-charge_of_reply (Replied (Booked key number charge left)) = record { key = key; number = number; points = charge } ∷ []
+charge_of_reply (ToMember (Booked key number charge left)) = record { key = key; number = number; points = charge } ∷ []
 charge_of_reply reply = []
 
 abbrev pub charges_of_replies : List EventReply → List Entry
@@ -33,7 +31,7 @@ charges_of_replies replies = flat_map charge_of_reply replies
 
 -- the refund in the reply to a served cancellation
 abbrev pub refund_of_reply : EventReply → List Entry
-refund_of_reply (Replied (Cancelled key number refund)) = record { key = key; number = number; points = refund } ∷ []
+refund_of_reply (ToMember (Cancelled key number refund)) = record { key = key; number = number; points = refund } ∷ []
 refund_of_reply reply = []
 
 abbrev pub refunds_of_replies : List EventReply → List Entry
@@ -41,7 +39,7 @@ refunds_of_replies replies = flat_map refund_of_reply replies
 
 -- the keys that a member was given
 abbrev pub key_given : List ℕ → Event → EventReply → List (List ℕ)
-key_given member (Ordered (AddKey name owner root)) (Answered (NewKey returned seed)) = if bytes_eq owner member then name ∷ [] else []
+key_given member (Ordered (AddKey name owner root)) (ToOffice (NewKey returned seed)) = if bytes_eq owner member then name ∷ [] else []
 key_given member event reply = []
 
 abbrev pub keys_given : List ℕ → List Event → List EventReply → List (List ℕ)
@@ -50,7 +48,7 @@ keys_given member events replies = []
 
 -- the points that a member was credited
 abbrev pub credit_accepted : List ℕ → Event → EventReply → ℕ
-credit_accepted member (Ordered (Credit name points)) (Answered Done) = if bytes_eq name member then points else 0
+credit_accepted member (Ordered (Credit name points)) (ToOffice Done) = if bytes_eq name member then points else 0
 credit_accepted member event reply = 0
 
 abbrev pub credits_accepted : List ℕ → List Event → List EventReply → ℕ

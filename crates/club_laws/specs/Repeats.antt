@@ -6,9 +6,7 @@ use Rattle.club_core.specs.Pass.{Words}
 use Rattle.club_core.specs.Club.{Club}
 use Rattle.club_core.specs.Basis.{key_of}
 use Rattle.club_core.specs.Acceptance.{IsAcceptedIn}
-use Rattle.club_core.specs.declared.event.EventReply.{EventReply}
-use Rattle.club_core.specs.declared.event.EventReply.TheVariants.{Replied}
-use Rattle.club_core.specs.Run.{Event, Asked, step, replies_of, club_after}
+use Rattle.club_core.specs.Run.{Event, Asked, step, replies_of, club_after, EventReply, ToMember}
 
 -- a reply to a booking or a cancellation that was served
 abbrev pub IsBookedOrCancelled : Reply → Type 0
@@ -23,7 +21,7 @@ pub record WasServed (club : Club) (history : List Event) (words : Words) (reply
   pub moment : ℕ
   pub rest : List Event
   pub place : history ≡ front ++ Asked first moment ∷ rest
-  pub reply_is : (step (club_after club front) (Asked first moment)).reply ≡ Replied reply
+  pub reply_is : (step (club_after club front) (Asked first moment)).reply ≡ ToMember reply
   pub success : IsBookedOrCancelled reply
   pub same_key : key_of words.pass ≡ key_of first.pass
   pub same_request : words.request ≡ first.request
@@ -34,7 +32,7 @@ RepeatsReturnTheSame =
     (club : Club) (history : List Event) (words : Words) (moment : ℕ) (reply : Reply)
     → WasServed club history words reply
     → IsAcceptedIn (club_after club history) words moment
-    → step (club_after club history) (Asked words moment) ≡ record { reply = Replied reply; club = club_after club history }
+    → step (club_after club history) (Asked words moment) ≡ record { reply = ToMember reply; club = club_after club history }
 
 -- without the event, all other replies and the club at the end are the same
 pub record MayBeLeftOut (club : Club) (front : List Event) (event : Event) (rest : List Event) (reply : EventReply) : Type 0 where
@@ -47,4 +45,4 @@ RepeatsMayBeLeftOut =
     (club : Club) (history : List Event) (words : Words) (moment : ℕ) (reply : Reply) (rest : List Event)
     → WasServed club history words reply
     → IsAcceptedIn (club_after club history) words moment
-    → MayBeLeftOut club history (Asked words moment) rest (Replied reply)
+    → MayBeLeftOut club history (Asked words moment) rest (ToMember reply)

@@ -7,9 +7,8 @@ use Rattle.club_core.specs.declared.reply.Reply.TheVariants.{Refused}
 use Rattle.club_core.specs.declared.request.Request.{Request}
 use Rattle.club_core.specs.declared.request.Request.TheVariants as asked
 use Rattle.club_core.specs.Examples.{opened_club, root, slot_at, noon, late, served_booking, account}
-use Rattle.club_core.specs.declared.event.EventReply.TheVariants.{Replied, Answered}
-use Rattle.club_core.specs.declared.event.OfficeAnswer.TheVariants.{Done, NewKey}
-use Rattle.club_core.specs.Run.{Event, Asked, Ordered, replies_of}
+use Rattle.club_core.specs.declared.command.OfficeAnswer.TheVariants.{Done, NewKey}
+use Rattle.club_core.specs.Run.{Event, Asked, Ordered, replies_of, ToMember, ToOffice}
 
 -- a request of the key amy-1, under a pass that is signed under this root alone
 abbrev pub ask_under : List ℕ → Request → ℕ → Event
@@ -45,9 +44,9 @@ RepeatsUnderANewRoot =
     ∷ ask_under second_root asked.Account midnight
     ∷ [])
     ≡ served_booking 7 600 1
-    ∷ Answered (NewKey (codes "amy-1") second_root)
+    ∷ ToOffice (NewKey (codes "amy-1") second_root)
     ∷ account 9_400 1 600
-    ∷ Replied (Refused refusals.NotVerified)
+    ∷ ToMember (Refused refusals.NotVerified)
     ∷ served_booking 7 600 1
     ∷ account 9_400 1 600
     ∷ []
@@ -64,11 +63,11 @@ DropsTheOldestRoot =
     ∷ rotate root midnight
     ∷ ask_under root asked.Account noon
     ∷ [])
-    ≡ Answered (NewKey (codes "amy-1") second_root)
-    ∷ Answered (NewKey (codes "amy-1") third_root)
-    ∷ Replied (Refused refusals.NotVerified)
+    ≡ ToOffice (NewKey (codes "amy-1") second_root)
+    ∷ ToOffice (NewKey (codes "amy-1") third_root)
+    ∷ ToMember (Refused refusals.NotVerified)
     ∷ account 10_000 0 0
-    ∷ Answered Done
-    ∷ Answered (NewKey (codes "amy-1") root)
-    ∷ Replied (Refused refusals.KeyRevoked)
+    ∷ ToOffice Done
+    ∷ ToOffice (NewKey (codes "amy-1") root)
+    ∷ ToMember (Refused refusals.KeyRevoked)
     ∷ []

@@ -6,12 +6,11 @@ use Rattle.club_core.specs.declared.reply.Reply.{Reply}
 use Rattle.club_core.specs.Basis.{key_of}
 use Rattle.club_core.specs.Club.{Club, empty_club, member_named, IsSound}
 use Rattle.club_core.specs.Pass.{Words}
-use Rattle.club_core.specs.declared.event.EventReply.TheVariants.{Replied}
-use Rattle.club_core.specs.Run.{Event, Asked, step, replies_of, club_after}
+use Rattle.club_core.specs.Run.{Event, Asked, step, replies_of, club_after, ToMember, Response}
 use Rattle.club_core.specs.Solo.{own_events, part_of, solo_replies}
 use Rattle.club_laws.specs.Conservation.{IsConserved, HasPlaces}
 use Rattle.club_core.specs.Events.{IsEvent}
-use Rattle.club_laws.specs.Failed.{Response, ToMember, Presentation, has_failed, IsRun, answered_events, answers}
+use Rattle.club_laws.specs.Failed.{Presentation, has_failed, IsRun, answered_events, answers}
 use Rattle.club_core.specs.Acceptance.{IsAcceptedIn}
 use Rattle.club_laws.specs.Repeats.{IsBookedOrCancelled}
 use Rattle.club_laws.specs.SoloLaw.{replies_to}
@@ -76,7 +75,7 @@ RepeatsServedReplies club events replies =
     (words : Words) (moment : ℕ) (reply : Reply)
     → WasReturned events replies words reply
     → IsAcceptedIn club words moment
-    → step club (Asked words moment) ≡ record { reply = Replied reply; club = club }
+    → step club (Asked words moment) ≡ record { reply = ToMember reply; club = club }
 
 -- this holds in the club at the end of the run, and after any one further event: such as one that failed, but whose change is
 -- found after a crash

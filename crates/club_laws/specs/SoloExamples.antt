@@ -4,8 +4,7 @@ use Rattle.club_core.specs.declared.command.Command.TheVariants.{AddMember, Cred
 use Rattle.club_core.specs.declared.request.Request.{Request}
 use Rattle.club_core.specs.declared.request.Request.TheVariants as asked
 use Rattle.club_core.specs.Club.{empty_club}
-use Rattle.club_core.specs.declared.event.EventReply.{EventReply}
-use Rattle.club_core.specs.Run.{Event, Asked, Ordered, replies_of}
+use Rattle.club_core.specs.Run.{Event, Asked, Ordered, replies_of, EventReply}
 use Rattle.club_core.specs.Examples.{opening, root, slot_at, noon, ask, served_booking, account, served_cancellation}
 use Rattle.club_laws.specs.SoloLaw.{replies_to}
 

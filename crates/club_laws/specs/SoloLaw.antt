@@ -2,8 +2,7 @@
 use Rattle.std.specs.Prelude.{◌≡◌, ℕ, Bool, true, false, List, [], ◌∷◌, map, if◌then◌else◌}
 use Rattle.club_core.specs.Club.{Club, IsSound}
 use Rattle.club_core.specs.After.{after}
-use Rattle.club_core.specs.declared.event.EventReply.TheVariants.{Replied}
-use Rattle.club_core.specs.Run.{Event, step, after_change, replies_of, club_after}
+use Rattle.club_core.specs.Run.{Event, step, after_change, replies_of, club_after, ToMember}
 use Rattle.club_core.specs.Solo.{OwnEvent, OwnAsk, OwnChange, own_part, own_events, part_of, solo_verdict, solo_replies}
 
 -- whether an event's entry among the member's own is a request
@@ -24,7 +23,7 @@ abbrev pub SoloLaw : Type 0
 SoloLaw =
     (name : List ℕ) (club : Club) (events : List Event)
     → IsSound club
-    → replies_to name club events (replies_of club events) ≡ map Replied (solo_replies (part_of name club) (own_events name club events))
+    → replies_to name club events (replies_of club events) ≡ map ToMember (solo_replies (part_of name club) (own_events name club events))
 
 -- so if two clubs hold the same part of a member, and two lists the same events of its own, the member gets the same replies
 abbrev pub SoloLawOfTwo : Type 0

@@ -4,5 +4,4 @@ pub mod NameLemmas
 pub mod WidthLemmas
 pub mod KeptLemmas
 pub mod OrderLemmas
-pub mod RunLemmas
 pub mod PartLemmas

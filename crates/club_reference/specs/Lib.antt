@@ -1,5 +1,6 @@
 pub mod Widths
 pub mod Rows
+pub mod Words
 pub mod Held
 pub mod Growth
 pub mod Solo

@@ -11,5 +11,7 @@ mod solo;
 mod step;
 mod sums;
 mod views;
+mod words;
 
 pub use club::Club;
+pub use words::{Pass, Words};

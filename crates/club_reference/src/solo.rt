@@ -9,11 +9,12 @@ ghost use Rattle.club_core.specs.Sums as sums;
 ghost use Rattle.club_reference.specs.Growth.{Grows};
 ghost use Rattle.club_reference.specs.Held.{held_under, others_under};
 ghost use Rattle.club_reference.specs.Solo.{with_outside};
-ghost use Rattle.club_core.specs.Words.{words_model};
+ghost use Rattle.club_reference.specs.Words.{words_model};
 
 use crate::club::{Club, copy_rows};
 use crate::sums::{is_held, persons};
-use club_core::{Reply, SlotUse, Verdict, View, Words};
+use crate::words::Words;
+use club_core::{Reply, SlotUse, Verdict, View};
 use club_rows::{Booking, Key, Member};
 use club_values::{Moment, Name, Slot};
 use std::alloc::{AllocError, Global};

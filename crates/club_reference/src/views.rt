@@ -5,7 +5,8 @@ ghost use Rattle.club_core.specs.Office.{rows_seen};
 
 use crate::club::Club;
 use crate::sums::{balance, open_count, persons_in, recorded_booking, spent};
-use club_core::{Command, OrderView, Request, SlotUse, View, Words};
+use crate::words::Words;
+use club_core::{Command, OrderView, Request, SlotUse, View};
 use club_rows::{Facility, Key, Member};
 use club_values::{Moment, Slot};
 
@@ -26,7 +27,7 @@ fn rows_seen(member: Option<Member>, key: Option<Key>, facility: Option<Facility
 impl Club {
     ghost use Rattle.club_core.specs.Basis.{Basis, basis_under, slot_use_by, view_for, view_of};
     ghost use Rattle.club_core.specs.Office.{order_view};
-    ghost use Rattle.club_core.specs.Words.{words_model};
+    ghost use Rattle.club_reference.specs.Words.{words_model};
 
     /// The use of a slot: its persons, and whether it is closed; none without a slot.
     fn slot_use(&self, slot: Option<Slot>) -> SlotUse

@@ -2,7 +2,7 @@
 
 use crate::answers::Answer;
 use crate::messages::{AMY, AMY_CHANGED, BOB, Shown, Step};
-use crate::play::{plays_by_each_call, plays_list};
+use crate::play::{plays_anew, plays_list};
 use club_core::{OfficeFault, PassFault, Refusal};
 use std::alloc::Global;
 use std::process::Abort;
@@ -47,7 +47,7 @@ static VERIFIES: [Step; 6] = [
 
 #[test]
 fn verifies(rt: HostRuntime) {
-    plays_by_each_call(&rt, &VERIFIES);
+    plays_anew(&rt, &VERIFIES);
 }
 
 #[test]
@@ -85,7 +85,7 @@ static LIMITS: [Step; 10] = [
 
 #[test]
 fn minds_places_points_and_quota(rt: HostRuntime) {
-    plays_by_each_call(&rt, &LIMITS);
+    plays_anew(&rt, &LIMITS);
 }
 
 const IN_USE: Answer = Answer::NotDone(OfficeFault::SlotInUse);
@@ -106,13 +106,13 @@ static CLOSES: [Step; 7] = [
 
 #[test]
 fn closes_a_slot(rt: HostRuntime) {
-    plays_by_each_call(&rt, &CLOSES);
+    plays_anew(&rt, &CLOSES);
 }
 
 /// Ends the test unless a text that is no pass for this fault is refused so.
 fn is_refused(rt: &(impl Abort + Alloc<A = Global>), fault: PassFault, refusal: Refusal) {
     let (shown, refused) = (Shown::NoPass(fault), PlainReply::Refused(refusal));
-    plays_by_each_call(rt, &[Step::Asks(NOON, shown, ACCOUNT, refused)]);
+    plays_anew(rt, &[Step::Asks(NOON, shown, ACCOUNT, refused)]);
 }
 
 #[test]
@@ -155,5 +155,5 @@ fn long_list(rt: &(impl Abort + Alloc<A = Global>)) -> Vec<Step> {
 
 #[test]
 fn answers_a_long_list(rt: HostRuntime) {
-    plays_by_each_call(&rt, &long_list(&rt));
+    plays_anew(&rt, &long_list(&rt));
 }

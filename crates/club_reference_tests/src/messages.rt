@@ -1,12 +1,27 @@
 //! Passes as plain values, and the steps of worked lists.
 
 use crate::answers::Answer;
-use club_core::{Event, EventReply, Pass, PassFault, Request, Words};
+use club_core::{Command, OfficeAnswer, PassFault, Reply, Request};
+use club_reference::{Pass, Words};
 use club_values::{Moment, Name};
 use std::alloc::Global;
 use std::process::Abort;
 use test_kit::roots::{ROOT, SECOND_ROOT};
 use test_kit::{Order, PlainPass, PlainReply, PlainRequest, PlainStep, signed_pass};
+
+/// What comes to the club: a request at a moment, or an order of the office.
+#[derive(Drop)]
+pub(crate) enum Event {
+    Asked { words: Words, moment: Moment },
+    Ordered(Command),
+}
+
+/// The reply to it.
+#[derive(Clone, Copy, Debug, PartialEq, Eq)]
+pub(crate) enum EventReply {
+    Replied(Reply),
+    Answered(OfficeAnswer),
+}
 
 /// The pass of a request.
 #[derive(Clone, Copy)]

@@ -2,9 +2,9 @@
 
 use crate::answers::Answer;
 use crate::expect::{expect_eq, expect_reply};
-use crate::messages::{AMY, AMY_CHANGED, BOB, Step};
+use crate::messages::{AMY, AMY_CHANGED, BOB, Event, EventReply, Step};
 use crate::play::{fixture_club, plays};
-use club_core::{Event, EventReply, SlotUse};
+use club_core::SlotUse;
 use club_reference::Club;
 use club_values::{Name, Slot};
 use std::alloc::Global;

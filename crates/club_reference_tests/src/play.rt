@@ -1,8 +1,8 @@
-//! Steps, played on the reference machine by each of its calls.
+//! Steps, played on the reference machine.
 
 use crate::expect::{expect_eq, expect_reply};
-use crate::messages::Step;
-use club_core::{Event, EventReply, OfficeAnswer};
+use crate::messages::{Event, EventReply, Step};
+use club_core::OfficeAnswer;
 use club_reference::Club;
 use std::alloc::Global;
 use std::process::Abort;
@@ -18,42 +18,12 @@ fn reply_by_kind(rt: &impl Abort, club: &mut Club, event: &Event) -> EventReply 
     }
 }
 
-/// Ends the test unless the club gives the replies of these steps, each put as a request or order.
+/// Ends the test unless the club gives the replies of these steps, in their order.
 pub(crate) fn plays(rt: &(impl Abort + Alloc<A = Global>), club: &mut Club, steps: &[Step]) {
     for (number, step) in steps.iter().enumerate() {
         let returned = reply_by_kind(rt, club, &step.event(rt));
         expect_reply(rt, (number, step.at()), &returned, &step.reply(rt));
     }
-}
-
-/// Ends the test unless the club gives the replies of these steps, each put as an event.
-fn plays_events(rt: &(impl Abort + Alloc<A = Global>), club: &mut Club, steps: &[Step]) {
-    for (number, step) in steps.iter().enumerate() {
-        let returned = club.step(&step.event(rt)).expect(rt, "memory");
-        expect_reply(rt, (number, step.at()), &returned, &step.reply(rt));
-    }
-}
-
-fn events(rt: &(impl Abort + Alloc<A = Global>), steps: &[Step]) -> Vec<Event> {
-    let mut events = Vec::new(rt.alloc());
-    for step in steps {
-        events.push(step.event(rt)).expect(rt, "memory");
-    }
-    events
-}
-
-fn replies(rt: &(impl Abort + Alloc<A = Global>), steps: &[Step]) -> Vec<EventReply> {
-    let mut replies = Vec::new(rt.alloc());
-    for step in steps {
-        replies.push(step.reply(rt)).expect(rt, "memory");
-    }
-    replies
-}
-
-/// Ends the test unless one run gives the replies of these steps.
-fn plays_at_once(rt: &(impl Abort + Alloc<A = Global>), club: &mut Club, steps: &[Step]) {
-    let returned = club.run(&events(rt, steps)).expect(rt, "memory");
-    expect_eq(rt, &returned.as_slice(), &replies(rt, steps).as_slice());
 }
 
 /// Gives an order, and ends the test unless it is carried out.
@@ -72,11 +42,9 @@ pub(crate) fn fixture_club(rt: &(impl Abort + Alloc<A = Global>)) -> Club {
     club
 }
 
-/// Ends the test unless a club of the fixture gives the replies of these steps, by each call.
-pub(crate) fn plays_by_each_call(rt: &(impl Abort + Alloc<A = Global>), steps: &[Step]) {
+/// Ends the test unless a club of the fixture gives the replies of these steps.
+pub(crate) fn plays_anew(rt: &(impl Abort + Alloc<A = Global>), steps: &[Step]) {
     plays(rt, &mut fixture_club(rt), steps);
-    plays_events(rt, &mut fixture_club(rt), steps);
-    plays_at_once(rt, &mut fixture_club(rt), steps);
 }
 
 /// The same of a worked list.
@@ -85,5 +53,5 @@ pub(crate) fn plays_list(rt: &(impl Abort + Alloc<A = Global>), list: &[PlainSte
     for step in list {
         steps.push(Step::of(step)).expect(rt, "memory");
     }
-    plays_by_each_call(rt, &steps);
+    plays_anew(rt, &steps);
 }

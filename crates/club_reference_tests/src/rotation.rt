@@ -2,7 +2,7 @@
 
 use crate::answers::Answer;
 use crate::messages::{AMY, AMY_CHANGED, Shown, Step};
-use crate::play::plays_by_each_call;
+use crate::play::plays_anew;
 use club_core::OfficeFault;
 use std::test::*;
 use test_kit::moments::{BEFORE_UNTIL, NOON, UNTIL};
@@ -35,7 +35,7 @@ static ROTATES: [Step; 6] = [
 
 #[test]
 fn rotates_a_key(rt: HostRuntime) {
-    plays_by_each_call(&rt, &ROTATES);
+    plays_anew(&rt, &ROTATES);
 }
 
 /// If the moment is past, the older root is refused at once.
@@ -50,7 +50,7 @@ static ROTATES_AT_ONCE: [Step; 3] = [
 
 #[test]
 fn rotates_from_a_moment_past(rt: HostRuntime) {
-    plays_by_each_call(&rt, &ROTATES_AT_ONCE);
+    plays_anew(&rt, &ROTATES_AT_ONCE);
 }
 
 /// Of two rotations the second drops the root that the first kept.
@@ -70,7 +70,7 @@ static ROTATES_TWICE: [Step; 5] = [
 
 #[test]
 fn rotates_twice(rt: HostRuntime) {
-    plays_by_each_call(&rt, &ROTATES_TWICE);
+    plays_anew(&rt, &ROTATES_TWICE);
 }
 
 const ROOT_BEFORE: Answer = Answer::NotDone(OfficeFault::Exists);
@@ -87,7 +87,7 @@ static NO_ROTATIONS: [Step; 2] = [
 
 #[test]
 fn refuses_a_rotation(rt: HostRuntime) {
-    plays_by_each_call(&rt, &NO_ROTATIONS);
+    plays_anew(&rt, &NO_ROTATIONS);
 }
 
 /// A revoked key stays revoked, under its older root and its new one.
@@ -103,5 +103,5 @@ static ROTATES_REVOKED: [Step; 4] = [
 
 #[test]
 fn rotates_a_revoked_key(rt: HostRuntime) {
-    plays_by_each_call(&rt, &ROTATES_REVOKED);
+    plays_anew(&rt, &ROTATES_REVOKED);
 }

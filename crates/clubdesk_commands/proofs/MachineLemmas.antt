@@ -2,7 +2,7 @@
 use Rattle.std.proofs.Common.{◌≡◌, ◌⊎◌, ℕ, List, ◌∷◌, Option, Some, None, Result, Ok, Err, inl, inr, refl}
 use Rattle.clap.specs.Words.{Text}
 use Rattle.club_core.specs.Club.{Club}
-use Rattle.club_core.specs.Run.{Event, step}
+use Rattle.club_core.specs.Run.{Event, step, Response}
 use Rattle.club_core.specs.declared.change.Change.{Change}
 use Rattle.club_core.specs.declared.command.Command.{Command}
 use Rattle.club_core.specs.declared.reply.Reply.{Reply}
@@ -16,7 +16,7 @@ use Rattle.club_http.specs.Replied.{IsReplied}
 use Rattle.club_http.specs.Replied as replied
 use Rattle.club_http.specs.declared.fault.AnswerFault.{AnswerFault}
 use Rattle.club_http.specs.declared.fault.AnswerFault.TheVariants.{Read, Write}
-use Rattle.club_laws.specs.Failed.{IsStep, Response}
+use Rattle.club_laws.specs.Failed.{IsStep}
 use Rattle.clubdesk_arguments.specs.declared.fault.Fault.{Fault}
 use Rattle.clubdesk_arguments.specs.declared.fault.Fault.TheVariants.{Memory, ClockOutOfRange, InputOutput}
 use Rattle.clubdesk_arguments.specs.declared.task.Service.{Service}

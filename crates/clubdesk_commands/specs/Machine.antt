@@ -1,11 +1,11 @@
 -- The club in place of a store: what its machine makes of requests and orders (ours).
 use Rattle.std.specs.Prelude.{◌≡◌, ℕ, List}
 use Rattle.club_core.specs.Club.{Club}
-use Rattle.club_core.specs.Run.{Asked}
+use Rattle.club_core.specs.Run.{Asked, ToMember}
 use Rattle.club_gate.specs.computed.DecodedPass.{decoded_words}
 use Rattle.club_gate.specs.Response.{desk_presentation}
 use Rattle.club_http.specs.Replied.{AnswerRelation}
-use Rattle.club_laws.specs.Failed.{IsStep, ToMember}
+use Rattle.club_laws.specs.Failed.{IsStep}
 use Rattle.desk_server.specs.Served as served
 use Rattle.clubdesk_commands.specs.OfficeDesk.{Orders}
 

@@ -3,10 +3,10 @@
 
 use crate::arriving::{Arriving, Given, Queue, Written};
 use crate::expect::expect_eq;
-use club_core::{ClubStore, Command, OfficeAnswer, Reply, Request, Words};
+use club_core::{ClubStore, Command, OfficeAnswer, Reply, Request};
 use club_gate::{key_signature, minted};
 use club_http::Face;
-use club_reference::Club;
+use club_reference::{Club, Words};
 use club_rows::Root;
 use club_store::Store;
 use club_values::{Moment, Name, Slot};

@@ -1,6 +1,6 @@
 //! Passes as the reference machine takes them: with the roots under which they are signed.
 
-use club_core::Pass;
+use club_reference::Pass;
 use club_rows::Root;
 use club_values::Name;
 use std::alloc::{AllocError, Global};

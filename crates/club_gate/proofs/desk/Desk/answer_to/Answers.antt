@@ -1,11 +1,10 @@
 use Rattle.std.proofs.Common.{inl, inr, sym, ap, ◌∙◌, subst}
 use Rattle.std.proofs.lemmas.List.Elements.{All-head}
 use Rattle.club_core.specs.declared.order_view.OrderView.{OrderView}
-use Rattle.club_core.specs.declared.event.OfficeAnswer.{OfficeAnswer}
+use Rattle.club_core.specs.declared.command.OfficeAnswer.{OfficeAnswer}
 use Rattle.club_core.specs.Club.{IsSound}
 use Rattle.club_core.specs.Office.{order_verdict}
-use Rattle.club_core.specs.Run.{Ordered}
-use Rattle.club_laws.specs.Failed.{ToOffice}
+use Rattle.club_core.specs.Run.{Ordered, ToOffice}
 use Rattle.club_gate.specs.Desk.{IsAnsweredBy}
 use Rattle.club_gate.specs.Response.{office_reply_of}
 use Rattle.club_gate.proofs.Stepping.{order_done, order_failed}

@@ -7,7 +7,7 @@ use Rattle.club_core.specs.Club.{Club, key_named}
 use Rattle.club_core.specs.Basis.{Basis, view_of, view_in, key_of, basis_under}
 use Rattle.club_core.specs.Answer.{answer_to}
 use Rattle.club_core.specs.Solo.{with_others}
-use Rattle.club_core.specs.Words.{words_model}
+use Rattle.club_reference.specs.Words.{words_model}
 use Rattle.club_reference.specs.Solo.{with_outside}
 use Rattle.club_reference.proofs.club.Club.answer_alone.Goals as goal
 

@@ -1,6 +1,6 @@
 use Rattle.std.proofs.Common.{◌∙◌, sym, ap}
 use Rattle.club_core.specs.declared.verdict.Verdict.{Verdict}
-use Rattle.club_core.specs.Words.{words_model}
+use Rattle.club_reference.specs.Words.{words_model}
 use Rattle.club_reference.proofs.KeptLemmas.{keeps_answer}
 use Rattle.club_reference.proofs.club.Club.ask.Goals as goal
 

@@ -1,16 +1,13 @@
--- The models of the code's words and events (ours).
+-- The models of the code's words (ours).
 use Rattle.std.specs.Prelude.{map, Result, Ok, Err}
 use Rattle.std.specs.List.{list_any}
 use Rattle.std.specs.Str.{bytes_eq}
 use Rattle.std.specs.Vec.{vec_items}
 use Rattle.pass_caveats.specs.computed.CaveatOf.{caveat_of}
-use Rattle.club_core.specs.declared.event.Event.{Event as EventInCode}
-use Rattle.club_core.specs.declared.event.Event.TheVariants as events
 use Rattle.club_core.specs.declared.pass_fault.PassFault.{PassFault}
-use Rattle.club_core.specs.declared.words.Pass.{Pass as PassInCode}
-use Rattle.club_core.specs.declared.words.Words.{Words as WordsInCode}
+use Rattle.club_reference.specs.declared.words.Pass.{Pass as PassInCode}
+use Rattle.club_reference.specs.declared.words.Words.{Words as WordsInCode}
 use Rattle.club_core.specs.Pass.{Pass, Words}
-use Rattle.club_core.specs.Run.{Event, Asked, Ordered}
 
 -- the caveats are parsed from their texts; the pass is signed under the listed roots
 abbrev pub pass_model : PassInCode → Pass
@@ -26,7 +23,3 @@ pass_result_model (Err fault) = Err fault
 
 abbrev pub words_model : WordsInCode → Words
 words_model words = record { pass = pass_result_model words.pass; request = words.request }
-
-abbrev pub event_model : EventInCode → Event
-event_model (events.Asked words moment) = Asked (words_model words) moment
-event_model (events.Ordered command) = Ordered command

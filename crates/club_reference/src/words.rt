@@ -3,11 +3,7 @@
 ghost use Rattle.std.specs.Prelude.{◌≡◌};
 ghost use Rattle.std.specs.Option.{option_copied};
 
-use crate::acceptance::answer;
-use crate::pass_fault::PassFault;
-use crate::request::Request;
-use crate::verdict::Verdict;
-use crate::view::View;
+use club_core::{PassFault, Request, Verdict, View, answer};
 use club_rows::{Key, Root};
 use club_values::{Moment, Name};
 use pass_caveats::{Ask, CaveatFault, first_fault};
@@ -34,7 +30,7 @@ pub struct Words {
 impl Pass {
     ghost use Rattle.pass_caveats.specs.Fault.{first_fault_of};
     ghost use Rattle.club_core.specs.Pass.{is_signed_under};
-    ghost use Rattle.club_core.specs.Words.{pass_model};
+    ghost use Rattle.club_reference.specs.Words.{pass_model};
 
     /// Whether it is signed under this root.
     fn is_signed(&self, root: &Root) -> bool
@@ -67,7 +63,7 @@ impl Pass {
 impl Words {
     ghost use Rattle.club_core.specs.Answer.{answer_to};
     ghost use Rattle.club_core.specs.Basis.{key_of};
-    ghost use Rattle.club_core.specs.Words.{words_model};
+    ghost use Rattle.club_reference.specs.Words.{words_model};
 
     /// The key that the pass names; `None` if the text isn't a pass, or its identifier names no
     /// key.
