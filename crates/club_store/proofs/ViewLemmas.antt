@@ -13,7 +13,7 @@ use Rattle.club_core.specs.declared.account.MemberAccount.{MemberAccount}
 use Rattle.club_core.specs.Request.{request_number, request_slot}
 use Rattle.club_core.specs.Basis.{account_named, club_account, state_of, view_in}
 use Rattle.club_core.specs.Sums.{balance_of, booking_under, count_to_come, spent_under}
-use Rattle.club_tables.specs.Stored.{fresh}
+use Rattle.club_core.specs.KeyParts.{row_alone}
 
 -- what is found is an element, and passes
 pub found : {X : Type 0} (p : X → Bool) (xs : List X) (x : X) → find p xs ≡ Some x → Contains xs x × (p x ≡ true)
@@ -66,12 +66,12 @@ seen_is law club name key account request moment named owned =
     rw (named, found_member) (cc)
 
 -- a key's row that was found without its older root is that of the key
-pub of_fresh : (found : Option Key) (key : Key) → Some key ≡ option_map fresh found → (row : Key) × (found ≡ Some row) × (key ≡ fresh row)
-of_fresh None key h = absurd cc
-of_fresh (Some row) key h = let e : key ≡ fresh row = cc in (row, refl, e)
+pub of_row_alone : (found : Option Key) (key : Key) → Some key ≡ option_map row_alone found → (row : Key) × (found ≡ Some row) × (key ≡ row_alone row)
+of_row_alone None key h = absurd cc
+of_row_alone (Some row) key h = let e : key ≡ row_alone row = cc in (row, refl, e)
 
 -- with its older root it is the key
-pub with_older : (row key : Key) (older : Option OlderRoot) → key ≡ fresh row → older ≡ row.older
+pub with_older : (row key : Key) (older : Option OlderRoot) → key ≡ row_alone row → older ≡ row.older
     → ◌≡◌ {A = Key} (record { name = key.name; member = key.member; root = key.root; older = older; revoked = key.revoked }) row
 with_older row key older is same =
     ap (λ (k : Key). let r : Key = record { name = k.name; member = k.member; root = k.root; older = older; revoked = k.revoked } in r) is

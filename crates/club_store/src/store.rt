@@ -24,6 +24,7 @@ ghost use Rattle.club_core.specs.Club.{key_named, member_named, facility_named};
 ghost use Rattle.club_core.specs.Sheet.{AreRowsOf};
 ghost use Rattle.club_core.specs.Sums.{booking_under, count_to_come, spent_under};
 ghost use Rattle.club_core.specs.Basis.{account_named, slot_use, state_of, view_in};
+ghost use Rattle.club_core.specs.KeyParts.{older_root_of, row_alone};
 ghost use Rattle.club_core.specs.Request.{request_number, request_slot};
 ghost use Rattle.club_rows.specs.Rows.{IsMember, IsFacility, IsKey, IsOlderRoot, IsBooking};
 ghost use Rattle.club_core.specs.declared.change.Change.TheVariants.{
@@ -53,7 +54,7 @@ ghost use Rattle.club_store.specs.Opening.{
 ghost use Rattle.club_tables.specs.Opening.{AcceptsTables, IsOpeningFault};
 ghost use Rattle.club_tables.specs.Tables.{Represents, IsFound};
 ghost use Rattle.club_tables.specs.ReadsAndChanges.{ReadsClub, ChangesClub};
-ghost use Rattle.club_tables.specs.Stored.{IsMemberRow, member_row, older_of, fresh};
+ghost use Rattle.club_tables.specs.Stored.{IsMemberRow, member_row};
 ghost use Rattle.club_store.specs.Limits.{HasLimits};
 
 use crate::Remains;
@@ -229,7 +230,7 @@ impl<S: Alter> Store<S> {
     /// The key of this name, without its older root; `None` if there is none.
     pub(crate) fn key_row(&mut self, name: &Name) -> Result<Option<Key>, StoreFault>
         ensures reads { ReadsClub S.Store self.old self.new result
-            (λ club key. key ≡ option_map fresh (key_named name.now club)) }
+            (λ club key. key ≡ option_map row_alone (key_named name.now club)) }
         ensures limits { IfOk result (λ key. IfSome key IsKey) }
     {
         reads::key(&mut self.connection, name)
@@ -238,7 +239,7 @@ impl<S: Alter> Store<S> {
     /// The older root of the key of this name; `None` if it was never rotated.
     pub(crate) fn older_root(&mut self, name: &Name) -> Result<Option<OlderRoot>, StoreFault>
         ensures reads { ReadsClub S.Store self.old self.new result
-            (λ club older. older ≡ older_of name.now club) }
+            (λ club older. older ≡ older_root_of name.now club) }
         ensures limits { IfOk result (λ older. IfSome older IsOlderRoot) }
     {
         reads::older_root(&mut self.connection, name)

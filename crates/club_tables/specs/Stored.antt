@@ -1,5 +1,5 @@
 -- Rows as they are stored, with their totals, and when they are the rows of a club (ours).
-use Rattle.std.specs.Prelude.{◌≡◌, ◌≢◌, ◌≤◌, ℕ, false, List, map, find, sum_by, Option, option_map, option_and_then, None, if◌then◌else◌, unwrap_or, AllPairs}
+use Rattle.std.specs.Prelude.{◌≡◌, ◌≢◌, ◌≤◌, ℕ, false, List, map, find, sum_by, Option, option_map, if◌then◌else◌, unwrap_or, AllPairs}
 use Rattle.std.specs.Str.{bytes_eq}
 use Rattle.club_values.specs.declared.slot.Slot.{Slot}
 use Rattle.club_rows.specs.declared.member.Member.{Member}
@@ -9,10 +9,11 @@ use Rattle.club_rows.specs.declared.key.OlderRoot.{OlderRoot}
 use Rattle.club_rows.specs.declared.booking.Booking.{Booking}
 use Rattle.club_core.specs.declared.slot_use.SlotUse.{SlotUse}
 use Rattle.club_rows.specs.Booking.{same_slot, persons_of}
-use Rattle.club_core.specs.Club.{Club, bookings_of, key_named}
+use Rattle.club_core.specs.Club.{Club, bookings_of}
 use Rattle.club_rows.specs.Limits.{credited_limit}
 use Rattle.club_rows.specs.Rows.{IsMember}
 use Rattle.club_core.specs.Basis.{slot_use}
+use Rattle.club_core.specs.KeyParts.{older_root_of}
 use Rattle.club_core.specs.Sums.{cost_of}
 use Rattle.club_tables.specs.declared.row.MemberRow.{MemberRow}
 
@@ -56,17 +57,9 @@ row_of slot rows = find (λ (row : SlotRow). same_slot row.slot slot) rows
 abbrev pub stored_slot_use : Slot → List SlotRow → SlotUse
 stored_slot_use slot rows = unwrap_or (option_map (λ (row : SlotRow). row.held) (row_of slot rows)) no_slot_use
 
--- the older root of the key of this name, where it was rotated
-abbrev pub older_of : List ℕ → Club → Option OlderRoot
-older_of name club = option_and_then (λ (key : Key). key.older) (key_named name club)
-
 -- the older root of a key by these rows: none of one without a row
 abbrev pub older_by : List ℕ → List OlderRow → Option OlderRoot
 older_by name rows = option_map (λ (row : OlderRow). row.older) (find (λ (row : OlderRow). bytes_eq row.key name) rows)
-
--- a key's row without its older root
-abbrev pub fresh : Key → Key
-fresh key = record key { older = None }
 
 -- the rows are those of the club, and each stored total equals its sum; the order of slots and of older roots is left open
 pub record IsStoredAs (club : Club) (rows : Rows) : Type 0 where
@@ -75,7 +68,7 @@ pub record IsStoredAs (club : Club) (rows : Rows) : Type 0 where
   pub keys : rows.keys ≡ club.keys
   pub bookings : rows.bookings ≡ club.bookings
   pub slots : (slot : Slot) → stored_slot_use slot rows.slots ≡ slot_use club slot
-  pub olders : (name : List ℕ) → older_by name rows.olders ≡ older_of name club
+  pub olders : (name : List ℕ) → older_by name rows.olders ≡ older_root_of name club
   pub olders_once : AllPairs (λ (a : OlderRow) (b : OlderRow). a.key ≢ b.key) rows.olders
   pub once : AllPairs (λ (a : SlotRow) (b : SlotRow). a.slot ≢ b.slot) rows.slots
 

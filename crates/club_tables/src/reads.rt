@@ -10,11 +10,12 @@ ghost use Rattle.sqlite.specs.Held.{state};
 ghost use Rattle.club_rows.specs.Rows.{IsFacility, IsKey, IsOlderRoot, IsBooking};
 ghost use Rattle.club_core.specs.Club.{bookings_of, key_named, member_named, facility_named};
 ghost use Rattle.club_core.specs.Basis.{slot_use};
+ghost use Rattle.club_core.specs.KeyParts.{older_root_of, row_alone};
 ghost use Rattle.club_core.specs.Sheet.{AreRowsOf};
 ghost use Rattle.club_core.specs.Sums.{booking_under, count_to_come, spent_under};
 ghost use Rattle.club_tables.specs.ReadsAndChanges.{ReadsClub};
 ghost use Rattle.club_tables.specs.Sheet.{AreBookings};
-ghost use Rattle.club_tables.specs.Stored.{IsMemberRow, fresh, member_row, older_of};
+ghost use Rattle.club_tables.specs.Stored.{IsMemberRow, member_row};
 ghost use Rattle.club_tables.specs.Transaction.{Asked, IsKept};
 ghost use Rattle.club_tables.specs.Answers.{
   Answers,
@@ -82,7 +83,7 @@ pub fn key<S: Alter>(conn: &mut Connection<S>, name: &Name) -> Result<Option<Key
     requires { conn.old.in_transaction ≡ false }
     ensures idle { conn.new.in_transaction ≡ false }
     ensures reads { ReadsClub S.Store conn.old conn.new result
-        (λ club key. key ≡ option_map fresh (key_named name.now club)) }
+        (λ club key. key ≡ option_map row_alone (key_named name.now club)) }
     ensures gives { Answers S.Store (reading_statement (OfKey name.now)) (IsFirst IsKeyIn)
         conn.old conn.new result }
     ensures limits { IfOk result (λ key. IfSome key IsKey) }
@@ -98,7 +99,7 @@ pub fn older_root<S: Alter>(
     requires { conn.old.in_transaction ≡ false }
     ensures idle { conn.new.in_transaction ≡ false }
     ensures reads { ReadsClub S.Store conn.old conn.new result
-        (λ club older. older ≡ older_of key.now club) }
+        (λ club older. older ≡ older_root_of key.now club) }
     ensures gives { Answers S.Store (reading_statement (OfOlderRoot key.now))
         (IsFirst IsOlderRootIn)
         conn.old conn.new result }

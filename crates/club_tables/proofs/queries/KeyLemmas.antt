@@ -18,11 +18,12 @@ use Rattle.club_rows.specs.declared.key.Key.{Key}
 use Rattle.club_rows.specs.declared.member.Member.{Member}
 use Rattle.club_rows.specs.declared.facility.Facility.{Facility}
 use Rattle.club_core.specs.Club.{key_named, member_named, facility_named}
+use Rattle.club_core.specs.KeyParts.{older_root_of}
 use Rattle.club_tables.specs.declared.row.MemberRow.{MemberRow}
 use Rattle.club_tables.specs.declared.texts.TheConstants.{KEY, MEMBER, FACILITY, OLDER_ROOT}
 use Rattle.club_tables.specs.Schema.{club_schema}
 use Rattle.club_tables.specs.Columns.{key_values, member_values, facility_values, older_values, older_root_values}
-use Rattle.club_tables.specs.Stored.{OlderRow, member_row, older_of}
+use Rattle.club_tables.specs.Stored.{OlderRow, member_row}
 use Rattle.club_tables.specs.Tables.{Holds, keys_tree, members_tree, facilities_tree, olders_tree}
 use Rattle.club_tables.specs.Statements.{select, is_given}
 use Rattle.club_tables.proofs.statements.SelectLemmas.{text_equal, find_first, apart_from_pairs, one_passes, short_permutation}
@@ -94,7 +95,7 @@ shown_again None = refl
 shown_again (Some row) = refl
 
 pub older_shown : {S : Type 0} (g : Ghosts S) (old : Held S) (name : List ℕ)
-    → Shows g old (OLDER_ROOT.now, Text name ∷ []) (λ club rows. rows ≡ map older_root_values (option_to_list (older_of name club)))
+    → Shows g old (OLDER_ROOT.now, Text name ∷ []) (λ club rows. rows ≡ map older_root_values (option_to_list (older_root_of name club)))
 older_shown g old name rows clean asked club others represents =
     let tables = asked_tables asked clean club others represents in
     let p : OlderRow → Bool = λ row. bytes_eq row.key name in
