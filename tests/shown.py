@@ -101,7 +101,8 @@ WRITTEN = {
                     "http_request.Words: DecodedRequest guests_by_method request_at decoded_request IsRequestReading",
     "wire.compact": "http_response.Body: Value truth_text value_text Member name_text member_text object_text",
     "wire.reply_bytes": "http_response.Body: booking_member caveat_member members_of body_text; "
-                        "http_response.Text: phrase_of status_of status_line challenge_field allow_field head_text reply_text; "
+                        "http_response.Status: refusal_status status_of methods_of; "
+                        "http_response.Text: phrase_of status_line challenge_field allow_field head_text reply_text; "
                         "club_core.Refusal: RefusalDetails details details_of caveat_of_refusal",
 }
 
