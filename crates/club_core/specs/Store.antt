@@ -1,5 +1,5 @@
 -- What a store of the club's rows returns, keeps and may recover to (ours).
-use Rattle.std.specs.Prelude.{◌≡◌, ℕ, false, List, Option, Some, None, Result, Ok, Err, IfOk}
+use Rattle.std.specs.Prelude.{◌≡◌, ℕ, false, List, Option, Some, None, Result, IfOk, MatchResult}
 use Rattle.club_rows.specs.declared.key.Key.{Key}
 use Rattle.club_rows.specs.declared.member.Member.{Member}
 use Rattle.club_rows.specs.declared.booking.Booking.{Booking}
@@ -58,7 +58,11 @@ Returns Represents old answer IsReturned = (club : Club) (others : List Club) �
 abbrev pub IsRead : {S : Type 0} → (Option Change → S → StoreFault → S → Type 0) → S → S → Type 0
 IsRead {S} Fails old new = (wish : Option Change) (fault : StoreFault) (later : S) → Fails wish new fault later → Fails wish old fault later
 
--- the read succeeded, or failed with this fault
-abbrev pub ReadsOrFails : {S A : Type 0} → (Option Change → S → StoreFault → S → Type 0) → S → S → Result A StoreFault → Type 0
-ReadsOrFails Fails old new (Ok answer) = IsRead Fails old new
-ReadsOrFails Fails old new (Err fault) = Fails None old fault new
+-- What a read of a store promises, if the store's disk is clean after it: the disk was clean before, the store represents the same club with the same
+-- possible crash states, and what is returned is true of that club. A read that fails does so with this fault.
+pub record ReadsStore {S A : Type 0} (IsClean : S → Type 0) (Represents : S → Club → List Club → Type 0)
+    (Fails : Option Change → S → StoreFault → S → Type 0) (old new : S) (result : Result A StoreFault) (IsReturned : Club → A → Type 0) : Type 0 where
+  pub was_clean : IsClean new → IsClean old
+  pub kept : IsClean new → KeepsClub Represents old new
+  pub returned : IsClean new → Returns Represents old result IsReturned
+  pub failed : IsClean new → MatchResult result (λ _. IsRead Fails old new) (λ fault. Fails None old fault new)

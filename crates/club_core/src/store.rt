@@ -47,7 +47,7 @@ pub trait ClubStore {
     ghost use Rattle.club_core.specs.Basis.{account_named, slot_use};
     ghost use Rattle.club_core.specs.Sums.{booking_under, count_to_come, spent_under};
     ghost use Rattle.club_core.specs.KeyParts.{older_root_of, row_alone};
-    ghost use Rattle.club_core.specs.Store.{IsTrueOf, KeepsClub, ReadsOrFails, Returns};
+    ghost use Rattle.club_core.specs.Store.{IsTrueOf, ReadsStore};
 
     // the current club, and the other possible crash states: the clubs that the store may recover
     // to after a crash
@@ -61,76 +61,49 @@ pub trait ClubStore {
 
     /// The key of this name without its older root; `None` if there is none.
     fn key_row(&mut self, name: &Name) -> Result<Option<Key>, StoreFault>
-        ensures was_clean { disk_is_clean self.new → disk_is_clean self.old }
-        ensures kept { disk_is_clean self.new → KeepsClub represents self.old self.new }
-        ensures returned { disk_is_clean self.new → Returns represents self.old result
-            (λ club key. key ≡ option_map row_alone (key_named name.now club)) }
-        ensures failed { disk_is_clean self.new → ReadsOrFails fails self.old self.new result };
+        ensures { ReadsStore disk_is_clean represents fails self.old self.new result
+            (λ club key. key ≡ option_map row_alone (key_named name.now club)) };
 
     /// The older root of the key of this name; `None` if it was never rotated.
     fn older_root(&mut self, name: &Name) -> Result<Option<OlderRoot>, StoreFault>
-        ensures was_clean { disk_is_clean self.new → disk_is_clean self.old }
-        ensures kept { disk_is_clean self.new → KeepsClub represents self.old self.new }
-        ensures returned { disk_is_clean self.new → Returns represents self.old result
-            (λ club older. older ≡ older_root_of name.now club) }
-        ensures failed { disk_is_clean self.new → ReadsOrFails fails self.old self.new result };
+        ensures { ReadsStore disk_is_clean represents fails self.old self.new result
+            (λ club older. older ≡ older_root_of name.now club) };
 
     /// The facility of this name; `None` if there is none.
     fn facility(&mut self, name: &Name) -> Result<Option<Facility>, StoreFault>
-        ensures was_clean { disk_is_clean self.new → disk_is_clean self.old }
-        ensures kept { disk_is_clean self.new → KeepsClub represents self.old self.new }
-        ensures returned { disk_is_clean self.new → Returns represents self.old result
-            (λ club facility. facility ≡ facility_named name.now club) }
-        ensures failed { disk_is_clean self.new → ReadsOrFails fails self.old self.new result };
+        ensures { ReadsStore disk_is_clean represents fails self.old self.new result
+            (λ club facility. facility ≡ facility_named name.now club) };
 
     /// How much of a slot is taken: nothing if nobody booked or closed it.
     fn slot(&mut self, slot: &Slot) -> Result<SlotUse, StoreFault>
-        ensures was_clean { disk_is_clean self.new → disk_is_clean self.old }
-        ensures kept { disk_is_clean self.new → KeepsClub represents self.old self.new }
-        ensures returned { disk_is_clean self.new → Returns represents self.old result
-            (λ club found. found ≡ slot_use club slot.now) }
-        ensures failed { disk_is_clean self.new → ReadsOrFails fails self.old self.new result };
+        ensures { ReadsStore disk_is_clean represents fails self.old self.new result
+            (λ club found. found ≡ slot_use club slot.now) };
 
     /// The booking of a key under a number; `None` if there is none.
     fn booking(&mut self, key: &Name, number: BookingNumber) -> Result<Option<Booking>, StoreFault>
-        ensures was_clean { disk_is_clean self.new → disk_is_clean self.old }
-        ensures kept { disk_is_clean self.new → KeepsClub represents self.old self.new }
-        ensures returned { disk_is_clean self.new → Returns represents self.old result
-            (λ club booking. booking ≡ booking_under key.now number club.bookings) }
-        ensures failed { disk_is_clean self.new → ReadsOrFails fails self.old self.new result };
+        ensures { ReadsStore disk_is_clean represents fails self.old self.new result
+            (λ club booking. booking ≡ booking_under key.now number club.bookings) };
 
     /// The member of this name with its balance; `None` if there is none.
     fn account(&mut self, member: &Name) -> Result<Option<MemberAccount>, StoreFault>
-        ensures was_clean { disk_is_clean self.new → disk_is_clean self.old }
-        ensures kept { disk_is_clean self.new → KeepsClub represents self.old self.new }
-        ensures returned { disk_is_clean self.new → Returns represents self.old result
-            (λ club account. account ≡ account_named member.now club) }
-        ensures failed { disk_is_clean self.new → ReadsOrFails fails self.old self.new result };
+        ensures { ReadsStore disk_is_clean represents fails self.old self.new result
+            (λ club account. account ≡ account_named member.now club) };
 
     /// How many of a member's bookings are open: not cancelled, and the slot begins after the
     /// moment.
     fn open_count(&mut self, member: &Name, moment: Moment) -> Result<u64, StoreFault>
-        ensures was_clean { disk_is_clean self.new → disk_is_clean self.old }
-        ensures kept { disk_is_clean self.new → KeepsClub represents self.old self.new }
-        ensures returned { disk_is_clean self.new → Returns represents self.old result
-            (λ club count. count ≡ count_to_come moment (bookings_of member.now club)) }
-        ensures failed { disk_is_clean self.new → ReadsOrFails fails self.old self.new result };
+        ensures { ReadsStore disk_is_clean represents fails self.old self.new result
+            (λ club count. count ≡ count_to_come moment (bookings_of member.now club)) };
 
     /// The points that a key has spent.
     fn spent(&mut self, key: &Name) -> Result<u64, StoreFault>
-        ensures was_clean { disk_is_clean self.new → disk_is_clean self.old }
-        ensures kept { disk_is_clean self.new → KeepsClub represents self.old self.new }
-        ensures returned { disk_is_clean self.new → Returns represents self.old result
-            (λ club spent. spent ≡ spent_under key.now club.bookings) }
-        ensures failed { disk_is_clean self.new → ReadsOrFails fails self.old self.new result };
+        ensures { ReadsStore disk_is_clean represents fails self.old self.new result
+            (λ club spent. spent ≡ spent_under key.now club.bookings) };
 
     /// The day's bookings that aren't cancelled, in the order of the day sheet.
     fn day(&mut self, day: Day) -> Result<Vec<Booking>, StoreFault>
-        ensures was_clean { disk_is_clean self.new → disk_is_clean self.old }
-        ensures kept { disk_is_clean self.new → KeepsClub represents self.old self.new }
-        ensures returned { disk_is_clean self.new → Returns represents self.old result
-            (λ club rows. AreRowsOf club day rows.items) }
-        ensures failed { disk_is_clean self.new → ReadsOrFails fails self.old self.new result };
+        ensures { ReadsStore disk_is_clean represents fails self.old self.new result
+            (λ club rows. AreRowsOf club day rows.items) };
 
     /// Makes a change, if what it says of the club's rows is true. If it isn't, the call fails, and
     /// leaves nothing of the change. If the call fails, the club is unchanged; after a crash the

@@ -1,6 +1,5 @@
-use Rattle.club_store.proofs.FailingLemmas.{reads_or_fails}
+use Rattle.club_store.proofs.FailingLemmas.{reads_sound}
 use Rattle.club_store.proofs.club.StoreClubStore.account.Goals as goal
 
-pub returns-clause-failed : goal.returns-clause-failed
-returns-clause-failed g c = λ was_clean.
-    reads_or_fails g.S.Store c.args.self.now c.account.new.self c.account.result _ c.account.ensures.reads was_clean
+pub returns : goal.returns
+returns g c = reads_sound c.account.ensures.reads
