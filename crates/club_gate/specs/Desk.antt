@@ -11,7 +11,7 @@ use Rattle.club_core.specs.Club.{Club}
 use Rattle.club_core.specs.Office.{office_verdict}
 use Rattle.club_core.specs.Pass.{Words}
 use Rattle.club_core.specs.Run.{Event, Asked, Ordered, after_change, step, Response}
-use Rattle.club_core.specs.Store.{FitsClub, IsRead, KeepsClub, Returns}
+use Rattle.club_core.specs.Store.{FitsClub, IsRead}
 use Rattle.club_laws.specs.Failed.{present_reply, has_failed}
 use Rattle.club_gate.specs.declared.event.OfficeReply.{OfficeReply}
 use Rattle.club_gate.specs.declared.event.OfficeReply.TheVariants.{Refused}
@@ -24,13 +24,6 @@ use Rattle.club_gate.specs.Served.{IsJson}
 -- true of whichever club the store represented before a call, if its disk is clean after the call
 abbrev pub OfItsClub : {S : Type 0} → (S → Type 0) → (S → Club → List Club → Type 0) → S → S → (Club → Type 0) → Type 0
 OfItsClub IsClean Represents old new IsSo = IsClean new → (club : Club) (others : List Club) → Represents old club others → IsSo club
-
--- A call that only reads: the store represents the same club, with the same possible crash states, and the result is true of it.
-pub record ReadsStore {S A E : Type 0} (IsClean : S → Type 0) (Represents : S → Club → List Club → Type 0) (old new : S) (result : Result A E)
-    (IsReturned : Club → A → Type 0) : Type 0 where
-  pub was_clean : IsClean new → IsClean old
-  pub kept : IsClean new → KeepsClub Represents old new
-  pub returns : IsClean new → Returns Represents old result IsReturned
 
 abbrev pub change_by : Result Change OfficeFault → Option Change
 change_by (Ok change) = Some change

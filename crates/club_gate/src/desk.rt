@@ -19,7 +19,7 @@ ghost use Rattle.club_core.specs.Club.{Club, key_named, member_named};
 ghost use Rattle.club_core.specs.Office.{order_view};
 ghost use Rattle.club_core.specs.Run as machine;
 ghost use Rattle.club_core.specs.Sheet.{IsSheet};
-ghost use Rattle.club_core.specs.Store.{KeepsClub, ReadsOrFails, Returns};
+ghost use Rattle.club_core.specs.Store.{KeepsClub, ReadsStore, Returns};
 ghost use Rattle.club_core.specs.Run.{ToMember, ToOffice};
 ghost use Rattle.club_gate.specs.Desk.{
   FailsAt,
@@ -29,7 +29,6 @@ ghost use Rattle.club_gate.specs.Desk.{
   IsStoreFault,
   NamesItsFault,
   OfItsClub,
-  ReadsStore,
   Settles,
   Steps,
 };
@@ -157,9 +156,8 @@ impl<S: ClubStore> Desk<S> {
 
     /// The member of this name; `None` if there is none.
     fn member(&mut self, name: &Name) -> Result<Option<Member>, StoreFault>
-        ensures reads { ReadsStore S.disk_is_clean S.represents self.old self.new result
+        ensures { ReadsStore S.disk_is_clean S.represents S.fails self.old self.new result
             (λ club member. member ≡ member_named name.now club) }
-        ensures failed { S.disk_is_clean self.new → ReadsOrFails S.fails self.old self.new result }
     {
         match self.store.account(name)? {
             Some(account) => Ok(Some(account.member)),
@@ -169,9 +167,8 @@ impl<S: ClubStore> Desk<S> {
 
     /// The key of this name, with its older root; `None` if there is none.
     pub(crate) fn key(&mut self, name: &Name) -> Result<Option<Key>, StoreFault>
-        ensures reads { ReadsStore S.disk_is_clean S.represents self.old self.new result
+        ensures { ReadsStore S.disk_is_clean S.represents S.fails self.old self.new result
             (λ club key. key ≡ key_named name.now club) }
-        ensures failed { S.disk_is_clean self.new → ReadsOrFails S.fails self.old self.new result }
     {
         let Some(key) = self.store.key_row(name)? else {
             return Ok(None);
@@ -188,9 +185,8 @@ impl<S: ClubStore> Desk<S> {
 
     /// Reads the rows that a command of the office depends on.
     fn order_view(&mut self, command: &Command) -> Result<OrderView, StoreFault>
-        ensures reads { ReadsStore S.disk_is_clean S.represents self.old self.new result
+        ensures { ReadsStore S.disk_is_clean S.represents S.fails self.old self.new result
             (λ club view. view ≡ order_view club command.now) }
-        ensures failed { S.disk_is_clean self.new → ReadsOrFails S.fails self.old self.new result }
     {
         let mut view = OrderView {
             member: None,

@@ -4,8 +4,7 @@ ghost use Rattle.std.specs.Prelude.{◌≡◌, ◌++◌, IfOk, OnOk};
 ghost use Rattle.std.specs.String.{string_bytes};
 ghost use Rattle.club_core.specs.declared.request.Request.TheVariants as asked;
 ghost use Rattle.club_core.specs.Basis.{view_in};
-ghost use Rattle.club_core.specs.Store.{ReadsOrFails};
-ghost use Rattle.club_gate.specs.Desk.{ReadsStore};
+ghost use Rattle.club_core.specs.Store.{ReadsStore};
 ghost use Rattle.club_gate.specs.Looks as spec;
 
 use crate::desk::Desk;
@@ -51,9 +50,8 @@ impl<S: ClubStore> Desk<S> {
 
     // What a key sees of its account; `None` where there is no key of the name.
     fn account_view(&mut self, key: &Name, moment: Moment) -> Result<Option<View>, StoreFault>
-        ensures reads { ReadsStore S.disk_is_clean S.represents self.old self.new result
+        ensures { ReadsStore S.disk_is_clean S.represents S.fails self.old self.new result
             (λ club view. view ≡ view_in club key.now asked.Account moment) }
-        ensures failed { S.disk_is_clean self.new → ReadsOrFails S.fails self.old self.new result }
     {
         own_bookings_suffice();
         let Some(key) = self.key(key)? else {
@@ -64,9 +62,8 @@ impl<S: ClubStore> Desk<S> {
 
     // The reply to a view of a slot, whoever asks; `None` where the facility is unknown.
     fn slot_reply(&mut self, slot: &Slot) -> Result<Option<Reply>, StoreFault>
-        ensures reads { ReadsStore S.disk_is_clean S.represents self.old self.new result
+        ensures { ReadsStore S.disk_is_clean S.represents S.fails self.old self.new result
             (λ club reply. reply ≡ spec.slot_reply club slot.now) }
-        ensures failed { S.disk_is_clean self.new → ReadsOrFails S.fails self.old self.new result }
     {
         let Some(facility) = self.store.facility(&slot.facility)? else {
             return Ok(None);

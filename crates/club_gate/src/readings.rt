@@ -9,9 +9,8 @@ ghost use Rattle.pass_forms.specs.Pass.{Plain};
 ghost use Rattle.club_rows.specs.declared.key.Key.{Key as KeyRow};
 ghost use Rattle.club_core.specs.Answer.{answer_by_view};
 ghost use Rattle.club_core.specs.Basis.{view_in};
-ghost use Rattle.club_core.specs.Store.{ReadsOrFails};
+ghost use Rattle.club_core.specs.Store.{ReadsStore};
 ghost use Rattle.club_core.specs.Sums.{spent_under};
-ghost use Rattle.club_gate.specs.Desk.{ReadsStore};
 ghost use Rattle.club_gate.specs.Reading as read;
 ghost use Rattle.club_gate.specs.Reading.{IsOnRecord};
 ghost use Rattle.club_gate.specs.Verify.{OfItsPass};
@@ -36,10 +35,9 @@ impl<S: ClubStore> Desk<S> {
         key: &Key,
         request: &Request,
     ) -> Result<View, StoreFault>
-        ensures reads { ReadsStore S.disk_is_clean S.represents self.old self.new result
+        ensures { ReadsStore S.disk_is_clean S.represents S.fails self.old self.new result
             (λ club view. OfItsPass (F.left source.now)
             (λ pass. read.Suffices pass (read.first_view club key.now request.now) view)) }
-        ensures failed { S.disk_is_clean self.new → ReadsOrFails S.fails self.old self.new result }
     {
         let mut view = View::of_key(key);
         match request {
@@ -64,11 +62,10 @@ impl<S: ClubStore> Desk<S> {
         key: &Key,
         ask: &Ask,
     ) -> Result<Option<CaveatFault>, StoreFault>
-        ensures reads { ReadsStore S.disk_is_clean S.represents self.old self.new result
+        ensures { ReadsStore S.disk_is_clean S.represents S.fails self.old self.new result
             (λ club fault. IsOnRecord club key.now → OfItsPass (F.left source.now) (λ pass. fault
             ≡ first_fault_of (map caveat_of pass.caveats)
             (after_spending (spent_under key.now.name club.bookings) ask.now))) }
-        ensures failed { S.disk_is_clean self.new → ReadsOrFails S.fails self.old self.new result }
     {
         let Unspent { fault, slack } = unspent_fault(source, ask);
         let Some(slack) = slack else {
@@ -83,10 +80,9 @@ impl<S: ClubStore> Desk<S> {
 
     /// Whether the member of a key has used no more than this, and so the key has spent no more.
     fn has_spent_within(&mut self, key: &Key, most: u64) -> Result<bool, StoreFault>
-        ensures reads { ReadsStore S.disk_is_clean S.represents self.old self.new result
+        ensures { ReadsStore S.disk_is_clean S.represents S.fails self.old self.new result
             (λ club within. within ≡ true → IsOnRecord club key.now
             → spent_under key.now.name club.bookings ≤ most) }
-        ensures failed { S.disk_is_clean self.new → ReadsOrFails S.fails self.old self.new result }
     {
         spends_within_its_member();
         accounts_show_what_is_used();
@@ -98,9 +94,8 @@ impl<S: ClubStore> Desk<S> {
 
     /// Adds the state of a slot to the view.
     fn with_slot(&mut self, view: View, slot: &Slot) -> Result<View, StoreFault>
-        ensures reads { ReadsStore S.disk_is_clean S.represents self.old self.new result
+        ensures { ReadsStore S.disk_is_clean S.represents S.fails self.old self.new result
             (λ club found. found ≡ read.with_slot club slot.now view) }
-        ensures failed { S.disk_is_clean self.new → ReadsOrFails S.fails self.old self.new result }
     {
         let SlotUse { taken, closed } = self.store.slot(slot)?;
         Ok(View {
@@ -113,9 +108,8 @@ impl<S: ClubStore> Desk<S> {
     /// Adds the row, the balance and the open bookings of the key's member; `None` if the club has
     /// no such member.
     fn with_member(&mut self, view: View, moment: Moment) -> Result<Option<View>, StoreFault>
-        ensures reads { ReadsStore S.disk_is_clean S.represents self.old self.new result
+        ensures { ReadsStore S.disk_is_clean S.represents S.fails self.old self.new result
             (λ club found. found ≡ read.with_member club moment view) }
-        ensures failed { S.disk_is_clean self.new → ReadsOrFails S.fails self.old self.new result }
     {
         let Some(account) = self.store.account(&view.key.member)? else {
             return Ok(None);
@@ -137,10 +131,9 @@ impl<S: ClubStore> Desk<S> {
         slot: &Slot,
         moment: Moment,
     ) -> Result<Option<View>, StoreFault>
-        ensures reads { ReadsStore S.disk_is_clean S.represents self.old self.new result
+        ensures { ReadsStore S.disk_is_clean S.represents S.fails self.old self.new result
             (λ club found.
             found ≡ read.with_member club moment (read.with_slot club slot.now view)) }
-        ensures failed { S.disk_is_clean self.new → ReadsOrFails S.fails self.old self.new result }
     {
         let view = self.with_slot(view, slot)?;
         self.with_member(view, moment)
@@ -152,10 +145,9 @@ impl<S: ClubStore> Desk<S> {
         view: View,
         moment: Moment,
     ) -> Result<Option<View>, StoreFault>
-        ensures reads { ReadsStore S.disk_is_clean S.represents self.old self.new result
+        ensures { ReadsStore S.disk_is_clean S.represents S.fails self.old self.new result
             (λ club found.
             found ≡ option_map (read.with_spent club) (read.with_member club moment view)) }
-        ensures failed { S.disk_is_clean self.new → ReadsOrFails S.fails self.old self.new result }
     {
         let Some(view) = self.with_member(view, moment)? else {
             return Ok(None);
@@ -172,13 +164,12 @@ impl<S: ClubStore> Desk<S> {
         request: &Request,
         moment: Moment,
     ) -> Result<Option<View>, StoreFault>
-        ensures reads { ReadsStore S.disk_is_clean S.represents self.old self.new result
+        ensures { ReadsStore S.disk_is_clean S.represents S.fails self.old self.new result
             (λ club found. (pass : Plain) (key : KeyRow) → IsOnRecord club key
             → read.Suffices pass (read.first_view club key request.now) view
             → answer_by_view found true None request.now moment
             ≡ answer_by_view (view_in club key.name request.now moment) true None request.now
             moment) }
-        ensures failed { S.disk_is_clean self.new → ReadsOrFails S.fails self.old self.new result }
     {
         own_bookings_suffice();
         looks_no_further();

@@ -25,10 +25,9 @@ ghost use Rattle.club_core.specs.declared.store.StoreFault.TheVariants as store;
 ghost use Rattle.club_core.specs.Answer.{form_refusal, verdict_in};
 ghost use Rattle.club_core.specs.Club.{key_named};
 ghost use Rattle.club_core.specs.KeyParts.{row_alone};
-ghost use Rattle.club_core.specs.Store.{ReadsOrFails};
+ghost use Rattle.club_core.specs.Store.{KeepsClub, ReadsStore, Returns};
 ghost use Rattle.club_core.specs.Verdict.{refusal_verdict};
 ghost use Rattle.club_laws.specs.SingleRequest.{words_with};
-ghost use Rattle.club_gate.specs.Desk.{ReadsStore};
 ghost use Rattle.club_gate.specs.DecodedPass.{fault_of};
 ghost use Rattle.club_gate.specs.Identifier.{key_in};
 ghost use Rattle.club_gate.specs.computed.DecodedPass.{machine_pass, decoded_words, words_in_form};
@@ -114,9 +113,8 @@ impl<S: ClubStore> Desk<S> {
     /// Reads the row of the key that an identifier names, without its older root; `None` if it
     /// names no key of the club.
     fn key_row(&mut self, identifier: &[u8]) -> Result<Option<Key>, StoreFault>
-        ensures reads { ReadsStore S.disk_is_clean S.represents self.old self.new result
+        ensures { ReadsStore S.disk_is_clean S.represents S.fails self.old self.new result
             (λ club key. key ≡ option_map row_alone (key_in club identifier.now)) }
-        ensures failed { S.disk_is_clean self.new → ReadsOrFails S.fails self.old self.new result }
     {
         match key_name_in(identifier) {
             Some(name) => self.store.key_row(&name),
@@ -133,13 +131,12 @@ impl<S: ClubStore> Desk<S> {
         key: &Key,
         moment: Moment,
     ) -> Result<Result<Key, Refusal>, StoreFault>
-        ensures reads { ReadsStore S.disk_is_clean S.represents self.old self.new result
+        ensures { ReadsStore S.disk_is_clean S.represents S.fails self.old self.new result
             (λ club signer. (pass : Plain) (row : Key) → identifier.now ≡ pass.identifier
             → F.left source.old ≡ drop 2 (pass_fields pass)
             → key_named row.name club ≡ Some row → key.now ≡ row_alone row
             → refusal_by_row pass key.now moment ≡ Some NotVerified
             → signer ≡ signer_of pass moment (Some row)) }
-        ensures failed { S.disk_is_clean self.new → ReadsOrFails S.fails self.old self.new result }
     {
         let Some(older) = self.store.older_root(&key.name)? else {
             return Ok(Err(Refusal::NotVerified));
@@ -166,10 +163,9 @@ impl<S: ClubStore> Desk<S> {
         source: &F,
         moment: Moment,
     ) -> Result<Result<Key, Refusal>, StoreFault>
-        ensures reads { ReadsStore S.disk_is_clean S.represents self.old self.new result
+        ensures { ReadsStore S.disk_is_clean S.represents S.fails self.old self.new result
             (λ club signer. (pass : Plain) → F.left source.now ≡ pass_fields pass
             → signer ≡ signer_of pass moment (key_in club pass.identifier)) }
-        ensures failed { S.disk_is_clean self.new → ReadsOrFails S.fails self.old self.new result }
     {
         let mut fields = source.again();
         let Some(identifier) = identifier_from(&mut fields) else {
@@ -199,11 +195,10 @@ impl<S: ClubStore> Desk<S> {
         request: &Request,
         moment: Moment,
     ) -> Result<Verdict, StoreFault>
-        ensures reads { ReadsStore S.disk_is_clean S.represents self.old self.new result
+        ensures { ReadsStore S.disk_is_clean S.represents S.fails self.old self.new result
             (λ club verdict. OfItsPass (F.left source.now) (λ pass.
             signer_of pass moment (key_in club pass.identifier) ≡ Ok key.now
             → verdict ≡ verdict_in club (words_with (machine_pass pass) request.now) moment)) }
-        ensures failed { S.disk_is_clean self.new → ReadsOrFails S.fails self.old self.new result }
     {
         own_bookings_suffice();
         looks_no_further();
@@ -224,10 +219,9 @@ impl<S: ClubStore> Desk<S> {
         request: &Request,
         moment: Moment,
     ) -> Result<Verdict, StoreFault>
-        ensures reads { ReadsStore S.disk_is_clean S.represents self.old self.new result
+        ensures { ReadsStore S.disk_is_clean S.represents S.fails self.old self.new result
             (λ club verdict. OfItsPass (F.left source.now) (λ pass.
             verdict ≡ verdict_in club (words_with (machine_pass pass) request.now) moment)) }
-        ensures failed { S.disk_is_clean self.new → ReadsOrFails S.fails self.old self.new result }
     {
         views_decide();
         match self.signer(source, moment)? {
@@ -245,7 +239,9 @@ impl<S: ClubStore> Desk<S> {
         request: &Request,
         moment: Moment,
     ) -> Result<Verdict, StoreFault>
-        ensures reads { ReadsStore S.disk_is_clean S.represents self.old self.new result
+        ensures was_clean { S.disk_is_clean self.new → S.disk_is_clean self.old }
+        ensures kept { S.disk_is_clean self.new → KeepsClub S.represents self.old self.new }
+        ensures returned { S.disk_is_clean self.new → Returns S.represents self.old result
             (λ club verdict.
             verdict ≡ verdict_in club (words_in_form form bytes.now request.now) moment) }
         ensures refused { (fault : FaultOfForm) → reading_in_form form bytes.now ≡ Err fault
@@ -278,7 +274,9 @@ impl<S: ClubStore> Desk<S> {
         words: &SentWords,
         moment: Moment,
     ) -> Result<Verdict, StoreFault>
-        ensures reads { ReadsStore S.disk_is_clean S.represents self.old self.new result
+        ensures was_clean { S.disk_is_clean self.new → S.disk_is_clean self.old }
+        ensures kept { S.disk_is_clean self.new → KeepsClub S.represents self.old self.new }
+        ensures returned { S.disk_is_clean self.new → Returns S.represents self.old result
             (λ club verdict. verdict
             ≡ verdict_in club (decoded_words words.now.pass.now words.now.request) moment) }
         ensures refused { (fault : FaultOfForm) → reading words.now.pass.now ≡ Err fault

@@ -8,18 +8,19 @@ use Rattle.club_gate.specs.Reading.{with_member, with_spent}
 use Rattle.club_gate.proofs.Reading.{account_seen}
 use Rattle.club_gate.proofs.desk.Desk.account_view.Goals as goal
 
-pub returns-clause-reads : goal.returns-clause-reads
-returns-clause-reads g c = record {
+pub returns : goal.returns
+returns g c = record {
   was_clean = search rules;
   kept = search rules;
-  returns = λ was_clean club others represents.
-      let before = c.with_sums.ensures.reads.was_clean was_clean in
-      let row = c.in_ok-key.ensures.reads.returns before club others represents in
+  failed = search rules;
+  returned = λ was_clean club others represents.
+      let before = c.with_sums.ensures.was_clean was_clean in
+      let row = c.in_ok-key.ensures.returned before club others represents in
       let sound = All-head IsSound club others (g.met.S.ClubStore.sound c.args.self.now club others represents) in
       let seen = account_seen c.own_bookings_suffice.ensures club c.args.key.now c.in-Some.key c.args.moment sound (sym row ∙ c.in-Some.is) in
       IfOk-weaker c.with_sums.result _ _
       (λ found e.
       e
       ∙ (ap (λ (view : View). option_map (with_spent club) (with_member club c.args.moment view)) c.of_key.ensures ∙ seen))
-      (c.with_sums.ensures.reads.returns was_clean club others (c.key.ensures.reads.kept before club others represents));
+      (c.with_sums.ensures.returned was_clean club others (c.key.ensures.kept before club others represents));
 }

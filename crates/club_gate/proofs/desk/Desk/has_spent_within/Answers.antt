@@ -5,11 +5,12 @@ use Rattle.club_core.specs.Club.{IsSound}
 use Rattle.club_gate.proofs.Spending.{spent_within}
 use Rattle.club_gate.proofs.desk.Desk.has_spent_within.Goals as goal
 
-pub returns-clause-reads : goal.returns-clause-reads
-returns-clause-reads g c = record {
+pub returns : goal.returns
+returns g c = record {
   was_clean = search rules;
   kept = search rules;
-  returns = λ was_clean club others represents within row.
+  failed = search rules;
+  returned = λ was_clean club others represents within row.
       let inside = rw (← c.self.view_is) at represents in
       let found = c.in_ok-account.ensures.returned was_clean club others inside in
       let sound = All-head IsSound club others (g.met.S.ClubStore.sound c.self.inside.store club others inside) in

@@ -10,23 +10,23 @@ returns-in_err-settle-clause-steps g c = λ was_clean club others represents.
     let before = c.settle.ensures.was_clean was_clean in
     let words = decoded_words c.args.words.now.pass.now c.args.words.now.request in
     let verdict = c.in_ok-verdict.verdict in
-    let decided = c.in_ok-verdict.ensures.reads.returns before club others represents in
+    let decided = c.in_ok-verdict.ensures.returned before club others represents in
     let sound = All-head IsSound club others (g.met.S.ClubStore.sound c.args.self.now club others represents) in
     let fits = ask_fits c.changes_fit.ensures club words c.args.moment verdict sound c.within.ensures decided in
     inr (ask_failed g.S.ClubStore.represents c.settle.new.self club others words c.args.moment verdict c.from_residual-in_err-settle.result
     c.from_residual-in_err-settle.ensures.0 decided
-    (c.in_err-settle.ensures.settled was_clean club others (c.verdict.ensures.reads.kept before club others represents) fits))
+    (c.in_err-settle.ensures.settled was_clean club others (c.verdict.ensures.kept before club others represents) fits))
 
 pub returns-clause-steps : goal.returns-clause-steps
 returns-clause-steps g c = λ was_clean club others represents.
     let before = c.settle.ensures.was_clean was_clean in
     let words = decoded_words c.args.words.now.pass.now c.args.words.now.request in
     let verdict = c.in_ok-verdict.verdict in
-    let decided = c.in_ok-verdict.ensures.reads.returns before club others represents in
+    let decided = c.in_ok-verdict.ensures.returned before club others represents in
     let sound = All-head IsSound club others (g.met.S.ClubStore.sound c.args.self.now club others represents) in
     let fits = ask_fits c.changes_fit.ensures club words c.args.moment verdict sound c.within.ensures decided in
     inl (ask_done g.S.ClubStore.represents c.settle.new.self club others c.never_unavailable.ensures words c.args.moment verdict decided
-    (c.in_ok-settle.ensures.settled was_clean club others (c.verdict.ensures.reads.kept before club others represents) fits))
+    (c.in_ok-settle.ensures.settled was_clean club others (c.verdict.ensures.kept before club others represents) fits))
 
 pub returns-in_err-verdict-clause-untouched : goal.returns-in_err-verdict-clause-untouched
 returns-in_err-verdict-clause-untouched g c = λ fault e. (c.verdict.ensures.refused fault e).same_store
@@ -49,7 +49,7 @@ pub returns-in_err-settle-clause-failed : goal.returns-in_err-settle-clause-fail
 returns-in_err-settle-clause-failed g c = λ was_clean club others represents is.
     let before = c.settle.ensures.was_clean was_clean in
     let words = decoded_words c.args.words.now.pass.now c.args.words.now.request in
-    let decided = c.in_ok-verdict.ensures.reads.returns before club others represents in
+    let decided = c.in_ok-verdict.ensures.returned before club others represents in
     let failed = changed_fault g.S.ClubStore.fails c.args.self.now c.verdict.new.self c.settle.new.self club words c.args.moment c.in_ok-verdict.verdict
     decided _ (c.in_ok-verdict.ensures.failed before) (c.in_err-settle.ensures.failed was_clean) in
     inl (
@@ -62,5 +62,5 @@ pub returns-clause-failed : goal.returns-clause-failed
 returns-clause-failed g c = λ was_clean club others represents is.
     let before = c.settle.ensures.was_clean was_clean in
     let words = decoded_words c.args.words.now.pass.now c.args.words.now.request in
-    let decided = c.in_ok-verdict.ensures.reads.returns before club others represents in
+    let decided = c.in_ok-verdict.ensures.returned before club others represents in
     absurd (always_decided c.never_unavailable.ensures club words c.args.moment c.in_ok-verdict.verdict decided is)

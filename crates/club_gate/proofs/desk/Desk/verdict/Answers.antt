@@ -3,20 +3,14 @@ use Rattle.pass_json.specs.computed.AnyForm.{reading_in_form}
 use Rattle.club_gate.proofs.Verifying.{verdict_by_text, read_wrapped, fault_in, lacks_memory, other_form, unwraps_to}
 use Rattle.club_gate.proofs.desk.Desk.verdict.Goals as goal
 
-pub returns-in-Ok-clause-reads : goal.returns-in-Ok-clause-reads
-returns-in-Ok-clause-reads g c =
+pub returns-in-Ok-clause-returned : goal.returns-in-Ok-clause-returned
+returns-in-Ok-clause-returned g c = λ was_clean club others represents.
     let text = c.args.words.now.pass.now in
     let form = c.in-Ok.unwrapped.form in
     let bytes = c.bytes-bytes.result.now in
     let read = read_wrapped c.reads_what_is_wrapped.ensures text form _ bytes c.bytes-bytes.ensures (sym c.in-Ok.ensures.value) c.in-Ok.ensures.short in
-    let reads = c.verdict_on.ensures.reads in
-    record {
-      was_clean = reads.was_clean;
-      kept = reads.kept;
-      returns = λ was_clean club others represents.
-          verdict_by_text club c.args.words.now.request c.args.moment text form bytes c.verdict_on.result read
-          (reads.returns was_clean club others represents);
-    }
+    verdict_by_text club c.args.words.now.request c.args.moment text form bytes c.verdict_on.result read
+    (c.verdict_on.ensures.returned was_clean club others represents)
 
 pub returns-in-Ok-clause-refused : goal.returns-in-Ok-clause-refused
 returns-in-Ok-clause-refused g c = λ fault e.

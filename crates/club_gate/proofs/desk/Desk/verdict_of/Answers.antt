@@ -5,23 +5,25 @@ use Rattle.club_core.specs.Club.{IsSound}
 use Rattle.club_gate.proofs.Signers.{refused_by_row}
 use Rattle.club_gate.proofs.desk.Desk.verdict_of.Goals as goal
 
-pub returns-in-Ok-clause-reads : goal.returns-in-Ok-clause-reads
-returns-in-Ok-clause-reads g c = record {
+pub returns-in-Ok : goal.returns-in-Ok
+returns-in-Ok g c = record {
   was_clean = search rules;
   kept = search rules;
-  returns = λ was_clean club others represents.
-      let before = c.verdict_under.ensures.reads.was_clean was_clean in
-      let found = c.in_ok-key.ensures.reads.returns before club others represents in
+  failed = search rules;
+  returned = λ was_clean club others represents.
+      let before = c.verdict_under.ensures.was_clean was_clean in
+      let found = c.in_ok-key.ensures.returned before club others represents in
       IfOk-weaker c.verdict_under.result _ _ (λ verdict answered pass fields short. answered pass fields short (sym (found pass fields) ∙ c.in-Ok.is))
-      (c.verdict_under.ensures.reads.returns was_clean club others (c.signer.ensures.reads.kept before club others represents));
+      (c.verdict_under.ensures.returned was_clean club others (c.signer.ensures.kept before club others represents));
 }
 
-pub returns-in-Err-clause-reads : goal.returns-in-Err-clause-reads
-returns-in-Err-clause-reads g c = record {
-  was_clean = c.signer.ensures.reads.was_clean;
-  kept = c.signer.ensures.reads.kept;
-  returns = λ was_clean club others represents pass fields short.
-      let found = c.in_ok-key.ensures.reads.returns was_clean club others represents pass fields in
+pub returns-in-Err : goal.returns-in-Err
+returns-in-Err g c = record {
+  was_clean = c.signer.ensures.was_clean;
+  kept = c.signer.ensures.kept;
+  failed = search rules;
+  returned = λ was_clean club others represents pass fields short.
+      let found = c.in_ok-key.ensures.returned was_clean club others represents pass fields in
       let sound = All-head IsSound club others (g.met.S.ClubStore.sound c.args.self.now club others represents) in
       c.refuse.ensures
       ∙ refused_by_row club pass c.args.request.now c.args.moment c.views_decide.ensures sound c.in-Err.refusal (sym found ∙ c.in-Err.is);

@@ -5,41 +5,29 @@ use Rattle.pass_json.specs.computed.AnyForm.{reading_in_form}
 use Rattle.club_gate.proofs.Verifying.{verdict_by_bytes}
 use Rattle.club_gate.proofs.desk.Desk.verdict_on.Goals as goal
 
-pub returns-in-Ok-clause-reads : goal.returns-in-Ok-clause-reads
-returns-in-Ok-clause-reads g c = record {
-  was_clean = c.verdict_of.ensures.reads.was_clean;
-  kept = c.verdict_of.ensures.reads.kept;
-  returns = λ was_clean club others represents.
-      let read = c.in-Ok.ensures.spelling in
-      let bytes = c.args.bytes.now in
-      let found = ap (λ (f : Form). reading_in_form f bytes) c.in-V1.is ∙ (c.reads_v1_exactly.ensures bytes (Ok read.0)).0 read.1 in
-      verdict_by_bytes club c.args.request.now c.args.moment c.args.form bytes read.0 c.verdict_of.result found
-      (IfOk-weaker c.verdict_of.result _ _ (λ verdict answered. answered read.0 read.2 read.1.2)
-      (c.verdict_of.ensures.reads.returns was_clean club others represents));
-}
+pub returns-in-Ok-clause-returned : goal.returns-in-Ok-clause-returned
+returns-in-Ok-clause-returned g c = λ was_clean club others represents.
+    let read = c.in-Ok.ensures.spelling in
+    let bytes = c.args.bytes.now in
+    let found = ap (λ (f : Form). reading_in_form f bytes) c.in-V1.is ∙ (c.reads_v1_exactly.ensures bytes (Ok read.0)).0 read.1 in
+    verdict_by_bytes club c.args.request.now c.args.moment c.args.form bytes read.0 c.verdict_of.result found
+    (IfOk-weaker c.verdict_of.result _ _ (λ verdict answered. answered read.0 read.2 read.1.2)
+    (c.verdict_of.ensures.returned was_clean club others represents))
 
-pub returns-in-Ok-open-clause-reads : goal.returns-in-Ok-open-clause-reads
-returns-in-Ok-open-clause-reads g c = record {
-  was_clean = c.verdict_of-in-Ok-open.ensures.reads.was_clean;
-  kept = c.verdict_of-in-Ok-open.ensures.reads.kept;
-  returns = λ was_clean club others represents.
-      let read = c.in-Ok-open.ensures.spelling in
-      let bytes = c.args.bytes.now in
-      let found = ap (λ (f : Form). reading_in_form f bytes) c.in-V2.is ∙ (c.reads_v2_exactly.ensures bytes (Ok read.0)).0 read.1 in
-      verdict_by_bytes club c.args.request.now c.args.moment c.args.form bytes read.0 c.verdict_of-in-Ok-open.result found
-      (IfOk-weaker c.verdict_of-in-Ok-open.result _ _ (λ verdict answered. answered read.0 read.2 read.1.2)
-      (c.verdict_of-in-Ok-open.ensures.reads.returns was_clean club others represents));
-}
+pub returns-in-Ok-open-clause-returned : goal.returns-in-Ok-open-clause-returned
+returns-in-Ok-open-clause-returned g c = λ was_clean club others represents.
+    let read = c.in-Ok-open.ensures.spelling in
+    let bytes = c.args.bytes.now in
+    let found = ap (λ (f : Form). reading_in_form f bytes) c.in-V2.is ∙ (c.reads_v2_exactly.ensures bytes (Ok read.0)).0 read.1 in
+    verdict_by_bytes club c.args.request.now c.args.moment c.args.form bytes read.0 c.verdict_of-in-Ok-open.result found
+    (IfOk-weaker c.verdict_of-in-Ok-open.result _ _ (λ verdict answered. answered read.0 read.2 read.1.2)
+    (c.verdict_of-in-Ok-open.ensures.returned was_clean club others represents))
 
-pub returns-in-Ok-read_json-clause-reads : goal.returns-in-Ok-read_json-clause-reads
-returns-in-Ok-read_json-clause-reads g c = record {
-  was_clean = c.verdict_of-in-Ok-read_json.ensures.reads.was_clean;
-  kept = c.verdict_of-in-Ok-read_json.ensures.reads.kept;
-  returns = λ was_clean club others represents.
-      let bytes = c.args.bytes.now in
-      let pass = c.in-Ok-read_json.pass in
-      let found = ap (λ (f : Form). reading_in_form f bytes) c.in-Json.is ∙ c.in-Ok-read_json.ensures.computed in
-      verdict_by_bytes club c.args.request.now c.args.moment c.args.form bytes pass c.verdict_of-in-Ok-read_json.result found
-      (IfOk-weaker c.verdict_of-in-Ok-read_json.result _ _ (λ verdict answered. answered pass c.fields.ensures c.in-Ok-read_json.ensures.spelling.2)
-      (c.verdict_of-in-Ok-read_json.ensures.reads.returns was_clean club others represents));
-}
+pub returns-in-Ok-read_json-clause-returned : goal.returns-in-Ok-read_json-clause-returned
+returns-in-Ok-read_json-clause-returned g c = λ was_clean club others represents.
+    let bytes = c.args.bytes.now in
+    let pass = c.in-Ok-read_json.pass in
+    let found = ap (λ (f : Form). reading_in_form f bytes) c.in-Json.is ∙ c.in-Ok-read_json.ensures.computed in
+    verdict_by_bytes club c.args.request.now c.args.moment c.args.form bytes pass c.verdict_of-in-Ok-read_json.result found
+    (IfOk-weaker c.verdict_of-in-Ok-read_json.result _ _ (λ verdict answered. answered pass c.fields.ensures c.in-Ok-read_json.ensures.spelling.2)
+    (c.verdict_of-in-Ok-read_json.ensures.returned was_clean club others represents))

@@ -7,39 +7,41 @@ use Rattle.club_gate.proofs.ShortViews.{refused}
 use Rattle.club_gate.proofs.Spending.{on_record}
 use Rattle.club_gate.proofs.desk.Desk.verdict_under.Goals as goal
 
-pub returns-then-is_some-clause-reads : goal.returns-then-is_some-clause-reads
-returns-then-is_some-clause-reads g c = record {
+pub returns-then-is_some : goal.returns-then-is_some
+returns-then-is_some g c = record {
   was_clean = search rules;
   kept = search rules;
-  returns = λ clean club others represents pass fields short signer.
+  failed = search rules;
+  returned = λ clean club others represents pass fields short signer.
       let key = c.args.key.now in
       let request = c.args.request.now in
       let sound = All-head IsSound club others (g.met.S.ClubStore.sound c.args.self.now club others represents) in
       let row = on_record club pass request c.args.moment key signer in
-      let before = c.caveat_fault.ensures.reads.was_clean clean in
-      let seen = c.in_ok-view.ensures.reads.returns before club others represents pass fields short in
-      let after = c.first_view.ensures.reads.kept before club others represents in
-      let fault = c.in_ok-fault.ensures.reads.returns clean club others after row pass fields short in
+      let before = c.caveat_fault.ensures.was_clean clean in
+      let seen = c.in_ok-view.ensures.returned before club others represents pass fields short in
+      let after = c.first_view.ensures.kept before club others represents in
+      let fault = c.in_ok-fault.ensures.returned clean club others after row pass fields short in
       refused club key c.args.moment pass request c.in_ok-view.view c.ask.result c.in_ok-fault.fault seen
       c.ask.ensures fault c.answer.result (cc) c.answer.ensures
       ∙ signer_reads c.own_bookings_suffice.ensures c.looks_no_further.ensures club key pass request c.args.moment sound signer;
 }
 
-pub returns-clause-reads : goal.returns-clause-reads
-returns-clause-reads g c = record {
+pub returns : goal.returns
+returns g c = record {
   was_clean = search rules;
   kept = search rules;
-  returns = λ clean club others represents pass fields short signer.
+  failed = search rules;
+  returned = λ clean club others represents pass fields short signer.
       let key = c.args.key.now in
       let request = c.args.request.now in
       let sound = All-head IsSound club others (g.met.S.ClubStore.sound c.args.self.now club others represents) in
       let row = on_record club pass request c.args.moment key signer in
-      let between = c.last_view.ensures.reads.was_clean clean in
-      let before = c.caveat_fault.ensures.reads.was_clean between in
-      let seen = c.in_ok-view.ensures.reads.returns before club others represents pass fields short in
-      let after = c.first_view.ensures.reads.kept before club others represents in
-      let fault = c.in_ok-fault.ensures.reads.returns between club others after row pass fields short in
-      let last = c.in_ok-view-2.ensures.reads.returns clean club others (c.caveat_fault.ensures.reads.kept between club others after)
+      let between = c.last_view.ensures.was_clean clean in
+      let before = c.caveat_fault.ensures.was_clean between in
+      let seen = c.in_ok-view.ensures.returned before club others represents pass fields short in
+      let after = c.first_view.ensures.kept before club others represents in
+      let fault = c.in_ok-fault.ensures.returned between club others after row pass fields short in
+      let last = c.in_ok-view-2.ensures.returned clean club others (c.caveat_fault.ensures.kept between club others after)
       pass key row seen in
       c.answer-2.ensures
       ∙ (decided c.own_bookings_suffice.ensures c.looks_no_further.ensures club key c.args.moment pass request c.in_ok-view.view c.ask.result
