@@ -1,15 +1,17 @@
 #!/usr/bin/env python3
-"""docs/AUDIT.md, what has to be believed of each promise, is what the sources say, and no clause in it rests on a computing definition of
-`specs/computed/`, but for what stands for a ghost; the vectors hold of the rules in Python (`tests/reference`) by which it marks what they
-show; and each step of a path through the definitions in docs/TOUR.md is cited by the one before it. Writes that page, unless it is asked to
-check.
+"""docs/AUDIT.md, what has to be believed of each promise, is what the sources say; no clause of a function in it rests on a computing
+definition of `specs/computed/`, and nothing that stands for a ghost does; the vectors hold of the rules in Python (`tests/reference`) by
+which it marks what they show; and each step of a path through the definitions in docs/TOUR.md is cited by the one before it. Writes that
+page, unless it is asked to check.
 
 It reads the promises of docs/PROMISES.md, the clauses that carry them, and the definitions below these, by tests/definitions.py.
 
     tests/audit.py                  writes docs/AUDIT.md
     tests/audit.py --check          says whether it is current
-    tests/audit.py --strict         the same, and fails where a promise reaches a name of specs/computed/
-    tests/audit.py --below NAME     what there is to read below one definition, in reading order
+    tests/audit.py --strict         the same, and fails where any clause of a promise's function, or what stands for a ghost, reaches a
+                                    name of specs/computed/
+    tests/audit.py --below NAME     what there is to read below one definition, or below all clauses of a function (Desk::ask), in reading
+                                    order
 """
 # groups: quick: --strict
 
@@ -39,6 +41,36 @@ class Fault(Exception):
     """Why there is no page."""
 
 
+def clauses_of(book, function, labels=()):
+    """(file, function, label, text, place) of each clause; of all of a function's, if no labels are given."""
+    *before, name = function.split("::")
+    owner = next((it for it in before if it[0].isupper()), None)
+    crate = before[0] if before and before[0] in book.crates else "club_gate"
+    for key, file in book.code.items():
+        if not key.startswith(f"{crate}/"):
+            continue
+        for it in (owner,) if owner else (None, "Desk"):
+            try:
+                start, clauses = file.clauses(name, it)
+            except KeyError:
+                continue
+            found = [(file, function, *clause[1:3], start) for clause in clauses if clause[0] == "requires" or not labels or clause[1] in labels]
+            if found and {label for _, _, label, _, _ in found} >= set(labels):
+                return found
+    raise Fault(f"no clause {function}: {' '.join(labels)}")
+
+
+def below_all(book, function):
+    """What is below all clauses of a function."""
+    cited = []
+    for file, _, _, text, start in clauses_of(book, function):
+        found, unknown = file.cited_by(start, text)
+        if unknown:
+            raise Fault(f"not understood in {function}: {' '.join(unknown)}")
+        cited += found
+    return closure(cited)
+
+
 class Promise:
     """One of docs/PROMISES.md: its title, and the clauses that carry it, with the fields of a record that count."""
 
@@ -59,29 +91,10 @@ class Promise:
                 else:
                     labels.append(word)
             self.carriers.append((function, labels))
-        self.clauses = [it for function, labels in self.carriers for it in self.clauses_of(function, labels)]
+        self.clauses = [it for function, labels in self.carriers for it in clauses_of(book, function, labels)]
         self.cited, heads = self.read()
         self.below = closure(self.cited)
         self.below += [it for it in heads if it not in self.below]
-
-    def clauses_of(self, function, labels):
-        """(file, function, label, text, place) of each clause."""
-        *before, name = function.split("::")
-        owner = next((it for it in before if it[0].isupper()), None)
-        crate = before[0] if before and before[0] in self.book.crates else "club_gate"
-        for key, file in self.book.code.items():
-            if not key.startswith(f"{crate}/"):
-                continue
-            for it in (owner,) if owner else (None, "Desk"):
-                try:
-                    start, clauses = file.clauses(name, it)
-                except KeyError:
-                    continue
-                found = [(file, function, *clause[1:3], start) for clause in clauses
-                         if clause[0] == "requires" or not labels or clause[1] in labels]
-                if found and {label for _, _, label, _, _ in found} >= set(labels):
-                    return found
-        raise Fault(f"no clause {function}: {' '.join(labels)}")
 
     def read(self):
         """What the clauses cite; of a record of which the promise names fields only what those cite, and the record itself."""
@@ -189,6 +202,24 @@ class Audit:
         types = [it for it in self.every.values() if it.kind == "type"]
         yield f"| together | | {len(plain)} | {sum(it.lines for it in plain)} | {len(specs) - len(plain)} | {len(types)} |"
 
+    def functions(self):
+        """The functions whose clauses carry promises."""
+        return list(dict.fromkeys(function for promise in self.promises for function, _ in promise.carriers))
+
+    def of_all_clauses(self):
+        """The sizes of what is below all clauses of a function."""
+        for function in self.functions():
+            listed = [it for it in below_all(self.book, function) if it.kind in OF_SPECS]
+            yield f"`{function}` {len(listed)} definitions of {sum(it.lines for it in listed)} lines"
+
+    def beside(self):
+        """The computing definitions below the other clauses of those functions, and below what stands for a ghost in any of them."""
+        found = {id(it): it for function in self.functions() for it in below_all(self.book, function)}
+        for ghost in [it for it in found.values() if it.kind == "ghost"]:
+            found.update((id(it), it) for *_, below in self.standing_for(ghost) for it in below)
+        listed = (it for it in found.values() if it.is_computed and it.kind in OF_SPECS and id(it) not in self.every)
+        return sorted(listed, key=lambda it: (it.module, it.line))
+
     def computed(self):
         return sorted((it for it in self.every.values() if it.is_computed and it.kind in OF_SPECS), key=lambda it: (it.module, it.line))
 
@@ -255,19 +286,24 @@ class Audit:
         yield "| Ghost | Promises | What stands for it |"
         yield "|---|---|---|"
         for it in sorted((it for it in self.every.values() if it.kind == "ghost"), key=lambda it: (it.path, it.line)):
-            trait, name = it.name.split(".")
             stands = []
-            for key, file in self.book.code.items():
-                if key.split("/")[0].endswith("_tests") or key.split("/")[0] in ("test_kit", "club_bench"):
-                    continue
-                for found in re.finditer(rf"^impl\b[^{{]*\b{trait}(?:<[^{{]*>)? for (\w+)[^{{]*\{{", file.text, re.MULTILINE):
-                    block = file.text[found.start():file.block_end(found.start())]
-                    value = re.search(rf"\bghost {name} = \{{\s*(.*?)\s*\}};", block, re.DOTALL)
-                    if value:
-                        below = [it for it in closure(file.cited_by(found.start() + value.start(), value[1])[0]) if it.kind in OF_SPECS]
-                        counts = f" ({len(below)}, {sum(it.is_computed for it in below)} computing)" if below else ""
-                        stands.append(f"of `{found[1]}` in `{file.path.relative_to(ROOT)}`: `{' '.join(value[1].split())}`{counts}")
+            for of, file, value, below in self.standing_for(it):
+                counts = f" ({len(below)}, {sum(it.is_computed for it in below)} computing)" if below else ""
+                stands.append(f"of `{of}` in `{file.path.relative_to(ROOT)}`: `{' '.join(value.split())}`{counts}")
             yield f"| `{it.name}`, `{it.file}` line {it.line} | {self.numbers(it)} | {'; '.join(stands)} |"
+
+    def standing_for(self, ghost):
+        """What types of ours have for a ghost: the type, its file, the value, and the definitions below that."""
+        trait, name = ghost.name.split(".")
+        for key, file in self.book.code.items():
+            if key.split("/")[0].endswith("_tests") or key.split("/")[0] in ("test_kit", "club_bench"):
+                continue
+            for found in re.finditer(rf"^impl\b[^{{]*\b{trait}(?:<[^{{]*>)? for (\w+)[^{{]*\{{", file.text, re.MULTILINE):
+                block = file.text[found.start():file.block_end(found.start())]
+                value = re.search(rf"\bghost {name} = \{{\s*(.*?)\s*\}};", block, re.DOTALL)
+                if value:
+                    below = closure(file.cited_by(found.start() + value.start(), value[1])[0])
+                    yield found[1], file, value[1], [it for it in below if it.kind in OF_SPECS]
 
     # ---- what is trusted beside them
 
@@ -343,8 +379,8 @@ class Audit:
     def section_of_faults(self):
         computed = self.computed()
         if not computed:
-            return ["None of these clauses rests on a computing definition of `specs/computed/`. What stands for a [ghost](#ghosts-of-traits) may, "
-                    "and clauses that [PROMISES](PROMISES.md) names beside these."]
+            return ["None of these clauses rests on a computing definition of `specs/computed/`, nor does another clause of their functions, nor "
+                    "what stands for a [ghost](#ghosts-of-traits). Clauses that [PROMISES](PROMISES.md) names beside these may."]
         return [
             f"These promises still rest on {len(computed)} computing definitions of `specs/computed/`, which say in steps what another definition "
             f"states. Laws say that both agree, but whoever reads a clause comes upon these. They aren't in the tables below. "
@@ -363,11 +399,13 @@ class Audit:
             "# What has to be believed",
             "For whoever asks what the eight promises of [README](../README.md#what-is-proved) mean: the definitions below their clauses, each "
             "once, from the standards up, and what is trusted beside them. Proofs aren't among them, since the check reads those; lemmas and laws "
-            "neither. `tests/audit.py` makes this page of the sources, and `tests/audit.py --below NAME` prints what is below one definition. "
+            "neither. `tests/audit.py` makes this page of the sources, and `tests/audit.py --below NAME` prints what is below one definition, or "
+            "below all clauses of a function, as `Desk::ask`. "
             "[TOUR](TOUR.md#when-is-a-root-good) answers twelve questions by a path each.",
             "To believe a promise: read its clause, then the rows with its number, from the top. Each file has in brackets where its definitions are "
             "from: a standard, libmacaroons, or ours. A line is one of code, without comments and empty ones.",
             "\n".join(self.summary()),
+            f"The functions have further clauses, such as why a request fails. Below all clauses together are: {', '.join(self.of_all_clauses())}.",
             "## Computing definitions",
             *self.section_of_faults(),
             "## What a mark means",
@@ -438,10 +476,13 @@ class Audit:
         return found
 
     def below(self, name):
-        found = [it for file in self.book.specs.values() for it in file.definitions.values() if it.name == name and it.kind in OF_SPECS]
-        if len(found) != 1:
-            raise Fault(f"{len(found)} definitions {name}")
-        listed = [it for it in closure(found) if it.kind in OF_SPECS]
+        if "::" in name:
+            listed = [it for it in below_all(self.book, name) if it.kind in OF_SPECS]
+        else:
+            found = [it for file in self.book.specs.values() for it in file.definitions.values() if it.name == name and it.kind in OF_SPECS]
+            if len(found) != 1:
+                raise Fault(f"{len(found)} definitions {name}")
+            listed = [it for it in closure(found) if it.kind in OF_SPECS]
         files = in_reading_order(self.book, [self.book.specs[module] for module in {it.module for it in listed}])
         for file in files:
             for it in sorted((it for it in listed if it.module == file.module), key=lambda it: it.line):
@@ -464,8 +505,9 @@ def run(arguments):
     else:
         PAGE.write_text(page, encoding="utf-8")
     if arguments.strict:
-        faults += [f"{it.file}:{it.line}: reaches a computed name: {it.name}" for it in audit.computed()]
-        faults += [f"{len(audit.computed())} computed names"] if audit.computed() else []
+        computed = audit.computed() + audit.beside()
+        faults += [f"{it.file}:{it.line}: reaches a computed name: {it.name}" for it in computed]
+        faults += [f"{len(computed)} computed names"] if computed else []
     for it in faults:
         print(it, file=sys.stderr)
     if not faults:

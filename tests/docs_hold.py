@@ -241,8 +241,8 @@ def test_tour():
 
 
 def test_audit_is_made_of_the_sources():
-    """It is what tests/audit.py makes; no promise reaches a definition of specs/computed/, and each step of the tour's paths through
-    definitions is cited by the one before it."""
+    """It is what tests/audit.py makes; no clause of a promise's function reaches a definition of specs/computed/, and each step of the tour's
+    paths through definitions is cited by the one before it."""
     subprocess.run(["tests/audit.py", "--strict"], check=True, stdout=subprocess.DEVNULL)
 
 

@@ -130,7 +130,7 @@ decoded_text law text bytes = (law text (decoded_pass text) bytes).1 refl
 
 -- ---- events
 
-event_is : Decodes → (event : Event) (seen : machine.Event) → IsEventOfBytes event → IsEventOf event seen → machine_event event ≡ seen
+pub event_is : Decodes → (event : Event) (seen : machine.Event) → IsEventOfBytes event → IsEventOf event seen → machine_event event ≡ seen
 event_is law (events.Asked words moment) seen bytes h =
     ap (λ (w : Words). machine.Asked w moment) (words_are law words.pass.now words.request h.0 bytes h.1) ∙ sym h.2
 event_is law (events.Ordered command) seen bytes h = sym h

@@ -18,7 +18,10 @@ use Rattle.club_gate.specs.Runs.AreHandled.{one_event}
 use Rattle.club_gate.specs.Runs.{AreHandled, FailedLast, IsFollowed, IsHandled, MakesNoChange, MayBeLeft}
 use Rattle.club_gate.specs.Runs.{DeskResponse, events_answered, responses_of}
 use Rattle.club_gate.specs.computed.DecodedPass.{machine_events, machine_event}
+use Rattle.club_gate.specs.Events.{IsEventOf, IsEventOfBytes}
+use Rattle.club_gate.specs.Laws.{Decodes}
 use Rattle.club_gate.specs.Response.{response_of, desk_presentation}
+use Rattle.club_gate.proofs.Decoding.{event_is}
 
 -- the first events of a list, and the next one
 pub one_more : (events : List DeskEvent) (i : ℕ) (event : DeskEvent) → i < length events → event ≡ get_or events i event
@@ -221,9 +224,10 @@ module _ {S : Type 0} (Represents : S → Club → List Club → Type 0) where
   pub followed_one : (new now : S) (club : Club) (others : List Club) (events : List DeskEvent) (i : ℕ) (event : DeskEvent) (replies all : List EventReply)
       (reply : EventReply) → i < length events → event ≡ get_or events i event → length replies ≡ i → all ≡ replies ++ reply ∷ []
       → IsFollowed Represents now club others (machine_events (take i events)) (responses_of replies)
-      → Steps Represents now new (machine_event event) (response_of reply)
+      → Decodes → IsEventOfBytes event → (seen : Event) × IsEventOf event seen × Steps Represents now new seen (response_of reply)
       → IsFollowed Represents new club others (machine_events (take (i + 1) events)) (responses_of all)
-  followed_one new now club others events i event replies all reply h e count same f steps =
+  followed_one new now club others events i event replies all reply h e count same f law bytes seen =
+      let steps = subst (λ (one : Event). Steps Represents now new one (response_of reply)) (sym (event_is law event seen.0 bytes seen.1)) seen.2 in
       let beside : length (responses_of replies) ≡ length (machine_events (take i events)) = simp (length-map, length-take) (omega arith) in
       rw (one_more events i event h e, same, map-append response_of replies (reply ∷ []))
       (followed_more new now club others (machine_events (take i events)) (responses_of replies) (machine_event event) (response_of reply) beside f steps)

@@ -24,8 +24,8 @@ use Rattle.club_gate.specs.declared.event.Event.TheVariants as events
 use Rattle.club_gate.specs.declared.event.EventReply.{EventReply}
 use Rattle.club_gate.specs.declared.event.EventReply.TheVariants.{Replied, Answered}
 use Rattle.club_gate.specs.declared.event.OfficeReply.{OfficeReply}
+use Rattle.club_gate.specs.Events.{IsEventOf}
 use Rattle.club_gate.specs.Response.{desk_presentation, response_of}
-use Rattle.club_gate.specs.computed.DecodedPass.{machine_event}
 
 -- the response to an event
 abbrev pub DeskResponse : Type 0
@@ -164,7 +164,7 @@ module _ {S : Type 0} (IsClean : S → Type 0) (Represents : S → Club → List
   -- One event, with the store before and after.
   pub record IsHandled (old : S) (event : Event) (reply : EventReply) (new : S) : Type 0 where
     pub was_clean : IsClean new → IsClean old
-    pub steps : IsClean new → Steps Represents old new (machine_event event) (response_of reply)
+    pub steps : IsClean new → (seen : machine.Event) × IsEventOf event seen × Steps Represents old new seen (response_of reply)
     pub failed : OfItsClub IsClean Represents old new (λ club. EventFailsForCause Fails old new club event reply)
 
   -- The events one after the other, each from the store that the one before it left.

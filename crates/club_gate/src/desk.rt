@@ -17,6 +17,7 @@ ghost use Rattle.club_core.specs.declared.reply.Reply.TheVariants.{Refused};
 ghost use Rattle.club_core.specs.Answer.{form_refusal};
 ghost use Rattle.club_core.specs.Club.{Club, key_named, member_named};
 ghost use Rattle.club_core.specs.Office.{order_view};
+ghost use Rattle.club_core.specs.Pass.{Words};
 ghost use Rattle.club_core.specs.Run as machine;
 ghost use Rattle.club_core.specs.Sheet.{IsSheet};
 ghost use Rattle.club_core.specs.Store.{KeepsClub, ReadsStore, Returns};
@@ -32,7 +33,7 @@ ghost use Rattle.club_gate.specs.Desk.{
   Settles,
   Steps,
 };
-ghost use Rattle.club_gate.specs.DecodedPass.{fault_of};
+ghost use Rattle.club_gate.specs.DecodedPass.{AreWordsOf, fault_of};
 ghost use Rattle.club_gate.specs.computed.DecodedPass.{decoded_words};
 ghost use Rattle.club_gate.specs.Served.{IsLawful, IsReadInPlace, RefusesByFormFault};
 ghost use Rattle.club_gate.specs.Response.{answer_or_fault, reply_or_unavailable};
@@ -248,10 +249,12 @@ impl<S: ClubStore> Desk<S> {
     /// but if the store failed to write, it may recover to the changed club after a crash.
     pub fn ask(&mut self, moment: Moment, words: &SentWords) -> Reply
         ensures was_clean { S.disk_is_clean self.new → S.disk_is_clean self.old }
-        // The reply is the one that the rules give, and the store represents the club that follows;
-        // or the request failed, and the store represents the same club.
-        ensures steps { S.disk_is_clean self.new → Steps S.represents self.old self.new
-            (machine.Asked (decoded_words words.now.pass.now words.now.request) moment)
+        // The reply is the one that the rules give to the words of the text, and the store
+        // represents the club that follows; or the request failed, and the store represents the
+        // same club.
+        ensures steps { S.disk_is_clean self.new → (decoded : Words)
+            × AreWordsOf words.now.pass.now words.now.request decoded
+            × Steps S.represents self.old self.new (machine.Asked decoded moment)
             (ToMember result) }
         ensures lawful { OfItsClub S.disk_is_clean S.represents self.old self.new
             (λ club. IsLawful club words.now.pass.now words.now.request moment result) }

@@ -17,7 +17,7 @@ ghost use Rattle.club_gate.specs.computed.DecodedPass.{machine_events, machine_e
 
 use crate::desk::{Desk, are_bytes};
 use crate::event::{Event, EventReply, OfficeReply};
-use crate::laws::sees_events;
+use crate::laws::{decodes, sees_events};
 use club_core::ClubStore;
 use club_laws::conservation::sound_clubs_have_places;
 use club_laws::failed::leaves_out_failed;
@@ -91,6 +91,7 @@ impl<S: ClubStore> Desk<S> {
             → IfOk result (λ replies. IsFollowed S.represents self.new club others
             (machine_events events.now) (responses_of replies.items)) }
     {
+        decodes();
         let mut replies = Vec::with_capacity(self.alloc, events.len())?;
         for event in events {
             event_within(event);

@@ -2,7 +2,7 @@
 use Rattle.std.proofs.Common.{◌≡◌, ◌⊎◌, ℕ, List, ◌∷◌, Option, Some, None, Result, Ok, Err, inl, inr, refl}
 use Rattle.clap.specs.Words.{Text}
 use Rattle.club_core.specs.Club.{Club}
-use Rattle.club_core.specs.Run.{Event, step, Response}
+use Rattle.club_core.specs.Run.{Event, Asked, step, Response, ToMember}
 use Rattle.club_core.specs.declared.change.Change.{Change}
 use Rattle.club_core.specs.declared.command.Command.{Command}
 use Rattle.club_core.specs.declared.reply.Reply.{Reply}
@@ -108,8 +108,13 @@ module _ {S : Type 0} (Clean : S → Type 0) (Represents : S → Club → List C
     replies : (old new : S) (reply : Reply) → IsReplied (AnswersBy Clean Represents Fails moment) bytes old reply new
         → Simulates old new (λ club next. IsReplied (machine_answers moment) bytes club reply next)
     replies old new reply (replied.parser_refusal refusal reads is kept) = same old new _ kept (λ club. replied.parser_refusal refusal reads is refl)
-    replies old new reply (replied.desk_reply decoded reads answers) =
-        so old new _ _ (stepped old new _ _ answers.was_clean answers.steps) (λ club next steps. replied.desk_reply decoded reads steps)
+    replies old new reply (replied.desk_reply decoded reads answers) = record {
+      was_clean = answers.was_clean;
+      follows = λ clean club others represents.
+          let seen = answers.steps clean in
+          let next = one_step new club others (Asked seen.0 moment) (ToMember reply) (seen.2 club others represents) in
+          (next.0, next.1, next.2, replied.desk_reply decoded reads (seen.0, seen.1, next.3));
+    }
     replies old new reply (replied.out_of_memory holds is kept) = same old new _ kept (λ club. replied.out_of_memory holds is refl)
 
     exchanges : (old new : S) (outcome : Result Reply AnswerFault) → IsExchanged (AnswersBy Clean Represents Fails moment) bytes old outcome new

@@ -1,8 +1,9 @@
 -- The club in place of a store: what its machine makes of requests and orders (ours).
 use Rattle.std.specs.Prelude.{◌≡◌, ℕ, List}
 use Rattle.club_core.specs.Club.{Club}
+use Rattle.club_core.specs.Pass.{Words}
 use Rattle.club_core.specs.Run.{Asked, ToMember}
-use Rattle.club_gate.specs.computed.DecodedPass.{decoded_words}
+use Rattle.club_gate.specs.DecodedPass.{AreWordsOf}
 use Rattle.club_gate.specs.Response.{desk_presentation}
 use Rattle.club_http.specs.Replied.{AnswerRelation}
 use Rattle.club_laws.specs.Failed.{IsStep}
@@ -16,9 +17,10 @@ IsItself now club others = now ≡ club
 abbrev pub Always : Club → Type 0
 Always club = Unit {0}
 
--- a reply is that of the machine's step; or the request failed, and the club is the same
+-- a reply is that of the machine's step on the words of the text; or the request failed, and the club is the same
 abbrev pub machine_answers : ℕ → AnswerRelation Club
-machine_answers moment text request club reply next = IsStep desk_presentation club (Asked (decoded_words text request) moment) (ToMember reply) next
+machine_answers moment text request club reply next =
+    (words : Words) × AreWordsOf text request words × IsStep desk_presentation club (Asked words moment) (ToMember reply) next
 
 -- an order does to the club what it does to a store that represents it
 abbrev pub machine_orders : served.Orders Club

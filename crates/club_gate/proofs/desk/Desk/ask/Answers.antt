@@ -1,6 +1,7 @@
 use Rattle.std.proofs.Common.{Err, inl, refl}
 use Rattle.club_gate.specs.computed.DecodedPass.{decoded_words}
 use Rattle.club_gate.specs.Response.{unavailable}
+use Rattle.club_gate.proofs.Decoding.{decoded_text}
 use Rattle.club_gate.proofs.DeskLaws.{reply_or_failure, lawful}
 use Rattle.club_gate.proofs.desk.Desk.ask.Goals as goal
 
@@ -21,6 +22,14 @@ returns-in-Err-clause-lawful g c = λ was_clean club others represents.
     c.more_caveats_never_open_more.ensures c.reads_any_form_exactly.ensures c.decides_signed.ensures c.finds_names.ensures
     c.reads_what_is_understood.ensures c.decodes.ensures
     club c.args.words.now.pass.now c.args.words.now.request c.args.moment unavailable c.are_bytes.ensures (inl refl)
+
+pub returns-in-Ok-clause-steps : goal.returns-in-Ok-clause-steps
+returns-in-Ok-clause-steps g c = λ was_clean.
+    (_, (decoded_text c.decodes.ensures c.args.words.now.pass.now c.are_bytes.ensures, refl), c.in-Ok.ensures.steps was_clean)
+
+pub returns-in-Err-clause-steps : goal.returns-in-Err-clause-steps
+returns-in-Err-clause-steps g c = λ was_clean.
+    (_, (decoded_text c.decodes.ensures c.args.words.now.pass.now c.are_bytes.ensures, refl), c.in-Err.ensures.steps was_clean)
 
 pub returns-in-Ok-clause-untouched : goal.returns-in-Ok-clause-untouched
 returns-in-Ok-clause-untouched g c = λ fault read.

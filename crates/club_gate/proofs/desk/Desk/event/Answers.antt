@@ -1,8 +1,19 @@
+use Rattle.std.proofs.Common.{refl}
+use Rattle.club_core.specs.Run as machine
 use Rattle.club_gate.proofs.desk.Desk.event.Goals as goal
 
 pub returns-in-Asked : goal.returns-in-Asked
-returns-in-Asked g c = rw c.in-Asked.is (record { was_clean = c.ask.ensures.was_clean; steps = c.ask.ensures.steps; failed = c.ask.ensures.failed })
+returns-in-Asked g c = rw c.in-Asked.is (record {
+  was_clean = c.ask.ensures.was_clean;
+  steps = λ clean.
+      let seen = c.ask.ensures.steps clean in
+      (machine.Asked seen.0 c.in-Asked.moment, (seen.0, seen.1, refl), seen.2);
+  failed = c.ask.ensures.failed;
+})
 
 pub returns-in-Ordered : goal.returns-in-Ordered
-returns-in-Ordered g c =
-    rw c.in-Ordered.is (record { was_clean = c.office.ensures.was_clean; steps = c.office.ensures.steps; failed = c.office.ensures.failed })
+returns-in-Ordered g c = rw c.in-Ordered.is (record {
+  was_clean = c.office.ensures.was_clean;
+  steps = λ clean. (_, refl, c.office.ensures.steps clean);
+  failed = c.office.ensures.failed;
+})

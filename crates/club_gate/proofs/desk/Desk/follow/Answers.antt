@@ -43,5 +43,6 @@ loop-event-preserved g c =
       followed = λ h club others s.
           followed_one g.S.ClubStore.represents c.event.new.self c.loop-event.self club others c.args.events.now c.loop-event.event-index c.event-item.result
           c.loop-event.replies.items c.push.new.self.items c.event.result c.loop-event-test.true c.event-item.is c.loop-event.invariant.each
-          c.in_ok-push.ensures.items (c.loop-event.invariant.followed (c.event.ensures.was_clean h) club others s) (c.event.ensures.steps h);
+          c.in_ok-push.ensures.items (c.loop-event.invariant.followed (c.event.ensures.was_clean h) club others s) c.decodes.ensures
+          c.event_within.ensures.bytes (c.event.ensures.steps h);
     }
