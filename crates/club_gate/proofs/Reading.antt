@@ -1,7 +1,8 @@
 -- The parts that are read for a signed pass give the same verdict as the whole view.
-use Rattle.std.proofs.Common.{◌≡◌, ◌≢◌, ℕ, Bool, true, false, cond, List, [], ◌∷◌, map, refl, sym, ap, ◌∙◌, subst}
-use Rattle.std.proofs.Common.{Option, Some, None, Ok, option_map, option_and_then, if◌then◌else◌}
+use Rattle.std.proofs.Common.{◌≡◌, ◌≢◌, ◌⊎◌, inl, inr, ℕ, Bool, true, false, IsTrue, cond, List, [], ◌∷◌, map, refl, sym, ap, ◌∙◌, subst}
+use Rattle.std.proofs.Common.{Option, Some, None, is_some, Ok, option_map, option_and_then, if◌then◌else◌}
 use Rattle.std.specs.Str.{bytes_eq}
+use Rattle.std.proofs.lemmas.Option.{same_Some}
 use Rattle.std.proofs.lemmas.Slice.Eq.{bytes_eq-Decides}
 use Rattle.pass_caveats.specs.declared.ask.Ask.{Ask}
 use Rattle.pass_caveats.specs.declared.fault.CaveatFault.{CaveatFault}
@@ -12,29 +13,101 @@ use Rattle.pass_caveats.specs.Spending.{after_spending}
 use Rattle.pass_forms.specs.Pass.{Plain}
 use Rattle.club_values.specs.declared.slot.Slot.{Slot}
 use Rattle.club_rows.specs.declared.booking.Booking.{Booking}
+use Rattle.club_rows.specs.declared.facility.Facility.{Facility}
 use Rattle.club_rows.specs.declared.key.Key.{Key}
 use Rattle.club_rows.specs.declared.member.Member.{Member}
+use Rattle.club_core.specs.declared.account.MemberAccount.{MemberAccount}
 use Rattle.club_core.specs.declared.request.Request.{Request}
 use Rattle.club_core.specs.declared.request.Request.TheVariants as asked
 use Rattle.club_core.specs.declared.verdict.Verdict.{Verdict}
 use Rattle.club_core.specs.declared.view.View.{View}
 use Rattle.club_core.specs.Answer.{answer_by_view, answer_to, ask_of, verdict_in}
-use Rattle.club_core.specs.Basis.{Basis, club_account, basis_under, state_of, view_in, view_of}
+use Rattle.club_core.specs.Basis.{Basis, account_named, club_account, basis_under, slot_use, state_of, view_in, view_of}
 use Rattle.club_core.specs.Club.{Club, IsSound, bookings_of, key_named, member_named}
 use Rattle.club_core.specs.Laws.{HasOwnBookings, OwnBookings}
 use Rattle.club_core.specs.Looks.{LooksNoFurther, RestsOnItsParts, bare_view, books_anew, seen_by_caveats, seen_by_decision}
 use Rattle.club_core.specs.Request.{request_number, request_slot}
-use Rattle.club_core.specs.Sums.{booking_under, spent_under}
+use Rattle.club_core.specs.Sums.{booking_under, count_to_come, spent_under}
 use Rattle.club_core.specs.Lines.{line_if, first_of}
 use Rattle.club_core.specs.Verdict.{refusal_verdict, verdict_of}
 use Rattle.club_core.specs.declared.refusal.Refusal.TheVariants.{KeyRevoked, NotVerified}
 use Rattle.club_laws.specs.SingleRequest.{words_with}
 use Rattle.club_gate.specs.Identifier.{key_name_in}
-use Rattle.club_gate.specs.Reading.{first_view, with_account, with_member, with_slot, with_spent}
+use Rattle.club_gate.specs.Reading.{AgreesOnRecord, IsBlindPass}
 use Rattle.club_gate.specs.computed.DecodedPass.{machine_pass}
 use Rattle.club_gate.proofs.Signers.{IsSigner, found, owned}
 
 -- ---- what is read for a signed pass
+
+-- the view of a key, with the facility and the booking that has the number that is asked for
+abbrev pub first_view : Club → Key → Request → View
+first_view club key request = record (bare_view key) {
+  facility = (state_of club (request_slot request)).facility;
+  booking = option_and_then (λ (number : ℕ). booking_under key.name number club.bookings) (request_number request);
+}
+
+-- the view is the whole one; or it lacks the facility where neither the pass nor the decision looks at it, since the booking is there
+abbrev pub Suffices : Plain → View → View → Type 0
+Suffices pass whole view =
+    (view ≡ whole) ⊎ (IsBlindPass pass × IsTrue (is_some whole.booking) × (view ≡ (let part : View = record whole { facility = None } in part)))
+
+-- what was read agrees with the club on the record if it suffices
+pub suffices : (club : Club) (key : Key) (pass : Plain) (request : Request) (view : View) → AgreesOnRecord club key pass request view
+    → Suffices pass (first_view club key request) view
+suffices club key pass request view agrees =
+    let shown : Key → Option Facility → Option Booking → View = λ k f b. record (bare_view k) { facility = f; booking = b } in
+    let of_key : view ≡ shown key view.facility (first_view club key request).booking =
+    agrees.no_more
+    ∙ (ap (λ (k : Key). shown k view.facility view.booking) agrees.key_is
+    ∙ ap (λ (b : Option Booking). shown key view.facility b) agrees.booking_is)
+    in
+    let with_facility : (f : Option Facility) → view.facility ≡ f → view ≡ shown key f (first_view club key request).booking =
+    λ f is. of_key ∙ ap (λ (it : Option Facility). shown key it (first_view club key request).booking) is
+    in
+    elim agrees.facility_is [
+      | inl is ↦ inl (with_facility (first_view club key request).facility is)
+      | inr (blind, some, none) ↦ inr (
+        blind,
+        subst (λ (b : Option Booking). IsTrue (is_some b)) agrees.booking_is some,
+        with_facility None none,
+      )
+    ]
+
+pub agrees_whole : (club : Club) (key : Key) (pass : Plain) (request : Request) → AgreesOnRecord club key pass request (first_view club key request)
+agrees_whole club key pass request = record { key_is = refl; booking_is = refl; facility_is = inl refl; no_more = refl }
+
+-- with the state of a slot
+abbrev pub with_slot : Club → Slot → View → View
+with_slot club slot view = record view { taken = (slot_use club slot).taken; closed = (slot_use club slot).closed }
+
+-- with a member's row, balance and open bookings
+abbrev pub with_account : Club → ℕ → View → MemberAccount → View
+with_account club moment view account = record view {
+  member = account.member;
+  balance = account.balance;
+  open_count = count_to_come moment (bookings_of account.member.name club);
+}
+
+-- with those of the key's member; none if the club has no such member
+abbrev pub with_member : Club → ℕ → View → Option View
+with_member club moment view = option_map (with_account club moment view) (account_named view.key.member club)
+
+-- with what the key has spent, too
+abbrev pub with_all : Club → ℕ → View → MemberAccount → View
+with_all club moment view account = record (with_account club moment view account) { spent = spent_under view.key.name club.bookings }
+
+abbrev pub with_sums : Club → ℕ → View → Option View
+with_sums club moment view = option_map (with_all club moment view) (account_named view.key.member club)
+
+-- what was spent is added to the member's sums
+pub sums_read : (club : Club) (moment : ℕ) (view shown : View) (spent : ℕ) (account : Option MemberAccount)
+    → spent ≡ spent_under shown.key.name club.bookings → Some shown ≡ option_map (with_account club moment view) account
+    → Some (let all : View = record shown { spent = spent } in all) ≡ option_map (with_all club moment view) account
+sums_read club moment view shown spent None is e = absurd (cc)
+sums_read club moment view shown spent (Some account) is e =
+    let all : View → ℕ → Option View = λ v n. Some (record v { spent = n }) in
+    ap (λ (n : ℕ). all shown n) is
+    ∙ ap (λ (v : View). all v (spent_under v.key.name club.bookings)) (same_Some shown (with_account club moment view account) e)
 
 -- with what the decision depends on. For a view of a slot: its state. For a new booking: the slot's state and the member's sums. For the
 -- account: the sums of the member and of the key. Otherwise: nothing more.
@@ -43,7 +116,7 @@ last_view club (asked.View slot) moment view = Some (with_slot club slot view)
 last_view club (asked.Book slot number guests) moment view =
     if books_anew view then with_member club moment (with_slot club slot view) else Some view
 last_view club (asked.Cancel slot number) moment view = Some view
-last_view club asked.Account moment view = option_map (with_spent club) (with_member club moment view)
+last_view club asked.Account moment view = with_sums club moment view
 
 -- the first caveat of a pass that refuses the request, if the key has spent this much before
 abbrev pub fault_after : Plain → ℕ → Ask → Option CaveatFault
@@ -99,11 +172,10 @@ first_part club key member request moment same =
     let view : View = record (bare_view key) { facility = (state_of club (request_slot request)).facility; booking = b } in view)
     (at_number key.name (bookings_of member.name club) club.bookings same (request_number request))
 
--- the member's sums, if the club has the member
-with_its_member : (club : Club) (moment : ℕ) (view : View) (member : Member) → member_named view.key.member club ≡ Some member
-    → with_member club moment view ≡ Some (with_account club moment view (club_account club member))
-with_its_member club moment view member e =
-    ap (λ (m : Option Member). option_map (with_account club moment view) (option_map (club_account club) m)) e
+-- what is added of the member, if the club has it
+with_its_member : (club : Club) (adds : MemberAccount → View) (key : Key) (member : Member) → member_named key.member club ≡ Some member
+    → option_map adds (account_named key.member club) ≡ Some (adds (club_account club member))
+with_its_member club adds key member e = ap (λ (m : Option Member). option_map adds (option_map (club_account club) m)) e
 
 last_part : (club : Club) (key : Key) (member : Member) (request : Request) (moment : ℕ)
     → member_named key.member club ≡ Some member
@@ -120,12 +192,12 @@ last_part club key member (asked.Book slot number guests) moment has spent =
         ≡ Some (cond anew (record (whole club key member (asked.Book slot number guests) moment) { spent = 0 })
         (seen_by_caveats (whole club key member (asked.Book slot number guests) moment)))
     go true =
-        with_its_member club moment (with_slot club slot (seen_by_caveats (whole club key member (asked.Book slot number guests) moment))) member has
+        with_its_member club
+        (with_account club moment (with_slot club slot (seen_by_caveats (whole club key member (asked.Book slot number guests) moment)))) key member has
     go false = refl
 last_part club key member (asked.Cancel slot number) moment has spent = refl
 last_part club key member asked.Account moment has spent =
-    ap (λ (v : Option View). option_map (with_spent club) v)
-    (with_its_member club moment (seen_by_caveats (whole club key member asked.Account moment)) member has)
+    with_its_member club (with_all club moment (seen_by_caveats (whole club key member asked.Account moment))) key member has
     ∙ ap (λ (n : ℕ). Some (let view : View = record (seen_by_decision asked.Account (whole club key member asked.Account moment)) { spent = n } in view))
     (sym spent)
 
@@ -259,7 +331,7 @@ read_alike own law club key pass request moment sound is =
 
 -- a key's sums are what it sees for its account
 pub account_seen : OwnBookings → (club : Club) (name : List ℕ) (key : Key) (moment : ℕ) → IsSound club → key_named name club ≡ Some key
-    → option_map (with_spent club) (with_member club moment (bare_view key)) ≡ view_in club name asked.Account moment
+    → with_sums club moment (bare_view key) ≡ view_in club name asked.Account moment
 account_seen own club name key moment sound row =
     let its = owner own club name key sound row in
     last_part club key its.member asked.Account moment its.is its.spent ∙ sym (shown club key asked.Account moment its name row)

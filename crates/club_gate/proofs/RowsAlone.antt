@@ -1,5 +1,5 @@
 -- A key's row without its older root: what it tells of a pass, and that the rest of a verdict doesn't need more.
-use Rattle.std.proofs.Common.{◌≡◌, inl, ℕ, Bool, true, false, cond, List, Option, Some, None, Ok, is_some, option_map, option_and_then, refl, sym, ap, ◌∙◌}
+use Rattle.std.proofs.Common.{◌≡◌, ℕ, Bool, true, false, cond, List, Option, Some, None, Ok, is_some, option_map, option_and_then, refl, sym, ap, ◌∙◌}
 use Rattle.pass_caveats.specs.declared.ask.Ask.{Ask}
 use Rattle.pass_caveats.specs.declared.fault.CaveatFault.{CaveatFault}
 use Rattle.pass_caveats.specs.declared.fault.CaveatFault.TheVariants.{Denied, NotUnderstood}
@@ -19,10 +19,11 @@ use Rattle.club_core.specs.KeyParts.{row_alone}
 use Rattle.club_core.specs.Sums.{spent_under}
 use Rattle.club_laws.specs.SingleRequest.{words_with}
 use Rattle.club_gate.specs.Identifier.{key_in, key_name_in}
-use Rattle.club_gate.specs.Reading.{IsOnRecord, Suffices, first_view, with_account, with_slot, with_spent}
+use Rattle.club_gate.specs.Reading.{AgreesOnRecord, IsOnRecord}
 use Rattle.club_gate.specs.Verify.{signer_of}
 use Rattle.club_gate.specs.computed.DecodedPass.{machine_pass}
-use Rattle.club_gate.proofs.Reading.{answer_from, answer_read, decides_whole, fault_after, fault_read, last_view, read_alike, verdict_read}
+use Rattle.club_gate.proofs.Reading.{agrees_whole, answer_from, answer_read, decides_whole, fault_after, fault_read, first_view, last_view, read_alike}
+use Rattle.club_gate.proofs.Reading.{suffices, verdict_read, with_account, with_all, with_slot}
 use Rattle.club_gate.proofs.ShortViews.{seen_alike, unrefused}
 use Rattle.club_gate.proofs.Signers.{is_signer, named}
 
@@ -89,10 +90,10 @@ module _ (club : Club) (row : Key) (moment : ℕ) where
   answers_alone asked.Account = go (member_named row.member club)
     where
       go : (member : Option Member)
-          → answer_by_view (option_map (with_spent club) (option_map (with_account club moment (first_view club (row_alone row) asked.Account))
-          (option_map (club_account club) member))) true None asked.Account moment
-          ≡ answer_by_view (option_map (with_spent club) (option_map (with_account club moment (first_view club row asked.Account))
-          (option_map (club_account club) member))) true None asked.Account moment
+          → answer_by_view (option_map (with_all club moment (first_view club (row_alone row) asked.Account)) (option_map (club_account club) member))
+          true None asked.Account moment
+          ≡ answer_by_view (option_map (with_all club moment (first_view club row asked.Account)) (option_map (club_account club) member))
+          true None asked.Account moment
       go None = refl
       go (Some member) = refl
 
@@ -109,24 +110,24 @@ module _ (club : Club) (row : Key) (moment : ℕ) where
 -- the answer by the last view is that by the key's whole view
 pub last_reads : OwnBookings → LooksNoFurther → (club : Club) (request : Request) (moment : ℕ) (view : View) (found : Option View) → IsSound club
     → found ≡ last_view club request moment view → (pass : Plain) (key : Key) → IsOnRecord club key
-    → Suffices pass (first_view club key request) view → answer_by_view found true None request moment
+    → AgreesOnRecord club key pass request view → answer_by_view found true None request moment
     ≡ answer_by_view (view_in club key.name request moment) true None request moment
 last_reads own law club request moment view found sound e pass key on seen =
     ap (λ (v : Option View). answer_by_view v true None request moment) e
-    ∙ (seen_alike club key moment pass request view seen None
+    ∙ (seen_alike club key moment pass request view (suffices club key pass request view seen) None
     ∙ (ap (λ (k : Key). answer_read club k request moment None) on.2
     ∙ (answers_alone club on.0 moment request
     ∙ (decides_whole own law club on.0 request moment sound on.1
     ∙ ap (λ (k : Key). answer_by_view (view_in club k.name request moment) true None request moment) (sym on.2)))))
 
 pub decided : OwnBookings → LooksNoFurther → (club : Club) (key : Key) (moment : ℕ) (pass : Plain) (request : Request) (view : View) (ask : Ask)
-    (fault : Option CaveatFault) (shown last : Option View) → IsSound club → IsOnRecord club key → Suffices pass (first_view club key request) view
+    (fault : Option CaveatFault) (shown last : Option View) → IsSound club → IsOnRecord club key → AgreesOnRecord club key pass request view
     → ask ≡ ask_of view request moment → fault ≡ fault_after pass (spent_under key.name club.bookings) ask → is_some fault ≡ false → shown ≡ last
     → answer_by_view last true None request moment ≡ answer_by_view (view_in club key.name request moment) true None request moment
     → answer_by_view shown true None request moment ≡ verdict_read club key pass request moment
 decided own law club key moment pass request view ask fault shown last sound on seen asks found none is whole =
     ap (λ (v : Option View). answer_by_view v true None request moment) is
-    ∙ (whole ∙ (sym (last_reads own law club request moment (first_view club key request) _ sound refl pass key on (inl refl))
+    ∙ (whole ∙ (sym (last_reads own law club request moment (first_view club key request) _ sound refl pass key on (agrees_whole club key pass request))
     ∙ unrefused club key moment pass request view ask fault seen asks found none))
 
 -- what is read for the signer of a pass gives the machine's verdict

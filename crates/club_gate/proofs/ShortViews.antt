@@ -21,8 +21,8 @@ use Rattle.club_core.specs.Club.{Club}
 use Rattle.club_core.specs.Looks.{bare_view}
 use Rattle.club_core.specs.Request.{request_action, request_guests, request_slot}
 use Rattle.club_core.specs.Sums.{booking_under, spent_under}
-use Rattle.club_gate.specs.Reading.{Suffices, first_view}
-use Rattle.club_gate.proofs.Reading.{answer_from, answer_read, fault_after, fault_read, verdict_read}
+use Rattle.club_gate.specs.Reading.{AgreesOnRecord}
+use Rattle.club_gate.proofs.Reading.{Suffices, answer_from, answer_read, fault_after, fault_read, first_view, suffices, verdict_read}
 
 -- nothing is owed under a number that has a booking
 nothing_owed : (request : Request) (recorded : Bool) (facility : Option Facility) → recorded ≡ true → owed_at request recorded facility ≡ 0
@@ -102,8 +102,11 @@ module _ (club : Club) (key : Key) (moment : ℕ) where
 
 -- so it gives the verdict, where a caveat refuses, and where none does
 module _ (club : Club) (key : Key) (moment : ℕ) (pass : Plain) (request : Request) (view : View) (ask : Ask) (fault : Option CaveatFault)
-    (seen : Suffices pass (first_view club key request) view) (asks : ask ≡ ask_of view request moment)
+    (agrees : AgreesOnRecord club key pass request view) (asks : ask ≡ ask_of view request moment)
     (found : fault ≡ fault_after pass (spent_under key.name club.bookings) ask) where
+  seen : Suffices pass (first_view club key request) view
+  seen = suffices club key pass request view agrees
+
   fault_is : fault ≡ fault_read club key pass request moment
   fault_is =
       found ∙ (ap (λ (a : Ask). fault_after pass (spent_under key.name club.bookings) a) asks ∙ same_fault club key moment pass request view seen)

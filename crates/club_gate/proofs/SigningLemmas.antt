@@ -11,7 +11,6 @@ use Rattle.club_rows.specs.Key.{older_root_at}
 use Rattle.club_core.specs.Pass.{is_signed_under}
 use Rattle.club_gate.specs.declared.signing.Signing.{Signing}
 use Rattle.club_gate.specs.computed.DecodedPass.{machine_pass}
-use Rattle.club_gate.specs.Signing.{chains_under}
 
 -- the chains, extended by a caveat
 abbrev pub signing_with : Signing → List ℕ → Signing
@@ -27,6 +26,11 @@ is_one_of signing signature =
 
 abbrev chains : List ℕ → Option (List ℕ) → Signing
 chains current older = record { current = current; older = older }
+
+-- the chains of an identifier under the key's root and, while that is good, under its older one
+abbrev pub chains_under : Key → ℕ → List ℕ → Signing
+chains_under key moment identifier =
+    chains (chain (derived_key key.root) identifier []) (option_map (λ root. chain (derived_key root) identifier []) (older_root_at key.older moment))
 
 -- each chain is extended independently
 grown_by_all : (current : List ℕ) (older : Option (List ℕ)) (caveats : List (List ℕ))
@@ -50,5 +54,5 @@ signed_as root (Some older) pass =
 
 -- the signature is one of them if and only if the pass is signed
 pub signed_alike : (pass : Plain) (key : Key) (moment : ℕ)
-    → is_one_of (fold signing_with (chains_under key moment pass.identifier []) pass.caveats) pass.signature ≡ is_signed_under (machine_pass pass) key moment
+    → is_one_of (fold signing_with (chains_under key moment pass.identifier) pass.caveats) pass.signature ≡ is_signed_under (machine_pass pass) key moment
 signed_alike pass key moment = signed_as key.root (older_root_at key.older moment) pass

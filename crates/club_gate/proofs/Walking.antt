@@ -16,9 +16,8 @@ use Rattle.pass_forms.specs.Pass.{Plain}
 use Rattle.club_rows.specs.declared.key.Key.{Key}
 use Rattle.club_core.specs.Pass.{is_signed_under}
 use Rattle.club_gate.specs.declared.signing.Signing.{Signing}
-use Rattle.club_gate.specs.Signing.{chains_under}
 use Rattle.club_gate.specs.computed.DecodedPass.{machine_pass}
-use Rattle.club_gate.proofs.SigningLemmas.{is_one_of, signed_alike, signing_with}
+use Rattle.club_gate.proofs.SigningLemmas.{chains_under, is_one_of, signed_alike, signing_with}
 
 -- ---- the signature
 
@@ -35,13 +34,14 @@ signed_behind : (signature : List ℕ) (signing : Signing) (caveats : List (List
 signed_behind signature signing [] = refl
 signed_behind signature signing (caveat ∷ caveats) = signed_behind signature (signing_with signing caveat) caveats
 
--- the answer of a walk, of which this is left
-pub signed_at_last : (signing now : Signing) (fields left : List PassField) (answer : Bool) → answer ≡ signed_in now left
-    → signed_in now left ≡ signed_in signing fields → (pass : Plain) (key : Key) (moment : ℕ) → fields ≡ drop 2 (pass_fields pass)
-    → signing ≡ chains_under key moment pass.identifier [] → answer ≡ is_signed_under (machine_pass pass) key moment
-signed_at_last signing now fields left answer e f pass key moment g begins =
+-- the answer of a walk that began with an identifier, and of which this is left
+pub signed_at_last : (key : Key) (moment : ℕ) (identifier : List ℕ) (signing now : Signing) (fields left : List PassField) (answer : Bool)
+    → signing ≡ chains_under key moment identifier → answer ≡ signed_in now left → signed_in now left ≡ signed_in signing fields → (pass : Plain)
+    → identifier ≡ pass.identifier → fields ≡ drop 2 (pass_fields pass) → answer ≡ is_signed_under (machine_pass pass) key moment
+signed_at_last key moment identifier signing now fields left answer begins e f pass named g =
+    let from : Signing → Bool = λ s. is_one_of (fold signing_with s pass.caveats) pass.signature in
     e ∙ (f ∙ (ap (λ (fs : List PassField). signed_in signing fs) g ∙ (signed_behind pass.signature signing pass.caveats
-    ∙ (ap (λ (s : Signing). is_one_of (fold signing_with s pass.caveats) pass.signature) begins ∙ signed_alike pass key moment))))
+    ∙ (ap from begins ∙ (ap (λ (i : List ℕ). from (chains_under key moment i)) named ∙ signed_alike pass key moment)))))
 
 -- the next field is a signature, another field, or missing
 module _ (now : Signing) (left : List PassField) where

@@ -1,6 +1,5 @@
 pub mod Minted
 pub mod Identifier
-pub mod Signing
 pub mod DecodedPass
 pub mod Verify
 pub mod Reading

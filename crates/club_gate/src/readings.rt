@@ -8,11 +8,11 @@ ghost use Rattle.pass_caveats.specs.Spending.{after_spending};
 ghost use Rattle.pass_forms.specs.Pass.{Plain};
 ghost use Rattle.club_rows.specs.declared.key.Key.{Key as KeyRow};
 ghost use Rattle.club_core.specs.Answer.{answer_by_view};
-ghost use Rattle.club_core.specs.Basis.{view_in};
+ghost use Rattle.club_core.specs.Basis.{account_named, slot_use, view_in};
+ghost use Rattle.club_core.specs.Club.{bookings_of};
 ghost use Rattle.club_core.specs.Store.{ReadsStore};
-ghost use Rattle.club_core.specs.Sums.{spent_under};
-ghost use Rattle.club_gate.specs.Reading as read;
-ghost use Rattle.club_gate.specs.Reading.{IsOnRecord};
+ghost use Rattle.club_core.specs.Sums.{count_to_come, spent_under};
+ghost use Rattle.club_gate.specs.Reading.{AgreesOnRecord, IsOnRecord};
 ghost use Rattle.club_gate.specs.Verify.{OfItsPass};
 
 use crate::desk::Desk;
@@ -37,7 +37,7 @@ impl<S: ClubStore> Desk<S> {
     ) -> Result<View, StoreFault>
         ensures { ReadsStore S.disk_is_clean S.represents S.fails self.old self.new result
             (λ club view. OfItsPass (F.left source.now)
-            (λ pass. read.Suffices pass (read.first_view club key.now request.now) view)) }
+            (λ pass. AgreesOnRecord club key.now pass request.now view)) }
     {
         let mut view = View::of_key(key);
         match request {
@@ -95,7 +95,10 @@ impl<S: ClubStore> Desk<S> {
     /// Adds the state of a slot to the view.
     fn with_slot(&mut self, view: View, slot: &Slot) -> Result<View, StoreFault>
         ensures { ReadsStore S.disk_is_clean S.represents S.fails self.old self.new result
-            (λ club found. found ≡ read.with_slot club slot.now view) }
+            (λ club found. found ≡ record view {
+              taken = (slot_use club slot.now).taken;
+              closed = (slot_use club slot.now).closed;
+            }) }
     {
         let SlotUse { taken, closed } = self.store.slot(slot)?;
         Ok(View {
@@ -109,7 +112,11 @@ impl<S: ClubStore> Desk<S> {
     /// no such member.
     fn with_member(&mut self, view: View, moment: Moment) -> Result<Option<View>, StoreFault>
         ensures { ReadsStore S.disk_is_clean S.represents S.fails self.old self.new result
-            (λ club found. found ≡ read.with_member club moment view) }
+            (λ club found. found ≡ option_map (λ account. record view {
+              member = account.member;
+              balance = account.balance;
+              open_count = count_to_come moment (bookings_of account.member.name club);
+            }) (account_named view.key.member club)) }
     {
         let Some(account) = self.store.account(&view.key.member)? else {
             return Ok(None);
@@ -123,22 +130,6 @@ impl<S: ClubStore> Desk<S> {
         }))
     }
 
-    /// Adds all that a new booking depends on: the state of the slot, and the row, the balance and
-    /// the open bookings of the key's member.
-    fn with_slot_and_member(
-        &mut self,
-        view: View,
-        slot: &Slot,
-        moment: Moment,
-    ) -> Result<Option<View>, StoreFault>
-        ensures { ReadsStore S.disk_is_clean S.represents S.fails self.old self.new result
-            (λ club found.
-            found ≡ read.with_member club moment (read.with_slot club slot.now view)) }
-    {
-        let view = self.with_slot(view, slot)?;
-        self.with_member(view, moment)
-    }
-
     /// The view with all sums of an account: those of the key's member, and what the key has spent.
     pub(crate) fn with_sums(
         &mut self,
@@ -146,8 +137,12 @@ impl<S: ClubStore> Desk<S> {
         moment: Moment,
     ) -> Result<Option<View>, StoreFault>
         ensures { ReadsStore S.disk_is_clean S.represents S.fails self.old self.new result
-            (λ club found.
-            found ≡ option_map (read.with_spent club) (read.with_member club moment view)) }
+            (λ club found. found ≡ option_map (λ account. record view {
+              member = account.member;
+              balance = account.balance;
+              open_count = count_to_come moment (bookings_of account.member.name club);
+              spent = spent_under view.key.name club.bookings;
+            }) (account_named view.key.member club)) }
     {
         let Some(view) = self.with_member(view, moment)? else {
             return Ok(None);
@@ -166,7 +161,7 @@ impl<S: ClubStore> Desk<S> {
     ) -> Result<Option<View>, StoreFault>
         ensures { ReadsStore S.disk_is_clean S.represents S.fails self.old self.new result
             (λ club found. (pass : Plain) (key : KeyRow) → IsOnRecord club key
-            → read.Suffices pass (read.first_view club key request.now) view
+            → AgreesOnRecord club key pass request.now view
             → answer_by_view found true None request.now moment
             ≡ answer_by_view (view_in club key.name request.now moment) true None request.now
             moment) }
@@ -182,7 +177,8 @@ impl<S: ClubStore> Desk<S> {
                 if !view.books_anew() {
                     return Ok(Some(view));
                 }
-                self.with_slot_and_member(view, slot, moment)
+                let view = self.with_slot(view, slot)?;
+                self.with_member(view, moment)
             }
             Request::Cancel { .. } => Ok(Some(view)),
             Request::Account => self.with_sums(view, moment),

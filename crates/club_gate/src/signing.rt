@@ -3,8 +3,9 @@
 ghost use Rattle.std.specs.Prelude.{◌≡◌, ◌||◌, ℕ, List, [], false, option_map};
 ghost use Rattle.std.specs.Option.{option_map_or};
 ghost use Rattle.std.specs.Str.{bytes_eq};
+ghost use Rattle.pass_mac.specs.Chain.{chain, derived_key};
 ghost use Rattle.pass_mac.specs.Hmac.{hmac};
-ghost use Rattle.club_gate.specs.Signing.{chains_under};
+ghost use Rattle.club_rows.specs.Key.{older_root_at};
 
 use club_rows::Key;
 use club_values::Moment;
@@ -22,7 +23,11 @@ pub(crate) struct Signing {
 impl Signing {
     /// Starts the chains with an identifier.
     pub fn start(kept: &mut KeptKeys, key: &Key, moment: Moment, identifier: &[u8]) -> Signing
-        ensures { result ≡ chains_under key.now moment identifier.now [] }
+        ensures { result ≡ record {
+          current = chain (derived_key key.now.root) identifier.now [];
+          older = option_map (λ (root : List ℕ). chain (derived_key root) identifier.now [])
+              (older_root_at key.now.older moment);
+        } }
     {
         let older = match key.older_root_at(moment) {
             Some(root) => {

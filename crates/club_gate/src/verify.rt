@@ -42,7 +42,6 @@ ghost use Rattle.club_gate.specs.Verify.{
 
 use crate::desk::Desk;
 use crate::identifier::key_name_in;
-use crate::signing::Signing;
 use crate::walk::is_signed;
 use club_core::laws::{looks_no_further, own_bookings_suffice, views_decide};
 use club_core::{ClubStore, PassFault, Refusal, Request, SentWords, StoreFault, Verdict, answer};
@@ -82,8 +81,7 @@ fn row_refusal<'a, F: FieldSource<'a>>(
         → F.left source.old ≡ drop 2 (pass_fields pass)
         → result ≡ refusal_by_row pass key.now moment }
 {
-    let signing = Signing::start(kept, key, moment, identifier);
-    if !is_signed(source, signing) {
+    if !is_signed(kept, source, identifier, key, moment) {
         return Some(Refusal::NotVerified);
     }
     if key.revoked {

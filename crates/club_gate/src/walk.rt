@@ -1,31 +1,37 @@
 //! Scans of the fields of a pass: for its signature, and for its caveats.
 
-ghost use Rattle.std.specs.Prelude.{◌≡◌, ℕ, [], false, drop, map};
+ghost use Rattle.std.specs.Prelude.{◌≡◌, ℕ, false, drop, map};
 ghost use Rattle.pass_caveats.specs.computed.CaveatOf.{caveat_of};
 ghost use Rattle.pass_caveats.specs.Fault.{first_fault_of};
 ghost use Rattle.pass_caveats.specs.Spending.{IsWithin, after_spending};
 ghost use Rattle.pass_forms.specs.FieldSource.{pass_fields};
 ghost use Rattle.pass_forms.specs.Pass.{Plain};
-ghost use Rattle.club_rows.specs.declared.key.Key.{Key};
 ghost use Rattle.club_core.specs.Pass.{is_signed_under};
 ghost use Rattle.club_gate.specs.computed.DecodedPass.{machine_pass};
-ghost use Rattle.club_gate.specs.Signing.{chains_under};
 ghost use Rattle.club_gate.specs.Reading.{IsBlindPass};
 ghost use Rattle.club_gate.specs.Verify.{OfItsPass};
 
 use crate::signing::Signing;
+use club_rows::Key;
+use club_values::Moment;
+use key_cache::KeptKeys;
 use pass_caveats::{Ask, CaveatFault, Unspent, fault_at, looks_at_kind, unspent_at};
 use pass_forms::{Field, FieldSource};
 
-/// Whether a pass is signed: extended by all its caveats, one of these chains, which begin with its
-/// identifier, has its signature. The source has already yielded the identifier.
-pub(crate) fn is_signed<'a, F: FieldSource<'a>>(source: &mut F, signing: Signing) -> bool
-    ensures { (pass : Plain) (key : Key) (moment : ℕ)
+/// Whether a pass is signed under a root of the key that is good at the moment. The source has
+/// already yielded the identifier.
+pub(crate) fn is_signed<'a, F: FieldSource<'a>>(
+    kept: &mut KeptKeys,
+    source: &mut F,
+    identifier: &[u8],
+    key: &Key,
+    moment: Moment,
+) -> bool
+    ensures { (pass : Plain) → identifier.now ≡ pass.identifier
         → F.left source.old ≡ drop 2 (pass_fields pass)
-        → signing ≡ chains_under key moment pass.identifier []
-        → result ≡ is_signed_under (machine_pass pass) key moment }
+        → result ≡ is_signed_under (machine_pass pass) key.now moment }
 {
-    let mut signing = signing;
+    let mut signing = Signing::start(kept, key, moment, identifier);
     while let Some(field) = source.next() {
         match field {
             Field::Caveat(caveat) => signing = signing.with(caveat),
