@@ -120,13 +120,16 @@ def beside(club, server, count):
 
 
 def test_door_has_a_mode_and_orders_have_lines(club):
-    """500 orders beside 5,000 requests. No root is in the log."""
+    """500 orders beside 5,000 requests. Then three with a root, one of which is refused, and one of which reads it: none is in the log."""
     with club.served("--log") as server:
         assert stat.filemode(os.stat(f"{club.file}-office").st_mode) == "srw-------"
         beside(club, server, 500)
+        assert club.order("add-key", "given", "m1", ROOT) == (0, text(key_pass("given")) + "\n", "")
+        assert club.order("rotate-key", "nobody", ROOT, "2030-01-01T00:00") == (1, "", "refused: unknown\n")
+        assert desk.order(club.program, "add-key", club.file, "read", "m1", "--root-stdin", text=ROOT) == (0, text(key_pass("read")) + "\n", "")
         log = server.log.read_text()
     names = ("add-member", "credit", "close-slot", "revoke-key", "show-slot")
-    assert Counter(re.findall(r" office (\S+) (\S+) ", log)) == {(name, "0"): 100 for name in names}
+    assert Counter(re.findall(r" office (\S+) (\S+) ", log)) == {(name, "0"): 100 for name in names} | {("add-key", "0"): 2, ("rotate-key", "1"): 1}
     assert ROOT not in log
 
 
@@ -249,7 +252,7 @@ def test_client_that_dawdles_keeps_no_order(club, dawdle):
 
 @pytest.mark.parametrize("number", range(1, 21))
 def test_killed_order_or_server(club, number):
-    """The order was carried out or not, and its status says so where it can."""
+    """The order was carried out or not, and its status says so where it can; the totals are the sums."""
     with club.served() as server:
         before = club.balance("k1")
         order = subprocess.Popen([club.program, "credit", club.file, "m1", "1"], stdout=subprocess.DEVNULL, stderr=subprocess.DEVNULL)
@@ -257,14 +260,16 @@ def test_killed_order_or_server(club, number):
         (order if number % 2 else server).kill()
         order.wait()
     assert (order.returncode, club.balance("k1") - before) in {(0, 1), (5, 0), (8, 0), (8, 1), (-9, 0), (-9, 1)}
+    assert not desk.unsound(club.file)
 
 
 def test_server_that_ends_takes_its_door_along(club):
     """And what an older version left."""
-    for ending, left in (("wanted", ""), ("serving", "127.0.0.1:1\n")):
-        Path(f"{club.file}-{ending}").write_text(left)
+    left = [Path(f"{club.file}-{ending}") for ending in ("wanted", "serving", "paused")]
+    for it in left:
+        it.write_text("127.0.0.1:1\n")
     with club.served(count=1) as server:
-        assert not Path(f"{club.file}-wanted").exists() and not Path(f"{club.file}-serving").exists()
+        assert not any(it.exists() for it in left)
         assert server.exchange(ACCOUNT.under(PASSES[1]).data).startswith(b"HTTP/1.1 200 ")
     assert not Path(f"{club.file}-office").exists()
 
