@@ -2,6 +2,7 @@
 //! another language, from the zones' own database.
 
 mod accepted;
+mod at_the_door;
 mod between;
 mod by_the_door;
 mod clocks;

@@ -63,7 +63,7 @@ impl Office for Tied<'_> {
 }
 
 /// A path of this process alone.
-fn new_path(rt: &HostRuntime, name: &str) -> Result<String, Fail> {
+pub fn new_path(rt: &HostRuntime, name: &str) -> Result<String, Fail> {
     let folder = env::temp_dir(rt)?;
     let folder = folder.as_str();
     let id = process::id(rt.process());
@@ -71,7 +71,7 @@ fn new_path(rt: &HostRuntime, name: &str) -> Result<String, Fail> {
 }
 
 /// A door at this path.
-fn door_at(rt: &HostRuntime, path: &str) -> Result<UnixListener, Fail> {
+pub fn door_at(rt: &HostRuntime, path: &str) -> Result<UnixListener, Fail> {
     let door = UnixListener::bind(rt, path)?;
     door.set_nonblocking(true)?;
     Ok(door)

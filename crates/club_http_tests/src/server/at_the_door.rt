@@ -1,0 +1,216 @@
+//! Connections of the office at a door, over sockets in one process: what a sender may do, and
+//! whose turn it is beside clients. No contract states what a socket gives or takes.
+
+use super::by_the_door::{door_at, new_path};
+use super::doubles::Noting;
+use crate::expect::{expect_bytes, expect_eq};
+use crate::rows::expect_row;
+use crate::sockets::{connect, loopback_listener};
+use club_core::{Refusal, Reply};
+use club_http::Responder;
+use club_values::Moment;
+use desk_server::{Answer, Arrival, Arrivals, Carried, Handover, Listening, Office, RequestLine};
+use http_request::Words;
+use std::fs;
+use std::io::{Read, Write};
+use std::net::{Shutdown, TcpListener};
+use std::os::unix::net::{UnixListener, UnixStream};
+use std::test::Fail;
+use std::time::Duration;
+use test_kit::moments::NOON;
+
+/// What a sender does once it has sent its bytes, before the door accepts it.
+#[derive(Clone, Copy, Debug, PartialEq, Eq)]
+enum Then {
+    /// It says that no more come.
+    Ends,
+    /// It waits.
+    Waits,
+    /// It is gone.
+    Goes,
+}
+
+/// How many bytes a sender sends, what it does then, how many orders are carried out and of how
+/// many bytes, and what the sender gets.
+type Row = (usize, Then, u64, usize, &'static [u8]);
+
+static ROWS: [Row; 8] = [
+    (8, Then::Ends, 1, 8, b"!\x01"),
+    (0, Then::Ends, 1, 0, b"!\x01"),
+    // One byte less than the room, all of the room, and much more than it.
+    (8_191, Then::Ends, 1, 8_191, b"!\x01"),
+    (8_192, Then::Ends, 0, 0, b"!"),
+    (70_000, Then::Ends, 0, 0, b"!"),
+    // A silent one is cut off after a second.
+    (8, Then::Waits, 0, 0, b"!"),
+    // One that is gone before it is greeted has its order left undone, even where it came whole.
+    (0, Then::Goes, 0, 0, b""),
+    (8, Then::Goes, 0, 0, b""),
+];
+
+/// A sender at this door that has sent so many bytes; `None` if it is gone.
+fn sender_at(
+    rt: &HostRuntime,
+    path: &str,
+    bytes: usize,
+    then: Then,
+) -> Result<Option<UnixStream>, Fail> {
+    let mut sender = UnixStream::connect(rt, path)?;
+    let mut sent = Vec::new(rt.alloc());
+    sent.resize(bytes, b'x')?;
+    sender.write_all(&sent)?;
+    match then {
+        Then::Ends => sender.shutdown(Shutdown::Write)?,
+        Then::Waits => {}
+        Then::Goes => return Ok(None),
+    }
+    Ok(Some(sender))
+}
+
+/// What the next connection of a door has done at this desk; whether an order came whole.
+fn hand_over<D: Office>(
+    rt: &HostRuntime,
+    door: &UnixListener,
+    patience: Duration,
+    desk: &mut D,
+) -> Result<bool, Fail> {
+    let listener = TcpListener::bind(rt, "127.0.0.1:0")?;
+    let mut arrivals = Listening::new(&listener, Some(door), rt, patience);
+    let Arrival::Order(mut handed) = arrivals.next() else {
+        return Err("no order".into());
+    };
+    Ok(handed.carry_out(desk).is_some())
+}
+
+/// What a sender gets until its connection ends.
+fn got_by(rt: &HostRuntime, sender: Option<UnixStream>) -> Vec<u8> {
+    let mut got = Vec::new(rt.alloc());
+    if let Some(mut sender) = sender {
+        // A connection that is closed with bytes unread is reset behind what was written to it.
+        let _ = sender.read_to_end(&mut got);
+    }
+    got
+}
+
+/// What comes of a sender: whether its order came whole, how many were carried out and of how many
+/// bytes, and what it got.
+type Outcome = (bool, u64, usize, Vec<u8>);
+
+fn visits(rt: &HostRuntime, bytes: usize, then: Then) -> Result<Outcome, Fail> {
+    let path = new_path(rt, "at-the-door")?;
+    let door = door_at(rt, path.as_str())?;
+    let sender = sender_at(rt, path.as_str(), bytes, then)?;
+    let noon = Moment::read(NOON.as_bytes()).ok_or("a moment")?;
+    let mut desk = Noting::new(rt.alloc(), noon);
+    let whole = hand_over(rt, &door, Duration::from_secs(10), &mut desk)?;
+    fs::remove_file(rt, path.as_str())?;
+    Ok((whole, desk.ordered, desk.bytes, got_by(rt, sender)))
+}
+
+// An order is carried out, once and by its own bytes, only if it came whole, in time, and from a
+// sender that was still there.
+#[test]
+fn senders_at_a_door(rt: HostRuntime) -> Result<(), Fail> {
+    for (bytes, then, ordered, of, want) in &ROWS {
+        let (whole, done, came, got) = visits(&rt, *bytes, *then)?;
+        let row = (*bytes, *then);
+        expect_row(
+            &rt,
+            &(whole, done, came),
+            &(*ordered == 1, *ordered, *of),
+            &row,
+        );
+        expect_bytes(&rt, &got, want, "what the office got");
+    }
+    Ok(())
+}
+
+/// A desk whose answers have a long text.
+#[derive(Drop)]
+struct Wordy<'t> {
+    text: &'t str,
+    rt: &'t HostRuntime,
+    ordered: u64,
+}
+
+impl Responder for Wordy<'_> {
+    ghost answers = { λ _ _ _ _ _ _. Unit {0} };
+
+    fn ask(&mut self, _moment: Moment, _words: &Words<'_>) -> Reply {
+        Reply::Refused(Refusal::Unavailable)
+    }
+}
+
+impl Office for Wordy<'_> {
+    ghost orders = { λ _ _ _ _. Unit {0} };
+
+    fn order(&mut self, _bytes: &[u8]) -> Answer {
+        self.ordered = self.ordered.saturating_add(1);
+        let text = self.text;
+        Answer {
+            carried: Carried {
+                line: RequestLine::of(b"office sheet "),
+                status: 0,
+            },
+            text: format!(in self.rt.alloc(); "{text}").unwrap_or(String::new(self.rt.alloc())),
+        }
+    }
+}
+
+/// More bytes than the buffers of a socket hold.
+const LONG: usize = 2_000_000;
+
+// A sender that doesn't take its answer has its order carried out, and is cut off once the patience
+// is over.
+#[test]
+fn a_sender_that_takes_no_answer(rt: HostRuntime) -> Result<(), Fail> {
+    let path = new_path(&rt, "takes-no-answer")?;
+    let door = door_at(&rt, path.as_str())?;
+    let sender = sender_at(&rt, path.as_str(), 8, Then::Ends)?;
+    let text = "x".repeat(rt.alloc(), LONG)?;
+    let mut desk = Wordy {
+        text: text.as_str(),
+        rt: &rt,
+        ordered: 0,
+    };
+    let whole = hand_over(&rt, &door, Duration::from_millis(50), &mut desk)?;
+    fs::remove_file(&rt, path.as_str())?;
+    let got = got_by(&rt, sender);
+    let cut_off = got.len() > 2 && got.len() < LONG;
+    expect_eq(&rt, &(whole, desk.ordered, cut_off), &(true, 1, true));
+    Ok(())
+}
+
+/// Which of two orders and three clients come, one after the other: orders take turns with them.
+static TURNS: [bool; 5] = [true, false, true, false, false];
+
+/// Whether the next arrival is an order.
+fn is_order<A: Arrivals>(arrivals: &mut A) -> Option<bool> {
+    match arrivals.next() {
+        Arrival::Order(_) => Some(true),
+        Arrival::Client(_) => Some(false),
+        Arrival::Nobody => None,
+    }
+}
+
+#[test]
+fn orders_and_clients_take_turns(rt: HostRuntime) -> Result<(), Fail> {
+    let path = new_path(&rt, "turns")?;
+    let door = door_at(&rt, path.as_str())?;
+    let listener = loopback_listener(&rt);
+    let _clients = (
+        connect(&rt, &listener),
+        connect(&rt, &listener),
+        connect(&rt, &listener),
+    );
+    let _offices = (
+        UnixStream::connect(&rt, path.as_str())?,
+        UnixStream::connect(&rt, path.as_str())?,
+    );
+    let mut arrivals = Listening::new(&listener, Some(&door), &rt, Duration::from_secs(10));
+    for turn in &TURNS {
+        expect_eq(&rt, &is_order(&mut arrivals), &Some(*turn));
+    }
+    fs::remove_file(&rt, path.as_str())?;
+    Ok(())
+}
