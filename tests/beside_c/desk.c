@@ -5,6 +5,7 @@
 //   desk FILE MOMENT < STATEMENTS      as beside.py says of each desk
 //   desk                               for each connection it reads once, writes 133 bytes and closes
 #include <arpa/inet.h>
+#include <nettle/base64.h>
 #include <nettle/hmac.h>
 #include <sqlite3.h>
 #include <stdarg.h>
@@ -96,21 +97,6 @@ struct pass {
     uint8_t signature[SIGNATURE];
 };
 
-static size_t decode(const char *text, size_t len, uint8_t *to) {
-    static const char alphabet[] = "ABCDEFGHIJKLMNOPQRSTUVWXYZabcdefghijklmnopqrstuvwxyz0123456789-_";
-    static uint8_t digits[256];  // from 1 on
-    for (uint8_t n = 0; n < 64 && !digits['_']; n++) digits[(uint8_t)alphabet[n]] = n + 1;
-    uint32_t bits = 0;
-    size_t n = 0;
-    for (size_t i = 0, held = 0; i < len; i++) {
-        uint32_t digit = digits[(uint8_t)text[i]];
-        if (!digit) return 0;
-        bits = bits << 6 | (digit - 1);
-        if ((held += 6) >= 8) to[n++] = (uint8_t)(bits >> (held -= 8));
-    }
-    return n;
-}
-
 // Takes a field of a type from what is left. The end of a section, type 0, has no bytes.
 static bool take(struct bytes *rest, uint8_t type, struct bytes *field) {
     const uint8_t *at = rest->at, *end = at + rest->len;
@@ -128,8 +114,10 @@ static bool take(struct bytes *rest, uint8_t type, struct bytes *field) {
 }
 
 static bool read_pass(const char *text, size_t len, struct pass *pass) {
-    if (len > MAX_TEXT) return false;
-    struct bytes rest = {pass->room, decode(text, len, pass->room)}, field;
+    struct base64_decode_ctx base64;
+    struct bytes rest = {pass->room, 0}, field;
+    base64url_decode_init(&base64);
+    if (len > MAX_TEXT || !base64_decode_update(&base64, &rest.len, pass->room, len, text)) return false;
     if (!rest.len || *rest.at++ != 2) return false;
     rest.len--;
     take(&rest, 1, &field);
