@@ -26,6 +26,7 @@ from pathlib import Path
 sys.dont_write_bytecode = True
 import shown
 from definitions import ROOT, Book, closure, owner_of
+from more_edits import crates_below
 
 PAGE = ROOT / "docs" / "AUDIT.md"
 PROMISES = ROOT / "docs" / "PROMISES.md"
@@ -309,15 +310,8 @@ class Audit:
 
     def libraries_below(self, promise):
         """The crates whose code a promise's functions call: their own, and those below."""
-        uses = {line.split(":")[0].split()[0]: line.split(":")[1].split()
-                for line in (ROOT / "crates.txt").read_text(encoding="utf-8").splitlines() if line and not line.startswith("#")}
-        found, open_ = set(), [file.crate for file, *_ in promise.clauses]
-        while open_:
-            crate = open_.pop()
-            if crate not in found:
-                found.add(crate)
-                open_ += [it for it in uses.get(crate, ()) if it in uses]
-        return found
+        own = {file.crate for file, *_ in promise.clauses}
+        return own | crates_below(own)
 
     def calls(self):
         """Of each library the calls that our crates make of it, by name, with the promises below which they are made."""

@@ -24,8 +24,8 @@ import tempfile
 import time
 
 import desk
+from more_edits import crates_below
 
-CRATES = (desk.ROOT / "crates.txt").read_text(encoding="utf-8")
 # Of each crate its tests; those without another module are in `refused_memory`.
 TESTS = {
     "pass_json_tests": "known_pass known_pass_without_its_caveat example",
@@ -39,18 +39,12 @@ FAULT = r"([A-Za-z]+\()*((OutOf)?Memory|AllocError|AllocFailed \{ \.\. \}|Os \{ 
 ROOM = tempfile.TemporaryDirectory(dir=desk.IN_MEMORY)
 
 
-def crates_below(crate):
-    """Those of this repository that a crate stands on, and the crate."""
-    named = re.search(rf"^{crate}(?: [^:\n]*)?:([^#\n]*)", CRATES, re.MULTILINE)[1].split()
-    return {crate}.union(*(crates_below(it) for it in named if (desk.ROOT / "crates" / it / "src").is_dir()))
-
-
 def built(crate):
     """The tests of a crate, proved and built where they are missing, or older than the sources that they are built from."""
     if not (desk.ROOT / "crates" / crate / "src").is_dir():
         sys.exit(f"there is no crate {crate}")
     program, begun = desk.ROOT / "crates" / crate / "out" / f"{crate}_tests", time.time()
-    sources = [it for each in crates_below(crate) for part in ("src", "specs", "proofs") for it in (desk.ROOT / "crates" / each / part).rglob("*")]
+    sources = [it for each in (crate, *crates_below([crate])) for part in ("src", "specs", "proofs") for it in (desk.ROOT / "crates" / each / part).rglob("*")]
     if not program.exists() or any(it.stat().st_mtime > program.stat().st_mtime for it in [desk.ROOT / "crates.txt", *sources]):
         print(f"{crate}: proving and building its tests first, which takes some minutes", file=sys.stderr)
         ran = subprocess.run(["rt", "test", "--jobs", "1"], cwd=desk.ROOT / "crates" / crate, stdin=subprocess.DEVNULL, stdout=subprocess.PIPE,
