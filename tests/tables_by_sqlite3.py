@@ -183,14 +183,17 @@ def test_corrections(club):
 # ---- other files
 
 
-@pytest.mark.parametrize("is_there", [True, False])
-def test_file_that_becomes_a_club(clubdesk, tmp_path, is_there):
+@pytest.mark.parametrize("before", [None, "", "CREATE TABLE notes (text TEXT); INSERT INTO notes VALUES ('a')"], ids=["no file", "an empty one", "notes"])
+def test_file_that_becomes_a_club(clubdesk, tmp_path, before):
+    """A table of others stays."""
     club = Club(clubdesk, tmp_path / "new")
-    if is_there:
+    if before is not None:
         club.file.touch()
+        sql(club, before)
     club.play([NO_BOOKINGS])
     assert sql(club, """PRAGMA integrity_check; SELECT * FROM desk;
         SELECT count(*) FROM members, facilities, keys, slots, bookings""") == "ok\n2\n0\n"
+    assert not before or sql(club, "SELECT * FROM notes") == "a\n"
 
 
 @pytest.mark.parametrize("change", ["DROP TABLE old_roots; DROP INDEX bookings_by_key; UPDATE desk SET version = 1", "DROP INDEX bookings_by_key"])
@@ -201,13 +204,6 @@ def test_file_of_before_is_migrated(club, change):
     club.play(FIRST)
     assert sql(club, "PRAGMA integrity_check; SELECT * FROM desk; SELECT count(*) FROM old_roots") == "ok\n2\n0\n"
     assert sql(club, "SELECT type, name, sql FROM sqlite_schema") == schema
-
-
-def test_tables_of_others_stay(clubdesk, tmp_path):
-    club = Club(clubdesk, tmp_path / "notes")
-    sql(club, "CREATE TABLE notes (text TEXT); INSERT INTO notes VALUES ('a')")
-    club.play([NO_BOOKINGS])
-    assert sql(club, "SELECT * FROM notes; SELECT * FROM desk") == "a\n2\n"
 
 
 def refused(club):
@@ -221,11 +217,8 @@ def refused(club):
     assert (club.file.read_bytes(), dump(club)) == before
 
 
-def damaged(data):
-    return data[:16385] + b"\xff" * 4 + data[16389:]
-
-
-@pytest.mark.parametrize("spoil", [lambda _: b"x" * 100, lambda data: data[:20000], damaged], ids=["no database", "half a file", "a damaged page"])
+@pytest.mark.parametrize("spoil", [lambda _: b"x" * 100, lambda it: it[:20000], lambda it: it[:16385] + b"\xff" * 4 + it[16389:]],
+                         ids=["no database", "half a file", "a damaged page"])
 def test_bytes_that_are_no_club(club, spoil):
     club.file.write_bytes(spoil(club.file.read_bytes()))
     refused(club)
