@@ -14,16 +14,15 @@ import multiprocessing
 import os
 import random
 import re
-import socket
 import subprocess
 import sys
-import threading
 import time
 from datetime import date
 
 import pytest
 
 import desk
+from between import FAILURES, Between
 from kinds import ROOT
 
 sys.path.insert(0, str(desk.ROOT / "examples"))
@@ -165,41 +164,15 @@ def test_commands(own):
     assert prints(it.port, "borrow")[:2] == (1, "")
 
 
-# ---- a proxy that fails in another way at each request
-
-REPLIES = {"bad-gateway": (502, "<html>bad gateway</html>"), "page": (200, "<html>a page</html>"), "json": (500, '{"error":"proxy"}'),
-           "unavailable": (503, '{"fault":22,"text":"unavailable"}')}
-CUT_AT = {"swallowed": 0, "head-cut": 40, "body-cut": -5, "whole": None}  # of the desk's reply
-
-
-def request_from(client):
-    """A head, and its body of as many bytes as it asks for."""
-    with client.makefile("rb") as come:
-        head = b"".join(iter(come.readline, b"\r\n")) + b"\r\n"
-        length = re.search(rb"(?i)content-length: (\d+)", head)
-        return head + come.read(int(length[1]) if length else 0)
-
-
-def fail_in_turn(listener, port):
-    for kind in ("silent", *REPLIES, *CUT_AT):
-        with listener.accept()[0] as client:
-            request = request_from(client)
-            if kind in REPLIES:
-                status, body = REPLIES[kind]
-                client.sendall(f"HTTP/1.1 {status} Failed\r\nContent-Length: {len(body)}\r\nConnection: close\r\n\r\n{body}".encode())
-            elif kind != "silent":
-                client.sendall(desk.exchange(port, request)[:CUT_AT[kind]])
-
-
 def test_proxy_that_fails(own):
+    """In another way at each request."""
     club, prints = own
     number = ""
-    for words, reply in (("book court-1 2026-05-03 18 0", '{"booking":"amy-1/N","charge":200,"left":3}\n'),
-                         ("cancel ", '{"booking":"amy-1/N","refund":200}\n')):
-        with club.served(count=len(CUT_AT)) as it, socket.create_server(("127.0.0.1", 0)) as listener:
-            proxy = threading.Thread(target=fail_in_turn, args=(listener, it.port))
-            proxy.start()
-            status, printed, number = prints(listener.getsockname()[1], words + number * words.startswith("cancel"), 60)
-            assert (status, printed) == (0, reply)
-            proxy.join()
+    for method, words, reply in (("PUT", "book court-1 2026-05-03 18 0", '{"booking":"amy-1/N","charge":200,"left":3}\n'),
+                                 ("DELETE", "cancel ", '{"booking":"amy-1/N","refund":200}\n')):
+        with club.served(count=4) as it:
+            proxy = Between(it.port)
+            proxy.fates[method] = list(FAILURES)
+            status, printed, number = prints(proxy.port, words + number, 60)
+            assert (status, printed, proxy.fates[method]) == (0, reply, [])
     assert club.sql("SELECT count(*), sum(cancelled) FROM bookings") == [(1, 1)]

@@ -1,0 +1,68 @@
+"""What stands between a client and the desk, and lets some of their requests fail: read by client_survives.py and page_books.py."""
+
+import contextlib
+import re
+import socket
+import threading
+import time
+
+import desk
+
+# Whether the desk carried the request out or not, the client has no whole reply of the desk's.
+FAILURES = ["silent", "answer 502 <html>bad gateway</html>", "answer 504 <html>gateway timeout</html>", "answer 200 <html>a page</html>",
+            'answer 500 {"error":"proxy"}', 'answer 503 {"fault":22,"text":"unavailable"}', "swallowed", "head-cut", "body-cut"]
+CUT_AT = {"swallowed": 0, "head-cut": 40, "body-cut": -5}  # of the desk's reply
+
+
+def request_from(client):
+    """A head, and its body of as many bytes as it asks for."""
+    with client.makefile("rb") as come:
+        head = b"".join(iter(come.readline, b"\r\n")) + b"\r\n"
+        length = re.search(rb"(?i)content-length: (\d+)", head)
+        return head + come.read(int(length[1]) if length else 0)
+
+
+class Between:
+    """Passes connections on to the desk. `fates` says what becomes of the next ones whose request begins with a method, in order; `most`
+    is how many were here at once."""
+
+    def __init__(self, desk_port):
+        self.desk_port, self.fates = desk_port, {}
+        self.here = self.most = 0
+        self.counting = threading.Lock()
+        self.listener = socket.create_server(("127.0.0.1", 0), backlog=200)
+        self.port = self.listener.getsockname()[1]
+        threading.Thread(target=self.listen, daemon=True).start()
+
+    def listen(self):
+        while True:
+            client, _ = self.listener.accept()
+            threading.Thread(target=self.serve, args=[client], daemon=True).start()
+
+    def serve(self, client):
+        with contextlib.suppress(OSError), client, self.counted():
+            request = request_from(client)
+            waiting = self.fates.get(request.split()[0].decode(), [])
+            self.fulfil(client, request, waiting.pop(0) if waiting else "reply")
+
+    @contextlib.contextmanager
+    def counted(self):
+        with self.counting:
+            self.here += 1
+            self.most = max(self.most, self.here)
+        try:
+            yield
+        finally:
+            with self.counting:
+                self.here -= 1
+
+    def fulfil(self, client, request, fate):
+        kind, _, detail = fate.partition(" ")
+        if kind == "answer":
+            status, body = detail.split(" ", 1)
+            client.sendall(f"HTTP/1.1 {status} X\r\nContent-Length: {len(body)}\r\nConnection: close\r\n\r\n{body}".encode())
+        elif kind != "silent":
+            time.sleep(float(detail) if kind == "slow" else 0)
+            reply = desk.exchange(self.desk_port, request) or b""
+            time.sleep(float(detail) if kind == "late" else 0)  # it is carried out, and the reply comes late
+            client.sendall(reply[:CUT_AT.get(kind)])
