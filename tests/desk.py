@@ -12,6 +12,7 @@ import signal
 import socket
 import sqlite3
 import subprocess
+import time
 from concurrent.futures import ThreadPoolExecutor
 from pathlib import Path
 
@@ -115,6 +116,20 @@ class Reply:
     @property
     def value(self):
         return json.loads(self.body)
+
+
+def free_port():
+    """A port that nobody listens at."""
+    with socket.create_server(("127.0.0.1", 0)) as probe:
+        return probe.getsockname()[1]
+
+
+def drip(client, data):
+    """Sends a byte a second, until the other end is gone."""
+    with contextlib.suppress(OSError):
+        for byte in data:
+            client.sendall(bytes([byte]))
+            time.sleep(1)
 
 
 def read(client):

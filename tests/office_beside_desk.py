@@ -32,6 +32,7 @@ from kinds import ACCOUNT, ROOT, TWO, book, booked, cancel, key_pass, slot, text
 
 PASSES = {place: text(key_pass(f"k{place}")) for place in range(1, 5)}
 DONE, FAILED = (0, "done\n", ""), (5, "", "storage failed\n")
+DRIP = lambda client: desk.drip(client, b"GET /a")
 
 
 @pytest.fixture(scope="module")
@@ -202,13 +203,6 @@ def test_something_else_than_a_door_stays(club):
     door.rmdir()
 
 
-def drip(client):
-    with contextlib.suppress(OSError):
-        for byte in b"GET /a":
-            client.sendall(bytes([byte]))
-            time.sleep(1)
-
-
 def test_orders_beside_four_clients_of_which_two_dawdle(club):
     """One is silent, one sends a byte a second. Each order is carried out within a fraction of a second, and the other two have their replies."""
     orders = Times()
@@ -223,7 +217,7 @@ def test_orders_beside_four_clients_of_which_two_dawdle(club):
             assert desk.exchange(server.port, ACCOUNT.under(PASSES[place]).data, 60).startswith(b"HTTP/1.1 200 ")
 
     with club.served("--patience", "2") as server, ThreadPoolExecutor(4) as pool:
-        begun = [pool.submit(dawdles, server, act) for act in (lambda _: None, drip)] + [pool.submit(asks, server, place) for place in (1, 2)]
+        begun = [pool.submit(dawdles, server, act) for act in (lambda _: None, DRIP)] + [pool.submit(asks, server, place) for place in (1, 2)]
         while not all(it.done() for it in begun):
             assert orders.of(club.order, "credit", "m4", 1) == DONE
         for it in begun:
@@ -232,7 +226,7 @@ def test_orders_beside_four_clients_of_which_two_dawdle(club):
     orders.show("orders beside four clients, of which one is silent and one sends a byte a second")
 
 
-@pytest.mark.parametrize("dawdle", [lambda _: None, drip], ids=["silent", "a byte a second"])
+@pytest.mark.parametrize("dawdle", [lambda _: None, DRIP], ids=["silent", "a byte a second"])
 def test_client_that_dawdles_keeps_no_order(club, dawdle):
     """Each is carried out within a fraction of a second, while the client is still awaited; it is cut off by the server's patience of four seconds."""
     orders = Times()

@@ -18,7 +18,7 @@ from pathlib import Path
 
 import psutil
 
-from desk import SUMS, TESTS, opened, order
+from desk import SUMS, TESTS, free_port, opened, order
 
 if "OFFICE_ROOM" not in os.environ:
     os.execv("/bin/sh", ["sh", str(TESTS / "office_room.sh"), sys.executable, "-B", os.path.abspath(sys.argv[0]), *sys.argv[1:]])
@@ -111,11 +111,6 @@ class Service:
                         return found
             time.sleep(0.05)
         raise RuntimeError(f"no reply to {method} {path} {body}")
-
-
-def free_port():
-    with socket.create_server(("127.0.0.1", 0)) as probe:
-        return probe.getsockname()[1]
 
 
 def begun(*words):

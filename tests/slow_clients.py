@@ -68,12 +68,7 @@ def test_client_of_a_byte_a_second_is_cut_off(patient):
     with patient(2) as server:
         with connected(server) as client:
             began = time.monotonic()
-            try:
-                for byte in REQUEST[:3 * PATIENCE]:
-                    client.sendall(bytes([byte]))
-                    time.sleep(1)
-            except OSError:
-                pass
+            desk.drip(client, REQUEST[:3 * PATIENCE])
             assert time.monotonic() - began <= PATIENCE + 3
         assert replied(server, [REQUEST], 0) == account().wanted
 
