@@ -5,7 +5,8 @@ ghost use Rattle.club_gate.specs.Identifier.{key_name_in as name_of};
 
 use club_values::Name;
 
-const KEY_PREFIX: &[u8; 4] = b"key:";
+/// What the identifier of a pass begins with, before the name of its key.
+pub(crate) const KEY_PREFIX: &[u8; 4] = b"key:";
 
 /// The name of the key that an identifier names; `None` if it names none.
 #[tactic(auto, unfolding(crate::specs::Identifier::key_name_in))]

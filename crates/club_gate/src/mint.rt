@@ -4,6 +4,7 @@ ghost use Rattle.std.specs.Prelude.{◌≡◌, ℕ, List, IfOk};
 ghost use Rattle.pass_forms.specs.Pass.{IsSigned};
 ghost use Rattle.club_gate.specs.Minted.{key_pass, minted_signature};
 
+use crate::identifier::KEY_PREFIX;
 use club_rows::Root;
 use club_values::Name;
 use pass_forms::Pass;
@@ -12,9 +13,6 @@ use std::alloc::{AllocError, Global};
 
 /// The location of the passes that the office issues.
 pub const LOCATION: &[u8; 9] = b"club-desk";
-
-/// What the identifier of a pass begins with, before the name of its key.
-const KEY_PREFIX: &[u8; 4] = b"key:";
 
 /// The most bytes of a key's identifier.
 const MAX_IDENTIFIER_LEN: usize = 28;
