@@ -3,13 +3,10 @@
 ghost use Rattle.std.specs.Prelude.{◌≡◌};
 ghost use Rattle.club_clock.specs.Zone.{IsShown, zone_of};
 
-use club_values::{Day, Moment};
+use club_values::{Day, MINUTES_AN_HOUR, Moment};
 use jiff_core::Timestamp;
 use jiff_tz::posix::TimeZone;
 use std::marker::Model;
-
-/// The minutes of an hour.
-const MINUTES_AN_HOUR: u16 = 60;
 
 /// A zone by the POSIX text of its rule, as `UTC0` or `CET-1CEST,M3.5.0,M10.5.0/3`. Contracts see
 /// it as that text.

@@ -20,6 +20,6 @@ pub use hour::{HOURS_A_DAY, Hour};
 pub use inline_bytes::InlineBytes;
 pub use jiff_core::civil::Weekday;
 pub use kind::Kind;
-pub use moment::{MINUTES_A_DAY, Moment};
+pub use moment::{MINUTES_A_DAY, MINUTES_AN_HOUR, Moment};
 pub use name::{MAX_NAME_LEN, Name};
 pub use slot::{MAX_GUESTS, Slot};

@@ -20,7 +20,7 @@ use std::fmt;
 use std::marker::Model;
 
 /// The minutes of an hour.
-pub(crate) const MINUTES_AN_HOUR: u16 = 60;
+pub const MINUTES_AN_HOUR: u16 = 60;
 
 /// The minutes of a day.
 pub const MINUTES_A_DAY: u16 = HOURS_A_DAY as u16 * MINUTES_AN_HOUR;
