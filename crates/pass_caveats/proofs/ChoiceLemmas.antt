@@ -9,8 +9,9 @@ use Rattle.std.proofs.lemmas.Bool.Decides.{Decides-by_and}
 use Rattle.std.proofs.lemmas.List.{length-map, append-nil}
 use Rattle.std.proofs.lemmas.List.Elements.{All-head, All-tail, All-nil, All-cons}
 use Rattle.std.proofs.lemmas.Slice.Eq.{bytes_eq-Decides}
-use Rattle.pass_caveats.specs.Parts.{comma_parts, comma_list, parts_left, is_next, after_next, Skips, words_found}
-use Rattle.pass_caveats.proofs.PartLemmas.{HasNoComma, parts_of-joined, joined-parts_of, some_part, skip_takes}
+use Rattle.pass_caveats.specs.Parts.{comma_parts, comma_list, parts_left, Skips}
+use Rattle.pass_caveats.specs.computed.CaveatOf.{is_next, after_next, words_found}
+use Rattle.pass_caveats.proofs.PartLemmas.{HasNoComma, all_left, parts_of-joined, joined-parts_of, skip_leaves, skip_takes, some_part}
 
 -- the words whose flag is set
 abbrev chosen : List Bool → List (List ℕ) → List (List ℕ)
@@ -74,10 +75,6 @@ not_next word (flag ∷ flags) (other ∷ others) none =
     let apart = neither (bytes_eq other word) (is_among word others) none in
     next_by flag word other (chosen flags others) apart.0 (not_next word flags others apart.1)
 
-all_left : (word : List ℕ) (parts : List (List ℕ)) → is_next word parts ≡ false → after_next word parts ≡ parts
-all_left word [] e = refl
-all_left word (part ∷ parts) e = rw e refl
-
 -- what is left after all words
 abbrev left_after : List (List ℕ) → List (List ℕ) → List (List ℕ)
 left_after [] parts = parts
@@ -118,14 +115,15 @@ steps_take [] [] parts last e = e
 steps_take [] (word ∷ words) parts last e = absurd e
 steps_take (flag ∷ flags) [] parts last e = absurd e
 steps_take (flag ∷ flags) (word ∷ words) parts last s =
-    skip_takes word parts s.0 flag s.1.next s.1.rest
+    skip_takes word parts s.0 flag s.1
     ∙ (ap (λ (next : List (List ℕ)). cond flag (word ∷ next) next) (steps_take flags words s.0 last s.2) ∙ front_of flag word (chosen flags words) last)
 
 steps_leave : (flags : List Bool) (words parts last : List (List ℕ)) → Steps flags words parts last → last ≡ left_after words parts
 steps_leave [] [] parts last e = sym e
 steps_leave [] (word ∷ words) parts last e = absurd e
 steps_leave (flag ∷ flags) [] parts last e = absurd e
-steps_leave (flag ∷ flags) (word ∷ words) parts last s = rw s.1.rest at (steps_leave flags words s.0 last s.2)
+steps_leave (flag ∷ flags) (word ∷ words) parts last s =
+    rw (skip_leaves word parts s.0 flag s.1) at (steps_leave flags words s.0 last s.2)
 
 plain_words : (words : List (List ℕ)) → are_plain words ≡ true → All HasNoComma words
 plain_words words e =

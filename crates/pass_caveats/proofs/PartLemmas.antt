@@ -12,7 +12,8 @@ use Rattle.std.proofs.lemmas.List.Elements.{All-head, All-tail}
 use Rattle.std.proofs.lemmas.List.Splits.{slice_split_none, slice_split_at, length-slice_split, join_with_byte-slice_split}
 use Rattle.club_values.specs.Name.{is_name_byte, IsName}
 use Rattle.pass_caveats.specs.Names.{AreNames}
-use Rattle.pass_caveats.specs.Parts.{comma_parts, comma_list, is_next, after_next}
+use Rattle.pass_caveats.specs.Parts.{comma_parts, comma_list, Skips}
+use Rattle.pass_caveats.specs.computed.CaveatOf.{is_next, after_next}
 use Rattle.std.specs.Str.{bytes_eq}
 use Rattle.std.proofs.lemmas.Slice.Eq.{bytes_eq-Decides}
 
@@ -86,13 +87,25 @@ parts_of-no_comma text none =
 pub tail_is : (text : List ℕ) (i : ℕ) → take (length text - (i + 1)) (drop (i + 1) text) ≡ drop (i + 1) text
 tail_is text i = take_all (length text - (i + 1)) (drop (i + 1) text) (omega (arith, length-drop (i + 1) text))
 
-taken : (word part : List ℕ) (parts : List (List ℕ)) (b : Bool) → bytes_eq part word ≡ b →
-    part ∷ parts ≡ cond b (word ∷ cond b parts (part ∷ parts)) (cond b parts (part ∷ parts))
-taken word part parts true e = ap (λ (first : List ℕ). first ∷ parts) ((bytes_eq-Decides part word).0 e)
-taken word part parts false e = refl
-
 -- what a step takes from the front
-pub skip_takes : (word : List ℕ) (parts left : List (List ℕ)) (b : Bool) → b ≡ is_next word parts → left ≡ after_next word parts →
-    parts ≡ cond b (word ∷ left) left
-skip_takes word [] left b e f = rw (e, f) refl
-skip_takes word (part ∷ parts) left b e f = rw (e, f) (taken word part parts (bytes_eq part word) refl)
+pub skip_takes : (word : List ℕ) (parts left : List (List ℕ)) (b : Bool) → Skips word parts b left → parts ≡ cond b (word ∷ left) left
+skip_takes word parts left true s = s
+skip_takes word parts left false s = sym s.0
+
+-- ---- a step, as it is computed
+
+not_first : (word : List ℕ) (parts : List (List ℕ)) → ((others : List (List ℕ)) → parts ≢ word ∷ others) → is_next word parts ≡ false
+not_first word [] none = refl
+not_first word (part ∷ parts) none = go (bytes_eq part word) refl
+  where
+    go : (b : Bool) → bytes_eq part word ≡ b → bytes_eq part word ≡ false
+    go true e = absurd (none parts (ap (λ (first : List ℕ). first ∷ parts) ((bytes_eq-Decides part word).0 e)))
+    go false e = e
+
+pub all_left : (word : List ℕ) (parts : List (List ℕ)) → is_next word parts ≡ false → after_next word parts ≡ parts
+all_left word [] e = refl
+all_left word (part ∷ parts) e = rw e refl
+
+pub skip_leaves : (word : List ℕ) (parts left : List (List ℕ)) (b : Bool) → Skips word parts b left → left ≡ after_next word parts
+skip_leaves word parts left true s = let this : bytes_eq word word ≡ true = (bytes_eq-Decides word word).1 refl in rw (s, this) refl
+skip_leaves word parts left false s = s.0 ∙ sym (all_left word parts (not_first word parts s.1))

@@ -1,7 +1,6 @@
 -- Lists with commas (ours).
-use Rattle.std.specs.Prelude.{◌≡◌, ℕ, ◌==◌, Bool, false, if◌then◌else◌, List, [], ◌∷◌, Option, Some, None}
+use Rattle.std.specs.Prelude.{◌≡◌, ◌≢◌, ℕ, ◌==◌, Bool, true, false, List, [], ◌∷◌, Option, Some, None}
 use Rattle.std.specs.List.{slice_split, join_with_byte}
-use Rattle.std.specs.Str.{bytes_eq}
 
 -- the parts of a text, between its commas
 abbrev pub comma_parts : List ℕ → List (List ℕ)
@@ -16,22 +15,7 @@ abbrev pub parts_left : Option (List ℕ) → List (List ℕ)
 parts_left None = []
 parts_left (Some text) = comma_parts text
 
--- whether the first part is the word
-abbrev pub is_next : List ℕ → List (List ℕ) → Bool
-is_next word [] = false
-is_next word (part ∷ parts) = bytes_eq part word
-
--- the parts without the word at their front
-abbrev pub after_next : List ℕ → List (List ℕ) → List (List ℕ)
-after_next word [] = []
-after_next word (part ∷ parts) = if bytes_eq part word then parts else part ∷ parts
-
--- whether the word is the first part, and the parts that are left then
-pub record Skips (word : List ℕ) (parts : List (List ℕ)) (found : Bool) (left : List (List ℕ)) : Type 0 where
-  pub next : found ≡ is_next word parts
-  pub rest : left ≡ after_next word parts
-
--- for each word whether it is among the parts, if the parts are in the words' order
-abbrev pub words_found : List (List ℕ) → List (List ℕ) → List Bool
-words_found [] parts = []
-words_found (word ∷ words) parts = is_next word parts ∷ words_found words (after_next word parts)
+-- The word was the first part, and the others are left; or it wasn't, and all are left.
+abbrev pub Skips : List ℕ → List (List ℕ) → Bool → List (List ℕ) → Type 0
+Skips word parts true left = parts ≡ word ∷ left
+Skips word parts false left = (left ≡ parts) × ((others : List (List ℕ)) → parts ≢ word ∷ others)

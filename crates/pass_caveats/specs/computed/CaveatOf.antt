@@ -1,5 +1,5 @@
 -- Parsing a caveat, as a function for definitions that compute. `Understood` defines what it means; a law states that both agree.
-use Rattle.std.specs.Prelude.{ℕ, ◌==◌, ◌&&◌, Bool, true, false, List, length, drop, slice_index, slice_index_or, map, nat_lt, nat_le}
+use Rattle.std.specs.Prelude.{ℕ, ◌==◌, ◌&&◌, Bool, true, false, List, [], ◌∷◌, length, drop, slice_index, slice_index_or, map, nat_lt, nat_le}
 use Rattle.std.specs.Prelude.{if◌then◌else◌, Option, Some, None}
 use Rattle.std.specs.List.{list_all}
 use Rattle.std.specs.Str.{bytes_eq}
@@ -18,10 +18,25 @@ use Rattle.club_values.specs.Action.{action_text}
 use Rattle.club_values.specs.Weekday.{weekdays}
 use Rattle.pass_caveats.specs.Names.{max_names}
 use Rattle.club_values.specs.Number.{number_limit}
-use Rattle.pass_caveats.specs.Parts.{comma_parts, words_found}
+use Rattle.pass_caveats.specs.Parts.{comma_parts}
 use Rattle.pass_caveats.specs.Actions.{all_actions, action_texts}
 use Rattle.pass_caveats.specs.Weekdays.{weekday_text, weekday_texts}
 use Rattle.pass_caveats.specs.Caveat.{caveat_text, max_caveat_len}
+
+-- whether the first part is the word
+abbrev pub is_next : List ℕ → List (List ℕ) → Bool
+is_next word [] = false
+is_next word (part ∷ parts) = bytes_eq part word
+
+-- the parts without the word at their front
+abbrev pub after_next : List ℕ → List (List ℕ) → List (List ℕ)
+after_next word [] = []
+after_next word (part ∷ parts) = if bytes_eq part word then parts else part ∷ parts
+
+-- for each word whether it is among the parts, if the parts are in the words' order
+abbrev pub words_found : List (List ℕ) → List (List ℕ) → List Bool
+words_found [] parts = []
+words_found (word ∷ words) parts = is_next word parts ∷ words_found words (after_next word parts)
 
 -- the set of the flags that are found
 abbrev pub actions_from : List Bool → SomeActions
