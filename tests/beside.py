@@ -12,8 +12,8 @@ connects to the end of the reply, and clubdesk's ratios; the ratios that are ask
 those of 101 requests less those of one, over 100, by strace. One client asks the servers by turns; it has a processor, and they another,
 if there are two. Not part of the gate.
 
-Each desk is run as DESK FILE MOMENT < STATEMENTS: the moment in minutes since 1970; a statement a line. It prints its port, and serves until it
-is stopped. It reads a key's older root only if the key's own doesn't sign, as ours does.
+Each desk is run as DESK FILE MOMENT < STATEMENTS: the moment in minutes since 1970; a statement a line. It prints the line of ours, and serves
+until it is stopped. It reads a key's older root only if the key's own doesn't sign, as ours does.
 
   tests/beside.py [--desks c,go,flask] [COUNT [ROUNDS [ROWS ..]]]      COUNT requests of each kind in a round; without: 500 7 100 100000
 """
@@ -23,6 +23,7 @@ is stopped. It reads a key's older root only if the key's own doesn't sign, as o
 import argparse
 import os
 import re
+import signal
 import sqlite3
 import statistics
 import subprocess
@@ -135,22 +136,14 @@ def write_statements():
     Path("statements").write_text("".join(re.sub(r"\\\n *", "", texts[name]) + "\n" for name in STATEMENTS), encoding="utf-8")
 
 
-class Beside:
-    """A server that prints its port, and serves until it is stopped."""
+class Beside(desk.Server):
+    """A server that isn't ours, by a command of its own."""
+
+    killed_by = signal.SIGTERM
 
     def __init__(self, *words):
-        self.words = [*on(PROCESSORS[0]), *words]
-
-    def __enter__(self):
-        with open("statements", encoding="utf-8") as statements, open("beside.log", "ab") as log:
-            self.process = subprocess.Popen(self.words, stdin=statements, stdout=subprocess.PIPE, stderr=log, text=True)
-        self.port = int(self.process.stdout.readline() or sys.exit(f"{self.words[3]}: {open('beside.log', encoding='utf-8').read()}"))
-        return self
-
-    def __exit__(self, *_fault):
-        self.process.terminate()
-        self.process.wait()
-        self.process.stdout.close()
+        super().__init__(words[0], "beside", None, given="statements")
+        self.command = [*on(PROCESSORS[0]), *words]
 
 
 def ask(server, requests):

@@ -169,7 +169,7 @@ class Server(BaseApplication):
 
     def load_config(self):
         self.cfg.set("bind", "127.0.0.1:0")
-        self.cfg.set("when_ready", lambda server: print(server.LISTENERS[0].getsockname()[1], flush=True))
+        self.cfg.set("when_ready", lambda server: print(f"listening on 127.0.0.1:{server.LISTENERS[0].getsockname()[1]}", flush=True))
 
     def load(self):
         app.database = sqlite3.connect(sys.argv[1])

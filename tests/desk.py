@@ -59,20 +59,23 @@ def limit_files(size):
 class Server:
     """A server of `clubdesk` over a file, as a context manager: it listens at `port` once the block begins, and has ended after it.
 
-    `words` are further options; `by` is a command that runs it; `variables` further variables of its environment; `file_limit` the bytes
-    that a file of it may have. At the end of a block without an exception its status has to be `status`, unless it was killed; one without a
-    `count` is killed there. `log` has what it wrote on standard error, which is printed where the block ends with an exception."""
+    `words` are further options; `by` is a command that runs it; `variables` further variables of its environment; `given` a file that it
+    reads; `file_limit` the bytes that a file of it may have. At the end of a block without an exception its status has to be `status`, unless it
+    was killed; one without a `count` is killed there. `log` has what it wrote on standard error, which is printed where the block ends with an
+    exception."""
 
-    def __init__(self, desk, file, count, *words, variables=None, file_limit=None, status=0, port=0, by=()):
+    killed_by = signal.SIGKILL
+
+    def __init__(self, desk, file, count, *words, variables=None, given="/dev/null", file_limit=None, status=0, port=0, by=()):
         self.command = [*by, desk, "serve", str(file), "--port", str(port), "--count", str(count or 1_000_000), *words]
         self.log = Path(f"{file}.log")
-        self.variables = {**os.environ, **(variables or {})}
+        self.variables, self.given = {**os.environ, **(variables or {})}, given
         self.limits = (lambda: limit_files(file_limit)) if file_limit else None
         self.status, self.is_killed, self.is_endless = status, False, count is None
 
     def __enter__(self):
-        with open(self.log, "ab") as log:
-            self.process = subprocess.Popen(self.command, stdout=subprocess.PIPE, stderr=log, stdin=subprocess.DEVNULL,
+        with open(self.log, "ab") as log, open(self.given, "rb") as given:
+            self.process = subprocess.Popen(self.command, stdout=subprocess.PIPE, stderr=log, stdin=given,
                                             env=self.variables, preexec_fn=self.limits, restore_signals=False)
         line = self.process.stdout.readline().decode()
         if not line.startswith("listening on 127.0.0.1:"):
@@ -82,7 +85,7 @@ class Server:
 
     def kill(self):
         self.is_killed = True
-        self.process.kill()
+        self.process.send_signal(self.killed_by)
         self.process.wait()
 
     def __exit__(self, kind, _value, _trace):

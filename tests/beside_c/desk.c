@@ -438,7 +438,7 @@ int main(int count, char **words) {
     int listener = socket(AF_INET, SOCK_STREAM, 0);
     if (bind(listener, (struct sockaddr *)&address, len) || listen(listener, 128)) return perror("listen"), 1;
     getsockname(listener, (struct sockaddr *)&address, &len);
-    printf("%d\n", ntohs(address.sin_port));
+    printf("listening on 127.0.0.1:%d\n", ntohs(address.sin_port));
     fflush(stdout);
     for (;;) {
         int connection = accept(listener, NULL, NULL);

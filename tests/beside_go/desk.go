@@ -362,6 +362,6 @@ func main() {
 	server.SetKeepAlivesEnabled(false)
 	listener, err := net.Listen("tcp4", "127.0.0.1:0")
 	check(err)
-	fmt.Println(listener.Addr().(*net.TCPAddr).Port)
+	fmt.Printf("listening on 127.0.0.1:%d\n", listener.Addr().(*net.TCPAddr).Port)
 	check(server.Serve(listener))
 }
