@@ -1,6 +1,7 @@
 //! The writer of a run, with clients that come by the line of its server, and the clock of its
 //! machine.
 
+use crate::runs::Run;
 use crate::terminal::Full;
 use std::cell::Cell;
 use std::io::{self, ErrorKind, Read, Write};
@@ -13,9 +14,9 @@ const LOOPBACK: &str = "127.0.0.1:";
 /// Another address of the machine, where it doesn't.
 const BESIDE: &str = "127.0.0.2";
 
-/// Takes what a run writes, as far as there is room. Once the line of a server is there, a client
-/// for each request connects to where it says, and sends it, and the requests wait there for the
-/// server. So a server and its clients need one thread.
+/// Takes what a run writes, as far as there is room. Once the line of a server is there and is
+/// flushed, a client for each request connects to where it says, and sends it, and the requests
+/// wait there for the server. So a server and its clients need one thread.
 #[derive(Drop)]
 pub struct Caller<'a> {
     rt: &'a HostRuntime,
@@ -25,13 +26,14 @@ pub struct Caller<'a> {
 }
 
 impl<'a> Caller<'a> {
-    /// Clients with these requests, and this much room.
-    pub fn new(rt: &'a HostRuntime, requests: &'a [&'a str], room: usize) -> Caller<'a> {
+    /// The writer and the clients of a run.
+    pub fn new(rt: &'a HostRuntime, asked: &Run<'a>) -> Caller<'a> {
         Caller {
             rt,
-            requests,
+            requests: asked.requests,
             output: Full {
-                room,
+                room: asked.room,
+                flushes: asked.flushes,
                 taken: Vec::new(rt.alloc()),
             },
             clients: Vec::new(rt.alloc()),
@@ -93,6 +95,7 @@ impl Write for Caller<'_> {
     }
 
     fn flush(&mut self) -> io::Result<()> {
+        self.output.flush()?;
         if let Some(port) = self.port() {
             self.call(port)?;
             self.output.taken.clear();

@@ -1,6 +1,8 @@
 //! Ends that aren't the office's: a writer that fails, and a port in use.
 
 use crate::clubs::expect_over_clubs;
+use crate::expect::expect_eq;
+use crate::memory::{Scene, play};
 use crate::runs::{Row, expect_output, expect_rows, new_path, remove, run_command};
 use std::net::TcpListener;
 use std::test::Fail;
@@ -42,6 +44,50 @@ fn a_failing_writer(rt: HostRuntime) -> Result<(), Fail> {
     expect_full(&rt, path, "add-key", words, 40)?;
     expect_rows(&rt, path, &KEY_EXISTS)?;
     remove(&rt, path);
+    Ok(())
+}
+
+// How many bytes a run on this line writes, over a club in memory. It fails with its writer, which
+// takes them all and can't flush them, and logs nothing.
+fn unflushed(rt: &HostRuntime, line: &str, after: &[Row<'_>]) -> Result<usize, Fail> {
+    let scene = Scene {
+        flushes: false,
+        after,
+        ..Scene::after(&[])
+    };
+    let output = play(rt, &scene, line)?.output;
+    expect_output(rt, &Row(line, "", FULL), output.returned.as_str())?;
+    if output.log.is_empty() {
+        return Ok(output.taken);
+    }
+    Err("logged".into())
+}
+
+// Runs, the bytes of their texts, and a command after each.
+static UNFLUSHED: [(&str, usize, &[Row]); 3] = [
+    ("clubdesk --version", 15, &[]),
+    (
+        "clubdesk add-member club bob 5",
+        5,
+        &[Row("add-member", "bob 5", "1 refused: exists")],
+    ),
+    ("clubdesk sheet club 2026-05-01", 34, &[]),
+];
+
+// What was written may not have come through. A change that was made stays.
+#[test]
+fn a_writer_that_fails_to_flush(rt: HostRuntime) -> Result<(), Fail> {
+    for (line, len, after) in &UNFLUSHED {
+        expect_eq(&rt, &unflushed(&rt, line, after)?, len);
+    }
+    Ok(())
+}
+
+// If the line that says where it listens may not have come through, nobody is served.
+#[test]
+fn a_server_that_fails_to_flush(rt: HostRuntime) -> Result<(), Fail> {
+    let taken = unflushed(&rt, "clubdesk serve club --port 0 --count 1 --log", &[])?;
+    expect_eq(&rt, &(taken > 0), &true);
     Ok(())
 }
 

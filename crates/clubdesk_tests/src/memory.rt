@@ -1,7 +1,7 @@
 //! A database in memory, and runs of the program over it.
 
 use crate::callers::{Caller, Machine};
-use crate::runs::{Output, ROOM, Row, Run, expect_output, words_of};
+use crate::runs::{Output, Row, Run, expect_output, words_of};
 use crate::terminal::{Input, NO_INPUT};
 use club_core::{ClubStore, StoreFault};
 use club_http::WriteOutlet;
@@ -149,8 +149,10 @@ pub struct Scene<'a> {
     /// The clock of the machine, as `Machine` has it: its second and its microseconds.
     pub second: Option<u64>,
     pub later: u64,
-    /// The input of the run, and the requests of the clients of its server.
+    /// The input of the run, whether what it writes can be flushed, and the requests of the clients
+    /// of its server.
     pub input: Input<'a>,
+    pub flushes: bool,
     pub requests: &'a [&'a str],
     /// The commands after the run.
     pub after: &'a [Row<'a>],
@@ -166,6 +168,7 @@ impl<'a> Scene<'a> {
             second: Some(0),
             later: 0,
             input: NO_INPUT,
+            flushes: true,
             requests: &[],
             after: &[],
         }
@@ -191,7 +194,7 @@ fn run_in<D: Databases>(
 ) -> Result<Output, AllocError> {
     let words = words_of(rt, asked.line)?;
     let mut input = asked.input;
-    let mut caller = Caller::new(rt, asked.requests, asked.room);
+    let mut caller = Caller::new(rt, &asked);
     let mut log = Vec::new(rt.alloc());
     let mut lines = LogLines::new(WriteOutlet::new(&mut log), machine);
     let outcome = run(
@@ -244,10 +247,10 @@ fn run_scene<D: Databases>(
 ) -> Result<Output, Fail> {
     expect_in(rt, databases, scene.orders)?;
     let asked = Run {
-        line,
         input: scene.input,
-        room: ROOM,
+        flushes: scene.flushes,
         requests: scene.requests,
+        ..Run::of(line)
     };
     let machine = Machine::new(scene.second, scene.later);
     let output = run_in(rt, databases, &machine, asked)?;

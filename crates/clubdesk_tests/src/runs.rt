@@ -22,13 +22,14 @@ pub struct Row<'a>(pub &'a str, pub &'a str, pub &'a str);
 /// Room for all that a command writes.
 pub const ROOM: usize = 65_536;
 
-/// A run of the program: its line of words, its input, how much it may write, and the requests of
-/// the clients of its server.
+/// A run of the program: its line of words, its input, how much it may write, whether that can be
+/// flushed, and the requests of the clients of its server.
 #[derive(Clone, Copy)]
 pub struct Run<'a> {
     pub line: &'a str,
     pub input: Input<'a>,
     pub room: usize,
+    pub flushes: bool,
     pub requests: &'a [&'a str],
 }
 
@@ -39,6 +40,7 @@ impl<'a> Run<'a> {
             line,
             input: NO_INPUT,
             room: ROOM,
+            flushes: true,
             requests: &[],
         }
     }
@@ -141,7 +143,7 @@ fn run_over<D: Databases>(
 ) -> Result<Output, AllocError> {
     let words = words_of(rt, asked.line)?;
     let mut input = asked.input;
-    let mut caller = Caller::new(rt, asked.requests, asked.room);
+    let mut caller = Caller::new(rt, &asked);
     let mut log = Vec::new(rt.alloc());
     let mut lines = LogLines::new(WriteOutlet::new(&mut log), rt);
     let words = words.as_slice();

@@ -23,10 +23,11 @@ impl Read for Input<'_> {
     }
 }
 
-/// A writer with this much room, which fails once that is taken.
+/// A writer with this much room, which fails once that is taken, and flushes or fails to.
 #[derive(Drop)]
 pub struct Full {
     pub room: usize,
+    pub flushes: bool,
     pub taken: Vec<u8>,
 }
 
@@ -47,6 +48,10 @@ impl Write for Full {
     }
 
     fn flush(&mut self) -> io::Result<()> {
-        Ok(())
+        if self.flushes {
+            Ok(())
+        } else {
+            Err(io::Error::from(ErrorKind::BrokenPipe))
+        }
     }
 }
