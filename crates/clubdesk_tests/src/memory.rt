@@ -13,6 +13,7 @@ use std::cell::Cell;
 use std::io::{self, Write};
 use std::os::unix::net::UnixListener;
 use std::test::Fail;
+use test_kit::exchanges::BOOK_7;
 
 /// The name of the database.
 pub const NAME: &str = "club";
@@ -20,13 +21,22 @@ pub const NAME: &str = "club";
 /// What a server answers to an order: the status and the text, or nothing.
 pub type ServerAnswer<'a> = Option<(u8, &'a str)>;
 
-/// No door.
-#[derive(Drop)]
-pub struct NoDoor;
+/// A door by which nobody comes. When it is removed, it notes how often the database was closed.
+pub struct ShutDoor<'a> {
+    closed: &'a Cell<u64>,
+    removed: &'a Cell<Option<u64>>,
+}
 
-impl Door for NoDoor {
+impl Door for ShutDoor<'_> {
     fn listener(&self) -> Option<&UnixListener> {
         None
+    }
+}
+
+impl Drop for ShutDoor<'_> {
+    fn drop(self) {
+        let ShutDoor { closed, removed } = self;
+        removed.set(Some(closed.get()));
     }
 }
 
@@ -59,11 +69,12 @@ struct InMemory<'a, S: ClubStore + Drop> {
     opened: u64,
     closed: &'a Cell<u64>,
     handed: &'a Cell<usize>,
+    removed: &'a Cell<Option<u64>>,
 }
 
 impl<'a, S: ClubStore + Drop> InMemory<'a, S> {
     // A database that nobody opened yet, and where its closings and the bytes handed over are
-    // counted.
+    // counted, and the closings before a door was removed.
     fn new(
         rt: &'a HostRuntime,
         store: S,
@@ -71,6 +82,7 @@ impl<'a, S: ClubStore + Drop> InMemory<'a, S> {
         server: Option<ServerAnswer<'a>>,
         closed: &'a Cell<u64>,
         handed: &'a Cell<usize>,
+        removed: &'a Cell<Option<u64>>,
     ) -> InMemory<'a, S> {
         InMemory {
             rt,
@@ -80,6 +92,7 @@ impl<'a, S: ClubStore + Drop> InMemory<'a, S> {
             opened: 0,
             closed,
             handed,
+            removed,
         }
     }
 }
@@ -87,7 +100,7 @@ impl<'a, S: ClubStore + Drop> InMemory<'a, S> {
 impl<'a, S: ClubStore + Drop> Databases for InMemory<'a, S> {
     type Store = S;
 
-    type Door = NoDoor;
+    type Door = ShutDoor<'a>;
 
     type Visit = Greeted<'a>;
 
@@ -128,9 +141,12 @@ impl<'a, S: ClubStore + Drop> Databases for InMemory<'a, S> {
         self.store = Some(store);
     }
 
-    fn make_door(&self, name: &str) -> Result<NoDoor, StoreFault> {
+    fn make_door(&self, name: &str) -> Result<ShutDoor<'a>, StoreFault> {
         if name == NAME {
-            Ok(NoDoor)
+            Ok(ShutDoor {
+                closed: self.closed,
+                removed: self.removed,
+            })
         } else {
             Err(StoreFault::Storage)
         }
@@ -176,13 +192,15 @@ impl<'a> Scene<'a> {
 }
 
 /// How a run ended; and how often its database was opened and closed, before and after the run too,
-/// and how many bytes of an order were handed over last.
+/// how many bytes of an order were handed over last, and how often the database was closed when a
+/// server's door was removed.
 #[derive(Drop)]
 pub struct SceneOutcome {
     pub output: Output,
     opened: u64,
     closed: u64,
     pub handed: usize,
+    removed: Option<u64>,
 }
 
 // Runs the program over the database.
@@ -267,13 +285,23 @@ fn play_over<S: ClubStore + Drop>(
 ) -> Result<SceneOutcome, Fail> {
     let closed = Cell::new(0);
     let handed = Cell::new(0);
-    let mut databases = InMemory::new(rt, store, scene.fault, scene.server, &closed, &handed);
+    let removed = Cell::new(None);
+    let mut databases = InMemory::new(
+        rt,
+        store,
+        scene.fault,
+        scene.server,
+        &closed,
+        &handed,
+        &removed,
+    );
     let output = run_scene(rt, &mut databases, scene, line)?;
     Ok(SceneOutcome {
         output,
         opened: databases.opened,
         closed: closed.get(),
         handed: handed.get(),
+        removed: removed.get(),
     })
 }
 
@@ -374,7 +402,8 @@ fn watch_over<S: ClubStore + Drop>(
     line: &str,
 ) -> Result<Option<u64>, Fail> {
     let handed = Cell::new(0);
-    let mut databases = InMemory::new(rt, store, None, None, closed, &handed);
+    let removed = Cell::new(None);
+    let mut databases = InMemory::new(rt, store, None, None, closed, &handed, &removed);
     let mut writer = Watching {
         closed,
         found: None,
@@ -412,6 +441,24 @@ fn closed_before_the_answer_is_written(rt: HostRuntime) -> Result<(), Fail> {
         if found != Some(1) {
             return Err("written to while the database was open".into());
         }
+    }
+    Ok(())
+}
+
+static AMY: [Row; 1] = [Row("add-member", "amy 5", "0 done\n")];
+
+// Whoever opens the database next may make a door: that of the server before is removed by then.
+#[test]
+fn a_door_is_removed_before_the_database_is_closed(rt: HostRuntime) -> Result<(), Fail> {
+    let scene = Scene {
+        requests: &[BOOK_7],
+        ..Scene::after(&AMY)
+    };
+    let line = "clubdesk serve club --port 0 --count 1 --at 2026-04-20T12:00";
+    let played = play(&rt, &scene, line)?;
+    expect_openings(&played, 2, 2)?;
+    if played.removed != Some(1) {
+        return Err("the door was there when the database was closed".into());
     }
     Ok(())
 }
