@@ -174,6 +174,17 @@ def test_file_that_is_gone(made, is_replaced):
         assert not is_replaced or club.file.read_bytes() == made.file.read_bytes()
 
 
+def test_server_whose_file_was_replaced_leaves_the_door_of_the_next(made):
+    """The next one serves the file that took the name."""
+    club = made.copied_to(made.file.with_name("twice"))
+    with club.served(count=1) as first:
+        made.copied_to(club.file)
+        with club.served():
+            assert first.exchange(ACCOUNT.under(PASSES[1]).data).startswith(b"HTTP/1.1 200 ")
+            assert first.process.wait(10) == 0
+            ends(DONE, 1, club.program, "credit", club.file, "m2", "1")
+
+
 def test_door_in_a_folder_of_a_long_name(made):
     """The path of the door has more bytes than a socket's address may."""
     folder = made.file.with_name("f" * 120)

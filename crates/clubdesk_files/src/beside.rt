@@ -5,7 +5,7 @@ use std::alloc::AllocError;
 use std::fs::{File, OpenOptions};
 use std::io::ErrorKind;
 use std::os::fd::AsRawFd;
-use std::os::unix::fs::{FileTypeExt, OpenOptionsExt};
+use std::os::unix::fs::{FileTypeExt, MetadataExt, OpenOptionsExt};
 use std::path::Path;
 use std::{fs, io};
 
@@ -97,6 +97,30 @@ pub(crate) fn remove_socket(rt: &HostRuntime, path: &str) -> io::Result<()> {
         Ok(_) => Err(io::Error::from(ErrorKind::AlreadyExists)),
         Err(error) if error.kind() == ErrorKind::NotFound => Ok(()),
         Err(error) => Err(error),
+    }
+}
+
+/// The file of a socket, by its number in its file system.
+#[derive(Clone, Copy, Drop)]
+pub(crate) struct SocketFile {
+    inode: u64,
+}
+
+impl SocketFile {
+    /// The file at a path.
+    pub fn at(rt: &HostRuntime, path: &str) -> io::Result<SocketFile> {
+        let inode = fs::symlink_metadata(rt, path)?.ino();
+        Ok(SocketFile { inode })
+    }
+
+    /// Removes it from a path, if it is still what is there.
+    pub fn remove(self, rt: &HostRuntime, path: &str) {
+        match SocketFile::at(rt, path) {
+            Ok(found) if found.inode == self.inode => {
+                let _ = remove_socket(rt, path);
+            }
+            _ => {}
+        }
     }
 }
 

@@ -1,6 +1,6 @@
 //! The door of a server, in the file system: a socket beside the database, for its owner alone.
 
-use crate::beside::{IN_MEMORY, OWNERS_MODE, Place, remove_socket};
+use crate::beside::{IN_MEMORY, OWNERS_MODE, Place, SocketFile, remove_socket};
 use desk_server::Door;
 use libc::{fchmod, net as c};
 use std::io;
@@ -13,11 +13,11 @@ use std::rt::Files;
 /// How many orders may wait.
 const BACKLOG: i32 = 128;
 
-/// The socket of a server's door. It is removed when this is dropped. A database in memory has no
-/// door.
+/// The socket of a server's door. It is removed when this is dropped, unless the door of another
+/// server is there, whose file took the name of this one's. A database in memory has no door.
 pub struct FileDoor<'a> {
     rt: &'a HostRuntime,
-    at: Option<(Place, UnixListener)>,
+    at: Option<(Place, SocketFile, UnixListener)>,
 }
 
 impl<'a> FileDoor<'a> {
@@ -37,9 +37,10 @@ impl<'a> FileDoor<'a> {
         let path = place.door(rt)?;
         remove_socket(rt, path.as_str())?;
         let listener = bind_private(rt, path.as_str())?;
+        let made = SocketFile::at(rt, path.as_str())?;
         Ok(FileDoor {
             rt,
-            at: Some((place, listener)),
+            at: Some((place, made, listener)),
         })
     }
 }
@@ -63,7 +64,7 @@ fn bind_private(rt: &HostRuntime, path: &str) -> io::Result<UnixListener> {
 
 impl Door for FileDoor<'_> {
     fn listener(&self) -> Option<&UnixListener> {
-        let (_, listener) = self.at.as_ref()?;
+        let (_, _, listener) = self.at.as_ref()?;
         Some(listener)
     }
 }
@@ -71,9 +72,9 @@ impl Door for FileDoor<'_> {
 impl Drop for FileDoor<'_> {
     fn drop(self) {
         let FileDoor { rt, at } = self;
-        if let Some((place, _listener)) = at {
+        if let Some((place, made, _listener)) = at {
             if let Ok(path) = place.door(rt) {
-                let _ = remove_socket(rt, path.as_str());
+                made.remove(rt, path.as_str());
             }
         }
     }

@@ -27,7 +27,7 @@ pub struct FileVisit<'a> {
 pub(crate) enum Found<'a> {
     /// It has greeted.
     Greeted(FileVisit<'a>),
-    /// Nobody listens.
+    /// Nobody listens. So it is too where the database's name is too long for a door.
     Nobody,
     /// One listens, but doesn't greet in time; or the door can't be used, also for want of memory.
     Failed(StoreFault),
@@ -41,7 +41,9 @@ pub(crate) fn look<'a>(rt: &'a HostRuntime, file: &str) -> Found<'a> {
             Err(error) => Found::Failed(fault_of(&error)),
         },
         Err(error) => match error.kind() {
-            ErrorKind::NotFound | ErrorKind::ConnectionRefused => Found::Nobody,
+            ErrorKind::NotFound | ErrorKind::ConnectionRefused | ErrorKind::InvalidInput => {
+                Found::Nobody
+            }
             _ => Found::Failed(fault_of(&error)),
         },
     }

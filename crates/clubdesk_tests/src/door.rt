@@ -28,7 +28,8 @@ fn socket_mode(rt: &HostRuntime, path: &str) -> Option<u32> {
 /// The mode of a file that is its owner's alone.
 const OWN: Option<u32> = Some(0o600);
 
-// A door is its owner's alone, is removed when it is dropped, and takes the place of a stale one.
+// A door is its owner's alone, takes the place of one that is there, and is removed when it is
+// dropped: by itself, and not by the one that was there before.
 #[test]
 fn a_door_beside_its_file(rt: HostRuntime) -> Result<(), Fail> {
     let path = new_path(&rt, "door")?;
@@ -37,6 +38,7 @@ fn a_door_beside_its_file(rt: HostRuntime) -> Result<(), Fail> {
     let door = FileDoor::make(&rt, path.as_str())?;
     expect_eq(&rt, &socket_mode(&rt, place.as_str()), &OWN);
     let again = FileDoor::make(&rt, path.as_str())?;
+    drop(door);
     expect_eq(
         &rt,
         &UnixStream::connect(&rt, place.as_str()).is_ok(),
@@ -45,7 +47,6 @@ fn a_door_beside_its_file(rt: HostRuntime) -> Result<(), Fail> {
     expect_eq(&rt, &again.listener().is_some(), &true);
     drop(again);
     expect_eq(&rt, &socket_mode(&rt, place.as_str()), &None);
-    drop(door);
     remove(&rt, path.as_str());
     Ok(())
 }
@@ -87,6 +88,22 @@ fn no_door_over_a_file(rt: HostRuntime) -> Result<(), Fail> {
     fs::create_dir(&rt, place.as_str())?;
     expect_eq(&rt, &FileDoor::make(&rt, path.as_str()).is_err(), &true);
     fs::remove_dir(&rt, place.as_str())?;
+    remove(&rt, path.as_str());
+    Ok(())
+}
+
+static NO_SERVER: [Row; 2] = [
+    Row("serve", "--port 0 --count 1", "5 storage failed"),
+    Row("add-member", "amy 5", "1 refused: exists"),
+];
+
+// A file may have a name that is too long for a door: then it has no server, and commands open it.
+#[test]
+fn a_file_of_a_long_name(rt: HostRuntime) -> Result<(), Fail> {
+    let path = new_path(&rt, "long")?;
+    let path = format!(in rt.alloc(); "{path}-{:0>90}", 0)?;
+    expect_rows(&rt, path.as_str(), &AMY)?;
+    expect_rows(&rt, path.as_str(), &NO_SERVER)?;
     remove(&rt, path.as_str());
     Ok(())
 }
