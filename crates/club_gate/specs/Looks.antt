@@ -3,7 +3,6 @@ use Rattle.std.specs.Prelude.{◌≡◌, ◌⊎◌, ℕ, Bool, true, false, List
 use Rattle.std.specs.Fmt.{decimal}
 use Rattle.std.specs.String.{string_bytes}
 use Rattle.club_values.specs.Day.{day_text}
-use Rattle.club_values.specs.Digits.{two_digits}
 use Rattle.club_values.specs.Kind.{kind_text}
 use Rattle.club_values.specs.Moment.{moment_text}
 use Rattle.club_values.specs.declared.kind.Kind.{Kind}
@@ -39,7 +38,7 @@ yes_or_no false = codes "no"
 -- which slot it is
 abbrev pub values_of_slot : Slot → List (List ℕ × List ℕ)
 values_of_slot slot =
-    (codes "facility", slot.facility) ∷ (codes "day", day_text slot.day) ∷ (codes "hour", two_digits slot.hour) ∷ []
+    (codes "facility", slot.facility) ∷ (codes "day", day_text slot.day) ∷ (codes "hour", decimal slot.hour) ∷ []
 
 -- the facility's values, and what is taken of the slot
 abbrev pub values_of_state : Kind → ℕ → ℕ → ℕ → Bool → List (List ℕ × List ℕ)

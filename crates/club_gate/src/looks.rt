@@ -124,9 +124,10 @@ fn slot_name(alloc: Global, slot: &Slot) -> Result<String, AllocError>
     ensures { IfOk result
         (λ text. string_bytes text ≡ spec.lines (spec.values_of_slot slot.now)) }
 {
+    let hour = slot.hour.number();
     format!(in alloc;
-        "facility {}\nday {}\nhour {}\n",
-        slot.facility, slot.day, slot.hour
+        "facility {}\nday {}\nhour {hour}\n",
+        slot.facility, slot.day
     )
 }
 

@@ -247,6 +247,10 @@ const FULL: &str = "facility a-facility-of-24-letters\nday 2026-05-01\nhour 23\n
 const FREE: &str = "facility a\nday 2099-12-31\nhour 23\nkind boat\nprice 0\nplaces 1\ntaken 0\n\
     closed no\n";
 
+// An hour below ten has one digit, as in a reply.
+const FIRST: &str = "facility a\nday 2000-01-01\nhour 0\nkind boat\nprice 0\nplaces 1\ntaken 0\n\
+    closed no\n";
+
 const SHEET: &str = "\
 Day sheet 2026-05-01
 a-facility-of-24-letters 23:00 a-key-name-of-24-letters 999999999 50 499950
@@ -260,7 +264,7 @@ fn prints<S: ClubStore>(rt: &impl Abort, desk: &mut Desk<S>) {
         let shown = desk.show_account(&name(rt, key.as_bytes()), noon);
         expect_eq(rt, &shown.expect(rt, "a look").as_str(), &want);
     }
-    for (slot, want) in [(AT_23, FULL), (LAST_HOUR, FREE)] {
+    for (slot, want) in [(AT_23, FULL), (FIRST_HOUR, FIRST), (LAST_HOUR, FREE)] {
         let shown = desk.show_slot(&slot.slot().expect(rt, "a slot"));
         expect_eq(rt, &shown.expect(rt, "a look").as_str(), &want);
     }

@@ -99,7 +99,7 @@ fn slots_and_sheets(rt: HostRuntime) -> Result<(), Fail> {
 }
 
 // Amy booked one place of court-1 at 20 for 200 points.
-static LOOKS: [Row; 7] = [
+static LOOKS: [Row; 8] = [
     Row(
         "show-account",
         "amy-1 --at 2026-05-01T19:59",
@@ -127,6 +127,12 @@ static LOOKS: [Row; 7] = [
         "court-1 2026-05-01 19",
         "0 facility court-1\nday 2026-05-01\nhour 19\nkind court\nprice 200\nplaces 4\n\
         taken 0\nclosed yes\n",
+    ),
+    Row(
+        "show-slot",
+        "court-1 2026-05-01 08",
+        "0 facility court-1\nday 2026-05-01\nhour 8\nkind court\nprice 200\nplaces 4\n\
+        taken 0\nclosed no\n",
     ),
     Row("show-slot", "court-2 2026-05-01 20", "1 refused: unknown"),
 ];
