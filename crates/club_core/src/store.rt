@@ -127,10 +127,4 @@ pub trait ClubStore {
     ghost sound: { (store : Self) (club : Club) (others : List Club)
         → represents store club others
         → All IsSound (club ∷ others) };
-
-    // adding a sound club to the possible crash states is allowed: the claim only gets weaker
-    ghost widens: { (store : Self) (club other : Club) (others : List Club)
-        → represents store club others
-        → IsSound other
-        → represents store club (other ∷ others) };
 }

@@ -90,8 +90,6 @@ impl<S: ClubStore> ClubStore for Refusing<S> {
 
     ghost sound = { λ store club others represents. absurd represents };
 
-    ghost widens = { λ store club other others represents sound. represents };
-
     fn key_row(&mut self, name: &Name) -> Result<Option<Key>, StoreFault> {
         count(&mut self.asked.keys);
         self.count_call()?;

@@ -11,7 +11,6 @@ impl<S: Alter> ClubStore for Store<S> {
     ghost use Rattle.sqlite.specs.Held.{state};
     ghost use Rattle.club_tables.specs.ReadsAndChanges.{sound_in};
     ghost use Rattle.club_store.specs.Failing.{Fails};
-    ghost use Rattle.club_store.specs.Widened.{sound_widened};
 
     ghost represents = { sound_in S.Store };
 
@@ -64,6 +63,4 @@ impl<S: Alter> ClubStore for Store<S> {
     }
 
     ghost sound = { λ store club others represents. represents.0 };
-
-    ghost widens = { λ store club other others. sound_widened _ club other others };
 }
