@@ -31,9 +31,9 @@ TWINS = {
     "◌>>=◌": "the bind of `do`, which each kind of result has",
     "Entry table_of": "points in a reply and tables of SQL, and a row of a program's table of commands",
     "header_at caveat_at optional_at wide_at": "the readings of V1 and V2 say the same of two layouts",
-    "ArgumentRefusal": "why arguments ask for no command, in both programs",
-    "ReadsWords AnswersAsked AsksText IsFaultOf of_words": "what both programs make of their arguments",
-    "IsNotText fault_line fault_status": "the faults of both programs, their lines and statuses",
+    "Answers": "what rows of tables answer, and what a call returns for what arguments ask",
+    "ReadsWords of_words": "what both programs make of their arguments",
+    "fault_line fault_status": "the faults of both programs, their lines and statuses",
 }
 UNITS = re.compile("byte|bit|character|letter|digit|column|line|caveat|pass|place|person|guest|booking|point|day|hour|minute|second|moment|year|name|fault"
                    "|status|connection|port|version|row|request|key|field|case|number|memory|count|length", re.IGNORECASE)

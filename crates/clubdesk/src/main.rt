@@ -2,17 +2,13 @@
 //! arguments and standard streams, over databases in files.
 #![tactic(auto)]
 
-ghost use Rattle.std.specs.Prelude.{IfErr};
-ghost use Rattle.clubdesk_arguments.specs.Fault.{IsNotText};
-
 use club_http::WriteOutlet;
-use clubdesk_arguments::{Fault, not_text};
+use clubdesk_arguments::{CommandName, Fault};
 use clubdesk_commands::run;
 use clubdesk_files::{DatabasesUser, run_over_files};
-use command_line::report;
+use command_line::{given_words, report};
 use desk_server::{Databases, LogLines};
 use std::process::ExitCode;
-use std::{env, io};
 
 fn main(rt: HostRuntime) -> ExitCode {
     let status = match run_over_files(&rt, Program { rt: &rt }) {
@@ -38,7 +34,7 @@ impl DatabasesUser for Program<'_> {
 
     fn run_over<D: Databases>(self, databases: &mut D) -> Result<(), Fault> {
         let rt = self.rt;
-        let words = given_words(rt)?;
+        let words = given_words::<HostRuntime, CommandName, ()>(rt)?;
         let mut log = LogLines::new(WriteOutlet::new(rt.stderr()), rt);
         run(
             rt,
@@ -49,15 +45,5 @@ impl DatabasesUser for Program<'_> {
             &mut rt.stdout(),
             &mut log,
         )
-    }
-}
-
-fn given_words(rt: &HostRuntime) -> Result<Vec<String>, Fault>
-    ensures { IfErr result IsNotText }
-{
-    match env::args(rt) {
-        Ok(words) => Ok(words.collect(rt.alloc())?),
-        Err(error) if error.kind() == io::ErrorKind::OutOfMemory => Err(Fault::Memory),
-        Err(_) => Err(not_text(rt.alloc())),
     }
 }

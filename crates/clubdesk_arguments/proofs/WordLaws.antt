@@ -15,14 +15,13 @@ use Rattle.clubdesk_arguments.specs.Application.{clubdesk, log_flag, root_flag}
 use Rattle.clubdesk_arguments.specs.JobModel.{JobModel}
 use Rattle.clubdesk_arguments.specs.Laws.{CommandsTakeTheirWords}
 use Rattle.clubdesk_arguments.specs.Values.{parse_number, patience_of}
-use Rattle.clubdesk_arguments.specs.Words.{asked_job, job_found, job_of_words}
+use Rattle.clubdesk_arguments.specs.Words.{asked_work, job_of}
 use Rattle.clubdesk_arguments.specs.declared.table.CommandName.{CommandName}
 use Rattle.clubdesk_arguments.specs.declared.table.CommandName.TheVariants as row
 
 -- words that clap reads ask for the job of the row that it found
 asked_is : (words : List Text) (name : CommandName) (rows : List Row) (job : JobModel) → refusals clubdesk words ≡ []
-    → asked clubdesk words ≡ Some (name, rows) → job_found (Some (name, rows)) ≡ Ok job → asked_job words ≡ Some job
-unfolding job_of_words
+    → asked clubdesk words ≡ Some (name, rows) → job_of name rows ≡ Ok job → asked_work words ≡ Some job
 asked_is words name rows job clear same is = rw (clear, same, is) refl
 
 -- what clap finds of a word or an option, and of an option that was left out

@@ -1,8 +1,6 @@
 -- The exit status and the line of each fault (ours).
-use Rattle.std.specs.Prelude.{◌≡◌, ℕ, List, ◌++◌, Option, Some, None, codes}
+use Rattle.std.specs.Prelude.{ℕ, List, ◌++◌, Option, Some, None, codes}
 use Rattle.std.specs.String.{string_bytes}
-use Rattle.clap.specs.Words.{kind_of}
-use Rattle.clap.specs.declared.error.kind.ErrorKind.TheVariants as kind
 use Rattle.command_line.specs.declared.errors.WordsFault.{WordsFault}
 use Rattle.command_line.specs.declared.errors.WordsFault.TheVariants as words
 use Rattle.club_core.specs.Faults.{office_fault_text}
@@ -24,8 +22,9 @@ fault_status NoAnswer = 8
 fault_status (Answered status line) = status
 
 -- the fault of refused words
-abbrev pub of_words : WordsFault → Fault
+abbrev pub of_words : WordsFault Unit → Fault
 of_words (words.Refused error) = Words error
+of_words (words.BadValue value) = BadValue
 of_words words.Memory = Memory
 
 -- the program's fault for a database that can't be opened
@@ -44,9 +43,3 @@ fault_line ClockOutOfRange = Some (codes "clock out of range")
 fault_line InputOutput = Some (codes "input or output failed")
 fault_line NoAnswer = Some (codes "no answer")
 fault_line (Answered status line) = Some (string_bytes line)
-
--- the faults of words that aren't UTF-8
-abbrev pub IsNotText : Fault → Type 0
-IsNotText (Words error) = kind_of error ≡ kind.ValueValidation
-IsNotText Memory = Unit {0}
-IsNotText _ = ⊥

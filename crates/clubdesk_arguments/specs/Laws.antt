@@ -9,7 +9,7 @@ use Rattle.pass_forms.specs.declared.form.Form.TheVariants.{V2}
 use Rattle.command_line.specs.FormName.{form_name}
 use Rattle.clubdesk_arguments.specs.Values.{count_of, parse_number, patience_of, port_of, key_root_of}
 use Rattle.club_clock.specs.Zone.{zone_of}
-use Rattle.clubdesk_arguments.specs.Words.{asked_job}
+use Rattle.clubdesk_arguments.specs.Words.{asked_work}
 use Rattle.clubdesk_arguments.specs.declared.clock.Clock.TheVariants.{Fixed, InZone}
 use Rattle.clubdesk_arguments.specs.declared.task.KeyChange.TheVariants.{Add, Rotate}
 use Rattle.clubdesk_arguments.specs.declared.task.KeyOrder.{KeyOrder}
@@ -19,7 +19,7 @@ use Rattle.clubdesk_arguments.specs.declared.task.Work.TheVariants.{Office, Root
 
 -- words ask for this over a file
 abbrev pub AsksFor : List Text → Text → Work → Type 0
-AsksFor words file work = asked_job words ≡ Some (record { file = file; work = work })
+AsksFor words file work = asked_work words ≡ Some (record { file = file; work = work })
 
 abbrev added : Text → Text → Form → KeyOrder
 added key member form = record { name = key; change = Add member; form = form }

@@ -3,10 +3,9 @@
 ghost use Rattle.std.specs.Prelude.{◌≡◌, option_map};
 ghost use Rattle.clap.specs.Words.{found_of, rows_of};
 ghost use Rattle.clubdesk_arguments.specs.Words as spec;
-ghost use Rattle.clubdesk_arguments.specs.Words.{AnswersAsked};
+ghost use Rattle.command_line.specs.Job.{Answers};
 
 use crate::clock::Clock;
-use crate::fault::Fault;
 use crate::options::{given, moment_word, name_of, number_at, root_and_form, rotation_word};
 use crate::table::CommandName;
 use crate::task::{KeyChange, KeyOrder, Service, Task, Work};
@@ -15,7 +14,7 @@ use clap::ArgMatches;
 use club_clock::Zone;
 use club_core::Command;
 use club_values::{Day, Hour, Kind, Moment, Slot};
-use command_line::{is_set, value_of};
+use command_line::{WordsFault, is_set, value_of};
 use pass_forms::Form;
 use std::alloc::Global;
 
@@ -23,13 +22,13 @@ use std::alloc::Global;
 ///
 /// # Errors
 ///
-/// As `command_of`, of which `clap` found the command.
+/// As the job, of which `clap` found the command.
 pub fn work_of<'a>(
     alloc: Global,
     name: CommandName,
     words: &ArgMatches<'a>,
-) -> Result<Work<'a>, Fault>
-    ensures { AnswersAsked (spec.work_named name (rows_of (found_of words.now))) result }
+) -> Result<Work<'a>, WordsFault<()>>
+    ensures { Answers (spec.work_named name (rows_of (found_of words.now))) result }
 {
     match name {
         CommandName::AddMember => or_bad_value(add_member(words)),
@@ -214,8 +213,8 @@ fn clock_of<'a>(zone: Zone<'a>, at: Option<&str>) -> Option<Clock<'a>>
     }
 }
 
-fn or_bad_value(work: Option<Work<'_>>) -> Result<Work<'_>, Fault>
-    ensures { AnswersAsked (spec.unless_bad work.entry) result }
+fn or_bad_value(work: Option<Work<'_>>) -> Result<Work<'_>, WordsFault<()>>
+    ensures { Answers (spec.unless_bad work.entry) result }
 {
-    work.ok_or(Fault::BadValue)
+    work.ok_or(WordsFault::BadValue(()))
 }

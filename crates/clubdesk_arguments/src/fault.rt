@@ -94,15 +94,16 @@ impl From<io::Error> for Fault {
     }
 }
 
-impl From<WordsFault> for Fault {
+impl From<WordsFault<()>> for Fault {
     ghost use Rattle.std.specs.Prelude.{◌≡◌};
     ghost use Rattle.clubdesk_arguments.specs.Fault.{of_words};
 
     ghost from_gives = { λ returned fault. fault ≡ of_words returned };
 
-    fn from(returned: WordsFault) -> Fault {
+    fn from(returned: WordsFault<()>) -> Fault {
         match returned {
             WordsFault::Refused(error) => Fault::Words(error),
+            WordsFault::BadValue(()) => Fault::BadValue,
             WordsFault::Memory => Fault::Memory,
         }
     }

@@ -14,7 +14,6 @@ mod words;
 
 pub use clock::Clock;
 pub use fault::Fault;
-pub use table::not_text;
+pub use table::CommandName;
 pub use task::{Job, KeyChange, KeyOrder, Service, Task, Work};
 pub use values::root_of;
-pub use words::{Asked, command_of};

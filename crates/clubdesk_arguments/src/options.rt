@@ -1,17 +1,15 @@
 //! The words and options of a command, out of what `clap` found.
 
-ghost use Rattle.std.specs.Prelude.{◌≡◌, Err, option_map};
+ghost use Rattle.std.specs.Prelude.{◌≡◌, option_map};
 ghost use Rattle.clap.specs.Words.{first_of, found_of, rows_of};
 ghost use Rattle.clubdesk_arguments.specs.Words as spec;
-ghost use Rattle.clubdesk_arguments.specs.Words.{AnswersAsked, IsFaultFor, refused_as};
 
-use crate::fault::Fault;
-use crate::table::CLUBDESK;
+use crate::table::CommandName;
 use crate::values::parse_number;
 use clap::ArgMatches;
 use clap::error::ErrorKind;
 use club_values::Name;
-use command_line::{form_fault, is_set, make_application, read_value, value_of, words_fault};
+use command_line::{WordsFault, is_set, read_form, value_of, words_fault};
 use pass_forms::Form;
 use std::alloc::Global;
 
@@ -63,50 +61,30 @@ pub fn moment_word<'a>(words: &ArgMatches<'a>) -> &'a str
 ///
 /// # Errors
 ///
-/// `Words` where there is neither the word nor the flag, or both, or else where the form is none of
-/// the three; `Memory`.
+/// `Refused` where there is neither the word nor the flag, or both, or else where the form is none
+/// of the three; `Memory`.
 pub fn root_and_form<'a>(
     alloc: Global,
     words: &ArgMatches<'_>,
     word: Option<&'a str>,
-) -> Result<(Option<&'a str>, Form), Fault>
+) -> Result<(Option<&'a str>, Form), WordsFault<()>>
     ensures { spec.AnswersRoot (spec.root_and_form_in (option_map (λ text. text.now) word.entry)
         (rows_of (found_of words.now))) result }
 {
     match (word, is_set(words, "root-stdin")) {
-        (Some(_), true) => Err(argument_fault(
+        (Some(_), true) => Err(words_fault::<CommandName, ()>(
             alloc,
             ErrorKind::ArgumentConflict,
             "the argument '<ROOT>' cannot be used with '--root-stdin'",
         )),
-        (None, false) => Err(argument_fault(
+        (None, false) => Err(words_fault::<CommandName, ()>(
             alloc,
             ErrorKind::MissingRequiredArgument,
             "one of these is required: <ROOT>, --root-stdin",
         )),
-        (word, _) => match form_of(alloc, words) {
+        (word, _) => match read_form::<CommandName, ()>(alloc, words) {
             Ok(form) => Ok((word, form)),
             Err(fault) => Err(fault),
         },
-    }
-}
-
-// A fault of the words that clap doesn't find itself.
-fn argument_fault(alloc: Global, kind: ErrorKind, message: &str) -> Fault
-    ensures { IsFaultFor {A = Unit} (Err (refused_as kind)) result }
-{
-    Fault::from(words_fault(make_application(alloc, &CLUBDESK), kind, message))
-}
-
-// The form that `--form` names.
-fn form_of(alloc: Global, words: &ArgMatches<'_>) -> Result<Form, Fault>
-    ensures { AnswersAsked (spec.form_given (rows_of (found_of words.now))) result }
-{
-    match read_value(words, "form") {
-        Some(form) => Ok(form),
-        None => {
-            let (application, name) = (make_application(alloc, &CLUBDESK), value_of(words, "form"));
-            Err(Fault::from(form_fault(alloc, application, name)))
-        }
     }
 }

@@ -1,10 +1,10 @@
 //! The commands and their arguments, with their help texts.
 
-ghost use Rattle.clubdesk_arguments.specs.Fault.{IsNotText};
+ghost use Rattle.clubdesk_arguments.specs.Application.{clubdesk};
 
-use crate::fault::Fault;
-use command_line::{Argument, Program, Row, make_application, text_fault};
-use std::alloc::Global;
+use clap::Command;
+use command_line::{Argument, Commands, Program, Row, command_named, make_application};
+use std::alloc::{AllocError, Global};
 
 /// The commands by their names.
 #[derive(Clone, Copy)]
@@ -171,7 +171,7 @@ const SERVE_ARGUMENTS: &[Argument] = &[
 ];
 
 /// The program.
-pub static CLUBDESK: Program<CommandName> = Program {
+static CLUBDESK: Program<CommandName> = Program {
     name: "clubdesk",
     about: "The desk of a club: its office, its day sheet and its server",
     statuses: STATUSES,
@@ -260,9 +260,16 @@ pub static CLUBDESK: Program<CommandName> = Program {
     ],
 };
 
-/// The fault of words that aren't UTF-8, which `clap` never sees here.
-pub fn not_text(alloc: Global) -> Fault
-    ensures { IsNotText result }
-{
-    Fault::from(text_fault(make_application(alloc, &CLUBDESK)))
+impl Commands for CommandName {
+    ghost table = { clubdesk };
+
+    #[tactic(auto, using(crate::proofs::WordsLemmas::is_good), unfolding(crate::specs::Application::clubdesk))]
+    fn application<'a>(alloc: Global) -> Result<Command<'a>, AllocError> {
+        make_application(alloc, &CLUBDESK)
+    }
+
+    #[tactic(auto, unfolding(crate::specs::Application::clubdesk))]
+    fn named(name: &str) -> Option<CommandName> {
+        command_named(CLUBDESK.rows, name)
+    }
 }

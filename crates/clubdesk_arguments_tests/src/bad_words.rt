@@ -2,7 +2,8 @@
 
 use crate::expect::expect_end;
 use crate::tasks::words_of;
-use clubdesk_arguments::{Asked, Fault, command_of, not_text};
+use clubdesk_arguments::{CommandName, Fault, Job};
+use command_line::{Asked, WordsFault, read_job, text_fault};
 use std::process::Abort;
 use test_kit::End::{Begins, Prints};
 use test_kit::{End, Output, form_line};
@@ -16,9 +17,10 @@ fn output_of_fault(rt: &(impl Abort + AllocGlobal), fault: &Fault) -> Output {
 
 // The status and the line of the fault of words that are refused.
 fn output_of(rt: &(impl Abort + AllocGlobal), words: &[&str]) -> Output {
-    match command_of(rt.alloc(), words) {
+    let asked: Result<Asked<Job<'_>>, WordsFault<()>> = read_job(rt.alloc(), words);
+    match asked {
         Ok(_) => panic!(rt; "{words:?}"),
-        Err(fault) => output_of_fault(rt, &fault),
+        Err(fault) => output_of_fault(rt, &Fault::from(fault)),
     }
 }
 
@@ -198,7 +200,7 @@ const NOT_TEXT: End = Prints(
 
 #[test]
 fn words_that_are_no_text(rt: HostRuntime) {
-    let fault = not_text(rt.alloc());
+    let fault = Fault::from(text_fault::<CommandName, ()>(rt.alloc()));
     expect_end(&rt, &output_of_fault(&rt, &fault), &NOT_TEXT);
 }
 
@@ -214,7 +216,8 @@ static HELP: [&str; 8] = [
 ];
 
 fn help_of(rt: &(impl Abort + AllocGlobal), words: &[&str]) -> String {
-    match command_of(rt.alloc(), words) {
+    let asked: Result<Asked<Job<'_>>, WordsFault<()>> = read_job(rt.alloc(), words);
+    match asked {
         Ok(Asked::ShowText(help)) => help.to_string(rt.alloc()).expect(rt, "memory"),
         _ => panic!(rt; "{words:?}"),
     }

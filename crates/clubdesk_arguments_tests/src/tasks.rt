@@ -2,9 +2,8 @@
 
 use crate::expect::expect_case;
 use club_rows::Root;
-use clubdesk_arguments::{
-    Asked, Clock, KeyChange, KeyOrder, Service, Task, Work, command_of, laws,
-};
+use clubdesk_arguments::{Clock, Job, KeyChange, KeyOrder, Service, Task, Work, laws};
+use command_line::{Asked, WordsFault, read_job};
 use std::alloc::AllocError;
 use std::fmt::Write;
 use std::process::Abort;
@@ -90,7 +89,7 @@ fn work_text(rt: &(impl Abort + AllocGlobal), work: &Work<'_>) -> String {
 // The words of a line ask for this, over this file.
 fn expect_asked(rt: &(impl Abort + AllocGlobal), line: &str, file: &str, want: &str) {
     let words = words_of(rt, line);
-    let asked = command_of(rt.alloc(), words.as_slice());
+    let asked: Result<Asked<Job<'_>>, WordsFault<()>> = read_job(rt.alloc(), words.as_slice());
     match &asked {
         Ok(Asked::Perform(job)) => {
             let work = work_text(rt, &job.work);

@@ -1,5 +1,5 @@
 -- How work ends, and when it writes nothing.
-use Rattle.std.proofs.Common.{◌≡◌, ℕ, List, Option, Result, Ok, Err, ap, subst, sym, ◌∙◌}
+use Rattle.std.proofs.Common.{◌≡◌, ℕ, List, Option, Some, Result, Ok, Err, ap, subst, sym, ◌∙◌}
 use Rattle.clap.specs.Words.{Text}
 use Rattle.club_core.specs.Club.{Club}
 use Rattle.club_core.specs.declared.command.Command.{Command}
@@ -23,8 +23,9 @@ use Rattle.clubdesk_arguments.specs.declared.task.Service.{Service}
 use Rattle.clubdesk_arguments.specs.declared.task.Task.{Task}
 use Rattle.clubdesk_arguments.specs.declared.task.Task.TheVariants.{Order, Key, Sheet, ShowAccount, ShowSlot}
 use Rattle.clubdesk_arguments.specs.declared.task.Work.{Work}
-use Rattle.clubdesk_arguments.specs.declared.words.Asked.{Asked}
-use Rattle.clubdesk_arguments.specs.declared.words.Asked.TheVariants.{Perform}
+use Rattle.command_line.specs.declared.errors.WordsFault.{WordsFault}
+use Rattle.command_line.specs.declared.job.Asked.{Asked}
+use Rattle.command_line.specs.declared.job.Asked.TheVariants.{Perform}
 use Rattle.clubdesk_commands.specs.Does.{AskFor, Does}
 use Rattle.clubdesk_commands.specs.Looks as looks
 use Rattle.clubdesk_commands.specs.Office as office
@@ -35,11 +36,15 @@ use Rattle.clubdesk_commands.specs.Run.{Announces, EndsWork, IsHandedOver, IsRep
 use Rattle.clubdesk_commands.specs.Run as spec
 
 -- words that were read as a job ask for its work
-pub asks_for : (given words : List Text) (read : Asked) (job whole : JobModel) (work : Work) → given ≡ words → ReadsWords given (Ok read)
+pub asks_for : (given words : List Text) (read : Asked JobModel) (job whole : JobModel) (work : Work) → given ≡ words → ReadsWords given (Ok read)
     → read ≡ Perform whole → job ≡ whole → job.work ≡ work → AskFor words job.file work
 asks_for given words read job whole work same reads is as_whole asked =
     let reads_job : ReadsWords words (Ok (Perform whole)) = rw (← same) (rw is at reads) in
-    (reads_job.0, reads_job.1 ∙ ap (λ (it : JobModel). Ok it) (sym as_whole) ∙ ap (λ (it : Work). Ok (record { file = job.file; work = it })) asked)
+    reads_job ∙ ap (λ (it : JobModel). Some (Ok it)) (sym as_whole) ∙ ap (λ (it : Work). Some (Ok (record { file = job.file; work = it }))) asked
+
+-- equal words have the same fault
+pub refused_alike : (given words : List Text) (fault : WordsFault Unit) → given ≡ words → ReadsWords given (Err fault) → ReadsWords words (Err fault)
+refused_alike given words fault same = subst (λ (texts : List Text). ReadsWords texts (Err fault)) same
 
 -- an answer that is no fault of the words
 abbrev IsAnswer : Result (List ℕ) Fault → Type 0

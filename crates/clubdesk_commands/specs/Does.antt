@@ -12,7 +12,7 @@ use Rattle.clubdesk_arguments.specs.declared.task.KeyChange.TheVariants.{Add, Ro
 use Rattle.clubdesk_arguments.specs.declared.task.Task.{Task}
 use Rattle.clubdesk_arguments.specs.declared.task.Task.TheVariants.{Order, Key, Sheet, ShowAccount, ShowSlot}
 use Rattle.clubdesk_arguments.specs.declared.task.Work.{Work}
-use Rattle.clubdesk_arguments.specs.declared.words.Asked.TheVariants.{Perform}
+use Rattle.command_line.specs.declared.job.Asked.TheVariants.{Perform}
 use Rattle.clubdesk_commands.specs.Looks.{IsAccountShown, Looks, ShowsSlot}
 use Rattle.clubdesk_commands.specs.Office.{GivesText, IsAnswered, IsPassLine, IsSheetRead, pass_text}
 

@@ -5,7 +5,9 @@ use Rattle.clap.specs.Words.{Text}
 use Rattle.clap.specs.declared.error.Error.{Error}
 use Rattle.club_core.specs.Club.{Club}
 use Rattle.desk_server.specs.declared.office.Answer.{Answer}
-use Rattle.clubdesk_arguments.specs.Fault.{fault_line, fault_status}
+use Rattle.command_line.specs.declared.errors.WordsFault.{WordsFault}
+use Rattle.command_line.specs.declared.job.Asked.TheVariants.{ShowText}
+use Rattle.clubdesk_arguments.specs.Fault.{fault_line, fault_status, of_words}
 use Rattle.clubdesk_arguments.specs.Words.{ReadsWords}
 use Rattle.clubdesk_arguments.specs.declared.fault.Fault.{Fault}
 use Rattle.clubdesk_arguments.specs.declared.fault.Fault.TheVariants.{BadValue}
@@ -14,7 +16,6 @@ use Rattle.clubdesk_arguments.specs.declared.task.Service.{Service}
 use Rattle.clubdesk_arguments.specs.declared.task.Task.{Task}
 use Rattle.clubdesk_arguments.specs.declared.task.Task.TheVariants.{Key}
 use Rattle.clubdesk_arguments.specs.declared.task.Work.TheVariants.{Office, Rootless, Serve}
-use Rattle.clubdesk_arguments.specs.declared.words.Asked.TheVariants.{ShowText}
 use Rattle.clubdesk_commands.specs.Does.{AskFor, Does}
 use Rattle.clubdesk_commands.specs.Input.{root_in_input}
 use Rattle.clubdesk_commands.specs.Order.{IsOrder, SpellsNoOrder}
@@ -41,7 +42,7 @@ module _ {Store : Type 0} (Clean : Store → Type 0) (Represents : Store → Clu
         → Does Clean Represents (Key order given) answer old new → DoesWords root words answer old new
     root_refused : (file : Text) (order : KeyOrder) → AskFor words file (Rootless order) → root_in_input root ≡ None → answer ≡ Err BadValue
         → new ≡ old → DoesWords root words answer old new
-    words_refused : (fault : Fault) → ReadsWords words (Err fault) → answer ≡ Err fault → new ≡ old → DoesWords root words answer old new
+    words_refused : (fault : WordsFault Unit) → ReadsWords words (Err fault) → answer ≡ Err (of_words fault) → new ≡ old → DoesWords root words answer old new
 
   -- An order is done once. Bytes that spell none, and words that ask for nothing of the office's, change nothing.
   pub data Orders (bytes : List ℕ) (old : Store) (answer : Answer) (new : Store) : Type 0 where

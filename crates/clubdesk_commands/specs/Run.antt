@@ -11,6 +11,8 @@ use Rattle.club_core.specs.Club.{Club}
 use Rattle.club_http.specs.Desk.{AnswersBy}
 use Rattle.club_http.specs.Replied.{AnswerRelation}
 use Rattle.command_line.specs.Output.{AppendsFront}
+use Rattle.command_line.specs.declared.errors.WordsFault.{WordsFault}
+use Rattle.command_line.specs.declared.job.Asked.TheVariants.{ShowText}
 use Rattle.desk_server.specs.Databases.{Giving}
 use Rattle.desk_server.specs.Served.{AreServed, Ends, IsStopped, Turn, clients_in}
 use Rattle.desk_server.specs.Served as served
@@ -18,7 +20,7 @@ use Rattle.desk_server.specs.declared.databases.Databases.{Ghosts as DatabasesWo
 use Rattle.desk_server.specs.declared.databases.Reached.TheVariants.{Opened, Served}
 use Rattle.desk_server.specs.declared.databases.Visit.{Ghosts as VisitWords}
 use Rattle.desk_server.specs.declared.serve.ClockOutOfRange.{ClockOutOfRange as ClockFault}
-use Rattle.clubdesk_arguments.specs.Fault.{fault_of_opening}
+use Rattle.clubdesk_arguments.specs.Fault.{fault_of_opening, of_words}
 use Rattle.clubdesk_arguments.specs.Words.{ReadsWords}
 use Rattle.clubdesk_arguments.specs.declared.clock.Clock.{Clock}
 use Rattle.clubdesk_arguments.specs.declared.fault.Fault.{Fault}
@@ -28,7 +30,6 @@ use Rattle.clubdesk_arguments.specs.declared.task.Service.{Service}
 use Rattle.clubdesk_arguments.specs.declared.task.Task.{Task}
 use Rattle.clubdesk_arguments.specs.declared.task.Task.TheVariants.{Key}
 use Rattle.clubdesk_arguments.specs.declared.task.Work.TheVariants.{Office, Rootless, Serve}
-use Rattle.clubdesk_arguments.specs.declared.words.Asked.TheVariants.{ShowText}
 use Rattle.clubdesk_commands.specs.Does.{AskFor, Does}
 use Rattle.clubdesk_commands.specs.Input.{TakesRoot}
 use Rattle.clubdesk_commands.specs.Looks.{showing}
@@ -161,8 +162,8 @@ module _ {D S R V : Type 0} (databases : DatabasesWords D S R V) (visits : Visit
   -- What a run on these words did.
   pub data Runs (words : List Text) (given : Input) (old new : D) (written : Output) (log : LogChange) (result : Result Unit Fault) : Type 0 where
     -- They have a fault, or memory was refused, and nothing was done.
-    words_refused : (fault : Fault) → ReadsWords words (Err fault) → result ≡ Err fault → given.no_change → new ≡ old → written.no_change → log.no_change
-        → Runs words given old new written log result
+    words_refused : (fault : WordsFault Unit) → ReadsWords words (Err fault) → result ≡ Err (of_words fault) → given.no_change → new ≡ old
+        → written.no_change → log.no_change → Runs words given old new written log result
     -- They ask for a text, and no database was opened.
     text_shown : (text : Error) → ReadsWords words (Ok (ShowText text)) → IfErr result (λ fault. fault ≡ InputOutput) → given.no_change → new ≡ old
         → log.no_change → Runs words given old new written log result

@@ -13,7 +13,8 @@ use club_core::{ClubStore, Reply};
 use club_gate::Desk;
 use club_http::{Responder, Words};
 use club_values::Moment;
-use clubdesk_arguments::{Asked, Fault, Job, Task, Work, command_of};
+use clubdesk_arguments::{Fault, Job, Task, Work};
+use command_line::{Asked, read_job};
 use desk_server::{Answer, Carried, Office, RequestLine};
 use http_response::Line;
 use std::alloc::Global;
@@ -111,10 +112,10 @@ fn answer_order<S: ClubStore, C: Clock>(
         (λ answer. spec.DoesWords S.disk_is_clean S.represents (string_bytes order.now.root)
         (map string_bytes order.now.words.items) (text_of answer) desk.old desk.new) }
 {
-    let job = match command_of(alloc, order.words.as_slice()) {
+    let job: Job<'_> = match read_job(alloc, order.words.as_slice()) {
         Ok(Asked::Perform(job)) => job,
         Ok(Asked::ShowText(_text)) => return None,
-        Err(fault) => return Some(Err(fault)),
+        Err(fault) => return Some(Err(Fault::from(fault))),
     };
     let Job { file: _, work } = job;
     match work {

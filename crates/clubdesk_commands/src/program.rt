@@ -15,8 +15,8 @@ use club_core::{ClubStore, Command};
 use club_gate::Desk;
 use club_rows::Root;
 use club_values::Name;
-use clubdesk_arguments::{Asked, Fault, Job, KeyChange, KeyOrder, Task, Work, command_of};
-use command_line::flush;
+use clubdesk_arguments::{Fault, Job, KeyChange, KeyOrder, Task, Work};
+use command_line::{Asked, flush, read_job};
 use desk_server::{Databases, Log, Reached, Visit};
 use std::alloc::{AllocError, Global};
 use std::convert::AsStr;
@@ -52,10 +52,10 @@ pub fn run<C: Clock, D: Databases, S: AsStr, R: Read, W: Write, G: Log>(
         (input R.remaining reader.old reader.new) databases.old databases.new
         (output W.contents writer.old writer.new) (log_change G.Log log.old log.new) result }
 {
-    let job = match command_of(rt.alloc(), words) {
+    let job: Job<'_> = match read_job(rt.alloc(), words) {
         Ok(Asked::Perform(job)) => job,
         Ok(Asked::ShowText(text)) => return show(&text, writer),
-        Err(fault) => return Err(fault),
+        Err(fault) => return Err(Fault::from(fault)),
     };
     let Job { file, work } = job;
     match work {

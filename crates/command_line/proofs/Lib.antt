@@ -6,3 +6,4 @@ pub mod OptionLemmas
 pub mod WordsLemmas
 pub mod NamedLemmas
 pub mod TableLemmas
+pub mod JobLemmas

@@ -1,15 +1,12 @@
 -- Lemmas on the rows of a table.
 use Rattle.std.proofs.Common.{◌≡◌, ◌∙◌, ℕ, ◌+◌, ◌<◌, List, [], ◌∷◌, ◌++◌, map, take, drop, ap, get_or, length, refl}
-use Rattle.std.proofs.Common.{sym, cond, Bool, true, false, Option, None, Some, IsSome, IsSomeAnd, inl, inr, option_map, Ok}
+use Rattle.std.proofs.Common.{sym, cond, Bool, true, false, Option, None, Some, IsSome, IsSomeAnd, inl, inr, option_map}
 use Rattle.std.proofs.lemmas.List.{drop_more, take_more}
 use Rattle.std.specs.Str.{bytes_eq}
 use Rattle.std.proofs.lemmas.Slice.Eq.{bytes_eq-Decides}
 use Rattle.clap.specs.Words.{App, Row as Found, Shape, Text, fault_of, subcommand_of, with_subcommand}
 use Rattle.command_line.specs.Laws.{IsNameAmong, WordsEnterACommand}
-use Rattle.command_line.specs.Table.{Entry, IsAsked, IsGood, IsRow, Table, app_of_table, asked}
-use Rattle.command_line.specs.Table.{asked_in, refusals, entry_app, entry_named, entry_of, with_entries}
-use Rattle.command_line.specs.declared.table.Asked.{Asked}
-use Rattle.command_line.specs.declared.table.Asked.TheVariants.{ShowText, Perform}
+use Rattle.command_line.specs.Table.{Entry, IsGood, Table, app_of_table, asked_in, entry_app, entry_named, entry_of, with_entries}
 use Rattle.command_line.specs.declared.table.Row.{Row}
 
 one_last : {C : Type 0} (app : App) (rows : List (Row C)) (row : Row C)
@@ -68,10 +65,3 @@ row_asked table law good words clear =
     go : (found : Option (Text × List Found)) → IsSomeAnd found (λ named. IsNameAmong good.shapes named.0) → IsSome (asked_in table found)
     go None none = absurd none
     go (Some found) among = named_among (λ entry. (entry.command, found.1)) good.shapes table.entries good.names found.0 among
-
-pub asked_is : {C : Type 0} (table : Table C) (words : List Text) (found : Option (Text × List Found)) (result : Asked C)
-    → fault_of (app_of_table table) words ≡ [] → found ≡ subcommand_of (app_of_table table) words → IsRow (asked_in table found) result
-    → IsAsked table words (Ok result)
-unfolding refusals asked
-asked_is table words found (ShowText text) clear same row = absurd row
-asked_is table words found (Perform command options) clear same row = (clear, ap (asked_in table) (sym same) ∙ row)

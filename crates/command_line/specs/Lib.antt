@@ -6,3 +6,4 @@ pub mod Output
 pub mod Words
 pub mod Laws
 pub mod Table
+pub mod Job

@@ -1,17 +1,12 @@
--- A program's commands as the rows of a table, and what arguments ask of them (ours).
-use Rattle.std.specs.Prelude.{◌≡◌, List, [], Option, Some, Result, Ok, Err, fold, map, find, option_map, option_and_then, true}
+-- A program's commands as the rows of a table, and the row that arguments ask for (ours).
+use Rattle.std.specs.Prelude.{◌≡◌, List, Option, fold, map, find, option_map, option_and_then, true}
 use Rattle.std.specs.Str.{bytes_eq}
-use Rattle.clap.specs.Words.{App, Kinds, Row as Found, Rule, Shape, Text, fault_of, found_of, is_simple_and_free, kind_of, new_app, rows_of}
+use Rattle.clap.specs.Words.{App, Kinds, Row as Found, Rule, Shape, Text, fault_of, is_simple_and_free, new_app}
 use Rattle.clap.specs.Words.{subcommand_of, with_rule, with_subcommand}
 use Rattle.command_line.specs.Application.{as_required, flag_named, option_named, program_named, with_default, word_named, words_named}
 use Rattle.command_line.specs.Laws.{HasCommands}
-use Rattle.command_line.specs.Words.{HasText, IsRefusedAs}
-use Rattle.command_line.specs.declared.errors.WordsFault.{WordsFault}
-use Rattle.command_line.specs.declared.errors.WordsFault.TheVariants.{Refused, Memory}
 use Rattle.command_line.specs.declared.table.Argument.{Argument}
 use Rattle.command_line.specs.declared.table.Argument.TheVariants.{Value, Needed, Or, Flag, Word, NeededWord, Words, NeededWords}
-use Rattle.command_line.specs.declared.table.Asked.{Asked}
-use Rattle.command_line.specs.declared.table.Asked.TheVariants.{ShowText, Perform}
 use Rattle.command_line.specs.declared.table.Program.{Program}
 use Rattle.command_line.specs.declared.table.Row.{Row}
 
@@ -74,16 +69,3 @@ pub record IsGood {C : Type 0} (table : Table C) : Type 0 where
   pub help : Shape
   pub has : HasCommands (app_of_table table) shapes help
   pub names : map (λ shape. shape.name) shapes ≡ map (λ entry. entry.name) table.entries
-
--- the row is the one that the arguments ask for
-abbrev pub IsRow : {C : Type 0} → Option (C × List Found) → Asked C → Type 0
-IsRow row (ShowText text) = ⊥
-IsRow row (Perform command options) = row ≡ Some (command, rows_of (found_of options))
-
--- What arguments may ask for: a text, or a row of the table, or clap refuses them.
-abbrev pub IsAsked : {C : Type 0} → Table C → List Text → Result (Asked C) WordsFault → Type 0
-IsAsked table words (Ok (ShowText text)) = HasText (refusals table words)
-IsAsked table words (Ok (Perform command options)) =
-    (refusals table words ≡ []) × (asked table words ≡ Some (command, rows_of (found_of options)))
-IsAsked table words (Err (Refused error)) = IsRefusedAs (refusals table words) (kind_of error)
-IsAsked table words (Err Memory) = Unit {0}

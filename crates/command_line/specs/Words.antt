@@ -5,7 +5,7 @@ use Rattle.clap.specs.Words.{IsAmong, Kinds, Row, Text, first_of, kind_of}
 use Rattle.clap.specs.declared.error.kind.ErrorKind.{ErrorKind}
 use Rattle.clap.specs.declared.error.kind.ErrorKind.TheVariants as kind
 use Rattle.command_line.specs.declared.errors.WordsFault.{WordsFault}
-use Rattle.command_line.specs.declared.errors.WordsFault.TheVariants.{Refused, Memory}
+use Rattle.command_line.specs.declared.errors.WordsFault.TheVariants.{Refused, BadValue, Memory}
 
 -- the value of an option, empty if it was left out
 abbrev pub value_in : Text → List Row → Text
@@ -28,6 +28,7 @@ abbrev pub IsRefusedAs : Kinds → ErrorKind → Type 0
 IsRefusedAs kinds of_kind = IsAmong of_kind kinds × IsNoText of_kind
 
 -- an error of this kind, or out of memory
-abbrev pub IsOfKind : ErrorKind → WordsFault → Type 0
+abbrev pub IsOfKind : {V : Type 0} → ErrorKind → WordsFault V → Type 0
 IsOfKind of_kind (Refused error) = kind_of error ≡ of_kind
+IsOfKind of_kind (BadValue value) = ⊥
 IsOfKind of_kind Memory = Unit {0}

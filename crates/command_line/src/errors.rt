@@ -1,54 +1,60 @@
-//! The errors of arguments that `clap` doesn't find itself, with the application's usage.
+//! Why arguments ask for nothing, and the errors that `clap` doesn't find itself, with its usage.
 
 ghost use Rattle.clap.specs.declared.error.kind.ErrorKind.TheVariants as kinds;
 ghost use Rattle.command_line.specs.Words.{IsOfKind};
 
+use crate::table::Commands;
+use clap::Error;
 use clap::error::ErrorKind;
-use clap::{Command, Error};
 use std::alloc::{AllocError, Global};
 
 /// Why arguments ask for nothing.
 #[derive(Debug, Drop)]
-pub enum WordsFault {
+pub enum WordsFault<V> {
     /// `clap`'s error, with its text.
     Refused(Error),
+    /// An argument spells no value of its place.
+    BadValue(V),
     /// Memory ran out.
     Memory,
 }
 
+impl<V> From<AllocError> for WordsFault<V> {
+    ghost use Rattle.std.specs.Prelude.{◌≡◌};
+    ghost use Rattle.command_line.specs.declared.errors.WordsFault.TheVariants.{Memory};
+
+    ghost from_gives = { λ _ fault. fault ≡ Memory };
+
+    fn from(_error: AllocError) -> WordsFault<V> {
+        WordsFault::Memory
+    }
+}
+
 /// The fault of arguments that aren't UTF-8, which `clap` isn't given.
-pub fn text_fault(application: Result<Command<'_>, AllocError>) -> WordsFault
+pub fn text_fault<C: Commands, V>(alloc: Global) -> WordsFault<V>
     ensures { IsOfKind kinds.ValueValidation result }
 {
     let message = "invalid UTF-8 was detected in one or more arguments";
-    words_fault(application, ErrorKind::ValueValidation, message)
+    words_fault::<C, V>(alloc, ErrorKind::ValueValidation, message)
 }
 
 /// The fault of a name that is no form's.
-pub fn form_fault(
-    alloc: Global,
-    application: Result<Command<'_>, AllocError>,
-    name: &str,
-) -> WordsFault
+pub fn form_fault<C: Commands, V>(alloc: Global, name: &str) -> WordsFault<V>
     ensures { IsOfKind kinds.InvalidValue result }
 {
     match format!(in alloc;
         "invalid value '{name}' for '--form <FORM>'\n  [possible values: v1, v2, json]"
     ) {
-        Ok(message) => words_fault(application, ErrorKind::InvalidValue, message.as_str()),
+        Ok(message) => words_fault::<C, V>(alloc, ErrorKind::InvalidValue, message.as_str()),
         Err(_) => WordsFault::Memory,
     }
 }
 
 /// A fault of this kind and with this message.
-pub fn words_fault(
-    application: Result<Command<'_>, AllocError>,
-    kind: ErrorKind,
-    message: &str,
-) -> WordsFault
+pub fn words_fault<C: Commands, V>(alloc: Global, kind: ErrorKind, message: &str) -> WordsFault<V>
     ensures { IsOfKind kind result }
 {
-    let Ok(mut application) = application else {
+    let Ok(mut application) = C::application(alloc) else {
         return WordsFault::Memory;
     };
     match application.error(kind, message) {

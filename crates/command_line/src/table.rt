@@ -1,18 +1,14 @@
 //! A program's commands as the rows of a table.
 
-ghost use Rattle.std.specs.Prelude.{◌≡◌, IfOk, IsSome, Some, false, map, option_map};
-ghost use Rattle.clap.specs.Words.{app_of, found_of, rows_of, rule_of, subcommand_rows_of};
+ghost use Rattle.std.specs.Prelude.{◌≡◌, IfOk, false, map, option_map};
+ghost use Rattle.clap.specs.Words.{app_of, rule_of};
 ghost use Rattle.command_line.specs.Application.{IsMade};
-ghost use Rattle.command_line.specs.Table.{IsAsked, IsGood, IsRow, app_of_table, asked_in, entry_app, entry_named, entry_of, rule_for, table_of};
+ghost use Rattle.command_line.specs.Table.{app_of_table, entry_app, entry_named, entry_of, rule_for, table_of};
 
-use crate::errors::WordsFault;
-use crate::laws::words_name_a_row;
 use crate::options::{make_flag, make_option, make_word, make_words};
 use crate::tree::{make_program, new_command, with_argument, with_command};
-use clap::error::ErrorKind;
-use clap::{Arg, ArgMatches, Command, Error};
+use clap::{Arg, Command};
 use std::alloc::{AllocError, Global};
-use std::convert::AsStr;
 
 /// An argument of a command: its name, what its help calls the value, and the help.
 #[derive(Clone, Copy)]
@@ -52,13 +48,24 @@ pub struct Program<C: Copy + 'static> {
     pub rows: &'static [Row<C>],
 }
 
-/// What arguments ask for.
-#[derive(Drop)]
-pub enum Asked<'a, C> {
-    /// The help text or the version.
-    ShowText(Error),
-    /// A command, with what `clap` found of its arguments.
-    Perform(C, ArgMatches<'a>),
+/// The commands of a program, as the rows of its table name them.
+pub trait Commands: Copy {
+    ghost use Rattle.std.specs.Prelude.{◌≡◌, IfOk, option_map};
+    ghost use Rattle.clap.specs.Words.{app_of};
+    ghost use Rattle.command_line.specs.Table.{IsGood, Table, app_of_table, entry_named};
+
+    // the rows
+    ghost table: { Table Self };
+
+    /// The program as `clap` takes it, whose arguments its contract covers.
+    fn application<'a>(alloc: Global) -> Result<Command<'a>, AllocError>
+        ensures made { IfOk result (λ made. app_of made ≡ app_of_table table) }
+        ensures good { IsGood table };
+
+    /// The command of this name.
+    fn named(name: &str) -> Option<Self>
+        ensures { result ≡ option_map (λ entry. entry.command)
+            (entry_named name.now table.entries) };
 }
 
 /// The program as `clap` takes it.
@@ -105,51 +112,8 @@ fn make_argument<'a>(alloc: Global, argument: Argument) -> Arg<'a>
     }
 }
 
-/// What the arguments ask of the program. The first is its name.
-///
-/// # Errors
-///
-/// `Refused` if `clap` refuses the arguments; `Memory` only if an allocation fails.
-pub fn read_words<'a, C: Copy, S: AsStr>(
-    alloc: Global,
-    program: &Program<C>,
-    words: &'a [S],
-) -> Result<Asked<'a, C>, WordsFault>
-    requires { IsGood (table_of program.now) }
-    ensures { IsAsked (table_of program.now) (map S.text words.entry.now) result }
-{
-    // By this law the arguments that are accepted name a row.
-    words_name_a_row::<C>();
-    let Ok(application) = make_application(alloc, program) else {
-        return Err(WordsFault::Memory);
-    };
-    match application.try_get_matches_from(words) {
-        Ok(matches) => Ok(asked_row(program, matches)),
-        Err(error) => match error.kind() {
-            ErrorKind::DisplayHelp => Ok(Asked::ShowText(error)),
-            ErrorKind::DisplayVersion => Ok(Asked::ShowText(error)),
-            ErrorKind::OutOfMemory => Err(WordsFault::Memory),
-            _ => Err(WordsFault::Refused(error)),
-        },
-    }
-}
-
-// The row that the arguments name, with what they give it.
-fn asked_row<'a, C: Copy>(program: &Program<C>, mut matches: ArgMatches<'a>) -> Asked<'a, C>
-    requires { IsSome (asked_in (table_of program.now) (subcommand_rows_of matches)) }
-    ensures { IsRow (asked_in (table_of program.now) (subcommand_rows_of matches.entry)) result }
-{
-    let Some((name, options)) = matches.remove_subcommand() else {
-        unreachable!()
-    };
-    let Some(command) = command_named(program.rows, name) else {
-        unreachable!()
-    };
-    Asked::Perform(command, options)
-}
-
-// What the first row of this name asks for.
-fn command_named<C: Copy>(rows: &[Row<C>], name: &str) -> Option<C>
+/// What the first row of this name asks for.
+pub fn command_named<C: Copy>(rows: &[Row<C>], name: &str) -> Option<C>
     ensures { result ≡ option_map (λ entry. entry.command)
         (entry_named name.now (map entry_of rows.now)) }
 {

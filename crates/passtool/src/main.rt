@@ -2,14 +2,10 @@
 //! and standard output.
 #![tactic(auto)]
 
-ghost use Rattle.std.specs.Prelude.{IfErr};
-ghost use Rattle.passtool_commands.specs.Fault.{IsNotText};
-
+use command_line::given_words;
 pub use passtool_commands::run;
-use passtool_commands::{Fault, Outcome, not_text};
-use std::alloc::AllocError;
+use passtool_commands::{BadValue, Fault, Name, Outcome};
 use std::process::ExitCode;
-use std::{env, io};
 
 fn main(rt: HostRuntime) -> ExitCode {
     let status = match run_here(&rt) {
@@ -24,21 +20,11 @@ fn main(rt: HostRuntime) -> ExitCode {
 
 // Runs on the process's arguments, standard input and standard output.
 fn run_here(rt: &HostRuntime) -> Result<Outcome, Fault> {
-    let words = given_words(rt)?;
+    let words = given_words::<HostRuntime, Name, BadValue>(rt)?;
     run(
         rt.alloc(),
         words.as_slice(),
         &mut rt.stdin(),
         &mut rt.stdout(),
     )
-}
-
-fn given_words(rt: &HostRuntime) -> Result<Vec<String>, Fault>
-    ensures { IfErr result IsNotText }
-{
-    match env::args(rt) {
-        Ok(words) => Ok(words.collect(rt.alloc())?),
-        Err(error) if error.kind() == io::ErrorKind::OutOfMemory => Err(Fault::from(AllocError)),
-        Err(_) => Err(not_text(rt.alloc())),
-    }
 }

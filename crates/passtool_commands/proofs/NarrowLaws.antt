@@ -15,12 +15,12 @@ use Rattle.pass_forms.specs.declared.form.Form.TheVariants.{V1, V2, Json}
 use Rattle.command_line.specs.Table.{app_of_table, asked, asked_in, refusals}
 use Rattle.passtool_commands.specs.Application.{passtool}
 use Rattle.passtool_commands.specs.Laws.{MintTakesDefaults, MintTakesItsParts, NarrowTakesItsCaveats}
-use Rattle.passtool_commands.specs.Words.{asked_command, asked_by, is_understood, checked_caveats}
+use Rattle.passtool_commands.specs.Words.{asked_command, is_understood, checked_caveats}
 use Rattle.passtool_commands.specs.declared.command.Command.{Command}
 use Rattle.passtool_commands.specs.declared.table.Name.{Name}
 use Rattle.passtool_commands.specs.declared.table.Name.TheVariants.{Mint, Narrow}
 use Rattle.passtool_commands.proofs.CaveatWalk.{at_command, caveats_clear, given, rows_are, words_kept, words_pass}
-use Rattle.passtool_commands.proofs.WordLaws.{asked_is}
+use Rattle.passtool_commands.proofs.WordLaws.{asked_by, asked_is}
 
 -- the row of an option that was left out
 abbrev default_of : Text → Text → Row
@@ -63,7 +63,7 @@ module _ (row : Name) (command : Text) (shape : Shape) (is : IsCommand row comma
 
   -- arguments for which clap finds these rows ask for what the rows say
   asked_by_rows : (name : Text) (rows : List Row) (answer : Command) → level_fault shape [] nothing_held words false [] ≡ []
-      → rows_after shape.rules [] words ≡ rows → asked_by (Some (row, rows)) ≡ Ok answer → asked_command (name ∷ command ∷ words) ≡ Some answer
+      → rows_after shape.rules [] words ≡ rows → asked_by (Some (row, rows)) ≡ Some (Ok answer) → asked_command (name ∷ command ∷ words) ≡ Some answer
   asked_by_rows name rows answer below rows_are asks =
       asked_is _ _ _ (clear name below) (found name ∙ ap (λ (rows : List Row). Some (row, rows)) rows_are) asks
 

@@ -3,14 +3,13 @@ use Rattle.std.proofs.lemmas.List.{length-map}
 use Rattle.std.specs.List.{position, prefix_len}
 use Rattle.std.proofs.Common.{◌≡◌, ◌∙◌, ◌+◌, Bool, cond, not, List, [], ◌∷◌, map, Option, option_map, unwrap_or, ap, refl}
 use Rattle.std.specs.Borrow.{Bor}
-use Rattle.clap.specs.Words.{Text, matched_of, raw_values, rows_of}
+use Rattle.clap.specs.Words.{Text, all_of, matched_of, raw_values, rows_of}
 use Rattle.clap.proofs.WalkLemmas.{raw_values-rows}
 use Rattle.clap.specs.declared.parser.matches.Found.{Found}
-use Rattle.passtool_commands.specs.Words.{argument_values}
 
 -- the values of an argument as the code reads them
 pub values_read : (options : Found) (id : Text) (given : Option (List Text)) → given ≡ option_map raw_values (matched_of options id)
-    → unwrap_or given [] ≡ argument_values id (rows_of options)
+    → unwrap_or given [] ≡ unwrap_or (all_of id (rows_of options)) []
 values_read options id given is = ap (λ o. unwrap_or o []) (is ∙ raw_values-rows options id)
 
 prefix_map : (p : Text → Bool) (xs : List (Bor Text)) → prefix_len p (map (λ text. text.now) xs) ≡ prefix_len (λ text. p text.now) xs

@@ -16,28 +16,33 @@ use Rattle.pass_forms.specs.declared.form.Form.TheVariants.{V1, V2, Json}
 use Rattle.command_line.specs.Table.{asked, refusals}
 use Rattle.passtool_commands.specs.Application.{passtool}
 use Rattle.passtool_commands.specs.Laws.{ConvertTakesItsForm, ShowTakesNothing, VerifyTakesItsRoot}
-use Rattle.passtool_commands.specs.Words.{asked_command, asked_by, command_of}
+use Rattle.passtool_commands.specs.Words.{asked_command, command_of}
+use Rattle.passtool_commands.specs.declared.answer.BadValue.{BadValue}
+use Rattle.command_line.specs.Job.{Refusal}
 use Rattle.passtool_commands.specs.declared.command.Command.{Command}
 use Rattle.passtool_commands.specs.declared.command.Command.TheVariants.{Verify}
 use Rattle.passtool_commands.specs.declared.table.Name.{Name}
 use Rattle.passtool_commands.specs.declared.table.Name.TheVariants as row
 
+-- what the row that clap found asks for
+abbrev pub asked_by : Option (Name × List Row) → Option (Result Command (Refusal BadValue))
+asked_by = option_map (λ row. command_of row.0 row.1)
+
 -- words that clap reads ask for the command that it found
 pub asked_is : (words : List Text) (found : Option (Name × List Row)) (command : Command) → refusals passtool words ≡ [] → asked passtool words ≡ found
-    → asked_by found ≡ Ok command → asked_command words ≡ Some command
-unfolding command_of
+    → asked_by found ≡ Some (Ok command) → asked_command words ≡ Some command
 asked_is words found command clear same is = rw (clear, same, is) refl
 
 -- ---- show
 
 pub show_takes_nothing : ShowTakesNothing
-unfolding clap_on_literals passtool refusals asked command_of
+unfolding clap_on_literals passtool refusals asked
 show_takes_nothing name = refl
 
 -- ---- convert
 
 pub convert_takes_its_form : ConvertTakesItsForm
-unfolding clap_on_literals passtool refusals asked command_of
+unfolding clap_on_literals passtool refusals asked
 convert_takes_its_form name V1 = refl
 convert_takes_its_form name V2 = refl
 convert_takes_its_form name Json = refl
@@ -85,7 +90,7 @@ no_digit_no_root root h = go (decode_of []) refl h
     go (Err e) same is = cc
 
 asked_for : (found : Option (Name × List Row)) (text root : Text) → option_map named_root found ≡ Some (row.Verify, Some text)
-    → root_of text ≡ Some root → asked_by found ≡ Ok (Verify root)
+    → root_of text ≡ Some root → asked_by found ≡ Some (Ok (Verify root))
 asked_for None text root h is = cc
 asked_for (Some p) text root h is =
     let pair : named_root p ≡ (row.Verify, Some text) = ap (λ (o : Option (Name × Option Text)). unwrap_or o (named_root p)) h in

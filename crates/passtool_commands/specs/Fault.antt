@@ -1,13 +1,13 @@
 -- The exit status and the line of each answer (ours).
-use Rattle.std.specs.Prelude.{◌≡◌, ℕ, List, ◌++◌, Option, Some, None, codes}
+use Rattle.std.specs.Prelude.{ℕ, List, ◌++◌, Option, Some, None, codes}
 use Rattle.std.specs.Fmt.{decimal}
-use Rattle.clap.specs.Words.{kind_of}
-use Rattle.clap.specs.declared.error.kind.ErrorKind.TheVariants as kind
 use Rattle.command_line.specs.declared.errors.WordsFault.{WordsFault}
 use Rattle.command_line.specs.declared.errors.WordsFault.TheVariants as words
 use Rattle.pass_forms.specs.FormFault.{fault_text}
 use Rattle.pass_forms.specs.declared.fault.FormFault.{FormFault}
 use Rattle.pass_forms.specs.declared.fault.FormFault.TheVariants as form
+use Rattle.passtool_commands.specs.declared.answer.BadValue.{BadValue}
+use Rattle.passtool_commands.specs.declared.answer.BadValue.TheVariants.{Root, Caveat}
 use Rattle.passtool_commands.specs.declared.answer.Fault.{Fault}
 use Rattle.passtool_commands.specs.declared.answer.Fault.TheVariants.{Words, Pass, CaveatNotUnderstood, BadRoot, InputOutput}
 use Rattle.passtool_commands.specs.declared.answer.Outcome.{Outcome}
@@ -47,12 +47,8 @@ fault_line BadRoot = Some (codes "bad root")
 fault_line InputOutput = Some (codes "input or output failed")
 
 -- the fault of refused arguments
-abbrev pub of_words : WordsFault → Fault
+abbrev pub of_words : WordsFault BadValue → Fault
 of_words (words.Refused error) = Words error
+of_words (words.BadValue Root) = BadRoot
+of_words (words.BadValue (Caveat number)) = CaveatNotUnderstood number
 of_words words.Memory = Pass form.Memory
-
--- the faults of arguments that aren't UTF-8
-abbrev pub IsNotText : Fault → Type 0
-IsNotText (Words error) = kind_of error ≡ kind.ValueValidation
-IsNotText (Pass form.Memory) = Unit {0}
-IsNotText _ = ⊥

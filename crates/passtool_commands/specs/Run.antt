@@ -7,7 +7,12 @@ use Rattle.clap.specs.Words.{Text}
 use Rattle.pass_forms.specs.declared.fault.FormFault.TheVariants.{Memory}
 use Rattle.passtool_commands.specs.Answer.{ReadsBack, OutcomeText, command_answer, reads_input}
 use Rattle.command_line.specs.Input.{ReadsAtMost}
-use Rattle.passtool_commands.specs.Words.{AsksText, IsFaultOf, asked_command}
+use Rattle.command_line.specs.Table.{refusals}
+use Rattle.command_line.specs.Words.{HasText}
+use Rattle.command_line.specs.declared.errors.WordsFault.TheVariants.{Refused, BadValue}
+use Rattle.passtool_commands.specs.Application.{passtool}
+use Rattle.passtool_commands.specs.Words.{ReadsWords, asked_command}
+use Rattle.passtool_commands.specs.declared.answer.BadValue.TheVariants.{Root, Caveat}
 use Rattle.passtool_commands.specs.declared.answer.Fault.{Fault}
 use Rattle.passtool_commands.specs.declared.answer.Fault.TheVariants.{Words, Pass, BadRoot, CaveatNotUnderstood, InputOutput}
 use Rattle.passtool_commands.specs.declared.answer.Outcome.{Outcome}
@@ -56,10 +61,10 @@ asks_input (Some command) = reads_input command
 -- the results of a run that the arguments allow
 abbrev pub AnswersWords : List Text → Result Outcome Fault → Type 0
 AnswersWords words (Ok NotSigned) = IsSome (asked_command words)
-AnswersWords words (Ok Done) = IsSome (asked_command words) ⊎ AsksText words
-AnswersWords words (Err (Words error)) = IsFaultOf words (Words error)
-AnswersWords words (Err BadRoot) = IsFaultOf words BadRoot
-AnswersWords words (Err (CaveatNotUnderstood number)) = IsFaultOf words (CaveatNotUnderstood number)
+AnswersWords words (Ok Done) = IsSome (asked_command words) ⊎ HasText (refusals passtool words)
+AnswersWords words (Err (Words error)) = ReadsWords words (Err (Refused error))
+AnswersWords words (Err BadRoot) = ReadsWords words (Err (BadValue Root))
+AnswersWords words (Err (CaveatNotUnderstood number)) = ReadsWords words (Err (BadValue (Caveat number)))
 AnswersWords words (Err (Pass Memory)) = Unit {0}
 AnswersWords words (Err (Pass fault)) = IsSome (asked_command words)
-AnswersWords words (Err InputOutput) = IsSome (asked_command words) ⊎ AsksText words
+AnswersWords words (Err InputOutput) = IsSome (asked_command words) ⊎ HasText (refusals passtool words)

@@ -6,7 +6,6 @@ ghost use Rattle.passtool_commands.specs.Fault.{form_number};
 
 use command_line::{WordsFault, report};
 use pass_forms::FormFault;
-use std::alloc::AllocError;
 use std::marker::Model;
 use std::{error, fmt, io};
 
@@ -72,6 +71,15 @@ impl Answer {
     {
         self.text.as_str()
     }
+}
+
+/// A value that an argument doesn't spell.
+#[derive(Debug, Drop)]
+pub enum BadValue {
+    /// A root, which is 1 to 64 bytes in hexadecimal.
+    Root,
+    /// The caveat of this number, counted from 1.
+    Caveat(usize),
 }
 
 /// Why a command failed. Its `Display` is the line for standard error.
@@ -146,18 +154,6 @@ fn fault_number(fault: FormFault) -> Option<u8>
 
 impl error::Error for Fault {}
 
-impl From<AllocError> for Fault {
-    ghost use Rattle.std.specs.Prelude.{◌≡◌};
-    ghost use Rattle.pass_forms.specs.declared.fault.FormFault.TheVariants.{Memory};
-    ghost use Rattle.passtool_commands.specs.declared.answer.Fault.TheVariants.{Pass};
-
-    ghost from_gives = { λ _ fault. fault ≡ Pass Memory };
-
-    fn from(_error: AllocError) -> Fault {
-        Fault::Pass(FormFault::Memory)
-    }
-}
-
 impl From<io::Error> for Fault {
     ghost use Rattle.std.specs.Prelude.{◌≡◌};
     ghost use Rattle.passtool_commands.specs.declared.answer.Fault.TheVariants.{InputOutput};
@@ -169,15 +165,17 @@ impl From<io::Error> for Fault {
     }
 }
 
-impl From<WordsFault> for Fault {
+impl From<WordsFault<BadValue>> for Fault {
     ghost use Rattle.std.specs.Prelude.{◌≡◌};
     ghost use Rattle.passtool_commands.specs.Fault.{of_words};
 
     ghost from_gives = { λ returned fault. fault ≡ of_words returned };
 
-    fn from(returned: WordsFault) -> Fault {
+    fn from(returned: WordsFault<BadValue>) -> Fault {
         match returned {
             WordsFault::Refused(error) => Fault::Words(error),
+            WordsFault::BadValue(BadValue::Root) => Fault::BadRoot,
+            WordsFault::BadValue(BadValue::Caveat(number)) => Fault::CaveatNotUnderstood(number),
             WordsFault::Memory => Fault::Pass(FormFault::Memory),
         }
     }

@@ -1,33 +1,25 @@
 //! The commands.
 
-ghost use Rattle.std.specs.Prelude.{◌≡◌, ◌≢◌, ◌≤◌, IfErr, IfOk, false, length, map, take};
+ghost use Rattle.std.specs.Prelude.{◌≡◌, ◌≢◌, ◌≤◌, IfErr, IfOk, false, length, take};
 ghost use Rattle.clap.specs.Words.{found_of, rows_of};
-ghost use Rattle.passtool_commands.specs.Words.{AnswersAsked, checked_caveats};
+ghost use Rattle.command_line.specs.Job.{Answers};
+ghost use Rattle.passtool_commands.specs.Words.{checked_caveats, command_of};
 
-use crate::answer::{Answer, Fault, Outcome};
+use crate::answer::{Answer, BadValue, Fault, Outcome};
 use crate::caveats::Caveats;
 use crate::convert::convert;
 use crate::input::MAX_READ;
 use crate::mint::Mint;
 use crate::narrow::narrow;
-use crate::options::{caveats_of, form_of, root_of};
+use crate::options::{caveats_of, root_of};
 use crate::show::show;
-use crate::table::{Name, PASSTOOL};
+use crate::table::Name;
 use crate::verify::verify;
 use clap::ArgMatches;
-use command_line::{Asked, Root, fill, is_set, read_words, value_of, write_text};
+use command_line::{Job, Root, WordsFault, fill, is_set, read_form, value_of, write_text};
 use pass_forms::{Form, FormFault};
 use std::alloc::Global;
-use std::convert::AsStr;
 use std::io::{self, Read, Write};
-
-/// What the arguments ask for.
-#[derive(Drop)]
-pub enum Request<'a> {
-    /// The help text or the version, which `clap` made.
-    ShowText(clap::Error),
-    Perform(Command<'a>),
-}
 
 /// A command with its options.
 #[derive(Drop)]
@@ -44,61 +36,56 @@ pub enum Command<'a> {
     Verify(Root),
 }
 
-impl<'a> Request<'a> {
-    ghost use Rattle.passtool_commands.specs.Words.{ReadsWords};
+impl<'a> Job<'a> for Command<'a> {
+    type Command = Name;
 
-    /// Parses the arguments. The first is the program's name.
-    pub fn from_words<S: AsStr>(alloc: Global, words: &'a [S]) -> Result<Request<'a>, Fault>
-        ensures { ReadsWords (map S.text words.entry.now) result }
+    type BadValue = BadValue;
+
+    ghost job_of = { command_of };
+
+    fn read(
+        alloc: Global,
+        name: Name,
+        options: &ArgMatches<'a>,
+    ) -> Result<Command<'a>, WordsFault<BadValue>>
+        ensures { Answers (command_of name (rows_of (found_of options.now))) result }
     {
-        match read_words(alloc, &PASSTOOL, words) {
-            Ok(Asked::Perform(name, options)) => match Command::read(alloc, name, &options) {
-                Ok(command) => Ok(Request::Perform(command)),
-                Err(fault) => Err(fault),
-            },
-            Ok(Asked::ShowText(text)) => Ok(Request::ShowText(text)),
-            Err(fault) => Err(Fault::from(fault)),
+        match name {
+            Name::Mint => mint_of(alloc, options),
+            Name::Show => Ok(Command::Show),
+            Name::Narrow => narrow_of(alloc, options),
+            Name::Convert => Ok(Command::Convert(read_form::<Name, BadValue>(alloc, options)?)),
+            Name::Verify => Ok(Command::Verify(root_of(options)?)),
         }
     }
+}
+
+fn mint_of<'a>(alloc: Global, options: &ArgMatches<'a>) -> Result<Command<'a>, WordsFault<BadValue>>
+    ensures { Answers (command_of Name.Mint (rows_of (found_of options.now))) result }
+{
+    let form = read_form::<Name, BadValue>(alloc, options)?;
+    let root = root_of(options)?;
+    let caveats = caveats_of(alloc, options)?;
+    let identifier = value_of(options, "id");
+    let location = value_of(options, "location");
+    Ok(Command::Mint(Mint::new(root, identifier, location, form, caveats)))
+}
+
+fn narrow_of<'a>(
+    alloc: Global,
+    options: &ArgMatches<'a>,
+) -> Result<Command<'a>, WordsFault<BadValue>>
+    ensures { Answers (command_of Name.Narrow (rows_of (found_of options.now))) result }
+{
+    let caveats = caveats_of(alloc, options)?;
+    let checked_caveats = checked_caveats(caveats, is_set(options, "any"))?;
+    Ok(Command::Narrow(checked_caveats))
 }
 
 impl<'a> Command<'a> {
     ghost use Rattle.pass_forms.specs.Reading.{UnlessMemory};
     ghost use Rattle.passtool_commands.specs.Answer as spec;
     ghost use Rattle.passtool_commands.specs.Run.{Performs, ReadsInput};
-    ghost use Rattle.passtool_commands.specs.Words.{command_named, mint_of, narrow_of, takes_any};
-
-    // The command of this name with its options, or the fault of these.
-    fn read(alloc: Global, name: Name, options: &ArgMatches<'a>) -> Result<Command<'a>, Fault>
-        ensures { AnswersAsked (command_named name (rows_of (found_of options.now))) result }
-    {
-        match name {
-            Name::Mint => Command::mint_from(alloc, options),
-            Name::Show => Ok(Command::Show),
-            Name::Narrow => Command::narrow_from(alloc, options),
-            Name::Convert => Ok(Command::Convert(form_of(alloc, options)?)),
-            Name::Verify => Ok(Command::Verify(root_of(options)?)),
-        }
-    }
-
-    fn mint_from(alloc: Global, options: &ArgMatches<'a>) -> Result<Command<'a>, Fault>
-        ensures { AnswersAsked (mint_of (rows_of (found_of options.now))) result }
-    {
-        let form = form_of(alloc, options)?;
-        let root = root_of(options)?;
-        let caveats = caveats_of(alloc, options)?;
-        let identifier = value_of(options, "id");
-        let location = value_of(options, "location");
-        Ok(Command::Mint(Mint::new(root, identifier, location, form, caveats)))
-    }
-
-    fn narrow_from(alloc: Global, options: &ArgMatches<'a>) -> Result<Command<'a>, Fault>
-        ensures { AnswersAsked (narrow_of (rows_of (found_of options.now))) result }
-    {
-        let caveats = caveats_of(alloc, options)?;
-        let checked_caveats = checked_caveats(caveats, is_set(options, "any"))?;
-        Ok(Command::Narrow(checked_caveats))
-    }
 
     /// Whether the command reads input.
     pub fn reads_input(&self) -> bool
@@ -160,14 +147,14 @@ impl<'a> Command<'a> {
 
 // The caveats, if any text is accepted or all of them are understood.
 #[tactic(auto, unfolding(crate::specs::Words::checked_caveats))]
-fn checked_caveats(caveats: Caveats<'_>, any: bool) -> Result<Caveats<'_>, Fault>
-    ensures { AnswersAsked (checked_caveats any caveats.entry) result }
+fn checked_caveats(caveats: Caveats<'_>, any: bool) -> Result<Caveats<'_>, WordsFault<BadValue>>
+    ensures { Answers (checked_caveats any caveats.entry) result }
 {
     if any {
         return Ok(caveats);
     }
     match caveats.first_unknown() {
         None => Ok(caveats),
-        Some(place) => Err(Fault::CaveatNotUnderstood(place + 1)),
+        Some(place) => Err(WordsFault::BadValue(BadValue::Caveat(place + 1))),
     }
 }

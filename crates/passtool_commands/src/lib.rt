@@ -17,6 +17,6 @@ mod table;
 mod tool;
 mod verify;
 
-pub use answer::{Fault, Outcome};
-pub use table::not_text;
+pub use answer::{BadValue, Fault, Outcome};
+pub use table::Name;
 pub use tool::run;

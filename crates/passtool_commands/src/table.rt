@@ -1,10 +1,10 @@
 //! The commands and their arguments, with their help texts.
 
-ghost use Rattle.passtool_commands.specs.Fault.{IsNotText};
+ghost use Rattle.passtool_commands.specs.Application.{passtool};
 
-use crate::answer::Fault;
-use command_line::{Argument, Program, Row, make_application, text_fault};
-use std::alloc::Global;
+use clap::Command;
+use command_line::{Argument, Commands, Program, Row, command_named, make_application};
+use std::alloc::{AllocError, Global};
 
 /// The commands by their names.
 #[derive(Clone, Copy)]
@@ -74,7 +74,7 @@ const NARROW_ARGUMENTS: &[Argument] = &[
 ];
 
 /// The program.
-pub static PASSTOOL: Program<Name> = Program {
+static PASSTOOL: Program<Name> = Program {
     name: "passtool",
     about: "Passes on the command line",
     statuses: STATUSES,
@@ -117,9 +117,16 @@ pub static PASSTOOL: Program<Name> = Program {
     ],
 };
 
-/// The fault of arguments that aren't UTF-8. `clap` isn't given these.
-pub fn not_text(alloc: Global) -> Fault
-    ensures { IsNotText result }
-{
-    Fault::from(text_fault(make_application(alloc, &PASSTOOL)))
+impl Commands for Name {
+    ghost table = { passtool };
+
+    #[tactic(auto, using(crate::proofs::WordsLemmas::is_good), unfolding(crate::specs::Application::passtool))]
+    fn application<'a>(alloc: Global) -> Result<Command<'a>, AllocError> {
+        make_application(alloc, &PASSTOOL)
+    }
+
+    #[tactic(auto, unfolding(crate::specs::Application::passtool))]
+    fn named(name: &str) -> Option<Name> {
+        command_named(PASSTOOL.rows, name)
+    }
 }

@@ -6,8 +6,8 @@ ghost use Rattle.passtool_commands.specs.Words.{asked_command};
 ghost use Rattle.passtool_commands.specs.declared.command.Command.{Command as CommandOf};
 
 use crate::answer::{Fault, Outcome};
-use crate::command::{Command, Request};
-use command_line::flush;
+use crate::command::Command;
+use command_line::{Asked, flush, read_job};
 use std::alloc::Global;
 use std::convert::AsStr;
 use std::io::{Read, Write};
@@ -45,11 +45,12 @@ pub fn run<S: AsStr, R: Read, W: Write>(
     ensures silent { IfErr result (λ fault. fault ≢ Fault.InputOutput
         → writer.new ≡ writer.old) }
 {
-    match Request::from_words(alloc, words) {
-        Ok(Request::ShowText(text)) => show(&text, writer),
-        Ok(Request::Perform(command)) => command.perform(alloc, reader, writer),
-        Err(fault) => Err(fault),
-    }
+    let command: Command<'_> = match read_job(alloc, words) {
+        Ok(Asked::Perform(command)) => command,
+        Ok(Asked::ShowText(text)) => return show(&text, writer),
+        Err(fault) => return Err(Fault::from(fault)),
+    };
+    command.perform(alloc, reader, writer)
 }
 
 // Writes help or the version, whose bytes no clause states.

@@ -5,7 +5,8 @@ use crate::expect::{expect_end, expect_eq};
 use crate::runs::{
     MALFORMED, ROOT, Words, expect, expect_all_unread, expect_unread, output_of, output_of_fault,
 };
-use passtool_commands::not_text;
+use command_line::text_fault;
+use passtool_commands::{BadValue, Fault, Name};
 use std::process::Abort;
 use test_kit::End::{Begins, Prints};
 use test_kit::{End, form_line};
@@ -95,7 +96,8 @@ const NOT_TEXT: End = Prints(
 
 #[test]
 fn refuses_words_that_are_no_text(rt: HostRuntime) {
-    let output = output_of_fault(&rt, &not_text(rt.alloc()));
+    let fault = Fault::from(text_fault::<Name, BadValue>(rt.alloc()));
+    let output = output_of_fault(&rt, &fault);
     expect_end(&rt, &output, &NOT_TEXT, &["no text"]);
 }
 

@@ -3,7 +3,8 @@
 use crate::doubles::no_input;
 use crate::expect::expect_eq;
 use crate::runs::{SHOW, Words};
-use passtool_commands::{Fault, not_text, run};
+use command_line::text_fault;
+use passtool_commands::{BadValue, Fault, Name, run};
 use std::alloc::Global;
 use std::cell::RefCell;
 use std::fmt::Display;
@@ -89,5 +90,6 @@ fn reports_a_line_for_each_fault(rt: HostRuntime) {
 fn reports_the_text_of_clap_as_it_is(rt: HostRuntime) {
     let want =
         "error: invalid UTF-8 was detected in one or more arguments\n\nUsage: passtool <COMMAND>\n\nFor more information, try '--help'.\n";
-    expect_report(&rt, &not_text(rt.alloc()), want);
+    let fault = Fault::from(text_fault::<Name, BadValue>(rt.alloc()));
+    expect_report(&rt, &fault, want);
 }

@@ -1,7 +1,7 @@
-use Rattle.std.proofs.Common.{ap, map, refl, sym}
+use Rattle.std.proofs.Common.{Err, ap, map, refl, sym}
 use Rattle.std.specs.String.{string_bytes}
 use Rattle.clubdesk_commands.specs.OfficeDesk as spec
-use Rattle.clubdesk_commands.proofs.RunLemmas.{asks_for}
+use Rattle.clubdesk_commands.proofs.RunLemmas.{asks_for, refused_alike}
 use Rattle.clubdesk_commands.proofs.office_desk.answer_order.Goals as goal
 
 pub returns-in-Ok-ShowText : goal.returns-in-Ok-ShowText
@@ -9,7 +9,8 @@ returns-in-Ok-ShowText g c =
     (refl, spec.text_asked c.in-Ok-ShowText._text (rw (c.in-Ok-ShowText.field-0-is, c.as_slice.ensures.value) at c.in-Ok-ShowText.ensures))
 
 pub returns-in-Err : goal.returns-in-Err
-returns-in-Err g c = spec.words_refused c.in-Err.fault (rw c.as_slice.ensures.value at c.in-Err.ensures) refl refl
+returns-in-Err g c =
+    spec.words_refused c.in-Err.fault (refused_alike _ _ _ (ap (map string_bytes) c.as_slice.ensures.value) c.in-Err.ensures) (ap Err c.from.ensures) refl
 
 pub returns-in-Office : goal.returns-in-Office
 returns-in-Office g c =

@@ -1,4 +1,4 @@
-use Rattle.std.proofs.Common.{refl}
+use Rattle.std.proofs.Common.{Err, ap, refl}
 use Rattle.clubdesk_commands.specs.Run as spec
 use Rattle.clubdesk_commands.proofs.RunLemmas.{asks_for, performs_well, serves_well}
 use Rattle.clubdesk_commands.proofs.program.run.Goals as goal
@@ -8,7 +8,7 @@ returns-in-Ok-ShowText g c =
     spec.text_shown c.in-Ok-ShowText.text (rw c.in-Ok-ShowText.field-0-is at c.in-Ok-ShowText.ensures) c.show.ensures refl refl refl
 
 pub returns-in-Err : goal.returns-in-Err
-returns-in-Err g c = spec.words_refused c.in-Err.fault c.in-Err.ensures refl refl refl refl refl
+returns-in-Err g c = spec.words_refused c.in-Err.fault c.in-Err.ensures (ap Err c.from.ensures) refl refl refl refl
 
 pub returns-in-Office : goal.returns-in-Office
 returns-in-Office g c =

@@ -1,0 +1,115 @@
+//! What arguments ask for: the job of a row, from the values that they give it.
+
+ghost use Rattle.std.specs.Prelude.{◌≡◌, IsSome, map};
+ghost use Rattle.clap.specs.Words.{found_of, rows_of, subcommand_rows_of};
+ghost use Rattle.command_line.specs.Job.{Answers, MakesJob, ReadsJob, form_given};
+ghost use Rattle.command_line.specs.Table.{asked_in};
+
+use crate::errors::{WordsFault, form_fault};
+use crate::laws::words_name_a_row;
+use crate::options::value_of;
+use crate::table::Commands;
+use crate::value::read_value;
+use clap::error::ErrorKind;
+use clap::{ArgMatches, Error};
+use pass_forms::Form;
+use std::alloc::Global;
+use std::convert::AsStr;
+
+/// What arguments ask for.
+#[derive(Drop)]
+pub enum Asked<J> {
+    /// The help text or the version, which `clap` made.
+    ShowText(Error),
+    /// A command of the program, with its values.
+    Perform(J),
+}
+
+/// What a program's commands ask for, with the values of their arguments.
+pub trait Job<'a> {
+    type Command: Commands;
+
+    /// A value that an argument doesn't spell.
+    type BadValue;
+
+    ghost use Rattle.clap.specs.Words.{found_of, rows_of};
+    ghost use Rattle.command_line.specs.Job.{Answers, JobOf};
+
+    // what a row asks for
+    ghost job_of: { JobOf Self.Command Self Self.BadValue };
+
+    /// What a command asks for, by what `clap` found of its arguments.
+    fn read(
+        alloc: Global,
+        command: Self::Command,
+        options: &ArgMatches<'a>,
+    ) -> Result<Self, WordsFault<Self::BadValue>>
+        ensures { Answers (job_of command (rows_of (found_of options.now))) result };
+}
+
+/// What the arguments ask of the program. The first is its name. `clap` checks them first, then the
+/// command its values.
+///
+/// # Errors
+///
+/// `Refused` if `clap` refuses the arguments, or as the command does; `BadValue` as the command
+/// does; `Memory` only if an allocation fails.
+pub fn read_job<'a, J: Job<'a>, S: AsStr>(
+    alloc: Global,
+    words: &'a [S],
+) -> Result<Asked<J>, WordsFault<J::BadValue>>
+    ensures { ReadsJob J.Command.table J.job_of (map S.text words.entry.now) result }
+{
+    // By this law the arguments that are accepted name a row.
+    words_name_a_row::<J::Command>();
+    let Ok(application) = J::Command::application(alloc) else {
+        return Err(WordsFault::Memory);
+    };
+    match application.try_get_matches_from(words) {
+        Ok(matches) => match job_found(alloc, matches) {
+            Ok(job) => Ok(Asked::Perform(job)),
+            Err(fault) => Err(fault),
+        },
+        Err(error) => match error.kind() {
+            ErrorKind::DisplayHelp => Ok(Asked::ShowText(error)),
+            ErrorKind::DisplayVersion => Ok(Asked::ShowText(error)),
+            ErrorKind::OutOfMemory => Err(WordsFault::Memory),
+            _ => Err(WordsFault::Refused(error)),
+        },
+    }
+}
+
+// The job of the row that the arguments name.
+fn job_found<'a, J: Job<'a>>(
+    alloc: Global,
+    mut matches: ArgMatches<'a>,
+) -> Result<J, WordsFault<J::BadValue>>
+    requires { IsSome (asked_in J.Command.table (subcommand_rows_of matches)) }
+    ensures { MakesJob J.job_of
+        (asked_in J.Command.table (subcommand_rows_of matches.entry)) result }
+{
+    let Some((name, options)) = matches.remove_subcommand() else {
+        unreachable!()
+    };
+    let Some(command) = J::Command::named(name) else {
+        unreachable!()
+    };
+    J::read(alloc, command, &options)
+}
+
+/// The form that `--form` names.
+///
+/// # Errors
+///
+/// `Refused` if it is none of the three; `Memory` only if an allocation fails.
+pub fn read_form<C: Commands, V>(
+    alloc: Global,
+    options: &ArgMatches<'_>,
+) -> Result<Form, WordsFault<V>>
+    ensures { Answers (form_given (rows_of (found_of options.now))) result }
+{
+    match read_value(options, "form") {
+        Some(form) => Ok(form),
+        None => Err(form_fault::<C, V>(alloc, value_of(options, "form"))),
+    }
+}

@@ -1,5 +1,0 @@
-use Rattle.passtool_commands.proofs.WordsLemmas.{text_refused}
-use Rattle.passtool_commands.proofs.table.not_text.Goals as goal
-
-pub returns : goal.returns
-returns c = rw c.from.ensures (text_refused _ c.text_fault.ensures)
