@@ -1,7 +1,22 @@
-"""Drives the page on which a member looks, books and cancels, against the desk behind nginx with TLS.
+#!/usr/bin/env -S /usr/bin/python3 -B
+"""Drives web/book.html, the page on which a member looks, books and cancels, in Debian's chromium, against the desk over a file, behind
+Debian's nginx by the stored configuration, with TLS:
+- the day, a booking, a cancellation, the account, in English and German; what a pass leaves out; by keyboard alone, by swipes; six
+  requests at once; a page that is looked at again;
+- requests that get lost in each way, a desk that is killed, pages, tabs and browsers that end at each point; 200 bookings and
+  cancellations while the server is killed 30 times: the record is the table of bookings, and the totals are its sums;
+- odd passes, an odd or missing list of the club, a browser that keeps nothing, a clock that is wrong, replies that aren't the desk's;
+- the record on its way to another device; what deploy/record, deploy/club_json and deploy/letter print;
+- the hall's screen; names for screen readers, contrasts, widths, less motion; that nothing goes to another origin, and nothing runs but
+  what the page's policy names; how long a day takes, and how many bytes the pages are as they are sent.
+Not part of the gate.
+  tests/page_books.py                  all of it
+  tests/page_books.py FOLDER [STEP ..]     and pictures of the page into this folder; these functions alone
+  KILLS=3 BOOKINGS=20 tests/page_books.py ..     with fewer kills and bookings than 30 and 200
+"""
+# groups: browser
+# wants: openssl sqlite3 nginx-light nodejs qrencode zbar-tools curl tzdata chromium chromium-driver python3-selenium
 
-Run by page_books.sh in a folder of its own, with key.pem and certificate.pem: TOP CLUBDESK PASSTOOL FOLDER KILLS BOOKINGS, the
-repository's top and the folder for pictures."""
 import atexit
 import base64
 import contextlib
@@ -16,18 +31,22 @@ import socket
 import sqlite3
 import subprocess
 import sys
-import threading
+import tempfile
 import time
 from collections import Counter
 from datetime import datetime, timedelta, timezone
 
 from selenium.webdriver.common.keys import Keys
 
-from desk import SUMS
-from page_browser import Browser, check, policy_holds, CONTRASTS, SMALL_TARGETS
+import desk
+from between import FAILURES, Between
+from page_browser import Browser, check, policy_holds
 
-TOP, DESK, TOOL, PICTURES = sys.argv[1:5]
-KILLS, BOOKINGS = int(sys.argv[5]), int(sys.argv[6])
+TOP, DESK, TOOL, ROOM = desk.ROOT, desk.program("clubdesk"), desk.program("passtool"), tempfile.TemporaryDirectory()
+PICTURES = os.path.abspath(sys.argv[1]) if sys.argv[1:] else ROOM.name
+KILLS, BOOKINGS = int(os.environ.get("KILLS", "30")), int(os.environ.get("BOOKINGS", "200"))
+os.environ["PATH"] = f"/usr/sbin:/sbin:{os.environ['PATH']}"
+os.chdir(ROOM.name)
 ROOT = "00112233445566778899aabbccddeeff"
 draw = random.Random(20260501)
 # The club is in a zone of whole hours in which it is about noon now, so that today has hours before and after. Etc's names have the sign
@@ -52,102 +71,20 @@ def day(count=0):
 # ---- The desk, the proxy, and what is between them
 
 
-def free_port():
-    with socket.create_server(("127.0.0.1", 0)) as found:
-        return found.getsockname()[1]
-
-
-class Server:
+class Server(desk.Server):
     """clubdesk's server over the file `club`, which can be killed and started again at the same port."""
 
-    def __init__(self):
-        self.port, self.process = free_port(), None
-
-    def start(self):
-        words = [DESK, "serve", "club", "--port", str(self.port), "--count", "1000000", "--zone", RULE, "--log"]
-        self.process = subprocess.Popen(words, stdout=subprocess.PIPE, stderr=open("log", "ab"), text=True)
-        check(self.process.stdout.readline().startswith("listening"), "the server ended", self.process.poll())
-
-    def kill(self):
-        if self.process is not None:
-            self.process.kill()
-            self.process.wait()
-            self.process = None
+    start = desk.Server.__enter__
 
     def asked(self):
         """How often each method and path was asked, by the server's log."""
-        with open("log", encoding="utf-8") as log:
-            return Counter(tuple(line.split()[1:3]) for line in log)
-
-
-class Between:
-    """Passes connections on to the desk. `fates` says what becomes of the next ones whose request begins with a method, in order; `most`
-    is how many were here at once."""
-
-    def __init__(self, server):
-        self.server, self.fates = server, {}
-        self.here = self.most = 0
-        self.counting = threading.Lock()
-        self.listener = socket.create_server(("127.0.0.1", 0), backlog=200)
-        self.port = self.listener.getsockname()[1]
-        threading.Thread(target=self.listen, daemon=True).start()
-
-    def listen(self):
-        while True:
-            client, _ = self.listener.accept()
-            threading.Thread(target=self.serve, args=[client], daemon=True).start()
-
-    def serve(self, client):
-        with contextlib.suppress(OSError), client, self.counted():
-            request = b""
-            while b"\r\n\r\n" not in request:
-                request += client.recv(4096)
-            length = re.search(rb"content-length: (\d+)", request, re.I)
-            while length and len(request.split(b"\r\n\r\n", 1)[1]) < int(length[1]):
-                request += client.recv(4096)
-            waiting = self.fates.get(request.split()[0].decode(), [])
-            self.fulfil(client, request, waiting.pop(0) if waiting else "reply")
-
-    @contextlib.contextmanager
-    def counted(self):
-        with self.counting:
-            self.here += 1
-            self.most = max(self.most, self.here)
-        try:
-            yield
-        finally:
-            with self.counting:
-                self.here -= 1
-
-    def fulfil(self, client, request, fate):
-        kind, _, detail = fate.partition(" ")
-        if kind == "answer":
-            status, body = detail.split(" ", 1)
-            client.sendall(f"HTTP/1.1 {status} X\r\nContent-Length: {len(body)}\r\nConnection: close\r\n\r\n{body}".encode())
-        elif kind == "slow":
-            time.sleep(float(detail))
-            self.fulfil(client, request, "reply")
-        elif kind == "late":  # it is carried out, and the reply comes late
-            reply = self.exchanged(request)
-            time.sleep(float(detail))
-            client.sendall(reply)
-        elif kind != "silent":
-            reply = self.exchanged(request)
-            client.sendall(reply[:{"swallowed": 0, "head-cut": 40, "body-cut": len(reply) - 5}.get(kind, len(reply))])
-
-    def exchanged(self, request):
-        with socket.create_connection(("127.0.0.1", self.server.port)) as desk:
-            desk.sendall(request)
-            reply = b""
-            while piece := desk.recv(4096):
-                reply += piece
-        return reply
+        return Counter(tuple(line.split()[1:3]) for line in self.log.read_text(encoding="utf-8").splitlines())
 
 
 def start_proxy(upstream, rate=500, burst=2000):
     """nginx by the stored configuration, at another port, before another desk, with the pages of the folder `www`, and with another limit
     of requests: this script sends in a minute what a club sends in an hour."""
-    front = free_port()
+    front = desk.free_port()
     site = pathlib.Path(TOP, "deploy/nginx.conf").read_text()
     here = os.getcwd()
     for old, new in [("/etc/ssl/clubdesk/", f"{here}/"), (":8080", f":{upstream}"), ("/usr/share/clubdesk/web", f"{here}/www"), ("/var/www/club;", f"{here}/www;"),
@@ -168,21 +105,38 @@ def start_proxy(upstream, rate=500, burst=2000):
     return sys.exit("nginx doesn't listen")
 
 
-def office(*words, given=None):
-    done = subprocess.run([DESK, words[0], "club", *map(str, words[1:])], input=given, capture_output=True, text=True)
-    check(done.returncode == 0, words, done.stderr)
-    return done.stdout.strip()
+def printed(*words, given=None):
+    """What a command prints, which has to end well."""
+    status, text, fault = desk.order(*words, text=given)
+    check(status == 0, words, fault)
+    return text
+
+
+def refused(fault, *words, given=None, **variables):
+    """A command of the office is refused with a line, and prints nothing."""
+    found = desk.order(*words, text=given, env={**os.environ, **variables})
+    check(found[:2] == (1, "") and re.search(fault, found[2]), "what is refused", words, given, variables, found)
+
+
+def office(command, *words):
+    return printed(DESK, command, "club", *words).strip()
 
 
 def narrowed(text, *lines):
-    return subprocess.run([TOOL, "narrow", *lines], input=text, capture_output=True, text=True, check=True).stdout.strip()
+    return printed(TOOL, "narrow", *lines, given=text).strip()
+
+
+def fetched(front, path, *words):
+    """What curl prints of a path behind the proxy."""
+    return printed("curl", "-sS", "--noproxy", "*", "--cacert", "certificate.pem", "--resolve", f"desk.example.org:{front}:127.0.0.1", *words,
+                   f"https://desk.example.org:{front}{path}")
 
 
 def rows(question, *values):
     """Rows of the club, from a copy of the file as deploy/back_up makes it."""
     pathlib.Path("copy").unlink(missing_ok=True)
-    subprocess.run([f"{TOP}/deploy/back_up", "club", "copy"], check=True, stdout=subprocess.DEVNULL)
-    with contextlib.closing(sqlite3.connect("copy")) as club:
+    printed(f"{TOP}/deploy/back_up", "club", "copy")
+    with desk.opened("copy") as club:
         return club.execute(question, values).fetchall()
 
 
@@ -203,10 +157,10 @@ def make_club():
     return passes
 
 
-def club_list(titles="titles"):
-    pathlib.Path("titles").write_text("".join(f"{name} {title}\n" for name, title, *_ in FACILITIES if title))
-    environment = {**os.environ, "RULE": RULE, "CLUB": "Rowing & tennis", "TITLES": titles}
-    return subprocess.run([f"{TOP}/deploy/club_json", "club", ZONE], env=environment, capture_output=True, text=True)
+def club_list(titles):
+    """The list of the club, whose facilities have these titles."""
+    pathlib.Path("titles").write_text(titles)
+    return printed("env", f"RULE={RULE}", "CLUB=Rowing & tennis", "TITLES=titles", f"{TOP}/deploy/club_json", "club", ZONE)
 
 
 # ---- The browser
@@ -224,6 +178,7 @@ const settled = async (holds, limit = 20000) => {
   }
   return true;
 };
+const allAnswered = (count = 0) => state.entries.length >= count && state.entries.every((each) => unfinished(each) === null);
 const dayIsThere = () => byName("progress").hidden && byName("looked").textContent.includes(":");
 const pressIn = (root, words) => {
   const found = [...root.querySelectorAll("button")].find((each) => each.offsetParent !== null && !each.disabled
@@ -238,7 +193,7 @@ class BookingPage(Browser):
     helpers = HELPERS
 
     def __init__(self, front, before="", language="en-US", words=(), zone="America/New_York"):
-        self.address = f"https://desk.example.org:{front}/book.html"
+        self.front, self.address = front, f"https://desk.example.org:{front}/book.html"
         super().__init__(rules="MAP desk.example.org 127.0.0.1, MAP * ~NOTFOUND", before=before, language=language,
                          words=["ignore-certificate-errors", *words])
         self.driver.set_script_timeout(120)
@@ -250,10 +205,18 @@ class BookingPage(Browser):
             settled(() => {condition}, {limit * 1000}).then(done);""")
         check(found, *what, condition, self.run("return document.body.innerText"), self.driver.get_log("browser"))
 
-    def enter(self, text):
-        self.open(f"{self.address}#{text}" if text else self.address)
-        if text:
-            self.when("isShown('day') && dayIsThere()", "the day of a pass")
+    def visit(self, end, condition, *what):
+        """Opens the page with something behind its address, until something holds."""
+        self.open(self.address + end)
+        self.when(condition, *what)
+
+    def enter(self, text, ahead=None, keeps=None):
+        """A pass, which is kept or not by a button's words, and a day."""
+        self.visit(f"#{text}", "isShown('day') && dayIsThere()", "the day of a pass")
+        if keeps:
+            self.press(keeps, "notices")
+        if ahead is not None:
+            self.go(day(ahead))
 
     def go(self, wanted):
         self.run("showDay(arguments[0])", wanted)
@@ -277,11 +240,28 @@ class BookingPage(Browser):
             self.press("One guest more")
         self.run("byName('dialog').querySelector('.main').click()")
 
+    def comes(self, words, *what):
+        """Closes the dialog once it has these words."""
+        self.when(f"dialogText().includes({json.dumps(words)})", *what)
+        self.press("Close")
+
     def booked(self, facility, hour, guests=0):
         self.book(facility, hour, guests)
-        self.when("dialogText().includes('Booked.')", "a booking", facility, hour)
-        self.press("Close")
+        self.comes("Booked.", "a booking", facility, hour)
         return self.entries()[-1]
+
+    def cancelled(self, number, *what):
+        self.run("offerCancellation(ownEntries().find((each) => each.number === arguments[0]), () => {})", number)
+        self.press("Cancel the booking")
+        self.comes("came back", "a cancellation", *what)
+
+    def cancelled_in_the_list(self, *what, asked="", words="came back"):
+        """The first booking to come; the dialog asks and answers in these words."""
+        self.view("bookings")
+        self.run("byName('to-come').querySelector('.booked button').click()")
+        check(asked in self.run("return dialogText()"), *what, self.run("return dialogText()"))
+        self.press("Cancel the booking")
+        self.comes(words, *what)
 
     def entries(self):
         return self.driver.execute_async_script("""
@@ -323,8 +303,12 @@ def same_record(page, key):
     return len(found)
 
 
+def has(text, what, *words):
+    check(all(it in text for it in words), what, [it for it in words if it not in text], text)
+
+
 def totals_are_sums():
-    check(not rows(SUMS), "totals that aren't the sums", rows(SUMS))
+    check(not rows(desk.SUMS), "totals that aren't the sums", rows(desk.SUMS))
 
 
 # ---- The checks
@@ -344,8 +328,7 @@ def books_and_cancels(page, passes):
     page.press("One guest more")
     page.press("One guest more")
     text = page.run("return dialogText()")
-    for words in ("Book Court 1", "18:00", "4 places are free", "600 points", "999,399 points", "1 of 99", "Book for 600 points"):
-        check(words in text, "what a booking costs", words, text)
+    has(text, "what a booking costs", "Book Court 1", "18:00", "4 places are free", "600 points", "999,399 points", "1 of 99", "Book for 600 points")
     page.press("Book for 600 points")
     page.when("dialogText().includes('Booked.')", "a booking")
     check("600 points. Number" in page.run("return dialogText()"), "what came of it")
@@ -354,40 +337,28 @@ def books_and_cancels(page, passes):
     same_record(page, "amy-1")
     page.view("bookings")
     card = page.run("return byName('to-come').innerText")
-    for words in ("Court 1", "Booked", "3 persons", "600 points", "cancelling gives back all, 600 points"):
-        check(words in card, "a booking in the list", words, card)
-    page.run("byName('to-come').querySelector('button').click()")
-    check("Cancelling now gives back 600 points" in page.run("return dialogText()"), "one question")
-    page.press("Cancel the booking")
-    page.when("dialogText().includes('600 points came back')", "a cancellation")
-    page.press("Close")
+    has(card, "a booking in the list", "Court 1", "Booked", "3 persons", "600 points", "cancelling gives back all, 600 points")
+    page.cancelled_in_the_list("a cancellation", asked="Cancelling now gives back 600 points", words="600 points came back")
     page.when("byName('to-come').innerText.includes('Cancelled, 600 points came back')", "what is cancelled")
     # Less than a day ahead half comes back.
     page.view("day")
     page.go(day(0))
     hour = now().hour + 2
     entry = page.booked("room-1", hour)
-    page.view("bookings")
-    page.run("byName('to-come').querySelector('.booked button').click()")
-    check("gives back 300 points" in page.run("return dialogText()"), "half of it", page.run("return dialogText()"))
-    page.press("Cancel the booking")
-    page.when("dialogText().includes('300 points came back')", "half of it")
-    page.press("Close")
+    page.cancelled_in_the_list("half of it", asked="gives back 300 points", words="300 points came back")
     check(amounts("amy-1")[entry["number"]][-1] == 300, "the refund in the file")
     same_record(page, "amy-1")
     page.view("account")
     page.when("byName('account-facts').innerText.includes('999,698')", "the account")
     check("0 of 99" in page.run("return byName('account-facts').innerText"), "the account")
     # The pass is kept: another visit needs no link, and forgets it where the member says so.
-    page.open(page.address)
-    page.when("isShown('day') && dayIsThere()", "another visit")
+    page.visit("", "isShown('day') && dayIsThere()", "another visit")
     page.view("account")
     check("The pass is kept in this browser." in page.run("return shownText('account')"), "where the pass is")
     page.press("Forget the pass", "account")
     page.press("Forget the pass")
     page.when("isShown('welcome')", "a forgotten pass")
-    page.open(page.address)
-    page.when("isShown('welcome')", "a forgotten pass, at the next visit")
+    page.visit("", "isShown('welcome')", "a forgotten pass, at the next visit")
     check("Cancelled" in page.run("return byName('other-part').hidden ? '' : byName('others').textContent"), "its record stays")
     # By paste, for the tab.
     page.run("byName('given').value = `https://desk.example.org/book.html#${arguments[0]}\\n`; byName('use').click()", passes["amy-1"])
@@ -395,8 +366,7 @@ def books_and_cancels(page, passes):
     page.driver.refresh()
     page.when("isShown('day') && dayIsThere()", "a pass of this tab")
     page.driver.switch_to.new_window("tab")
-    page.open(page.address)
-    page.when("isShown('welcome')", "a pass of another tab")
+    page.visit("", "isShown('welcome')", "a pass of another tab")
     page.driver.close()
     page.driver.switch_to.window(page.driver.window_handles[0])
     print("a member who got a link books and cancels, whole and half; the pass is kept, forgotten, pasted")
@@ -405,8 +375,7 @@ def books_and_cancels(page, passes):
 def day_says_what_is(page, passes):
     """Each state of a slot; the days that can be chosen."""
     office("close-slot", "court-2", day(3), "10")
-    page.enter(passes["bob-1"])
-    page.go(day(3))
+    page.enter(passes["bob-1"], 3)
     words = {place: page.run("return cellAt(...arguments).button.innerText.replace(/\\s+/g, ' ')", *place) for place in [("court-2", 10), ("court-2", 11)]}
     check(words[("court-2", 10)] == "Closed" and words[("court-2", 11)] == "4 of 4 free 200 points", "a closed slot", words)
     check(page.run("return cellAt('court-2', 10).button.disabled"), "a closed slot can't be pressed")
@@ -447,8 +416,7 @@ def day_says_what_is(page, passes):
 def looks_six_at_a_time(page, passes, between):
     """The day's requests: six at once at most, and those of the facility that a narrow screen shows first; how far it is is shown."""
     page.sees(360, "light", 740)
-    page.enter(passes["bob-2"])
-    page.go(day(4))
+    page.enter(passes["bob-2"], 4)
     page.run("pressIn(byName('facility-choice'), 'Double scull')")
     page.requests()
     between.most = 0
@@ -469,8 +437,7 @@ def swipes(page, passes):
     """On a narrow screen one facility is shown: that which is chosen by its name, or swiped to."""
     page.sees(360, "light", 740)
     page.command("Emulation.setTouchEmulationEnabled", enabled=True)
-    page.enter(passes["bob-2"])
-    page.go(day(4))
+    page.enter(passes["bob-2"], 4)
 
     def shows(facility, *what):
         found = page.run("return [...byName('slots').querySelectorAll('td')].filter((each) => each.offsetParent !== null).map((each) => each.dataset.facility)")
@@ -513,8 +480,7 @@ def swipes(page, passes):
 
 def looks_again(page, passes):
     """A page that is looked at again after a while asks for its day again; one that was away for a moment doesn't."""
-    page.enter(passes["bob-2"])
-    page.go(day(4))
+    page.enter(passes["bob-2"], 4)
     own = page.driver.current_window_handle
 
     def goes_away(seconds):
@@ -556,8 +522,7 @@ return [...document.querySelectorAll("*")].filter((each) => [null, "::before", "
 
 def moves_little(page, passes):
     """Nothing moves for whoever asks the system for less of it."""
-    page.enter(passes["bob-2"])
-    page.go(day(4))
+    page.enter(passes["bob-2"], 4)
     page.offer("court-1", 10)
     for wanted in ("no-preference", "reduce"):
         page.command("Emulation.setEmulatedMedia", features=[{"name": "prefers-reduced-motion", "value": wanted}])
@@ -569,10 +534,7 @@ def moves_little(page, passes):
 
 
 def curl(page, method, path, text, body=None):
-    port = page.address.split(":")[2].split("/")[0]
-    words = ["curl", "-sS", "--noproxy", "*", "--cacert", "certificate.pem", "--resolve", f"desk.example.org:{port}:127.0.0.1", "-w", " %{http_code}",
-             "-X", method, "-H", f"Authorization: Bearer {text}", f"https://desk.example.org:{port}{path}"]
-    return subprocess.run([*words, *(["-d", body] if body else [])], capture_output=True, text=True, check=True).stdout
+    return fetched(page.front, path, "-w", " %{http_code}", "-X", method, "-H", f"Authorization: Bearer {text}", *(["-d", body] if body else []))
 
 
 def leaves_out_what_the_pass_denies(page, passes):
@@ -582,16 +544,14 @@ def leaves_out_what_the_pass_denies(page, passes):
     check(heads == ["Court 1", "Court 2", "Court 3 (indoor)"], "a pass of courts shows no rooms", heads)
     page.view("account")
     page.when("byName('account-facts').innerText.includes('Only courts.')", "a pass of courts shows no account")
-    page.enter(narrowed(whole, "actions = view,book", "hours = 10-12", "guests <= 1"))
-    page.go(day(4))
+    page.enter(narrowed(whole, "actions = view,book", "hours = 10-12", "guests <= 1"), 4)
     cells = page.run("return [9, 10, 11, 12].map((hour) => cellAt('court-1', hour).button.innerText.split('\\n')[0])")
     check(cells == ["Not with your pass", "4 of 4 free", "4 of 4 free", "Not with your pass"], "a pass of hours", cells)
     page.offer("court-1", 10)
     page.press("One guest more")
     check(page.run("return [...byName('dialog').querySelectorAll('.step-button')][1].disabled"), "no more guests than the pass allows")
     page.run("byName('dialog').querySelector('.main').click()")
-    page.when("dialogText().includes('Booked.')", "a booking under a narrowed pass")
-    page.press("Close")
+    page.comes("Booked.", "a booking under a narrowed pass")
     page.view("bookings")
     check(page.run("return byName('to-come').querySelector('.booked button') === null"), "a pass without cancel shows no button to cancel")
     limits = page.run("byName('to-account').click(); return [...document.querySelectorAll('#pass-limits li span')].map((each) => each.textContent)")
@@ -602,13 +562,11 @@ def leaves_out_what_the_pass_denies(page, passes):
     page.enter(narrowed(whole, "until < 2026-01-01T00:00"))
     text = page.run("return shownText('day-fault')")
     check("Until Thursday 1 January 2026, 00:00." in text, "a pass whose time is over", text)
-    page.enter(narrowed(whole, "actions = book,cancel"))
-    page.go(day(5))
+    page.enter(narrowed(whole, "actions = book,cancel"), 5)
     check(page.run("return cellAt('court-1', 15).button.innerText") == "Book", "a pass that doesn't look books")
     page.booked("court-1", 15)
     # The desk decides: a limit of points that the page can't see bites.
-    page.enter(narrowed(whole, "spend <= 0"))
-    page.go(day(5))
+    page.enter(narrowed(whole, "spend <= 0"), 5)
     page.book("court-1", 16)
     page.when("dialogText().includes('Not booked.')", "a refusal")
     text = page.run("return dialogText()")
@@ -621,37 +579,30 @@ def leaves_out_what_the_pass_denies(page, passes):
 
 def refusals_say_what_to_do(page, passes, between):
     """Those that a member meets, by the desk; the others as somebody in between would send them; each in both languages."""
-    page.enter(passes["bob-1"])
-    page.go(day(6))
+    page.enter(passes["bob-1"], 6)
     page.booked("court-1", 9)
     page.booked("court-1", 10)
     page.book("court-1", 11)
-    page.when("dialogText().includes('as many open bookings as you may have')", "fault 19")
-    page.press("Close")
+    page.comes("as many open bookings as you may have", "fault 19")
     page.run("offerCancellation(ownEntries().find(isLive), () => {})")
     page.press("Cancel the booking")
-    page.when("dialogText().includes('came back')", "a cancellation")
-    page.press("Close")
+    page.comes("came back", "a cancellation")
     page.book("room-1", 11)
-    page.when("dialogText().includes('enough points')", "fault 20")
-    page.press("Close")
+    page.comes("enough points", "fault 20")
     # A slot that fills, or is closed, between the look and the press.
     curl(page, "PUT", f"/slots/court-3/{day(6)}/12/bookings/77", passes["other"], '{"guests":1}')
     page.book("court-3", 12)
-    page.when("dialogText().includes('Not enough places are free any more')", "fault 18")
-    page.press("Close")
+    page.comes("Not enough places are free any more", "fault 18")
     curl(page, "DELETE", f"/slots/court-3/{day(6)}/12/bookings/77", passes["other"])
     office("close-slot", "court-3", day(6), "13")
     page.book("court-3", 13)
-    page.when("dialogText().includes('The office closed this slot')", "fault 17")
-    page.press("Close")
+    page.comes("The office closed this slot", "fault 17")
     page.when("cellAt('court-3', 13).button.innerText === 'Closed'", "a slot that was looked at again")
     # A number that the key used already: another one is taken by itself.
     used = 123456789
     curl(page, "PUT", f"/slots/court-2/{day(6)}/12/bookings/{used}", passes["amy-1"], '{"guests":1}')
     curl(page, "DELETE", f"/slots/court-2/{day(6)}/12/bookings/{used}", passes["amy-1"])
-    page.enter(passes["amy-1"])
-    page.go(day(6))
+    page.enter(passes["amy-1"], 6)
     page.run("""const numbers = [arguments[0], 987654321]; state.sender.draw = () => numbers.shift();""", used)
     page.book("court-2", 13)
     page.when("dialogText().includes('Booked.')", "a booking after fault 13")
@@ -690,29 +641,20 @@ def refusals_say_what_to_do(page, passes, between):
         page.book("court-2", hour)
         page.when(f"dialogText().includes(\"{words}\") && dialogText().includes('Sending again, try')", "a booking", status)
         between.fates.clear()
-        page.when("dialogText().includes('Booked.')", "a booking at last")
-        page.press("Close")
+        page.comes("Booked.", "a booking at last")
         check([place[:3] for place in amounts("amy-1").values()].count(("court-2", day(6), hour)) == 1, "it is booked once", status)
     print("each of the 22 faults has its own sentence in both languages, and so have 502 and 504; those that a member meets were met")
 
 
-FAILURES = ["silent", "answer 502 <html>bad gateway</html>", "answer 504 <html>gateway timeout</html>", "answer 200 <html>a page</html>",
-            'answer 500 {"error":"proxy"}', 'answer 503 {"fault":22,"text":"unavailable"}', "swallowed", "head-cut", "body-cut"]
-
-
 def survives_failures(page, passes, between):
     """A booking and a cancellation whose requests get lost in each way: once each."""
-    page.enter(passes["fails-1"])
-    page.go(day(7))
+    page.enter(passes["fails-1"], 7)
     for place, failure in enumerate(FAILURES):
         between.fates["PUT"] = [failure]
         entry = page.booked("boat-1", 8 + place)
         check(not between.fates["PUT"], "a failure that wasn't met", failure)
         between.fates["DELETE"] = [failure]
-        page.run("offerCancellation(ownEntries().find((each) => each.number === arguments[0]), () => {})", entry["number"])
-        page.press("Cancel the booking")
-        page.when("dialogText().includes('came back')", "a cancellation after", failure)
-        page.press("Close")
+        page.cancelled(entry["number"], failure)
     between.fates["PUT"] = list(FAILURES)
     page.booked("boat-1", 20)
     # What takes longer than a second is seen, and what it means after ten.
@@ -721,8 +663,7 @@ def survives_failures(page, passes, between):
     page.when("dialogText().includes('Sending again, try')", "sending again")
     page.when("dialogText().includes('nothing is booked twice')", "a long wait")
     between.fates["PUT"] = []
-    page.when("dialogText().includes('Booked.')", "a booking at last")
-    page.press("Close")
+    page.comes("Booked.", "a booking at last")
     # A slot that gets no answer says so, spoils no other, and is looked at again where it is pressed.
     between.fates["GET"] = ["silent"] * 200  # the page may be looking at others still
     page.run("lookAt(cellAt('boat-2', 10), round)")
@@ -738,9 +679,7 @@ def survives_failures(page, passes, between):
 
 def pages_end(page, passes, between, server):
     """A page that ends before its request was sent, while it is under way, or before its reply came: the next visit finishes it."""
-    page.enter(passes["ends-1"])
-    page.press("Keep it", "notices")
-    page.go(day(8))
+    page.enter(passes["ends-1"], 8, "Keep it")
     before = len(amounts("ends-1"))
     for place, fate in enumerate(["slow 3", "late 3", "silent"]):
         page.go(day(8))
@@ -748,16 +687,13 @@ def pages_end(page, passes, between, server):
         page.book("court-2", 9 + place)
         page.when("state.entries.some((each) => each.book === null)", "a booking on record")
         time.sleep(0.3)
-        page.driver.get("about:blank")
-        page.open(page.address)
-        page.when("state.entries.length > 0 && state.entries.every((each) => unfinished(each) === null)", "a booking that the next visit finishes")
+        page.visit("", "allAnswered(1)", "a booking that the next visit finishes")
     check(len(amounts("ends-1")) == before + 3, "bookings of pages that ended")
     # It ends between the record and the sending.
     page.go(day(8))
     page.run("""state.sender.run = async () => {}; return state.sender.book({ facility: "court-2", day: arguments[0], hour: 14 }, 0, false)""", day(8))
     check(len(amounts("ends-1")) == before + 3, "nothing was sent")
-    page.open(page.address)
-    page.when("state.entries.every((each) => unfinished(each) === null)", "a booking that was written down and not sent")
+    page.visit("", "allAnswered()", "a booking that was written down and not sent")
     # A cancellation likewise.
     number = page.entries()[-1]["number"]
     between.fates["DELETE"] = ["late 3"]
@@ -765,9 +701,7 @@ def pages_end(page, passes, between, server):
     page.run("offerCancellation(ownEntries().find((each) => each.number === arguments[0]), () => {})", number)
     page.press("Cancel the booking")
     time.sleep(0.3)
-    page.driver.get("about:blank")
-    page.open(page.address)
-    page.when("state.entries.length > 0 && state.entries.every((each) => unfinished(each) === null)", "a cancellation that the next visit finishes")
+    page.visit("", "allAnswered(1)", "a cancellation that the next visit finishes")
     check(amounts("ends-1")[number][-2] == 1, "it is cancelled")
     # The desk is away for a while.
     page.go(day(8))
@@ -775,14 +709,13 @@ def pages_end(page, passes, between, server):
     page.book("court-2", 16)
     page.when("dialogText().includes('Sending again')", "a desk that is away")
     server.start()
-    page.when("dialogText().includes('Booked.')", "a desk that is back")
-    page.press("Close")
+    page.comes("Booked.", "a desk that is back")
     same_record(page, "ends-1")
     totals_are_sums()
     print("pages that end before, in and after a request, and a desk that is away: each booking once")
 
 
-def writes_before_it_sends(front, passes):
+def writes_before_it_sends(passes, front):
     """What is to be sent is on the disk before it is, and so is its reply before it counts."""
     watch = """{
         globalThis.order = [];
@@ -799,8 +732,7 @@ def writes_before_it_sends(front, passes):
         };
         }"""
     with BookingPage(front, before=watch) as page:
-        page.enter(passes["carol-1"])
-        page.go(day(6))
+        page.enter(passes["carol-1"], 6)
         entry = page.booked("boat-2", 20)
         page.run("offerCancellation(ownEntries().find((each) => each.number === arguments[0]), () => {})", entry["number"])
         page.press("Cancel the booking")
@@ -810,15 +742,15 @@ def writes_before_it_sends(front, passes):
     print("each request is on the disk before it is sent, and its reply after")
 
 
-def lists_what_is_past(front, passes):
+def lists_what_is_past(passes, front):
     """Past bookings are listed apart, the newest first, and nothing can be done about them."""
     with BookingPage(front) as page:
         page.enter(passes["amy-phone"])
         page.view("account")
         page.when("shownText('account-facts').includes('of 99')", "the account")
         page.view("account")
-        for words in ("One key for each person.", "One key for each device.", "as amy-phone, each keeps", "Lost telephone?", "Forget the pass"):
-            check(words in page.run("return shownText('account')"), "what is said where it bites", words, page.run("return shownText('account')"))
+        has(page.run("return shownText('account')"), "what is said where it bites", "One key for each person.", "One key for each device.",
+            "as amy-phone, each keeps", "Lost telephone?", "Forget the pass")
         page.run("byName('import-text').value = arguments[0]; byName('import').requestSubmit()", "record of amy-phone\n"
                  f"5 court-1 {day(-3)} 10 guests 1 charge 400 left 2\n6 boat-1 {day(-2)} 09 guests 0 charge 150 left 1 refund 75\n")
         page.when("shownText('import-news').includes('2 bookings')", "a record of past bookings")
@@ -833,12 +765,9 @@ def lists_what_is_past(front, passes):
 
 
 def tabs_send_nothing_twice(page, passes, between, server):
-    page.enter(passes["tabs-1"])
-    page.press("Keep it", "notices")
-    page.go(day(9))
+    page.enter(passes["tabs-1"], 9, "Keep it")
     page.driver.switch_to.new_window("tab")
-    page.open(page.address)
-    page.when("isShown('day') && dayIsThere()", "a second tab")
+    page.visit("", "isShown('day') && dayIsThere()", "a second tab")
     page.go(day(9))
     first, second = page.driver.window_handles
     asked = server.asked()
@@ -851,8 +780,7 @@ def tabs_send_nothing_twice(page, passes, between, server):
     check("second" in second_entry, "a second booking of the slot isn't made by another tab", second_entry)
     page.booked("court-1", 10)
     page.driver.switch_to.window(second)
-    page.when("dialogText().includes('Booked.')", "the first tab's booking")
-    page.press("Close")
+    page.comes("Booked.", "the first tab's booking")
     page.when("cellAt('court-1', 10).button.innerText.includes('Yours')", "what the other tab booked")
     # Both tabs have something to send, and the browser one writer.
     between.fates["PUT"] = ["silent"] * 6
@@ -860,7 +788,7 @@ def tabs_send_nothing_twice(page, passes, between, server):
     page.run("state.sender.run()")
     page.driver.switch_to.window(first)
     page.run("state.sender.run()")
-    page.when("state.entries.every((each) => unfinished(each) === null)", "both tabs are done")
+    page.when("allAnswered()", "both tabs are done")
     puts = {path: count - asked[method, path] for (method, path), count in server.asked().items() if method == "PUT" and day(9) in path}
     puts = {path: count for path, count in puts.items() if count}
     check(len(puts) == 5 and set(puts.values()) == {1}, "a request that was sent twice", puts)
@@ -868,13 +796,11 @@ def tabs_send_nothing_twice(page, passes, between, server):
     page.offer("court-1", 10)
     page.press("Book a second time")
     page.run("byName('dialog').querySelector('.main').click()")
-    page.when("dialogText().includes('Booked.')", "a second booking")
-    page.press("Close")
+    page.comes("Booked.", "a second booking")
     # A double press books once.
     page.offer("court-1", 14)
     page.run("const press = byName('dialog').querySelector('.main'); press.click(); press.click(); press.click();")
-    page.when("dialogText().includes('Booked.')", "a double press")
-    page.press("Close")
+    page.comes("Booked.", "a double press")
     check(sum(each["hour"] == 14 and each["day"] == day(9) for each in page.entries()) == 1, "a double press books once")
     page.driver.switch_to.window(second)
     page.driver.close()
@@ -883,7 +809,7 @@ def tabs_send_nothing_twice(page, passes, between, server):
     print("two tabs and a double press send nothing twice; a second booking is asked for")
 
 
-def survives_kills(front, passes, server):
+def survives_kills(passes, front, server):
     """Bookings and cancellations while the server is killed: the record is the table."""
     with BookingPage(front) as page:
         page.enter(passes["kill-1"])
@@ -926,13 +852,11 @@ def survives_kills(front, passes, server):
           "totals are its sums")
 
 
-def browser_ends(front, passes, between):
+def browser_ends(passes, front, between):
     """A browser that is killed while its booking has no reply goes on when it is there again."""
     folder = os.path.abspath("profile")
     with BookingPage(front, words=[f"user-data-dir={folder}"]) as page:
-        page.enter(passes["browser-1"])
-        page.press("Keep it", "notices")
-        page.go(day(10))
+        page.enter(passes["browser-1"], 10, "Keep it")
         time.sleep(8)  # a browser writes down what is kept beside the record at its leisure
         between.fates["PUT"] = ["late 5"]
         page.book("boat-2", 9, 1)
@@ -947,8 +871,7 @@ def browser_ends(front, passes, between):
         name.unlink()
     between.fates.clear()
     with BookingPage(front, words=[f"user-data-dir={folder}"]) as page:
-        page.open(page.address)
-        page.when("isShown('day') && state.entries.length === 1 && unfinished(state.entries[0]) === null", "a browser that is there again")
+        page.visit("", "isShown('day') && state.entries.length === 1 && allAnswered()", "a browser that is there again")
         check(same_record(page, "browser-1") == 1, "its booking")
     shutil.rmtree(folder)
     print("a browser that was killed in a booking finishes it when it is there again")
@@ -963,7 +886,7 @@ BROKEN = {
 }
 
 
-def broken_browsers(front, passes, server):
+def broken_browsers(passes, front, server):
     for what, (script, words) in BROKEN.items():
         with BookingPage(front, before=script) as page:
             page.enter(passes["full-1"])
@@ -975,25 +898,22 @@ def broken_browsers(front, passes, server):
     full = "IDBObjectStore.prototype.put = function () { throw new DOMException('full', 'QuotaExceededError'); };"
     with BookingPage(front, before=full) as page:
         asked = server.asked().total()
-        page.enter(passes["full-1"])
-        page.go(day(11))
+        page.enter(passes["full-1"], 11)
         looked = server.asked()
         page.book("court-1", 9)
-        page.when("dialogText().includes('Nothing was sent.')", "a full storage")
-        page.press("Close")
+        page.comes("Nothing was sent.", "a full storage")
         check(all(method == "GET" for method, _ in (server.asked() - looked)), "nothing was sent", server.asked() - looked, asked)
     # Full once the reply is there: it is shown, and asked for again at the next visit.
     later = """const put = IDBObjectStore.prototype.put;
         IDBObjectStore.prototype.put = function (entry) { if (entry.book) throw new DOMException('full', 'QuotaExceededError'); return put.call(this, entry); };"""
     with BookingPage(front) as page:
-        page.enter(passes["full-1"])
-        page.go(day(11))
+        page.enter(passes["full-1"], 11)
         page.run(later)
         page.book("court-1", 10)
         page.when("dialogText().includes('Booked.')", "a storage that gets full")
         check("couldn't write the answer down" in page.run("return dialogText()"), "it says so")
         page.driver.refresh()
-        page.when("isShown('day') && state.entries.length === 1 && unfinished(state.entries[0]) === null", "the reply again")
+        page.when("isShown('day') && state.entries.length === 1 && allAnswered()", "the reply again")
         number = page.entries()[0]["number"]
         check(amounts("full-1")[number][0:3] == ("court-1", day(11), 10), "the booking in the file")
     # Storage for passes refused: the pass is there as long as the page is.
@@ -1005,7 +925,7 @@ def broken_browsers(front, passes, server):
     print(f"{len(BROKEN) + 3} browsers that keep nothing, too little or only at first: nothing is sent that can't be written down, and each says so")
 
 
-def clocks(front, passes):
+def clocks(passes, front):
     ahead = "const now = Date.now; Date.now = () => now() + 3 * 3600000 + 120000;"
     with BookingPage(front, before=ahead, zone="Pacific/Auckland") as page:
         page.enter(passes["amy-1"])
@@ -1027,23 +947,18 @@ def odd_passes(page, passes):
         page.run("byName('given').value = arguments[0]; byName('use').click()", text)
         page.when(f"shownText('given-fault').includes(\"{words}\")", "an odd pass", text)
         check(page.run("return document.activeElement === byName('given') && byName('given').getAttribute('aria-invalid') === 'true'"), "where it is")
-        page.open(f"{page.address}#{text}")
-        page.when(f"shownText('given-fault').includes(\"{words}\")", "an odd pass in a link", text)
+        page.visit(f"#{text}", f"shownText('given-fault').includes(\"{words}\")", "an odd pass in a link", text)
         check("#" not in page.driver.current_url, "its address is cleaned")
     # A pass in each form is a pass.
     for form in ("v1", "v2", "json"):
-        text = subprocess.run([TOOL, "convert", "--form", form], input=whole, capture_output=True, text=True).stdout.strip()
-        check(text, "passtool convert", form)
-        page.run("byName('given').value = arguments[0]; byName('use').click()", f"  {text}\n")
+        text = printed(TOOL, "convert", "--form", form, given=whole)
+        page.run("byName('given').value = arguments[0]; byName('use').click()", f"  {text}")
         page.when("isShown('day') && dayIsThere()", "a pass in", form)
         page.run("dropPass(); forgetPass()")
     # A pass that the desk doesn't know, one that has an unknown limit, one that names no key.
-    page.enter("")
-    forged = subprocess.run([TOOL, "mint", "--root", ROOT, "--id", "key:amy-1"], capture_output=True, text=True, check=True).stdout.strip()
-    other = subprocess.run([TOOL, "mint", "--root", ROOT, "--id", "amy"], capture_output=True, text=True, check=True).stdout.strip()
-    for text, words in [(forged, "doesn't know this pass"), (other, "doesn't know this pass")]:
-        page.open(f"{page.address}#{text}")
-        page.when(f"shownText('day-fault').includes(\"{words}\")", "a pass that the desk refuses", text)
+    for identifier in ("key:amy-1", "amy"):
+        text = printed(TOOL, "mint", "--root", ROOT, "--id", identifier).strip()
+        page.visit(f"#{text}", "shownText('day-fault').includes(\"doesn't know this pass\")", "a pass that the desk refuses", text)
     print(f"{len(rows_of) - 1} odd passes, entered and in links, have their sentences; passes of each form are taken")
 
 
@@ -1054,8 +969,7 @@ def odd_clubs(page, passes):
         pathlib.Path("www/club.json").unlink(missing_ok=True)
         if text is not None:
             pathlib.Path("www/club.json").write_text(text)
-        page.open(f"{page.address}#{passes['amy-1']}")
-        page.when(f"shownText('notices').includes(\"{words}\")", "an odd list", text)
+        page.visit(f"#{passes['amy-1']}", f"shownText('notices').includes(\"{words}\")", "an odd list", text)
         page.view("bookings")
         page.view("account")
         page.when("byName('account-facts').innerText.includes('of 99')", "the account, without the list")
@@ -1066,22 +980,19 @@ def odd_clubs(page, passes):
     print("a missing or odd club.json is said, and looked for again; the rest goes on")
 
 
-def rotations(front, passes, between):
+def rotations(passes, front, between):
     """A rotated key: the old pass is refused, an open booking goes on under the new one."""
     with BookingPage(front) as page:
-        page.enter(passes["amy-son"])
-        page.go(day(12))
+        page.enter(passes["amy-son"], 12)
         between.fates["PUT"] = ["swallowed"] + ["silent"] * 100
         page.book("court-1", 9)
         page.when("dialogText().includes('Sending again')", "no reply")
         new = office("rotate-key", "amy-son", "99" + ROOT, "2000-01-01T00:00")
         between.fates.clear()
-        page.when("dialogText().includes(\"isn't known\")", "a pass that is refused meanwhile")
-        page.press("Close")
+        page.comes("isn't known", "a pass that is refused meanwhile")
         page.view("bookings")
         check("Whether this is booked isn't known" in page.run("return byName('to-come').innerText"), "a booking of which nothing is known")
-        page.open(f"{page.address}#{new}")
-        page.when("isShown('day') && state.entries.every((each) => unfinished(each) === null && each.stopped === undefined)", "the new pass")
+        page.visit(f"#{new}", "isShown('day') && state.entries.every((each) => unfinished(each) === null && each.stopped === undefined)", "the new pass")
         check(same_record(page, "amy-son") == 1, "one booking")
         # A pass of another key waits for its own.
         between.fates["PUT"] = ["silent"] * 100
@@ -1093,17 +1004,15 @@ def rotations(front, passes, between):
         page.when("isShown('day') && dayIsThere()", "another key's pass")
         page.view("bookings")
         page.when("shownText('needs-pass').includes('1 request of amy-son has no answer yet')", "a request that needs its pass")
-        page.open(f"{page.address}#{new}")
-        page.when("isShown('day') && state.entries.every((each) => unfinished(each) === null)", "its pass again")
+        page.visit(f"#{new}", "isShown('day') && allAnswered()", "its pass again")
         check(same_record(page, "amy-son") == 2, "two bookings")
     print("a rotated key, and passes of two keys: what had no reply goes on under its own key")
 
 
-def devices(front, passes, server):
+def devices(passes, front, server):
     """The record to another browser by text, by QR code and from the office; a booking of which number and slot are known."""
     with BookingPage(front) as page:
-        page.enter(passes["amy-phone"])
-        page.go(day(13))
+        page.enter(passes["amy-phone"], 13)
         for hour in (9, 10, 11):
             page.booked("court-1", hour, 1)
         page.view("account")
@@ -1114,9 +1023,9 @@ def devices(front, passes, server):
         box = page.run("const { left, top, width, height } = byName('export-qr').querySelector('svg').getBoundingClientRect(); return [left + scrollX, top + scrollY, width, height]")
         clip = dict(zip(["x", "y", "width", "height"], box), scale=2)
         pathlib.Path("qr.png").write_bytes(base64.b64decode(page.command("Page.captureScreenshot", captureBeyondViewport=True, clip=clip)["data"]))
-        link = subprocess.run(["zbarimg", "-q", "--raw", "qr.png"], capture_output=True, text=True).stdout.strip()
+        link = printed("zbarimg", "-q", "--raw", "qr.png").strip()
         check(link.startswith(f"{page.address}#record=amy-phone;"), "the QR code", link)
-    by_office = subprocess.run([f"{TOP}/deploy/record", "club", "amy-phone"], capture_output=True, text=True, check=True).stdout
+    by_office = printed(f"{TOP}/deploy/record", "club", "amy-phone")
     check(len(by_office.splitlines()) >= 4, "what the office prints", by_office)
     with BookingPage(front) as page:
         page.enter(passes["amy-phone"])
@@ -1133,11 +1042,7 @@ def devices(front, passes, server):
         page.when("shownText('import-news').includes('were here already')", "the same again")
         page.run("byName('import-text').value = 'record of amy-phone\\n12 court-1'; byName('import').requestSubmit()")
         page.when("shownText('import-news').includes(\"Line 2 isn't one\")", "an odd record")
-        page.view("bookings")
-        page.run("byName('to-come').querySelector('.booked button').click()")
-        page.press("Cancel the booking")
-        page.when("dialogText().includes('came back')", "a cancellation of what another browser booked")
-        page.press("Close")
+        page.cancelled_in_the_list("a cancellation of what another browser booked")
         same_record(page, "amy-phone")
     number = max(amounts("amy-phone"), key=lambda each: amounts("amy-phone")[each][2] if not amounts("amy-phone")[each][-2] else 0)
     slot = amounts("amy-phone")[number]
@@ -1146,29 +1051,22 @@ def devices(front, passes, server):
         page.view("account")
         page.run("byName('lost-part').open = true")
         unused = next(each for each in range(1, 1000) if each not in amounts("amy-phone"))
-        fill = "byName('lost-number').value = arguments[0]; byName('lost-facility').value = arguments[1]; byName('lost-day').value = arguments[2]; " \
-               "byName('lost-hour').value = arguments[3]; byName('lost').requestSubmit()"
-        page.run(fill, "0", slot[0], slot[1], str(slot[2]))
-        page.when("shownText('lost-news').includes('A number from 1')", "no number")
         before = amounts("amy-phone")
-        page.run(fill, str(unused), slot[0], slot[1], str(slot[2]))
-        page.when("shownText('lost-news').includes('never used this number')", "a number that the key never used")
-        page.run(fill, str(number), slot[0], slot[1], str(slot[2]))
-        page.when("shownText('lost-news').includes('Noted')", "number and slot")
+        for asked, words in (("0", "A number from 1"), (unused, "never used this number"), (number, "Noted")):
+            page.run("""["number", "facility", "day", "hour"].forEach((name, place) => { byName(`lost-${name}`).value = arguments[place]; });
+                byName("lost").requestSubmit();""", *map(str, (asked, *slot[:3])))
+            page.when(f"shownText('lost-news').includes('{words}')", "a booking by its number")
         check(amounts("amy-phone") == before, "the question changes nothing")
         page.view("bookings")
         page.when("byName('to-come').innerText.includes('Noted by its number')", "in the list")
-        page.run("byName('to-come').querySelector('button').click()")
-        page.press("Cancel the booking")
-        page.when("dialogText().includes('came back')", "a cancellation by number and slot")
+        page.cancelled_in_the_list("a cancellation by number and slot")
         check(amounts("amy-phone")[number][-2] == 1, "it is cancelled")
     print("the record goes to other browsers by text, by QR code and from the office; number and slot suffice to cancel")
 
 
-def cancelled_by_the_office(front, passes, server):
+def cancelled_by_the_office(passes, front, server):
     with BookingPage(front) as page:
-        page.enter(passes["bob-2"])
-        page.go(day(14))
+        page.enter(passes["bob-2"], 14)
         entry = page.booked("boat-2", 9, 1)
         page.view("bookings")
         page.when("byName('to-come').innerText.includes('Booked')", "a booking")
@@ -1189,17 +1087,13 @@ def cancelled_by_the_office(front, passes, server):
 
 
 def goes_by_keyboard(page, passes):
-    page.open(page.address)
-    page.when("isShown('welcome')", "the page")
+    page.visit("", "isShown('welcome')", "the page")
     page.sees(1280, "light")
 
     def tab_to(condition, *what):
         for _ in range(120):
             page.keys(Keys.TAB)
-            outline = page.run("const style = getComputedStyle(document.activeElement); return [style.outlineStyle, style.outlineWidth];")
-            # Of a date the browser marks the part that has the focus.
-            is_date = page.run("return document.activeElement.type === 'date'")
-            check(is_date or outline == ["solid", "3px"], "a focus that can't be seen", page.run("return document.activeElement.outerHTML.slice(0, 120)"), outline)
+            page.focus_is_seen()
             if page.run(f"const at = document.activeElement; return {condition}"):
                 return
         check(False, "not reached by keyboard", *what, condition)
@@ -1240,17 +1134,7 @@ def goes_by_keyboard(page, passes):
     print("the whole way by keyboard: pass, day, slot, guests, booking, cancellation")
 
 
-def named_for_screen_readers(page, states):
-    tree = [node for node in page.command("Accessibility.getFullAXTree")["nodes"] if not node["ignored"]]
-    for node in tree:
-        properties = {each["name"]: each["value"].get("value") for each in node.get("properties", [])}
-        if properties.get("focusable") or node["role"]["value"] in ("region", "dialog", "navigation", "table"):
-            check(node["name"]["value"].strip(), "no name for a screen reader", states, node["role"], node.get("description"))
-    live = page.run("return [...document.querySelectorAll('[role=status], [role=alert], [aria-live]')].map((each) => each.id)")
-    check({"notices", "day-fault", "given-fault", "account-facts"} <= set(live), "what a screen reader hears of when it changes", live)
-
-
-def looks_right(front, passes):
+def looks_right(passes, front):
     """Pictures; no sideways scrolling from 320 pixels to a wall; contrasts, targets and names, in each view, language and scheme."""
     texts = 0
     for language in ("en-US", "de-DE"):
@@ -1271,21 +1155,15 @@ def looks_right(front, passes):
                 check(page.run("return document.documentElement.lang") == language[:2], "the language")
                 for scheme in ("light", "dark"):
                     for width in (320, 360, 768, 1280, 1920):
-                        page.sees(width, scheme, 740 if width < 600 else 900)
-                        across = page.run("return document.documentElement.scrollWidth")
-                        check(across <= width, "sideways scrolling", name, language, width, across)
+                        page.fits(width, scheme, 740 if width < 600 else 900, name, language)
                         if width in (360, 768, 1280):
                             whole = name in ("day", "bookings", "account")
                             picture = page.picture() if whole else page.command("Page.captureScreenshot")["data"]
                             keep(f"book-{name}-{language[:2]}-{width}-{scheme}.png", picture)
                     page.sees(360, scheme, 740)
                     time.sleep(0.25)
-                    count, faint = page.run(CONTRASTS)
-                    check(not faint, "faint texts", name, scheme, *faint)
-                    texts += count
-                small = page.run(SMALL_TARGETS)
-                check(not small, "small targets", name, *small)
-                named_for_screen_readers(page, name)
+                    texts += page.is_legible(name, scheme)
+                page.is_named(("region", "dialog", "navigation", "table"), {"notices", "day-fault", "given-fault", "account-facts"}, name)
             if language == "de-DE":
                 said = page.run("return document.body.innerText")
                 check("Andere Geräte" in said and "Offene Buchungen" in said, "German", said)
@@ -1295,7 +1173,7 @@ def looks_right(front, passes):
                 page.when("byName('to-day').textContent === 'Book'", "the language is kept")
             page.run("for (const entry of ownEntries().filter(isLive)) state.sender.cancel(entry.key, entry.number)")
             page.driver.refresh()
-            page.when("isShown('day') && state.entries.every((each) => unfinished(each) === null)", "all is cancelled")
+            page.when("isShown('day') && allAnswered()", "all is cancelled")
             check(not page.complaints(), "the console says", page.complaints())
     print(f"{texts} texts with a contrast of at least 4.5, targets of 44 pixels, names for screen readers, no sideways scrolling from 320 to 1920 "
           "pixels, in both languages and schemes")
@@ -1305,13 +1183,11 @@ def keep(name, picture):
     pathlib.Path(PICTURES, name).write_bytes(base64.b64decode(picture))
 
 
-def on_three_phones(front, passes):
+def on_three_phones(passes, front):
     """A day, a booking and my bookings side by side, as README shows them, and a day in three widths, as docs/BOOKING.md does."""
     with BookingPage(front) as page:
         page.sees(360, "light", 740)
-        page.enter(passes["carol-1"])
-        page.press("Not here", "notices")
-        page.go(day(27))
+        page.enter(passes["carol-1"], 27, "Not here")
         for hour, guests in [(9, 3), (12, 1), (18, 0)]:
             number = draw.randrange(1, 10**9)
             curl(page, "PUT", f"/slots/court-1/{day(27)}/{hour:02}/bookings/{number}", passes["other"], json.dumps({"guests": guests}))
@@ -1332,35 +1208,23 @@ def on_three_phones(front, passes):
         stripes.append(page.command("Page.captureScreenshot")["data"])
         page.run("return state.sender.cancel(arguments[0], arguments[1])", entry["key"], entry["number"])
         page.run("return state.sender.run()")
-        side_by_side(page, "booking-page.png", stripes, 1120, 740)
-        page.enter(passes["carol-1"])
-        page.go(day(27))
+        keep("booking-page.png", page.side_by_side(stripes, 1120, 740))
+        page.enter(passes["carol-1"], 27)
         widths = []
         for width, height in [(360, 740), (768, 900), (1280, 900)]:
             page.sees(width, "light", height)
             time.sleep(0.5)
             widths.append(page.command("Page.captureScreenshot")["data"])
-        side_by_side(page, "booking-widths.png", widths, 1283, 450)
+        keep("booking-widths.png", page.side_by_side(widths, 1283, 450))
     print("pictures of a day, a booking and my bookings, and of a day on a telephone, a tablet and a computer")
 
 
-def side_by_side(page, name, pictures, width, height):
-    page.open("about:blank")
-    page.sees(width, "light", height)
-    page.driver.execute_script("""document.body.style.cssText = "margin: 0; display: flex; gap: 20px; background: #c9d0ca";
-        const [pictures, height] = arguments;
-        for (const it of pictures) document.body.append(Object.assign(new Image(), { height, src: "data:image/png;base64," + it }));
-        return Promise.all([...document.images].map((image) => image.decode()));""", pictures, height)
-    keep(name, page.command("Page.captureScreenshot")["data"])
-
-
-def hall_screen(front, passes, server):
+def hall_screen(passes, front, server):
     screen = narrowed(passes["hall-screen"], "actions = view")
     with BookingPage(front) as page:
         page.sees(1920, "dark", 1080)
         asked = server.asked()
-        page.open(f"{page.address}#screen={screen}")
-        page.when("document.querySelectorAll('#screen td.free').length > 50", "the screen")
+        page.visit(f"#screen={screen}", "document.querySelectorAll('#screen td.free').length > 50", "the screen")
         check(page.driver.current_url.endswith("/book.html#screen"), "the address is cleaned", page.driver.current_url)
         check(page.run("return [...document.querySelectorAll('button, input, select, textarea')].every((each) => each.offsetParent === null)"), "no buttons")
         check(page.run("return document.documentElement.scrollHeight <= innerHeight && document.documentElement.scrollWidth <= innerWidth"), "one sight")
@@ -1380,19 +1244,15 @@ def hall_screen(front, passes, server):
             return [...times.values()].filter((each) => each.length > 1).map(([first, second]) => second - first);""")
         check(gaps and min(gaps) > 59900, "a second request within a minute", min(gaps, default=None))
         curl(page, "DELETE", f"/slots/room-1/{day(1)}/20/bookings/{number}", passes["other"])
-        page.driver.get("about:blank")
-        page.open(f"{page.address}#screen")
-        page.when("document.querySelectorAll('#screen td.free').length > 50", "the screen keeps its pass")
+        page.visit("#screen", "document.querySelectorAll('#screen td.free').length > 50", "the screen keeps its pass")
         check(not page.complaints(), "the console says", page.complaints())
     with BookingPage(front) as page:
-        page.open(f"{page.address}#screen")
-        page.when("shownText('screen').includes('needs a pass')", "a screen without a pass")
+        page.visit("#screen", "shownText('screen').includes('needs a pass')", "a screen without a pass")
     print("the hall's screen: one request a slot and minute, for hours to come; it is renewed")
 
 
 def offline(page, passes):
-    page.enter(passes["amy-1"])
-    page.go(day(3))
+    page.enter(passes["amy-1"], 3)
     page.booked("court-1", 20)
     page.command("Network.enable")
     page.command("Network.emulateNetworkConditions", offline=True, latency=0, downloadThroughput=-1, uploadThroughput=-1)
@@ -1404,30 +1264,23 @@ def offline(page, passes):
     print("offline it says so, and shows the record")
 
 
-def is_quick_and_small(front, passes):
+def is_quick_and_small(passes, front):
     """How long the day takes over loopback with TLS, and what the pages are as they are sent."""
-    base = f"https://desk.example.org:{front}"
-    words = ["curl", "-sS", "--noproxy", "*", "--cacert", "certificate.pem", "--resolve", f"desk.example.org:{front}:127.0.0.1"]
-    sizes = {}
+    zipped, sizes = ("-H", "Accept-Encoding: gzip"), {}
     for name in ("book.html", "pass.html"):
-        printed = subprocess.run([*words, "-o", name, "-D", "head", "-H", "Accept-Encoding: gzip", "-w", "%{size_download} %{http_version}", f"{base}/{name}"],
-                                 capture_output=True, text=True, check=True).stdout.split()
-        sizes[name] = int(printed[0])
-        check(sizes[name] < 60000 and printed[1] == "2", "as it is sent", name, printed)
-        head = pathlib.Path("head").read_text().lower()
-        for field in ("content-encoding: gzip", "cache-control: no-cache", "strict-transport-security: max-age=", "frame-ancestors 'none'",
-                      "referrer-policy: no-referrer", "x-content-type-options: nosniff", "content-type: text/html; charset=utf-8"):
-            check(field in head, "a field of", name, field, head)
-        mark = re.search("etag: (.*)", pathlib.Path("head").read_text())[1].strip()
-        status = subprocess.run([*words, "-o", "none", "-H", f"If-None-Match: {mark}", "-H", "Accept-Encoding: gzip", "-w", "%{http_code}", f"{base}/{name}"],
-                                capture_output=True, text=True, check=True).stdout
+        size, version = fetched(front, f"/{name}", "-o", name, "-D", "head", *zipped, "-w", "%{size_download} %{http_version}").split()
+        sizes[name] = int(size)
+        check(sizes[name] < 60000 and version == "2", "as it is sent", name, size, version)
+        head = pathlib.Path("head").read_text()
+        has(head.lower(), f"a field of {name}", "content-encoding: gzip", "cache-control: no-cache", "strict-transport-security: max-age=",
+            "frame-ancestors 'none'", "referrer-policy: no-referrer", "x-content-type-options: nosniff", "content-type: text/html; charset=utf-8")
+        status = fetched(front, f"/{name}", "-o", "none", "-H", f"If-None-Match: {re.search('etag: (.*)', head)[1].strip()}", *zipped, "-w", "%{http_code}")
         check(status == "304", "a page that is the same", name, status)
-    head = subprocess.run([*words, "-o", "none", "-D", "-", "-H", "Accept-Encoding: gzip", f"{base}/club.json"], capture_output=True, text=True, check=True).stdout.lower()
-    for field in ("content-encoding: gzip", "cache-control: no-cache", "x-content-type-options: nosniff", "content-type: application/json"):
-        check(field in head, "a field of club.json", field, head)
-    to = subprocess.run([*words, "-o", "none", "-w", "%{http_code} %{redirect_url}", f"{base}/"], capture_output=True, text=True, check=True).stdout
-    check(to == f"302 {base}/book.html", "/ leads to the page", to)
-    head = subprocess.run([*words, "-o", "none", "-D", "-", f"{base}/account"], capture_output=True, text=True, check=True).stdout.lower()
+    head = fetched(front, "/club.json", "-o", "none", "-D", "-", *zipped).lower()
+    has(head, "a field of club.json", "content-encoding: gzip", "cache-control: no-cache", "x-content-type-options: nosniff", "content-type: application/json")
+    to = fetched(front, "/", "-o", "none", "-w", "%{http_code} %{redirect_url}")
+    check(to == f"302 https://desk.example.org:{front}/book.html", "/ leads to the page", to)
+    head = fetched(front, "/account", "-o", "none", "-D", "-").lower()
     check("cache-control: no-store" in head and "content-encoding" not in head and " 401" in head, "a reply of the desk", head)
     took, bare, paints = [], [], []
     with BookingPage(front) as page:
@@ -1462,7 +1315,7 @@ def is_quick_and_small(front, passes):
           f"sent book.html has {sizes['book.html']:,} bytes, pass.html {sizes['pass.html']:,}")
 
 
-def waits_as_the_proxy_wants(front, passes):
+def waits_as_the_proxy_wants(passes, front):
     """More requests at once than the proxy lets through: each slot is there in the end, and each booking made."""
     with BookingPage(front) as page:
         page.enter(passes["other"])
@@ -1479,62 +1332,56 @@ def waits_as_the_proxy_wants(front, passes):
 
 def letters(passes):
     """The office's letter: its link and its QR code are the pass's, and nothing else is taken."""
+    address, letter = "https://desk.example.org", f"{TOP}/deploy/letter"
+    link = f"{address}/book.html#{passes['amy-1']}"
     for words in ("en", "de"):
-        done = subprocess.run([f"{TOP}/deploy/letter", "amy-1"], input=passes["amy-1"] + "\n", capture_output=True, text=True,
-                              env={**os.environ, "DESK": "https://desk.example.org", "CLUB": "Rowing & tennis", "WORDS": words})
-        check(done.returncode == 0 and "Rowing &amp; tennis" in done.stdout, "a letter", done.stderr)
-        link = f"https://desk.example.org/book.html#{passes['amy-1']}"
-        check(done.stdout.count(link) == 2, "its link", done.stdout)
-        pathlib.Path("letter.html").write_text(done.stdout)
+        text = printed("env", f"DESK={address}", "CLUB=Rowing & tennis", f"WORDS={words}", letter, "amy-1", given=passes["amy-1"] + "\n")
+        check("Rowing &amp; tennis" in text and text.count(link) == 2, "a letter, and its link", text)
+        pathlib.Path("letter.html").write_text(text)
         with Browser() as browser:
             browser.driver.get(pathlib.Path("letter.html").absolute().as_uri())
             browser.sees(800, "light")
             keep(f"letter-{words}.png", browser.picture())
             browser.command("Emulation.setDeviceMetricsOverride", width=800, height=900, deviceScaleFactor=3, mobile=False)
             pathlib.Path("letter.png").write_bytes(base64.b64decode(browser.picture()))
-        read = subprocess.run(["zbarimg", "-q", "--raw", "letter.png"], capture_output=True, text=True).stdout.strip()
+        read = printed("zbarimg", "-q", "--raw", "letter.png").strip()
         check(read == link, "its QR code", read)
-    for key, given, desk in [("bob-1", passes["amy-1"], "https://desk.example.org"), ("amy-1", "00" + ROOT, "https://desk.example.org"),
-                             ("amy-1", "", "https://desk.example.org"), ("amy-1", passes["amy-1"], "http://desk.example.org"),
-                             ("amy-1", passes["amy-1"], ""), ("AMY", passes["amy-1"], "https://desk.example.org"),
-                             ("amy-1", passes["amy-1"] + "\nmore", "https://desk.example.org"), ("amy-1", passes["amy-1"], 'https://x"><b>')]:
-        done = subprocess.run([f"{TOP}/deploy/letter", key], input=given, capture_output=True, text=True, env={**os.environ, "DESK": desk})
-        check(done.returncode == 1 and not done.stdout and done.stderr.startswith("letter: "), "a letter that is refused", key, given, desk, done.stdout, done.stderr)
-    for words, told in [((["club", "Etc/GMT+9"] if AHEAD != -9 else ["club", "Etc/GMT+8"]), "another zone"), (["club", "Nowhere/None"], "no zone"),
-                        (["club", "../passwd"], "no name of a zone"), (["missing", ZONE], "there is no file")]:
-        done = subprocess.run([f"{TOP}/deploy/club_json", *words], capture_output=True, text=True, env={**os.environ, "RULE": RULE})
-        check(done.returncode == 1 and told in done.stderr and not done.stdout, "a list that is refused", words, done.stderr, done.stdout)
-    done = club_list(titles="missing")
-    check(done.returncode == 1 and "there is no file missing" in done.stderr, "titles", done.stderr)
+    for key, given, its_address in [("bob-1", passes["amy-1"], address), ("amy-1", "00" + ROOT, address), ("amy-1", "", address),
+                                    ("amy-1", passes["amy-1"], "http://desk.example.org"), ("amy-1", passes["amy-1"], ""), ("AMY", passes["amy-1"], address),
+                                    ("amy-1", passes["amy-1"] + "\nmore", address), ("amy-1", passes["amy-1"], 'https://x"><b>')]:
+        refused("^letter: ", letter, key, given=given, DESK=its_address)
+    club_json = f"{TOP}/deploy/club_json"
+    for words, fault in [(["club", "Etc/GMT+9" if AHEAD != -9 else "Etc/GMT+8"], "another zone"), (["club", "Nowhere/None"], "no zone"),
+                         (["club", "../passwd"], "no name of a zone"), (["missing", ZONE], "there is no file")]:
+        refused(fault, club_json, *words, RULE=RULE)
+    refused("there is no file missing", club_json, "club", ZONE, RULE=RULE, CLUB="Rowing & tennis", TITLES="missing")
     pathlib.Path("odd").write_text("court-9 Nowhere\n")
-    done = club_list(titles="odd")
-    check(done.returncode == 1 and "court-9" in done.stderr, "titles of what isn't there", done.stderr)
-    pathlib.Path("odd").write_text("court-1 It's \"1\" <b> \\n \u00e4\n")
-    listed = json.loads(club_list(titles="odd").stdout)
-    check(listed["facilities"][0]["title"] == "It's \"1\" <b> \\n \u00e4" and "title" not in listed["facilities"][1], "odd titles", listed)
-    for key, told in [("nobody", "no key nobody"), ("Amy", "no name of a key"), ("a'b", "no name of a key")]:
-        done = subprocess.run([f"{TOP}/deploy/record", "club", key], capture_output=True, text=True)
-        check(done.returncode == 1 and told in done.stderr and not done.stdout, "a record that is refused", key, done.stderr)
+    refused("court-9", club_json, "club", ZONE, RULE=RULE, CLUB="Rowing & tennis", TITLES="odd")
+    odd = "It's \"1\" <b> \\n \u00e4"
+    listed = json.loads(club_list(f"court-1 {odd}\n"))["facilities"]
+    check(listed[0]["title"] == odd and "title" not in listed[1], "odd titles", listed)
+    for key, fault in [("nobody", "no key nobody"), ("Amy", "no name of a key"), ("a'b", "no name of a key")]:
+        refused(fault, f"{TOP}/deploy/record", "club", key)
     print("letters, lists and records of the office, and what they refuse")
 
 
 def main():
+    printed(*"openssl req -x509 -newkey rsa:2048 -nodes -days 2 -subj /CN=desk.example.org -addext subjectAltName=DNS:desk.example.org"
+            " -keyout key.pem -out certificate.pem".split())
     policy_holds(pathlib.Path(TOP, "web/book.html"), {"connect-src": "'self'"}, "new Function|sendBeacon", "pass.html")
     passes = make_club()
     os.mkdir("www")
     for name in ("book.html", "pass.html"):
         shutil.copy(f"{TOP}/web/{name}", "www")
-    listed = club_list()
-    check(listed.returncode == 0, "club_json", listed.stderr)
-    pathlib.Path("www/club.json").write_text(listed.stdout)
-    names = [(each["name"], each.get("title"), each["kind"], each["opens"], each["shuts"]) for each in json.loads(listed.stdout)["facilities"]]
+    listed = club_list("".join(f"{name} {title}\n" for name, title, *_ in FACILITIES if title))
+    pathlib.Path("www/club.json").write_text(listed)
+    names = [(each["name"], each.get("title"), each["kind"], each["opens"], each["shuts"]) for each in json.loads(listed)["facilities"]]
     check(names == [(name, title, kind, opens, shuts) for name, title, kind, _, _, opens, shuts in FACILITIES], "club.json", names)
-    server = Server()
+    server = Server(DESK, "club", None, "--zone", RULE, "--log", port=desk.free_port()).start()
     atexit.register(server.kill)
-    server.start()
-    between = Between(server)
+    between = Between(server.port)
     front = start_proxy(between.port)
-    only = sys.argv[7:]
+    only = sys.argv[2:]
 
     def wanted(check_function):
         return not only or check_function.__name__ in only
@@ -1553,19 +1400,16 @@ def main():
     one_browser((books_and_cancels, passes), (day_says_what_is, passes), (leaves_out_what_the_pass_denies, passes))
     one_browser((refusals_say_what_to_do, passes, between),)
     one_browser((looks_six_at_a_time, passes, between), (swipes, passes), (looks_again, passes), (moves_little, passes))
-    for function, words in [(letters, [passes])]:
-        if wanted(function):
-            function(*words)
-    for step, words in [(survives_failures, (passes, between)), (pages_end, (passes, between, server)), (tabs_send_nothing_twice, (passes, between, server)),
-                        (goes_by_keyboard, (passes,)), (odd_passes, (passes,)), (odd_clubs, (passes,)), (offline, (passes,))]:
+    for step, *words in [(survives_failures, passes, between), (pages_end, passes, between, server), (tabs_send_nothing_twice, passes, between, server),
+                         (goes_by_keyboard, passes), (odd_passes, passes), (odd_clubs, passes), (offline, passes)]:
         one_browser((step, *words))
-    for function, words in [(writes_before_it_sends, (front, passes)), (lists_what_is_past, (front, passes)), (browser_ends, (front, passes, between)), (broken_browsers, (front, passes, server)), (clocks, (front, passes)),
-                            (rotations, (front, passes, between)), (devices, (front, passes, server)), (cancelled_by_the_office, (front, passes, server)),
-                            (survives_kills, (front, passes, server)), (is_quick_and_small, (start_proxy(server.port), passes)),
-                            (waits_as_the_proxy_wants, (start_proxy(server.port, rate=3, burst=10), passes)), (looks_right, (front, passes)), (on_three_phones, (front, passes)),
-                            (hall_screen, (front, passes, server))]:
-        if wanted(function):
-            function(*words)
+    for step, *words in [(letters,), (writes_before_it_sends, front), (lists_what_is_past, front), (browser_ends, front, between),
+                         (broken_browsers, front, server), (clocks, front), (rotations, front, between), (devices, front, server),
+                         (cancelled_by_the_office, front, server), (survives_kills, front, server), (is_quick_and_small, start_proxy(server.port)),
+                         (waits_as_the_proxy_wants, start_proxy(server.port, rate=3, burst=10)), (looks_right, front), (on_three_phones, front),
+                         (hall_screen, front, server)]:
+        if wanted(step):
+            step(passes, *words)
     totals_are_sums()
     print("the page books")
 

@@ -79,6 +79,48 @@ class Browser:
         self.command("Emulation.setEmulatedMedia", features=[{"name": "prefers-color-scheme", "value": scheme}])
         self.command("Emulation.setDeviceMetricsOverride", width=width, height=height, deviceScaleFactor=1, mobile=width < 600)
 
+    def fits(self, width, scheme, height=900, *what):
+        """Nothing scrolls sideways."""
+        self.sees(width, scheme, height)
+        across = self.run("return document.documentElement.scrollWidth")
+        check(across <= width, "sideways scrolling", width, across, *what)
+
+    def is_legible(self, *what):
+        """How many texts are seen, each with a contrast of at least 4.5; targets are large."""
+        count, faint = self.run(CONTRASTS)
+        check(not faint, "faint texts", *what, *faint)
+        small = self.run(SMALL_TARGETS)
+        check(not small, "small targets", *what, *small)
+        return count
+
+    def is_named(self, roles, live, *what):
+        """What can have the focus, or has one of these roles, has a name for a screen reader, which hears of changes in some elements; the
+        nodes of the page."""
+        tree = [node for node in self.command("Accessibility.getFullAXTree")["nodes"] if not node["ignored"]]
+        for node in tree:
+            properties = {each["name"]: each["value"].get("value") for each in node.get("properties", [])}
+            if properties.get("focusable") or node["role"]["value"] in roles:
+                check(node["name"]["value"].strip(), "no name for a screen reader", *what, node["role"], node.get("description"))
+        heard = self.run("return [...document.querySelectorAll('[role=status], [role=alert], [aria-live]')].map((each) => each.id)")
+        check(live <= set(heard), "what a screen reader hears of when it changes", heard)
+        return tree
+
+    def focus_is_seen(self, *what):
+        """But for the focus in a date, of which the browser marks a part."""
+        outline = self.run("""const style = getComputedStyle(document.activeElement);
+            return document.activeElement.type === "date" || [style.outlineStyle, style.outlineWidth];""")
+        check(outline in (True, ["solid", "3px"]), "a focus that can't be seen", *what, self.focused(), outline)
+
+    def side_by_side(self, pictures, width, height):
+        """One picture of several."""
+        self.open("about:blank")
+        self.sees(width, "light", height)
+        self.driver.execute_script("""document.body.style.cssText = "margin: 0; display: flex; gap: 20px; background: #c9d0ca";
+            const [pictures, height] = arguments;
+            for (const it of pictures) document.body.append(Object.assign(new Image(), { height, src: "data:image/png;base64," + it }));
+            return Promise.all([...document.images].map((image) => image.decode()));""", pictures, height)
+        return self.command("Page.captureScreenshot")["data"]
+
     def picture(self, top=0, height=None):
         """A PNG in base64: of the whole page, or of a stripe of it."""
         width, whole = self.run("const { offsetWidth, offsetHeight } = document.documentElement; return [offsetWidth, offsetHeight];")
