@@ -11,6 +11,11 @@
 #include <sys/socket.h>
 #include <unistd.h>
 
+// The function of this name in the C library, as `next`.
+#define NEXT(name) \
+    static __typeof__(name) *next; \
+    if (!next) next = dlsym(RTLD_NEXT, #name)
+
 static long seen;
 
 static int refuses(void) {
@@ -26,57 +31,44 @@ static int refuses(void) {
 }
 
 void *malloc(size_t size) {
-    static void *(*next)(size_t);
-    if (!next) next = dlsym(RTLD_NEXT, "malloc");
+    NEXT(malloc);
     return refuses() ? NULL : next(size);
 }
 
 void *realloc(void *old, size_t size) {
-    static void *(*next)(void *, size_t);
-    if (!next) next = dlsym(RTLD_NEXT, "realloc");
+    NEXT(realloc);
     return refuses() ? NULL : next(old, size);
 }
 
-// Adds the line of a call, without an allocation.
-static void tell(const char *call) {
-    const char *path = getenv("CALLS_TOLD");
+// Writes a word and how many allocations were made into the file that a variable tells, without an allocation.
+static void tell(const char *variable, int how, const char *word) {
+    const char *path = getenv(variable);
     if (!path) return;
     char text[40];
-    int length = snprintf(text, sizeof text, "%s %ld\n", call, seen);
-    int file = open(path, O_CREAT | O_APPEND | O_WRONLY, 0600);
+    int length = snprintf(text, sizeof text, "%s%ld\n", word, seen);
+    int file = open(path, O_CREAT | O_WRONLY | how, 0600);
     if (write(file, text, length) != length) abort();
     close(file);
 }
 
 int fdatasync(int file) {
-    static int (*next)(int);
-    if (!next) next = dlsym(RTLD_NEXT, "fdatasync");
+    NEXT(fdatasync);
     int done = next(file);
-    tell("sync");
+    tell("CALLS_TOLD", O_APPEND, "sync ");
     return done;
 }
 
 int fsync(int file) {
-    static int (*next)(int);
-    if (!next) next = dlsym(RTLD_NEXT, "fsync");
+    NEXT(fsync);
     int done = next(file);
-    tell("sync");
+    tell("CALLS_TOLD", O_APPEND, "sync ");
     return done;
 }
 
 ssize_t send(int socket, const void *bytes, size_t length, int flags) {
-    static ssize_t (*next)(int, const void *, size_t, int);
-    if (!next) next = dlsym(RTLD_NEXT, "send");
-    tell("send");
+    NEXT(send);
+    tell("CALLS_TOLD", O_APPEND, "send ");
     return next(socket, bytes, length, flags);
 }
 
-__attribute__((destructor)) static void count(void) {
-    const char *counted = getenv("ALLOCATIONS_COUNTED");
-    if (!counted) return;
-    char text[24];
-    int length = snprintf(text, sizeof text, "%ld\n", seen);
-    int file = open(counted, O_CREAT | O_TRUNC | O_WRONLY, 0600);
-    if (write(file, text, length) != length) abort();
-    close(file);
-}
+__attribute__((destructor)) static void count(void) { tell("ALLOCATIONS_COUNTED", O_TRUNC, ""); }
