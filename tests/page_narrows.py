@@ -17,11 +17,11 @@ Not part of the gate.
 import base64
 import functools
 import http.server
+import itertools
 import json
 import pathlib
 import random
 import re
-import subprocess
 import sys
 import tempfile
 import threading
@@ -34,7 +34,7 @@ from selenium.webdriver.common.keys import Keys
 
 import desk
 import kinds
-from page_browser import Browser, check, policy_holds, CONTRASTS, SMALL_TARGETS
+from page_browser import Browser, check, policy_holds
 from reference import passes
 from reference.caveats import ACTIONS, WEEKDAYS
 from reference.passes import Pass, packet, v2_field as field
@@ -44,10 +44,8 @@ VECTORS = json.loads((desk.ROOT / "docs" / "vectors.json").read_text(encoding="u
 TOOL = desk.program("passtool")
 ROOM = tempfile.TemporaryDirectory()
 PICTURES = sys.argv[1] if sys.argv[1:] else ROOM.name
-PASSES = 1000
-SPOILED = 2000
-CAVEATS = 2000
-FORMS = ["v1", "v2", "json"]
+PASSES, SPOILED, CAVEATS = 1000, 2000, 2000
+FORMS = list(passes.FORMS)
 FAULTS = {"This text is too long for a pass.": 1, "This text isn't a whole pass.": 2, "This pass has a third-party caveat.": 3,
           "This pass has too many limits.": 4}
 # The page's choices, in the order in which it adds them.
@@ -77,8 +75,8 @@ def amys(form, *caveats):
 
 def tool(*words, given):
     """The status, and what is printed: the output, or where there is a fault its line."""
-    done = subprocess.run([TOOL, *words], input=given.encode(), capture_output=True)
-    return done.returncode, (done.stderr if done.returncode else done.stdout).decode()
+    status, printed, fault = desk.order(TOOL, *words, text=given)
+    return status, fault if status else printed
 
 
 def narrowed_by_tool(text, lines):
@@ -94,12 +92,10 @@ def reading_by_tool(text):
     if status == 3:
         return int(output[len("fault ")])
     check(status == 0, "passtool show", text, output)
-    lines = output.splitlines()
-    values = [line.partition(" ")[2] for line in lines]
+    values = [line.partition(" ")[2] for line in output.splitlines()]
     key = re.fullmatch("key:([a-z0-9][a-z0-9-]{0,23})", values[2])
     facts = {"Key": key[1]} if key else {"Identifier": values[2] or "(empty)"}
-    location = f"{values[1]} (a hint, which nobody checks)" if values[1] else "none"
-    facts |= {"Form": values[0].upper(), "Location": location}
+    facts |= {"Form": values[0].upper(), "Location": f"{values[1]} (a hint, which nobody checks)" if values[1] else "none"}
     return facts, [value.partition(" ")[2] or "(empty)" for value in values[3:-1]]
 
 
@@ -154,6 +150,16 @@ const read = (text) => {
 
 class NarrowingPage(Browser):
     helpers = HELPERS
+
+    def narrow(self, text, *fields):
+        """What comes of a text, and of choices by names with values."""
+        return self.each("narrow", [(text, fields)])[0]
+
+    def visit(self, text=""):
+        self.open(f"{PAGE.as_uri()}#{text}" if text else PAGE.as_uri())
+
+    def pause(self):
+        self.run("return new Promise((done) => setTimeout(done, 200))")
 
 
 # ---- Drawn passes and caveats
@@ -266,11 +272,11 @@ def refuses_to_write_as_passtool(page):
             *((amys(form, "x" * (5900 if form != "json" else 8050)), eight, "bytes") for form in FORMS)]
     for text, lines, words in rows:
         fault = narrowed_by_tool(text, lines)
-        answer = page.each("narrow", [(text, fields_of(*lines))])[0]
+        answer = page.narrow(text, *fields_of(*lines))
         check(fault == ("fault 1: too long" if words == "bytes" else "fault 4: too many caveats"), "passtool", lines, fault)
         check("can't be narrowed like this" in answer.get("fault", ""), "a pass that grows too much", lines, answer)
         check(words in answer["fault"], "how much it grows", lines, answer)
-    at_most = page.each("narrow", [(nearly, [("kind", ["court"]), ("guests", "1")])])[0]
+    at_most = page.narrow(nearly, ("kind", ["court"]), ("guests", "1"))
     check(at_most.get("text") == narrowed_by_tool(nearly, ["kind = court", "guests <= 1"]), "64 limits", at_most)
     print(f"{len(rows)} passes that would grow too much are refused, as by passtool")
 
@@ -330,9 +336,7 @@ def faulty_texts():
         ('{"i":"keyid","s64":"fN7nklEcW8b1KEhYBd_psk54XijiqZMB-dcRxgnjjg"}', 2, "31 bytes, not 32"), ("\ufeff{" + SHORT, 2, "at place 1"),
         (unpadded(b'{"\xff'), 2, "isn't text in UTF-8"), ('{"i":"a\nb",' + S64 + "}", 2, "text in quotes"),
         ('{"i":"\\ud800",' + S64 + "}", 2, "half a character"), (nested(127), 2, "more than 127 brackets"),
-        (with_member('"v":1'), 2, "isn't the whole number 2"), (with_member('"v":2.0'), 2, "isn't the whole number 2"),
-        (with_member('"v":2e0'), 2, "isn't the whole number 2"), (with_member('"v":-2'), 2, "isn't the whole number 2"),
-        (with_member('"v":null'), 2, "isn't the whole number 2"), (with_member('"v":"2"'), 2, "isn't the whole number 2"),
+        *((with_member('"v":' + it), 2, "isn't the whole number 2") for it in ("1", "2.0", "2e0", "-2", "null", '"2"')),
         (with_member('"v":1e999'), 2, "too large"), (with_member('"v":02'), 2, "a comma or }"), (with_member('"i64":"_w"'), 2, "i and i64 are both there"),
         (with_member('"c":null'), 2, "aren't a list"), (with_member('"c":{}'), 2, "aren't a list"), (with_member('"c":["a"]'), 2, "Caveat 1 isn't an object"),
         (with_member('"c":[{"l":"x"}]'), 2, "Caveat 1's i is missing"), (with_member('"x":1'), 2, "the name “x”"),
@@ -559,7 +563,7 @@ def choices_say_what_they_add(page):
         limits = page.each("read", [amys("v2", line)])[0]["limits"]
         check(limits[0]["words"] == sentence and limits[0]["text"] == line, "a sentence", line, sentence, limits)
     for line, fields in CHOSEN:
-        answer = page.each("narrow", [(AMY, fields)])[0]
+        answer = page.narrow(AMY, *fields)
         made, wrong, marked = page.run("return shownOf(arguments[0])", line.split()[0])
         check(not wrong and not marked and made.split("\n")[-1] == line, "what a choice says", fields, made, wrong)
         sentence = page.run("return sentenceOf(bytesOf(arguments[0]))", line)
@@ -567,7 +571,7 @@ def choices_say_what_they_add(page):
         check(answer.get("text") == narrowed_by_tool(AMY, [line]), "what a choice adds", fields, answer)
     for names, value in ((names.split(), it) for names, its in WRONG.items() for it in its):
         fields, choice = list(zip(names, value.split() if names[1:] else [value])), names[0].partition("-")[0]
-        answer = page.each("narrow", [(AMY, fields)])[0]
+        answer = page.narrow(AMY, *fields)
         made, wrong, marked = page.run("return shownOf(arguments[0])", choice)
         check("A choice isn't right yet" in answer.get("fault", ""), "a wrong choice", fields, answer)
         check(wrong and marked and not made, "a wrong choice and its words", fields, made, wrong, marked)
@@ -575,16 +579,16 @@ def choices_say_what_they_add(page):
         page.run("for (const name of arguments[0]) choose(name, '');", names)
         _, wrong, marked = page.run("return shownOf(arguments[0])", choice)
         check(not wrong and not marked, "an emptied choice", fields, wrong)
-    nothing = page.each("narrow", [(AMY, [])])[0]
+    nothing = page.narrow(AMY)
     check(nothing.get("fault") == "Choose at least one limit.", "no choice", nothing)
-    nothing = page.each("narrow", [("", [("guests", "1")])])[0]
+    nothing = page.narrow("", ("guests", "1"))
     check("First there must be a pass" in nothing.get("fault", ""), "no pass", nothing)
     print(f"{len(SENTENCES)} sentences, and {len(CHOSEN) + sum(map(len, WRONG.values()))} choices that say and add their lines, or what they want")
 
 
 def half_a_date_is_no_date(page):
     """A date that is half entered has no value; it isn't taken for an empty one."""
-    page.open(PAGE.as_uri() + "#" + AMY)
+    page.visit(AMY)
     page.run("byId('days-first').focus()")
     page.press("05", Keys.TAB)
     page.run("byId('choices').requestSubmit()")
@@ -602,7 +606,7 @@ NOTES = [
 
 def notes_say_what_matters(page):
     for lines, titles in NOTES:
-        answer = page.each("narrow", [(amys("v2", *lines), [("guests", "3")])])[0]
+        answer = page.narrow(amys("v2", *lines), ("guests", "3"))
         check(answer["notes"] == titles, "what a person should know of a pass", lines, titles, answer["notes"])
     stranger = page.each("read", [written("v2", README_PASS)])[0]
     check("The desk won't know it" in stranger["shown"], "a stranger's pass", stranger)
@@ -621,14 +625,11 @@ NINE_LINES = ["kind = court", "facility = court-1,court-2", "actions = view,book
 
 def goes_by_keyboard(page):
     """From an empty page to a pass on the clipboard, without a mouse; each stop shows that it has the focus."""
-    page.open(PAGE.as_uri())
-    stops = []
+    page.visit()
 
     def tab(*keys):
         page.press(Keys.TAB)
-        stops.append(page.focused())
-        outline = page.run("const style = getComputedStyle(document.activeElement); return [style.outlineStyle, style.outlineWidth];")
-        check(outline == ["solid", "3px"], "a focus that can't be seen", stops, outline)
+        page.focus_is_seen()
         page.press(*keys)
 
     def enter(stop, *keys):
@@ -662,9 +663,8 @@ def goes_by_keyboard(page):
     page.press(Keys.TAB, Keys.TAB)
     check(page.focused() == "copy", "the button that copies", page.focused())
     page.press(Keys.ENTER)
-    page.run("return new Promise((done) => setTimeout(done, 200))")
-    copied = page.run("return byId('narrowed-message').textContent")
-    check(copied == "The pass is copied.", "copying by keyboard", copied)
+    page.pause()
+    check(page.run("return byId('narrowed-message').textContent") == "The pass is copied.", "copying by keyboard")
     pasted(page, wanted)
     print("the whole way by keyboard, with nine choices, to a copied pass")
 
@@ -681,13 +681,13 @@ def hands_on(page):
     """Addresses, copying, sharing."""
     for form in FORMS:
         text = written(form, Pass(b"club %23#", b"key:amy-1", [b"kind = court", b"100% & <\xff>"], bytes(32)))
-        answer = page.each("narrow", [(text, [("guests", "1")])])[0]
+        answer = page.narrow(text, ("guests", "1"))
         wanted = narrowed_by_tool(text, ["guests <= 1"])
         address = answer["address"]
         check(address.startswith(PAGE.as_uri() + "#"), "an address", address)
         # On a click the address is copied; it opens the page with the pass, and may be entered as one.
         page.click("copy-address")
-        page.run("return new Promise((done) => setTimeout(done, 100))")
+        page.pause()
         pasted(page, address)
         check(page.run("return byId('given-pass').textContent") != "", "an address that is entered", address)
         page.open(address)
@@ -695,11 +695,11 @@ def hands_on(page):
         check(len(page.run("return limitsOf(byId('given-pass'))")) == 3, "limits of an address", address)
     # The same page goes to another pass.
     page.run("location.hash = '#' + arguments[0]", AMY)
-    page.run("return new Promise((done) => setTimeout(done, 100))")
+    page.pause()
     check(page.run("return byId('given').value") == AMY, "another pass behind #")
     # What is chosen or entered afterwards takes back a result.
     for then, word in (("choose('guests', arguments[0])", "2"), ("enter(arguments[0])", AMY[:-1])):
-        page.each("narrow", [(AMY, [("guests", "1")])])
+        page.narrow(AMY, ("guests", "1"))
         page.run(then, word)
         check(page.run("return byId('result').hidden"), "a result of other choices, or of another pass", then)
     page.run("""enter(arguments[0]); byId("choices").requestSubmit(); enter(arguments[0].slice(1));
@@ -708,19 +708,17 @@ def hands_on(page):
     check(page.run("return byId('share').hidden"), "a browser that doesn't share")
 
 
-def shares(address):
-    record = "navigator.share = async (what) => { globalThis.shared = what; };"
-    with NarrowingPage(before=record) as page:
-        page.open(address)
-        answer = page.each("narrow", [(AMY, [("kind", ["court"])])])[0]
+def shares():
+    """Also where the clipboard refuses."""
+    with NarrowingPage(before="""navigator.share = async (what) => { globalThis.shared = what; };
+            navigator.clipboard.writeText = async () => { throw new Error(); };""") as page:
+        page.visit()
+        text = page.narrow(AMY, ("kind", ["court"]))["text"]
         page.click("share")
-        check(page.run("return globalThis.shared") == {"text": answer["text"]}, "what is shared")
-    with NarrowingPage(before="navigator.clipboard.writeText = async () => { throw new Error(); };") as page:
-        page.open(address)
-        answer = page.each("narrow", [(AMY, [("kind", ["court"])])])[0]
+        check(page.run("return globalThis.shared") == {"text": text}, "what is shared")
         page.click("copy")
         check("is selected" in page.run("return byId('narrowed-message').textContent"), "a clipboard that refuses")
-        check(page.run("return String(getSelection())") == answer["text"], "what is selected")
+        check(page.run("return String(getSelection())") == text, "what is selected")
     print("addresses, copying and sharing hand on the pass")
 
 
@@ -742,7 +740,7 @@ def only_shows_where_it_cannot_sign():
         check("can't sign here" in page.run("return byId('unsigned').textContent"), "a page that can't sign says so")
         check(page.run("return byId('narrow').disabled"), "a page that can't sign doesn't narrow")
         check(page.run("return factsOf(byId('given-pass')).Key") == "amy-1", "a page that can't sign shows a pass")
-        answer = page.each("narrow", [(AMY, [("guests", "1")])])[0]
+        answer = page.narrow(AMY, ("guests", "1"))
         check("can't sign here" in answer.get("fault", ""), "a page that can't sign doesn't narrow, asked by whatever way", answer)
         page.sent_nothing(address)
     server.shutdown()
@@ -751,80 +749,54 @@ def only_shows_where_it_cannot_sign():
 
 
 def named_for_screen_readers(page):
-    tree = [node for node in page.command("Accessibility.getFullAXTree")["nodes"] if not node["ignored"]]
-    roles = Counter(node["role"]["value"] for node in tree)
+    live = {"given-pass", "given-fault", "narrow-fault", "outcome", "narrowed-message", "address-message", "unsigned"}
+    roles = Counter(node["role"]["value"] for node in page.is_named(("region", "group"), live))
     check(roles["banner"] == roles["main"] == roles["contentinfo"] == 1 and roles["region"] == 3, "landmarks", roles)
     check(roles["RootWebArea"] == 1 and page.run("return document.querySelectorAll('h1').length") == 1, "one heading of the page")
-    for node in tree:
-        properties = {each["name"]: each["value"].get("value") for each in node.get("properties", [])}
-        if properties.get("focusable") or node["role"]["value"] in ("region", "group"):
-            check(node["name"]["value"].strip(), "no name for a screen reader", node["role"], node.get("description"))
-    live = page.run("return [...document.querySelectorAll('[role=status], [role=alert], [aria-live]')].map((each) => each.id)")
-    wanted = {"given-pass", "given-fault", "narrow-fault", "outcome", "narrowed-message", "address-message", "unsigned"}
-    check(wanted <= set(live), "what a screen reader hears of when it changes", live)
     check(page.run("return document.documentElement.lang") == "en", "the language")
-
-
-def on_two_phones(page):
-    """Choices and a result side by side, as README shows them."""
-    page.sees(390, "light")
-    page.run("document.activeElement.blur()")
-    tops = page.run("return ['kind', 'result'].map((id) => byId(id).getBoundingClientRect().top + scrollY - 12)")
-    stripes = [page.picture(top, 820) for top in tops]
-    page.open("about:blank")
-    page.sees(800, "light", 820)
-    page.run("""document.body.style.cssText = "margin: 0; display: flex; gap: 20px; background: #c9d0ca";
-        for (const stripe of arguments[0]) document.body.append(Object.assign(new Image(), { src: "data:image/png;base64," + stripe }));
-        return Promise.all([...document.images].map((image) => image.decode()));""", stripes)
-    return page.picture()
 
 
 def looks_right(page):
     """Pictures; no sideways scrolling on a phone; contrasts; names. With all that can stand in the page."""
     everything = Pass(b"club-desk", b"key:amy-1", [b"shoe = red" + b"x" * 300, b"facility = " + b",".join([b"a" * 24] * 8)], bytes(range(32)))
-    page.open(PAGE.as_uri())
+    page.visit()
     choices = fields_of("kind = court", "facility = " + ",".join(["b" * 24] * 8), *NINE_LINES[2:])
     texts = 0
-    states = [lambda: None, lambda: page.each("narrow", [(written("json", everything), choices)]),
-              lambda: page.each("narrow", [(AMY, [("guests", "x"), ("facility", "É"), ("until", "1999-01-01T00:00")])]),
-              lambda: page.run("enter(arguments[0])", "{" + '"x' * 200 + '":1,' + SHORT)]
-    for state in states:
+    for state in (lambda: None, lambda: page.narrow(written("json", everything), *choices),
+                  lambda: page.narrow(AMY, ("guests", "x"), ("facility", "É"), ("until", "1999-01-01T00:00")),
+                  lambda: page.run("enter(arguments[0])", "{" + '"x' * 200 + '":1,' + SHORT)):
         state()
         for scheme in ("light", "dark"):
             for width in (360, 390, 1200):
-                page.sees(width, scheme)
-                across = page.run("return document.documentElement.scrollWidth")
-                check(across <= width, "sideways scrolling", width, across)
-            count, faint = page.run(CONTRASTS)
-            check(not faint, "faint texts", scheme, *faint)
-            texts += count
-        small = page.run(SMALL_TARGETS)
-        check(not small, "small targets", *small)
+                page.fits(width, scheme)
+            texts += page.is_legible(scheme)
         if not page.run("return byId('result').hidden"):
             named_for_screen_readers(page)
-    page.open(PAGE.as_uri() + "#" + AMY)
-    page.each("narrow", [(AMY, [("kind", ["court"]), ("actions", ["view", "book"]), ("until", "2026-05-01T18:00"), ("spend", "600")])])
+    page.visit(AMY)
+    page.narrow(AMY, ("kind", ["court"]), ("actions", ["view", "book"]), ("until", "2026-05-01T18:00"), ("spend", "600"))
     keep = lambda name, picture: pathlib.Path(PICTURES, name).write_bytes(base64.b64decode(picture))
-    for width in (390, 1200):
-        for scheme in ("light", "dark"):
-            page.sees(width, scheme)
-            keep(f"pass-{width}-{scheme}.png", page.picture())
-    keep("pass-page.png", on_two_phones(page))
+    for width, scheme in itertools.product((390, 1200), ("light", "dark")):
+        page.sees(width, scheme)
+        keep(f"pass-{width}-{scheme}.png", page.picture())
+    # Choices and a result side by side, as README shows them.
+    page.sees(390, "light")
+    page.run("document.activeElement.blur()")
+    tops = page.run("return ['kind', 'result'].map((id) => byId(id).getBoundingClientRect().top + scrollY - 12)")
+    keep("pass-page.png", page.side_by_side([page.picture(top, 820) for top in tops], 800, 820))
     print(f"{texts} texts with a contrast of at least 4.5, names for screen readers, no sideways scrolling from 360 pixels on")
 
 
 def main():
     policy_holds(PAGE, {}, "fetch\\(|localStorage")
-    address = PAGE.as_uri()
     with NarrowingPage() as page:
-        page.open(address)
+        page.visit()
         check(page.run("return window.isSecureContext && crypto.subtle !== undefined"), "a browser that signs in a page from a folder")
         for holds in (narrows_as_passtool, refuses_to_write_as_passtool, answers_faulty_texts, reads_spoiled_texts, understands_as_passtool,
                       choices_say_what_they_add, notes_say_what_matters, half_a_date_is_no_date, hands_on, goes_by_keyboard):
             holds(page)
-        page.sent_nothing(address)
+        page.sent_nothing(PAGE.as_uri())
         looks_right(page)
-    shares(address)
+    shares()
     only_shows_where_it_cannot_sign()
     print("the page narrows")
 
