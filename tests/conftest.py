@@ -105,16 +105,6 @@ def library(tmp_path_factory):
     return lambda name: desk.library(name, folder)
 
 
-@pytest.fixture
-def ask():
-    return Club.ask
-
-
-@pytest.fixture
-def play():
-    return Club.play
-
-
 @pytest.fixture(scope="session")
 def new_club(clubdesk, tmp_path_factory):
     """Makes a club by commands."""

@@ -97,9 +97,9 @@ def test_examples_of_a_body_are_sent():
 
 
 @pytest.mark.parametrize("scene", kinds.SCENES)
-def test_replies_are_described(play, club, scene):
+def test_replies_are_described(club, scene):
     rows = [it for it in kinds.SCENES[scene] if isinstance(it, kinds.Row)]
-    for row, reply in zip(rows, play(club, kinds.SCENES[scene]), strict=True):
+    for row, reply in zip(rows, club.play(kinds.SCENES[scene]), strict=True):
         if row.raw is None:
             example_of(row, reply)
 

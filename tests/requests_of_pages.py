@@ -27,7 +27,7 @@ ASKED = re.compile(r"`(\S+) (\S+)(?: -d ([^`]+))?` \| (\d+) `([^`]+)` \|")
 
 
 @pytest.mark.parametrize("name", ["HANDING_ON.md", "CLIENT.md"])
-def test_page(clubdesk, play, tmp_path, name):
+def test_page(clubdesk, tmp_path, name):
     made, copy, bin_folder = (tmp_path / it for it in ("made", "copy", "bin"))
     made.mkdir()
     bin_folder.mkdir()
@@ -53,6 +53,6 @@ def test_page(clubdesk, play, tmp_path, name):
             case "asked":
                 method, path, body, status, reply = ASKED.fullmatch(text).groups()
                 wanted = wire.bytes_with(int(status), reply.encode())
-                play(Club(clubdesk, place / "club"), [row.but(method=method, path=path, body=body, wanted=wanted)])
+                Club(clubdesk, place / "club").play([row.but(method=method, path=path, body=body, wanted=wanted)])
                 asked[status == "200"] += 1
     assert asked[True] and asked[False]

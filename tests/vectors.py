@@ -20,7 +20,7 @@ from kinds import Row
 from reference import passes
 
 VECTORS = json.loads((desk.ROOT / "docs" / "vectors.json").read_text(encoding="utf-8"))
-FORMS = ["v1", "v2", "json"]
+FORMS = list(passes.FORMS)
 THIRD = VECTORS["passes"][2]
 
 
@@ -118,36 +118,32 @@ def made(clubdesk, tmp_path_factory):
     """The club of the vectors, and amy's pass, the first that its commands print."""
     club = Club(clubdesk, tmp_path_factory.mktemp("made") / "club")
     printed = [club.does(command.removeprefix("clubdesk ").replace(" CLUB", "")) for command in VECTORS["club"]["commands"]]
-    return club, next(it for it in printed if it != "done")
+    club.amy = next(it for it in printed if it != "done")
+    return club
 
 
-@pytest.fixture
-def club(made, tmp_path):
-    return made[0].copied_to(tmp_path / "club")
-
-
-def verdict(passtool, ask, club, amy, caveat, asked):
+def verdict(passtool, club, amy, caveat, asked):
     """Of the desk, on a pass with this caveat."""
     passed = passtool("narrow", "--any", "--", caveat, given=amy)[1].strip()
     body = f'{{"guests":{asked["guests"]}}}' if "guests" in asked else None
-    reply = ask(club, Row(asked["method"], asked["path"], body, passed).data, asked["at"]).value
+    reply = club.ask(Row(asked["method"], asked["path"], body, passed).data, asked["at"]).value
     assert reply.get("caveat", 1) == 1
     return {11: "not understood", 12: "denies"}.get(reply.get("fault"), "allows")
 
 
 @pytest.mark.parametrize("name", VECTORS["asks"])
 @each(VECTORS["caveats"])
-def test_verdict_on_a_caveat(passtool, ask, club, made, vector, name):
-    assert verdict(passtool, ask, club, made[1], vector["caveat"], VECTORS["asks"][name]) == vector[name]
+def test_verdict_on_a_caveat(passtool, club, made, vector, name):
+    assert verdict(passtool, club, made.amy, vector["caveat"], VECTORS["asks"][name]) == vector[name]
 
 
 @pytest.mark.parametrize("name", ["book", "account"])
 @each(VECTORS["not understood"])
-def test_caveat_that_is_not_understood(passtool, ask, club, made, vector, name):
-    assert verdict(passtool, ask, club, made[1], vector, VECTORS["asks"][name]) == "not understood"
-    assert passtool("narrow", "--", vector, given=made[1]) == (5, "caveat 1 not understood\n")
+def test_caveat_that_is_not_understood(passtool, club, made, vector, name):
+    assert verdict(passtool, club, made.amy, vector, VECTORS["asks"][name]) == "not understood"
+    assert passtool("narrow", "--", vector, given=made.amy) == (5, "caveat 1 not understood\n")
 
 
 @each(VECTORS["runs"])
-def test_replies_of_a_run(play, club, vector):
-    play(club, [Row(raw=it["request"].encode(), moment=it["at"], wanted=it["reply"].encode()) for it in vector["exchanges"]])
+def test_replies_of_a_run(club, vector):
+    club.play([Row(raw=it["request"].encode(), moment=it["at"], wanted=it["reply"].encode()) for it in vector["exchanges"]])
