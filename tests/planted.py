@@ -31,7 +31,7 @@ PLANTS = {
     "lint": ("VERSION", "0.1.0", "0.1.1", "another version"),
     "linters": ("tests/desk.py", "import errno\n", "import errno\nimport ast\n", "'ast' imported but unused"),
     "man_pages": ("man/clubdesk.1", ".It Cm revoke-key Ar FILE KEY", ".It Cm revoke-key Ar FILE", "revoke-key KEY"),
-    "memory_after_commit": ("tests/refused_memory.c", 'tell("CALLS_TOLD", O_APPEND, "send', 'seen++; tell("CALLS_TOLD", O_APPEND, "send', "allocations after the commit"),
+    "memory_after_commit": ("tests/refused_memory.c", 'O_APPEND, "send ");', 'O_APPEND, (seen++, "send "));', "allocations after the commit"),
     "modules_hold": ("web/src/dates.mjs", '"mon", "tue"', '"tue", "mon"', "not ok"),
     "narrowing_elsewhere": ("examples/narrow.mjs", "signature = await hmac(signature, data)", "await hmac(signature, data)", "'Node.js, v2'"),
     "office_beside_desk": ("clubdesk", BY_HAND, '[ "$1" != close-slot ] || { echo done; exit; }; exec "$PROGRAM" "$@"', "closed no"),

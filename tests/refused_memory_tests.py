@@ -44,7 +44,8 @@ def built(crate):
     if not (desk.ROOT / "crates" / crate / "src").is_dir():
         sys.exit(f"there is no crate {crate}")
     program, begun = desk.ROOT / "crates" / crate / "out" / f"{crate}_tests", time.time()
-    sources = [it for each in (crate, *crates_below([crate])) for part in ("src", "specs", "proofs") for it in (desk.ROOT / "crates" / each / part).rglob("*")]
+    crates = (crate, *crates_below([crate]))
+    sources = [it for each in crates for part in ("src", "specs", "proofs") for it in (desk.ROOT / "crates" / each / part).rglob("*")]
     if not program.exists() or any(it.stat().st_mtime > program.stat().st_mtime for it in [desk.ROOT / "crates.txt", *sources]):
         print(f"{crate}: proving and building its tests first, which takes some minutes", file=sys.stderr)
         ran = subprocess.run(["rt", "test", "--jobs", "1"], cwd=desk.ROOT / "crates" / crate, stdin=subprocess.DEVNULL, stdout=subprocess.PIPE,

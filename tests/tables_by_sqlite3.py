@@ -183,7 +183,7 @@ def test_corrections(club):
 # ---- other files
 
 
-@pytest.mark.parametrize("before", [None, "", "CREATE TABLE notes (text TEXT); INSERT INTO notes VALUES ('a')"], ids=["no file", "an empty one", "notes"])
+@pytest.mark.parametrize("before", [None, "", "CREATE TABLE notes (text TEXT); INSERT INTO notes VALUES ('a')"], ids=["none", "empty", "of others"])
 def test_file_that_becomes_a_club(clubdesk, tmp_path, before):
     """A table of others stays."""
     club = Club(clubdesk, tmp_path / "new")
