@@ -72,7 +72,7 @@ def twice_defined(crates):
 def too_long(crate):
     for file, text in FILES.items():
         is_code = file.parts[2] == "src" and file.suffix == ".rt"
-        for most, but in [(100, rf" *ghost use|{LITERAL}|#\["), (160, LITERAL)] if is_code else [(160, LITERAL)]:
+        for most, but in [(100, rf" *ghost use|{LITERAL}| *#\["), (160, LITERAL)] if is_code else [(160, LITERAL)]:
             found = [n for n, line in enumerate(text.splitlines(), 1) if len(line) > most and not re.match(but, line)]
             if found and file.parts[1] == crate:
                 yield f"past {most} columns: {file}:{found[0]}: {len(found)} lines"
