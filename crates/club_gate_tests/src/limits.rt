@@ -248,7 +248,8 @@ const FREE: &str = "facility a\nday 2099-12-31\nhour 23\nkind boat\nprice 0\npla
     closed no\n";
 
 // An hour below ten has one digit, as in a reply.
-const FIRST: &str = "facility a\nday 2000-01-01\nhour 0\nkind boat\nprice 0\nplaces 1\ntaken 0\n\
+const AT_MIDNIGHT: &str =
+    "facility a\nday 2000-01-01\nhour 0\nkind boat\nprice 0\nplaces 1\ntaken 0\n\
     closed no\n";
 
 const SHEET: &str = "\
@@ -264,7 +265,7 @@ fn prints<S: ClubStore>(rt: &impl Abort, desk: &mut Desk<S>) {
         let shown = desk.show_account(&name(rt, key.as_bytes()), noon);
         expect_eq(rt, &shown.expect(rt, "a look").as_str(), &want);
     }
-    for (slot, want) in [(AT_23, FULL), (FIRST_HOUR, FIRST), (LAST_HOUR, FREE)] {
+    for (slot, want) in [(AT_23, FULL), (FIRST_HOUR, AT_MIDNIGHT), (LAST_HOUR, FREE)] {
         let shown = desk.show_slot(&slot.slot().expect(rt, "a slot"));
         expect_eq(rt, &shown.expect(rt, "a look").as_str(), &want);
     }
