@@ -100,7 +100,8 @@ pub(crate) fn remove_socket(rt: &HostRuntime, path: &str) -> io::Result<()> {
     }
 }
 
-/// The file of a socket, by its number in its file system.
+/// The file of a socket, by its number in its file system. No other file gets that number while a
+/// listener has the socket.
 #[derive(Clone, Copy, Drop)]
 pub(crate) struct SocketFile {
     inode: u64,

@@ -27,7 +27,7 @@ pub struct FileVisit<'a> {
 pub(crate) enum Found<'a> {
     /// It has greeted.
     Greeted(FileVisit<'a>),
-    /// Nobody listens. So it is too where the database's name is too long for a door.
+    /// Nobody listens; or the database's name is too long for a door.
     Nobody,
     /// One listens, but doesn't greet in time; or the door can't be used, also for want of memory.
     Failed(StoreFault),
