@@ -1,5 +1,8 @@
 #!/usr/bin/env python3
-"""Tries edits of crates/NAME/must-fail/ and crates/NAME/more-edits/, and says how each is refused: see more_edits.sh."""
+"""Tries edits of crates/NAME/must-fail/ and crates/NAME/more-edits/, and says how each is refused: see more_edits.sh.
+
+Most edits change the body of one function. What is proved of a function rests on its own body and the contracts of those that it calls, so
+one check tries edits of several functions. An edit is tried alone if its function has no verdict of its own then."""
 import os
 import re
 import shutil
@@ -7,6 +10,7 @@ import subprocess
 import sys
 import tempfile
 from collections import Counter, defaultdict
+from contextlib import suppress
 from pathlib import Path
 
 ROOT = Path(__file__).resolve().parent.parent
@@ -21,6 +25,10 @@ WRAPPED = re.compile(r"\n +(has no |is not in scope|was not admitted)")
 FAULT = re.compile(r"(?:note: )?(?:\./)?((?:src|specs|proofs)/\S+?):(\d+):\d+: (error: .*|it is not proved .*)")
 WANTED = re.compile(r"no proof: expected answers in (?:\./)?(\S+);")
 HEAD = re.compile(r"(?:pub )?([^\s:]+) : ")
+# The heads of a function and of a block that owns functions, as `rt fmt` leaves them.
+FUNCTION = re.compile(r"(?P<indent> {4})?(?:pub(?:\([^)]*\))? )?(?:const )?fn (?P<name>\w+)")
+BLOCK = re.compile(r"(?:impl(?:<.*?>)? |(?:pub(?:\([^)]*\))? )?trait )(?:(?:\w+::)*(?P<trait>\w+)(?:<.*?>)? for )?(?:\w+::)*(?P<type>\w+)")
+AT_ONCE = 10  # edits that one check tries at most
 # What it says where it meets a limit of its own, and gives no verdict.
 LIMIT = re.compile(r"antt ran out of (stack|the (steps|memory) that the check of one declaration may)|outgrew the memory limit|stopped at the step limit")
 
@@ -29,20 +37,72 @@ class NoVerdict(Exception):
     """The word for why nothing was tried, and a line that says so."""
 
 
-def edited_texts(crate, edit):
-    """The texts of the files that an edit changes, by their path in the crate, as `rt ci` applies it."""
-    texts = {}
+def changes_of(edit):
+    """(path, old text, new text) of each change that an edit makes."""
     for word, rest in re.findall(r"^(file|old|new): ?(.*)", edit.read_text(encoding="utf-8"), re.MULTILINE):
         if word == "file":
             path = rest.strip()
         elif word == "old":
             old = rest
         else:
-            text = texts[path] if path in texts else (crate / path).read_text(encoding="utf-8")
-            if text.count(old) != 1:
-                raise NoVerdict("bad", f"an old text is in {path} {text.count(old)} times")
-            texts[path] = text.replace(old, rest)
+            yield path, old, rest
+
+
+def edited_texts(crate, edit):
+    """The texts of the files that an edit changes, by their path in the crate, as `rt ci` applies it."""
+    texts = {}
+    for path, old, new in changes_of(edit):
+        text = texts[path] if path in texts else (crate / path).read_text(encoding="utf-8")
+        if text.count(old) != 1:
+            raise NoVerdict("bad", f"an old text is in {path} {text.count(old)} times")
+        texts[path] = text.replace(old, new)
     return texts
+
+
+def function_at(path, text, offset):
+    """The function in whose body a place of a file is: its words in a path, and its first and last line. None outside of bodies."""
+    lines = text.split("\n")
+    place = text.count("\n", 0, offset)
+    first = next((it for it in range(place, -1, -1) if FUNCTION.match(lines[it])), None)
+    if first is None:
+        return None
+    head = FUNCTION.match(lines[first])
+    indent = head["indent"] or ""
+    begin = next((it for it in range(first, len(lines)) if lines[it] == indent + "{" or re.match(rf"{indent}\S.* {{$", lines[it])), len(lines))
+    last = next((it for it in range(begin, len(lines)) if lines[it] == indent + "}"), -1)
+    if not begin < place < last:
+        return None
+    words = [it for it in Path(path).with_suffix("").parts[1:] if it not in ("lib", "main", "mod")]
+    if indent:
+        owner = next(filter(None, (BLOCK.match(lines[it]) for it in range(first, -1, -1))), None)
+        if owner is None:
+            return None
+        words.append(owner["type"] + (owner["trait"] or ""))
+    return (*words, head["name"]), first + 1, last + 1
+
+
+def edited_function(crate, edit):
+    """The file and the one function in whose body an edit changes something. None if there is no such function."""
+    found = set()
+    for path, old, _ in changes_of(edit):
+        text = (crate / path).read_text(encoding="utf-8")
+        found.add((path, path.startswith("src/") and text.count(old) == 1 and function_at(path, text, text.index(old)) or None))
+    return found.pop() if len(found) == 1 else None
+
+
+def groups_of(crate, edits):
+    """The edits in groups: each edit of a group is of a function of its own, or alone."""
+    groups = []
+    for edit in edits:
+        path_and_function = edited_function(crate, edit)
+        if path_and_function is None or path_and_function[1] is None:
+            groups.append({None: edit})
+            continue
+        open_one = next((it for it in groups if None not in it and path_and_function not in it and len(it) < AT_ONCE), None)
+        if open_one is None:
+            groups.append(open_one := {})
+        open_one[path_and_function] = edit
+    return groups
 
 
 def check(crate):
@@ -97,6 +157,14 @@ def open_goal(lines, gone):
     return next((line for line in lines if line in failing or (wanted := WANTED.search(line)) and wanted[1] not in gone), None)
 
 
+def lines_of(crate, path, function, lines):
+    """The lines of a check that are of this function."""
+    words, first, last = function
+    proofs, name = "/".join(["proofs", *words, ""]), "::".join([crate.name, *words])
+    own = {line for line, where, number, _, _ in faults_in(lines) if where.startswith(proofs) or where == path and first <= number <= last}
+    return [line for line in lines if line in own or line.startswith(f"fn {name}:")]
+
+
 class Trial:
     """A crate of the copy, which is as it was between two tries."""
 
@@ -114,8 +182,44 @@ class Trial:
             (self.crate / path).write_text(text, encoding="utf-8")
         self.was = {}
 
+    def verdicts(self, group):
+        """(edit, how it is refused, a line that says why) of each edit of a group."""
+        told = self.told_together(group) if len(group) > 1 else {}
+        for edit in group.values():
+            try:
+                word, line = told.get(edit) or self.verdict(edit)
+            except NoVerdict as it:
+                word, line = it.args
+            self.restore()
+            yield edit, word, line
+
+    def told_together(self, group):
+        """What one check with all edits of a group tells of each function: a goal that is false or open, and no name that is missing."""
+        for edit in group.values():
+            with suppress(NoVerdict):
+                self.put(edited_texts(self.crate, edit))
+        lines = []
+        with suppress(NoVerdict):
+            lines, _ = check(self.crate)
+        self.restore()
+        told = {}
+        for (path, function), edit in group.items():
+            own = lines_of(self.crate, path, function, lines)
+            if any(is_name for *_, is_name in faults_in(own)):
+                continue
+            if false := next(filter(FALSE.search, own), None):
+                told[edit] = "false", false
+            elif left := open_goal(own, set()):
+                told[edit] = "goal", left
+        if not told and len(group) > 3:
+            # One of them stops the check.
+            items = list(group.items())
+            middle = len(items) // 2
+            told = self.told_together(dict(items[:middle])) | self.told_together(dict(items[middle:]))
+        return told
+
     def verdict(self, edit):
-        """How an edit is refused, and a line that says why."""
+        """How an edit is refused, tried alone, and a line that says why."""
         texts = edited_texts(self.crate, edit)
         if not texts:
             raise NoVerdict("bad", "it changes nothing")
@@ -180,14 +284,11 @@ def try_crate(crate, wanted, counts):
     if not check(crate)[1]:
         sys.exit(f"{crate.name}: not proved as it is")
     trial = Trial(crate)
-    for edit in (it for folder in FOLDERS for it in sorted((crate / folder).glob("*.edit")) if not wanted or it.stem in wanted):
-        try:
-            word, line = trial.verdict(edit)
-        except NoVerdict as it:
-            word, line = it.args
-        trial.restore()
-        counts[word] += 1
-        print(f"{word:6} {edit.relative_to(crate.parent).with_suffix('')}: {line[:200]}", flush=True)
+    edits = [it for folder in FOLDERS for it in sorted((crate / folder).glob("*.edit")) if not wanted or it.stem in wanted]
+    for group in groups_of(crate, edits):
+        for edit, word, line in trial.verdicts(group):
+            counts[word] += 1
+            print(f"{word:6} {edit.relative_to(crate.parent).with_suffix('')}: {line[:200]}", flush=True)
 
 
 def main(words):
