@@ -1,5 +1,5 @@
 -- The laws of the desk, from the response to one event.
-use Rattle.std.proofs.Common.{◌≡◌, ◌≢◌, ◌⊎◌, inl, inr, ℕ, true, List, [], ◌∷◌, ◌++◌, map, Option, Some, None, option_and_then, Result, Ok, Err, All}
+use Rattle.std.proofs.Common.{◌≡◌, ◌≢◌, ◌⊎◌, inl, inr, ℕ, List, [], ◌∷◌, ◌++◌, map, Option, Some, None, option_and_then, Result, Ok, Err, All}
 use Rattle.std.proofs.Common.{refl, sym, ap, ◌∙◌, subst}
 use Rattle.std.proofs.lemmas.List.{map-append}
 use Rattle.std.proofs.lemmas.List.Elements.{All-nil, All-cons, All-head, All-tail}
@@ -20,7 +20,6 @@ use Rattle.club_rows.specs.declared.key.Key.{Key}
 use Rattle.club_core.specs.declared.pass_fault.PassFault.{PassFault}
 use Rattle.club_core.specs.declared.refusal.Refusal.TheVariants.{Unavailable}
 use Rattle.club_core.specs.declared.reply.Reply.{Reply}
-use Rattle.club_core.specs.declared.reply.Reply.TheVariants.{Refused}
 use Rattle.club_core.specs.declared.request.Request.{Request}
 use Rattle.club_core.specs.declared.verdict.Verdict.{Verdict}
 use Rattle.club_core.specs.Acceptance.{IsAllowedBy, IsServed}
@@ -28,10 +27,8 @@ use Rattle.club_core.specs.Answer.{ask_of, verdict_in}
 use Rattle.club_core.specs.Basis.{Basis, basis_of, basis_under, key_of, view_of}
 use Rattle.club_core.specs.Club.{Club, key_named}
 use Rattle.club_core.specs.Pass.{Pass, Words, IsSignedUnder}
-use Rattle.club_core.specs.Run.{Asked, ToMember}
 use Rattle.club_laws.specs.SingleRequest.{DependsOnTheBasisAlone, MoreCaveatsNeverOpenMore, RefusesWithoutABasis, ServesOnlyTheEntitled, words_with}
-use Rattle.club_laws.specs.Failed.{is_unavailable}
-use Rattle.club_gate.specs.Desk.{IsAnsweredBy, IsRefusedBy}
+use Rattle.club_gate.specs.Desk.{HasFailed, IsDecidedBy}
 use Rattle.club_gate.specs.Identifier.{FindsNames, key_name_in}
 use Rattle.club_gate.specs.Minted.{identifier_of}
 use Rattle.club_gate.specs.computed.DecodedPass.{machine_pass, decoded_pass, decoded_or_fault, without_form, decoded_words}
@@ -41,18 +38,12 @@ use Rattle.club_gate.specs.Served.{AnswersItsForms, EntitlesTo, IsLawful, IsNarr
 use Rattle.club_gate.proofs.Decoding.{decoded_text, decodes_as, words_are}
 use Rattle.club_gate.specs.Response.{unavailable}
 
-failed_reply : (reply : Reply) → is_unavailable reply ≡ true → reply ≡ unavailable
-failed_reply (Refused Unavailable) h = refl
-failed_reply reply h = absurd (cc)
-
--- the response is the machine's reply, or it says that the event failed
-pub reply_or_failure : {S : Type 0} (Represents : S → Club → List Club → Type 0) (new : S) (club : Club) (others : List Club)
-    (words : Words) (moment : ℕ) (reply : Reply) → IsAnsweredBy Represents new club others (Asked words moment)
-    (ToMember reply) ⊎ IsRefusedBy Represents new club others (Asked words moment) (ToMember reply)
-    → (reply ≡ unavailable) ⊎ (reply ≡ (verdict_in club words moment).reply)
-reply_or_failure Represents new club others words moment reply (inl a) =
-    let e = a.reply in let same : reply ≡ (verdict_in club words moment).reply = cc in inr same
-reply_or_failure Represents new club others words moment reply (inr f) = inl (failed_reply reply f.failure)
+-- the reply is the verdict's, or it says that the request failed
+pub reply_or_failure : {S : Type 0} (Represents : S → Club → List Club → Type 0) (new : S) (club : Club) (others : List Club) (verdict : Verdict)
+    (reply : Reply) → IsDecidedBy Represents new club others verdict reply ⊎ HasFailed Represents new club others verdict reply
+    → (reply ≡ unavailable) ⊎ (reply ≡ verdict.reply)
+reply_or_failure Represents new club others verdict reply (inl decided) = inr decided.reply_is
+reply_or_failure Represents new club others verdict reply (inr failed) = inl failed.unavailable
 
 -- the reply of the machine to a request with this text
 abbrev pub reply_in : Club → List ℕ → Request → ℕ → Reply

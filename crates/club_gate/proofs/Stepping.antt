@@ -1,5 +1,5 @@
 -- An event that was decided: its change was applied, or the store failed.
-use Rattle.std.proofs.Common.{◌≡◌, ◌≢◌, inr, ℕ, true, false, List, [], ◌∷◌, Option, Some, None, Result, Ok, Err, refl, sym, ap, ◌∙◌, subst}
+use Rattle.std.proofs.Common.{◌≡◌, ◌≢◌, ◌⊎◌, inl, inr, ℕ, true, false, List, [], ◌∷◌, Option, Some, None, Result, Ok, Err, refl, sym, ap, ◌∙◌, subst}
 use Rattle.std.specs.Prelude.{IsErr}
 use Rattle.base64.specs.GeneralPurpose.{IsBytes}
 use Rattle.club_core.specs.declared.change.Change.{Change}
@@ -19,14 +19,14 @@ use Rattle.club_core.specs.Club.{Club, IsSound}
 use Rattle.club_core.specs.Events.{IsEvent}
 use Rattle.club_core.specs.Office.{office_verdict}
 use Rattle.club_core.specs.Pass.{Words}
-use Rattle.club_core.specs.Run.{Asked, Ordered, after_change, done_answer, order_outcome, EventReply, ToMember, ToOffice}
+use Rattle.club_core.specs.Run.{Asked, Ordered, after_change, done_answer, order_outcome, ToMember, ToOffice}
 use Rattle.club_laws.specs.Failed.{present_reply, is_unavailable, NeverUnavailable}
 use Rattle.club_laws.specs.SoundRuns.{ChangesFit}
 use Rattle.club_core.specs.Store.{IsRead}
 use Rattle.club_gate.specs.computed.DecodedPass.{decoded_words}
 use Rattle.club_gate.specs.DecodedPass.{AreWordsOf}
 use Rattle.club_gate.specs.Laws.{Decodes}
-use Rattle.club_gate.specs.Desk.{FailsAt, FitsIfAny, IsAnsweredBy, IsRefusedBy, change_by, others_after}
+use Rattle.club_gate.specs.Desk.{DecidesOrFails, FailsAt, FitsIfAny, HasFailed, IsAnsweredBy, IsDecidedBy, IsRefusedBy, Steps, change_by, others_after}
 use Rattle.club_gate.proofs.Decoding.{words_are}
 use Rattle.club_gate.specs.Response.{answer_or_fault, is_failure, reply_or_unavailable, office_reply_of, desk_presentation, unavailable}
 
@@ -48,7 +48,7 @@ reply_fails : (result : Result Reply StoreFault) → IsErr result → reply_or_u
 reply_fails (Ok reply) h = absurd (cc)
 reply_fails (Err fault) h = refl
 
-other_reply : (reply : Reply) → ◌≢◌ {A = EventReply} (ToMember reply) (ToMember (Refused Unavailable)) → is_unavailable reply ≡ false
+other_reply : (reply : Reply) → reply ≢ unavailable → is_unavailable reply ≡ false
 other_reply (Refused Unavailable) h = absurd (h refl)
 other_reply reply h = refl
 
@@ -70,17 +70,17 @@ always_decided never club words moment verdict e is =
 -- a fault at the verdict's change is one at the request's
 pub changed_fault : {S : Type 0} (Fails : Option Change → S → StoreFault → S → Type 0) (old now new : S) (club : Club) (words : Words) (moment : ℕ)
     (verdict : Verdict) → verdict ≡ verdict_in club words moment → (fault : StoreFault) → IsRead Fails old now → Fails verdict.change now fault new
-    → FailsAt Fails old new club (Asked words moment) fault
+    → FailsAt Fails old new (verdict_in club words moment).change fault
 changed_fault {S} Fails old now new club words moment verdict e fault read failed =
     inr (subst (λ (v : Verdict). Fails v.change old fault new) e (read verdict.change fault new failed))
 
 -- so it is at the request of any words that the text decodes to
 pub fails_at_its_words : {S : Type 0} (Fails : Option Change → S → StoreFault → S → Type 0) (old new : S) (club : Club) (text : List ℕ)
     (request : Request) (moment : ℕ) (fault : StoreFault) → Decodes → IsBytes text
-    → FailsAt Fails old new club (Asked (decoded_words text request) moment) fault
-    → (words : Words) → AreWordsOf text request words → FailsAt Fails old new club (Asked words moment) fault
+    → FailsAt Fails old new (verdict_in club (decoded_words text request) moment).change fault
+    → (words : Words) → AreWordsOf text request words → FailsAt Fails old new (verdict_in club words moment).change fault
 fails_at_its_words Fails old new club text request moment fault law bytes failed words are =
-    subst (λ (w : Words). FailsAt Fails old new club (Asked w moment) fault) (words_are law text request words bytes are) failed
+    subst (λ (w : Words). FailsAt Fails old new (verdict_in club w moment).change fault) (words_are law text request words bytes are) failed
 
 module _ {S : Type 0} (Represents : S → Club → List Club → Type 0) (new : S) (club : Club) (others : List Club) where
   pub order_done : (command : Command) (change : Change) → office_verdict club command ≡ Ok change
@@ -103,18 +103,37 @@ module _ {S : Type 0} (Represents : S → Club → List Club → Type 0) (new : 
 
   pub ask_done : NeverUnavailable → (words : Words) (moment : ℕ) (verdict : Verdict) → verdict ≡ verdict_in club words moment
       → Represents new (after_change verdict.change club) (others_after verdict.change others)
-      → IsAnsweredBy Represents new club others (Asked words moment) (ToMember verdict.reply)
+      → IsDecidedBy Represents new club others (verdict_in club words moment) verdict.reply
   ask_done never words moment verdict e represents =
       let P : Verdict → Type 0 = λ v. Represents new (after_change v.change club) (others_after v.change others) in
       record {
-        success = ap (λ (v : Verdict). is_unavailable v.reply) e ∙ other_reply (verdict_in club words moment).reply (never club (Asked words moment));
-        reply = ap (λ (v : Verdict). ToMember v.reply) e;
+        available = always_decided never club words moment verdict e;
+        reply_is = ap (λ (v : Verdict). v.reply) e;
         represents = subst P e represents;
       }
 
   pub ask_failed : (words : Words) (moment : ℕ) (verdict : Verdict) (result : Result Reply StoreFault) → IsErr result
       → verdict ≡ verdict_in club words moment → Represents new club (after_change verdict.change club ∷ others)
-      → IsRefusedBy Represents new club others (Asked words moment) (ToMember (reply_or_unavailable result))
+      → HasFailed Represents new club others (verdict_in club words moment) (reply_or_unavailable result)
   ask_failed words moment verdict result err e represents =
       let P : Verdict → Type 0 = λ v. Represents new club (after_change v.change club ∷ others) in
-      record { failure = ap is_unavailable (reply_fails result err); represents = inr (subst P e represents) }
+      record { unavailable = reply_fails result err; represents = inr (subst P e represents) }
+
+  -- a request that was decided or failed is an event that was answered or failed
+  asked_one : (words : Words) (moment : ℕ) (reply : Reply)
+      → IsDecidedBy Represents new club others (verdict_in club words moment) reply ⊎ HasFailed Represents new club others (verdict_in club words moment) reply
+      → IsAnsweredBy Represents new club others (Asked words moment) (ToMember reply)
+      ⊎ IsRefusedBy Represents new club others (Asked words moment) (ToMember reply)
+  asked_one words moment reply (inl decided) = inl (record {
+    success = other_reply reply decided.available;
+    reply = ap ToMember decided.reply_is;
+    represents = decided.represents;
+  })
+  asked_one words moment reply (inr failed) =
+      inr (record { failure = ap is_unavailable failed.unavailable; represents = failed.represents })
+
+-- what a request did is a step
+pub asked_steps : {S : Type 0} (Represents : S → Club → List Club → Type 0) (old new : S) (words : Words) (moment : ℕ) (reply : Reply)
+    → DecidesOrFails Represents old new words moment reply → Steps Represents old new (Asked words moment) (ToMember reply)
+asked_steps Represents old new words moment reply did club others represents =
+    asked_one Represents new club others words moment reply (did club others represents)

@@ -19,7 +19,7 @@ use Rattle.club_core.specs.Answer.{verdict_in}
 use Rattle.club_core.specs.Club.{Club}
 use Rattle.club_laws.specs.SingleRequest.{words_with}
 use Rattle.club_gate.specs.computed.DecodedPass.{machine_pass, decoded_or_fault, without_form, decoded_words, words_in_form}
-use Rattle.club_gate.specs.Served.{IsJson, IsReadInPlace}
+use Rattle.club_gate.specs.Served.{IsJson}
 use Rattle.club_gate.specs.Verify.{ReadsOrLacksMemory}
 
 abbrev IsVerdict : Result Verdict StoreFault → Verdict → Type 0
@@ -75,8 +75,8 @@ json_in text form wrapped e h json =
 
 -- bytes that are read in place are no JSON
 pub other_form : (text : List ℕ) (form : Form) (wrapped : List ℕ) → unwrapping text ≡ Ok (form, wrapped) → IsUnwrapped text (unwrapping text)
-    → IsReadInPlace text → form ≢ Json
-other_form text form wrapped e h in_place json = in_place wrapped (json_in text form wrapped e h json)
+    → ¬ IsJson text → form ≢ Json
+other_form text form wrapped e h in_place json = in_place (wrapped, json_in text form wrapped e h json)
 
 -- memory that is wanted for bytes in JSON is wanted for the text
 pub lacks_memory : {S : Type 0} (Fails : Option Change → S → StoreFault → S → Type 0) (text : List ℕ) (form : Form) (wrapped : List ℕ) (old new : S)

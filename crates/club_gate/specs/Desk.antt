@@ -1,11 +1,14 @@
 -- What an event leaves of the store below a desk (ours).
-use Rattle.std.specs.Prelude.{◌≡◌, ◌⊎◌, ℕ, IsTrue, IsFalse, List, [], ◌∷◌, MatchResult, Option, Some, None, Result, Ok, Err}
+use Rattle.std.specs.Prelude.{◌≡◌, ◌≢◌, ◌⊎◌, ℕ, IsTrue, IsFalse, List, [], ◌∷◌, MatchResult, Option, Some, None, Result, Ok, Err}
 use Rattle.club_core.specs.declared.change.Change.{Change}
 use Rattle.club_core.specs.declared.command.OfficeFault.{OfficeFault}
+use Rattle.club_core.specs.declared.refusal.Refusal.TheVariants.{Unavailable}
 use Rattle.club_core.specs.declared.reply.Reply.{Reply}
+use Rattle.club_core.specs.declared.reply.Reply.TheVariants as member_replies
 use Rattle.club_core.specs.declared.request.Request.{Request}
 use Rattle.club_core.specs.declared.store.StoreFault.{StoreFault}
 use Rattle.club_core.specs.declared.store.StoreFault.TheVariants.{Memory}
+use Rattle.club_core.specs.declared.verdict.Verdict.{Verdict}
 use Rattle.club_core.specs.Answer.{verdict_in}
 use Rattle.club_core.specs.Club.{Club}
 use Rattle.club_core.specs.Office.{office_verdict}
@@ -18,7 +21,7 @@ use Rattle.club_gate.specs.declared.event.OfficeReply.TheVariants.{Refused}
 use Rattle.club_gate.specs.declared.fault.Fault.{Fault}
 use Rattle.club_gate.specs.declared.fault.Fault.TheVariants as faults
 use Rattle.club_gate.specs.DecodedPass.{AreWordsOf}
-use Rattle.club_gate.specs.Response.{desk_presentation, unavailable}
+use Rattle.club_gate.specs.Response.{desk_presentation}
 use Rattle.club_gate.specs.Served.{IsJson}
 
 -- true of whichever club the store represented before a call, if its disk is clean after the call
@@ -51,6 +54,26 @@ Settles Represents new change result club others = MatchResult result
     (λ _. Represents new (after_change change club) (others_after change others))
     (λ _. Represents new club (after_change change club ∷ others))
 
+-- A request was decided by this verdict: the reply is the verdict's, and the store represents the club after the verdict's change.
+pub record IsDecidedBy {S : Type 0} (Represents : S → Club → List Club → Type 0) (new : S) (club : Club) (others : List Club)
+    (verdict : Verdict) (reply : Reply) : Type 0 where
+  pub available : reply ≢ member_replies.Refused Unavailable
+  pub reply_is : reply ≡ verdict.reply
+  pub represents : Represents new (after_change verdict.change club) (others_after verdict.change others)
+
+-- A request failed, in place of this verdict: the store represents the same club. Its possible crash states are those of before, with the club
+-- after the verdict's change as one more if the store failed to write that change.
+pub record HasFailed {S : Type 0} (Represents : S → Club → List Club → Type 0) (new : S) (club : Club) (others : List Club)
+    (verdict : Verdict) (reply : Reply) : Type 0 where
+  pub unavailable : reply ≡ member_replies.Refused Unavailable
+  pub represents : Represents new club others ⊎ Represents new club (after_change verdict.change club ∷ others)
+
+-- For each club that the store may have represented: the request was decided by that club's verdict on these words, or it failed.
+abbrev pub DecidesOrFails : {S : Type 0} → (S → Club → List Club → Type 0) → S → S → Words → ℕ → Reply → Type 0
+DecidesOrFails Represents old new words moment reply =
+    (club : Club) (others : List Club) → Represents old club others
+    → IsDecidedBy Represents new club others (verdict_in club words moment) reply ⊎ HasFailed Represents new club others (verdict_in club words moment) reply
+
 -- An event was answered: its response is the machine's reply, and the store represents the club that follows.
 pub record IsAnsweredBy {S : Type 0} (Represents : S → Club → List Club → Type 0) (new : S) (club : Club) (others : List Club)
     (event : Event) (response : Response OfficeReply) : Type 0 where
@@ -71,21 +94,21 @@ Steps Represents old new event response =
     (club : Club) (others : List Club) → Represents old club others
     → IsAnsweredBy Represents new club others event response ⊎ IsRefusedBy Represents new club others event response
 
--- The store failed with this fault: at a read, or when it wrote the change of the event.
-abbrev pub FailsAt : {S : Type 0} → (Option Change → S → StoreFault → S → Type 0) → S → S → Club → Event → StoreFault → Type 0
-FailsAt Fails old new club event fault = Fails None old fault new ⊎ Fails (change_of club event) old fault new
+-- The store failed with this fault: at a read, or when it wrote the change, if there is one.
+abbrev pub FailsAt : {S : Type 0} → (Option Change → S → StoreFault → S → Type 0) → S → S → Option Change → StoreFault → Type 0
+FailsAt Fails old new change fault = Fails None old fault new ⊎ Fails change old fault new
 
 -- If the office's reply is a fault of the store, the store failed with this very fault.
 abbrev pub NamesItsFault : {S : Type 0} → (Option Change → S → StoreFault → S → Type 0) → S → S → Club → Event → OfficeReply → Type 0
 NamesItsFault Fails old new club event reply =
-    (fault : StoreFault) → reply ≡ Refused (faults.Store fault) → FailsAt Fails old new club event fault
+    (fault : StoreFault) → reply ≡ Refused (faults.Store fault) → FailsAt Fails old new (change_of club event) fault
 
 -- If the reply to a request is `Unavailable`, there is a fault with which the store itself failed, at a read or when it wrote the change of the
 -- request; or the text is JSON, which needs memory to be parsed, and the store is unchanged.
 abbrev pub FailsForCause : {S : Type 0} → (Option Change → S → StoreFault → S → Type 0) → S → S → Club → List ℕ → Request → ℕ → Reply → Type 0
 FailsForCause Fails old new club text request moment reply =
-    reply ≡ unavailable
-    → ((fault : StoreFault) × ((words : Words) → AreWordsOf text request words → FailsAt Fails old new club (Asked words moment) fault))
+    reply ≡ member_replies.Refused Unavailable
+    → ((fault : StoreFault) × ((words : Words) → AreWordsOf text request words → FailsAt Fails old new (verdict_in club words moment).change fault))
     ⊎ (IsJson text × (new ≡ old))
 
 -- memory or storage was refused

@@ -16,7 +16,6 @@ use Rattle.club_core.specs.Sums.{cost_of}
 use Rattle.club_laws.specs.RunsWithFailures.{RepeatsServedReplies, WasReturned}
 use Rattle.club_laws.specs.Conservation.{IsConserved, HasPlaces}
 use Rattle.club_laws.specs.Failed.{has_failed, IsRun, answered_events, answers}
-use Rattle.club_laws.specs.Failed as laws
 use Rattle.club_laws.specs.SoloLaw.{replies_to}
 use Rattle.club_gate.specs.Desk.{FailsForCause, NamesItsFault, OfItsClub, Steps, change_of}
 use Rattle.club_gate.specs.declared.event.Event.{Event}

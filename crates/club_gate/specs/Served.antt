@@ -10,6 +10,7 @@ use Rattle.pass_forms.specs.Pass.{Plain, IsSigned}
 use Rattle.pass_json.specs.AnyForm.{IsAnyReading}
 use Rattle.club_values.specs.Name.{IsName}
 use Rattle.club_rows.specs.declared.key.Key.{Key}
+use Rattle.club_core.specs.declared.refusal.Refusal.TheVariants.{Unavailable}
 use Rattle.club_core.specs.declared.reply.Reply.{Reply}
 use Rattle.club_core.specs.declared.reply.Reply.TheVariants.{Refused}
 use Rattle.club_core.specs.declared.request.Request.{Request}
@@ -21,7 +22,6 @@ use Rattle.club_core.specs.Pass.{IsGoodRoot, Words}
 use Rattle.club_laws.specs.SingleRequest.{blind_refusal}
 use Rattle.club_gate.specs.Minted.{identifier_of}
 use Rattle.club_gate.specs.DecodedPass.{AreWordsOf, fault_of}
-use Rattle.club_gate.specs.Response.{unavailable}
 
 -- the pass is signed under a root of the key's row that is good at the moment
 pub record IsSignedFor (pass : Plain) (key : Key) (moment : ℕ) : Type 0 where
@@ -50,20 +50,20 @@ pub record EntitlesTo (club : Club) (text : List ℕ) (request : Request) (momen
 abbrev pub DependsOnTheBasis : Club → List ℕ → Request → ℕ → Reply → Type 0
 DependsOnTheBasis club text request moment reply =
     (words : Words) (other : Club) → AreWordsOf text request words → basis_of other words ≡ basis_of club words
-    → reply ≢ unavailable → reply ≡ (verdict_in other words moment).reply
+    → reply ≢ Refused Unavailable → reply ≡ (verdict_in other words moment).reply
 
 -- If the words name no such rows, the reply is the fault of the text, or `NotVerified`.
 abbrev pub IsBlind : Club → List ℕ → Request → Reply → Type 0
 IsBlind club text request reply =
     (words : Words) → AreWordsOf text request words → basis_of club words ≡ None
-    → reply ≢ unavailable → reply ≡ Refused (blind_refusal words.pass)
+    → reply ≢ Refused Unavailable → reply ≡ Refused (blind_refusal words.pass)
 
 -- Any other text that spells the same pass, in whatever form, gets the same reply.
 abbrev pub AnswersItsForms : Club → List ℕ → Request → ℕ → Reply → Type 0
 AnswersItsForms club text request moment reply =
     (other : List ℕ) (words : Words) (form other_form : Form) (pass : Plain) → IsBytes other
     → IsAnyReading text (Ok (form, pass)) → IsAnyReading other (Ok (other_form, pass)) → AreWordsOf other request words
-    → reply ≢ unavailable → reply ≡ (verdict_in club words moment).reply
+    → reply ≢ Refused Unavailable → reply ≡ (verdict_in club words moment).reply
 
 -- The narrow text spells the pass of the wide one with more caveats: it has the same identifier, and the wide one is signed for the key.
 pub record IsNarrowedText (club : Club) (wide narrow : List ℕ) (moment : ℕ) : Type 0 where
@@ -100,15 +100,11 @@ pub record IsLawful (club : Club) (text : List ℕ) (request : Request) (moment 
   -- a pass with more caveats never opens more
   pub less : OpensNoMore club text request moment reply
 
--- The text isn't JSON, so it is read in place, without memory.
-abbrev pub IsReadInPlace : List ℕ → Type 0
-IsReadInPlace text = (bytes : List ℕ) → ¬ IsUnwrapped text (Ok (Json, bytes))
-
--- If such a text isn't a pass, its fault is always the reply: never `Unavailable`.
-abbrev pub RefusesByFormFault : List ℕ → Reply → Type 0
-RefusesByFormFault text reply =
-    (fault : FormFault) → IsReadInPlace text → IsAnyReading text (Err fault) → reply ≡ Refused (form_refusal (fault_of fault))
-
--- The text is JSON, which needs memory to be parsed.
+-- The text is JSON, which needs memory to be parsed. Any other text is read in place, without memory.
 abbrev pub IsJson : List ℕ → Type 0
 IsJson text = (bytes : List ℕ) × IsUnwrapped text (Ok (Json, bytes))
+
+-- If a text that isn't JSON isn't a pass, its fault is always the reply: never `Unavailable`.
+abbrev pub RefusesByFormFault : List ℕ → Reply → Type 0
+RefusesByFormFault text reply =
+    (fault : FormFault) → ¬ IsJson text → IsAnyReading text (Err fault) → reply ≡ Refused (form_refusal (fault_of fault))

@@ -21,8 +21,9 @@ ghost use Rattle.club_core.specs.Pass.{Words};
 ghost use Rattle.club_core.specs.Run as machine;
 ghost use Rattle.club_core.specs.Sheet.{IsSheet};
 ghost use Rattle.club_core.specs.Store.{KeepsClub, ReadsStore, Returns};
-ghost use Rattle.club_core.specs.Run.{ToMember, ToOffice};
+ghost use Rattle.club_core.specs.Run.{ToOffice};
 ghost use Rattle.club_gate.specs.Desk.{
+  DecidesOrFails,
   FailsAt,
   FailsForCause,
   FitsIfAny,
@@ -32,10 +33,11 @@ ghost use Rattle.club_gate.specs.Desk.{
   OfItsClub,
   Settles,
   Steps,
+  change_of,
 };
 ghost use Rattle.club_gate.specs.DecodedPass.{AreWordsOf, fault_of};
 ghost use Rattle.club_gate.specs.computed.DecodedPass.{decoded_words};
-ghost use Rattle.club_gate.specs.Served.{IsLawful, IsReadInPlace, RefusesByFormFault};
+ghost use Rattle.club_gate.specs.Served.{IsJson, IsLawful, RefusesByFormFault};
 ghost use Rattle.club_gate.specs.Response.{answer_or_fault, reply_or_unavailable};
 ghost use Rattle.club_gate.specs.Runs.{IsHandled};
 
@@ -133,15 +135,15 @@ impl<S: ClubStore> Desk<S> {
     /// storage was refused.
     fn reply_to(&mut self, moment: Moment, words: &SentWords) -> Result<Reply, StoreFault>
         ensures was_clean { S.disk_is_clean self.new → S.disk_is_clean self.old }
-        ensures steps { S.disk_is_clean self.new → Steps S.represents self.old self.new
-            (machine.Asked (decoded_words words.now.pass.now words.now.request) moment)
-            (ToMember (reply_or_unavailable result)) }
+        ensures steps { S.disk_is_clean self.new → DecidesOrFails S.represents self.old self.new
+            (decoded_words words.now.pass.now words.now.request) moment
+            (reply_or_unavailable result) }
         ensures failed { OfItsClub S.disk_is_clean S.represents self.old self.new
             (λ club. FailsForCause S.fails self.old self.new club words.now.pass.now
             words.now.request moment (reply_or_unavailable result)) }
         ensures untouched { (fault : FormFault) → reading words.now.pass.now ≡ Err fault
             → self.new ≡ self.old }
-        ensures in_place { (fault : FormFault) → IsReadInPlace words.now.pass.now
+        ensures in_place { (fault : FormFault) → ¬ IsJson words.now.pass.now
             → reading words.now.pass.now ≡ Err fault
             → result ≡ Ok (Refused (form_refusal (fault_of fault))) }
     {
@@ -226,7 +228,7 @@ impl<S: ClubStore> Desk<S> {
             (machine.Ordered command.now) (ToOffice (answer_or_fault result)) }
         ensures failed { OfItsClub S.disk_is_clean S.represents self.old self.new
             (λ club. IfErr result
-            (FailsAt S.fails self.old self.new club (machine.Ordered command.now))) }
+            (FailsAt S.fails self.old self.new (change_of club (machine.Ordered command.now)))) }
     {
         changes_fit();
         command.within();
@@ -254,8 +256,7 @@ impl<S: ClubStore> Desk<S> {
         // same club.
         ensures steps { S.disk_is_clean self.new → (decoded : Words)
             × AreWordsOf words.now.pass.now words.now.request decoded
-            × Steps S.represents self.old self.new (machine.Asked decoded moment)
-            (ToMember result) }
+            × DecidesOrFails S.represents self.old self.new decoded moment result }
         ensures lawful { OfItsClub S.disk_is_clean S.represents self.old self.new
             (λ club. IsLawful club words.now.pass.now words.now.request moment result) }
         // If the reply is `Unavailable`, the store itself failed, at a read or at the request's

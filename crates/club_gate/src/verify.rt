@@ -31,7 +31,7 @@ ghost use Rattle.club_laws.specs.SingleRequest.{words_with};
 ghost use Rattle.club_gate.specs.DecodedPass.{fault_of};
 ghost use Rattle.club_gate.specs.Identifier.{key_in};
 ghost use Rattle.club_gate.specs.computed.DecodedPass.{machine_pass, decoded_words, words_in_form};
-ghost use Rattle.club_gate.specs.Served.{IsJson, IsReadInPlace};
+ghost use Rattle.club_gate.specs.Served.{IsJson};
 ghost use Rattle.club_gate.specs.Verify.{
   OfItsPass,
   ReadsOrLacksMemory,
@@ -278,7 +278,7 @@ impl<S: ClubStore> Desk<S> {
             (λ club verdict. verdict
             ≡ verdict_in club (decoded_words words.now.pass.now words.now.request) moment) }
         ensures refused { (fault : FaultOfForm) → reading words.now.pass.now ≡ Err fault
-            → RefusesText self.old self.new (IsReadInPlace words.now.pass.now) fault result }
+            → RefusesText self.old self.new (¬ IsJson words.now.pass.now) fault result }
         ensures failed { S.disk_is_clean self.new
             → ReadsOrLacksMemory S.fails (IsJson words.now.pass.now) self.old self.new result }
     {

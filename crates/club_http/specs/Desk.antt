@@ -8,19 +8,17 @@ use Rattle.club_core.specs.declared.request.Request.{Request}
 use Rattle.club_core.specs.declared.store.StoreFault.{StoreFault}
 use Rattle.club_core.specs.Club.{Club}
 use Rattle.club_core.specs.Pass.{Words}
-use Rattle.club_core.specs.Run.{Asked, ToMember}
-use Rattle.club_gate.specs.Desk.{FailsForCause, OfItsClub, Steps}
+use Rattle.club_gate.specs.Desk.{DecidesOrFails, FailsForCause, OfItsClub}
 use Rattle.club_gate.specs.DecodedPass.{AreWordsOf}
 use Rattle.club_gate.specs.Served.{IsLawful, RefusesByFormFault}
 
--- the store below the desk made the step that the rules give, as long as its disk was clean
+-- the store below the desk did what the rules say, as long as its disk was clean
 pub record AnswersBy {S : Type 0} (IsClean : S → Type 0)
     (Represents : S → Club → List Club → Type 0)
     (Fails : Option Change → S → StoreFault → S → Type 0) (moment : ℕ) (text : List ℕ)
     (request : Request) (old : S) (reply : Reply) (new : S) : Type 0 where
   pub was_clean : IsClean new → IsClean old
-  pub steps : IsClean new → (words : Words) × AreWordsOf text request words
-      × Steps Represents old new (Asked words moment) (ToMember reply)
+  pub steps : IsClean new → (words : Words) × AreWordsOf text request words × DecidesOrFails Represents old new words moment reply
   pub lawful : OfItsClub IsClean Represents old new (λ club. IsLawful club text request moment reply)
   -- the reply is `Unavailable` only if the store itself failed, or the text is JSON
   pub failed : OfItsClub IsClean Represents old new (λ club. FailsForCause Fails old new club text request moment reply)

@@ -1,13 +1,17 @@
 -- What a server does to its store, the machine does to the club that this represents.
-use Rattle.std.proofs.Common.{◌≡◌, ◌⊎◌, ℕ, List, ◌∷◌, Option, Some, None, Result, Ok, Err, inl, inr, refl}
+use Rattle.std.proofs.Common.{◌≡◌, ◌≢◌, ◌⊎◌, ℕ, false, List, ◌∷◌, Option, Some, None, Result, Ok, Err, inl, inr, refl, ap}
 use Rattle.clap.specs.Words.{Text}
+use Rattle.club_core.specs.Answer.{verdict_in}
 use Rattle.club_core.specs.Club.{Club}
+use Rattle.club_core.specs.Pass.{Words}
 use Rattle.club_core.specs.Run.{Event, Asked, step, Response, ToMember}
 use Rattle.club_core.specs.declared.change.Change.{Change}
 use Rattle.club_core.specs.declared.command.Command.{Command}
+use Rattle.club_core.specs.declared.refusal.Refusal.TheVariants.{Unavailable}
 use Rattle.club_core.specs.declared.reply.Reply.{Reply}
+use Rattle.club_core.specs.declared.reply.Reply.TheVariants.{Refused}
 use Rattle.club_core.specs.declared.store.StoreFault.{StoreFault}
-use Rattle.club_gate.specs.Desk.{IsAnsweredBy, IsRefusedBy, Steps}
+use Rattle.club_gate.specs.Desk.{HasFailed, IsAnsweredBy, IsDecidedBy, IsRefusedBy, Steps}
 use Rattle.club_gate.specs.Response.{desk_presentation}
 use Rattle.club_gate.specs.declared.event.OfficeReply.{OfficeReply}
 use Rattle.club_gate.specs.declared.fault.Fault.{Fault as DeskFault}
@@ -16,7 +20,7 @@ use Rattle.club_http.specs.Replied.{IsReplied}
 use Rattle.club_http.specs.Replied as replied
 use Rattle.club_http.specs.declared.fault.AnswerFault.{AnswerFault}
 use Rattle.club_http.specs.declared.fault.AnswerFault.TheVariants.{Read, Write}
-use Rattle.club_laws.specs.Failed.{IsStep}
+use Rattle.club_laws.specs.Failed.{IsStep, is_unavailable}
 use Rattle.clubdesk_arguments.specs.declared.fault.Fault.{Fault}
 use Rattle.clubdesk_arguments.specs.declared.fault.Fault.TheVariants.{Memory, ClockOutOfRange, InputOutput}
 use Rattle.clubdesk_arguments.specs.declared.task.Service.{Service}
@@ -46,6 +50,10 @@ machine_steps club next event response (inl answered) now others same =
     rw (← same) (inl (record { success = answered.success; reply = answered.reply; represents = answered.steps_club }))
 machine_steps club next event response (inr failed) now others same =
     rw (← same) (inr (record { failure = failed.failure; represents = inl failed.kept }))
+
+is_other : (reply : Reply) → reply ≢ Refused Unavailable → is_unavailable reply ≡ false
+is_other (Refused Unavailable) h = absurd (h refl)
+is_other reply h = refl
 
 module _ {S : Type 0} (Clean : S → Type 0) (Represents : S → Club → List Club → Type 0) where
   -- Of whichever club the store represented: it now represents one that is as `Gives` says.
@@ -104,6 +112,19 @@ module _ {S : Type 0} (Clean : S → Type 0) (Represents : S → Club → List C
 
   -- ---- a request
 
+  one_request : (new : S) (club : Club) (others : List Club) (words : Words) (moment : ℕ) (reply : Reply)
+      → IsDecidedBy Represents new club others (verdict_in club words moment) reply ⊎ HasFailed Represents new club others (verdict_in club words moment) reply
+      → (next : Club) × (still : List Club) × Represents new next still × IsStep desk_presentation club (Asked words moment) (ToMember reply) next
+  one_request new club others words moment reply (inl decided) = one_step new club others (Asked words moment) (ToMember reply) (inl (record {
+    success = is_other reply decided.available;
+    reply = ap ToMember decided.reply_is;
+    represents = decided.represents;
+  }))
+  one_request new club others words moment reply (inr failed) = one_step new club others (Asked words moment) (ToMember reply) (inr (record {
+    failure = ap is_unavailable failed.unavailable;
+    represents = failed.represents;
+  }))
+
   module _ (Fails : Option Change → S → StoreFault → S → Type 0) (moment : ℕ) (bytes : List ℕ) where
     replies : (old new : S) (reply : Reply) → IsReplied (AnswersBy Clean Represents Fails moment) bytes old reply new
         → Simulates old new (λ club next. IsReplied (machine_answers moment) bytes club reply next)
@@ -112,7 +133,7 @@ module _ {S : Type 0} (Clean : S → Type 0) (Represents : S → Club → List C
       was_clean = answers.was_clean;
       follows = λ clean club others represents.
           let seen = answers.steps clean in
-          let next = one_step new club others (Asked seen.0 moment) (ToMember reply) (seen.2 club others represents) in
+          let next = one_request new club others seen.0 moment reply (seen.2 club others represents) in
           (next.0, next.1, next.2, replied.desk_reply decoded reads (seen.0, seen.1, next.3));
     }
     replies old new reply (replied.out_of_memory holds is kept) = same old new _ kept (λ club. replied.out_of_memory holds is refl)

@@ -1,4 +1,5 @@
 use Rattle.std.proofs.Common.{Err, inl, refl}
+use Rattle.club_core.specs.Answer.{verdict_in}
 use Rattle.club_gate.specs.computed.DecodedPass.{decoded_words}
 use Rattle.club_gate.specs.Response.{unavailable}
 use Rattle.club_gate.proofs.Decoding.{decoded_text}
@@ -9,8 +10,8 @@ pub returns-in-Ok-clause-lawful : goal.returns-in-Ok-clause-lawful
 returns-in-Ok-clause-lawful g c = λ was_clean club others represents.
     let text = c.args.words.now.pass.now in
     let request = c.args.words.now.request in
-    let returned = reply_or_failure g.S.ClubStore.represents c.reply_to.new.self club others (decoded_words text request) c.args.moment c.in-Ok.reply
-    (c.in-Ok.ensures.steps was_clean club others represents) in
+    let returned = reply_or_failure g.S.ClubStore.represents c.reply_to.new.self club others (verdict_in club (decoded_words text request) c.args.moment)
+    c.in-Ok.reply (c.in-Ok.ensures.steps was_clean club others represents) in
     lawful c.serves_only_the_entitled.ensures c.depends_on_the_basis_alone.ensures c.refuses_without_a_basis.ensures
     c.more_caveats_never_open_more.ensures c.reads_any_form_exactly.ensures c.decides_signed.ensures c.finds_names.ensures
     c.reads_what_is_understood.ensures c.decodes.ensures

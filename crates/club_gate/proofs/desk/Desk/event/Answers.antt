@@ -1,5 +1,6 @@
 use Rattle.std.proofs.Common.{refl}
 use Rattle.club_core.specs.Run as machine
+use Rattle.club_gate.proofs.Stepping.{asked_steps}
 use Rattle.club_gate.proofs.desk.Desk.event.Goals as goal
 
 pub returns-in-Asked : goal.returns-in-Asked
@@ -7,7 +8,7 @@ returns-in-Asked g c = rw c.in-Asked.is (record {
   was_clean = c.ask.ensures.was_clean;
   steps = λ clean.
       let seen = c.ask.ensures.steps clean in
-      (machine.Asked seen.0 c.in-Asked.moment, (seen.0, seen.1, refl), seen.2);
+      (machine.Asked seen.0 c.in-Asked.moment, (seen.0, seen.1, refl), asked_steps _ _ _ seen.0 c.in-Asked.moment _ seen.2);
   failed = c.ask.ensures.failed;
 })
 
