@@ -28,19 +28,18 @@ WRITTEN = {
                                      "first_party_caveat first_party; pass_forms.Reading: max_caveats IsReadAs",
     "passes.Packets.peek passes.packet": "pass_forms.V1: hex_digit four_hex_digits packet_len packet FitsPacket",
     "passes.Packets.take_if": "pass_forms.V1: optional_packet",
-    "passes.read_v1 passes.v1_bytes": "pass_forms.V1: location_key identifier_key caveat_key verifier_id_key caveat_location_key signature_key "
-                                      "caveat_packets packets_of FitsCaveat FitsPackets SpellsV1",
+    "passes.read_v1 passes.v1_bytes": "pass_forms.V1: caveat_packets packets_of FitsCaveat FitsPackets SpellsV1",
     "passes.Fields.number passes.varint": "pass_forms.V2: groups varint",
     "passes.Fields.take passes.v2_field": "pass_forms.V2: field",
     "passes.Fields.take_if": "pass_forms.V2: optional_field",
     "passes.Fields.end": "pass_forms.V2: end_of_section",
-    "passes.read_v2 passes.v2_bytes": "pass_forms.V2: location_type identifier_type verifier_id_type signature_type caveat_section sections SpellsV2",
-    "passes.json_bytes_of": "pass_json.Json: IsField IsLocation IsIdentifier IsSignature IsVerifierId IsOneOf",
+    "passes.read_v2 passes.v2_bytes": "pass_forms.V2: caveat_section sections SpellsV2",
+    "passes.json_bytes_of": "pass_json.Json: IsField",
     "passes.json_caveat": "pass_json.Json: caveat_names IsCaveatObject",
     "passes.is_whole_two": "pass_json.Json: IsVersion",
     "passes.read_json passes.json_value": "pass_json.Json: HasOnly pass_names AreCaveats IsCaveatList IsPass SpellsJson",
     "passes.from_base64": "pass_forms.Envelope: IsBase64",
-    "passes.read_wide": "pass_forms.Envelope: open_brace starts_with_brace is_lower_hex_digit form_of_byte form_of Wraps; "
+    "passes.read_wide": "pass_forms.Envelope: starts_with_brace is_lower_hex_digit form_of_byte form_of Wraps; "
                         "pass_json.AnyForm: SpellsForm",
     "passes.read": "pass_forms.Reading: max_text_len; pass_forms.Text: SpellsText IsTextReading; pass_json.AnyForm: IsAnyReading",
     "caveats.day_of": "club_values.Day: first_day last_day IsDay date_text march_year day_of_march_year march_month year_of month_of "

@@ -3,9 +3,10 @@ use Rattle.std.proofs.Common.{◌≡◌, ℕ, ◌≤◌, List, ◌++◌, length,
 use Rattle.std.specs.Prelude.{IfSome}
 use Rattle.std.proofs.lemmas.List.{length-append}
 use Rattle.pass_forms.specs.Pass.{WideCaveat}
-use Rattle.pass_forms.specs.V1.{packet, optional_packet, caveat_key, verifier_id_key, caveat_location_key, caveat_packets, FitsPacket, FitsCaveat}
+use Rattle.pass_forms.specs.V1.{packet, optional_packet, caveat_packets, FitsPacket, FitsCaveat}
 use Rattle.pass_forms.specs.computed.Parts.{found_or_none}
 use Rattle.pass_forms.specs.computed.V1Reading.{packet_at, optional_at, caveat_at}
+use Rattle.pass_forms.proofs.FieldNames.{caveat_key, verifier_id_key, caveat_location_key}
 use Rattle.pass_forms.proofs.CaveatTexts.{Exact}
 use Rattle.pass_forms.proofs.Digits.{bind_some, some_is}
 use Rattle.pass_forms.proofs.Packets.{packet_takes, packet_again, packet_other, length-packet}

@@ -3,12 +3,13 @@ use Rattle.std.proofs.Common.{◌≡◌, ℕ, ◌≤◌, List, [], ◌++◌, len
 use Rattle.std.specs.List.{flat_map}
 use Rattle.std.proofs.lemmas.List.{append-nil, length-append}
 use Rattle.pass_forms.specs.Pass.{WidePass}
-use Rattle.pass_forms.specs.V1.{packet, location_key, identifier_key, caveat_key, verifier_id_key, caveat_location_key, signature_key, caveat_packets}
+use Rattle.pass_forms.specs.V1.{packet, caveat_packets}
 use Rattle.pass_forms.specs.V1.{packets_of, FitsPacket, FitsCaveat, FitsPackets, SpellsV1}
 use Rattle.pass_forms.specs.computed.Parts.{◌>>=◌}
 use Rattle.pass_forms.specs.computed.V1Reading.{packet_at, header_at, caveat_at, signature_at, wide_at, reading_v1}
 use Rattle.pass_forms.specs.computed.Caveats.{caveats_at}
 use Rattle.pass_forms.specs.Laws.{ComputesSpelled, ReadsExactly}
+use Rattle.pass_forms.proofs.FieldNames.{location_key, identifier_key, caveat_key, verifier_id_key, caveat_location_key, signature_key}
 use Rattle.pass_forms.proofs.Checking.{exactly}
 use Rattle.pass_forms.proofs.WholePass.{last_takes, made, whole_parts, whole_again}
 use Rattle.pass_forms.proofs.Digits.{bind_some, some_is}

@@ -6,9 +6,10 @@ use Rattle.std.proofs.lemmas.List.{append-nil, length-append}
 use Rattle.pass_forms.specs.computed.Caveats.{caveats_at}
 use Rattle.pass_forms.specs.computed.Parts.{◌>>=◌, after_prefix, last_signature}
 use Rattle.pass_forms.specs.Pass.{WideCaveat, WidePass}
-use Rattle.pass_forms.specs.V2.{field, optional_field, location_type, identifier_type, verifier_id_type, signature_type, end_of_section, caveat_section}
+use Rattle.pass_forms.specs.V2.{field, optional_field, end_of_section, caveat_section}
 use Rattle.pass_forms.specs.V2.{sections, SpellsV2}
 use Rattle.pass_forms.specs.computed.V2Reading.{field_at, optional_at, caveat_at, header_at, footer_at, wide_at, reading_v2}
+use Rattle.pass_forms.proofs.FieldNames.{location_type, identifier_type, verifier_id_type, signature_type}
 use Rattle.pass_forms.proofs.CaveatTexts.{Exact, caveats_take, caveats_again, caveats_fit}
 use Rattle.pass_forms.proofs.Digits.{bind_some, some_is}
 use Rattle.pass_forms.proofs.Fields.{field_takes, field_again, optional_takes, optional_again}

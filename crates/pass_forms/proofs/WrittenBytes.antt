@@ -7,11 +7,12 @@ use Rattle.std.proofs.lemmas.List.{length-append}
 use Rattle.base64.specs.GeneralPurpose.{IsBytes}
 use Rattle.pass_forms.specs.Pass.{Plain, as_wide_pass, widened_caveat}
 use Rattle.pass_forms.specs.Putting.{buffer_len}
-use Rattle.pass_forms.specs.V1.{FitsPackets, FitsCaveat, FitsPacket, caveat_key, caveat_packets, four_hex_digits, hex_digit, identifier_key, location_key}
+use Rattle.pass_forms.specs.V1.{FitsPackets, FitsCaveat, FitsPacket, caveat_packets, four_hex_digits, hex_digit}
 use Rattle.pass_forms.specs.V1.{packet}
-use Rattle.pass_forms.specs.V1.{packet_len, signature_key}
-use Rattle.pass_forms.specs.V2.{caveat_section, end_of_section, field, identifier_type, location_type, optional_field, signature_type, varint}
+use Rattle.pass_forms.specs.V1.{packet_len}
+use Rattle.pass_forms.specs.V2.{caveat_section, end_of_section, field, optional_field, varint}
 use Rattle.pass_forms.specs.Writing.{HasBytes, nonempty_location, v1_bytes, v2_bytes}
+use Rattle.pass_forms.proofs.FieldNames.{caveat_key, identifier_key, location_key, signature_key, identifier_type, location_type, signature_type}
 use Rattle.pass_forms.proofs.Base64Bytes.{append_is_bytes, nil_is_bytes}
 use Rattle.pass_forms.proofs.PutVarints.{varint_of_one, varint_of_two}
 use Rattle.pass_forms.proofs.WholePass.{both_true}

@@ -8,11 +8,12 @@ use Rattle.pass_forms.specs.declared.form.Form.TheVariants.{V1}
 use Rattle.pass_forms.specs.Envelope.{form_of, form_of_byte}
 use Rattle.pass_forms.specs.Pass.{Plain, as_wide_pass, widened_caveat}
 use Rattle.pass_forms.specs.Putting.{buffer_len}
-use Rattle.pass_forms.specs.V1.{FitsPackets, FitsCaveat, FitsPacket, SpellsV1, caveat_key, caveat_packets, hex_digit, identifier_key, location_key, packet}
+use Rattle.pass_forms.specs.V1.{FitsPackets, FitsCaveat, FitsPacket, SpellsV1, caveat_packets, hex_digit, packet}
 use Rattle.pass_forms.specs.V1.{packet_len}
-use Rattle.pass_forms.specs.V1.{packets_of, signature_key}
+use Rattle.pass_forms.specs.V1.{packets_of}
 use Rattle.pass_forms.specs.Writing.{HasBytes, IsReadBack, IsV1Text, IsWritableText, IsWriting, v1_bytes}
 use Rattle.pass_forms.specs.computed.Writing.{writing_v1}
+use Rattle.pass_forms.proofs.FieldNames.{caveat_key, identifier_key, location_key, signature_key}
 use Rattle.pass_forms.proofs.Packets.{length-packet}
 use Rattle.pass_forms.specs.computed.V1Reading.{reading_v1}
 use Rattle.pass_forms.proofs.WholeV1.{reads_v1}

@@ -1,5 +1,5 @@
 -- The envelope of a pass text: base64, and which form the bytes in it are in.
-use Rattle.std.specs.Prelude.{◌≡◌, ◌==◌, ◌≤◌, ◌<◌, ◌&&◌, ◌||◌, ◌⊎◌, ℕ, Bool, List, length, take, slice_get, nat_eq, nat_le, IsTrue, [], ◌∷◌}
+use Rattle.std.specs.Prelude.{◌≡◌, ◌==◌, ◌≤◌, ◌<◌, ◌&&◌, ◌||◌, ◌⊎◌, ℕ, Bool, List, length, take, slice_get, nat_eq, nat_le, IsTrue, codes}
 use Rattle.std.specs.Prelude.{if◌then◌else◌, Option, None, Some, Result, Ok, Err}
 use Rattle.std.specs.List.{starts_with}
 use Rattle.std.specs.Option.{option_and_then}
@@ -20,23 +20,19 @@ pub record IsBase64 (text bytes : List ℕ) : Type 0 where
   pub spelling : (text ≡ encode_of url_safe_no_pad bytes) ⊎ (text ≡ encode_of url_safe bytes)
       ⊎ (text ≡ encode_of standard_no_pad bytes) ⊎ (text ≡ encode_of standard bytes)
 
--- `{`
-abbrev pub open_brace : ℕ
-open_brace = 123
-
 abbrev pub starts_with_brace : List ℕ → Bool
-starts_with_brace bytes = starts_with nat_eq bytes (open_brace ∷ [])
+starts_with_brace bytes = starts_with nat_eq bytes (codes "{")
 
 -- `0` to `9` or `a` to `f`
 abbrev pub is_lower_hex_digit : ℕ → Bool
 is_lower_hex_digit byte = (nat_le 48 byte && nat_le byte 57) || (nat_le 97 byte && nat_le byte 102)
 
 -- The form by the first byte: a V2 pass begins with the byte 2, a JSON pass with `{`, and a V1 pass
--- with the lower-case hexadecimal length of a packet (ours, after libmacaroons' formats).
+-- with the lower-case hexadecimal length of a packet (ours, after libmacaroons' formats). `{` is the byte 123.
 abbrev pub form_of_byte : ℕ → Option Form
 form_of_byte first =
     if first == 2 then Some V2
-    else if first == open_brace then Some Json
+    else if first == 123 then Some Json
     else if is_lower_hex_digit first then Some V1
     else None
 

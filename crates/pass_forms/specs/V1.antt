@@ -8,6 +8,7 @@ use Rattle.pass_forms.specs.Pass.{WideCaveat, WidePass}
 abbrev pub hex_digit : ℕ → ℕ
 hex_digit n = if nat_lt n 10 then 48 + n else 87 + n
 
+-- the digits of a number below 2 ^ 16, the highest first
 abbrev pub four_hex_digits : ℕ → List ℕ
 four_hex_digits n = hex_digit (n / 4096) ∷ hex_digit (n / 256 % 16) ∷ hex_digit (n / 16 % 16) ∷ hex_digit (n % 16) ∷ []
 
@@ -19,52 +20,37 @@ packet_len key bytes = 4 + length key + length bytes + 1
 abbrev pub packet : List ℕ → List ℕ → List ℕ
 packet key bytes = four_hex_digits (packet_len key bytes) ++ (key ++ (bytes ++ 10 ∷ []))
 
+-- no packet, of what there isn't
 abbrev pub optional_packet : List ℕ → Option (List ℕ) → List ℕ
 optional_packet key None = []
 optional_packet key (Some bytes) = packet key bytes
 
-abbrev pub location_key : List ℕ
-location_key = codes "location "
-
-abbrev pub identifier_key : List ℕ
-identifier_key = codes "identifier "
-
-abbrev pub caveat_key : List ℕ
-caveat_key = codes "cid "
-
-abbrev pub verifier_id_key : List ℕ
-verifier_id_key = codes "vid "
-
-abbrev pub caveat_location_key : List ℕ
-caveat_location_key = codes "cl "
-
-abbrev pub signature_key : List ℕ
-signature_key = codes "signature "
-
+-- the packets of a caveat: its identifier, and a third party's verifier id and location
 abbrev pub caveat_packets : WideCaveat → List ℕ
 caveat_packets caveat =
-    packet caveat_key caveat.identifier ++ (optional_packet verifier_id_key caveat.verifier_id
-    ++ optional_packet caveat_location_key caveat.location)
+    packet (codes "cid ") caveat.identifier ++ (optional_packet (codes "vid ") caveat.verifier_id
+    ++ optional_packet (codes "cl ") caveat.location)
 
 -- all packets of a pass, in their order
 abbrev pub packets_of : WidePass → List ℕ
 packets_of wide =
-    packet location_key wide.location ++ (packet identifier_key wide.identifier
-    ++ (flat_map caveat_packets wide.caveats ++ packet signature_key wide.signature))
+    packet (codes "location ") wide.location ++ (packet (codes "identifier ") wide.identifier
+    ++ (flat_map caveat_packets wide.caveats ++ packet (codes "signature ") wide.signature))
 
 -- Four digits hold a number below 2 ^ 16.
 abbrev pub FitsPacket : List ℕ → List ℕ → Type 0
 FitsPacket key bytes = packet_len key bytes < 2 ^ 16
 
+-- a caveat that can be written in packets
 pub record FitsCaveat (caveat : WideCaveat) : Type 0 where
-  pub identifier : FitsPacket caveat_key caveat.identifier
-  pub verifier_id : IfSome caveat.verifier_id (FitsPacket verifier_id_key)
-  pub location : IfSome caveat.location (FitsPacket caveat_location_key)
+  pub identifier : FitsPacket (codes "cid ") caveat.identifier
+  pub verifier_id : IfSome caveat.verifier_id (FitsPacket (codes "vid "))
+  pub location : IfSome caveat.location (FitsPacket (codes "cl "))
 
 -- a wide pass that can be written in packets
 pub record FitsPackets (wide : WidePass) : Type 0 where
-  pub location : FitsPacket location_key wide.location
-  pub identifier : FitsPacket identifier_key wide.identifier
+  pub location : FitsPacket (codes "location ") wide.location
+  pub identifier : FitsPacket (codes "identifier ") wide.identifier
   pub caveats : AllByRecursion FitsCaveat wide.caveats
   pub signature : length wide.signature ≡ 32
 

@@ -13,22 +13,12 @@ groups (suc more) n = if nat_lt n 128 then n ∷ [] else (128 + n % 128) ∷ gro
 unfoldable pub varint : ℕ → List ℕ
 varint n = groups n n
 
--- the types of fields; a type below 128 is its own varint
-abbrev pub location_type : ℕ
-location_type = 1
-
-abbrev pub identifier_type : ℕ
-identifier_type = 2
-
-abbrev pub verifier_id_type : ℕ
-verifier_id_type = 4
-
-abbrev pub signature_type : ℕ
-signature_type = 6
-
+-- A field: its type, its length and its bytes. The types are 1 for a location, 2 for an identifier, 4 for a verifier id and 6 for a signature;
+-- each is its own varint.
 abbrev pub field : ℕ → List ℕ → List ℕ
 field type bytes = type ∷ varint (length bytes) ++ bytes
 
+-- no field, of what there isn't
 abbrev pub optional_field : ℕ → Option (List ℕ) → List ℕ
 optional_field type None = []
 optional_field type (Some bytes) = field type bytes
@@ -37,16 +27,17 @@ optional_field type (Some bytes) = field type bytes
 abbrev pub end_of_section : List ℕ
 end_of_section = 0 ∷ []
 
+-- the section of a caveat: its identifier, and a third party's location before it and verifier id after it
 abbrev pub caveat_section : WideCaveat → List ℕ
 caveat_section caveat =
-    optional_field location_type caveat.location ++ (field identifier_type caveat.identifier
-    ++ (optional_field verifier_id_type caveat.verifier_id ++ end_of_section))
+    optional_field 1 caveat.location ++ (field 2 caveat.identifier
+    ++ (optional_field 4 caveat.verifier_id ++ end_of_section))
 
--- the version, the header, the caveats and the signature; the header's location may be left out
+-- the version, which is 2, the header, the caveats and the signature; the header's location may be left out
 abbrev pub sections : Option (List ℕ) → WidePass → List ℕ
 sections location wide =
-    2 ∷ optional_field location_type location ++ (field identifier_type wide.identifier ++ (end_of_section
-    ++ (flat_map caveat_section wide.caveats ++ (end_of_section ++ field signature_type wide.signature))))
+    2 ∷ optional_field 1 location ++ (field 2 wide.identifier ++ (end_of_section
+    ++ (flat_map caveat_section wide.caveats ++ (end_of_section ++ field 6 wide.signature))))
 
 -- The bytes are the sections of the wide pass. A location that is left out is the empty one (ours).
 pub record SpellsV2 (bytes : List ℕ) (wide : WidePass) : Type 0 where

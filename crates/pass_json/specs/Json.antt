@@ -1,6 +1,6 @@
 -- The JSON spelling of a pass: one object, after libmacaroons' V2 JSON. Which names may be left out, and that a `64` name
 -- takes either alphabet of base64, is ours.
-use Rattle.std.specs.Prelude.{◌≡◌, ◌⊎◌, ℕ, List, [], ◌∷◌, codes, length, Option, None, Some, unwrap_or, IsSome, IsUtf8}
+use Rattle.std.specs.Prelude.{◌≡◌, ◌⊎◌, ℕ, List, [], ◌∷◌, codes, length, Option, None, Some, unwrap_or, IsSome, IsUtf8, Contains}
 use Rattle.serde_json.specs.Data.{Data, number, string, array, unsigned, Items, no_items, item}
 use Rattle.serde_json.specs.Find.{get}
 use Rattle.serde_json.specs.Read.{read}
@@ -15,40 +15,25 @@ IsField plain base64 value (Some bytes) =
     ((get plain value ≡ Some (string bytes)) × (get base64 value ≡ None))
     ⊎ ((get plain value ≡ None) × (text : List ℕ) × (get base64 value ≡ Some (string text)) × IsBase64 text bytes)
 
-abbrev pub IsLocation : Data → Option (List ℕ) → Type 0
-IsLocation = IsField (codes "l") (codes "l64")
-
-abbrev pub IsIdentifier : Data → Option (List ℕ) → Type 0
-IsIdentifier = IsField (codes "i") (codes "i64")
-
-abbrev pub IsSignature : Data → Option (List ℕ) → Type 0
-IsSignature = IsField (codes "s") (codes "s64")
-
--- of a caveat alone: in a pass `v` is the version
-abbrev pub IsVerifierId : Data → Option (List ℕ) → Type 0
-IsVerifierId = IsField (codes "v") (codes "v64")
-
-abbrev pub IsOneOf : List (List ℕ) → List ℕ → Type 0
-IsOneOf [] name = ⊥
-IsOneOf (known ∷ others) name = (name ≡ known) ⊎ IsOneOf others name
-
--- There are no other names.
+-- The value has no other names than these.
 abbrev pub HasOnly : List (List ℕ) → Data → Type 0
-HasOnly names value = (name : List ℕ) → IsSome (get name value) → IsOneOf names name
+HasOnly names value = (name : List ℕ) → IsSome (get name value) → Contains names name
 
+-- the names of a pass: its version, location, identifier, caveats and signature
 abbrev pub pass_names : List (List ℕ)
 pass_names =
     codes "v" ∷ codes "l" ∷ codes "l64" ∷ codes "i" ∷ codes "i64" ∷ codes "c" ∷ codes "s" ∷ codes "s64" ∷ []
 
+-- the names of a caveat: its identifier, location and verifier id
 abbrev pub caveat_names : List (List ℕ)
 caveat_names = codes "i" ∷ codes "i64" ∷ codes "l" ∷ codes "l64" ∷ codes "v" ∷ codes "v64" ∷ []
 
--- a value with an identifier is an object
+-- The value is an object, since it has an identifier, and holds the caveat. `v` is the verifier id here, and the version of a pass.
 pub record IsCaveatObject (value : Data) (caveat : WideCaveat) : Type 0 where
   pub names : HasOnly caveat_names value
-  pub identifier : IsIdentifier value (Some caveat.identifier)
-  pub verifier_id : IsVerifierId value caveat.verifier_id
-  pub location : IsLocation value caveat.location
+  pub identifier : IsField (codes "i") (codes "i64") value (Some caveat.identifier)
+  pub verifier_id : IsField (codes "v") (codes "v64") value caveat.verifier_id
+  pub location : IsField (codes "l") (codes "l64") value caveat.location
 
 -- each item is a caveat, in their order
 abbrev pub AreCaveats : Items → List WideCaveat → Type 0
@@ -66,16 +51,17 @@ abbrev pub IsVersion : Option Data → Type 0
 IsVersion None = Unit {0}
 IsVersion (Some value) = value ≡ number (unsigned 2)
 
+-- The value is an object, since it has an identifier, and holds the pass.
 pub record IsPass (value : Data) (wide : WidePass) : Type 0 where
   pub names : HasOnly pass_names value
   pub version : IsVersion (get (codes "v") value)
   -- a location that is left out is the empty one
   pub location : Option (List ℕ)
-  pub is_location : IsLocation value location
+  pub is_location : IsField (codes "l") (codes "l64") value location
   pub location_is : wide.location ≡ unwrap_or location []
-  pub identifier : IsIdentifier value (Some wide.identifier)
+  pub identifier : IsField (codes "i") (codes "i64") value (Some wide.identifier)
   pub caveats : IsCaveatList (get (codes "c") value) wide.caveats
-  pub signature : IsSignature value (Some wide.signature)
+  pub signature : IsField (codes "s") (codes "s64") value (Some wide.signature)
   pub signature_len : length wide.signature ≡ 32
 
 -- The bytes are JSON, as `serde_json` parses it, of an object that holds the wide pass.

@@ -1,11 +1,10 @@
 -- V1, parsed from the front: each function returns a value and the bytes after it.
-use Rattle.std.specs.Prelude.{ℕ, ◌+◌, ◌-◌, ◌*◌, nat_le, ◌&&◌, if◌then◌else◌, List, [], ◌∷◌, length, take, drop, Option, Some, None, Result}
+use Rattle.std.specs.Prelude.{ℕ, ◌+◌, ◌-◌, ◌*◌, nat_le, ◌&&◌, if◌then◌else◌, List, [], ◌∷◌, length, take, drop, codes, Option, Some, None, Result}
 use Rattle.pass_forms.specs.declared.fault.FormFault.{FormFault}
 use Rattle.pass_forms.specs.computed.Caveats.{whole_at}
 use Rattle.pass_forms.specs.computed.Parts.{◌>>=◌, after_prefix, before_suffix, found_or_none, last_signature}
 use Rattle.pass_forms.specs.Pass.{Plain, WideCaveat, WidePass}
 use Rattle.pass_forms.specs.computed.Reading.{reading_of}
-use Rattle.pass_forms.specs.V1.{location_key, identifier_key, caveat_key, verifier_id_key, caveat_location_key, signature_key}
 
 abbrev pub digit_value : ℕ → Option ℕ
 digit_value byte =
@@ -37,20 +36,20 @@ optional_at key bytes = found_or_none bytes (packet_at key bytes)
 
 unfoldable pub caveat_at : List ℕ → Option (WideCaveat × List ℕ)
 caveat_at bytes = do
-  identifier ← packet_at caveat_key bytes
-  let verifier_id = optional_at verifier_id_key identifier.1 in
-      let location = optional_at caveat_location_key verifier_id.1 in
+  identifier ← packet_at (codes "cid ") bytes
+  let verifier_id = optional_at (codes "vid ") identifier.1 in
+      let location = optional_at (codes "cl ") verifier_id.1 in
       Some (record { identifier = identifier.0; verifier_id = verifier_id.0; location = location.0 }, location.1)
 
 -- the signature's packet, the last one
 unfoldable pub signature_at : List ℕ → Option (List ℕ)
-signature_at bytes = packet_at signature_key bytes >>= last_signature
+signature_at bytes = packet_at (codes "signature ") bytes >>= last_signature
 
 -- the location, the identifier, and the bytes after them
 unfoldable pub header_at : List ℕ → Option (List ℕ × List ℕ × List ℕ)
 header_at bytes = do
-  location ← packet_at location_key bytes
-  identifier ← packet_at identifier_key location.1
+  location ← packet_at (codes "location ") bytes
+  identifier ← packet_at (codes "identifier ") location.1
   Some (location.0, identifier.0, identifier.1)
 
 -- the whole pass

@@ -38,7 +38,7 @@ fn put_field(buffer: &mut Buffer, kind: u8, bytes: &[u8]) -> Result<(), FormFaul
 
 // Appends a location, unless it is empty.
 fn put_location(buffer: &mut Buffer, location: &[u8]) -> Result<(), FormFault>
-    ensures { Puts (spec.optional_field spec.location_type
+    ensures { Puts (spec.optional_field 1
         (nonempty_location location.now)) buffer.old buffer.new result }
 {
     if location.is_empty() {
@@ -49,7 +49,7 @@ fn put_location(buffer: &mut Buffer, location: &[u8]) -> Result<(), FormFault>
 
 // Appends an identifier and the end of its section.
 fn put_identifier(buffer: &mut Buffer, identifier: &[u8]) -> Result<(), FormFault>
-    ensures { Puts (spec.field spec.identifier_type identifier.now
+    ensures { Puts (spec.field 2 identifier.now
         ++ spec.end_of_section) buffer.old buffer.new result }
 {
     put_field(buffer, IDENTIFIER, identifier)?;

@@ -1,7 +1,8 @@
 use Rattle.std.proofs.Common.{◌<◌, length, map, arith}
 use Rattle.std.proofs.lemmas.List.{append-nil, length-map}
 use Rattle.std.proofs.lemmas.Result.{err_from_is_err_and}
-use Rattle.pass_forms.specs.V1.{caveat_key, caveat_packets, packet}
+use Rattle.pass_forms.specs.V1.{caveat_packets, packet}
+use Rattle.pass_forms.proofs.FieldNames.{caveat_key}
 use Rattle.pass_forms.proofs.PutCaveats.{caveat_at, one_full, one_put}
 use Rattle.pass_forms.proofs.write.packets.put_caveats.Goals as goal
 

@@ -1,4 +1,5 @@
-use Rattle.pass_forms.specs.V2.{end_of_section, field, identifier_type}
+use Rattle.pass_forms.specs.V2.{end_of_section, field}
+use Rattle.pass_forms.proofs.FieldNames.{identifier_type}
 use Rattle.pass_forms.proofs.PutTogether.{puts_others}
 use Rattle.pass_forms.proofs.write.sections.put_identifier.Goals as goal
 

@@ -1,8 +1,9 @@
 use Rattle.std.proofs.Common.{List, ℕ, ◌++◌, map}
 use Rattle.std.specs.List.{flat_map}
 use Rattle.pass_forms.specs.Pass.{widened_caveat}
-use Rattle.pass_forms.specs.V1.{caveat_packets, identifier_key, location_key, packet, signature_key}
+use Rattle.pass_forms.specs.V1.{caveat_packets, packet}
 use Rattle.pass_forms.specs.Writing.{v1_bytes}
+use Rattle.pass_forms.proofs.FieldNames.{identifier_key, location_key, signature_key}
 use Rattle.pass_forms.proofs.PutTogether.{puts_others}
 use Rattle.pass_forms.proofs.write.packets.PacketsPutLayout.put_pass.Goals as goal
 

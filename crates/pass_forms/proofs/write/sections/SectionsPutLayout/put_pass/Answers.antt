@@ -1,8 +1,9 @@
 use Rattle.std.proofs.Common.{List, ℕ, [], ◌∷◌, ◌++◌, append_assoc, map}
 use Rattle.std.specs.List.{flat_map}
 use Rattle.pass_forms.specs.Pass.{widened_caveat}
-use Rattle.pass_forms.specs.V2.{caveat_section, end_of_section, field, identifier_type, location_type, optional_field, signature_type}
+use Rattle.pass_forms.specs.V2.{caveat_section, end_of_section, field, optional_field}
 use Rattle.pass_forms.specs.Writing.{nonempty_location, v2_bytes}
+use Rattle.pass_forms.proofs.FieldNames.{identifier_type, location_type, signature_type}
 use Rattle.pass_forms.proofs.PutTogether.{puts_others}
 use Rattle.pass_forms.proofs.write.sections.SectionsPutLayout.put_pass.Goals as goal
 
