@@ -72,7 +72,7 @@ WRITTEN = {
                      "basis_under basis_of view_of; club_core.Club: key_named member_named facility_named; club_core.Pass: Pass Words; "
                      "club_core.Verdict: verdict_of reply_only refusal_verdict; club_gate.Identifier: key_name_in; "
                      "club_gate.DecodedPass: IsSeenAs fault_of IsDecoded AreWordsOf",
-    "club.Club.decide_view": "club_core.Verdict: slot_shown shown_at view_verdict; club_core.Club: is_closed",
+    "club.Club.decide_view": "club_core.Verdict: shown_at; club_core.Club: is_closed",
     "club.Club.decide_account": "club_core.Verdict: account_verdict",
     "club.Club.booked": "club_core.Verdict: booked_before",
     "club.Club.decide_book": "club_core.Verdict: new_booking booked_now repeat_booking_verdict book_lines new_verdict recorded_or book_verdict; "

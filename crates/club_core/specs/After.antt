@@ -16,6 +16,7 @@ abbrev pub credited_member : List ℕ → ℕ → Member → Member
 credited_member name points member =
     record member { credited = if bytes_eq member.name name then member.credited + points else member.credited }
 
+-- a key's row after the key of this name was revoked
 abbrev pub revoked_key : List ℕ → Key → Key
 revoked_key name key = record key { revoked = key.revoked || bytes_eq key.name name }
 
@@ -33,12 +34,14 @@ rotated_key name root until key = record key {
 abbrev pub is_marked : List ℕ → ℕ → Booking → Bool
 is_marked key number booking = is_under key booking && booking.number == number && not booking.cancelled
 
+-- a booking after a cancellation under this key and number
 abbrev pub cancelled_booking : List ℕ → ℕ → ℕ → Booking → Booking
 cancelled_booking key number refund booking = record booking {
   cancelled = booking.cancelled || is_marked key number booking;
   refund = if is_marked key number booking then refund else booking.refund;
 }
 
+-- one row more, the last; or the rows that the change names are changed
 abbrev pub after : Change → Club → Club
 after (InsertMember member) club = record club { members = club.members ++ member ∷ [] }
 after (AddCredit name points) club = record club { members = map (credited_member name points) club.members }

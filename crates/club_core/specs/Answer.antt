@@ -41,6 +41,7 @@ ask_of view request moment = record {
   spent = view.spent;
 }
 
+-- why a text that isn't a pass is refused
 abbrev pub form_refusal : PassFault → Refusal
 form_refusal TooLong = PassTooLong
 form_refusal Malformed = PassMalformed
@@ -66,12 +67,13 @@ answer_by_view (Some view) is_signed fault request moment =
 -- the answer to a text, by the view of the key that it names
 abbrev pub answer_to : Result Pass PassFault → Request → ℕ → Option View → Verdict
 answer_to (Err fault) request moment view = refusal_verdict (form_refusal fault)
-answer_to (Ok pass) request moment None = answer_by_view None false None request moment
+answer_to (Ok pass) request moment None = refusal_verdict NotVerified
 answer_to (Ok pass) request moment (Some view) =
     answer_by_view (Some view) (is_signed_under pass view.key moment)
     (first_fault_of pass.caveats (ask_of view request moment))
     request moment
 
+-- the same, by the rows that the words name, if there are any
 abbrev pub answer_by_basis : Words → ℕ → Option Basis → Verdict
 answer_by_basis words moment basis =
     answer_to words.pass words.request moment (option_map (λ (b : Basis). view_of b words.request moment) basis)

@@ -49,6 +49,7 @@ pub record Basis : Type 0 where
   pub bookings : List Booking
   pub state : SlotState
 
+-- the basis of a request under a key; none if the club has no row of the key's member
 abbrev pub basis_under : Club → Request → Key → Option Basis
 basis_under club request key =
     option_map (λ (member : Member). record {

@@ -22,6 +22,7 @@ pub record Club : Type 0 where
 abbrev pub empty_club : Club
 empty_club = record { members = []; facilities = []; keys = []; bookings = []; closed = [] }
 
+-- the first row of this name; a sound club has no second
 abbrev pub member_named : List ℕ → Club → Option Member
 member_named name club = find (λ (member : Member). bytes_eq member.name name) club.members
 
@@ -31,6 +32,7 @@ facility_named name club = find (λ (facility : Facility). bytes_eq facility.nam
 abbrev pub key_named : List ℕ → Club → Option Key
 key_named name club = find (λ (key : Key). bytes_eq key.name name) club.keys
 
+-- whether the club closed the slot
 abbrev pub is_closed : Slot → Club → Bool
 is_closed slot club = list_any (λ other. same_slot other slot) club.closed
 

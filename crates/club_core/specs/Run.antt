@@ -33,6 +33,7 @@ pub record Outcome : Type 0 where
   pub reply : EventReply
   pub club : Club
 
+-- the club after a change, if there is one
 abbrev pub after_change : Option Change → Club → Club
 after_change None club = club
 after_change (Some change) club = after change club

@@ -19,6 +19,7 @@ taken_in slot bookings = sum_by persons_of (filter (is_in slot) bookings)
 abbrev pub cost_of : Booking → ℕ
 cost_of booking = booking.charge - booking.refund
 
+-- whether a booking was made under the key of this name
 abbrev pub is_under : List ℕ → Booking → Bool
 is_under key booking = bytes_eq booking.key key
 
@@ -34,6 +35,7 @@ balance_of member bookings = member.credited - sum_by cost_of bookings
 abbrev pub is_to_come : ℕ → Booking → Bool
 is_to_come moment booking = not booking.cancelled && nat_lt moment (start_of booking.slot)
 
+-- how many of these bookings are still to come
 abbrev pub count_to_come : ℕ → List Booking → ℕ
 count_to_come moment bookings = length (filter (is_to_come moment) bookings)
 

@@ -22,12 +22,9 @@ use Rattle.club_rows.specs.Booking.{same_slot, refund_at}
 abbrev pub reply_only : Reply → Verdict
 reply_only reply = record { reply = reply; change = None }
 
+-- a refusal, which changes nothing
 abbrev pub refusal_verdict : Refusal → Verdict
 refusal_verdict refusal = reply_only (Refused refusal)
-
--- a slot is shown, with its facility
-abbrev pub slot_shown : View → Slot → Facility → Verdict
-slot_shown view slot facility = reply_only (SlotShown slot facility.kind facility.price facility.places view.taken view.closed)
 
 -- the first reply to a recorded booking, again
 abbrev pub booked_before : Booking → Verdict
@@ -85,10 +82,12 @@ new_verdict view slot number guests moment None = refusal_verdict NoSuchFacility
 new_verdict view slot number guests moment (Some facility) =
     first_of (book_lines view slot guests moment facility) (booked_now (new_booking view slot number guests facility) view.key.member)
 
+-- one answer by the booking that is on record under a number, and another if there is none
 abbrev pub recorded_or : Option Booking → (Booking → Verdict) → Verdict → Verdict
 recorded_or None recorded other = other
 recorded_or (Some booking) recorded other = recorded booking
 
+-- a booking; under a used number, a repeat
 abbrev pub book_verdict : View → Slot → ℕ → ℕ → ℕ → Verdict
 book_verdict view slot number guests moment =
     recorded_or view.booking (λ booking. repeat_booking_verdict booking slot guests)
@@ -112,22 +111,24 @@ abbrev pub unknown_verdict : Option Facility → Verdict
 unknown_verdict None = refusal_verdict NoSuchFacility
 unknown_verdict (Some facility) = refusal_verdict NoSuchBooking
 
+-- a cancellation, of the booking on record under its number
 abbrev pub cancel_verdict : View → Slot → ℕ → Verdict
 cancel_verdict view slot moment =
     recorded_or view.booking (λ booking. cancel_recorded_verdict booking view.key.member slot moment) (unknown_verdict view.facility)
 
+-- a slot is shown, with its facility
 abbrev pub shown_at : View → Slot → Option Facility → Verdict
 shown_at view slot None = refusal_verdict NoSuchFacility
-shown_at view slot (Some facility) = slot_shown view slot facility
+shown_at view slot (Some facility) =
+    reply_only (SlotShown slot facility.kind facility.price facility.places view.taken view.closed)
 
-abbrev pub view_verdict : View → Slot → Verdict
-view_verdict view slot = shown_at view slot view.facility
-
+-- the member's account is shown, with what the key has spent
 abbrev pub account_verdict : View → Verdict
 account_verdict view = reply_only (AccountShown view.member.name view.balance view.member.quota view.open_count view.spent)
 
+-- the answer to an accepted request
 abbrev pub verdict_of : View → Request → ℕ → Verdict
-verdict_of view (asked.View slot) moment = view_verdict view slot
+verdict_of view (asked.View slot) moment = shown_at view slot view.facility
 verdict_of view (asked.Book slot number guests) moment = book_verdict view slot number guests moment
 verdict_of view (asked.Cancel slot number) moment = cancel_verdict view slot moment
 verdict_of view asked.Account moment = account_verdict view

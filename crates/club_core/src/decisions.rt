@@ -4,7 +4,7 @@
 ghost use Rattle.std.specs.Prelude.{◌≡◌, Some};
 ghost use Rattle.club_rows.specs.Facility as facilities;
 ghost use Rattle.club_core.specs.Verdict.{
-  view_verdict,
+  shown_at,
   book_verdict,
   cancel_verdict,
   account_verdict,
@@ -37,7 +37,7 @@ fn is_bookable(facility: &Facility, slot: &Slot, moment: Moment) -> bool
 
 /// Shows a slot: its facility and its state, or `NoSuchFacility`.
 pub fn decide_view(view: &View, slot: &Slot) -> Verdict
-    ensures { result ≡ view_verdict view.now slot.now }
+    ensures { result ≡ shown_at view.now slot.now view.now.facility }
 {
     match view.facility {
         None => Verdict::refuse(Refusal::NoSuchFacility),
