@@ -20,7 +20,7 @@ packet_len key bytes = 4 + length key + length bytes + 1
 abbrev pub packet : List ℕ → List ℕ → List ℕ
 packet key bytes = four_hex_digits (packet_len key bytes) ++ (key ++ (bytes ++ 10 ∷ []))
 
--- no packet, of what there isn't
+-- a packet of the bytes, if there are any
 abbrev pub optional_packet : List ℕ → Option (List ℕ) → List ℕ
 optional_packet key None = []
 optional_packet key (Some bytes) = packet key bytes

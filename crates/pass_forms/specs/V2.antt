@@ -18,7 +18,7 @@ varint n = groups n n
 abbrev pub field : ℕ → List ℕ → List ℕ
 field type bytes = type ∷ varint (length bytes) ++ bytes
 
--- no field, of what there isn't
+-- a field of the bytes, if there are any
 abbrev pub optional_field : ℕ → Option (List ℕ) → List ℕ
 optional_field type None = []
 optional_field type (Some bytes) = field type bytes
