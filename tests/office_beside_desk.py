@@ -128,6 +128,8 @@ def test_door_has_a_mode_and_orders_have_lines(club):
         assert club.order("add-key", "given", "m1", ROOT) == (0, text(key_pass("given")) + "\n", "")
         assert club.order("rotate-key", "nobody", ROOT, "2030-01-01T00:00") == (1, "", "refused: unknown\n")
         assert desk.order(club.program, "add-key", club.file, "read", "m1", "--root-stdin", text=ROOT) == (0, text(key_pass("read")) + "\n", "")
+        # A client is served once the line before it is written.
+        assert server.exchange(b"GET /account HTTP/1.1\r\n\r\n")
         log = server.log.read_text()
     names = ("add-member", "credit", "close-slot", "revoke-key", "show-slot")
     assert Counter(re.findall(r" office (\S+) (\S+) ", log)) == {(name, "0"): 100 for name in names} | {("add-key", "0"): 2, ("rotate-key", "1"): 1}
