@@ -82,26 +82,25 @@ def function_at(path, text, offset):
 
 
 def edited_function(crate, edit):
-    """The file and the one function in whose body an edit changes something. None if there is no such function."""
+    """The file and the one function in whose body an edit makes all its changes. None if there is no such function."""
     found = set()
     for path, old, _ in changes_of(edit):
         text = (crate / path).read_text(encoding="utf-8")
-        found.add((path, path.startswith("src/") and text.count(old) == 1 and function_at(path, text, text.index(old)) or None))
-    return found.pop() if len(found) == 1 else None
+        is_code = path.startswith("src/") and text.count(old) == 1
+        found.add((path, function_at(path, text, text.index(old)) if is_code else None))
+    path, function = found.pop() if len(found) == 1 else (None, None)
+    return (path, function) if function else None
 
 
 def groups_of(crate, edits):
     """The edits in groups: each edit of a group is of a function of its own, or alone."""
     groups = []
     for edit in edits:
-        path_and_function = edited_function(crate, edit)
-        if path_and_function is None or path_and_function[1] is None:
-            groups.append({None: edit})
-            continue
-        open_one = next((it for it in groups if None not in it and path_and_function not in it and len(it) < AT_ONCE), None)
+        place = edited_function(crate, edit)
+        open_one = next((it for it in groups if place and None not in it and place not in it and len(it) < AT_ONCE), None)
         if open_one is None:
             groups.append(open_one := {})
-        open_one[path_and_function] = edit
+        open_one[place] = edit
     return groups
 
 
