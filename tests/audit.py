@@ -1,15 +1,15 @@
 #!/usr/bin/env python3
-"""docs/AUDIT.md, what has to be believed of each promise, is what the sources say; no clause of a function in it rests on a computing
-definition of `specs/computed/`, and nothing that stands for a ghost does; the vectors hold of the rules in Python (`tests/reference`) by
-which it marks what they show; and each step of a path through the definitions in docs/TOUR.md is cited by the one before it. Writes that
-page, unless it is asked to check.
+"""docs/AUDIT.md, what has to be believed of each promise, is what the sources say; each contract that docs/PROMISES.md cites is there, and rests
+on no computing definition of `specs/computed/`, nor does what stands for a ghost, while each in docs/COMPUTED.md does; the vectors hold of the
+rules in Python (`tests/reference`) by which it marks what they show; and each step of a path through the definitions in docs/TOUR.md is cited
+by the one before it. Writes that page, unless it is asked to check.
 
 It reads the promises of docs/PROMISES.md, the clauses that carry them, and the definitions below these, by tests/definitions.py.
 
     tests/audit.py                  writes docs/AUDIT.md
     tests/audit.py --check          says whether it is current
-    tests/audit.py --strict         the same, and fails where any clause of a promise's function, or what stands for a ghost, reaches a
-                                    name of specs/computed/
+    tests/audit.py --strict         the same, and fails where any clause of a promise's function, or any other contract that docs/PROMISES.md
+                                    cites, or what stands for a ghost, reaches a name of specs/computed/
     tests/audit.py --below NAME     what there is to read below one definition, or below all clauses of a function (Desk::ask), in reading
                                     order
 """
@@ -25,13 +25,14 @@ from pathlib import Path
 
 sys.dont_write_bytecode = True
 import shown
-from definitions import ROOT, Book, closure, owner_of
+from cited import Contracts, citations
+from definitions import OF_SPECS, ROOT, Book, closure, owner_of
 from more_edits import crates_below
 
 PAGE = ROOT / "docs" / "AUDIT.md"
 PROMISES = ROOT / "docs" / "PROMISES.md"
+COMPUTED = ROOT / "docs" / "COMPUTED.md"
 TOUR = ROOT / "docs" / "TOUR.md"
-OF_SPECS = ("definition", "record", "data")
 # What comments say of where definitions are from.
 SOURCES = (r"RFC \d+", r"FIPS [\d-]+", r"NDSS \d+", r"libmacaroons", r"\bours\b")
 # Methods that std's types have too: by their names alone nobody knows whose they are.
@@ -217,7 +218,7 @@ class Audit:
         """The computing definitions below the other clauses of those functions, and below what stands for a ghost in any of them."""
         found = {id(it): it for function in self.functions() for it in below_all(self.book, function)}
         for ghost in [it for it in found.values() if it.kind == "ghost"]:
-            found.update((id(it), it) for *_, below in self.standing_for(ghost) for it in below)
+            found.update((id(it), it) for *_, below in self.book.standing_for(ghost) for it in below)
         listed = (it for it in found.values() if it.is_computed and it.kind in OF_SPECS and id(it) not in self.every)
         return sorted(listed, key=lambda it: (it.module, it.line))
 
@@ -288,23 +289,10 @@ class Audit:
         yield "|---|---|---|"
         for it in sorted((it for it in self.every.values() if it.kind == "ghost"), key=lambda it: (it.path, it.line)):
             stands = []
-            for of, file, value, below in self.standing_for(it):
+            for of, file, value, below in self.book.standing_for(it):
                 counts = f" ({len(below)}, {sum(it.is_computed for it in below)} computing)" if below else ""
                 stands.append(f"of `{of}` in `{file.path.relative_to(ROOT)}`: `{' '.join(value.split())}`{counts}")
             yield f"| `{it.name}`, `{it.file}` line {it.line} | {self.numbers(it)} | {'; '.join(stands)} |"
-
-    def standing_for(self, ghost):
-        """What types of ours have for a ghost: the type, its file, the value, and the definitions below that."""
-        trait, name = ghost.name.split(".")
-        for key, file in self.book.code.items():
-            if key.split("/")[0].endswith("_tests") or key.split("/")[0] in ("test_kit", "club_bench"):
-                continue
-            for found in re.finditer(rf"^impl\b[^{{]*\b{trait}(?:<[^{{]*>)? for (\w+)[^{{]*\{{", file.text, re.MULTILINE):
-                block = file.text[found.start():file.block_end(found.start())]
-                value = re.search(rf"\bghost {name} = \{{\s*(.*?)\s*\}};", block, re.DOTALL)
-                if value:
-                    below = closure(file.cited_by(found.start() + value.start(), value[1])[0])
-                    yield found[1], file, value[1], [it for it in below if it.kind in OF_SPECS]
 
     # ---- what is trusted beside them
 
@@ -374,7 +362,7 @@ class Audit:
         computed = self.computed()
         if not computed:
             return ["None of these clauses rests on a computing definition of `specs/computed/`, nor does another clause of their functions, nor "
-                    "what stands for a [ghost](#ghosts-of-traits). Clauses that [PROMISES](PROMISES.md) names beside these may."]
+                    "what stands for a [ghost](#ghosts-of-traits), nor any other contract that [PROMISES](PROMISES.md) cites."]
         return [
             f"These promises still rest on {len(computed)} computing definitions of `specs/computed/`, which say in steps what another definition "
             f"states. Laws say that both agree, but whoever reads a clause comes upon these. They aren't in the tables below. "
@@ -433,6 +421,24 @@ class Audit:
             "the system; and what is [only read](TRUST.md#read-and-shown-by-vectors), and [not claimed](TRUST.md#not-claimed).",
         ]
         return "\n\n".join(sections) + "\n"
+
+    # ---- what pages cite
+
+    def citing(self):
+        """Faults of the pages' tables: of docs/PROMISES.md what isn't understood, and the contracts that reach a computing definition; of
+        docs/COMPUTED.md those that reach none."""
+        contracts = Contracts(self.book)
+        for page in (PROMISES, COMPUTED):
+            for citation in citations(page.read_text(encoding="utf-8")):
+                place = f"docs/{page.name}:{citation.line}"
+                for name, cited in contracts.below(citation):
+                    computing = sorted({it.name for it in cited if it.is_computed and it.kind in OF_SPECS})
+                    if page == PROMISES and computing:
+                        yield f"{place}: {name} reaches computing definitions: {' '.join(computing)}"
+                    if page == COMPUTED and not computing:
+                        yield f"{place}: {name} reaches no computing definition"
+                yield from (f"{place}: not understood: {it}" for it in contracts.unknown)
+                contracts.unknown.clear()
 
     # ---- paths
 
@@ -502,6 +508,7 @@ def run(arguments):
         computed = audit.computed() + audit.beside()
         faults += [f"{it.file}:{it.line}: reaches a computed name: {it.name}" for it in computed]
         faults += [f"{len(computed)} computed names"] if computed else []
+        faults += audit.citing()
     for it in faults:
         print(it, file=sys.stderr)
     if not faults:

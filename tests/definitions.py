@@ -18,6 +18,8 @@ BUILT_IN = set("""
     : = | → ← × Type Unit Bool tt refl record data if then else let in do where of by pub abbrev unfoldable opaque module ⊥ ⊤ ¬ ∥ ∥₁ _ λ ↔ ≡
     now old new entry result self Self true false fields
 """.split())
+# The kinds of what specs/ defines.
+OF_SPECS = ("definition", "record", "data")
 # Constructors of std that a pattern may have.
 PATTERNS = {"[]", "∷", "Some", "None", "Ok", "Err", "true", "false", "zero", "suc", "tt", "now", "ready", "inl", "inr"}
 
@@ -441,7 +443,8 @@ class CodeFile:
         return found
 
     def rust_names(self):
-        return {**dict.fromkeys(self.types), **dict.fromkeys(self.uses)}
+        constants = re.findall(r"^(?:pub(?:\([a-z]+\))? )?const (\w+)", self.text, re.MULTILINE)
+        return {**dict.fromkeys(self.types), **dict.fromkeys(self.uses), **dict.fromkeys(constants)}
 
     def rust_type(self, name):
         """The type of a Rust name, as this file sees it."""
@@ -449,8 +452,8 @@ class CodeFile:
             return self.types[name]
         if name in self.uses:
             crate, there = self.uses[name]
-            return self.book.type_named(crate, there)
-        return None
+            return self.book.type_named(crate, there) if crate in self.book.crates else self.book.look(crate, there)
+        return self.book.constant(self, name)
 
     def clauses(self, name, owner=None):
         """The clauses of a function, as (label, text, place), and where its head is."""
@@ -482,6 +485,8 @@ class CodeFile:
         for text in (head, self.text[at:paren]):
             for parameter, traits in re.findall(r"\b([A-Z])\s*:\s*([\w +]+)", text):
                 bounds[parameter] = [it.strip() for it in traits.split("+")]
+            for parameter in re.findall(r"\b[A-Z]\b", text):
+                bounds.setdefault(parameter, [])
         return bounds
 
     def cited_by(self, at, text):
@@ -500,7 +505,10 @@ class CodeFile:
         walk.scopes[0].update(bounds)
         signature = self.text[self.text.find("(", at):]
         walk.scopes[0].update(re.findall(r"\b(?:mut )?([a-z_]+):", signature[: signature.find("ensures")]))
-        walk.expression(tokens_of(text))
+        # `⟦<TYPE as TRAIT>⟧.GHOST`
+        for trait, name in re.findall(r"⟦<[^⟧]* as (\w+)>⟧\.(\w+)", text):
+            walk.cited.append(self.book.ghost(self.rust_type(trait), name))
+        walk.expression(tokens_of(re.sub(r"⟦[^⟧]*⟧\.\w+", "", text)))
         return walk.cited, walk.unknown
 
 
@@ -598,6 +606,8 @@ class Book:
     def ghost(self, trait, name):
         """A ghost of a trait, with what its type cites."""
         key = (trait.module, name)
+        if trait.path is None:
+            return None
         if key in self.ghosts:
             return self.ghosts[key]
         file = next(it for it in self.code.values() if it.path == trait.path)
@@ -614,6 +624,19 @@ class Book:
         walk.expression(tokens_of(file.text[found.end():end - 1]))
         it.cited, it.unknown = walk.cited, walk.unknown
         return it
+
+    def standing_for(self, ghost):
+        """What types of ours have for a ghost: the type, its file, the value, and the definitions below that."""
+        trait, name = ghost.name.split(".")
+        for key, file in self.code.items():
+            if key.split("/")[0].endswith("_tests") or key.split("/")[0] in ("test_kit", "club_bench"):
+                continue
+            for found in re.finditer(rf"^impl\b[^{{]*\b{trait}(?:<[^{{]*>)? for (\w+)[^{{]*\{{", file.text, re.MULTILINE):
+                block = file.text[found.start():file.block_end(found.start())]
+                value = re.search(rf"\bghost {name} = \{{\s*(.*?)\s*\}};", block, re.DOTALL)
+                if value:
+                    below = closure(file.cited_by(found.start() + value.start(), value[1])[0])
+                    yield found[1], file, value[1], [it for it in below if it.kind in OF_SPECS]
 
     def resolve_type(self, file, it):
         """The types of a type's fields, or the value by which contracts see it."""

@@ -65,7 +65,6 @@ RECORD = r"^ *(?:pub )?record "
 FUNCTIONS = found(".rt", rf"{HEAD}fn (\w+)")
 CLAUSES = within(found(".rt", rf"(?s){HEAD}fn (\w+)(.*?)(?={HEAD}fn |\Z)"), r"^ *ensures ([a-z_0-9]+) ")
 FIELDS = within(found(".antt", rf"(?s){RECORD}(\S+)(.*?)(?={RECORD}|^[^ \n-]|\Z)"), r"^ +pub ([A-Za-z_0-9]+) :")
-IMPLS = found(".rt", r"^ *(impl.*)")
 ITEMS = FUNCTIONS.union(
     found(".rt", rf"{HEAD}(?:(?:struct|enum|trait|type|mod|static|abbrev) |ghost (?=[A-Za-z_]+(?: =|:)))(\w+)"),
     found(".rt", r"^ *(?:pub )?const ([A-Z]\w*)"), found(".rt", "^    pub ([a-z_]+): "), found(".rt", rf"{HEAD}([A-Z][A-Za-z]+)(?: \{{|\(|,|$)"),
@@ -114,7 +113,7 @@ def test_files_and_names_are_there(page):
             assert Path(path.split(":")[0]).exists(), f"no file {path}"
         if page.startswith("crates/") and re.match(r"(src|specs|proofs|must-fail|more-edits)/", path):
             assert (Path(page).parent / path).exists(), f"no file {path}"
-    if page in ("docs/PROMISES.md", "docs/AUDIT.md"):
+    if page in ("docs/PROMISES.md", "docs/COMPUTED.md", "docs/AUDIT.md"):
         return  # promises are named within their crate, and held below; the audit is made of the sources, and names calls of libraries
     for word in words:
         if re.fullmatch(r"[A-Za-z_]+(::[A-Za-z_0-9]+)+", word):
@@ -151,51 +150,6 @@ def test_passes_are_written_under_temporary_names(page):
 
 
 # ---- single pages
-
-
-def cited_promises():
-    """The second cells of a section's table: `NAME`, .. `:` `CLAUSE`, .. `by` `DEFINITION`, ..; groups end at `;`."""
-    crate = ""
-    for line in TEXTS["docs/PROMISES.md"].splitlines():
-        if line.startswith("## "):
-            crate = line.split()[1].strip("`")
-        if not line.startswith("|") or re.fullmatch(r"\|[-|]+", line) or line.startswith("| Promise"):
-            continue
-        for group in line.replace("\\|", "/").split("|")[2].split(";"):
-            mode, names = "name", []
-            for at, piece in enumerate(group.split("`")):
-                if at % 2 == 0:
-                    mode = "definition" if re.search(r"(^|[ ,])by ", piece) else "clause" if ":" in piece else mode
-                elif mode == "clause":
-                    yield from ((crate, mode, name, piece) for name in names)
-                else:
-                    names += [piece] if mode == "name" else []
-                    yield crate, mode, piece, ""
-
-
-def test_promises():
-    """Each contract that docs/PROMISES.md names is there: the function in the section's crate, and its clause; each definition, and of
-    `RECORD.FIELD` the field of that record."""
-    cited = list(cited_promises())
-    assert len(cited) > 800
-    functions, fields = {it[1:] for it in FUNCTIONS}, {it[1:] for it in FIELDS}
-    homes = {(crate, Path(file).stem, name) for file, crate, name in FUNCTIONS}
-    for crate, mode, cited_name, clause in cited:
-        *_, above, name = ["", *cited_name.split("::")]
-        if mode == "clause":
-            assert (crate, name, clause) in CLAUSES, f"{crate}: no clause {clause} of {cited_name}"
-        elif mode == "definition":
-            record, _, field = cited_name.partition(".")
-            owner, name = record.split("::")[-2:] if "::" in record else (crate, record)
-            assert (owner, name) in DEFINED, f"{crate}: no definition {cited_name}"
-            assert not field or (owner, name, field) in fields, f"{crate}: no field {cited_name}"
-        elif " for " in cited_name:
-            named = re.compile(rf"(?<![A-Za-z]){re.escape(cited_name)}(?![A-Za-z])")
-            assert any(crate == its_crate and named.search(text) for _, its_crate, text in IMPLS), f"{crate}: no impl {cited_name}"
-        else:
-            assert (crate, name) in functions or (not above and (crate, name) in DEFINED), f"{crate}: no function {cited_name}"
-            assert not re.match("[a-z]", above) or (crate, above, name) in homes, f"{crate}: no function {cited_name} in its module"
-            assert not above or re.match("[a-z]", above) or (crate, above) in DEFINED, f"{crate}: no type of {cited_name}"
 
 
 def test_laws():

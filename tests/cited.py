@@ -1,0 +1,145 @@
+"""The contracts that a page cites in its tables, as docs/PROMISES.md does, and the computing definitions below them.
+
+The second cell of a row has groups that end at `;`, each `NAME`, .. `:` `CLAUSE`, .. `by` `DEFINITION`, ..: functions of the section's crate,
+implementations of a trait (`Log for LogLines`), or types and traits; the labels of their clauses, or all of them; and the definitions of the
+crate, or of the one before `::`, that these cite. The first name's module or type is that of the names behind it, unless they have one."""
+
+import re
+from dataclasses import dataclass
+
+from definitions import closure
+
+FUNCTION = r"^ *(?:pub(?:\([a-z]+\))? )?(?:final )?(?:const )?fn "
+
+
+@dataclass
+class Citation:
+    """A group of a row."""
+
+    line: int
+    crate: str
+    names: list
+    labels: list
+    definitions: list
+
+
+def citations(text):
+    """The groups of the tables of a page in which a section is a crate's."""
+    crate = ""
+    for number, line in enumerate(text.splitlines(), 1):
+        if line.startswith("## "):
+            crate = line.split()[1].strip("`")
+        if not line.startswith("|") or re.match(r"\|[-|]+$|\| (Promise|Definition) \|", line):
+            continue
+        for group in line.replace("\\|", "/").split("|")[2].split(";"):
+            found = Citation(number, crate, [], [], [])
+            into = found.names
+            for at, piece in enumerate(group.split("`")):
+                if at % 2:
+                    into.append(piece)
+                elif re.search(r"(^|[ ,])by ", piece):
+                    into = found.definitions
+                elif ":" in piece:
+                    into = found.labels
+            yield found
+
+
+class Contracts:
+    """What the citations of a page rest on."""
+
+    def __init__(self, book):
+        self.book = book
+        self.unknown = []  # what a clause has that wasn't understood
+
+    def below(self, citation):
+        """Each cited clause and definition, with what is below it; and below what types have for a ghost that is there."""
+        above = None
+        for name in citation.names:
+            *before, _ = name.split("::")
+            above = before[-1] if before else above
+            texts = self.texts(citation.crate, name, above, citation.labels)
+            if texts is None:
+                self.unknown.append(f"no contract {name}")
+            for file, start, label, text in texts or []:
+                cited, unknown = file.cited_by(start, text)
+                self.unknown += [f"{name}: {label}: {it}" for it in unknown]
+                yield f"{name}: {label}" if label else name, self.with_ghosts(cited)
+        for name in citation.definitions:
+            path, _, field = name.partition(".")
+            *before, record = path.split("::")
+            crate = before[0] if before else citation.crate
+            found = self.defined(crate, record)
+            if not (found or self.texts_of_ghosts(crate, record)) or field and not any(field in it.parts for it in found):
+                self.unknown.append(f"no definition {name}")
+            yield name, self.with_ghosts(found)
+
+    def with_ghosts(self, cited):
+        found = closure(cited)
+        return found + [it for ghost in found if ghost.kind == "ghost" for *_, below in self.book.standing_for(ghost) for it in below]
+
+    def files(self, crate):
+        return [file for key, file in self.book.code.items() if key.startswith(f"{crate}/")]
+
+    def defined(self, crate, name):
+        specs = [it for file in self.book.specs.values() if file.crate == crate for it in (file.definitions.get(name),) if it]
+        return specs or [file.types[name] for file in self.files(crate) if name in file.types]
+
+    def texts(self, crate, name, above, labels):
+        """(file, place, label, text) of each clause; of an implementation also what it has for the trait's ghosts. None for no such contract."""
+        if " for " in name:
+            return self.texts_of_implementation(crate, name)
+        last = name.split("::")[-1]
+        places = self.places(crate, last, above) or (self.places(crate, last, None) if "::" not in name else [])
+        if places:
+            clauses = [(file, start, *clause[:2]) for file, start in places for clause in self.clauses(file, start)]
+            found = [it for it in clauses if not labels or it[2] in labels or it[2] == "requires"]
+            return None if set(labels) - {it[2] for it in found} else found
+        if self.defined(crate, last):
+            return [(file, at, "", last) for file in self.files(crate) if last in file.types for at in (file.text.find(f" {last}"),)]
+        return self.texts_of_ghosts(crate, last)
+
+    def places(self, crate, function, above):
+        """Where a function of this name begins, in the module or the type `above` if there is one."""
+        found, owner = [], self.behind_alias(crate, above)
+        for file in self.files(crate):
+            for it in re.finditer(rf"{FUNCTION}{function}\b", file.text, re.MULTILINE):
+                head = file.block_around(it.start())[0]
+                if above is None or (above == file.place.split(".")[-1] if above[0].islower() else re.search(rf"\b{owner}\b", head)):
+                    found.append((file, it.start()))
+        return found
+
+    def behind_alias(self, crate, name):
+        """The type that a `type` of this name stands for, or the name itself."""
+        found = [it[1] for file in self.files(crate) for it in re.finditer(rf"^pub type {name}\b[^=]*= (\w+)", file.text, re.MULTILINE)]
+        return found[0] if found else name
+
+    @staticmethod
+    def clauses(file, start):
+        """(label, text) of the clauses behind a function's head."""
+        inner = file.block_around(start)[0]
+        body = file.text.find("\n    {\n" if inner else "\n{\n", start)
+        following = re.compile(f"{FUNCTION}\\w", re.MULTILINE).search(file.text, file.text.find("(", start))
+        stop = min(it for it in (body, following.start() if following else -1, len(file.text)) if it > 0)
+        at = start
+        while it := re.compile(r"(requires|ensures)( [a-z_0-9]+)? \{").search(file.text, at, stop):
+            at = file.block_end(it.end() - 1)
+            yield "requires" if it[1] == "requires" else (it[2] or "").strip(), file.text[it.end() : at - 1]
+
+    def texts_of_implementation(self, crate, name):
+        trait, owner = name.split(" for ")
+        found = None
+        for file in self.files(crate):
+            for it in re.finditer(rf"^impl\b[^{{]*\b{trait}\b[^{{]* for [^{{]*\b{owner}\b[^{{]*\{{", file.text, re.MULTILINE):
+                block = file.text[it.start() : file.block_end(it.start())]
+                found = found or []
+                found += [(file, it.start() + ghost.start(), ghost[1], ghost[2])
+                          for ghost in re.finditer(r"\bghost (\w+) = \{\s*(.*?)\s*\};", block, re.DOTALL)]
+                found += [(file, it.start() + function.start(), *clause) for function in re.finditer(f"{FUNCTION}\\w", block, re.MULTILINE)
+                          for clause in self.clauses(file, it.start() + function.start())]
+        return found
+
+    def texts_of_ghosts(self, crate, name):
+        """The type of a trait's ghost of this name, or what types have for it."""
+        found = [(file, it.start(), name, it[1]) for file in self.files(crate)
+                 for it in re.finditer(rf"\bghost {name}(?: =|:) \{{\s*(.*?)\s*\}}[;,]", file.text, re.DOTALL)]
+        return found or None
