@@ -1,8 +1,6 @@
 -- What arguments ask for: the job of a row, from the values that they give it (ours).
-use Rattle.std.specs.Prelude.{◌≡◌, ◌⊎◌, List, Option, Some, None, Result, Ok, Err, codes, if◌then◌else◌, option_and_then, option_map}
+use Rattle.std.specs.Prelude.{◌≡◌, ◌⊎◌, List, [], Option, Some, None, Result, Ok, Err, codes}
 use Rattle.std.specs.Option.{ok_or}
-use Rattle.std.specs.Result.{result_ok}
-use Rattle.clap.specs.Walk.{is_empty}
 use Rattle.clap.specs.Words.{Row, Text, kind_of}
 use Rattle.clap.specs.declared.error.kind.ErrorKind.{ErrorKind}
 use Rattle.clap.specs.declared.error.kind.ErrorKind.TheVariants as kind
@@ -26,7 +24,7 @@ abbrev pub ◌>>=◌ : {A B V : Type 0} → Result A (Refusal V) → (A → Resu
 Ok x >>= f = f x
 Err refusal >>= f = Err refusal
 
--- what a program's rows ask for, from what clap found of their arguments
+-- what a program's rows ask for, or why for nothing, as a function of what clap found of their arguments
 abbrev pub JobOf : Type 0 → Type 0 → Type 0 → Type 0
 JobOf C J V = C → List Row → Result J (Refusal V)
 
@@ -41,25 +39,24 @@ Answers expected (Err (Refused error)) = expected ≡ Err (refused_as (kind_of e
 Answers expected (Err (BadValue value)) = expected ≡ Err (bad_value value)
 Answers expected (Err Memory) = Unit {0}
 
--- the same of the row that clap found
-abbrev pub MakesJob : {C J V : Type 0} → JobOf C J V → Option (C × List Row) → Result J (WordsFault V) → Type 0
-MakesJob job_of None result = ⊥
-MakesJob job_of (Some row) result = Answers (job_of row.0 row.1) result
+-- the results that reading the values of a program's rows may have, of what clap found of their arguments
+abbrev pub ReadsRow : Type 0 → Type 0 → Type 0 → Type 1
+ReadsRow C J V = C → List Row → Result J (WordsFault V) → Type 0
 
--- the job that arguments ask for, or why they ask for none; nothing if clap refuses them
-abbrev pub job_asked : {C J V : Type 0} → Table C → JobOf C J V → List Text → Option (Result J (Refusal V))
-job_asked table job_of words =
-    if is_empty (refusals table words) then option_map (λ row. job_of row.0 row.1) (asked table words) else None
+-- a result of reading the row that clap found
+abbrev pub ReadsFound : {C J V : Type 0} → ReadsRow C J V → Option (C × List Row) → Result J (WordsFault V) → Type 0
+ReadsFound Reads None result = ⊥
+ReadsFound Reads (Some row) result = Reads row.0 row.1 result
 
--- the job that arguments ask for, if they have no fault
-abbrev pub asked_job : {C J V : Type 0} → Table C → JobOf C J V → List Text → Option J
-asked_job table job_of words = option_and_then result_ok (job_asked table job_of words)
+-- clap accepts the arguments, and reading the row that they name has this result
+abbrev pub ReadsAccepted : {C J V : Type 0} → Table C → ReadsRow C J V → List Text → Result J (WordsFault V) → Type 0
+ReadsAccepted table Reads words result = (refusals table words ≡ []) × ReadsFound Reads (asked table words) result
 
 -- The results of reading arguments: clap decides first, then the row.
-abbrev pub ReadsJob : {C J V : Type 0} → Table C → JobOf C J V → List Text → Result (Asked J) (WordsFault V) → Type 0
-ReadsJob table job_of words (Ok (ShowText text)) = HasText (refusals table words)
-ReadsJob table job_of words (Ok (Perform job)) = job_asked table job_of words ≡ Some (Ok job)
-ReadsJob table job_of words (Err (Refused error)) =
-    IsRefusedAs (refusals table words) (kind_of error) ⊎ (job_asked table job_of words ≡ Some (Err (refused_as (kind_of error))))
-ReadsJob table job_of words (Err (BadValue value)) = job_asked table job_of words ≡ Some (Err (bad_value value))
-ReadsJob table job_of words (Err Memory) = Unit {0}
+abbrev pub ReadsJob : {C J V : Type 0} → Table C → ReadsRow C J V → List Text → Result (Asked J) (WordsFault V) → Type 0
+ReadsJob table Reads words (Ok (ShowText text)) = HasText (refusals table words)
+ReadsJob table Reads words (Ok (Perform job)) = ReadsAccepted table Reads words (Ok job)
+ReadsJob table Reads words (Err (Refused error)) =
+    IsRefusedAs (refusals table words) (kind_of error) ⊎ ReadsAccepted table Reads words (Err (Refused error))
+ReadsJob table Reads words (Err (BadValue value)) = ReadsAccepted table Reads words (Err (BadValue value))
+ReadsJob table Reads words (Err Memory) = Unit {0}

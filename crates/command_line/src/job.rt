@@ -2,7 +2,7 @@
 
 ghost use Rattle.std.specs.Prelude.{◌≡◌, IsSome, map};
 ghost use Rattle.clap.specs.Words.{found_of, rows_of, subcommand_rows_of};
-ghost use Rattle.command_line.specs.Job.{Answers, MakesJob, ReadsJob, form_given};
+ghost use Rattle.command_line.specs.Job.{Answers, ReadsFound, ReadsJob, form_given};
 ghost use Rattle.command_line.specs.Table.{asked_in};
 
 use crate::errors::{WordsFault, form_fault};
@@ -33,10 +33,10 @@ pub trait Job<'a> {
     type BadValue;
 
     ghost use Rattle.clap.specs.Words.{found_of, rows_of};
-    ghost use Rattle.command_line.specs.Job.{Answers, JobOf};
+    ghost use Rattle.command_line.specs.Job.{ReadsRow};
 
-    // what a row asks for
-    ghost job_of: { JobOf Self.Command Self Self.BadValue };
+    // the results that reading a row's values may have
+    ghost Reads: { ReadsRow Self.Command Self Self.BadValue };
 
     /// What a command asks for, by what `clap` found of its arguments.
     fn read(
@@ -44,7 +44,7 @@ pub trait Job<'a> {
         command: Self::Command,
         options: &ArgMatches<'a>,
     ) -> Result<Self, WordsFault<Self::BadValue>>
-        ensures { Answers (job_of command (rows_of (found_of options.now))) result };
+        ensures { Reads command (rows_of (found_of options.now)) result };
 }
 
 /// What the arguments ask of the program. The first is its name. `clap` checks them first, then the
@@ -58,7 +58,7 @@ pub fn read_job<'a, J: Job<'a>, S: AsStr>(
     alloc: Global,
     words: &'a [S],
 ) -> Result<Asked<J>, WordsFault<J::BadValue>>
-    ensures { ReadsJob J.Command.table J.job_of (map S.text words.entry.now) result }
+    ensures { ReadsJob J.Command.table J.Reads (map S.text words.entry.now) result }
 {
     // By this law the arguments that are accepted name a row.
     words_name_a_row::<J::Command>();
@@ -85,7 +85,7 @@ fn job_found<'a, J: Job<'a>>(
     mut matches: ArgMatches<'a>,
 ) -> Result<J, WordsFault<J::BadValue>>
     requires { IsSome (asked_in J.Command.table (subcommand_rows_of matches)) }
-    ensures { MakesJob J.job_of
+    ensures { ReadsFound J.Reads
         (asked_in J.Command.table (subcommand_rows_of matches.entry)) result }
 {
     let Some((name, options)) = matches.remove_subcommand() else {

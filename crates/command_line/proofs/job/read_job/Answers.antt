@@ -2,7 +2,7 @@ use Rattle.std.proofs.Common.{◌∙◌, inl, inr, refl}
 use Rattle.clap.specs.Words.{kind_of}
 use Rattle.clap.specs.declared.error.kind.ErrorKind.TheVariants as kind
 use Rattle.command_line.specs.Table.{asked, refusals}
-use Rattle.command_line.proofs.JobLemmas.{fault_asks, job_asks}
+use Rattle.command_line.proofs.JobLemmas.{reads_accepted, reads_fault}
 use Rattle.command_line.proofs.WordsLemmas.{accepted, refused}
 use Rattle.command_line.proofs.job.read_job.Goals as goal
 
@@ -18,13 +18,13 @@ pub returns-in-Ok-job_found : goal.returns-in-Ok-job_found
 returns-in-Ok-job_found g c =
     let parse = c.in-Ok-try_get_matches_from.ensures in
     let parsed = accepted _ _ _ c.in-Ok.ensures.made c.application.ensures.good.free _ parse.matches parse.kinds in
-    job_asks _ _ _ _ parsed.0 parsed.1 c.in-Ok-job_found.job c.in-Ok-job_found.ensures
+    reads_accepted _ _ _ _ parsed.0 parsed.1 _ c.in-Ok-job_found.ensures
 
 pub returns-in-Err-job_found : goal.returns-in-Err-job_found
 returns-in-Err-job_found g c =
     let parse = c.in-Ok-try_get_matches_from.ensures in
     let parsed = accepted _ _ _ c.in-Ok.ensures.made c.application.ensures.good.free _ parse.matches parse.kinds in
-    fault_asks _ _ _ _ parsed.0 parsed.1 c.in-Err-job_found.fault c.in-Err-job_found.ensures
+    reads_fault _ _ _ _ parsed.0 parsed.1 c.in-Err-job_found.fault c.in-Err-job_found.ensures
 
 pub returns-in-DisplayHelp : goal.returns-in-DisplayHelp
 unfolding refusals
