@@ -1,6 +1,6 @@
--- The result of a scan of the fields of a pass.
-use Rattle.std.proofs.Common.{Bor, ◌≡◌, ℕ, ◌+◌, ◌-◌, ◌^◌, ◌≤◌, ◌<◌, min, List, [], ◌∷◌, ◌++◌, fold, length, drop, map, Option, Some, None}
-use Rattle.std.proofs.Common.{Bool, true, false, cond, ◌⊎◌, inl, inr, is_some, refl, sym, ap, ◌∙◌, arith}
+-- The result of a scan of the caveats among the fields of a pass.
+use Rattle.std.proofs.Common.{Bor, ◌≡◌, ℕ, ◌+◌, ◌-◌, ◌^◌, ◌≤◌, ◌<◌, min, List, [], ◌∷◌, ◌++◌, length, map, Option, Some, None}
+use Rattle.std.proofs.Common.{Bool, true, false, cond, is_some, refl, sym, ap, ◌∙◌, arith}
 use Rattle.std.specs.Option.{option_or}
 use Rattle.pass_caveats.specs.declared.ask.Ask.{Ask}
 use Rattle.pass_caveats.specs.declared.caveat.Caveat.{Caveat}
@@ -13,53 +13,6 @@ use Rattle.pass_forms.specs.declared.field_source.Field.{Field}
 use Rattle.pass_forms.specs.declared.field_source.Field.TheVariants as fields
 use Rattle.pass_forms.specs.FieldSource.{PassField, caveat_field, signature_field, location_field, identifier_field, pass_fields, as_field}
 use Rattle.pass_forms.specs.Pass.{Plain}
-use Rattle.club_rows.specs.declared.key.Key.{Key}
-use Rattle.club_core.specs.Pass.{is_signed_under}
-use Rattle.club_gate.specs.declared.signing.Signing.{Signing}
-use Rattle.club_gate.specs.computed.DecodedPass.{machine_pass}
-use Rattle.club_gate.proofs.SigningLemmas.{chains_under, is_one_of, signed_alike, signing_with}
-
--- ---- the signature
-
--- whether these fields end in the signature of a chain
-abbrev pub signed_in : Signing → List PassField → Bool
-signed_in signing [] = false
-signed_in signing (location_field bytes ∷ fields) = false
-signed_in signing (identifier_field bytes ∷ fields) = false
-signed_in signing (caveat_field bytes ∷ fields) = signed_in (signing_with signing bytes) fields
-signed_in signing (signature_field bytes ∷ fields) = is_one_of signing bytes
-
-signed_behind : (signature : List ℕ) (signing : Signing) (caveats : List (List ℕ))
-    → signed_in signing (map caveat_field caveats ++ signature_field signature ∷ []) ≡ is_one_of (fold signing_with signing caveats) signature
-signed_behind signature signing [] = refl
-signed_behind signature signing (caveat ∷ caveats) = signed_behind signature (signing_with signing caveat) caveats
-
--- the answer of a walk that began with an identifier, and of which this is left
-pub signed_at_last : (key : Key) (moment : ℕ) (identifier : List ℕ) (signing now : Signing) (fields left : List PassField) (answer : Bool)
-    → signing ≡ chains_under key moment identifier → answer ≡ signed_in now left → signed_in now left ≡ signed_in signing fields → (pass : Plain)
-    → identifier ≡ pass.identifier → fields ≡ drop 2 (pass_fields pass) → answer ≡ is_signed_under (machine_pass pass) key moment
-signed_at_last key moment identifier signing now fields left answer begins e f pass named g =
-    let from : Signing → Bool = λ s. is_one_of (fold signing_with s pass.caveats) pass.signature in
-    e ∙ (f ∙ (ap (λ (fs : List PassField). signed_in signing fs) g ∙ (signed_behind pass.signature signing pass.caveats
-    ∙ (ap from begins ∙ (ap (λ (i : List ℕ). from (chains_under key moment i)) named ∙ signed_alike pass key moment)))))
-
--- the next field is a signature, another field, or missing
-module _ (now : Signing) (left : List PassField) where
-  pub signature_comes : (rest : List PassField) (field : Field) (signature : List ℕ) (answer : Bool) → left ≡ as_field field ∷ rest
-      → field ≡ fields.Signature signature → answer ≡ is_one_of now signature → answer ≡ signed_in now left
-  signature_comes rest field signature answer l f e =
-      e ∙ sym (ap (λ (fs : List PassField). signed_in now fs) l ∙ ap (λ (x : Field). signed_in now (as_field x ∷ rest)) f)
-
-  pub other_comes : (rest : List PassField) (field : Field) → left ≡ as_field field ∷ rest
-      → ((x : Bor (List ℕ)) × (field ≡ fields.Location x)) ⊎ ((x : Bor (List ℕ)) × (field ≡ fields.Identifier x))
-      → false ≡ signed_in now left
-  other_comes rest field l (inl f) =
-      sym (ap (λ (fs : List PassField). signed_in now fs) l ∙ ap (λ (x : Field). signed_in now (as_field x ∷ rest)) f.1)
-  other_comes rest field l (inr f) =
-      sym (ap (λ (fs : List PassField). signed_in now fs) l ∙ ap (λ (x : Field). signed_in now (as_field x ∷ rest)) f.1)
-
-  pub none_comes : left ≡ [] → false ≡ signed_in now left
-  none_comes l = sym (ap (λ (fs : List PassField). signed_in now fs) l)
 
 -- ---- the caveats
 

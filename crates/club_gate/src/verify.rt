@@ -42,7 +42,7 @@ ghost use Rattle.club_gate.specs.Verify.{
 
 use crate::desk::Desk;
 use crate::identifier::key_name_in;
-use crate::walk::is_signed;
+use crate::signing::is_signed;
 use club_core::laws::{looks_no_further, own_bookings_suffice, views_decide};
 use club_core::{ClubStore, PassFault, Refusal, Request, SentWords, StoreFault, Verdict, answer};
 use club_rows::Key;
@@ -70,15 +70,15 @@ fn identifier_from<'a, F: FieldSource<'a>>(source: &mut F) -> Option<&'a [u8]>
 
 /// Why the row of its key refuses a pass: the pass isn't signed under a root that is good at the
 /// moment, or the key is revoked. The source has already yielded the identifier.
-fn row_refusal<'a, F: FieldSource<'a>>(
+fn row_refusal<'a, F: FieldSource<'a> + Drop>(
     kept: &mut KeptKeys,
-    source: &mut F,
+    source: &F,
     identifier: &[u8],
     key: &Key,
     moment: Moment,
 ) -> Option<Refusal>
     ensures { (pass : Plain) → identifier.now ≡ pass.identifier
-        → F.left source.old ≡ drop 2 (pass_fields pass)
+        → F.left source.now ≡ drop 2 (pass_fields pass)
         → result ≡ refusal_by_row pass key.now moment }
 {
     if !is_signed(kept, source, identifier, key, moment) {
@@ -122,16 +122,16 @@ impl<S: ClubStore> Desk<S> {
 
     /// As `signer`, for a pass that isn't signed under the current root of the key that it names.
     /// The source has already yielded the identifier.
-    fn older_signer<'a, F: FieldSource<'a>>(
+    fn older_signer<'a, F: FieldSource<'a> + Drop>(
         &mut self,
-        source: &mut F,
+        source: &F,
         identifier: &[u8],
         key: &Key,
         moment: Moment,
     ) -> Result<Result<Key, Refusal>, StoreFault>
         ensures { ReadsStore S.disk_is_clean S.represents S.fails self.old self.new result
             (λ club signer. (pass : Plain) (row : Key) → identifier.now ≡ pass.identifier
-            → F.left source.old ≡ drop 2 (pass_fields pass)
+            → F.left source.now ≡ drop 2 (pass_fields pass)
             → key_named row.name club ≡ Some row → key.now ≡ row_alone row
             → refusal_by_row pass key.now moment ≡ Some NotVerified
             → signer ≡ signer_of pass moment (Some row)) }
@@ -172,13 +172,12 @@ impl<S: ClubStore> Desk<S> {
         let Some(key) = self.key_row(identifier)? else {
             return Ok(Err(Refusal::NotVerified));
         };
-        let mut once_more = fields.again();
-        let refusal = row_refusal(&mut self.kept, &mut fields, identifier, &key, moment);
+        let refusal = row_refusal(&mut self.kept, &fields, identifier, &key, moment);
         let Some(refusal) = refusal else {
             return Ok(Ok(key));
         };
         match refusal {
-            Refusal::NotVerified => self.older_signer(&mut once_more, identifier, &key, moment),
+            Refusal::NotVerified => self.older_signer(&fields, identifier, &key, moment),
             _ => Ok(Err(refusal)),
         }
     }

@@ -1,46 +1,14 @@
-//! Scans of the fields of a pass: for its signature, and for its caveats.
+//! Scans of the caveats among the fields of a pass.
 
-ghost use Rattle.std.specs.Prelude.{◌≡◌, ℕ, false, drop, map};
+ghost use Rattle.std.specs.Prelude.{◌≡◌, ℕ, false, map};
 ghost use Rattle.pass_caveats.specs.computed.CaveatOf.{caveat_of};
 ghost use Rattle.pass_caveats.specs.Fault.{first_fault_of};
 ghost use Rattle.pass_caveats.specs.Spending.{IsWithin, after_spending};
-ghost use Rattle.pass_forms.specs.FieldSource.{pass_fields};
-ghost use Rattle.pass_forms.specs.Pass.{Plain};
-ghost use Rattle.club_core.specs.Pass.{is_signed_under};
-ghost use Rattle.club_gate.specs.computed.DecodedPass.{machine_pass};
 ghost use Rattle.club_gate.specs.Reading.{IsBlindPass};
 ghost use Rattle.club_gate.specs.Verify.{OfItsPass};
 
-use crate::signing::Signing;
-use club_rows::Key;
-use club_values::Moment;
-use key_cache::KeptKeys;
 use pass_caveats::{Ask, CaveatFault, Unspent, fault_at, looks_at_kind, unspent_at};
 use pass_forms::{Field, FieldSource};
-
-/// Whether a pass is signed under a root of the key that is good at the moment. The source has
-/// already yielded the identifier.
-pub(crate) fn is_signed<'a, F: FieldSource<'a>>(
-    kept: &mut KeptKeys,
-    source: &mut F,
-    identifier: &[u8],
-    key: &Key,
-    moment: Moment,
-) -> bool
-    ensures { (pass : Plain) → identifier.now ≡ pass.identifier
-        → F.left source.old ≡ drop 2 (pass_fields pass)
-        → result ≡ is_signed_under (machine_pass pass) key.now moment }
-{
-    let mut signing = Signing::start(kept, key, moment, identifier);
-    while let Some(field) = source.next() {
-        match field {
-            Field::Caveat(caveat) => signing = signing.with(caveat),
-            Field::Signature(signature) => return signing.is(&signature),
-            Field::Location(_) | Field::Identifier(_) => return false,
-        }
-    }
-    false
-}
 
 /// The first caveat of a pass that isn't understood or denies the request; `None` if all allow it.
 fn first_fault<'a, F: FieldSource<'a>>(source: &mut F, ask: &Ask) -> Option<CaveatFault>

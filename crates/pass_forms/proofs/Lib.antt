@@ -25,3 +25,4 @@ pub mod WrittenTexts
 pub mod WrittenForm
 pub mod WrittenV1
 pub mod WrittenV2
+pub mod Verifying

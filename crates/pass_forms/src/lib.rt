@@ -14,6 +14,7 @@ mod pass;
 mod pass_fields;
 mod v1;
 mod v2;
+mod verify;
 mod write;
 
 pub use envelope::{MAX_BYTES, MAX_TEXT, Unwrapped, decode_base64, unwrap_text};
@@ -24,4 +25,5 @@ pub use pass::{MAX_CAVEATS, Pass, PassParts, narrow};
 pub use pass_fields::PassFields;
 pub use v1::{V1Fields, read_v1};
 pub use v2::{V2Fields, read_v2};
+pub use verify::is_signed_by;
 pub use write::{write_v1, write_v2};

@@ -7,8 +7,8 @@ ghost use Rattle.pass_forms.specs.Pass.{IsSigned};
 ghost use Rattle.pass_forms.specs.Reading.{max_caveats};
 ghost use Rattle.pass_forms.specs.Writing.{IsNarrowingFault, with_caveat};
 
-use crate::{Field, FormFault, PassFields};
-use pass_mac::{Chain, same};
+use crate::{Field, FieldSource, FormFault, PassFields, is_signed_by};
+use pass_mac::Chain;
 use std::alloc::{AllocError, Global};
 use std::marker::Model;
 
@@ -195,21 +195,11 @@ impl Pass {
         ensures signed { IsTrue result ↔ IsSigned root.now self.now }
         ensures computed { result ≡ is_signed root.now self.now }
     {
-        let signature = signature_under(root, self.identifier(), self.caveats());
-        same(&signature, &self.signature)
+        let mut fields = self.fields();
+        let _location = fields.next();
+        let _identifier = fields.next();
+        is_signed_by(Chain::start(root, self.identifier()), &mut fields)
     }
-}
-
-// The signature of an identifier and caveats under a root.
-fn signature_under(root: &[u8], identifier: &[u8], caveats: &[Vec<u8>]) -> [u8; 32]
-    ensures { result ≡ chain (derived_key root.now) identifier.now
-        (map (λ caveat. caveat.items) caveats.now) }
-{
-    let mut chain = Chain::start(root, identifier);
-    for caveat in caveats {
-        chain.add(caveat);
-    }
-    chain.signature()
 }
 
 /// Adds a caveat to a pass and signs it without the root: the new signature is the caveat's HMAC,

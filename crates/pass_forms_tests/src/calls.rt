@@ -3,7 +3,7 @@
 
 use pass_forms::{
     Field, FieldSource, Form, FormFault, MAX_BYTES, Pass, PassFields, PassParts, Unwrapped,
-    V1Fields, V2Fields,
+    V1Fields, V2Fields, is_signed_by,
 };
 use pass_mac::Chain;
 use std::alloc::{AllocError, Global};
@@ -110,4 +110,16 @@ pub(crate) fn into_parts(pass: Pass) -> PassParts {
 
 pub(crate) fn is_signed(pass: &Pass, root: &[u8]) -> bool {
     pass.is_signed(root)
+}
+
+// The same of the pass that bytes spell in V1, by its fields.
+pub(crate) fn is_signed_v1(bytes: &[u8], root: &[u8]) -> bool {
+    let Ok(mut fields) = V1Fields::open(bytes) else {
+        return false;
+    };
+    let _location = fields.next();
+    let Some(Field::Identifier(identifier)) = fields.next() else {
+        return false;
+    };
+    is_signed_by(Chain::start(root, identifier), &mut fields)
 }

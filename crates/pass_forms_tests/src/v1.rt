@@ -1,6 +1,6 @@
 //! Passes that are read from V1.
 
-use crate::calls::{is_signed, read};
+use crate::calls::{is_signed, is_signed_v1, read};
 use crate::read::{Read, are_read, are_refused, is_refused_cut_short};
 use crate::rows::{Fields, Piece, expect_eq, join};
 use pass_forms::{Form, FormFault};
@@ -127,7 +127,9 @@ fn shows_each_fault(rt: HostRuntime) {
 }
 
 fn expect_signed(rt: &(impl Abort + AllocGlobal), root: &[u8], signed: bool) {
-    let pass = read(rt.alloc(), Form::V1, &join(rt, &KNOWN)).expect(rt, "a pass");
+    let bytes = join(rt, &KNOWN);
+    expect_eq(rt, &is_signed_v1(&bytes, root), &signed, &root);
+    let pass = read(rt.alloc(), Form::V1, &bytes).expect(rt, "a pass");
     expect_eq(rt, &is_signed(&pass, root), &signed, &root);
 }
 

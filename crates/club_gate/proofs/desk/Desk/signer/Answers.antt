@@ -19,7 +19,7 @@ returns-in-NotVerified g c = record {
       (λ signer answered pass fields.
       let source = c.in-Some.ensures pass (c.again-fields.ensures ∙ fields) in
       let refused = sym (c.row_refusal-refusal.ensures pass source.0 source.1) ∙ (c.in-Some-refusal.is ∙ ap (λ (r : Refusal). Some r) c.in-NotVerified.is) in
-      answered pass its.row source.0 (c.again-once_more.ensures ∙ source.1) its.named its.alone refused
+      answered pass its.row source.0 source.1 its.named its.alone refused
       ∙ decides_signer club pass c.args.moment c.in-Some.identifier.now its.row source.0 its.is)
       (c.older_signer.ensures.returned clean club others after);
 }

@@ -1,10 +1,10 @@
 -- What is found from here on is what is found of all fields.
 use Rattle.std.proofs.Common.{◌≡◌, length}
-use Rattle.club_gate.proofs.Walking.{signed_in}
-use Rattle.club_gate.proofs.walk.is_signed.Given as goal
+use Rattle.pass_forms.proofs.Verifying.{signed_in}
+use Rattle.pass_forms.proofs.verify.is_signed_by.Given as goal
 
 abbrev pub invariant-loop-field : goal.invariant-loop-field
-invariant-loop-field g l = signed_in l.signing (g.F.FieldSource.left l.source) ≡ signed_in l.initial.signing (g.F.FieldSource.left l.initial.source)
+invariant-loop-field g l = signed_in l.chain (g.F.FieldSource.left l.source) ≡ signed_in l.initial.chain (g.F.FieldSource.left l.initial.source)
 
 abbrev pub decreases-loop-field : goal.decreases-loop-field
 decreases-loop-field g l = length (g.F.FieldSource.left l.source)

@@ -1,0 +1,27 @@
+//! The verifier of a pass, over its fields.
+
+ghost use Rattle.std.specs.Prelude.{◌≡◌, ◌++◌, ◌∷◌, ℕ, List, [], map};
+ghost use Rattle.std.specs.Str.{bytes_eq};
+ghost use Rattle.pass_mac.specs.Chain.{extended_signature};
+ghost use Rattle.pass_forms.specs.FieldSource.{caveat_field, signature_field};
+
+use crate::{Field, FieldSource};
+use pass_mac::{Chain, same};
+
+/// Whether a chain, extended by the caveats that a source has left, ends in the signature behind
+/// them. A pass is signed if the chain is that of its identifier, and the source has yielded its
+/// location and its identifier.
+pub fn is_signed_by<'a, F: FieldSource<'a>>(mut chain: Chain, source: &mut F) -> bool
+    ensures { (caveats : List (List ℕ)) (signature : List ℕ)
+        → F.left source.old ≡ map caveat_field caveats ++ signature_field signature ∷ []
+        → result ≡ bytes_eq (extended_signature chain caveats) signature }
+{
+    while let Some(field) = source.next() {
+        match field {
+            Field::Caveat(caveat) => chain.add(caveat),
+            Field::Signature(signature) => return same(&chain.signature(), &signature),
+            Field::Location(_) | Field::Identifier(_) => return false,
+        }
+    }
+    false
+}
