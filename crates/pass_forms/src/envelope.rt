@@ -1,11 +1,12 @@
 //! The envelope of a pass text: plain JSON, or base64 of the bytes of any form.
 
-ghost use Rattle.std.specs.Prelude.{◌≡◌, ◌≤◌, Option, length, take, IfOk, IfSome};
+ghost use Rattle.std.specs.Prelude.{◌≡◌, ◌↔◌, ℕ, ◌≤◌, List, Option, Some, length, take, IfOk, IfSome};
 ghost use Rattle.std.specs.Option.{option_map, option_or};
 ghost use Rattle.base64.specs.Decode.{decoded_estimate};
 ghost use Rattle.base64.specs.GeneralPurpose.{decoded_of};
 ghost use Rattle.pass_forms.specs.Reading.{max_text_len};
 ghost use Rattle.pass_forms.specs.Envelope.{
+  IsBase64,
   IsUnwrapped,
   form_of,
   starts_with_brace,
@@ -107,14 +108,16 @@ fn form_of(bytes: &[u8]) -> Option<Form>
 }
 
 /// Decodes base64 (RFC 4648), or returns `None` if the text isn't base64. Either alphabet may be
-/// used, URL-safe or standard, unpadded or padded. Trailing bits must be zero. The law
-/// `from_base64_is_base64` ties this to the relation `IsBase64`.
+/// used, URL-safe or standard, unpadded or padded. Trailing bits must be zero.
 ///
 /// # Errors
 ///
 /// The allocation of the bytes failed.
 pub fn decode_base64(alloc: Global, text: &[u8]) -> Result<Option<Vec<u8>>, AllocError>
-    ensures { IfOk result
+    ensures spelling { IfOk result (λ found. (bytes : List ℕ)
+        → (option_map (λ b. b.items) found ≡ Some bytes) ↔ IsBase64 text.now bytes) }
+    // The same, computed.
+    ensures computed { IfOk result
         (λ found. option_map (λ bytes. bytes.items) found ≡ from_base64 text.now) }
 {
     let mut buffer = vec![in alloc; 0; text.len().div_ceil(4) * 3]?;

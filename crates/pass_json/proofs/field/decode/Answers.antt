@@ -8,4 +8,4 @@ pub returns : goal.returns
 returns c =
     IfOk-weaker c.decode_base64.result _ _
     (λ bytes e. e ∙ ap from_base64 c.as_bytes.ensures.value ∙ sym (base64_bytes_is c.args.text.now (λ i. omega (arith, c.type_inv.text i))))
-    c.decode_base64.ensures
+    c.decode_base64.ensures.computed
