@@ -1,16 +1,24 @@
 -- From the pass that a source yields to the text that spells it.
 use Rattle.std.proofs.Common.{◌≡◌, ◌≢◌, inl, inr, ℕ, ◌≤◌, length, List, Option, Result, Ok, Err, refl, sym, ap, ◌∙◌, subst}
 use Rattle.std.specs.Prelude.{IfOk}
+use Rattle.base64.specs.GeneralPurpose.{IsBytes}
 use Rattle.pass_forms.specs.declared.fault.FormFault.{FormFault}
 use Rattle.pass_forms.specs.declared.form.Form.{Form}
-use Rattle.pass_forms.specs.declared.form.Form.TheVariants.{Json}
+use Rattle.pass_forms.specs.declared.form.Form.TheVariants.{V1, V2, Json}
 use Rattle.pass_forms.specs.Envelope.{IsUnwrapped}
-use Rattle.pass_forms.specs.computed.Envelope.{unwrapping}
+use Rattle.pass_forms.specs.Laws.{ReadsExactly}
 use Rattle.pass_forms.specs.Pass.{Plain}
-use Rattle.pass_forms.specs.Reading.{max_text_len}
+use Rattle.pass_forms.specs.Reading.{IsReadAs, max_text_len}
+use Rattle.pass_forms.specs.V1.{SpellsV1}
+use Rattle.pass_forms.specs.V2.{SpellsV2}
 use Rattle.pass_forms.specs.computed.Text.{in_form}
-use Rattle.pass_json.specs.Laws.{ReadsWhatIsWrapped}
+use Rattle.pass_forms.specs.computed.V1Reading.{reading_v1}
+use Rattle.pass_forms.specs.computed.V2Reading.{reading_v2}
+use Rattle.pass_json.specs.AnyForm.{IsReadingInForm, SpellsForm}
+use Rattle.pass_json.specs.Json.{SpellsJson}
+use Rattle.pass_json.specs.Laws.{ReadsAnyFormExactly, ReadsWhatIsWrapped}
 use Rattle.pass_json.specs.computed.AnyForm.{reading, reading_in_form}
+use Rattle.pass_json.specs.computed.JsonReading.{reading_json}
 use Rattle.club_core.specs.declared.change.Change.{Change}
 use Rattle.club_core.specs.declared.request.Request.{Request}
 use Rattle.club_core.specs.declared.store.StoreFault.{StoreFault}
@@ -54,34 +62,38 @@ pub fault_in : (form : Form) (read : Result Plain FormFault) (text : List ℕ) (
 fault_in form (Ok pass) text fault wrapped e = absurd (cc)
 fault_in form (Err other) text fault wrapped e = let same : other ≡ fault = cc in ap (λ (f : FormFault). Err f) same
 
--- the reading of a text, by the bytes that it wraps
-pub read_wrapped : ReadsWhatIsWrapped → (text : List ℕ) (form : Form) (wrapped bytes : List ℕ) → bytes ≡ wrapped
-    → unwrapping text ≡ Ok (form, wrapped) → length wrapped ≤ max_text_len
-    → reading text ≡ in_form form (reading_in_form form bytes)
-read_wrapped reads text form wrapped bytes same e short =
-    let Short : List ℕ → Type 0 = λ b. length b ≤ max_text_len in
-    reads text form bytes (e ∙ ap (λ (b : List ℕ). Ok (form, b)) (sym same)) (subst Short (sym same) short)
+with_its_form : (form : Form) (bytes : List ℕ) (read : Result Plain FormFault) → IsReadAs (length bytes) (SpellsForm form bytes) read
+    → IsReadingInForm form bytes (in_form form read)
+with_its_form form bytes (Ok pass) h = (refl, h)
+with_its_form form bytes (Err fault) h = h
 
--- what a text wraps, by what the call that unwraps it returned
-pub unwraps_to : (text : List ℕ) (result : Result (Form × List ℕ) FormFault) → result ≡ unwrapping text → IsUnwrapped text result
-    → IsUnwrapped text (unwrapping text)
-unwraps_to text result e h = subst (λ (r : Result (Form × List ℕ) FormFault). IsUnwrapped text r) e h
+-- by the laws of each form
+module _ (packets : ReadsExactly SpellsV1 reading_v1) (sections : ReadsExactly SpellsV2 reading_v2) (json : ReadsExactly SpellsJson reading_json) where
+  reads_in : (form : Form) (bytes : List ℕ) → IsReadAs (length bytes) (SpellsForm form bytes) (reading_in_form form bytes)
+  reads_in V1 bytes = (packets bytes (reading_v1 bytes)).1 refl
+  reads_in V2 bytes = (sections bytes (reading_v2 bytes)).1 refl
+  reads_in Json bytes = (json bytes (reading_json bytes)).1 refl
 
-json_in : (text : List ℕ) (form : Form) (wrapped : List ℕ) → unwrapping text ≡ Ok (form, wrapped) → IsUnwrapped text (unwrapping text)
-    → form ≡ Json → IsUnwrapped text (Ok (Json, wrapped))
-json_in text form wrapped e h json =
-    let found : Form → Result (Form × List ℕ) FormFault = λ f. Ok (f, wrapped) in
-    subst (λ (r : Result (Form × List ℕ) FormFault). IsUnwrapped text r) (e ∙ ap found json) h
+  -- the reading of a text, by the bytes that it wraps
+  pub read_wrapped : ReadsAnyFormExactly → ReadsWhatIsWrapped → (text : List ℕ) (form : Form) (bytes : List ℕ) → IsBytes text
+      → IsUnwrapped text (Ok (form, bytes)) → length bytes ≤ max_text_len
+      → reading text ≡ in_form form (reading_in_form form bytes)
+  read_wrapped texts wrapped text form bytes are content short =
+      let answer = in_form form (reading_in_form form bytes) in
+      let read = with_its_form form bytes (reading_in_form form bytes) (reads_in form bytes) in
+      (texts text answer are).0 ((wrapped text bytes form answer content short).1 read)
+
+json_in : (text : List ℕ) (form : Form) (bytes : List ℕ) → IsUnwrapped text (Ok (form, bytes)) → form ≡ Json → IsUnwrapped text (Ok (Json, bytes))
+json_in text form bytes h json = subst (λ (f : Form). IsUnwrapped text (Ok (f, bytes))) json h
 
 -- bytes that are read in place are no JSON
-pub other_form : (text : List ℕ) (form : Form) (wrapped : List ℕ) → unwrapping text ≡ Ok (form, wrapped) → IsUnwrapped text (unwrapping text)
-    → ¬ IsJson text → form ≢ Json
-other_form text form wrapped e h in_place json = in_place (wrapped, json_in text form wrapped e h json)
+pub other_form : (text : List ℕ) (form : Form) (bytes : List ℕ) → IsUnwrapped text (Ok (form, bytes)) → ¬ IsJson text → form ≢ Json
+other_form text form bytes h in_place json = in_place (bytes, json_in text form bytes h json)
 
 -- memory that is wanted for bytes in JSON is wanted for the text
-pub lacks_memory : {S : Type 0} (Fails : Option Change → S → StoreFault → S → Type 0) (text : List ℕ) (form : Form) (wrapped : List ℕ) (old new : S)
-    (result : Result Verdict StoreFault) → unwrapping text ≡ Ok (form, wrapped) → IsUnwrapped text (unwrapping text)
-    → ReadsOrLacksMemory Fails (form ≡ Json) old new result → ReadsOrLacksMemory Fails (IsJson text) old new result
-lacks_memory Fails text form wrapped old new (Ok verdict) e h r = r
-lacks_memory Fails text form wrapped old new (Err fault) e h (inl failed) = inl failed
-lacks_memory Fails text form wrapped old new (Err fault) e h (inr json) = inr ((wrapped, json_in text form wrapped e h json.0), json.1)
+pub lacks_memory : {S : Type 0} (Fails : Option Change → S → StoreFault → S → Type 0) (text : List ℕ) (form : Form) (bytes : List ℕ) (old new : S)
+    (result : Result Verdict StoreFault) → IsUnwrapped text (Ok (form, bytes)) → ReadsOrLacksMemory Fails (form ≡ Json) old new result
+    → ReadsOrLacksMemory Fails (IsJson text) old new result
+lacks_memory Fails text form bytes old new (Ok verdict) h r = r
+lacks_memory Fails text form bytes old new (Err fault) h (inl failed) = inl failed
+lacks_memory Fails text form bytes old new (Err fault) h (inr json) = inr ((bytes, json_in text form bytes h json.0), json.1)

@@ -5,6 +5,10 @@
 ghost use Rattle.std.specs.Prelude.{
   ◌≡◌,
   ◌≢◌,
+  ◌≤◌,
+  ℕ,
+  List,
+  length,
   IfOk,
   IsSomeAnd,
   None,
@@ -16,9 +20,13 @@ ghost use Rattle.std.specs.Prelude.{
 };
 ghost use Rattle.pass_forms.specs.declared.fault.FormFault.{FormFault as FaultOfForm};
 ghost use Rattle.pass_forms.specs.declared.fault.FormFault.TheVariants.{Memory};
+ghost use Rattle.pass_forms.specs.declared.form.Form.{Form as FormOfBytes};
 ghost use Rattle.pass_forms.specs.declared.form.Form.TheVariants.{Json};
+ghost use Rattle.pass_forms.specs.Envelope.{IsUnwrapped};
 ghost use Rattle.pass_forms.specs.FieldSource.{pass_fields};
 ghost use Rattle.pass_forms.specs.Pass.{Plain};
+ghost use Rattle.pass_forms.specs.Reading.{max_text_len};
+ghost use Rattle.pass_forms.specs.computed.Text.{in_form};
 ghost use Rattle.pass_json.specs.computed.AnyForm.{reading, reading_in_form};
 ghost use Rattle.club_core.specs.declared.refusal.Refusal.TheVariants.{NotVerified};
 ghost use Rattle.club_core.specs.declared.store.StoreFault.TheVariants as store;
@@ -40,7 +48,7 @@ ghost use Rattle.club_gate.specs.Verify.{
   signer_of,
 };
 
-use crate::desk::Desk;
+use crate::desk::{Desk, are_bytes};
 use crate::identifier::key_name_in;
 use crate::signing::is_signed;
 use club_core::laws::{looks_no_further, own_bookings_suffice, views_decide};
@@ -50,8 +58,27 @@ use club_values::Moment;
 use key_cache::KeptKeys;
 use pass_forms::laws::{reads_v1_exactly, reads_v2_exactly};
 use pass_forms::{Field, FieldSource, Form, FormFault, MAX_BYTES, V1Fields, V2Fields, unwrap_text};
-use pass_json::laws::{reads_what_is_wrapped, refuses_what_wraps_nothing};
+use pass_json::laws::{
+    reads_any_form_exactly, reads_json_exactly, reads_what_is_wrapped, refuses_what_wraps_nothing,
+};
 use pass_json::read_json;
+
+// The computed reading of a text is that of the bytes that it wraps, or the fault of its envelope.
+fn reads_by_bytes(text: &[u8])
+    ensures wrapped { (form : FormOfBytes) (bytes : List ℕ)
+        → IsUnwrapped text.now (Ok (form, bytes)) → length bytes ≤ max_text_len
+        → reading text.now ≡ in_form form (reading_in_form form bytes) }
+    ensures refused { (fault : FaultOfForm) → IsUnwrapped text.now (Err fault)
+        → reading text.now ≡ Err fault }
+{
+    are_bytes(text);
+    reads_v1_exactly();
+    reads_v2_exactly();
+    reads_json_exactly();
+    reads_any_form_exactly();
+    reads_what_is_wrapped();
+    refuses_what_wraps_nothing();
+}
 
 /// Takes the location and the identifier of a pass from its source, and returns the identifier.
 fn identifier_from<'a, F: FieldSource<'a>>(source: &mut F) -> Option<&'a [u8]>
@@ -281,8 +308,7 @@ impl<S: ClubStore> Desk<S> {
         ensures failed { S.disk_is_clean self.new
             → ReadsOrLacksMemory S.fails (IsJson words.now.pass.now) self.old self.new result }
     {
-        reads_what_is_wrapped();
-        refuses_what_wraps_nothing();
+        reads_by_bytes(words.pass);
         let mut room = [0; MAX_BYTES];
         match unwrap_text(words.pass, &mut room) {
             Ok(unwrapped) => {

@@ -9,21 +9,18 @@ use Rattle.pass_forms.specs.declared.form.Form.{Form}
 use Rattle.pass_forms.specs.Envelope.{form_of}
 use Rattle.pass_forms.specs.Pass.{Plain, WidePass, as_wide_pass}
 use Rattle.pass_forms.specs.Putting.{buffer_len}
-use Rattle.pass_forms.specs.Laws.{ReadsExactly}
 use Rattle.pass_forms.specs.Reading.{max_caveats, max_text_len}
 use Rattle.pass_forms.specs.Writing.{FailsAs, IsReadBack, IsWriteFault, IsWriting, IsTextBy, IsWritableText, in_base64}
 use Rattle.pass_forms.specs.computed.Writing.{writing_of}
 use Rattle.pass_forms.proofs.WrittenTexts.{bytes_fit, unwraps}
 
--- A form: the bytes of a pass, which bytes spell a pass, and how they are read.
+-- A form: the bytes of a pass, and which bytes spell a pass.
 pub record BytesForm : Type 1 where
   pub bytes_of : Plain → List ℕ
   pub Spells : List ℕ → WidePass → Type 0
   pub form : Form
-  pub reading : List ℕ → Result Plain FormFault
   pub spells : (pass : Plain) → length (bytes_of pass) ≤ buffer_len → length pass.signature ≡ 32 → Spells (bytes_of pass) (as_wide_pass pass)
   pub has_form : (pass : Plain) → Spells (bytes_of pass) (as_wide_pass pass) → form_of (bytes_of pass) ≡ Some form
-  pub reads_exactly : ReadsExactly Spells reading
 
 abbrev pub IsTextIn : BytesForm → Plain → List ℕ → Type 0
 IsTextIn f pass text = IsTextBy f.bytes_of f.Spells pass text
@@ -35,14 +32,14 @@ fits_buffer f pass text written =
     bytes_fit (f.bytes_of pass) (rw (← encoding) written.short)
 
 pub reads_back : (f : BytesForm) (pass : Plain) (text : List ℕ) → IsBytes (f.bytes_of pass) → IsWritableText (IsTextIn f) pass text →
-    IsReadBack f.reading f.form (f.bytes_of pass) pass text
+    IsReadBack f.Spells f.form (f.bytes_of pass) pass text
 reads_back f pass text are written =
     let spelling = written.is_text.spelling in
     let encoding : text ≡ in_base64 (f.bytes_of pass) = written.is_text.encoding in
     let short : length (f.bytes_of pass) ≤ buffer_len = fits_buffer f pass text written in
     record {
       content = rw encoding (unwraps f.form (f.bytes_of pass) are short (f.has_form pass spelling));
-      read = (f.reads_exactly (f.bytes_of pass) (Ok pass)).0 (omega arith, spelling, written.few);
+      read = (omega arith, spelling, written.few);
     }
 
 -- ---- the result, a text or a fault
@@ -99,7 +96,7 @@ exact f pass answer len =
 pub record Promises (f : BytesForm) (pass : Plain) (A : Type 0) (bytes : A → List ℕ) (result : Result A FormFault) : Type 0 where
   pub ok : IfOk result (λ text. IsWritableText (IsTextIn f) pass (bytes text))
   pub err : IfErr result (IsWriteFault (IsTextIn f) pass)
-  pub read_back : IfOk result (λ text. IsReadBack f.reading f.form (f.bytes_of pass) pass (bytes text))
+  pub read_back : IfOk result (λ text. IsReadBack f.Spells f.form (f.bytes_of pass) pass (bytes text))
 
 is_refused : (f : BytesForm) (pass : Plain) (fault : FormFault) → (IsOk (writing_of (f.bytes_of pass) pass) → length pass.signature ≡ 32)
     → FailsAs (writing_of (f.bytes_of pass) pass) fault → IsWriteFault (IsTextIn f) pass fault

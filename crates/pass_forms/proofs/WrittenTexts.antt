@@ -5,18 +5,15 @@ use Rattle.std.proofs.lemmas.List.{append-nil}
 use Rattle.base64.specs.Engines.{url_safe_no_pad}
 use Rattle.base64.specs.GeneralPurpose.{IsBytes, engine_symbols}
 use Rattle.base64.specs.Rfc4648.{unpadded_len}
-use Rattle.base64.proofs.EngineFacts.{IsAscii-encode_of}
 use Rattle.base64.proofs.RoundTrip.{length-encode_symbols}
 use Rattle.pass_forms.specs.declared.fault.FormFault.TheVariants.{TooLong, TooMany}
 use Rattle.pass_forms.specs.declared.form.Form.{Form}
-use Rattle.pass_forms.specs.Envelope.{IsBase64, form_of}
-use Rattle.pass_forms.specs.computed.Envelope.{unwrapping}
+use Rattle.pass_forms.specs.Envelope.{IsBase64, IsUnwrapped, form_of}
 use Rattle.pass_forms.specs.Pass.{Plain}
 use Rattle.pass_forms.specs.Putting.{buffer_len}
 use Rattle.pass_forms.specs.Reading.{max_caveats, max_text_len}
 use Rattle.pass_forms.specs.Writing.{in_base64}
 use Rattle.pass_forms.specs.computed.Writing.{writing_of}
-use Rattle.pass_forms.proofs.EnvelopeLaws.{unwrapped_is}
 
 length-in_base64 : (bytes : List ℕ) → length (in_base64 bytes) ≡ unpadded_len (length bytes)
 length-in_base64 bytes = rw append-nil (length-encode_symbols (engine_symbols url_safe_no_pad) bytes)
@@ -52,8 +49,7 @@ module _ (bytes : List ℕ) (pass : Plain) where
 -- ---- reading back
 
 pub unwraps : (form : Form) (bytes : List ℕ) → IsBytes bytes → length bytes ≤ buffer_len → form_of bytes ≡ Some form →
-    unwrapping (in_base64 bytes) ≡ Ok (form, bytes)
+    IsUnwrapped (in_base64 bytes) (Ok (form, bytes))
 unwraps form bytes are short content =
-    let ascii = IsAscii-encode_of url_safe_no_pad bytes in
     let spelling : IsBase64 (in_base64 bytes) bytes = record { are_bytes = are; spelling = inl refl } in
-    (unwrapped_is (in_base64 bytes) (Ok (form, bytes)) (λ i. let byte = ascii i in omega arith)).1 (text_fits bytes short, inr (spelling, content))
+    (text_fits bytes short, inr (spelling, content))

@@ -15,8 +15,6 @@ use Rattle.pass_forms.specs.Writing.{HasBytes, IsReadBack, IsV1Text, IsWritableT
 use Rattle.pass_forms.specs.computed.Writing.{writing_v1}
 use Rattle.pass_forms.proofs.FieldNames.{caveat_key, identifier_key, location_key, signature_key}
 use Rattle.pass_forms.proofs.Packets.{length-packet}
-use Rattle.pass_forms.specs.computed.V1Reading.{reading_v1}
-use Rattle.pass_forms.proofs.WholeV1.{reads_v1}
 use Rattle.pass_forms.proofs.WrittenBytes.{v1_is_bytes}
 use Rattle.pass_forms.proofs.WrittenForm.{BytesForm, exact, reads_back}
 
@@ -65,14 +63,12 @@ v1_form = record {
   bytes_of = v1_bytes;
   Spells = SpellsV1;
   form = V1;
-  reading = reading_v1;
   spells = spells_v1;
   has_form = λ pass spelling. form_v1 pass spelling.fits.location;
-  reads_exactly = reads_v1;
 }
 
 -- The law: bytes that are written of bytes are bytes.
-pub law_v1 : (pass : Plain) (text : List ℕ) → HasBytes pass → IsWritableText IsV1Text pass text → IsReadBack reading_v1 V1 (v1_bytes pass) pass text
+pub law_v1 : (pass : Plain) (text : List ℕ) → HasBytes pass → IsWritableText IsV1Text pass text → IsReadBack SpellsV1 V1 (v1_bytes pass) pass text
 law_v1 pass text are written =
     reads_back v1_form pass text (v1_is_bytes pass written.is_text.spelling.fits are) written
 

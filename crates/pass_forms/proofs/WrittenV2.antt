@@ -8,8 +8,6 @@ use Rattle.pass_forms.specs.Pass.{Plain, as_wide_pass}
 use Rattle.pass_forms.specs.V2.{SpellsV2}
 use Rattle.pass_forms.specs.Writing.{HasBytes, IsReadBack, IsV2Text, IsWritableText, IsWriting, nonempty_location, v2_bytes}
 use Rattle.pass_forms.specs.computed.Writing.{writing_v2}
-use Rattle.pass_forms.specs.computed.V2Reading.{reading_v2}
-use Rattle.pass_forms.proofs.WholeV2.{reads_v2}
 use Rattle.pass_forms.proofs.WrittenBytes.{v2_is_bytes}
 use Rattle.pass_forms.proofs.WrittenForm.{BytesForm, exact, fits_buffer, reads_back}
 
@@ -30,14 +28,12 @@ v2_form = record {
   bytes_of = v2_bytes;
   Spells = SpellsV2;
   form = V2;
-  reading = reading_v2;
   spells = λ pass fits len. spells_v2 pass len;
   has_form = λ pass spelling. form_v2 pass;
-  reads_exactly = reads_v2;
 }
 
 -- The law: bytes that are written of bytes are bytes.
-pub law_v2 : (pass : Plain) (text : List ℕ) → HasBytes pass → IsWritableText IsV2Text pass text → IsReadBack reading_v2 V2 (v2_bytes pass) pass text
+pub law_v2 : (pass : Plain) (text : List ℕ) → HasBytes pass → IsWritableText IsV2Text pass text → IsReadBack SpellsV2 V2 (v2_bytes pass) pass text
 law_v2 pass text are written = reads_back v2_form pass text (v2_is_bytes pass (fits_buffer v2_form pass text written) are) written
 
 pub exact_v2 : (pass : Plain) (answer : Result (List ℕ) FormFault) → length pass.signature ≡ 32 → (writing_v2 pass ≡ answer) ↔ IsWriting IsV2Text pass answer

@@ -11,8 +11,8 @@ use Rattle.pass_forms.specs.computed.Envelope.{from_base64, unwrapping}
 use Rattle.pass_forms.specs.Text.{IsTextReading}
 use Rattle.pass_forms.specs.computed.Text.{text_reading}
 use Rattle.pass_forms.specs.declared.form.Form.TheVariants.{V1, V2}
-use Rattle.pass_forms.specs.computed.V1Reading.{reading_v1}
-use Rattle.pass_forms.specs.computed.V2Reading.{reading_v2}
+use Rattle.pass_forms.specs.V1.{SpellsV1}
+use Rattle.pass_forms.specs.V2.{SpellsV2}
 use Rattle.pass_forms.specs.Writing.{v1_bytes, v2_bytes, IsV1Text, IsV2Text, IsWritableText, IsWriting, IsReadBack, HasBytes, with_caveat}
 use Rattle.pass_forms.specs.computed.Writing.{writing_v1, writing_v2}
 use Rattle.pass_forms.specs.computed.Pass.{is_signed}
@@ -71,8 +71,8 @@ ReadsTextsExactly = (wide_at : Form → List ℕ → Option WidePass) (text : Li
 -- A written text is read back as the same pass, in each form.
 abbrev pub TextsReadBack : Type 0
 TextsReadBack = (pass : Plain) (text : List ℕ) → HasBytes pass →
-    (IsWritableText IsV1Text pass text → IsReadBack reading_v1 V1 (v1_bytes pass) pass text)
-    × (IsWritableText IsV2Text pass text → IsReadBack reading_v2 V2 (v2_bytes pass) pass text)
+    (IsWritableText IsV1Text pass text → IsReadBack SpellsV1 V1 (v1_bytes pass) pass text)
+    × (IsWritableText IsV2Text pass text → IsReadBack SpellsV2 V2 (v2_bytes pass) pass text)
 
 -- For a pass with a signature of 32 bytes, the relation allows exactly one result of writing: the computed one.
 abbrev pub WritesExactly : Type 0

@@ -7,9 +7,9 @@ use Rattle.pass_mac.specs.Hmac.{hmac}
 use Rattle.pass_forms.specs.declared.fault.FormFault.{FormFault}
 use Rattle.pass_forms.specs.declared.fault.FormFault.TheVariants.{TooLong, Malformed, ThirdParty, TooMany, Memory}
 use Rattle.pass_forms.specs.declared.form.Form.{Form}
-use Rattle.pass_forms.specs.computed.Envelope.{unwrapping}
+use Rattle.pass_forms.specs.Envelope.{IsUnwrapped}
 use Rattle.pass_forms.specs.Pass.{Plain, WidePass, as_wide_pass}
-use Rattle.pass_forms.specs.Reading.{max_caveats, max_text_len}
+use Rattle.pass_forms.specs.Reading.{IsReadAs, max_caveats, max_text_len}
 use Rattle.pass_forms.specs.V1.{SpellsV1, packets_of}
 use Rattle.pass_forms.specs.V2.{SpellsV2, sections}
 
@@ -73,9 +73,9 @@ FailsAs writing ThirdParty = writing ≡ Err ThirdParty
 FailsAs writing TooMany = writing ≡ Err TooMany
 
 -- The text is read back: it wraps these bytes in this form, and they are read as the pass.
-pub record IsReadBack (reading : List ℕ → Result Plain FormFault) (form : Form) (bytes : List ℕ) (pass : Plain) (text : List ℕ) : Type 0 where
-  pub content : unwrapping text ≡ Ok (form, bytes)
-  pub read : reading bytes ≡ Ok pass
+pub record IsReadBack (Spells : List ℕ → WidePass → Type 0) (form : Form) (bytes : List ℕ) (pass : Plain) (text : List ℕ) : Type 0 where
+  pub content : IsUnwrapped text (Ok (form, bytes))
+  pub read : IsReadAs (length bytes) (Spells bytes) (Ok pass)
 
 -- The parts of a pass are bytes.
 pub record HasBytes (pass : Plain) : Type 0 where

@@ -4,8 +4,8 @@ ghost use Rattle.std.specs.Prelude.{◌≡◌, length, IfErr, IfOk, IsOk, MatchR
 ghost use Rattle.std.specs.String.{string_bytes};
 ghost use Rattle.base64.specs.GeneralPurpose.{IsBytes};
 ghost use Rattle.pass_forms.specs.declared.form.Form.TheVariants.{V1, V2};
-ghost use Rattle.pass_forms.specs.computed.V1Reading.{reading_v1};
-ghost use Rattle.pass_forms.specs.computed.V2Reading.{reading_v2};
+ghost use Rattle.pass_forms.specs.V1.{SpellsV1};
+ghost use Rattle.pass_forms.specs.V2.{SpellsV2};
 ghost use Rattle.pass_forms.specs.Writing.{
   FailsAs,
   IsReadBack,
@@ -56,7 +56,7 @@ pub fn write_v1(alloc: Global, pass: &Pass) -> Result<String, FormFault>
     ensures ok { IfOk result (λ text. IsWritableText IsV1Text pass.now (string_bytes text)) }
     ensures err { IfErr result (IsWriteFault IsV1Text pass.now) }
     ensures read_back { IfOk result
-        (λ text. IsReadBack reading_v1 V1 (v1_bytes pass.now) pass.now (string_bytes text)) }
+        (λ text. IsReadBack SpellsV1 V1 (v1_bytes pass.now) pass.now (string_bytes text)) }
     // The same, computed from the pass.
     ensures computed { MatchResult result (λ text. writing_v1 pass.now ≡ Ok (string_bytes text))
         (FailsAs (writing_v1 pass.now)) }
@@ -75,7 +75,7 @@ pub fn write_v2(alloc: Global, pass: &Pass) -> Result<String, FormFault>
     ensures ok { IfOk result (λ text. IsWritableText IsV2Text pass.now (string_bytes text)) }
     ensures err { IfErr result (IsWriteFault IsV2Text pass.now) }
     ensures read_back { IfOk result
-        (λ text. IsReadBack reading_v2 V2 (v2_bytes pass.now) pass.now (string_bytes text)) }
+        (λ text. IsReadBack SpellsV2 V2 (v2_bytes pass.now) pass.now (string_bytes text)) }
     // The same, computed from the pass.
     ensures computed { MatchResult result (λ text. writing_v2 pass.now ≡ Ok (string_bytes text))
         (FailsAs (writing_v2 pass.now)) }

@@ -5,28 +5,18 @@ use Rattle.pass_forms.specs.declared.fault.FormFault.TheVariants.{TooLong, Malfo
 use Rattle.pass_forms.specs.declared.form.Form.{Form}
 use Rattle.pass_forms.specs.declared.form.Form.TheVariants.{V1, V2, Json}
 use Rattle.pass_forms.specs.Pass.{Plain}
-use Rattle.pass_forms.specs.computed.V1Reading.{reading_v1}
-use Rattle.pass_forms.specs.computed.V2Reading.{reading_v2}
 use Rattle.pass_forms.specs.Writing.{FailsAs, HasBytes, IsReadBack, IsWritableText, IsWriting, v1_bytes, v2_bytes}
 use Rattle.pass_forms.specs.Laws.{TextsReadBack, WritesExactly}
-use Rattle.pass_json.specs.AnyForm.{IsTextIn}
-use Rattle.pass_json.specs.computed.AnyForm.{reading, wide_in, writing}
-use Rattle.pass_json.specs.computed.JsonReading.{reading_json}
+use Rattle.pass_json.specs.AnyForm.{IsAnyReading, IsTextIn, SpellsForm}
+use Rattle.pass_json.specs.computed.AnyForm.{writing}
 use Rattle.pass_json.specs.Laws.{JsonReadsBack, WritesJsonExactly}
 use Rattle.pass_json.specs.JsonWriting.{MayFailAs}
 use Rattle.pass_json.proofs.Wrapped.{reads_back}
 
-pub back_from_v1 : (bytes : List ℕ) (pass : Plain) (text : List ℕ) → IsReadBack reading_v1 V1 bytes pass text → reading text ≡ Ok (V1, pass)
-unfolding wide_in reading_v1
-back_from_v1 bytes pass text back = reads_back text V1 bytes pass back.content back.read
-
-pub back_from_v2 : (bytes : List ℕ) (pass : Plain) (text : List ℕ) → IsReadBack reading_v2 V2 bytes pass text → reading text ≡ Ok (V2, pass)
-unfolding wide_in reading_v2
-back_from_v2 bytes pass text back = reads_back text V2 bytes pass back.content back.read
-
-pub back_from_json : (bytes : List ℕ) (pass : Plain) (text : List ℕ) → IsReadBack reading_json Json bytes pass text → reading text ≡ Ok (Json, pass)
-unfolding wide_in reading_json
-back_from_json bytes pass text back = reads_back text Json bytes pass back.content back.read
+-- what is read back of a text is its reading
+pub back_from : (form : Form) (bytes : List ℕ) (pass : Plain) (text : List ℕ) → IsReadBack (SpellsForm form) form bytes pass text →
+    IsAnyReading text (Ok (form, pass))
+back_from form bytes pass text back = reads_back text form bytes pass back.content back.read
 
 -- What the writers of V1 and V2 answer, any writer may.
 pub may_fail : (writing : Result (List ℕ) FormFault) (fault : FormFault) → FailsAs writing fault → MayFailAs writing fault
@@ -45,10 +35,10 @@ one_text V2 pass one other h k = h.encoding ∙ sym k.encoding
 one_text Json pass one other h k = h.compact ∙ sym k.compact
 
 pub in_any_form : TextsReadBack → JsonReadsBack → (form : Form) (pass : Plain) (text : List ℕ) → HasBytes pass → IsWritableText (IsTextIn form) pass text →
-    reading text ≡ Ok (form, pass)
-in_any_form texts json V1 pass text are written = back_from_v1 (v1_bytes pass) pass text ((texts pass text are).0 written)
-in_any_form texts json V2 pass text are written = back_from_v2 (v2_bytes pass) pass text ((texts pass text are).1 written)
-in_any_form texts json Json pass text are written = back_from_json text pass text (json pass text written)
+    IsAnyReading text (Ok (form, pass))
+in_any_form texts json V1 pass text are written = back_from V1 (v1_bytes pass) pass text ((texts pass text are).0 written)
+in_any_form texts json V2 pass text are written = back_from V2 (v2_bytes pass) pass text ((texts pass text are).1 written)
+in_any_form texts json Json pass text are written = back_from Json text pass text (json pass text written)
 
 pub exact_in_any_form : WritesExactly → WritesJsonExactly → (form : Form) (pass : Plain) (answer : Result (List ℕ) FormFault) → HasBytes pass
     → length pass.signature ≡ 32 → (writing form pass ≡ answer) ↔ IsWriting (IsTextIn form) pass answer

@@ -5,7 +5,7 @@ use Rattle.pass_forms.specs.declared.fault.FormFault.TheVariants.{TooLong, Malfo
 use Rattle.pass_forms.specs.Pass.{Plain, WidePass, as_wide_pass}
 use Rattle.pass_forms.specs.Reading.{IsReadAs, UnlessMemory}
 
-abbrev Spelling : Type 1
+abbrev pub Spelling : Type 1
 Spelling = WidePass → Type 0
 
 pub same_answer : (One Other : Spelling) → ((wide : WidePass) → One wide → Other wide) → ((wide : WidePass) → Other wide → One wide)
@@ -16,6 +16,14 @@ same_answer One Other to from len (Err Malformed) h = (h.0, λ wide k. h.1 wide 
 same_answer One Other to from len (Err ThirdParty) h = (h.0, h.1, to h.1 h.2, h.3)
 same_answer One Other to from len (Err TooMany) h = (h.0, h.1, to h.1 h.2, h.3, h.4)
 same_answer One Other to from len (Err Memory) h = h
+
+pub holds_of : {A : Type 0} (Holds : Result A FormFault → Type 0) (answer : Result A FormFault) → Holds answer → UnlessMemory Holds answer
+holds_of Holds (Ok read) h = h
+holds_of Holds (Err TooLong) h = h
+holds_of Holds (Err Malformed) h = h
+holds_of Holds (Err ThirdParty) h = h
+holds_of Holds (Err TooMany) h = h
+holds_of Holds (Err Memory) h = tt
 
 -- What holds of the computed answer holds of the reader's.
 pub unless_memory : {A : Type 0} (Holds Other : Result A FormFault → Type 0) (answer : Result A FormFault)

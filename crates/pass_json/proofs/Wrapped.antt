@@ -1,78 +1,76 @@
 -- The reading of a text by what it wraps.
-use Rattle.std.proofs.Common.{◌≡◌, ℕ, ◌≤◌, Bool, true, false, cond, ltb, List, length, Option, Result, Ok, Err, refl, ap, ◌∙◌, subst, ◌⊎◌, inl, inr}
-use Rattle.std.specs.Result.{IsOk}
-use Rattle.std.proofs.lemmas.Bool.{le-ltb}
+use Rattle.std.proofs.Common.{◌≡◌, ◌↔◌, ℕ, ◌≤◌, List, length, Result, Ok, Err, refl, subst, ◌⊎◌, inl, inr, arith}
 use Rattle.pass_forms.specs.declared.fault.FormFault.{FormFault}
 use Rattle.pass_forms.specs.declared.fault.FormFault.TheVariants.{TooLong, Malformed, ThirdParty, TooMany, Memory}
 use Rattle.pass_forms.specs.declared.form.Form.{Form}
-use Rattle.pass_forms.specs.declared.form.Form.TheVariants.{V1, V2, Json}
-use Rattle.pass_forms.specs.Envelope.{IsUnwrapped}
-use Rattle.pass_forms.specs.computed.Envelope.{unwrapping}
-use Rattle.pass_forms.specs.Pass.{Plain, WidePass}
-use Rattle.pass_forms.specs.Reading.{UnlessMemory, max_text_len}
-use Rattle.pass_forms.specs.computed.Reading.{checked_if_any, reading_of}
-use Rattle.pass_forms.specs.computed.Text.{in_form, text_reading}
-use Rattle.pass_forms.specs.computed.V1Reading.{reading_v1}
-use Rattle.pass_forms.specs.computed.V2Reading.{reading_v2}
-use Rattle.pass_json.specs.AnyForm.{MayRunOut}
-use Rattle.pass_json.specs.computed.AnyForm.{reading, reading_in_form, wide_in}
-use Rattle.pass_json.specs.computed.JsonReading.{reading_json}
+use Rattle.pass_forms.specs.declared.form.Form.TheVariants.{Json}
+use Rattle.pass_forms.specs.Envelope.{IsUnwrapped, Wraps}
+use Rattle.pass_forms.specs.Laws.{WrapsOne}
+use Rattle.pass_forms.specs.Pass.{Plain, WidePass, as_wide_pass}
+use Rattle.pass_forms.specs.Reading.{IsReadAs, max_text_len}
+use Rattle.pass_forms.specs.Text.{SpellsText}
+use Rattle.pass_json.specs.AnyForm.{IsAnyReading, IsReadingInForm, MayRunOut, SpellsForm}
+use Rattle.pass_json.proofs.SameReading.{Spelling, same_answer}
 
 -- what the envelope refuses
-pub refused_wrapping : (text : List ℕ) (fault : FormFault) → unwrapping text ≡ Err fault → reading text ≡ Err fault
-unfolding reading text_reading
-refused_wrapping text fault e = rw e refl
+pub refused_wrapping : (text : List ℕ) (fault : FormFault) → IsUnwrapped text (Err fault) → IsAnyReading text (Err fault)
+refused_wrapping text TooLong h = h
+refused_wrapping text Malformed h = (h.0, λ wide k. h.1 k.0 k.1.0 k.1.1)
+refused_wrapping text ThirdParty h = absurd h
+refused_wrapping text TooMany h = absurd h
+refused_wrapping text Memory h = absurd h
 
-pub refused_unless_memory : (text : List ℕ) (fault : FormFault) → unwrapping text ≡ Err fault → UnlessMemory (λ a. reading text ≡ a) (Err fault)
-refused_unless_memory text TooLong e = refused_wrapping text TooLong e
-refused_unless_memory text Malformed e = refused_wrapping text Malformed e
-refused_unless_memory text ThirdParty e = refused_wrapping text ThirdParty e
-refused_unless_memory text TooMany e = refused_wrapping text TooMany e
-refused_unless_memory text Memory e = tt
+-- ---- what it wraps
 
--- Memory doesn't run out there.
+pub reads_back : (text : List ℕ) (form : Form) (bytes : List ℕ) (pass : Plain) → IsUnwrapped text (Ok (form, bytes)) →
+    IsReadAs (length bytes) (SpellsForm form bytes) (Ok pass) → IsAnyReading text (Ok (form, pass))
+reads_back text form bytes pass content read = (content.0, (bytes, content.1, read.1), read.2)
+
+-- The text spells what the bytes that it wraps spell, in their form and in no other.
+spelled : WrapsOne → (text bytes : List ℕ) (form other : Form) (wide : WidePass) → Wraps text form bytes → SpellsText SpellsForm text other wide →
+    (other ≡ form) × SpellsForm form bytes wide
+spelled one text bytes form other wide wraps h =
+    let same = one text other form h.0 bytes h.1 wraps in
+    (same.0, subst (λ (x : Form × List ℕ). SpellsForm x.0 x.1 wide) (rw (same.0, same.1) refl) h.2)
+
+abbrev SpellsAny : List ℕ → Spelling
+SpellsAny text wide = (form : Form) × SpellsText SpellsForm text form wide
+
+-- within the limit the length doesn't matter
+of_length : (len other : ℕ) (Spelled : Spelling) (answer : Result Plain FormFault) → len ≤ max_text_len → other ≤ max_text_len → IsReadAs len Spelled answer →
+    IsReadAs other Spelled answer
+of_length len other Spelled (Ok pass) short within h = (within, h.1, h.2)
+of_length len other Spelled (Err TooLong) short within h = absurd (omega arith)
+of_length len other Spelled (Err Malformed) short within h = (within, h.1)
+of_length len other Spelled (Err ThirdParty) short within h = (within, h.1, h.2, h.3)
+of_length len other Spelled (Err TooMany) short within h = (within, h.1, h.2, h.3, h.4)
+of_length len other Spelled (Err Memory) short within h = h
+
+pub reads_wrapped : WrapsOne → (text bytes : List ℕ) (form : Form) (answer : Result (Form × Plain) FormFault) → IsUnwrapped text (Ok (form, bytes)) →
+    length bytes ≤ max_text_len → IsAnyReading text answer ↔ IsReadingInForm form bytes answer
+reads_wrapped one text bytes form (Ok (other, pass)) content short = (
+  λ h.
+      let its = spelled one text bytes form other (as_wide_pass pass) content.1 h.1 in
+      (its.0, (short, its.1, h.2)),
+  λ h. rw h.0 (reads_back text form bytes pass content h.1),
+)
+reads_wrapped one text bytes form (Err fault) content short =
+    let Here : Spelling = SpellsForm form bytes in
+    let to = λ (wide : WidePass) (k : SpellsAny text wide). (spelled one text bytes form k.0 wide content.1 k.1).1 in
+    let from : (wide : WidePass) → Here wide → SpellsAny text wide = λ wide k. (form, (bytes, content.1, k)) in (
+      λ h. of_length (length text) (length bytes) Here (Err fault) content.0 short (same_answer (SpellsAny text) Here to from (length text) (Err fault) h),
+      λ h.
+          of_length (length bytes) (length text) (SpellsAny text) (Err fault) short content.0
+          (same_answer Here (SpellsAny text) from to (length bytes) (Err fault) h),
+    )
+
+-- ---- memory
+
+-- It doesn't run out there.
 pub never_out_of_memory : (text : List ℕ) (fault : FormFault) → IsUnwrapped text (Err fault) → fault ≡ Memory → MayRunOut text
 never_out_of_memory text fault is e = absurd (subst (λ (f : FormFault). IsUnwrapped text (Err f)) e is)
 
--- The reading in each form is that of the wide pass.
-reads_wide : (form : Form) (bytes : List ℕ) → reading_in_form form bytes ≡ reading_of (length bytes) (wide_in form bytes)
-unfolding reading_v1 reading_v2 reading_json wide_in
-reads_wide V1 bytes = refl
-reads_wide V2 bytes = refl
-reads_wide Json bytes = refl
-
--- what it wraps
-pub reads_wrapped : (text : List ℕ) (form : Form) (bytes : List ℕ) → unwrapping text ≡ Ok (form, bytes) → length bytes ≤ max_text_len →
-    reading text ≡ in_form form (reading_in_form form bytes)
-unfolding reading text_reading
-reads_wrapped text form bytes e short = rw (e, reads_wide form bytes, le-ltb max_text_len (length bytes) short) refl
-
-pub read_wrapping : (text : List ℕ) (form : Form) (bytes : List ℕ) (answer : Result Plain FormFault) → unwrapping text ≡ Ok (form, bytes) →
-    length bytes ≤ max_text_len
-    → UnlessMemory (λ a. reading_in_form form bytes ≡ a) answer → UnlessMemory (λ a. reading text ≡ a) (in_form form answer)
-read_wrapping text form bytes (Ok pass) e short h = reads_wrapped text form bytes e short ∙ ap (in_form form) h
-read_wrapping text form bytes (Err TooLong) e short h = reads_wrapped text form bytes e short ∙ ap (in_form form) h
-read_wrapping text form bytes (Err Malformed) e short h = reads_wrapped text form bytes e short ∙ ap (in_form form) h
-read_wrapping text form bytes (Err ThirdParty) e short h = reads_wrapped text form bytes e short ∙ ap (in_form form) h
-read_wrapping text form bytes (Err TooMany) e short h = reads_wrapped text form bytes e short ∙ ap (in_form form) h
-read_wrapping text form bytes (Err Memory) e short h = tt
-
-was_ok : (form : Form) (answer : Result Plain FormFault) → IsOk answer → IsOk (in_form form answer)
-was_ok form (Ok pass) ok = ok
-was_ok form (Err fault) ok = ok
-
-pub may_run_out : (text : List ℕ) (form : Form) (bytes : List ℕ) → unwrapping text ≡ Ok (form, bytes) → length bytes ≤ max_text_len
-    → IsOk (reading_in_form form bytes) ⊎ (form ≡ Json) → MayRunOut text
-may_run_out text form bytes e short (inl ok) = inl (rw (reads_wrapped text form bytes e short) (was_ok form (reading_in_form form bytes) ok))
-may_run_out text form bytes e short (inr is) = inr (bytes, e ∙ ap (λ (f : Form). Ok (f, bytes)) is)
-
-checked_by : (long : Bool) (found : Option WidePass) (pass : Plain) → cond long (Err TooLong) (checked_if_any found) ≡ Ok pass → checked_if_any found ≡ Ok pass
-checked_by true found pass e = absurd cc
-checked_by false found pass e = e
-
--- what is read back from the bytes that a text wraps
-pub reads_back : (text : List ℕ) (form : Form) (bytes : List ℕ) (pass : Plain) → unwrapping text ≡ Ok (form, bytes)
-    → reading_of (length bytes) (wide_in form bytes) ≡ Ok pass → reading text ≡ Ok (form, pass)
-unfolding reading text_reading
-reads_back text form bytes pass content read =
-    rw content (ap (in_form form) (checked_by (ltb max_text_len (length bytes)) (wide_in form bytes) pass read))
+pub may_run_out : (text : List ℕ) (form : Form) (bytes : List ℕ) → IsUnwrapped text (Ok (form, bytes))
+    → ((pass : Plain) × IsReadAs (length bytes) (SpellsForm form bytes) (Ok pass)) ⊎ (form ≡ Json) → MayRunOut text
+may_run_out text form bytes content (inl read) = inl ((form, read.0), reads_back text form bytes read.0 content read.1)
+may_run_out text form bytes content (inr is) = inr (bytes, subst (λ (f : Form). IsUnwrapped text (Ok (f, bytes))) is content)

@@ -1,18 +1,16 @@
 -- What the writer of JSON answers, and that its text is read back.
-use Rattle.std.proofs.Common.{◌≡◌, ◌↔◌, ℕ, ◌<◌, ◌≤◌, Bool, true, false, cond, ltb, List, length, Result, Ok, Err, refl, sym, ap, subst, ◌∙◌, arith}
+use Rattle.std.proofs.Common.{◌≡◌, ◌↔◌, ℕ, ◌<◌, Bool, true, false, cond, ltb, List, length, Result, Ok, Err, refl, sym, ap, subst, ◌∙◌, inl, arith}
 use Rattle.std.specs.Result.{IfErr, IfOk, MatchResult, OnOk}
-use Rattle.std.proofs.lemmas.Bool.{le-ltb, ltb-false, ltb-true}
+use Rattle.std.proofs.lemmas.Bool.{ltb-false, ltb-true}
 use Rattle.pass_forms.specs.declared.fault.FormFault.{FormFault}
 use Rattle.pass_forms.specs.declared.fault.FormFault.TheVariants.{TooLong, Malformed, ThirdParty, TooMany, Memory}
 use Rattle.pass_forms.specs.declared.form.Form.TheVariants.{Json}
-use Rattle.pass_forms.specs.Laws.{FromBase64IsBase64, ReadsExactly}
+use Rattle.pass_forms.specs.Laws.{FromBase64IsBase64}
 use Rattle.pass_forms.specs.Envelope.{starts_with_brace}
-use Rattle.pass_forms.specs.computed.Envelope.{unwrapping}
 use Rattle.pass_forms.specs.Pass.{Plain}
 use Rattle.pass_forms.specs.Reading.{max_caveats, max_text_len}
 use Rattle.pass_forms.specs.Writing.{HasBytes, IsReadBack, IsWritableText, IsWriting}
 use Rattle.pass_json.specs.Json.{SpellsJson}
-use Rattle.pass_json.specs.computed.JsonReading.{reading_json}
 use Rattle.pass_json.specs.JsonWriting.{IsJsonText, IsRefusedJson, MayFailAs, json_text}
 use Rattle.pass_json.specs.Laws.{WritesJsonExactly}
 use Rattle.pass_json.specs.computed.JsonWriting.{writing_json}
@@ -68,18 +66,13 @@ exact_json law pass answer are len =
 
 -- ---- reading back
 
-unwraps_json : (text : List ℕ) → length text ≤ max_text_len → starts_with_brace text ≡ true → unwrapping text ≡ Ok (Json, text)
-unfolding unwrapping
-unwraps_json text short brace =
-    let short_enough : ltb max_text_len (length text) ≡ false = le-ltb _ _ short in
-    rw (short_enough, brace) refl
-
-pub reads_back_json : ReadsExactly SpellsJson reading_json → (pass : Plain) (text : List ℕ) → IsWritableText IsJsonText pass text →
-    IsReadBack reading_json Json text pass text
-reads_back_json law pass text written = record {
-  content = unwraps_json text written.short (ap starts_with_brace written.is_text.compact ∙ starts_json pass);
-  read = (law text (Ok pass)).0 (written.short, written.is_text.spelling, written.few);
-}
+pub reads_back_json : (pass : Plain) (text : List ℕ) → IsWritableText IsJsonText pass text → IsReadBack SpellsJson Json text pass text
+reads_back_json pass text written =
+    let brace : starts_with_brace text ≡ true = ap starts_with_brace written.is_text.compact ∙ starts_json pass in
+    record {
+      content = (written.short, inl (brace, refl, refl));
+      read = (written.short, written.is_text.spelling, written.few);
+    }
 
 -- ---- a refusal
 

@@ -1,17 +1,17 @@
 -- Pass texts in any of the three forms (ours): how they are read and written.
-use Rattle.std.specs.Prelude.{◌≡◌, ◌⊎◌, ℕ, List, Result, Ok, IsOk}
+use Rattle.std.specs.Prelude.{◌≡◌, ◌⊎◌, ℕ, List, length, Result, Ok, Err}
 use Rattle.pass_forms.specs.declared.fault.FormFault.{FormFault}
 use Rattle.pass_forms.specs.declared.form.Form.{Form}
 use Rattle.pass_forms.specs.declared.form.Form.TheVariants.{V1, V2, Json}
-use Rattle.pass_forms.specs.computed.Envelope.{unwrapping}
+use Rattle.pass_forms.specs.Envelope.{IsUnwrapped}
 use Rattle.pass_forms.specs.Pass.{Plain, WidePass}
+use Rattle.pass_forms.specs.Reading.{IsReadAs}
 use Rattle.pass_forms.specs.Text.{IsTextReading}
 use Rattle.pass_forms.specs.V1.{SpellsV1}
 use Rattle.pass_forms.specs.V2.{SpellsV2}
 use Rattle.pass_json.specs.Json.{SpellsJson}
 use Rattle.pass_forms.specs.Writing.{IsWriteFault, IsV1Text, IsV2Text}
 use Rattle.pass_json.specs.JsonWriting.{IsJsonText, IsRefusedJson}
-use Rattle.pass_json.specs.computed.AnyForm.{reading}
 
 -- Bytes spell a wide pass in this form.
 abbrev pub SpellsForm : Form → List ℕ → WidePass → Type 0
@@ -23,10 +23,16 @@ SpellsForm Json bytes wide = SpellsJson bytes wide
 abbrev pub IsAnyReading : List ℕ → Result (Form × Plain) FormFault → Type 0
 IsAnyReading text answer = IsTextReading SpellsForm text answer
 
+-- The result of reading bytes in this form, with the form.
+abbrev pub IsReadingInForm : Form → List ℕ → Result (Form × Plain) FormFault → Type 0
+IsReadingInForm form bytes (Ok read) = (read.0 ≡ form) × IsReadAs (length bytes) (SpellsForm form bytes) (Ok read.1)
+IsReadingInForm form bytes (Err fault) = IsReadAs (length bytes) (SpellsForm form bytes) (Err fault)
+
 -- When reading a text may run out of memory: in V1 and V2 only for a pass that passed all checks, in JSON for any text
 -- within the limit.
 abbrev pub MayRunOut : List ℕ → Type 0
-MayRunOut text = IsOk (reading text) ⊎ ((bytes : List ℕ) × (unwrapping text ≡ Ok (Json, bytes)))
+MayRunOut text =
+    ((read : Form × Plain) × IsAnyReading text (Ok read)) ⊎ ((bytes : List ℕ) × IsUnwrapped text (Ok (Json, bytes)))
 
 -- ---- writing
 

@@ -3,21 +3,20 @@ use Rattle.std.specs.Prelude.{◌≡◌, ◌↔◌, ℕ, List, length, Ok, ◌�
 use Rattle.pass_forms.specs.declared.form.Form.TheVariants.{Json}
 use Rattle.pass_forms.specs.Pass.{Plain}
 use Rattle.pass_forms.specs.Writing.{HasBytes, IsReadBack, IsWritableText, IsWriting}
-use Rattle.pass_json.specs.computed.JsonReading.{reading_json}
+use Rattle.pass_json.specs.Json.{SpellsJson}
 use Rattle.pass_json.specs.JsonWriting.{IsJsonText}
 use Rattle.pass_json.specs.computed.JsonWriting.{writing_json}
 use Rattle.base64.specs.GeneralPurpose.{IsBytes}
 use Rattle.pass_forms.specs.declared.fault.FormFault.{FormFault}
 use Rattle.pass_forms.specs.declared.form.Form.{Form}
-use Rattle.pass_forms.specs.computed.Envelope.{unwrapping}
+use Rattle.pass_forms.specs.Envelope.{IsUnwrapped}
 use Rattle.pass_forms.specs.Reading.{max_text_len}
-use Rattle.pass_forms.specs.computed.Text.{in_form}
-use Rattle.pass_json.specs.AnyForm.{IsAnyReading, IsTextIn}
-use Rattle.pass_json.specs.computed.AnyForm.{reading, reading_in_form, writing}
+use Rattle.pass_json.specs.AnyForm.{IsAnyReading, IsReadingInForm, IsTextIn}
+use Rattle.pass_json.specs.computed.AnyForm.{reading, writing}
 
 -- A written text is read back as the same pass.
 abbrev pub JsonReadsBack : Type 0
-JsonReadsBack = (pass : Plain) (text : List ℕ) → IsWritableText IsJsonText pass text → IsReadBack reading_json Json text pass text
+JsonReadsBack = (pass : Plain) (text : List ℕ) → IsWritableText IsJsonText pass text → IsReadBack SpellsJson Json text pass text
 
 -- For a pass of bytes with a signature of 32 bytes, the relation allows exactly one result of writing: the computed one.
 abbrev pub WritesJsonExactly : Type 0
@@ -26,12 +25,13 @@ WritesJsonExactly = (pass : Plain) (answer : Result (List ℕ) FormFault) → Ha
 
 -- The reading of a text is the reading of the bytes that it wraps, in their form, if they are within the limit of texts.
 abbrev pub ReadsWhatIsWrapped : Type 0
-ReadsWhatIsWrapped = (text : List ℕ) (form : Form) (bytes : List ℕ) → unwrapping text ≡ Ok (form, bytes)
-    → length bytes ≤ max_text_len → reading text ≡ in_form form (reading_in_form form bytes)
+ReadsWhatIsWrapped = (text bytes : List ℕ) (form : Form) (answer : Result (Form × Plain) FormFault)
+    → IsUnwrapped text (Ok (form, bytes)) → length bytes ≤ max_text_len
+    → IsAnyReading text answer ↔ IsReadingInForm form bytes answer
 
 -- A text that wraps nothing is refused with the same fault.
 abbrev pub RefusesWhatWrapsNothing : Type 0
-RefusesWhatWrapsNothing = (text : List ℕ) (fault : FormFault) → unwrapping text ≡ Err fault → reading text ≡ Err fault
+RefusesWhatWrapsNothing = (text : List ℕ) (fault : FormFault) → IsUnwrapped text (Err fault) → IsAnyReading text (Err fault)
 
 -- The relation allows exactly one result for a text, in every case and form: the computed reading.
 abbrev pub ReadsAnyFormExactly : Type 0
@@ -45,7 +45,7 @@ OneTextEachForm = (form : Form) (pass : Plain) (one other : List ℕ) → IsText
 -- A written text is read back as the same form and the same pass.
 abbrev pub AnyFormReadsBack : Type 0
 AnyFormReadsBack = (form : Form) (pass : Plain) (text : List ℕ) → HasBytes pass →
-    IsWritableText (IsTextIn form) pass text → reading text ≡ Ok (form, pass)
+    IsWritableText (IsTextIn form) pass text → IsAnyReading text (Ok (form, pass))
 
 -- For a pass of bytes with a signature of 32 bytes, the relation allows exactly one result of writing, in every case and form: the
 -- computed one.

@@ -1,16 +1,23 @@
 //! Texts in any of the three forms.
 
-ghost use Rattle.std.specs.Prelude.{◌≡◌, ◌⊎◌, Err, IfErr, IfOk, IsOk, MatchResult, Ok};
+ghost use Rattle.std.specs.Prelude.{◌≡◌, ◌⊎◌, Err, IfErr, IfOk, MatchResult, Ok, length};
 ghost use Rattle.std.specs.String.{string_bytes};
 ghost use Rattle.pass_forms.specs.declared.fault.FormFault.TheVariants.{Memory};
 ghost use Rattle.pass_forms.specs.declared.form.Form.TheVariants.{Json};
+ghost use Rattle.pass_forms.specs.Pass.{Plain};
 ghost use Rattle.pass_forms.specs.Writing.{IsWritableText};
-ghost use Rattle.pass_forms.specs.Reading.{UnlessMemory};
-ghost use Rattle.pass_json.specs.AnyForm.{IsAnyReading, IsRefusedIn, IsTextIn, MayRunOut};
-ghost use Rattle.pass_json.specs.computed.AnyForm.{reading, reading_in_form, writing};
+ghost use Rattle.pass_forms.specs.Reading.{IsReadAs, UnlessMemory};
+ghost use Rattle.pass_json.specs.AnyForm.{
+  IsAnyReading,
+  IsRefusedIn,
+  IsTextIn,
+  MayRunOut,
+  SpellsForm,
+};
+ghost use Rattle.pass_json.specs.computed.AnyForm.{reading, writing};
 ghost use Rattle.pass_json.specs.JsonWriting.{MayFailAs};
 
-use crate::laws::reads_any_form_exactly;
+use crate::laws::{reads_any_form_exactly, reads_what_is_wrapped, refuses_what_wraps_nothing};
 use crate::{read_json, write_json};
 use pass_forms::{
     Form, FormFault, MAX_BYTES, Pass, read_v1, read_v2, unwrap_text, write_v1, write_v2,
@@ -37,12 +44,13 @@ pub fn read_any(alloc: Global, text: &[u8]) -> Result<(Form, Pass), FormFault>
     unwrapping(alloc, text)
 }
 
-// The same, computed from the unwrapped text.
-#[tactic(auto, unfolding(crate::specs::computed::AnyForm::reading))]
+// The same, by what the text wraps.
 fn unwrapping(alloc: Global, text: &[u8]) -> Result<(Form, Pass), FormFault>
-    ensures answer { UnlessMemory (λ answer. reading text.now ≡ answer) result }
+    ensures spelling { UnlessMemory (IsAnyReading text.now) result }
     ensures memory { result ≡ Err Memory → MayRunOut text.now }
 {
+    reads_what_is_wrapped();
+    refuses_what_wraps_nothing();
     let mut buffer = [0; MAX_BYTES];
     let unwrapping = unwrap_text(text, &mut buffer)?;
     let pass = in_form(alloc, unwrapping.form, unwrapping.bytes(text, &buffer))?;
@@ -51,8 +59,11 @@ fn unwrapping(alloc: Global, text: &[u8]) -> Result<(Form, Pass), FormFault>
 
 // The pass that the bytes spell in this form.
 fn in_form(alloc: Global, form: Form, bytes: &[u8]) -> Result<Pass, FormFault>
-    ensures answer { UnlessMemory (λ answer. reading_in_form form bytes.now ≡ answer) result }
-    ensures memory { result ≡ Err Memory → IsOk (reading_in_form form bytes.now) ⊎ (form ≡ Json) }
+    ensures spelling { UnlessMemory (IsReadAs (length bytes.now) (SpellsForm form bytes.now))
+        result }
+    ensures memory { result ≡ Err Memory
+        → ((pass : Plain) × IsReadAs (length bytes.now) (SpellsForm form bytes.now) (Ok pass))
+        ⊎ (form ≡ Json) }
 {
     match form {
         Form::V1 => read_v1(alloc, bytes),
@@ -70,7 +81,8 @@ fn in_form(alloc: Global, form: Form, bytes: &[u8]) -> Result<Pass, FormFault>
 pub fn write_any(alloc: Global, form: Form, pass: &Pass) -> Result<String, FormFault>
     ensures ok { IfOk result (λ text. IsWritableText (IsTextIn form) pass.now (string_bytes text)) }
     ensures err { IfErr result (IsRefusedIn form pass.now) }
-    ensures read_back { IfOk result (λ text. reading (string_bytes text) ≡ Ok (form, pass.now)) }
+    ensures read_back { IfOk result
+        (λ text. IsAnyReading (string_bytes text) (Ok (form, pass.now))) }
     // The same, computed from the pass.
     ensures computed { MatchResult result (λ text. writing form pass.now ≡ Ok (string_bytes text))
         (MayFailAs (writing form pass.now)) }

@@ -17,7 +17,7 @@ ghost use Rattle.pass_json.specs.computed.JsonReading.{reading_json, wide_json};
 
 use pass_forms::laws::{
     answers_exactly, computes_v1, computes_v2, from_base64_is_base64, reads_texts_exactly,
-    texts_read_back, writes_exactly,
+    texts_read_back, wraps_one, writes_exactly,
 };
 
 /// Bytes spell at most one pass in JSON.
@@ -55,7 +55,9 @@ pub fn reads_any_form_exactly()
 /// The reading of a text is the reading of the bytes that it wraps, in their form.
 pub fn reads_what_is_wrapped()
     ensures { ReadsWhatIsWrapped }
-{}
+{
+    wraps_one();
+}
 
 /// A text that wraps nothing has the fault of its envelope.
 pub fn refuses_what_wraps_nothing()
@@ -65,9 +67,7 @@ pub fn refuses_what_wraps_nothing()
 /// A text that is written in JSON is read back as the same pass.
 pub fn json_reads_back()
     ensures { JsonReadsBack }
-{
-    reads_json_exactly();
-}
+{}
 
 /// The relation allows exactly one result of writing a pass in JSON: the computed one, a text or a
 /// fault.

@@ -9,7 +9,7 @@ ghost use Rattle.serde_json.specs.View.{members_view, view};
 ghost use Rattle.pass_json.specs.JsonWriting as spec;
 ghost use Rattle.pass_forms.specs.declared.form.Form.TheVariants.{Json};
 ghost use Rattle.pass_forms.specs.Writing.{HasBytes, IsReadBack, IsWritableText};
-ghost use Rattle.pass_json.specs.computed.JsonReading.{reading_json};
+ghost use Rattle.pass_json.specs.Json.{SpellsJson};
 ghost use Rattle.pass_json.specs.JsonWriting.{
   MayFailAs,
   IsJsonText,
@@ -37,7 +37,7 @@ pub fn write_json(alloc: Global, pass: &Pass) -> Result<String, FormFault>
     ensures ok { IfOk result (λ text. IsWritableText IsJsonText pass.now (string_bytes text)) }
     ensures err { IfErr result (IsRefusedJson pass.now) }
     ensures read_back { IfOk result
-        (λ text. IsReadBack reading_json Json (string_bytes text) pass.now (string_bytes text)) }
+        (λ text. IsReadBack SpellsJson Json (string_bytes text) pass.now (string_bytes text)) }
     // The same, computed from the pass.
     ensures computed { MatchResult result (λ text. writing_json pass.now ≡ Ok (string_bytes text))
         (MayFailAs (writing_json pass.now)) }

@@ -4,8 +4,8 @@ use Rattle.pass_json.specs.computed.AnyForm.{reading}
 use Rattle.pass_json.proofs.SameReading.{unless_memory}
 use Rattle.pass_json.proofs.any.read_any.Goals as goal
 
-pub returns-clause-spelling : goal.returns-clause-spelling
-returns-clause-spelling c =
+pub returns-clause-computed : goal.returns-clause-computed
+returns-clause-computed c =
     let text = c.args.text.now in
-    unless_memory (λ answer. reading text ≡ answer) (IsAnyReading text) c.unwrapping.result
-    (λ answer e. (c.reads_any_form_exactly.ensures text answer (λ i. omega (arith, c.type_inv.text i))).1 e) c.unwrapping.ensures.answer
+    unless_memory (IsAnyReading text) (λ answer. reading text ≡ answer) c.unwrapping.result
+    (λ answer is. (c.reads_any_form_exactly.ensures text answer (λ i. omega (arith, c.type_inv.text i))).0 is) c.unwrapping.ensures.spelling

@@ -1,15 +1,19 @@
-use Rattle.std.proofs.Common.{rules, ◌≡◌, ◌≤◌, length, Ok, Err, sym, ap}
+use Rattle.std.proofs.Common.{◌≡◌, rules, ◌≤◌, length, Ok, Err, ap}
 use Rattle.std.proofs.lemmas.Result.{err_from_is_err_and}
 use Rattle.pass_forms.specs.declared.fault.FormFault.{FormFault}
 use Rattle.pass_forms.specs.declared.fault.FormFault.TheVariants.{Memory}
-use Rattle.pass_forms.specs.computed.Envelope.{unwrapping}
+use Rattle.pass_forms.specs.Envelope.{IsUnwrapped}
 use Rattle.pass_forms.specs.Reading.{max_text_len}
-use Rattle.pass_json.proofs.Wrapped.{may_run_out, never_out_of_memory, read_wrapping, refused_unless_memory}
+use Rattle.pass_json.specs.AnyForm.{IsAnyReading, IsReadingInForm}
+use Rattle.pass_json.proofs.SameReading.{holds_of, unless_memory}
+use Rattle.pass_json.proofs.Wrapped.{may_run_out, never_out_of_memory, reads_back}
 use Rattle.pass_json.proofs.any.unwrapping.Goals as goal
 
-pub returns-in_err-unwrapping-clause-answer : goal.returns-in_err-unwrapping-clause-answer
-returns-in_err-unwrapping-clause-answer c =
-    let h = refused_unless_memory c.args.text.now c.in_err-unwrapping.field-0.0 (sym c.in_err-unwrapping.ensures.value) in
+pub returns-in_err-unwrapping-clause-spelling : goal.returns-in_err-unwrapping-clause-spelling
+returns-in_err-unwrapping-clause-spelling c =
+    let text = c.args.text.now in
+    let fault = c.in_err-unwrapping.field-0.0 in
+    let h = holds_of (IsAnyReading text) (Err fault) (c.refuses_what_wraps_nothing.ensures text fault c.in_err-unwrapping.ensures.reading) in
     search rules
 
 pub returns-in_err-unwrapping-clause-memory : goal.returns-in_err-unwrapping-clause-memory
@@ -19,29 +23,30 @@ returns-in_err-unwrapping-clause-memory c =
     let is : c.in_err-unwrapping.field-0.0 ≡ Memory = cc (p.1, p.2) in
     never_out_of_memory c.args.text.now c.in_err-unwrapping.field-0.0 c.in_err-unwrapping.ensures.reading is
 
-pub returns-in_err-pass-clause-answer : goal.returns-in_err-pass-clause-answer
-returns-in_err-pass-clause-answer c =
-    let content = c.in_ok-unwrapping.ensures in
-    let is : unwrapping c.args.text.now ≡ Ok (c.in_ok-unwrapping.unwrapping.form, c.bytes.result.now) = rw c.bytes.ensures (sym content.value) in
-    let short : length c.bytes.result.now ≤ max_text_len = rw c.bytes.ensures content.short in
+pub returns-in_err-pass-clause-spelling : goal.returns-in_err-pass-clause-spelling
+returns-in_err-pass-clause-spelling c =
+    let text = c.args.text.now in
+    let form = c.in_ok-unwrapping.unwrapping.form in
+    let bytes = c.bytes.result.now in
+    let content : IsUnwrapped text (Ok (form, bytes)) = rw c.bytes.ensures c.in_ok-unwrapping.ensures.reading in
+    let short : length bytes ≤ max_text_len = rw c.bytes.ensures c.in_ok-unwrapping.ensures.short in
     let h =
-    read_wrapping c.args.text.now c.in_ok-unwrapping.unwrapping.form c.bytes.result.now (Err c.in_err-pass.field-0.0) is short c.in_err-pass.ensures.answer in
+    unless_memory (IsReadingInForm form bytes) (IsAnyReading text) (Err c.in_err-pass.field-0.0)
+    (λ answer read. (c.reads_what_is_wrapped.ensures text bytes form answer content short).1 read) c.in_err-pass.ensures.spelling in
     search rules
 
 pub returns-in_err-pass-clause-memory : goal.returns-in_err-pass-clause-memory
 returns-in_err-pass-clause-memory c =
-    let content = c.in_ok-unwrapping.ensures in
-    let is : unwrapping c.args.text.now ≡ Ok (c.in_ok-unwrapping.unwrapping.form, c.bytes.result.now) = rw c.bytes.ensures (sym content.value) in
-    let short : length c.bytes.result.now ≤ max_text_len = rw c.bytes.ensures content.short in
+    let content : IsUnwrapped c.args.text.now (Ok (c.in_ok-unwrapping.unwrapping.form, c.bytes.result.now)) =
+    rw c.bytes.ensures c.in_ok-unwrapping.ensures.reading in
     let p = err_from_is_err_and c.from_residual-in_err-pass.result c.from_residual-in_err-pass.ensures.1 in
     λ e.
     let fault : c.in_err-pass.field-0.0 ≡ Memory = cc (p.1, p.2) in
-    may_run_out c.args.text.now c.in_ok-unwrapping.unwrapping.form c.bytes.result.now is short
+    may_run_out c.args.text.now c.in_ok-unwrapping.unwrapping.form c.bytes.result.now content
     (c.in_err-pass.ensures.memory (ap (λ (f : FormFault). Err f) fault))
 
-pub returns-clause-answer : goal.returns-clause-answer
-returns-clause-answer c =
-    let content = c.in_ok-unwrapping.ensures in
-    let is : unwrapping c.args.text.now ≡ Ok (c.in_ok-unwrapping.unwrapping.form, c.bytes.result.now) = rw c.bytes.ensures (sym content.value) in
-    let short : length c.bytes.result.now ≤ max_text_len = rw c.bytes.ensures content.short in
-    read_wrapping c.args.text.now c.in_ok-unwrapping.unwrapping.form c.bytes.result.now (Ok c.in_ok-pass.pass) is short c.in_ok-pass.ensures.answer
+pub returns-clause-spelling : goal.returns-clause-spelling
+returns-clause-spelling c =
+    let content : IsUnwrapped c.args.text.now (Ok (c.in_ok-unwrapping.unwrapping.form, c.bytes.result.now)) =
+    rw c.bytes.ensures c.in_ok-unwrapping.ensures.reading in
+    reads_back c.args.text.now c.in_ok-unwrapping.unwrapping.form c.bytes.result.now c.in_ok-pass.pass content c.in_ok-pass.ensures.spelling

@@ -2,4 +2,4 @@ use Rattle.pass_json.proofs.WritingJson.{reads_back_json}
 use Rattle.pass_json.proofs.laws.json_reads_back.Goals as goal
 
 pub returns : goal.returns
-returns c = reads_back_json c.reads_json_exactly.ensures
+returns c = reads_back_json
