@@ -1,11 +1,10 @@
 -- Laws of the definitions.
-use Rattle.std.specs.Prelude.{◌≡◌, ◌≢◌, ◌↔◌, ℕ, List, All, Result, Ok, Err, Some}
+use Rattle.std.specs.Prelude.{◌≡◌, ◌↔◌, ℕ, List, All, Result, Ok, Err, Some}
 use Rattle.base64.specs.GeneralPurpose.{IsBytes}
 use Rattle.pass_forms.specs.declared.fault.FormFault.TheVariants.{Memory}
 use Rattle.pass_forms.specs.declared.form.Form.{Form}
 use Rattle.pass_forms.specs.Pass.{Plain}
 use Rattle.pass_json.specs.AnyForm.{IsAnyReading}
-use Rattle.pass_json.specs.computed.AnyForm.{reading}
 use Rattle.club_values.specs.Name.{IsName}
 use Rattle.club_rows.specs.declared.key.Key.{Key}
 use Rattle.club_core.specs.declared.pass_fault.PassFault.{PassFault}
@@ -41,4 +40,4 @@ NamesItsRows =
 
 -- no text reads as `Memory`
 abbrev pub ReadsNoLackOfMemory : Type 0
-ReadsNoLackOfMemory = (text : List ℕ) → IsBytes text → reading text ≢ Err Memory
+ReadsNoLackOfMemory = (text : List ℕ) → ¬ IsAnyReading text (Err Memory)

@@ -25,9 +25,7 @@ pub fn finds_names()
 /// The reading of a text, as it is defined, is never the fault `Memory`.
 pub fn reads_no_lack_of_memory()
     ensures { ReadsNoLackOfMemory }
-{
-    reads_any_form_exactly();
-}
+{}
 
 /// What `Desk::show_slot` shows is the club's reply to each of its keys that asks for the slot.
 pub fn shows_slots_to_keys()
