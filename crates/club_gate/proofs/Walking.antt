@@ -1,20 +1,32 @@
 -- The result of a scan of the caveats among the fields of a pass.
 use Rattle.std.proofs.Common.{Bor, ◌≡◌, ℕ, ◌+◌, ◌-◌, ◌^◌, ◌≤◌, ◌<◌, min, List, [], ◌∷◌, ◌++◌, length, map, Option, Some, None}
-use Rattle.std.proofs.Common.{Bool, true, false, cond, is_some, refl, sym, ap, ◌∙◌, arith}
+use Rattle.std.proofs.Common.{Bool, true, false, cond, ◌↔◌, is_some, refl, sym, ap, ◌∙◌, arith}
 use Rattle.std.specs.Option.{option_or}
 use Rattle.pass_caveats.specs.declared.ask.Ask.{Ask}
 use Rattle.pass_caveats.specs.declared.caveat.Caveat.{Caveat}
 use Rattle.pass_caveats.specs.declared.fault.CaveatFault.{CaveatFault}
 use Rattle.pass_caveats.specs.declared.fault.CaveatFault.TheVariants.{Denied}
 use Rattle.pass_caveats.specs.computed.CaveatOf.{caveat_of}
+use Rattle.pass_caveats.specs.Caveat.{Understood}
 use Rattle.pass_caveats.specs.Tests.{permits}
-use Rattle.pass_caveats.specs.Fault.{first_fault_from}
+use Rattle.pass_caveats.specs.Fault.{IsFaultAt, first_fault_from}
+use Rattle.pass_caveats.specs.Laws.{FindsTheFaultAt, ReadsWhatIsUnderstood}
 use Rattle.pass_forms.specs.declared.field_source.Field.{Field}
 use Rattle.pass_forms.specs.declared.field_source.Field.TheVariants as fields
 use Rattle.pass_forms.specs.FieldSource.{PassField, caveat_field, signature_field, location_field, identifier_field, pass_fields, as_field}
 use Rattle.pass_forms.specs.Pass.{Plain}
+use Rattle.club_values.specs.Reading.{Reads}
 
 -- ---- the caveats
+
+parsed : ReadsWhatIsUnderstood → (text : List ℕ) (found : Option Caveat) → caveat_of text ≡ found → Reads (Understood text) found
+parsed reads text None e = λ caveat h. let x = (reads text caveat).0 h in absurd (cc)
+parsed reads text (Some caveat) e = (reads text caveat).1 e
+
+-- the fault of a text is that of the caveat that is parsed from it
+pub fault_is : FindsTheFaultAt → ReadsWhatIsUnderstood → (text : List ℕ) (n : ℕ) (ask : Ask) (fault : Option CaveatFault)
+    → IsFaultAt text n ask fault ↔ (fault ≡ first_fault_from n (caveat_of text ∷ []) ask)
+fault_is finds reads text n ask fault = finds text (caveat_of text) n ask fault (parsed reads text (caveat_of text) refl)
 
 -- the first fault of the caveats among these fields, of which the first has this number
 abbrev pub fault_in : Ask → ℕ → List PassField → Option CaveatFault

@@ -7,6 +7,7 @@ ghost use Rattle.pass_caveats.specs.Spending.{IsWithin, after_spending};
 ghost use Rattle.club_gate.specs.Reading.{IsBlindPass};
 ghost use Rattle.club_gate.specs.Verify.{OfItsPass};
 
+use pass_caveats::laws::{finds_the_fault_at, reads_what_is_understood};
 use pass_caveats::{Ask, CaveatFault, Unspent, fault_at, looks_at_kind, unspent_at};
 use pass_forms::{Field, FieldSource};
 
@@ -48,6 +49,8 @@ fn first_unspent<'a, F: FieldSource<'a>>(source: &mut F, ask: &Ask) -> Unspent
         → first_fault_of (map caveat_of pass.caveats) (after_spending spent ask.now)
         ≡ result.fault) }
 {
+    finds_the_fault_at();
+    reads_what_is_understood();
     let mut slack: Option<u64> = None;
     let mut number: usize = 1;
     while let Some(field) = source.next() {
@@ -91,6 +94,8 @@ pub(crate) fn unspent_fault<'a, F: FieldSource<'a> + Drop>(source: &F, ask: &Ask
 fn finds_kind<'a, F: FieldSource<'a>>(source: &mut F) -> bool
     ensures { OfItsPass (F.left source.old) (λ pass. result ≡ false → IsBlindPass pass) }
 {
+    finds_the_fault_at();
+    reads_what_is_understood();
     while let Some(field) = source.next() {
         if let Field::Caveat(caveat) = field {
             if looks_at_kind(caveat) {

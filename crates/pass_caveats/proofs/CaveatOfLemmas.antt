@@ -13,7 +13,7 @@ use Rattle.pass_caveats.specs.Caveat.{Understood}
 use Rattle.pass_caveats.specs.Tests.{permits}
 use Rattle.pass_caveats.specs.computed.CaveatOf.{candidate, spells, caveat_of}
 use Rattle.pass_caveats.specs.Fault.{first_fault_from, first_fault_of}
-use Rattle.pass_caveats.specs.Fault.{Allows, Allowed, IsUnknown, Denies, IsFaultAt, IsFirstFault}
+use Rattle.pass_caveats.specs.Fault.{Allows, Allowed, AreUnderstoodAs, IsUnknown, Denies, IsFaultAt, IsFirstFault}
 use Rattle.pass_caveats.proofs.CandidateLemmas.{candidate-caveat_text}
 use Rattle.pass_caveats.proofs.DecisionLemmas.{Decides-spells, Decides-permits}
 
@@ -82,6 +82,15 @@ first_fault-is texts ask (Some (Denied n)) h =
     let denied = not_true (permits h.fault.0 ask) (λ e. h.fault.2 ((Decides-permits h.fault.0 ask).0 e)) in
     sym (rw h.place (passed 1 h.front (h.text ∷ h.rest) ask h.before ∙ rw (caveat_of-understood h.text h.fault.0 h.fault.1, denied, number) refl))
 
+-- the caveats as which texts are understood are those that the function returns
+pub all_caveats_of : (texts : List (List ℕ)) (caveats : List (Option Caveat)) → AreUnderstoodAs texts caveats → caveats ≡ map caveat_of texts
+all_caveats_of [] [] h = refl
+all_caveats_of [] (caveat ∷ caveats) h = absurd h
+all_caveats_of (text ∷ texts) [] h = absurd h
+all_caveats_of (text ∷ texts) (caveat ∷ caveats) h =
+    ap (λ (one : Option Caveat). one ∷ caveats) (reads_caveat_of text caveat h.0)
+    ∙ ap (λ (others : List (Option Caveat)). caveat_of text ∷ others) (all_caveats_of texts caveats h.1)
+
 verdict_on : (text : List ℕ) (ask : Ask) (caveat : Caveat) (b : Bool) → Understood text caveat → permits caveat ask ≡ b →
     Allows text ask ⊎ (IsUnknown text ⊎ Denies text ask)
 verdict_on text ask caveat true h e = inl (caveat, h, (Decides-permits caveat ask).0 e)
@@ -141,6 +150,22 @@ fault_at-is text n ask (Some (NotUnderstood m)) h = rw (caveat_of-unknown text h
 fault_at-is text n ask (Some (Denied m)) h =
     let denied = not_true (permits h.1.0 ask) (λ e. h.1.2 ((Decides-permits h.1.0 ask).0 e)) in
     rw (caveat_of-understood text h.1.0 h.1.1, denied, h.0) refl
+
+fault_there : (text : List ℕ) (n : ℕ) (ask : Ask) → (r : Option CaveatFault) × IsFaultAt text n ask r
+fault_there text n ask =
+    elim (verdict text ask) [
+      | inl allows ↦ (None, allows)
+      | inr (inl unknown) ↦ (Some (NotUnderstood n), (refl, unknown))
+      | inr (inr denies) ↦ (Some (Denied n), (refl, denies))
+    ]
+
+-- and the function returns it
+pub finds_fault_at : (text : List ℕ) (n : ℕ) (ask : Ask) (fault : Option CaveatFault)
+    → IsFaultAt text n ask fault ↔ (fault ≡ first_fault_from n (caveat_of text ∷ []) ask)
+finds_fault_at text n ask fault =
+    let there = fault_there text n ask in
+    let P : Option CaveatFault → Type 0 = λ r. IsFaultAt text n ask r in
+    (fault_at-is text n ask fault, λ e. subst P (fault_at-is text n ask there.0 there.1 ∙ sym e) there.1)
 
 pub none_where_allowed : (texts : List (List ℕ)) (ask : Ask) (fault : Option CaveatFault) → IsFirstFault texts ask fault → (fault ≡ None) ↔ Allowed texts ask
 none_where_allowed texts ask fault h =

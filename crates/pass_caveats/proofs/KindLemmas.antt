@@ -1,5 +1,5 @@
 -- A caveat that isn't on the kind has the same fault for each kind.
-use Rattle.std.proofs.Common.{◌≡◌, ℕ, Bool, false, cond, List, [], ◌∷◌, Option, Some, None, refl, ap}
+use Rattle.std.proofs.Common.{◌≡◌, ℕ, Bool, false, cond, List, [], ◌∷◌, Option, Some, None, refl, sym, ap, ◌∙◌}
 use Rattle.club_values.specs.declared.kind.Kind.{Kind as AKind}
 use Rattle.pass_caveats.specs.declared.ask.Ask.{Ask}
 use Rattle.pass_caveats.specs.declared.caveat.Caveat.{Caveat}
@@ -10,6 +10,7 @@ use Rattle.pass_caveats.specs.Kinds.{IsBlindToKind, at_kind, is_on_kind}
 use Rattle.pass_caveats.specs.computed.CaveatOf.{caveat_of}
 use Rattle.pass_caveats.specs.Tests.{permits}
 use Rattle.pass_caveats.specs.Fault.{first_fault_from}
+use Rattle.pass_caveats.proofs.CaveatOfLemmas.{finds_fault_at}
 
 permits_alike : (caveat : Caveat) (ask : Ask) (kind : Option AKind) → is_on_kind (Some caveat) ≡ false
     → permits caveat (at_kind kind ask) ≡ permits caveat ask
@@ -24,4 +25,8 @@ fault_alike number (Some caveat) ask kind h =
     ap (λ (b : Bool). let fault : Option CaveatFault = cond b None (Some (Denied number)) in fault) (permits_alike caveat ask kind h)
 
 pub blind_to_kind : (text : List ℕ) → is_on_kind (caveat_of text) ≡ false → IsBlindToKind text
-blind_to_kind text h number ask kind = fault_alike number (caveat_of text) ask kind h
+blind_to_kind text h number ask kind fault =
+    let there = finds_fault_at text number (at_kind kind ask) fault in
+    let here = finds_fault_at text number ask fault in
+    let alike = fault_alike number (caveat_of text) ask kind h in
+    (λ f. here.1 (there.0 f ∙ alike), λ f. there.1 (here.0 f ∙ sym alike))

@@ -1,18 +1,20 @@
 -- What was spent before changes the first fault of a list only under a spend limit, and only where something is owed.
-use Rattle.std.proofs.Common.{◌≡◌, ◌⊎◌, inl, inr, ℕ, zero, suc, ◌+◌, ◌-◌, ◌≤◌, ◌==◌, ◌||◌, min, Bool, true, false, cond, nat_le, List, [], ◌∷◌, map}
-use Rattle.std.proofs.Common.{Option, Some, None, refl, sym, ap, ◌∙◌, arith}
+use Rattle.std.proofs.Common.{◌≡◌, ◌⊎◌, inl, inr, ℕ, zero, suc, ◌+◌, ◌-◌, ◌≤◌, ◌==◌, ◌||◌, Bool, true, false, cond, nat_le, List, [], ◌∷◌}
+use Rattle.std.proofs.Common.{Option, Some, None, refl, sym, subst, ◌∙◌, arith}
+use Rattle.std.specs.Prelude.{All, IfSome}
+use Rattle.std.proofs.lemmas.List.Elements.{All-head, All-tail}
 use Rattle.std.proofs.lemmas.Bool.Decides.{nat_tests}
 use Rattle.pass_caveats.specs.declared.ask.Ask.{Ask}
 use Rattle.pass_caveats.specs.declared.caveat.Caveat.{Caveat}
 use Rattle.pass_caveats.specs.declared.caveat.Caveat.TheVariants.{Spend}
-use Rattle.pass_caveats.specs.declared.fault.CaveatFault.TheVariants.{Denied, NotUnderstood}
-use Rattle.pass_caveats.specs.Caveat.{IsCaveat}
+use Rattle.pass_caveats.specs.declared.fault.CaveatFault.TheVariants.{Denied}
+use Rattle.pass_caveats.specs.Caveat.{IsCaveat, Permits, Understood}
 use Rattle.pass_caveats.specs.Tests.{permits}
-use Rattle.pass_caveats.specs.computed.CaveatOf.{caveat_of}
 use Rattle.pass_caveats.specs.Fault.{first_fault_from}
 use Rattle.club_values.specs.Number.{number_limit}
-use Rattle.pass_caveats.specs.Spending.{HoldsWithin, IsWithin, after_spending, slack_under}
-use Rattle.pass_caveats.proofs.CaveatOfLemmas.{understood-caveat_of}
+use Rattle.pass_caveats.specs.Spending.{HoldsWithin, IsWithin, LimitsNoMore, after_spending, slack_under}
+use Rattle.pass_caveats.proofs.CandidateLemmas.{one_caveat}
+use Rattle.pass_caveats.proofs.DecisionLemmas.{Decides-permits}
 
 -- a spend limit that allows more allows less
 within_less : (owed less more n : ℕ) → less ≤ more → (owed == 0 || nat_le (more + owed) n) ≡ true → (owed == 0 || nat_le (less + owed) n) ≡ true
@@ -88,34 +90,28 @@ permits_beyond (Spend n) ask spent most real far more = within_beyond ask.owed s
 permits_beyond caveat ask spent most real far more = refl
 
 -- after spending at least that much the first fault is always the same
-beyond : (n : ℕ) (texts : List (List ℕ)) (ask : Ask) (spent most : ℕ) → number_limit ≤ most → most ≤ spent
-    → first_fault_from n (map caveat_of texts) (after_spending spent ask) ≡ first_fault_from n (map caveat_of texts) (after_spending most ask)
-beyond n [] ask spent most far more = refl
-beyond n (text ∷ texts) ask spent most far more = go (caveat_of text) refl (beyond (n + 1) texts ask spent most far more)
-  where
-    go : (caveat : Option Caveat) → caveat_of text ≡ caveat
-        → first_fault_from (n + 1) (map caveat_of texts) (after_spending spent ask)
-        ≡ first_fault_from (n + 1) (map caveat_of texts) (after_spending most ask)
-        → first_fault_from n (caveat ∷ map caveat_of texts) (after_spending spent ask)
-        ≡ first_fault_from n (caveat ∷ map caveat_of texts) (after_spending most ask)
-    go None e rest = refl
-    go (Some caveat) e rest = rw (permits_beyond caveat ask spent most (understood-caveat_of text caveat e).line.real far more, rest) refl
+beyond : (n : ℕ) (caveats : List (Option Caveat)) (ask : Ask) (spent most : ℕ) → All (λ (caveat : Option Caveat). IfSome caveat IsCaveat) caveats
+    → number_limit ≤ most → most ≤ spent → first_fault_from n caveats (after_spending spent ask) ≡ first_fault_from n caveats (after_spending most ask)
+beyond n [] ask spent most real far more = refl
+beyond n (None ∷ caveats) ask spent most real far more = refl
+beyond n (Some caveat ∷ caveats) ask spent most real far more =
+    let first = All-head (λ (one : Option Caveat). IfSome one IsCaveat) (Some caveat) caveats real in
+    let others = All-tail (λ (one : Option Caveat). IfSome one IsCaveat) (Some caveat) caveats real in
+    rw (permits_beyond caveat ask spent most first far more, beyond (n + 1) caveats ask spent most others far more) refl
 
 total : (a b : ℕ) → (a ≤ b) ⊎ (b ≤ a)
 total zero b = inl (omega arith)
 total (suc a) zero = inr (omega arith)
 total (suc a) (suc b) = elim (total a b) [ inl h ↦ inl (omega (arith, h)) | inr h ↦ inr (omega (arith, h)) ]
 
-pub limits_no_more : (texts : List (List ℕ)) (ask : Ask) (spent most : ℕ) → min spent number_limit ≤ most
-    → first_fault_from 1 (map caveat_of texts) (after_spending most ask) ≡ first_fault_from 1 (map caveat_of texts) (after_spending 0 ask)
-    → first_fault_from 1 (map caveat_of texts) (after_spending spent ask) ≡ first_fault_from 1 (map caveat_of texts) (after_spending 0 ask)
-limits_no_more texts ask spent most far same = go (total spent most) (total spent number_limit)
+pub limits_no_more : LimitsNoMore
+limits_no_more caveats ask spent most real far same = go (total spent most) (total spent number_limit)
   where
     go : (spent ≤ most) ⊎ (most ≤ spent) → (spent ≤ number_limit) ⊎ (number_limit ≤ spent)
-        → first_fault_from 1 (map caveat_of texts) (after_spending spent ask) ≡ first_fault_from 1 (map caveat_of texts) (after_spending 0 ask)
-    go (inl less) limit = between 1 (map caveat_of texts) ask spent most less same
-    go (inr more) (inl small) = between 1 (map caveat_of texts) ask spent most (omega (arith, far, more, small)) same
-    go (inr more) (inr great) = beyond 1 texts ask spent most (omega (arith, far, great)) more ∙ same
+        → first_fault_from 1 caveats (after_spending spent ask) ≡ first_fault_from 1 caveats (after_spending 0 ask)
+    go (inl less) limit = between 1 caveats ask spent most less same
+    go (inr more) (inl small) = between 1 caveats ask spent most (omega (arith, far, more, small)) same
+    go (inr more) (inr great) = beyond 1 caveats ask spent most real (omega (arith, far, great)) more ∙ same
 
 -- ---- one caveat
 
@@ -133,47 +129,25 @@ unfolding permits
 permits_within (Spend n) ask spent h = limited ask.owed spent n h
 permits_within caveat ask spent h = (λ _. tt, λ _. h)
 
-denied : (n : ℕ) (b : Bool) → b ≡ false → cond b None (Some (Denied n)) ≡ Some (Denied n)
-denied n true e = absurd (cc)
-denied n false e = refl
+never : (caveat : Caveat) (ask : Ask) (spent : ℕ) → permits caveat (after_spending 0 ask) ≡ false → ¬ Permits caveat (after_spending spent ask)
+never caveat ask spent h permitted =
+    let x = permits_less caveat ask 0 spent (omega arith) ((Decides-permits caveat (after_spending spent ask)).1 permitted) in absurd (cc)
 
-allowed : (n : ℕ) (b : Bool) → b ≡ true → cond b None (Some (Denied n)) ≡ None
-allowed n true e = refl
-allowed n false e = absurd (cc)
+module _ (text : List ℕ) (n : ℕ) (ask : Ask) (caveat : Caveat) (understood : Understood text caveat) where
+  -- a caveat that denies a key that spent nothing denies it whatever it spent
+  pub holds_denied : permits caveat (after_spending 0 ask) ≡ false → HoldsWithin text n ask (Some (Denied n)) None
+  holds_denied denies = record {
+    within = λ spent h. (refl, (caveat, understood, never caveat ask spent denies));
+    beyond = λ spent h. absurd (h tt);
+  }
 
-only_allowed : (n : ℕ) (b : Bool) → cond b None (Some (Denied n)) ≡ None → b ≡ true
-only_allowed n true e = refl
-only_allowed n false e = absurd (cc)
-
-never : (caveat : Caveat) (ask : Ask) (spent : ℕ) → permits caveat (after_spending 0 ask) ≡ false → (b : Bool)
-    → permits caveat (after_spending spent ask) ≡ b → b ≡ false
-never caveat ask spent h true e = let x = permits_less caveat ask 0 spent (omega arith) e in absurd (cc)
-never caveat ask spent h false e = refl
-
--- a text that isn't understood is at fault whatever was spent
-pub holds_unread : (text : List ℕ) (n : ℕ) (ask : Ask) → caveat_of text ≡ None → HoldsWithin text n ask (Some (NotUnderstood n)) None
-holds_unread text n ask e = record {
-  within = λ spent h. ap (λ (c : Option Caveat). first_fault_from n (c ∷ []) (after_spending spent ask)) e;
-  beyond = λ spent h. absurd (h tt);
-}
-
--- so is a caveat that denies a key that spent nothing
-pub holds_denied : (text : List ℕ) (n : ℕ) (ask : Ask) (caveat : Caveat) → caveat_of text ≡ Some caveat → permits caveat (after_spending 0 ask) ≡ false
-    → HoldsWithin text n ask (Some (Denied n)) None
-holds_denied text n ask caveat e denies = record {
-  within = λ spent h.
-      ap (λ (c : Option Caveat). first_fault_from n (c ∷ []) (after_spending spent ask)) e
-      ∙ denied n (permits caveat (after_spending spent ask)) (never caveat ask spent denies (permits caveat (after_spending spent ask)) refl);
-  beyond = λ spent h. absurd (h tt);
-}
-
-pub holds_allowed : (text : List ℕ) (n : ℕ) (ask : Ask) (caveat : Caveat) → caveat_of text ≡ Some caveat → permits caveat (after_spending 0 ask) ≡ true
-    → HoldsWithin text n ask None (slack_under caveat ask)
-holds_allowed text n ask caveat e allows = record {
-  within = λ spent h.
-      ap (λ (c : Option Caveat). first_fault_from n (c ∷ []) (after_spending spent ask)) e
-      ∙ allowed n (permits caveat (after_spending spent ask)) ((permits_within caveat ask spent allows).1 h);
-  beyond = λ spent h same.
-      h ((permits_within caveat ask spent allows).0 (only_allowed n (permits caveat (after_spending spent ask))
-      (sym (ap (λ (c : Option Caveat). first_fault_from n (c ∷ []) (after_spending spent ask)) e) ∙ same)));
-}
+  -- one that allows it has no fault just within its slack
+  pub holds_allowed : permits caveat (after_spending 0 ask) ≡ true → HoldsWithin text n ask None (slack_under caveat ask)
+  holds_allowed allows = record {
+    within = λ spent h.
+        (caveat, understood, (Decides-permits caveat (after_spending spent ask)).0 ((permits_within caveat ask spent allows).1 h));
+    beyond = λ spent h allowed.
+        let same = one_caveat text allowed.0 caveat allowed.1 understood in
+        let permitted = subst (λ (c : Caveat). Permits c (after_spending spent ask)) same allowed.2 in
+        h ((permits_within caveat ask spent allows).0 ((Decides-permits caveat (after_spending spent ask)).1 permitted));
+  }

@@ -1,10 +1,12 @@
 -- Lists of caveats, as the texts that a pass carries.
 use Rattle.std.specs.Prelude.{◌≡◌, ℕ, ◌+◌, List, [], ◌∷◌, ◌++◌, length, All, Option, Some, None, if◌then◌else◌, codes}
 use Rattle.std.specs.Fmt.{decimal}
+use Rattle.std.specs.List.{AllZip}
 use Rattle.pass_caveats.specs.declared.caveat.Caveat.{Caveat}
 use Rattle.pass_caveats.specs.declared.ask.Ask.{Ask}
 use Rattle.pass_caveats.specs.declared.fault.CaveatFault.{CaveatFault}
 use Rattle.pass_caveats.specs.declared.fault.CaveatFault.TheVariants.{NotUnderstood, Denied}
+use Rattle.club_values.specs.Reading.{Reads}
 use Rattle.pass_caveats.specs.Caveat.{Understood, Permits}
 use Rattle.pass_caveats.specs.Tests.{permits}
 
@@ -45,6 +47,10 @@ abbrev pub IsFirstFault : List (List ℕ) → Ask → Option CaveatFault → Typ
 IsFirstFault texts ask None = Allowed texts ask
 IsFirstFault texts ask (Some (NotUnderstood n)) = IsFirstAt texts ask n IsUnknown
 IsFirstFault texts ask (Some (Denied n)) = IsFirstAt texts ask n (λ text. Denies text ask)
+
+-- the caveats of a list of texts: each as its text is understood, none if it isn't
+abbrev pub AreUnderstoodAs : List (List ℕ) → List (Option Caveat) → Type 0
+AreUnderstoodAs texts caveats = AllZip (λ (text : List ℕ) (caveat : Option Caveat). Reads (Understood text) caveat) texts caveats
 
 -- The first fault of a list of caveats, each as it is understood, if it is; the first of them has this number. None if each permits the request.
 abbrev pub first_fault_from : ℕ → List (Option Caveat) → Ask → Option CaveatFault

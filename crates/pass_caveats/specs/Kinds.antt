@@ -1,11 +1,11 @@
 -- Which caveats look at the kind of a slot's facility (ours).
-use Rattle.std.specs.Prelude.{◌≡◌, ℕ, Bool, true, false, List, [], ◌∷◌, Option, Some}
+use Rattle.std.specs.Prelude.{◌↔◌, ℕ, Bool, true, false, List, Option, Some}
 use Rattle.club_values.specs.declared.kind.Kind.{Kind as AKind}
 use Rattle.pass_caveats.specs.declared.ask.Ask.{Ask}
 use Rattle.pass_caveats.specs.declared.caveat.Caveat.{Caveat}
 use Rattle.pass_caveats.specs.declared.caveat.Caveat.TheVariants.{Kind}
-use Rattle.pass_caveats.specs.computed.CaveatOf.{caveat_of}
-use Rattle.pass_caveats.specs.Fault.{first_fault_from}
+use Rattle.pass_caveats.specs.declared.fault.CaveatFault.{CaveatFault}
+use Rattle.pass_caveats.specs.Fault.{IsFaultAt}
 
 -- whether it is a caveat on the kind
 abbrev pub is_on_kind : Option Caveat → Bool
@@ -19,5 +19,5 @@ at_kind kind ask = record ask { kind = kind }
 -- the fault of the text is the same for each kind
 abbrev pub IsBlindToKind : List ℕ → Type 0
 IsBlindToKind text =
-    (number : ℕ) (ask : Ask) (kind : Option AKind)
-    → first_fault_from number (caveat_of text ∷ []) (at_kind kind ask) ≡ first_fault_from number (caveat_of text ∷ []) ask
+    (number : ℕ) (ask : Ask) (kind : Option AKind) (fault : Option CaveatFault)
+    → IsFaultAt text number (at_kind kind ask) fault ↔ IsFaultAt text number ask fault

@@ -1,12 +1,13 @@
 -- Laws of the definitions.
-use Rattle.std.specs.Prelude.{◌≡◌, ◌↔◌, ℕ, ◌+◌, List, [], ◌∷◌, ◌++◌, length, map, IsTrue, Option, Some, None}
+use Rattle.std.specs.Prelude.{◌≡◌, ◌↔◌, ℕ, ◌+◌, List, [], ◌∷◌, ◌++◌, length, IsTrue, Option, Some, None}
 use Rattle.std.specs.Option.{option_or}
 use Rattle.pass_caveats.specs.declared.caveat.Caveat.{Caveat}
 use Rattle.pass_caveats.specs.declared.ask.Ask.{Ask}
 use Rattle.pass_caveats.specs.declared.fault.CaveatFault.{CaveatFault}
+use Rattle.club_values.specs.Reading.{Reads}
 use Rattle.pass_caveats.specs.Caveat.{Understood, Permits}
 use Rattle.pass_caveats.specs.computed.CaveatOf.{caveat_of}
-use Rattle.pass_caveats.specs.Fault.{Allowed, IsFirstFault, first_fault_from, first_fault_of}
+use Rattle.pass_caveats.specs.Fault.{Allowed, AreUnderstoodAs, IsFaultAt, IsFirstFault, first_fault_from, first_fault_of}
 use Rattle.pass_caveats.specs.Tests.{permits}
 
 -- more caveats never open more
@@ -18,10 +19,17 @@ abbrev pub FaultsOnlyWhereNotAllowed : Type 0
 FaultsOnlyWhereNotAllowed =
     (texts : List (List ℕ)) (ask : Ask) (fault : Option CaveatFault) → IsFirstFault texts ask fault → (fault ≡ None) ↔ Allowed texts ask
 
--- `first_fault_of` returns the first fault of a list of caveats
+-- `first_fault_of` returns the first fault of a list of texts, by the caveats as which they are understood
 abbrev pub FindsTheFirstFault : Type 0
 FindsTheFirstFault =
-    (texts : List (List ℕ)) (ask : Ask) (fault : Option CaveatFault) → IsFirstFault texts ask fault ↔ (fault ≡ first_fault_of (map caveat_of texts) ask)
+    (texts : List (List ℕ)) (caveats : List (Option Caveat)) (ask : Ask) (fault : Option CaveatFault) → AreUnderstoodAs texts caveats →
+    IsFirstFault texts ask fault ↔ (fault ≡ first_fault_of caveats ask)
+
+-- `first_fault_from` returns the fault of one text with this number, by the caveat as which it is understood
+abbrev pub FindsTheFaultAt : Type 0
+FindsTheFaultAt =
+    (text : List ℕ) (caveat : Option Caveat) (n : ℕ) (ask : Ask) (fault : Option CaveatFault) → Reads (Understood text) caveat →
+    IsFaultAt text n ask fault ↔ (fault ≡ first_fault_from n (caveat ∷ []) ask)
 
 -- with one more caveat the first fault is that of the caveats before, or else that of the last one
 abbrev pub FindsTheFaultOfOneMore : Type 0

@@ -1,11 +1,11 @@
 -- How what a key has spent changes the first fault of a list of caveats (ours).
-use Rattle.std.specs.Prelude.{◌≡◌, ◌≢◌, ℕ, ◌-◌, ◌==◌, ◌≤◌, min, List, [], ◌∷◌, map, Option, Some, None, if◌then◌else◌}
+use Rattle.std.specs.Prelude.{◌≡◌, ℕ, ◌-◌, ◌==◌, ◌≤◌, min, List, All, Option, Some, None, IfSome, if◌then◌else◌}
 use Rattle.pass_caveats.specs.declared.ask.Ask.{Ask}
 use Rattle.pass_caveats.specs.declared.caveat.Caveat.{Caveat}
 use Rattle.pass_caveats.specs.declared.caveat.Caveat.TheVariants.{Spend}
 use Rattle.pass_caveats.specs.declared.fault.CaveatFault.{CaveatFault}
-use Rattle.pass_caveats.specs.computed.CaveatOf.{caveat_of}
-use Rattle.pass_caveats.specs.Fault.{first_fault_from, first_fault_of}
+use Rattle.pass_caveats.specs.Caveat.{IsCaveat}
+use Rattle.pass_caveats.specs.Fault.{IsFaultAt, first_fault_of}
 use Rattle.club_values.specs.Number.{number_limit}
 
 -- the same request of a key that has spent this much
@@ -18,13 +18,14 @@ OwesNothing =
     (caveats : List (Option Caveat)) (ask : Ask) (spent : ℕ) → ask.owed ≡ 0
     → first_fault_of caveats (after_spending spent ask) ≡ first_fault_of caveats (after_spending 0 ask)
 
--- If the first fault is the same with nothing spent and with this much spent, it is the same for any smaller amount. No spend limit is above
--- 999,999,999 points, so with that much or more it is the same for any amount.
+-- If the first fault is the same with nothing spent and with this much spent, it is the same for any smaller amount. No line has a spend
+-- limit above 999,999,999 points, so with that much or more it is the same for any amount.
 abbrev pub LimitsNoMore : Type 0
 LimitsNoMore =
-    (texts : List (List ℕ)) (ask : Ask) (spent most : ℕ) → min spent number_limit ≤ most
-    → first_fault_of (map caveat_of texts) (after_spending most ask) ≡ first_fault_of (map caveat_of texts) (after_spending 0 ask)
-    → first_fault_of (map caveat_of texts) (after_spending spent ask) ≡ first_fault_of (map caveat_of texts) (after_spending 0 ask)
+    (caveats : List (Option Caveat)) (ask : Ask) (spent most : ℕ) → All (λ (caveat : Option Caveat). IfSome caveat IsCaveat) caveats
+    → min spent number_limit ≤ most
+    → first_fault_of caveats (after_spending most ask) ≡ first_fault_of caveats (after_spending 0 ask)
+    → first_fault_of caveats (after_spending spent ask) ≡ first_fault_of caveats (after_spending 0 ask)
 
 -- what is left of a spend limit for earlier spending, if the charge alone is within it; no bound where the caveat limits nothing
 abbrev pub slack_under : Caveat → Ask → Option ℕ
@@ -36,11 +37,7 @@ abbrev pub IsWithin : Option ℕ → ℕ → Type 0
 IsWithin None spent = Unit {0}
 IsWithin (Some most) spent = spent ≤ most
 
--- the fault of a caveat with this number, if the key has spent this much before
-abbrev pub fault_of_one : List ℕ → ℕ → Ask → ℕ → Option CaveatFault
-fault_of_one text number ask spent = first_fault_from number (caveat_of text ∷ []) (after_spending spent ask)
-
--- the fault is that of a key that spent an amount within the bound, and of no other key
+-- The text with this number has the fault for a key that spent an amount within the bound, and for no other key.
 pub record HoldsWithin (text : List ℕ) (number : ℕ) (ask : Ask) (fault : Option CaveatFault) (slack : Option ℕ) : Type 0 where
-  pub within : (spent : ℕ) → IsWithin slack spent → fault_of_one text number ask spent ≡ fault
-  pub beyond : (spent : ℕ) → ¬ IsWithin slack spent → fault_of_one text number ask spent ≢ fault
+  pub within : (spent : ℕ) → IsWithin slack spent → IsFaultAt text number (after_spending spent ask) fault
+  pub beyond : (spent : ℕ) → ¬ IsWithin slack spent → ¬ IsFaultAt text number (after_spending spent ask) fault

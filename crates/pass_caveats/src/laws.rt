@@ -4,6 +4,7 @@ ghost use Rattle.pass_caveats.specs.Laws.{
   Narrows,
   FaultsOnlyWhereNotAllowed,
   FindsTheFirstFault,
+  FindsTheFaultAt,
   FindsTheFaultOfOneMore,
   ReadsWhatIsUnderstood,
   TestsTheSet,
@@ -21,9 +22,16 @@ pub fn faults_only_where_not_allowed()
     ensures { FaultsOnlyWhereNotAllowed }
 {}
 
-/// `first_fault_of` returns the first fault of a list of caveats.
+/// `first_fault_of` returns the first fault of a list of texts, by the caveats as which they are
+/// understood.
 pub fn finds_the_first_fault()
     ensures { FindsTheFirstFault }
+{}
+
+/// `first_fault_from` returns the fault of one text with a number, by the caveat as which it is
+/// understood.
+pub fn finds_the_fault_at()
+    ensures { FindsTheFaultAt }
 {}
 
 /// With one more caveat the first fault is that of the caveats before, or else that of the last

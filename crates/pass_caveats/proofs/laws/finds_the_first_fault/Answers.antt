@@ -1,10 +1,13 @@
-use Rattle.std.proofs.Common.{Option, subst, sym}
+use Rattle.std.proofs.Common.{◌≡◌, ◌↔◌, List, Option, subst, sym}
+use Rattle.pass_caveats.specs.declared.caveat.Caveat.{Caveat}
 use Rattle.pass_caveats.specs.declared.fault.CaveatFault.{CaveatFault}
-use Rattle.pass_caveats.specs.Fault.{IsFirstFault}
-use Rattle.pass_caveats.proofs.CaveatOfLemmas.{first_fault-is, first_fault_of-is_first}
+use Rattle.pass_caveats.specs.Fault.{IsFirstFault, first_fault_of}
+use Rattle.pass_caveats.proofs.CaveatOfLemmas.{all_caveats_of, first_fault-is, first_fault_of-is_first}
 use Rattle.pass_caveats.proofs.laws.finds_the_first_fault.Goals as goal
 
 pub returns : goal.returns
-returns c = λ texts ask fault.
+returns c = λ texts caveats ask fault understood.
     let P : Option CaveatFault → Type 0 = λ r. IsFirstFault texts ask r in
+    let Q : List (Option Caveat) → Type 0 = λ all. IsFirstFault texts ask fault ↔ (fault ≡ first_fault_of all ask) in
+    subst Q (sym (all_caveats_of texts caveats understood))
     (first_fault-is texts ask fault, λ e. subst P (sym e) (first_fault_of-is_first texts ask))

@@ -2,4 +2,4 @@ use Rattle.pass_caveats.proofs.SpendingLemmas.{limits_no_more}
 use Rattle.pass_caveats.proofs.laws.limits_no_more.Goals as goal
 
 pub returns : goal.returns
-returns c = λ texts ask spent most far same. limits_no_more texts ask spent most far same
+returns c = limits_no_more
