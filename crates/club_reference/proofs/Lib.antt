@@ -5,3 +5,4 @@ pub mod WidthLemmas
 pub mod KeptLemmas
 pub mod OrderLemmas
 pub mod PartLemmas
+pub mod WordLemmas

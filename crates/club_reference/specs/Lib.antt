@@ -4,3 +4,5 @@ pub mod Words
 pub mod Held
 pub mod Growth
 pub mod Solo
+pub mod Laws
+pub mod computed

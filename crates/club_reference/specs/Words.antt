@@ -1,25 +1,24 @@
--- The models of the code's words (ours).
-use Rattle.std.specs.Prelude.{map, Result, Ok, Err}
-use Rattle.std.specs.List.{list_any}
-use Rattle.std.specs.Str.{bytes_eq}
+-- The models of the code's words: the words of the rules that they are (ours).
+use Rattle.std.specs.Prelude.{◌≡◌, ◌↔◌, ℕ, List, map, Contains, IsTrue, Result, Ok, Err}
 use Rattle.std.specs.Vec.{vec_items}
-use Rattle.pass_caveats.specs.computed.CaveatOf.{caveat_of}
+use Rattle.pass_caveats.specs.Fault.{AreUnderstoodAs}
 use Rattle.club_core.specs.declared.pass_fault.PassFault.{PassFault}
 use Rattle.club_reference.specs.declared.words.Pass.{Pass as PassInCode}
 use Rattle.club_reference.specs.declared.words.Words.{Words as WordsInCode}
 use Rattle.club_core.specs.Pass.{Pass, Words}
 
--- the caveats are parsed from their texts; the pass is signed under the listed roots
-abbrev pub pass_model : PassInCode → Pass
-pass_model pass = record {
-  key = pass.key;
-  caveats = map caveat_of (map vec_items pass.caveats.items);
-  is_signed = λ root. list_any (λ other. bytes_eq other root) pass.roots.items;
-}
+-- the same key, each caveat as its text is understood, and signed under the listed roots
+pub record IsPassModel (pass : PassInCode) (model : Pass) : Type 0 where
+  pub key : model.key ≡ pass.key
+  pub caveats : AreUnderstoodAs (map vec_items pass.caveats.items) model.caveats
+  pub signed : (root : List ℕ) → IsTrue (model.is_signed root) ↔ Contains pass.roots.items root
 
-abbrev pub pass_result_model : Result PassInCode PassFault → Result Pass PassFault
-pass_result_model (Ok pass) = Ok (pass_model pass)
-pass_result_model (Err fault) = Err fault
+-- of a pass, its model; of the fault of a text, that fault
+abbrev pub IsResultModel : Result PassInCode PassFault → Result Pass PassFault → Type 0
+IsResultModel (Ok pass) (Ok model) = IsPassModel pass model
+IsResultModel (Err fault) (Err other) = other ≡ fault
+IsResultModel pass model = ⊥
 
-abbrev pub words_model : WordsInCode → Words
-words_model words = record { pass = pass_result_model words.pass; request = words.request }
+-- the same request, and the model of the pass
+abbrev pub IsModelOf : WordsInCode → Words → Type 0
+IsModelOf words model = IsResultModel words.pass model.pass × (model.request ≡ words.request)

@@ -5,6 +5,7 @@
 mod apply;
 mod club;
 mod edits;
+pub mod laws;
 mod lists;
 mod rows;
 mod solo;

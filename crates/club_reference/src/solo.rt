@@ -5,13 +5,16 @@ ghost use Rattle.std.specs.Prelude.{◌≡◌, ◌≤◌, ◌<◌, ◌^◌, IfOk
 ghost use Rattle.std.specs.Str.{bytes_eq};
 ghost use Rattle.club_rows.specs.declared.member.Member.{Member as MemberRow};
 ghost use Rattle.club_rows.specs.declared.key.Key.{Key as KeyRow};
+ghost use Rattle.club_core.specs.Pass as rules;
 ghost use Rattle.club_core.specs.Sums as sums;
 ghost use Rattle.club_reference.specs.Growth.{Grows};
 ghost use Rattle.club_reference.specs.Held.{held_under, others_under};
 ghost use Rattle.club_reference.specs.Solo.{with_outside};
-ghost use Rattle.club_reference.specs.Words.{words_model};
+ghost use Rattle.club_reference.specs.Words.{IsModelOf};
+ghost use Rattle.club_reference.specs.computed.Words.{words_model};
 
 use crate::club::{Club, copy_rows};
+use crate::laws::models_words;
 use crate::sums::{is_held, persons};
 use crate::words::Words;
 use club_core::{Reply, SlotUse, Verdict, View};
@@ -143,16 +146,17 @@ impl Club {
         moment: Moment,
         others: SlotUse,
     ) -> Result<Reply, AllocError>
-        ensures reply { IfOk result (λ reply. reply
-            ≡ (solo.solo_verdict self.old (words_model words.now) moment others).reply) }
-        ensures part { OnOk result (self.new
-            ≡ after_change (solo.solo_verdict self.old (words_model words.now) moment
-            others).change self.old) }
+        ensures reply { IfOk result (λ reply. (model : rules.Words) × IsModelOf words.now model
+            × (reply ≡ (solo.solo_verdict self.old model moment others).reply)) }
+        ensures part { OnOk result ((model : rules.Words) × IsModelOf words.now model
+            × (self.new
+            ≡ after_change (solo.solo_verdict self.old model moment others).change self.old)) }
         ensures err { OnErr result (self.new ≡ self.old) }
-        ensures growth { OnErr result (Grows self.old
-            (after_change (solo.solo_verdict self.old (words_model words.now) moment
-            others).change self.old)) }
+        ensures growth { OnErr result ((model : rules.Words) × IsModelOf words.now model
+            × Grows self.old
+            (after_change (solo.solo_verdict self.old model moment others).change self.old)) }
     {
+        models_words();
         let Verdict { reply, change } = self.answer_alone(words, moment, others);
         match change {
             None => Ok(reply),

@@ -3,12 +3,15 @@
 ghost use Rattle.std.specs.Prelude.{◌≡◌, IfOk, OnErr};
 ghost use Rattle.club_core.specs.Answer.{verdict_in};
 ghost use Rattle.club_core.specs.Office.{office_verdict};
+ghost use Rattle.club_core.specs.Pass as rules;
 ghost use Rattle.club_core.specs.Run as machine;
-ghost use Rattle.club_reference.specs.Words.{words_model};
+ghost use Rattle.club_reference.specs.Words.{IsModelOf};
 ghost use Rattle.club_reference.specs.Growth.{AddsRow};
 ghost use Rattle.club_reference.specs.Rows.{outcome};
+ghost use Rattle.club_reference.specs.computed.Words.{words_model};
 
 use crate::club::Club;
+use crate::laws::models_words;
 use crate::words::Words;
 use club_core::laws::views_decide;
 use club_core::{Change, Command, OfficeAnswer, OfficeFault, Reply, Verdict, decide_order};
@@ -44,12 +47,14 @@ impl Club {
     ///
     /// Memory was refused.
     pub fn ask(&mut self, words: &Words, moment: Moment) -> Result<Reply, AllocError>
-        ensures outcome { IfOk result (λ reply. outcome (machine.ToMember reply) self.new
-            ≡ machine.step self.old (machine.Asked (words_model words.now) moment)) }
+        ensures outcome { IfOk result (λ reply. (model : rules.Words) × IsModelOf words.now model
+            × (outcome (machine.ToMember reply) self.new
+            ≡ machine.step self.old (machine.Asked model moment))) }
         ensures err { OnErr result (self.new ≡ self.old) }
-        ensures growth { OnErr result (AddsRow self.old
-            (machine.Asked (words_model words.now) moment)) }
+        ensures growth { OnErr result ((model : rules.Words) × IsModelOf words.now model
+            × AddsRow self.old (machine.Asked model moment)) }
     {
+        models_words();
         let Verdict { reply, change } = self.answer(words, moment);
         match change {
             None => Ok(reply),

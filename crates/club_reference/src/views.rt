@@ -27,7 +27,7 @@ fn rows_seen(member: Option<Member>, key: Option<Key>, facility: Option<Facility
 impl Club {
     ghost use Rattle.club_core.specs.Basis.{Basis, basis_under, slot_use_by, view_for, view_of};
     ghost use Rattle.club_core.specs.Office.{order_view};
-    ghost use Rattle.club_reference.specs.Words.{words_model};
+    ghost use Rattle.club_reference.specs.computed.Words.{words_model};
 
     /// The use of a slot: its persons, and whether it is closed; none without a slot.
     fn slot_use(&self, slot: Option<Slot>) -> SlotUse

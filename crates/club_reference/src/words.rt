@@ -2,7 +2,9 @@
 
 ghost use Rattle.std.specs.Prelude.{◌≡◌};
 ghost use Rattle.std.specs.Option.{option_copied};
+ghost use Rattle.club_core.specs.Pass as rules;
 
+use crate::laws::models_words;
 use club_core::{PassFault, Request, Verdict, View, answer};
 use club_rows::{Key, Root};
 use club_values::{Moment, Name};
@@ -30,7 +32,7 @@ pub struct Words {
 impl Pass {
     ghost use Rattle.pass_caveats.specs.Fault.{first_fault_of};
     ghost use Rattle.club_core.specs.Pass.{is_signed_under};
-    ghost use Rattle.club_reference.specs.Words.{pass_model};
+    ghost use Rattle.club_reference.specs.computed.Words.{pass_model};
 
     /// Whether it is signed under this root.
     fn is_signed(&self, root: &Root) -> bool
@@ -63,7 +65,8 @@ impl Pass {
 impl Words {
     ghost use Rattle.club_core.specs.Answer.{answer_to};
     ghost use Rattle.club_core.specs.Basis.{key_of};
-    ghost use Rattle.club_reference.specs.Words.{words_model};
+    ghost use Rattle.club_reference.specs.Words.{IsModelOf};
+    ghost use Rattle.club_reference.specs.computed.Words.{words_model};
 
     /// The key that the pass names; `None` if the text isn't a pass, or its identifier names no
     /// key.
@@ -79,10 +82,13 @@ impl Words {
     /// The answer by that key's view of the request, with its change; `view` is `None` if the club
     /// has no such key.
     pub fn answer(&self, view: Option<&View>, moment: Moment) -> Verdict
-        ensures { result
+        ensures value { (model : rules.Words) × IsModelOf self.now model
+            × (result ≡ answer_to model.pass model.request moment (option_copied view.entry)) }
+        ensures function { result
             ≡ answer_to (words_model self.now).pass self.now.request moment
             (option_copied view.entry) }
     {
+        models_words();
         match &self.pass {
             Err(fault) => Verdict::refuse(fault.refusal()),
             Ok(pass) => match view {

@@ -7,7 +7,7 @@ use Rattle.club_core.specs.Club.{Club, key_named}
 use Rattle.club_core.specs.Basis.{Basis, view_of, view_in, key_of, basis_under}
 use Rattle.club_core.specs.Answer.{answer_to}
 use Rattle.club_core.specs.Solo.{with_others}
-use Rattle.club_reference.specs.Words.{words_model}
+use Rattle.club_reference.specs.computed.Words.{words_model}
 use Rattle.club_reference.specs.Solo.{with_outside}
 use Rattle.club_reference.proofs.club.Club.answer_alone.Goals as goal
 
@@ -28,6 +28,6 @@ same_view club request moment others (Some name) = same_basis request moment oth
 pub returns-clause-value : goal.returns-clause-value
 returns-clause-value c =
     let words = words_model c.args.words.now in
-    c.answer.ensures
+    c.answer.ensures.function
     ∙ ap (answer_to words.pass words.request c.args.moment)
     (grind (arith, common_steps) ∙ same_view c.args.self.now words.request c.args.moment c.args.others (key_of words.pass))

@@ -1,0 +1,100 @@
+-- The computed model of words is their model.
+use Rattle.std.proofs.Common.{◌≡◌, ◌↔◌, ℕ, Bool, true, false, IsTrue, List, [], ◌∷◌, map, Option, Some, None, refl, sym, ap, ◌∙◌, subst, Decides}
+use Rattle.std.proofs.Math.Path.{fun_ext}
+use Rattle.std.specs.Prelude.{Contains, Result, Ok, Err}
+use Rattle.std.specs.List.{list_any}
+use Rattle.std.specs.Str.{bytes_eq}
+use Rattle.std.specs.Vec.{vec_items}
+use Rattle.std.proofs.lemmas.Bool.Decides.{same_from_decides, Decides-like, Decides-by_or}
+use Rattle.std.proofs.lemmas.List.Elements.{at_from_Contains}
+use Rattle.std.proofs.lemmas.Slice.Eq.{bytes_eq-Decides}
+use Rattle.pass_caveats.specs.declared.caveat.Caveat.{Caveat}
+use Rattle.pass_caveats.specs.Caveat.{Understood}
+use Rattle.pass_caveats.specs.Fault.{AreUnderstoodAs}
+use Rattle.pass_caveats.specs.Laws.{ReadsWhatIsUnderstood}
+use Rattle.pass_caveats.specs.computed.CaveatOf.{caveat_of}
+use Rattle.club_values.specs.Reading.{Reads}
+use Rattle.club_core.specs.declared.pass_fault.PassFault.{PassFault}
+use Rattle.club_core.specs.declared.request.Request.{Request}
+use Rattle.club_core.specs.Pass.{Pass, Words}
+use Rattle.club_reference.specs.declared.words.Pass.{Pass as PassInCode}
+use Rattle.club_reference.specs.declared.words.Words.{Words as WordsInCode}
+use Rattle.club_reference.specs.Laws.{ModelsWords}
+use Rattle.club_reference.specs.Words.{IsModelOf, IsPassModel, IsResultModel}
+use Rattle.club_reference.specs.computed.Words.{pass_model, pass_result_model, words_model}
+
+Decides-signed : (roots : List (List ℕ)) (root : List ℕ) → Decides (list_any (λ other. bytes_eq other root) roots) (Contains roots root)
+Decides-signed roots root =
+    Decides-like _ (λ h. (h.0, h.1, h.2 root)) (at_from_Contains roots root)
+    (Decides-by_or (λ other. bytes_eq other root) (λ other. other ≡ root) (list_any (λ other. bytes_eq other root))
+    (λ other. bytes_eq-Decides other root) refl (λ _ _. refl) roots)
+
+module _ (reads : ReadsWhatIsUnderstood) where
+  read_as : (text : List ℕ) (found : Option Caveat) → caveat_of text ≡ found → Reads (Understood text) found
+  read_as text None e = λ caveat h. let x = (reads text caveat).0 h in absurd (cc)
+  read_as text (Some caveat) e = (reads text caveat).1 e
+
+  one_reading : (text : List ℕ) (one : Option Caveat) → Reads (Understood text) one → caveat_of text ≡ one
+  one_reading text (Some caveat) h = (reads text caveat).0 h
+  one_reading text None h = go (caveat_of text) refl
+    where
+      go : (found : Option Caveat) → caveat_of text ≡ found → found ≡ None
+      go None e = refl
+      go (Some caveat) e = absurd (h caveat ((reads text caveat).1 e))
+
+  all_read : (texts : List (List ℕ)) → AreUnderstoodAs texts (map caveat_of texts)
+  all_read [] = tt
+  all_read (text ∷ texts) = (read_as text (caveat_of text) refl, all_read texts)
+
+  one_list : (texts : List (List ℕ)) (caveats : List (Option Caveat)) → AreUnderstoodAs texts caveats → map caveat_of texts ≡ caveats
+  one_list [] [] h = refl
+  one_list [] (caveat ∷ caveats) h = absurd h
+  one_list (text ∷ texts) [] h = absurd h
+  one_list (text ∷ texts) (caveat ∷ caveats) h =
+      ap (λ (one : Option Caveat). one ∷ map caveat_of texts) (one_reading text caveat h.0)
+      ∙ ap (λ (others : List (Option Caveat)). caveat ∷ others) (one_list texts caveats h.1)
+
+  is_model : (pass : PassInCode) → IsPassModel pass (pass_model pass)
+  is_model pass = record {
+    key = refl;
+    caveats = all_read (map vec_items pass.caveats.items);
+    signed = λ root. let d = Decides-signed pass.roots.items root in (d.0, d.1);
+  }
+
+  one_model : (pass : PassInCode) (model : Pass) → IsPassModel pass model → pass_model pass ≡ model
+  one_model pass model h =
+      let made : Option (List ℕ) → List (Option Caveat) → (List ℕ → Bool) → Pass =
+      λ key caveats is_signed. record { key = key; caveats = caveats; is_signed = is_signed }
+      in
+      let computed = pass_model pass in
+      let roots : computed.is_signed ≡ model.is_signed =
+      fun_ext (λ (root : List ℕ).
+      sym (same_from_decides (model.is_signed root) (computed.is_signed root) (h.signed root) (Decides-signed pass.roots.items root)))
+      in
+      ap (λ (key : Option (List ℕ)). made key computed.caveats computed.is_signed) (sym h.key)
+      ∙ (ap (λ (caveats : List (Option Caveat)). made model.key caveats computed.is_signed)
+      (one_list (map vec_items pass.caveats.items) model.caveats h.caveats)
+      ∙ ap (λ (signs : List ℕ → Bool). made model.key model.caveats signs) roots)
+
+  is_result_model : (pass : Result PassInCode PassFault) → IsResultModel pass (pass_result_model pass)
+  is_result_model (Ok pass) = is_model pass
+  is_result_model (Err fault) = refl
+
+  one_result : (pass : Result PassInCode PassFault) (model : Result Pass PassFault) → IsResultModel pass model → pass_result_model pass ≡ model
+  one_result (Ok pass) (Ok model) h = ap (λ (p : Pass). let read : Result Pass PassFault = Ok p in read) (one_model pass model h)
+  one_result (Ok pass) (Err fault) h = absurd h
+  one_result (Err fault) (Ok model) h = absurd h
+  one_result (Err fault) (Err other) h = ap (λ (f : PassFault). let read : Result Pass PassFault = Err f in read) (sym h)
+
+  one_of : (words : WordsInCode) (model : Words) → IsModelOf words model → words_model words ≡ model
+  one_of words model h =
+      let made : Result Pass PassFault → Request → Words = λ pass request. record { pass = pass; request = request } in
+      ap (λ (pass : Result Pass PassFault). made pass words.request) (one_result words.pass model.pass h.0)
+      ∙ ap (λ (request : Request). made model.pass request) (sym h.1)
+
+  pub models_words : ModelsWords
+  models_words words model =
+      (one_of words model, λ e. subst (λ (m : Words). IsModelOf words m) e (is_result_model words.pass, refl))
+
+pub their_model : ModelsWords → (words : WordsInCode) → IsModelOf words (words_model words)
+their_model law words = (law words (words_model words)).1 refl

@@ -1,0 +1,10 @@
+-- Laws of the definitions.
+use Rattle.std.specs.Prelude.{◌≡◌, ◌↔◌}
+use Rattle.club_core.specs.Pass.{Words}
+use Rattle.club_reference.specs.declared.words.Words.{Words as WordsInCode}
+use Rattle.club_reference.specs.Words.{IsModelOf}
+use Rattle.club_reference.specs.computed.Words.{words_model}
+
+-- `words_model` is the one model of words
+abbrev pub ModelsWords : Type 0
+ModelsWords = (words : WordsInCode) (model : Words) → IsModelOf words model ↔ (words_model words ≡ model)

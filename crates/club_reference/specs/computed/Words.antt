@@ -1,0 +1,25 @@
+-- The model of the code's words, computed. `IsModelOf` defines what it is; a law states that both agree.
+use Rattle.std.specs.Prelude.{map, Result, Ok, Err}
+use Rattle.std.specs.List.{list_any}
+use Rattle.std.specs.Str.{bytes_eq}
+use Rattle.std.specs.Vec.{vec_items}
+use Rattle.pass_caveats.specs.computed.CaveatOf.{caveat_of}
+use Rattle.club_core.specs.declared.pass_fault.PassFault.{PassFault}
+use Rattle.club_reference.specs.declared.words.Pass.{Pass as PassInCode}
+use Rattle.club_reference.specs.declared.words.Words.{Words as WordsInCode}
+use Rattle.club_core.specs.Pass.{Pass, Words}
+
+-- the caveats are parsed from their texts; the pass is signed under the listed roots
+abbrev pub pass_model : PassInCode → Pass
+pass_model pass = record {
+  key = pass.key;
+  caveats = map caveat_of (map vec_items pass.caveats.items);
+  is_signed = λ root. list_any (λ other. bytes_eq other root) pass.roots.items;
+}
+
+abbrev pub pass_result_model : Result PassInCode PassFault → Result Pass PassFault
+pass_result_model (Ok pass) = Ok (pass_model pass)
+pass_result_model (Err fault) = Err fault
+
+abbrev pub words_model : WordsInCode → Words
+words_model words = record { pass = pass_result_model words.pass; request = words.request }

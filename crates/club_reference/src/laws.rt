@@ -1,0 +1,12 @@
+//! Laws of the definitions, each the contract of a function that does nothing.
+
+ghost use Rattle.club_reference.specs.Laws.{ModelsWords};
+
+use pass_caveats::laws::reads_what_is_understood;
+
+/// Words have one model: the one that is computed from them.
+pub fn models_words()
+    ensures { ModelsWords }
+{
+    reads_what_is_understood();
+}
