@@ -131,7 +131,7 @@ impl Club {
     {
         let _members = &self.members;
         let view = with_outside(self.view_for(words, moment), others);
-        words.answer(view.as_ref(), moment)
+        words.verdict(view.as_ref(), moment)
     }
 
     /// Answers a request on a member's part, with what others hold of its slot, and makes the

@@ -28,7 +28,7 @@ impl Club {
     {
         views_decide();
         let _members = &self.members;
-        words.answer(self.view_for(words, moment).as_ref(), moment)
+        words.verdict(self.view_for(words, moment).as_ref(), moment)
     }
 
     /// The change of an order, or why it makes none.

@@ -82,13 +82,19 @@ impl Words {
     /// The answer by that key's view of the request, with its change; `view` is `None` if the club
     /// has no such key.
     pub fn answer(&self, view: Option<&View>, moment: Moment) -> Verdict
-        ensures value { (model : rules.Words) × IsModelOf self.now model
+        ensures { (model : rules.Words) × IsModelOf self.now model
             × (result ≡ answer_to model.pass model.request moment (option_copied view.entry)) }
-        ensures function { result
+    {
+        models_words();
+        self.verdict(view, moment)
+    }
+
+    /// The answer, by the model that is computed from the words.
+    pub(crate) fn verdict(&self, view: Option<&View>, moment: Moment) -> Verdict
+        ensures { result
             ≡ answer_to (words_model self.now).pass self.now.request moment
             (option_copied view.entry) }
     {
-        models_words();
         match &self.pass {
             Err(fault) => Verdict::refuse(fault.refusal()),
             Ok(pass) => match view {

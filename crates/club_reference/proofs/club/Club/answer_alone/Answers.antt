@@ -28,6 +28,6 @@ same_view club request moment others (Some name) = same_basis request moment oth
 pub returns-clause-value : goal.returns-clause-value
 returns-clause-value c =
     let words = words_model c.args.words.now in
-    c.answer.ensures.function
+    c.verdict.ensures
     ∙ ap (answer_to words.pass words.request c.args.moment)
     (grind (arith, common_steps) ∙ same_view c.args.self.now words.request c.args.moment c.args.others (key_of words.pass))
