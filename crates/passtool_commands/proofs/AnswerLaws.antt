@@ -1,19 +1,26 @@
 -- Laws on what the commands answer.
-use Rattle.std.proofs.Common.{◌≡◌, ◌∙◌, ◌↔◌, ℕ, ◌+◌, Bool, true, false, cond, nat_lt, List, length, Result, Ok, Err, refl, sym, ap, subst, codes}
+use Rattle.std.proofs.Common.{◌≡◌, ◌∙◌, ℕ, ◌+◌, Bool, true, false, cond, nat_lt, List, length, Result, Ok, Err, MatchResult, refl, sym, ap, subst, codes}
 use Rattle.std.proofs.lemmas.List.Sums.{fold-append}
-use Rattle.std.proofs.lemmas.Slice.Eq.{bytes_eq-Decides}
-use Rattle.pass_mac.specs.Chain.{chain, derived_key, extended_signature}
+use Rattle.std.specs.Io.BufRead.{strip_last}
+use Rattle.pass_mac.specs.Chain.{derived_key, extended_signature}
 use Rattle.pass_mac.specs.Hmac.{hmac}
+use Rattle.pass_forms.specs.Laws.{AnswersExactly, OnePassEach, WrapsOne}
 use Rattle.pass_forms.specs.Pass.{IsSigned, Plain}
-use Rattle.pass_forms.specs.computed.Pass.{is_signed}
 use Rattle.pass_forms.specs.Reading.{max_caveats}
+use Rattle.pass_forms.specs.V1.{SpellsV1}
+use Rattle.pass_forms.specs.V2.{SpellsV2}
 use Rattle.pass_forms.specs.declared.fault.FormFault.{FormFault}
 use Rattle.pass_forms.specs.declared.fault.FormFault.TheVariants.{TooMany}
-use Rattle.passtool_commands.specs.Answer.{OutcomeText, command_answer, narrowing, new_pass, verdict, with_caveats}
-use Rattle.passtool_commands.specs.Laws.{MintSigns, NarrowingKeepsSigned, VerifyDecidesSigned}
-use Rattle.passtool_commands.specs.Shown.{with_line_feed}
-use Rattle.passtool_commands.specs.declared.answer.Outcome.{Outcome}
+use Rattle.pass_forms.specs.declared.form.Form.{Form}
+use Rattle.pass_json.specs.Json.{SpellsJson}
+use Rattle.pass_json.specs.Laws.{OneTextEachForm}
+use Rattle.passtool_commands.specs.Answer.{IsVerdict, OutcomeText, ReadsPass, WritesPass, done_with, narrowing, new_pass, with_caveats}
+use Rattle.passtool_commands.specs.Laws.{AnswersOnce, MintSigns, NarrowingKeepsSigned, VerifyDecidesSigned}
+use Rattle.passtool_commands.specs.Shown.{shown_text, with_line_feed}
 use Rattle.passtool_commands.specs.declared.answer.Outcome.TheVariants.{Done, NotSigned}
+use Rattle.passtool_commands.specs.declared.command.Command.TheVariants.{Mint, Show, Narrow, Convert, Verify}
+use Rattle.passtool_commands.proofs.ReadingLemmas.{one_reading, one_writing}
+use Rattle.passtool_commands.proofs.StepLemmas.{HasOne, one_only, one_then}
 
 narrowed_to : (caveats : List (List ℕ)) (pass narrowed_pass : Plain) → narrowing caveats pass ≡ Ok narrowed_pass → with_caveats caveats pass ≡ narrowed_pass
 unfolding narrowing
@@ -32,18 +39,40 @@ narrowing_keeps_signed root caveats pass narrowed_pass signed made =
 pub mint_signs : MintSigns
 mint_signs minting pass made = narrowing_keeps_signed minting.root minting.caveats (new_pass minting) pass refl made
 
-abbrev outcome_in : Result OutcomeText FormFault → Outcome
-outcome_in (Ok answer) = answer.0
-outcome_in (Err fault) = Done
+-- ---- one answer
 
-verdict_is : (signed : Bool) → (let answer : Result OutcomeText FormFault = Ok (verdict signed) in answer ≡ Ok (Done, with_line_feed (codes "signed")))
-    ↔ (signed ≡ true)
-verdict_is true = (λ e. refl, λ e. refl)
-verdict_is false = (λ e. let bad : NotSigned ≡ Done = ap outcome_in e in cc, λ e. cc)
+one_verdict : (root : List ℕ) (pass : Plain) → HasOne (IsVerdict root pass)
+one_verdict root pass (Ok (Done, text)) (Ok (Done, other)) p q = ap (λ (t : List ℕ). let answer : OutcomeText = (Done, t) in Ok answer) (p.1 ∙ sym q.1)
+one_verdict root pass (Ok (Done, text)) (Ok (NotSigned, other)) p q = absurd (q.0 p.0)
+one_verdict root pass (Ok (NotSigned, text)) (Ok (Done, other)) p q = absurd (p.0 q.0)
+one_verdict root pass (Ok (NotSigned, text)) (Ok (NotSigned, other)) p q =
+    ap (λ (t : List ℕ). let answer : OutcomeText = (NotSigned, t) in Ok answer) (p.1 ∙ sym q.1)
+one_verdict root pass (Err fault) other p q = absurd p
+one_verdict root pass one (Err fault) p q = absurd q
 
-pub verify_decides_signed : VerifyDecidesSigned
-unfolding command_answer is_signed
-verify_decides_signed root bytes form pass read =
-    let signed = bytes_eq-Decides (chain (derived_key root) pass.identifier pass.caveats) pass.signature in
-    let decides = verdict_is (is_signed root pass) in
-    rw read (λ e. sym (signed.0 (decides.0 e)), λ e. decides.1 (signed.1 (sym e)))
+module _ (wraps : WrapsOne) (v1 : OnePassEach SpellsV1) (v2 : OnePassEach SpellsV2) (json : OnePassEach SpellsJson) (exactly : AnswersExactly) where
+  one_pass_read : (bytes : List ℕ) → HasOne (ReadsPass bytes)
+  one_pass_read bytes = one_reading wraps v1 v2 json exactly (strip_last 10 bytes)
+
+  module _ (texts : OneTextEachForm) where
+    one_pass_written : (form : Form) (pass : Plain) → HasOne (WritesPass form pass)
+    one_pass_written form pass = one_then _ _ (one_writing texts form pass) (λ text. one_only (done_with text))
+
+    pub answers_once : AnswersOnce
+    answers_once (Mint minting) bytes =
+        one_then _ _ (one_only (narrowing minting.caveats (new_pass minting))) (λ pass. one_pass_written minting.form pass)
+    answers_once Show bytes = one_then _ _ (one_pass_read bytes) (λ read. one_only (Ok (Done, shown_text read.0 read.1)))
+    answers_once (Narrow caveats) bytes =
+        one_then _ _ (one_pass_read bytes) (λ read. one_then _ _ (one_only (narrowing caveats read.1)) (λ pass. one_pass_written read.0 pass))
+    answers_once (Convert form) bytes = one_then _ _ (one_pass_read bytes) (λ read. one_pass_written form read.1)
+    answers_once (Verify root) bytes = one_then _ _ (one_pass_read bytes) (λ read. one_verdict root read.1)
+
+  pub verify_decides_signed : VerifyDecidesSigned
+  verify_decides_signed root bytes form pass read =
+      let answer : OutcomeText = (Done, with_line_feed (codes "signed")) in
+      let Leads : Result (Form × Plain) FormFault → Type 0 =
+      λ result. MatchResult result (λ read. IsVerdict root read.1 (Ok answer)) (λ fault. Ok answer ≡ Err fault)
+      in (
+        λ is. let verdict : IsVerdict root pass (Ok answer) = subst Leads (one_pass_read bytes is.0 (Ok (form, pass)) is.1 read) is.2 in verdict.0,
+        λ signed. (Ok (form, pass), read, (signed, refl)),
+      )

@@ -2,6 +2,10 @@ pub mod OptionLemmas
 pub mod NarrowLemmas
 pub mod ShownLemmas
 pub mod WordsLemmas
+pub mod CaveatTest
+pub mod StepLemmas
+pub mod ReadingLemmas
+pub mod OutputLemmas
 pub mod RunLemmas
 pub mod AnswerLaws
 pub mod MadeLemmas

@@ -1,7 +1,8 @@
 -- The words of `narrow` and `mint` as clap reads them.
-use Rattle.std.proofs.Common.{◌≡◌, ◌∙◌, Bool, true, false, not, ◌&&◌, List, [], ◌∷◌, ◌++◌, Some, Ok, fold, length, refl, ap, ap₂, codes, arith}
+use Rattle.std.proofs.Common.{◌≡◌, ◌∙◌, Bool, true, false, not, List, [], ◌∷◌, ◌++◌, Some, Ok, fold, length, refl, ap, ap₂, codes, arith}
 use Rattle.std.proofs.lemmas.Bool.{le-ltb}
-use Rattle.std.specs.List.{list_all, prefix_len, slice_index_or}
+use Rattle.std.proofs.lemmas.List.Elements.{All-head, All-tail}
+use Rattle.std.specs.List.{All, AllPass, prefix_len, slice_index_or}
 use Rattle.clap.specs.Words.{App, Row, Shape, Text}
 use Rattle.clap.specs.Faults.{defaults_fault, entered_fault, level_fault, turn_fault, walk_fault}
 use Rattle.clap.specs.Kinds.{or_else}
@@ -13,14 +14,17 @@ use Rattle.command_line.specs.FormName.{form_name, form_named}
 use Rattle.pass_forms.specs.declared.form.Form.{Form}
 use Rattle.pass_forms.specs.declared.form.Form.TheVariants.{V1, V2, Json}
 use Rattle.command_line.specs.Table.{app_of_table, asked, asked_in, refusals}
+use Rattle.pass_caveats.specs.Laws.{ReadsWhatIsUnderstood}
 use Rattle.passtool_commands.specs.Application.{passtool}
 use Rattle.passtool_commands.specs.Laws.{MintTakesDefaults, MintTakesItsParts, NarrowTakesItsCaveats}
-use Rattle.passtool_commands.specs.Words.{asked_command, is_understood, checked_caveats}
+use Rattle.passtool_commands.specs.Words.{AskForCommand, IsCaveatText, checked_caveats}
+use Rattle.passtool_commands.specs.computed.Words.{is_understood}
 use Rattle.passtool_commands.specs.declared.command.Command.{Command}
 use Rattle.passtool_commands.specs.declared.table.Name.{Name}
 use Rattle.passtool_commands.specs.declared.table.Name.TheVariants.{Mint, Narrow}
 use Rattle.passtool_commands.proofs.CaveatWalk.{at_command, caveats_clear, given, rows_are, words_kept, words_pass}
 use Rattle.passtool_commands.proofs.WordLaws.{asked_by, asked_is}
+use Rattle.passtool_commands.proofs.CaveatTest.{is_test}
 
 -- the row of an option that was left out
 abbrev default_of : Text → Text → Row
@@ -62,10 +66,10 @@ module _ (row : Name) (command : Text) (shape : Shape) (is : IsCommand row comma
   clear name below = rw (walks_clear, walks, is.enters words, is.fails words, below) refl
 
   -- arguments for which clap finds these rows ask for what the rows say
-  asked_by_rows : (name : Text) (rows : List Row) (answer : Command) → level_fault shape [] nothing_held words false [] ≡ []
-      → rows_after shape.rules [] words ≡ rows → asked_by (Some (row, rows)) ≡ Some (Ok answer) → asked_command (name ∷ command ∷ words) ≡ Some answer
-  asked_by_rows name rows answer below rows_are asks =
-      asked_is _ _ _ (clear name below) (found name ∙ ap (λ (rows : List Row). Some (row, rows)) rows_are) asks
+  asked_by_rows : ReadsWhatIsUnderstood → (name : Text) (rows : List Row) (answer : Command) → level_fault shape [] nothing_held words false [] ≡ []
+      → rows_after shape.rules [] words ≡ rows → asked_by (Some (row, rows)) ≡ Some (Ok answer) → AskForCommand (name ∷ command ∷ words) answer
+  asked_by_rows reads name rows answer below rows_are asks =
+      asked_is reads _ _ _ (clear name below) (found name ∙ ap (λ (rows : List Row). Some (row, rows)) rows_are) asks
 
 -- ---- mint
 
@@ -108,12 +112,12 @@ named_by_itself V1 = refl
 named_by_itself V2 = refl
 named_by_itself Json = refl
 
-pub mint_takes_its_parts : MintTakesItsParts
-mint_takes_its_parts name hex root id location form [] is =
-    asked_by_rows Mint (codes "mint") mint_shape is_mint _ name _ _ (options_clear hex id location form [])
+pub mint_takes_its_parts : ReadsWhatIsUnderstood → MintTakesItsParts
+mint_takes_its_parts reads name hex root id location form [] is =
+    asked_by_rows Mint (codes "mint") mint_shape is_mint _ reads name _ _ (options_clear hex id location form [])
     (options_alone hex id location form) (rw (named_by_itself form, is) refl)
-mint_takes_its_parts name hex root id location form (first ∷ more) is =
-    asked_by_rows Mint (codes "mint") mint_shape is_mint _ name _ _ (options_clear hex id location form (first ∷ more))
+mint_takes_its_parts reads name hex root id location form (first ∷ more) is =
+    asked_by_rows Mint (codes "mint") mint_shape is_mint _ reads name _ _ (options_clear hex id location form (first ∷ more))
     (options_found hex id location form first more) (rw (named_by_itself form, is) refl)
 
 -- ---- mint with a root and an identifier alone
@@ -130,8 +134,9 @@ few_found : (hex id : Text) → rows_after mint_shape.rules [] (few_options hex 
 unfolding clap_on_literals passtool
 few_found hex id = refl
 
-pub mint_takes_defaults : MintTakesDefaults
-mint_takes_defaults name hex root id is = asked_by_rows Mint (codes "mint") mint_shape is_mint _ name _ _ (few_clear hex id) (few_found hex id) (rw is refl)
+pub mint_takes_defaults : ReadsWhatIsUnderstood → MintTakesDefaults
+mint_takes_defaults reads name hex root id is =
+    asked_by_rows Mint (codes "mint") mint_shape is_mint _ reads name _ _ (few_clear hex id) (few_found hex id) (rw is refl)
 
 -- ---- narrow
 
@@ -143,20 +148,16 @@ unfolding clap_on_literals passtool
 is_narrow = record { meets = refl; passes = refl; enters = λ words. refl; asks = λ rows. refl; fails = λ words. refl }
 
 -- where each text passes, no place is that of one that doesn't
-all_pass : (p : Text → Bool) (texts : List Text) → list_all p texts ≡ true → prefix_len (λ text. not (not (p text))) texts ≡ length texts
+all_pass : (p : Text → Bool) (texts : List Text) → AllPass p texts → prefix_len (λ text. not (not (p text))) texts ≡ length texts
 all_pass p [] h = refl
 all_pass p (text ∷ texts) h =
-    let both = and_true (p text) (list_all p texts) h in
-    rw both.0 (omega (arith, all_pass p texts both.1))
-  where
-    and_true : (a b : Bool) → (a && b) ≡ true → (a ≡ true) × (b ≡ true)
-    and_true true b e = (refl, e)
-    and_true false b e = cc
+    let Passes : Text → Type 0 = λ text. p text ≡ true in
+    rw (All-head Passes text texts h) (omega (arith, all_pass p texts (All-tail Passes text texts h)))
 
-all_understood : (caveats : List Text) → list_all is_understood caveats ≡ true → checked_caveats false caveats ≡ Ok caveats
+all_understood : ReadsWhatIsUnderstood → (caveats : List Text) → All IsCaveatText caveats → checked_caveats is_understood false caveats ≡ Ok caveats
 unfolding checked_caveats
-all_understood caveats h =
-    rw (all_pass is_understood caveats h, le-ltb (length caveats) (length caveats) (omega arith)) refl
+all_understood reads caveats are =
+    rw (all_pass is_understood caveats (λ k d within. (is_test reads _).1 (are k d within)), le-ltb (length caveats) (length caveats) (omega arith)) refl
 
 -- what clap finds of `--any`
 abbrev any_rows : List Row
@@ -180,13 +181,14 @@ any_found : (first : Text) (more : List Text) → rows_after narrow_shape.rules 
 unfolding clap_on_literals passtool
 any_found first more = rows_are narrow_shape true refl refl any_rows (λ change missing tail. refl) first more
 
-any_taken : (caveats : List Text) → checked_caveats true caveats ≡ Ok caveats
+any_taken : (caveats : List Text) → checked_caveats is_understood true caveats ≡ Ok caveats
 unfolding checked_caveats
 any_taken caveats = refl
 
-pub narrow_takes_its_caveats : NarrowTakesItsCaveats
-narrow_takes_its_caveats name first more = (
-  λ understood. asked_by_rows Narrow (codes "narrow") narrow_shape is_narrow _ name _ _ (caveats_alone_clear first more)
-      (caveats_alone first more) (rw (all_understood (first ∷ more) understood) refl),
-  asked_by_rows Narrow (codes "narrow") narrow_shape is_narrow _ name _ _ (any_clear first more) (any_found first more) (rw (any_taken (first ∷ more)) refl),
+pub narrow_takes_its_caveats : ReadsWhatIsUnderstood → NarrowTakesItsCaveats
+narrow_takes_its_caveats reads name first more = (
+  λ are. asked_by_rows Narrow (codes "narrow") narrow_shape is_narrow _ reads name _ _ (caveats_alone_clear first more)
+      (caveats_alone first more) (rw (all_understood reads (first ∷ more) are) refl),
+  asked_by_rows Narrow (codes "narrow") narrow_shape is_narrow _ reads name _ _ (any_clear first more) (any_found first more)
+      (rw (any_taken (first ∷ more)) refl),
 )

@@ -1,19 +1,29 @@
--- What a command answers is what it performs.
-use Rattle.std.proofs.Common.{◌≡◌, ◌∙◌, ℕ, List, Option, Ok, Err, refl, ap, ap₂, subst, sym}
+-- What a command answers is what it performs, and what the arguments ask for is what a run does.
+use Rattle.std.proofs.Common.{◌≡◌, ℕ, List, Option, Result, Ok, Err, inl, inr, refl, ap₂, subst, sym}
 use Rattle.std.specs.Io.KnownBytes.{Appends}
+use Rattle.clap.specs.Words.{Text}
 use Rattle.command_line.specs.Output.{AppendsFront}
-use Rattle.std.specs.Result.{result_map_both}
+use Rattle.command_line.specs.declared.errors.WordsFault.{WordsFault}
+use Rattle.command_line.specs.declared.errors.WordsFault.TheVariants.{Refused, BadValue, Memory as OutOfMemory}
+use Rattle.command_line.specs.declared.job.Asked.TheVariants.{Perform}
 use Rattle.pass_forms.specs.Reading.{UnlessMemory}
 use Rattle.pass_forms.specs.declared.fault.FormFault.{FormFault}
-use Rattle.pass_forms.specs.declared.fault.FormFault.TheVariants.{TooLong, Malformed, ThirdParty, TooMany, Memory}
-use Rattle.passtool_commands.specs.Answer.{ReadsBack, OutcomeText, command_answer, reads_input}
-use Rattle.passtool_commands.specs.Run.{WritesFront, Performs, ReadsInput, Writes}
-use Rattle.passtool_commands.specs.declared.answer.Fault.TheVariants.{Pass}
+use Rattle.pass_forms.specs.declared.fault.FormFault.TheVariants.{Memory}
+use Rattle.passtool_commands.specs.Answer.{IsAnswer, OutcomeText, ReadsBack, reads_input}
+use Rattle.passtool_commands.specs.Fault.{of_words}
+use Rattle.passtool_commands.specs.Run.{AnswersWords, Performs, ReadsInput, Writes, WritesFront}
+use Rattle.passtool_commands.specs.Words.{AskForCommand, ReadsWords}
+use Rattle.passtool_commands.specs.declared.answer.BadValue.{BadValue as OurBadValue}
+use Rattle.passtool_commands.specs.declared.answer.BadValue.TheVariants.{Root, Caveat}
+use Rattle.passtool_commands.specs.declared.answer.Fault.{Fault}
+use Rattle.passtool_commands.specs.declared.answer.Fault.TheVariants.{Words, Pass, BadRoot, CaveatNotUnderstood, InputOutput}
 use Rattle.passtool_commands.specs.declared.answer.Outcome.{Outcome}
+use Rattle.passtool_commands.specs.declared.answer.Outcome.TheVariants.{Done}
 use Rattle.passtool_commands.specs.declared.command.Command.{Command}
+use Rattle.passtool_commands.proofs.CaveatTest.{ask_for_one_command}
 
 module _ (command : Command) (left left' held held' : Option (List ℕ)) (bytes : List ℕ) (reads : ReadsInput (reads_input command) left left' bytes) where
-  module _ (ending : OutcomeText) (is : command_answer command bytes ≡ Ok ending) (reads_back : ReadsBack command bytes ending.1) where
+  module _ (ending : OutcomeText) (is : IsAnswer command bytes (Ok ending)) (reads_back : ReadsBack command bytes ending.1) where
     written : (outcome : Outcome) (text front : List ℕ) → outcome ≡ ending.0 → text ≡ ending.1 → Appends held held' front
         → Writes command left left' held held' (outcome, text) front
     written outcome text front outcome_is text_is appends =
@@ -21,7 +31,7 @@ module _ (command : Command) (left left' held held' : Option (List ℕ)) (bytes 
         record {
           bytes = bytes;
           reads = reads;
-          answers = ap (result_map_both (λ ending. ending) Pass) (is ∙ ap Ok pair);
+          answers = subst (λ (e : OutcomeText). IsAnswer command bytes (Ok e)) pair is;
           reads_back = subst (ReadsBack command bytes) (sym text_is) reads_back;
           appends = appends;
         }
@@ -39,10 +49,45 @@ module _ (command : Command) (left left' held held' : Option (List ℕ)) (bytes 
       writes = written ending.0 text appends.0 refl text_is appends.2;
     }
 
-  pub failed : (fault : FormFault) → UnlessMemory (λ answer. command_answer command bytes ≡ answer) (Err fault)
+  pub failed : (fault : FormFault) → UnlessMemory (IsAnswer command bytes) (Err fault)
       → Performs command left left' held held' (Err (Pass fault))
-  failed TooLong is = (bytes, reads, ap (result_map_both (λ ending. ending) Pass) is)
-  failed Malformed is = (bytes, reads, ap (result_map_both (λ ending. ending) Pass) is)
-  failed ThirdParty is = (bytes, reads, ap (result_map_both (λ ending. ending) Pass) is)
-  failed TooMany is = (bytes, reads, ap (result_map_both (λ ending. ending) Pass) is)
   failed Memory is = tt
+  failed fault is = (bytes, reads, is)
+
+module _ (words : List Text) (command : Command) (ask : AskForCommand words command) where
+  -- what is performed is what the arguments allow
+  pub performs_words : (left left' held held' : Option (List ℕ)) (result : Result Outcome Fault) → Performs command left left' held held' result
+      → AnswersWords words result
+  performs_words left left' held held' (Ok Done) is = inl (command, ask)
+  performs_words left left' held held' (Err (Words error)) is = absurd is
+  performs_words left left' held held' (Err BadRoot) is = absurd is
+  performs_words left left' held held' (Err (CaveatNotUnderstood number)) is = absurd is
+  performs_words left left' held held' (Err (Pass Memory)) is = tt
+  performs_words left left' held held' (Err InputOutput) is = inl (command, ask)
+  performs_words left left' held held' result is = (command, ask)
+
+  -- no other command is asked for
+  pub performs_alone : (left left' held held' : Option (List ℕ)) (result : Result Outcome Fault) (other : Command) → AskForCommand words other
+      → Performs command left left' held held' result → Performs other left left' held held' result
+  performs_alone left left' held held' result other asked is = elim (ask_for_one_command words other (Ok (Perform command)) asked ask) [
+    | inl same ↦ let one : command ≡ other = cc in subst (λ (c : Command). Performs c left left' held held' result) one is
+    | inr none ↦ cc
+  ]
+
+module _ (words : List Text) (fault : WordsFault OurBadValue) (read : ReadsWords words (Err fault)) where
+  pub refused_words : AnswersWords words (Err (of_words fault))
+  refused_words = go fault read
+    where
+      go : (fault : WordsFault OurBadValue) → ReadsWords words (Err fault) → AnswersWords words (Err (of_words fault))
+      go (Refused error) is = is
+      go (BadValue Root) is = is
+      go (BadValue (Caveat number)) is = is
+      go OutOfMemory is = tt
+
+  -- no command is asked for, unless memory ran out
+  pub refused_alone : (left left' held held' : Option (List ℕ)) (command : Command) → AskForCommand words command
+      → Performs command left left' held held' (Err (of_words fault))
+  refused_alone left left' held held' command ask = elim (ask_for_one_command words command (Err fault) ask read) [
+    | inl same ↦ cc
+    | inr none ↦ let out : OutOfMemory ≡ fault = cc in subst (λ (f : WordsFault OurBadValue). Performs command left left' held held' (Err (of_words f))) out tt
+  ]

@@ -8,44 +8,64 @@ use Rattle.clap.specs.Faults.{flag_word_fault}
 use Rattle.clap.specs.Walk.{walked_from, word_met}
 use Rattle.clap.specs.Lexer.{long_of, short_of, strip_byte}
 use Rattle.clap.proofs.OnLiterals.{clap_on_literals}
+use Rattle.command_line.specs.FormName.{form_name}
 use Rattle.command_line.specs.Root.{root_among, root_of}
 use Rattle.hex.specs.Hex.{decode_of, is_hex_digit}
 use Rattle.hex.specs.declared.error.FromHexError.{FromHexError}
 use Rattle.hex.proofs.HexLemmas.{decode_of-ok}
+use Rattle.pass_forms.specs.declared.form.Form.{Form}
 use Rattle.pass_forms.specs.declared.form.Form.TheVariants.{V1, V2, Json}
+use Rattle.command_line.specs.Job.{Refusal, job_asked}
 use Rattle.command_line.specs.Table.{asked, refusals}
+use Rattle.command_line.specs.declared.job.Asked.TheVariants.{Perform}
+use Rattle.pass_caveats.specs.Laws.{ReadsWhatIsUnderstood}
 use Rattle.passtool_commands.specs.Application.{passtool}
 use Rattle.passtool_commands.specs.Laws.{ConvertTakesItsForm, ShowTakesNothing, VerifyTakesItsRoot}
-use Rattle.passtool_commands.specs.Words.{asked_command, command_of}
+use Rattle.passtool_commands.specs.Words.{AskForCommand, command_of}
+use Rattle.passtool_commands.specs.computed.Words.{is_understood}
 use Rattle.passtool_commands.specs.declared.answer.BadValue.{BadValue}
-use Rattle.command_line.specs.Job.{Refusal}
 use Rattle.passtool_commands.specs.declared.command.Command.{Command}
-use Rattle.passtool_commands.specs.declared.command.Command.TheVariants.{Verify}
+use Rattle.passtool_commands.specs.declared.command.Command.TheVariants.{Show, Convert, Verify}
 use Rattle.passtool_commands.specs.declared.table.Name.{Name}
 use Rattle.passtool_commands.specs.declared.table.Name.TheVariants as row
+use Rattle.passtool_commands.proofs.CaveatTest.{words_read}
 
 -- what the row that clap found asks for
 abbrev pub asked_by : Option (Name × List Row) → Option (Result Command (Refusal BadValue))
-asked_by = option_map (λ row. command_of row.0 row.1)
+asked_by = option_map (λ row. command_of is_understood row.0 row.1)
 
--- words that clap reads ask for the command that it found
-pub asked_is : (words : List Text) (found : Option (Name × List Row)) (command : Command) → refusals passtool words ≡ [] → asked passtool words ≡ found
-    → asked_by found ≡ Some (Ok command) → asked_command words ≡ Some command
-asked_is words found command clear same is = rw (clear, same, is) refl
+-- what the words ask for by the test of caveats that the code has
+abbrev AskByTest : List Text → Command → Type 0
+AskByTest words command = job_asked passtool (command_of is_understood) words ≡ Some (Ok command)
+
+module _ (reads : ReadsWhatIsUnderstood) where
+  ask_for : (words : List Text) (command : Command) → AskByTest words command → AskForCommand words command
+  ask_for words command is = words_read reads words (Ok (Perform command)) is
+
+  -- words that clap reads ask for the command that it found
+  pub asked_is : (words : List Text) (found : Option (Name × List Row)) (command : Command) → refusals passtool words ≡ [] → asked passtool words ≡ found
+      → asked_by found ≡ Some (Ok command) → AskForCommand words command
+  asked_is words found command clear same is = ask_for words command (rw (clear, same) is)
 
 -- ---- show
 
-pub show_takes_nothing : ShowTakesNothing
+shown : (name : Text) → AskByTest (name ∷ codes "show" ∷ []) Show
 unfolding clap_on_literals passtool refusals asked
-show_takes_nothing name = refl
+shown name = refl
+
+pub show_takes_nothing : ReadsWhatIsUnderstood → ShowTakesNothing
+show_takes_nothing reads name = ask_for reads _ _ (shown name)
 
 -- ---- convert
 
-pub convert_takes_its_form : ConvertTakesItsForm
+converted : (name : Text) (form : Form) → AskByTest (name ∷ codes "convert" ∷ codes "--form" ∷ form_name form ∷ []) (Convert form)
 unfolding clap_on_literals passtool refusals asked
-convert_takes_its_form name V1 = refl
-convert_takes_its_form name V2 = refl
-convert_takes_its_form name Json = refl
+converted name V1 = refl
+converted name V2 = refl
+converted name Json = refl
+
+pub convert_takes_its_form : ReadsWhatIsUnderstood → ConvertTakesItsForm
+convert_takes_its_form reads name form = ask_for reads _ _ (converted name form)
 
 -- ---- verify
 
@@ -98,8 +118,8 @@ asked_for (Some p) text root h is =
     let given : first_of (codes "root") p.1 ≡ Some text = ap (λ (q : Name × Option Text). q.1) pair in
     rw (name, given, is) refl
 
-pub verify_takes_its_root : VerifyTakesItsRoot
-verify_takes_its_root name [] root is = absurd (no_digit_no_root root is)
-verify_takes_its_root name (first ∷ rest) root is =
+pub verify_takes_its_root : ReadsWhatIsUnderstood → VerifyTakesItsRoot
+verify_takes_its_root reads name [] root is = absurd (no_digit_no_root root is)
+verify_takes_its_root reads name (first ∷ rest) root is =
     let dash = no_dash first (digit_first first rest root is) in
-    asked_is _ _ _ (nothing_against name first rest dash) refl (asked_for _ (first ∷ rest) root (found_root name first rest dash) is)
+    asked_is reads _ _ _ (nothing_against name first rest dash) refl (asked_for _ (first ∷ rest) root (found_root name first rest dash) is)

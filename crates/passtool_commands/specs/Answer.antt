@@ -1,15 +1,15 @@
 -- What each command answers (ours).
-use Rattle.std.specs.Prelude.{◌≡◌, ℕ, ◌+◌, Bool, true, false, nat_lt, if◌then◌else◌, List, ◌++◌, length, codes, Result, Ok, Err}
+use Rattle.std.specs.Prelude.{◌≡◌, ℕ, ◌+◌, Bool, true, false, nat_lt, if◌then◌else◌, List, ◌++◌, length, codes, Result, Ok, Err, MatchResult}
 use Rattle.std.specs.Io.BufRead.{strip_last}
 use Rattle.pass_mac.specs.Chain.{extended_signature}
 use Rattle.pass_forms.specs.declared.fault.FormFault.{FormFault}
 use Rattle.pass_forms.specs.declared.fault.FormFault.TheVariants.{TooMany}
 use Rattle.pass_forms.specs.declared.form.Form.{Form}
 use Rattle.pass_forms.specs.Pass.{IsSigned, Plain}
-use Rattle.pass_forms.specs.computed.Pass.{is_signed}
 use Rattle.pass_forms.specs.Pass as passes
 use Rattle.pass_forms.specs.Reading.{max_caveats}
-use Rattle.pass_json.specs.computed.AnyForm.{reading, writing}
+use Rattle.pass_forms.specs.Writing.{IsWriting}
+use Rattle.pass_json.specs.AnyForm.{IsAnyReading, IsTextIn}
 use Rattle.passtool_commands.specs.Minting.{Minting}
 use Rattle.passtool_commands.specs.Shown.{with_line_feed, shown_text}
 use Rattle.passtool_commands.specs.declared.answer.Outcome.{Outcome}
@@ -21,22 +21,31 @@ use Rattle.passtool_commands.specs.declared.command.Command.TheVariants.{Mint, S
 abbrev pub OutcomeText : Type 0
 OutcomeText = Outcome × List ℕ
 
--- the ? of the logic
+-- the results that a step may have
+abbrev pub Results : Type 0 → Type 1
+Results A = Result A FormFault → Type 0
+
+-- the step that has this result alone
+abbrev pub IsOnly : {A : Type 0} → Result A FormFault → Results A
+IsOnly expected result = expected ≡ result
+
+-- The ? of the logic: the step has a result, and the answer is its fault, or one that the rest has for its value.
 infixl 10 ◌>>=◌
-abbrev pub ◌>>=◌ : {A B : Type 0} → Result A FormFault → (A → Result B FormFault) → Result B FormFault
-Ok x >>= f = f x
-Err fault >>= f = Err fault
+abbrev pub ◌>>=◌ : {A B : Type 0} → Results A → (A → Results B) → Results B
+step >>= rest = λ answer. (result : Result _ FormFault) × step result × MatchResult result (λ value. rest value answer) (λ fault. answer ≡ Err fault)
 
 -- the form and the pass of the input, without one line feed at its end
-abbrev pub pass_in : List ℕ → Result (Form × Plain) FormFault
-pass_in bytes = reading (strip_last 10 bytes)
+abbrev pub ReadsPass : List ℕ → Results (Form × Plain)
+ReadsPass bytes = IsAnyReading (strip_last 10 bytes)
 
 -- a pass is written with a line feed at the end
 abbrev pub done_with : List ℕ → Result OutcomeText FormFault
 done_with text = Ok (Done, with_line_feed text)
 
-abbrev pub written_pass : Form → Plain → Result OutcomeText FormFault
-written_pass form pass = writing form pass >>= done_with
+abbrev pub WritesPass : Form → Plain → Results OutcomeText
+WritesPass form pass = do
+  text ← IsWriting (IsTextIn form) pass
+  IsOnly (done_with text)
 
 -- the pass with more caveats, each signed under the signature before it
 abbrev pub with_caveats : List (List ℕ) → Plain → Plain
@@ -57,45 +66,46 @@ narrowing caveats pass =
 abbrev pub new_pass : Minting → Plain
 new_pass minting = passes.minted_pass minting.root minting.location minting.identifier
 
--- the answer of `verify`: whether a pass is signed
-abbrev pub verdict : Bool → OutcomeText
-verdict true = (Done, with_line_feed (codes "signed"))
-verdict false = (NotSigned, with_line_feed (codes "not signed"))
+-- the answer of `verify`: whether the pass is signed under the root
+abbrev pub IsVerdict : List ℕ → Plain → Results OutcomeText
+IsVerdict root pass (Ok (Done, text)) = IsSigned root pass × (text ≡ with_line_feed (codes "signed"))
+IsVerdict root pass (Ok (NotSigned, text)) = (¬ IsSigned root pass) × (text ≡ with_line_feed (codes "not signed"))
+IsVerdict root pass (Err fault) = ⊥
 
--- The answer of each command to its input: its outcome and the text that it writes, or the fault of a pass.
+-- The answer of each command to its input: its outcome and the text that it writes, or the fault of a pass. It has one: `AnswersOnce`.
 
-abbrev pub minted_answer : Minting → Result OutcomeText FormFault
-minted_answer minting = do
-  pass ← narrowing minting.caveats (new_pass minting)
-  written_pass minting.form pass
+abbrev pub MintsPass : Minting → Results OutcomeText
+MintsPass minting = do
+  pass ← IsOnly (narrowing minting.caveats (new_pass minting))
+  WritesPass minting.form pass
 
-abbrev pub shown_of : List ℕ → Result OutcomeText FormFault
-shown_of bytes = do
-  read ← pass_in bytes
-  Ok (Done, shown_text read.0 read.1)
+abbrev pub ShowsPass : List ℕ → Results OutcomeText
+ShowsPass bytes = do
+  read ← ReadsPass bytes
+  IsOnly (Ok (Done, shown_text read.0 read.1))
 
-abbrev pub narrowed_of : List (List ℕ) → List ℕ → Result OutcomeText FormFault
-narrowed_of caveats bytes = do
-  read ← pass_in bytes
-  pass ← narrowing caveats read.1
-  written_pass read.0 pass
+abbrev pub NarrowsPass : List (List ℕ) → List ℕ → Results OutcomeText
+NarrowsPass caveats bytes = do
+  read ← ReadsPass bytes
+  pass ← IsOnly (narrowing caveats read.1)
+  WritesPass read.0 pass
 
-abbrev pub converted_of : Form → List ℕ → Result OutcomeText FormFault
-converted_of form bytes = do
-  read ← pass_in bytes
-  written_pass form read.1
+abbrev pub ConvertsPass : Form → List ℕ → Results OutcomeText
+ConvertsPass form bytes = do
+  read ← ReadsPass bytes
+  WritesPass form read.1
 
-abbrev pub verified_of : List ℕ → List ℕ → Result OutcomeText FormFault
-verified_of root bytes = do
-  read ← pass_in bytes
-  Ok (verdict (is_signed root read.1))
+abbrev pub VerifiesPass : List ℕ → List ℕ → Results OutcomeText
+VerifiesPass root bytes = do
+  read ← ReadsPass bytes
+  IsVerdict root read.1
 
-unfoldable pub command_answer : Command → List ℕ → Result OutcomeText FormFault
-command_answer (Mint minting) bytes = minted_answer minting
-command_answer Show bytes = shown_of bytes
-command_answer (Narrow caveats) bytes = narrowed_of caveats bytes
-command_answer (Convert form) bytes = converted_of form bytes
-command_answer (Verify root) bytes = verified_of root bytes
+abbrev pub IsAnswer : Command → List ℕ → Results OutcomeText
+IsAnswer (Mint minting) bytes = MintsPass minting
+IsAnswer Show bytes = ShowsPass bytes
+IsAnswer (Narrow caveats) bytes = NarrowsPass caveats bytes
+IsAnswer (Convert form) bytes = ConvertsPass form bytes
+IsAnswer (Verify root) bytes = VerifiesPass root bytes
 
 -- ---- a written pass, read back
 
@@ -103,7 +113,7 @@ command_answer (Verify root) bytes = verified_of root bytes
 pub record IsMinted (minting : Minting) (text : List ℕ) : Type 0 where
   pub pass : Plain
   pub made : narrowing minting.caveats (new_pass minting) ≡ Ok pass
-  pub reads : pass_in text ≡ Ok (minting.form, pass)
+  pub reads : ReadsPass text (Ok (minting.form, pass))
   pub signed : IsSigned minting.root pass
 
 -- The text reads as the pass of the input with the caveats added, in its form. If the one was signed, so is the other.
@@ -111,17 +121,17 @@ pub record IsNarrowedOutput (caveats : List (List ℕ)) (bytes text : List ℕ) 
   pub form : Form
   pub before : Plain
   pub after : Plain
-  pub read : pass_in bytes ≡ Ok (form, before)
+  pub read : ReadsPass bytes (Ok (form, before))
   pub made : narrowing caveats before ≡ Ok after
-  pub reads : pass_in text ≡ Ok (form, after)
+  pub reads : ReadsPass text (Ok (form, after))
   pub signed : (root : List ℕ) → IsSigned root before → IsSigned root after
 
 -- The text reads as the pass of the input, in the form that was asked for.
 pub record IsConverted (form : Form) (bytes text : List ℕ) : Type 0 where
   pub before : Form
   pub pass : Plain
-  pub read : pass_in bytes ≡ Ok (before, pass)
-  pub reads : pass_in text ≡ Ok (form, pass)
+  pub read : ReadsPass bytes (Ok (before, pass))
+  pub reads : ReadsPass text (Ok (form, pass))
 
 -- how the text of a command's answer is read, if it is a pass
 abbrev pub ReadsBack : Command → List ℕ → List ℕ → Type 0

@@ -1,19 +1,25 @@
 -- Laws of the definitions.
-use Rattle.std.specs.Prelude.{◌≡◌, ◌↔◌, ℕ, List, [], ◌∷◌, ◌++◌, Some, Ok, IsSome, true, codes}
-use Rattle.std.specs.List.{list_all}
+use Rattle.std.specs.Prelude.{◌≡◌, ◌↔◌, ◌⊎◌, ℕ, List, [], ◌∷◌, ◌++◌, All, Result, Some, Ok, Err, IsSome, codes}
 use Rattle.clap.specs.Words.{Text}
+use Rattle.pass_forms.specs.declared.fault.FormFault.{FormFault}
 use Rattle.pass_forms.specs.declared.form.Form.{Form}
 use Rattle.pass_forms.specs.declared.form.Form.TheVariants.{V2}
 use Rattle.pass_forms.specs.Pass.{IsSigned, Plain}
-use Rattle.passtool_commands.specs.Answer.{command_answer, narrowing, new_pass, pass_in}
+use Rattle.passtool_commands.specs.Answer.{IsAnswer, OutcomeText, ReadsPass, narrowing, new_pass}
 use Rattle.command_line.specs.Table.{asked, refusals}
 use Rattle.passtool_commands.specs.Application.{passtool}
 use Rattle.command_line.specs.FormName.{form_name}
 use Rattle.passtool_commands.specs.Minting.{Minting}
 use Rattle.command_line.specs.Root.{root_of}
+use Rattle.command_line.specs.declared.errors.WordsFault.{WordsFault}
+use Rattle.command_line.specs.declared.errors.WordsFault.TheVariants.{Memory}
+use Rattle.command_line.specs.declared.job.Asked.{Asked}
+use Rattle.command_line.specs.declared.job.Asked.TheVariants.{Perform}
 use Rattle.passtool_commands.specs.Shown.{with_line_feed}
-use Rattle.passtool_commands.specs.Words.{asked_command, is_understood}
+use Rattle.passtool_commands.specs.Words.{AskForCommand, IsCaveatText, ReadsWords}
+use Rattle.passtool_commands.specs.declared.answer.BadValue.{BadValue}
 use Rattle.passtool_commands.specs.declared.answer.Outcome.TheVariants.{Done}
+use Rattle.passtool_commands.specs.declared.command.Command.{Command}
 use Rattle.passtool_commands.specs.declared.command.Command.TheVariants.{Mint, Show, Narrow, Convert, Verify}
 
 -- ---- arguments
@@ -22,45 +28,55 @@ use Rattle.passtool_commands.specs.declared.command.Command.TheVariants.{Mint, S
 abbrev pub WordsNameACommand : Type 0
 WordsNameACommand = (words : List Text) → refusals passtool words ≡ [] → IsSome (asked passtool words)
 
+-- Arguments that ask for a command ask for no other, and have no fault: each of their results is this command, or out of memory.
+abbrev pub AskForOneCommand : Type 0
+AskForOneCommand = (words : List Text) (command : Command) (result : Result (Asked Command) (WordsFault BadValue))
+    → AskForCommand words command → ReadsWords words result → (result ≡ Ok (Perform command)) ⊎ (result ≡ Err Memory)
+
 -- `mint`, under any name of the program, with all its options and any caveats, in their order
 abbrev pub MintTakesItsParts : Type 0
 MintTakesItsParts = (name hex root id location : Text) (form : Form) (caveats : List Text) → root_of hex ≡ Some root
-    → asked_command (name ∷ codes "mint" ∷ (codes "--root=" ++ hex) ∷ (codes "--id=" ++ id) ∷ (codes "--location=" ++ location)
+    → AskForCommand (name ∷ codes "mint" ∷ (codes "--root=" ++ hex) ∷ (codes "--id=" ++ id) ∷ (codes "--location=" ++ location)
     ∷ (codes "--form=" ++ form_name form) ∷ codes "--" ∷ caveats)
-    ≡ Some (Mint (record { root = root; identifier = id; location = location; form = form; caveats = caveats }))
+    (Mint (record { root = root; identifier = id; location = location; form = form; caveats = caveats }))
 
 -- The defaults of `mint` with only a root and an identifier: an empty location, V2, and no caveats.
 abbrev pub MintTakesDefaults : Type 0
 MintTakesDefaults = (name hex root id : Text) → root_of hex ≡ Some root
-    → asked_command (name ∷ codes "mint" ∷ (codes "--root=" ++ hex) ∷ (codes "--id=" ++ id) ∷ [])
-    ≡ Some (Mint (record { root = root; identifier = id; location = []; form = V2; caveats = [] }))
+    → AskForCommand (name ∷ codes "mint" ∷ (codes "--root=" ++ hex) ∷ (codes "--id=" ++ id) ∷ [])
+    (Mint (record { root = root; identifier = id; location = []; form = V2; caveats = [] }))
 
 -- `show`
 abbrev pub ShowTakesNothing : Type 0
-ShowTakesNothing = (name : Text) → asked_command (name ∷ codes "show" ∷ []) ≡ Some Show
+ShowTakesNothing = (name : Text) → AskForCommand (name ∷ codes "show" ∷ []) Show
 
--- `narrow -- CAVEAT..`, if each caveat is understood, and `narrow --any -- CAVEAT..`: one caveat or more, in their order
+-- `narrow -- CAVEAT..`, if each text is a caveat of the language, and `narrow --any -- CAVEAT..`: one caveat or more, in their order
 abbrev pub NarrowTakesItsCaveats : Type 0
 NarrowTakesItsCaveats = (name first : Text) (more : List Text) →
-    (list_all is_understood (first ∷ more) ≡ true → asked_command (name ∷ codes "narrow" ∷ codes "--" ∷ first ∷ more) ≡ Some (Narrow (first ∷ more)))
-    × (asked_command (name ∷ codes "narrow" ∷ codes "--any" ∷ codes "--" ∷ first ∷ more) ≡ Some (Narrow (first ∷ more)))
+    (All IsCaveatText (first ∷ more) → AskForCommand (name ∷ codes "narrow" ∷ codes "--" ∷ first ∷ more) (Narrow (first ∷ more)))
+    × AskForCommand (name ∷ codes "narrow" ∷ codes "--any" ∷ codes "--" ∷ first ∷ more) (Narrow (first ∷ more))
 
 -- `convert --form F`
 abbrev pub ConvertTakesItsForm : Type 0
 ConvertTakesItsForm = (name : Text) (form : Form)
-    → asked_command (name ∷ codes "convert" ∷ codes "--form" ∷ form_name form ∷ []) ≡ Some (Convert form)
+    → AskForCommand (name ∷ codes "convert" ∷ codes "--form" ∷ form_name form ∷ []) (Convert form)
 
 -- `verify --root HEX` asks for `verify` under the root of HEX.
 abbrev pub VerifyTakesItsRoot : Type 0
 VerifyTakesItsRoot = (name hex root : Text) → root_of hex ≡ Some root
-    → asked_command (name ∷ codes "verify" ∷ codes "--root" ∷ hex ∷ []) ≡ Some (Verify root)
+    → AskForCommand (name ∷ codes "verify" ∷ codes "--root" ∷ hex ∷ []) (Verify root)
 
 -- ---- answers
 
+-- A command has one answer to an input at most.
+abbrev pub AnswersOnce : Type 0
+AnswersOnce = (command : Command) (bytes : List ℕ) (one other : Result OutcomeText FormFault)
+    → IsAnswer command bytes one → IsAnswer command bytes other → one ≡ other
+
 -- `verify` prints `signed` exactly if the pass that it read is signed under the root.
 abbrev pub VerifyDecidesSigned : Type 0
-VerifyDecidesSigned = (root bytes : List ℕ) (form : Form) (pass : Plain) → pass_in bytes ≡ Ok (form, pass)
-    → (command_answer (Verify root) bytes ≡ Ok (Done, with_line_feed (codes "signed"))) ↔ IsSigned root pass
+VerifyDecidesSigned = (root bytes : List ℕ) (form : Form) (pass : Plain) → ReadsPass bytes (Ok (form, pass))
+    → IsAnswer (Verify root) bytes (Ok (Done, with_line_feed (codes "signed"))) ↔ IsSigned root pass
 
 -- The pass that `mint` makes is signed under its root.
 abbrev pub MintSigns : Type 0

@@ -4,5 +4,6 @@ pub mod Fault
 pub mod Shown
 pub mod Answer
 pub mod Words
+pub mod computed
 pub mod Run
 pub mod Laws

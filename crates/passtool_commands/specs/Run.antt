@@ -1,27 +1,22 @@
 -- What a run of the program does (ours).
-use Rattle.std.specs.Prelude.{◌≡◌, ◌⊎◌, ℕ, List, [], Option, Some, None, Result, Ok, Err, IsSome, Bool, false, true}
-use Rattle.std.specs.Result.{result_map_both}
+use Rattle.std.specs.Prelude.{◌≡◌, ◌⊎◌, ℕ, List, [], Option, Result, Ok, Err, Bool, false, true}
 use Rattle.std.specs.Io.{StartsWith}
 use Rattle.std.specs.Io.KnownBytes.{Appends, Keeps}
 use Rattle.clap.specs.Words.{Text}
 use Rattle.pass_forms.specs.declared.fault.FormFault.TheVariants.{Memory}
-use Rattle.passtool_commands.specs.Answer.{ReadsBack, OutcomeText, command_answer, reads_input}
+use Rattle.passtool_commands.specs.Answer.{IsAnswer, OutcomeText, ReadsBack, reads_input}
 use Rattle.command_line.specs.Input.{ReadsAtMost}
 use Rattle.command_line.specs.Table.{refusals}
 use Rattle.command_line.specs.Words.{HasText}
 use Rattle.command_line.specs.declared.errors.WordsFault.TheVariants.{Refused, BadValue}
 use Rattle.passtool_commands.specs.Application.{passtool}
-use Rattle.passtool_commands.specs.Words.{ReadsWords, asked_command}
+use Rattle.passtool_commands.specs.Words.{AskForCommand, ReadsWords}
 use Rattle.passtool_commands.specs.declared.answer.BadValue.TheVariants.{Root, Caveat}
 use Rattle.passtool_commands.specs.declared.answer.Fault.{Fault}
 use Rattle.passtool_commands.specs.declared.answer.Fault.TheVariants.{Words, Pass, BadRoot, CaveatNotUnderstood, InputOutput}
 use Rattle.passtool_commands.specs.declared.answer.Outcome.{Outcome}
 use Rattle.passtool_commands.specs.declared.answer.Outcome.TheVariants.{Done, NotSigned}
 use Rattle.passtool_commands.specs.declared.command.Command.{Command}
-
--- the answer of a command to its input, or the program's fault
-abbrev pub IsAnswer : Command → List ℕ → Result OutcomeText Fault → Type 0
-IsAnswer command bytes answer = result_map_both (λ ending. ending) Pass (command_answer command bytes) ≡ answer
 
 -- a command's input: at most the first 8,194 bytes that the reader had left, or nothing
 abbrev pub ReadsInput : Bool → Option (List ℕ) → Option (List ℕ) → List ℕ → Type 0
@@ -49,22 +44,26 @@ abbrev pub Performs : Command → Option (List ℕ) → Option (List ℕ) → Op
     → Option (List ℕ) → Result Outcome Fault → Type 0
 Performs command left left' held held' (Ok outcome) = (text : List ℕ) × Writes command left left' held held' (outcome, text) text
 Performs command left left' held held' (Err (Pass Memory)) = Unit {0}
-Performs command left left' held held' (Err InputOutput) = Keeps held held' ⊎ WritesFront command left left' held held'
-Performs command left left' held held' (Err fault) =
+Performs command left left' held held' (Err (Pass fault)) =
     (bytes : List ℕ) × ReadsInput (reads_input command) left left' bytes × IsAnswer command bytes (Err fault)
+Performs command left left' held held' (Err InputOutput) = Keeps held held' ⊎ WritesFront command left left' held held'
+Performs command left left' held held' (Err fault) = ⊥
 
--- the arguments ask for a command that reads input
-abbrev pub asks_input : Option Command → Bool
-asks_input None = false
-asks_input (Some command) = reads_input command
+-- the arguments ask for some command
+abbrev pub AskForAny : List Text → Type 0
+AskForAny words = (command : Command) × AskForCommand words command
+
+-- the arguments ask for no command, or for one that reads no input
+abbrev pub AskForNoInput : List Text → Type 0
+AskForNoInput words = (command : Command) → AskForCommand words command → reads_input command ≡ false
 
 -- the results of a run that the arguments allow
 abbrev pub AnswersWords : List Text → Result Outcome Fault → Type 0
-AnswersWords words (Ok NotSigned) = IsSome (asked_command words)
-AnswersWords words (Ok Done) = IsSome (asked_command words) ⊎ HasText (refusals passtool words)
+AnswersWords words (Ok NotSigned) = AskForAny words
+AnswersWords words (Ok Done) = AskForAny words ⊎ HasText (refusals passtool words)
 AnswersWords words (Err (Words error)) = ReadsWords words (Err (Refused error))
 AnswersWords words (Err BadRoot) = ReadsWords words (Err (BadValue Root))
 AnswersWords words (Err (CaveatNotUnderstood number)) = ReadsWords words (Err (BadValue (Caveat number)))
 AnswersWords words (Err (Pass Memory)) = Unit {0}
-AnswersWords words (Err (Pass fault)) = IsSome (asked_command words)
-AnswersWords words (Err InputOutput) = IsSome (asked_command words) ⊎ HasText (refusals passtool words)
+AnswersWords words (Err (Pass fault)) = AskForAny words
+AnswersWords words (Err InputOutput) = AskForAny words ⊎ HasText (refusals passtool words)

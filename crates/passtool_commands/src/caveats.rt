@@ -1,8 +1,8 @@
 //! Caveats from the command line.
 
-ghost use Rattle.std.specs.Prelude.{◌≡◌, IfOk, is_some, map, not, position};
-ghost use Rattle.pass_caveats.specs.computed.CaveatOf.{caveat_of};
+ghost use Rattle.std.specs.Prelude.{◌≡◌, IfOk, map, not, position};
 ghost use Rattle.passtool_commands.specs.Words as spec;
+ghost use Rattle.passtool_commands.specs.computed.Words.{is_understood};
 
 use pass_caveats::read;
 use std::alloc::{AllocError, Global};
@@ -40,14 +40,14 @@ impl<'a> Caveats<'a> {
 
     /// The index of the first text that isn't a caveat of the language, counted from 0.
     pub fn first_unknown(&self) -> Option<usize>
-        ensures { result ≡ spec.first_unknown self.now }
+        ensures { result ≡ spec.first_unknown is_understood self.now }
     {
         place_of_unknown(self.as_slice())
     }
 }
 
 fn place_of_unknown(texts: &[&str]) -> Option<usize>
-    ensures { result ≡ position (λ text. not (is_some (caveat_of text.now))) texts.now }
+    ensures { result ≡ position (λ text. not (is_understood text.now)) texts.now }
 {
     texts
         .iter()

@@ -4,6 +4,7 @@ ghost use Rattle.std.specs.Prelude.{◌≡◌, ◌≢◌, ◌≤◌, IfErr, IfOk
 ghost use Rattle.clap.specs.Words.{found_of, rows_of};
 ghost use Rattle.command_line.specs.Job.{Answers};
 ghost use Rattle.passtool_commands.specs.Words.{checked_caveats, command_of};
+ghost use Rattle.passtool_commands.specs.computed.Words.{is_understood};
 
 use crate::answer::{Answer, BadValue, Fault, Outcome};
 use crate::caveats::Caveats;
@@ -41,14 +42,14 @@ impl<'a> Job<'a> for Command<'a> {
 
     type BadValue = BadValue;
 
-    ghost job_of = { command_of };
+    ghost job_of = { command_of is_understood };
 
     fn read(
         alloc: Global,
         name: Name,
         options: &ArgMatches<'a>,
     ) -> Result<Command<'a>, WordsFault<BadValue>>
-        ensures { Answers (command_of name (rows_of (found_of options.now))) result }
+        ensures { Answers (command_of is_understood name (rows_of (found_of options.now))) result }
     {
         match name {
             Name::Mint => mint_of(alloc, options),
@@ -61,7 +62,7 @@ impl<'a> Job<'a> for Command<'a> {
 }
 
 fn mint_of<'a>(alloc: Global, options: &ArgMatches<'a>) -> Result<Command<'a>, WordsFault<BadValue>>
-    ensures { Answers (command_of Name.Mint (rows_of (found_of options.now))) result }
+    ensures { Answers (command_of is_understood Name.Mint (rows_of (found_of options.now))) result }
 {
     let form = read_form::<Name, BadValue>(alloc, options)?;
     let root = root_of(options)?;
@@ -75,7 +76,8 @@ fn narrow_of<'a>(
     alloc: Global,
     options: &ArgMatches<'a>,
 ) -> Result<Command<'a>, WordsFault<BadValue>>
-    ensures { Answers (command_of Name.Narrow (rows_of (found_of options.now))) result }
+    ensures { Answers (command_of is_understood Name.Narrow (rows_of (found_of options.now)))
+        result }
 {
     let caveats = caveats_of(alloc, options)?;
     let checked_caveats = checked_caveats(caveats, is_set(options, "any"))?;
@@ -129,10 +131,8 @@ impl<'a> Command<'a> {
     }
 
     // The answer to the bytes that were read.
-    #[tactic(auto, unfolding(crate::specs::Answer::command_answer))]
     fn answer(&self, alloc: Global, bytes: &[u8]) -> Result<Answer, FormFault>
-        ensures answer { UnlessMemory
-            (λ answer. spec.command_answer self.now bytes.now ≡ answer) result }
+        ensures answer { UnlessMemory (spec.IsAnswer self.now bytes.now) result }
         ensures reads_back { IfOk result (λ answer. spec.ReadsBack self.now bytes.now answer.1) }
     {
         match self {
@@ -148,7 +148,7 @@ impl<'a> Command<'a> {
 // The caveats, if any text is accepted or all of them are understood.
 #[tactic(auto, unfolding(crate::specs::Words::checked_caveats))]
 fn checked_caveats(caveats: Caveats<'_>, any: bool) -> Result<Caveats<'_>, WordsFault<BadValue>>
-    ensures { Answers (checked_caveats any caveats.entry) result }
+    ensures { Answers (checked_caveats is_understood any caveats.entry) result }
 {
     if any {
         return Ok(caveats);

@@ -12,7 +12,7 @@ use std::alloc::Global;
 
 /// The pass of the input in this form.
 pub fn convert(alloc: Global, form: Form, bytes: &[u8]) -> Result<Answer, FormFault>
-    ensures answer { UnlessMemory (λ answer. spec.converted_of form bytes.now ≡ answer) result }
+    ensures answer { UnlessMemory (spec.ConvertsPass form bytes.now) result }
     ensures pass { IfOk result (λ answer. spec.IsConverted form bytes.now answer.1) }
 {
     let (_, pass) = read_pass(alloc, bytes)?;

@@ -1,8 +1,8 @@
 //! Reading the input.
 
-ghost use Rattle.std.specs.Prelude.{◌≡◌, ◌≤◌, length, IfOk};
+ghost use Rattle.std.specs.Prelude.{◌≤◌, length, IfOk};
 ghost use Rattle.pass_forms.specs.Reading.{UnlessMemory, max_caveats};
-ghost use Rattle.passtool_commands.specs.Answer.{pass_in};
+ghost use Rattle.passtool_commands.specs.Answer.{ReadsPass};
 
 use command_line::without_line_feed;
 use pass_forms::{Form, FormFault, Pass};
@@ -14,7 +14,7 @@ pub const MAX_READ: usize = 8194;
 
 /// The form and the pass of the input, without one line feed at its end.
 pub fn read_pass(alloc: Global, bytes: &[u8]) -> Result<(Form, Pass), FormFault>
-    ensures read { UnlessMemory (λ answer. pass_in bytes.now ≡ answer) result }
+    ensures read { UnlessMemory (ReadsPass bytes.now) result }
     ensures few { IfOk result (λ read. length read.1.caveats ≤ max_caveats) }
 {
     read_any(alloc, without_line_feed(bytes))

@@ -1,6 +1,9 @@
-//! Laws of the definitions. Each law is the contract of a function with an empty body.
+//! Laws of the definitions. Each law is the contract of a function that only cites the laws that it
+//! uses.
 
 ghost use Rattle.passtool_commands.specs.Laws.{
+  AnswersOnce,
+  AskForOneCommand,
   ConvertTakesItsForm,
   MintSigns,
   MintTakesDefaults,
@@ -15,6 +18,9 @@ ghost use Rattle.passtool_commands.specs.Laws.{
 
 use crate::table::Name;
 use command_line::laws::words_name_a_row;
+use pass_caveats::laws::reads_what_is_understood;
+use pass_forms::laws::{answers_exactly, one_pass_for_each_v1, one_pass_for_each_v2, wraps_one};
+use pass_json::laws::{one_pass_for_each_json, one_text_for_each_form};
 
 /// Arguments that `clap` accepts name a command of the program.
 pub fn words_name_a_command()
@@ -23,47 +29,77 @@ pub fn words_name_a_command()
     words_name_a_row::<Name>();
 }
 
+/// Arguments that ask for a command ask for no other, and have no fault.
+pub fn ask_for_one_command()
+    ensures { AskForOneCommand }
+{}
+
 /// `mint` with all its options and any number of caveats asks for the pass of these, the caveats in
 /// their order.
 pub fn mint_takes_its_parts()
     ensures { MintTakesItsParts }
-{}
+{
+    reads_what_is_understood();
+}
 
 /// `mint` with a root and an identifier alone asks for a pass in V2, with an empty location and no
 /// caveats.
-#[tactic(auto, using(crate::proofs::NarrowLaws::mint_takes_defaults))]
 pub fn mint_takes_defaults()
     ensures { MintTakesDefaults }
-{}
+{
+    reads_what_is_understood();
+}
 
 /// `show` asks for itself.
-#[tactic(auto, using(crate::proofs::WordLaws::show_takes_nothing))]
 pub fn show_takes_nothing()
     ensures { ShowTakesNothing }
-{}
+{
+    reads_what_is_understood();
+}
 
 /// `narrow` takes the caveats after `--`, in order; with `--any` they may be any texts.
 pub fn narrow_takes_its_caveats()
     ensures { NarrowTakesItsCaveats }
-{}
+{
+    reads_what_is_understood();
+}
 
 /// `convert --form F` asks for the form F.
-#[tactic(auto, using(crate::proofs::WordLaws::convert_takes_its_form))]
 pub fn convert_takes_its_form()
     ensures { ConvertTakesItsForm }
-{}
+{
+    reads_what_is_understood();
+}
 
 /// `verify --root ROOT` asks for `verify` under the root that ROOT spells.
-#[tactic(auto, using(crate::proofs::WordLaws::verify_takes_its_root))]
 pub fn verify_takes_its_root()
     ensures { VerifyTakesItsRoot }
-{}
+{
+    reads_what_is_understood();
+}
+
+/// A command has at most one answer to an input.
+pub fn answers_once()
+    ensures { AnswersOnce }
+{
+    wraps_one();
+    one_pass_for_each_v1();
+    one_pass_for_each_v2();
+    one_pass_for_each_json();
+    answers_exactly();
+    one_text_for_each_form();
+}
 
 /// `verify` prints `signed` exactly if the pass is signed under the root.
-#[tactic(auto, using(crate::proofs::AnswerLaws::verify_decides_signed))]
 pub fn verify_decides_signed()
     ensures { VerifyDecidesSigned }
-{}
+{
+    wraps_one();
+    one_pass_for_each_v1();
+    one_pass_for_each_v2();
+    one_pass_for_each_json();
+    answers_exactly();
+}
 
 /// The pass that `mint` makes is signed under its root.
 #[tactic(auto, using(crate::proofs::AnswerLaws::mint_signs))]

@@ -65,7 +65,7 @@ impl<'a> Mint<'a> {
 
     /// Makes the pass and its text.
     pub fn answer(&self, alloc: Global) -> Result<Answer, FormFault>
-        ensures answer { UnlessMemory (λ answer. spec.minted_answer self.now ≡ answer) result }
+        ensures answer { UnlessMemory (spec.MintsPass self.now) result }
         ensures pass { IfOk result (λ answer. spec.IsMinted self.now answer.1) }
     {
         let pass = self.new_pass(alloc)?;

@@ -13,8 +13,7 @@ use std::alloc::Global;
 
 /// The pass of the input with the caveats added in their order, in the form it came in.
 pub fn narrow(alloc: Global, caveats: &Caveats<'_>, bytes: &[u8]) -> Result<Answer, FormFault>
-    ensures answer { UnlessMemory
-        (λ answer. spec.narrowed_of caveats.now bytes.now ≡ answer) result }
+    ensures answer { UnlessMemory (spec.NarrowsPass caveats.now bytes.now) result }
     ensures pass { IfOk result (λ answer. spec.IsNarrowedOutput caveats.now bytes.now answer.1) }
 {
     let (form, pass) = read_pass(alloc, bytes)?;

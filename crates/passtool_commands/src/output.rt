@@ -11,8 +11,8 @@ use std::alloc::Global;
 
 /// A pass in a form, with a line feed at the end.
 pub fn written(alloc: Global, form: Form, pass: &Pass) -> Result<Answer, FormFault>
-    ensures text { UnlessMemory (λ answer. spec.written_pass form pass.now ≡ answer) result }
-    ensures reads { IfOk result (λ answer. spec.pass_in answer.1 ≡ Ok (form, pass.now)) }
+    ensures text { UnlessMemory (spec.WritesPass form pass.now) result }
+    ensures reads { IfOk result (λ answer. spec.ReadsPass answer.1 (Ok (form, pass.now))) }
 {
     let mut text = write_any(alloc, form, pass)?;
     text.push('\n')?;

@@ -3,7 +3,7 @@
 ghost use Rattle.std.specs.Prelude.{◌≡◌, ◌+◌, ◌<◌, ◌^◌, ◌++◌, IfOk, OnOk, length, map};
 ghost use Rattle.std.specs.String.{string_bytes};
 ghost use Rattle.pass_forms.specs.Reading.{UnlessMemory};
-ghost use Rattle.passtool_commands.specs.Answer.{shown_of};
+ghost use Rattle.passtool_commands.specs.Answer.{ShowsPass};
 ghost use Rattle.passtool_commands.specs.Shown as spec;
 
 use crate::answer::{Answer, Outcome};
@@ -14,7 +14,7 @@ use std::alloc::{AllocError, Global};
 
 /// The fields of the pass of the input.
 pub fn show(alloc: Global, bytes: &[u8]) -> Result<Answer, FormFault>
-    ensures { UnlessMemory (λ answer. shown_of bytes.now ≡ answer) result }
+    ensures { UnlessMemory (ShowsPass bytes.now) result }
 {
     let (form, pass) = read_pass(alloc, bytes)?;
     let text = shown_text(alloc, form, &pass)?;

@@ -1,13 +1,14 @@
 //! A run of the program, on arguments, a reader and a writer.
 
-ghost use Rattle.std.specs.Prelude.{◌≡◌, ◌≢◌, IfErr, MatchResult, Some, false, map};
-ghost use Rattle.passtool_commands.specs.Run.{AnswersWords, Performs, asks_input};
-ghost use Rattle.passtool_commands.specs.Words.{asked_command};
+ghost use Rattle.std.specs.Prelude.{◌≡◌, ◌≢◌, IfErr, MatchResult, map};
+ghost use Rattle.passtool_commands.specs.Run.{AnswersWords, AskForNoInput, Performs};
+ghost use Rattle.passtool_commands.specs.Words.{AskForCommand};
 ghost use Rattle.passtool_commands.specs.declared.command.Command.{Command as CommandOf};
 
 use crate::answer::{Fault, Outcome};
 use crate::command::Command;
 use command_line::{Asked, flush, read_job};
+use pass_caveats::laws::reads_what_is_understood;
 use std::alloc::Global;
 use std::convert::AsStr;
 use std::io::{Read, Write};
@@ -35,16 +36,17 @@ pub fn run<S: AsStr, R: Read, W: Write>(
     ensures words { AnswersWords (map S.text words.now) result }
     // If they ask for a command, it read its input and wrote its answer to that. If the reader or
     // the writer failed, it wrote nothing or a beginning of the answer.
-    ensures command { (command : CommandOf) → asked_command (map S.text words.now) ≡ Some command
+    ensures command { (command : CommandOf) → AskForCommand (map S.text words.now) command
         → Performs command (R.remaining reader.old) (R.remaining reader.new)
         (W.contents writer.old) (W.contents writer.new) result }
     // If they ask for no command, or for one without input, nothing was read.
-    ensures unread { asks_input (asked_command (map S.text words.now)) ≡ false
-        → reader.new ≡ reader.old }
+    ensures unread { AskForNoInput (map S.text words.now) → reader.new ≡ reader.old }
     // After any other fault nothing was written.
     ensures silent { IfErr result (λ fault. fault ≢ Fault.InputOutput
         → writer.new ≡ writer.old) }
 {
+    // By this law the code tests caveats as the clauses do.
+    reads_what_is_understood();
     let command: Command<'_> = match read_job(alloc, words) {
         Ok(Asked::Perform(command)) => command,
         Ok(Asked::ShowText(text)) => return show(&text, writer),

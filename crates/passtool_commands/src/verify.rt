@@ -1,27 +1,28 @@
 //! `verify`: whether the pass of the input is signed under a root.
 
-ghost use Rattle.std.specs.Prelude.{◌≡◌, IfOk};
+ghost use Rattle.std.specs.Prelude.{IfOk, Ok};
 ghost use Rattle.pass_forms.specs.Reading.{UnlessMemory};
 ghost use Rattle.passtool_commands.specs.Answer as spec;
 
 use crate::answer::{Answer, Outcome};
 use crate::input::read_pass;
 use command_line::Root;
-use pass_forms::FormFault;
+use pass_forms::{FormFault, Pass};
 use std::alloc::{AllocError, Global};
 
 /// Checks whether the pass of the input is signed under the root.
 pub fn verify(alloc: Global, root: &Root, bytes: &[u8]) -> Result<Answer, FormFault>
-    ensures { UnlessMemory (λ answer. spec.verified_of root.now bytes.now ≡ answer) result }
+    ensures { UnlessMemory (spec.VerifiesPass root.now bytes.now) result }
 {
     let (_, pass) = read_pass(alloc, bytes)?;
-    let answer = verdict_answer(alloc, pass.is_signed(root.as_slice()))?;
+    let answer = verdict(alloc, root, &pass)?;
     Ok(answer)
 }
 
-fn verdict_answer(alloc: Global, signed: bool) -> Result<Answer, AllocError>
-    ensures { IfOk result (λ answer. answer ≡ spec.verdict signed) }
+fn verdict(alloc: Global, root: &Root, pass: &Pass) -> Result<Answer, AllocError>
+    ensures { IfOk result (λ answer. spec.IsVerdict root.now pass.now (Ok answer)) }
 {
+    let signed = pass.is_signed(root.as_slice());
     let (outcome, line) = if signed {
         (Outcome::Done, "signed\n")
     } else {

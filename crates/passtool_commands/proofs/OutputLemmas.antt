@@ -1,0 +1,48 @@
+-- What is written of a pass.
+use Rattle.std.proofs.Common.{◌≡◌, ℕ, List, Ok, Err, ap, subst, sym, arith}
+use Rattle.std.proofs.lemmas.Grind.{common_steps}
+use Rattle.std.specs.Io.BufRead.{strip_last}
+use Rattle.pass_forms.specs.Pass.{Plain}
+use Rattle.pass_forms.specs.Reading.{UnlessMemory}
+use Rattle.pass_forms.specs.Writing.{IsV1Text, IsV2Text, IsWritableText, IsWriteFault, IsWriting}
+use Rattle.pass_forms.specs.declared.fault.FormFault.{FormFault}
+use Rattle.pass_forms.specs.declared.fault.FormFault.TheVariants.{TooLong, TooMany, Memory}
+use Rattle.pass_forms.specs.declared.form.Form.{Form}
+use Rattle.pass_forms.specs.declared.form.Form.TheVariants.{V1, V2, Json}
+use Rattle.pass_json.specs.AnyForm.{IsAnyReading, IsRefusedIn, IsTextIn}
+use Rattle.pass_json.specs.JsonWriting.{IsJsonText}
+use Rattle.passtool_commands.specs.Answer.{IsOnly, OutcomeText, ReadsPass, WritesPass, done_with}
+use Rattle.passtool_commands.specs.Shown.{with_line_feed}
+use Rattle.passtool_commands.specs.declared.answer.Outcome.TheVariants.{Done}
+use Rattle.passtool_commands.proofs.StepLemmas.{fails}
+
+-- a writer's fault is one of writing the pass, unless memory ran out
+fault_of_writing : (IsText : Plain → List ℕ → Type 0) (pass : Plain) (fault : FormFault) → IsWriteFault IsText pass fault
+    → UnlessMemory (IsWriting IsText pass) (Err fault)
+fault_of_writing IsText pass TooLong is = is
+fault_of_writing IsText pass TooMany is = is
+fault_of_writing IsText pass Memory is = tt
+fault_of_writing IsText pass fault is = absurd is
+
+refused_writing : (form : Form) (pass : Plain) (fault : FormFault) → IsRefusedIn form pass fault → UnlessMemory (IsWriting (IsTextIn form) pass) (Err fault)
+refused_writing V1 pass fault is = fault_of_writing IsV1Text pass fault is
+refused_writing V2 pass fault is = fault_of_writing IsV2Text pass fault is
+refused_writing Json pass Memory is = tt
+refused_writing Json pass fault is = fault_of_writing IsJsonText pass fault is
+
+pub refused : (form : Form) (pass : Plain) (fault : FormFault) → IsRefusedIn form pass fault → UnlessMemory (WritesPass form pass) (Err fault)
+refused form pass fault is = fails {B = OutcomeText} _ (λ text. IsOnly (done_with text)) fault (refused_writing form pass fault is)
+
+pub written_text : (form : Form) (pass : Plain) (text : List ℕ) (ending : OutcomeText) → IsWritableText (IsTextIn form) pass text
+    → ending ≡ (Done, with_line_feed text) → WritesPass form pass (Ok ending)
+written_text form pass text ending is ending_is = (Ok text, is, ap Ok (sym ending_is))
+
+-- the line feed is taken off again
+line_feed_off : (text : List ℕ) → strip_last 10 (with_line_feed text) ≡ text
+line_feed_off text = grind (arith, common_steps)
+
+pub read_back : (form : Form) (pass : Plain) (text : List ℕ) (ending : OutcomeText) → IsAnyReading text (Ok (form, pass))
+    → ending ≡ (Done, with_line_feed text) → ReadsPass ending.1 (Ok (form, pass))
+read_back form pass text ending reads ending_is =
+    let Reads : List ℕ → Type 0 = λ bytes. IsAnyReading bytes (Ok (form, pass)) in
+    rw ending_is (subst Reads (sym (line_feed_off text)) reads)

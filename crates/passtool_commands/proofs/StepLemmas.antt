@@ -1,0 +1,34 @@
+-- Steps that may fail, one after the other.
+use Rattle.std.proofs.Common.{◌≡◌, ◌∙◌, Result, Ok, Err, MatchResult, refl, sym, subst}
+use Rattle.pass_forms.specs.Reading.{UnlessMemory}
+use Rattle.pass_forms.specs.declared.fault.FormFault.{FormFault}
+use Rattle.pass_forms.specs.declared.fault.FormFault.TheVariants.{Memory}
+use Rattle.passtool_commands.specs.Answer.{IsOnly, Results, ◌>>=◌}
+
+module _ {A B : Type 0} (step : Results A) (rest : A → Results B) where
+  -- the first step failed
+  pub fails : (fault : FormFault) → UnlessMemory step (Err fault) → UnlessMemory (step >>= rest) (Err fault)
+  fails Memory is = tt
+  fails fault is = (Err fault, is, refl)
+
+  -- the first step gave this value
+  pub goes_on : (value : A) (answer : Result B FormFault) → step (Ok value) → UnlessMemory (rest value) answer → UnlessMemory (step >>= rest) answer
+  goes_on value (Err Memory) is next = tt
+  goes_on value answer is next = (Ok value, is, next)
+
+-- the step has one result at most
+abbrev pub HasOne : {A : Type 0} → Results A → Type 0
+HasOne {A} step = (one other : Result A FormFault) → step one → step other → one ≡ other
+
+pub one_only : {A : Type 0} (expected : Result A FormFault) → HasOne (IsOnly expected)
+one_only expected one other is same = sym is ∙ same
+
+pub one_then : {A B : Type 0} (step : Results A) (rest : A → Results B) → HasOne step → ((value : A) → HasOne (rest value)) → HasOne (step >>= rest)
+one_then {A} {B} step rest first next one other p q =
+    let Leads : Result A FormFault → Type 0 = λ result. MatchResult result (λ value. rest value other) (λ fault. other ≡ Err fault) in
+    go p.0 p.2 (subst Leads (first q.0 p.0 q.1 p.1) q.2)
+  where
+    go : (result : Result A FormFault) → MatchResult result (λ value. rest value one) (λ fault. one ≡ Err fault)
+        → MatchResult result (λ value. rest value other) (λ fault. other ≡ Err fault) → one ≡ other
+    go (Ok value) h k = next value one other h k
+    go (Err fault) h k = h ∙ sym k
