@@ -1,3 +1,4 @@
 pub mod ValueLemmas
 pub mod WordsLemmas
 pub mod WordLaws
+pub mod ReaderLemmas

@@ -2,5 +2,7 @@ pub mod Application
 pub mod Values
 pub mod JobModel
 pub mod Fault
+pub mod Readers
 pub mod Words
 pub mod Laws
+pub mod computed

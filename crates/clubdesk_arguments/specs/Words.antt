@@ -4,16 +4,17 @@ use Rattle.std.specs.Borrow.{Bor}
 use Rattle.std.specs.Option.{ok_or, unwrap_or}
 use Rattle.clap.specs.Words.{Row, Text, first_of}
 use Rattle.clap.specs.declared.error.kind.ErrorKind.TheVariants as kind
-use Rattle.command_line.specs.Job.{Answers, JobOf, ReadsJob, Refusal, asked_job, bad_value, form_given, refused_as}
+use Rattle.command_line.specs.Job.{Answers, JobOf, ReadsJob, Refusal, bad_value, form_given, refused_as}
 use Rattle.command_line.specs.Words.{is_set, value_in}
 use Rattle.command_line.specs.declared.errors.WordsFault.{WordsFault}
 use Rattle.command_line.specs.declared.job.Asked.{Asked}
-use Rattle.club_values.specs.computed.TextOf.{name_of_text, kind_of_text, day_of_text, hour_of_text, moment_of_text}
+use Rattle.command_line.specs.declared.job.Asked.TheVariants.{Perform}
 use Rattle.club_values.specs.declared.slot.Slot.{Slot}
 use Rattle.club_core.specs.declared.command.Command.TheVariants as order
 use Rattle.pass_forms.specs.declared.form.Form.{Form}
 use Rattle.clubdesk_arguments.specs.Application.{clubdesk}
 use Rattle.clubdesk_arguments.specs.JobModel.{JobModel}
+use Rattle.clubdesk_arguments.specs.Readers.{ReadExactly, Readers}
 use Rattle.clubdesk_arguments.specs.Values.{count_of, parse_number, patience_of, port_of, key_root_of}
 use Rattle.club_clock.specs.Zone.{zone_of}
 use Rattle.clubdesk_arguments.specs.declared.clock.Clock.{Clock}
@@ -32,39 +33,12 @@ abbrev pub ◌>>=◌ : {A B : Type 0} → Option A → (A → Option B) → Opti
 Some x >>= f = f x
 None >>= f = None
 
--- the word or the value of this name: as a text, and parsed
+-- the word or the value of this name: as a text, and as a number
 abbrev pub word_in : Text → List Row → Text
 word_in id rows = value_in id rows
 
-abbrev pub name_value : Text → List Row → Option Text
-name_value id rows = name_of_text (word_in id rows)
-
 abbrev pub number_value : Text → List Row → Option ℕ
 number_value id rows = parse_number (word_in id rows)
-
--- ---- the commands, each from the values that its words spell
-
-abbrev pub add_member_of : List Row → Option Work
-add_member_of rows = do
-  name ← name_value (codes "NAME") rows
-  quota ← number_value (codes "QUOTA") rows
-  Some (Office (Order (order.AddMember name quota)))
-
-abbrev pub credit_of : List Row → Option Work
-credit_of rows = do
-  member ← name_value (codes "MEMBER") rows
-  points ← number_value (codes "POINTS") rows
-  Some (Office (Order (order.Credit member points)))
-
-abbrev pub add_facility_of : List Row → Option Work
-add_facility_of rows = do
-  name ← name_value (codes "NAME") rows
-  of_kind ← kind_of_text (word_in (codes "KIND") rows)
-  places ← number_value (codes "PLACES") rows
-  price ← number_value (codes "PRICE") rows
-  opens ← number_value (codes "OPENS") rows
-  shuts ← number_value (codes "SHUTS") rows
-  Some (Office (Order (order.AddFacility name of_kind places price opens shuts)))
 
 -- a key's order with the root of its word, or without the word as it waits for one
 abbrev pub key_work : KeyOrder → Option Text → Option Work
@@ -73,17 +47,6 @@ key_work order (Some word) = do
   root ← key_root_of word
   Some (Office (Key order root))
 
-abbrev pub add_key_of : Option Text → Form → List Row → Option Work
-add_key_of root form rows = do
-  key ← name_value (codes "KEY") rows
-  member ← name_value (codes "MEMBER") rows
-  key_work (record { name = key; change = Add member; form = form }) root
-
-abbrev pub revoke_key_of : List Row → Option Work
-revoke_key_of rows = do
-  key ← name_value (codes "KEY") rows
-  Some (Office (Order (order.RevokeKey key)))
-
 -- the last word of a rotation, which is the moment, and the word before it, which is the root's, where there are two
 abbrev pub moment_word_in : List Row → Text
 moment_word_in rows = unwrap_or (first_of (codes "MOMENT") rows) (word_in (codes "ROOT") rows)
@@ -91,58 +54,7 @@ moment_word_in rows = unwrap_or (first_of (codes "MOMENT") rows) (word_in (codes
 abbrev pub rotation_word_in : List Row → Option Text
 rotation_word_in rows = option_and_then (λ (moment : Text). first_of (codes "ROOT") rows) (first_of (codes "MOMENT") rows)
 
-abbrev pub rotate_key_of : Option Text → Form → List Row → Option Work
-rotate_key_of root form rows = do
-  key ← name_value (codes "KEY") rows
-  until ← moment_of_text (moment_word_in rows)
-  key_work (record { name = key; change = Rotate until; form = form }) root
-
-abbrev pub slot_in : List Row → Option Slot
-slot_in rows = do
-  facility ← name_value (codes "FACILITY") rows
-  day ← day_of_text (word_in (codes "DAY") rows)
-  hour ← hour_of_text (word_in (codes "HOUR") rows)
-  Some (record { facility = facility; day = day; hour = hour })
-
-abbrev pub close_slot_of : List Row → Option Work
-close_slot_of rows = do
-  slot ← slot_in rows
-  Some (Office (Order (order.CloseSlot slot)))
-
-abbrev pub sheet_of : List Row → Option Work
-sheet_of rows = do
-  day ← day_of_text (word_in (codes "DAY") rows)
-  Some (Office (Sheet day))
-
--- the moment that `--at` fixes, else the clock in the zone
-abbrev pub clock_of : Text → Option Text → Option Clock
-clock_of zone None = Some (InZone zone)
-clock_of zone (Some at) = do
-  moment ← moment_of_text at
-  Some (Fixed moment)
-
-abbrev pub serve_of : List Row → Option Work
-serve_of rows = do
-  port ← port_of (word_in (codes "port") rows)
-  count ← count_of (word_in (codes "count") rows)
-  zone ← zone_of (word_in (codes "zone") rows)
-  clock ← clock_of zone (first_of (codes "at") rows)
-  patience ← patience_of (word_in (codes "patience") rows)
-  Some (Serve (record { port = port; count = count; clock = clock; patience = patience; log = is_set (codes "log") rows }))
-
-abbrev pub show_account_of : List Row → Option Work
-show_account_of rows = do
-  key ← name_value (codes "KEY") rows
-  zone ← zone_of (word_in (codes "zone") rows)
-  clock ← clock_of zone (first_of (codes "at") rows)
-  Some (Office (ShowAccount key clock))
-
-abbrev pub show_slot_of : List Row → Option Work
-show_slot_of rows = do
-  slot ← slot_in rows
-  Some (Office (ShowSlot slot))
-
--- ---- the words
+-- ---- what makes a row ask for nothing
 
 abbrev pub unless_bad : Option Work → Result Work (Refusal Unit)
 unless_bad work = ok_or work (bad_value tt)
@@ -163,35 +75,130 @@ abbrev pub of_root_and_form : List Row → (Option Text → Form → List Row �
 of_root_and_form rows of (Err refusal) = Err refusal
 of_root_and_form rows of (Ok given) = unless_bad (of given.0 given.1 rows)
 
--- the work of a command
-abbrev pub work_named : CommandName → List Row → Result Work (Refusal Unit)
-work_named command.AddMember rows = unless_bad (add_member_of rows)
-work_named command.Credit rows = unless_bad (credit_of rows)
-work_named command.AddFacility rows = unless_bad (add_facility_of rows)
-work_named command.AddKey rows = of_root_and_form rows add_key_of (root_and_form_in (first_of (codes "ROOT") rows) rows)
-work_named command.RevokeKey rows = unless_bad (revoke_key_of rows)
-work_named command.RotateKey rows = of_root_and_form rows rotate_key_of (root_and_form_in (rotation_word_in rows) rows)
-work_named command.CloseSlot rows = unless_bad (close_slot_of rows)
-work_named command.Sheet rows = unless_bad (sheet_of rows)
-work_named command.Serve rows = unless_bad (serve_of rows)
-work_named command.ShowAccount rows = unless_bad (show_account_of rows)
-work_named command.ShowSlot rows = unless_bad (show_slot_of rows)
-
 abbrev pub over_file : Text → Result Work (Refusal Unit) → Result JobModel (Refusal Unit)
 over_file file (Err refusal) = Err refusal
 over_file file (Ok work) = Ok (record { file = file; work = work })
 
--- the job of a command
-abbrev pub job_of : JobOf CommandName JobModel Unit
-job_of name rows = over_file (word_in (codes "FILE") rows) (work_named name rows)
+-- ---- the commands, each from the values that its words spell, as they are read
 
--- the job that the words ask for, if they have no fault
-abbrev pub asked_work : List Text → Option JobModel
-asked_work words = asked_job clubdesk job_of words
+module _ (read : Readers) where
+  -- the word of this name, as a name
+  abbrev pub name_value : Text → List Row → Option Text
+  name_value id rows = read.name (word_in id rows)
 
--- the results of reading the words
-abbrev pub ReadsWords : List Text → Result (Asked JobModel) (WordsFault Unit) → Type 0
-ReadsWords words result = ReadsJob clubdesk job_of words result
+  abbrev pub add_member_of : List Row → Option Work
+  add_member_of rows = do
+    name ← name_value (codes "NAME") rows
+    quota ← number_value (codes "QUOTA") rows
+    Some (Office (Order (order.AddMember name quota)))
+
+  abbrev pub credit_of : List Row → Option Work
+  credit_of rows = do
+    member ← name_value (codes "MEMBER") rows
+    points ← number_value (codes "POINTS") rows
+    Some (Office (Order (order.Credit member points)))
+
+  abbrev pub add_facility_of : List Row → Option Work
+  add_facility_of rows = do
+    name ← name_value (codes "NAME") rows
+    of_kind ← read.kind (word_in (codes "KIND") rows)
+    places ← number_value (codes "PLACES") rows
+    price ← number_value (codes "PRICE") rows
+    opens ← number_value (codes "OPENS") rows
+    shuts ← number_value (codes "SHUTS") rows
+    Some (Office (Order (order.AddFacility name of_kind places price opens shuts)))
+
+  abbrev pub add_key_of : Option Text → Form → List Row → Option Work
+  add_key_of root form rows = do
+    key ← name_value (codes "KEY") rows
+    member ← name_value (codes "MEMBER") rows
+    key_work (record { name = key; change = Add member; form = form }) root
+
+  abbrev pub revoke_key_of : List Row → Option Work
+  revoke_key_of rows = do
+    key ← name_value (codes "KEY") rows
+    Some (Office (Order (order.RevokeKey key)))
+
+  abbrev pub rotate_key_of : Option Text → Form → List Row → Option Work
+  rotate_key_of root form rows = do
+    key ← name_value (codes "KEY") rows
+    until ← read.moment (moment_word_in rows)
+    key_work (record { name = key; change = Rotate until; form = form }) root
+
+  abbrev pub slot_in : List Row → Option Slot
+  slot_in rows = do
+    facility ← name_value (codes "FACILITY") rows
+    day ← read.day (word_in (codes "DAY") rows)
+    hour ← read.hour (word_in (codes "HOUR") rows)
+    Some (record { facility = facility; day = day; hour = hour })
+
+  abbrev pub close_slot_of : List Row → Option Work
+  close_slot_of rows = do
+    slot ← slot_in rows
+    Some (Office (Order (order.CloseSlot slot)))
+
+  abbrev pub sheet_of : List Row → Option Work
+  sheet_of rows = do
+    day ← read.day (word_in (codes "DAY") rows)
+    Some (Office (Sheet day))
+
+  -- the moment that `--at` fixes, else the clock in the zone
+  abbrev pub clock_of : Text → Option Text → Option Clock
+  clock_of zone None = Some (InZone zone)
+  clock_of zone (Some at) = do
+    moment ← read.moment at
+    Some (Fixed moment)
+
+  abbrev pub serve_of : List Row → Option Work
+  serve_of rows = do
+    port ← port_of (word_in (codes "port") rows)
+    count ← count_of (word_in (codes "count") rows)
+    zone ← zone_of (word_in (codes "zone") rows)
+    clock ← clock_of zone (first_of (codes "at") rows)
+    patience ← patience_of (word_in (codes "patience") rows)
+    Some (Serve (record { port = port; count = count; clock = clock; patience = patience; log = is_set (codes "log") rows }))
+
+  abbrev pub show_account_of : List Row → Option Work
+  show_account_of rows = do
+    key ← name_value (codes "KEY") rows
+    zone ← zone_of (word_in (codes "zone") rows)
+    clock ← clock_of zone (first_of (codes "at") rows)
+    Some (Office (ShowAccount key clock))
+
+  abbrev pub show_slot_of : List Row → Option Work
+  show_slot_of rows = do
+    slot ← slot_in rows
+    Some (Office (ShowSlot slot))
+
+  -- the work of a command
+  abbrev pub work_named : CommandName → List Row → Result Work (Refusal Unit)
+  work_named command.AddMember rows = unless_bad (add_member_of rows)
+  work_named command.Credit rows = unless_bad (credit_of rows)
+  work_named command.AddFacility rows = unless_bad (add_facility_of rows)
+  work_named command.AddKey rows = of_root_and_form rows add_key_of (root_and_form_in (first_of (codes "ROOT") rows) rows)
+  work_named command.RevokeKey rows = unless_bad (revoke_key_of rows)
+  work_named command.RotateKey rows = of_root_and_form rows rotate_key_of (root_and_form_in (rotation_word_in rows) rows)
+  work_named command.CloseSlot rows = unless_bad (close_slot_of rows)
+  work_named command.Sheet rows = unless_bad (sheet_of rows)
+  work_named command.Serve rows = unless_bad (serve_of rows)
+  work_named command.ShowAccount rows = unless_bad (show_account_of rows)
+  work_named command.ShowSlot rows = unless_bad (show_slot_of rows)
+
+  -- the job of a command
+  abbrev pub job_of : JobOf CommandName JobModel Unit
+  job_of name rows = over_file (word_in (codes "FILE") rows) (work_named name rows)
+
+-- ---- the words
+
+-- The results of reading the words, whose values are exactly those that they spell.
+pub record ReadsWords (words : List Text) (result : Result (Asked JobModel) (WordsFault Unit)) : Type 0 where
+  pub read : Readers
+  pub exact : ReadExactly read
+  pub reads : ReadsJob clubdesk (job_of read) words result
+
+-- words ask for this work over a file
+abbrev pub AskFor : List Text → Text → Work → Type 0
+AskFor words file work = ReadsWords words (Ok (Perform (record { file = file; work = work })))
 
 -- A call answers a root's word and a form, or the fault that applies, or out of memory in place of either.
 abbrev pub AnswersRoot : Result (Option Text × Form) (Refusal Unit) → Result (Option (Bor Text) × Form) (WordsFault Unit) → Type 0

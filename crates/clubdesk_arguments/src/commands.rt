@@ -3,6 +3,7 @@
 ghost use Rattle.std.specs.Prelude.{◌≡◌, option_map};
 ghost use Rattle.clap.specs.Words.{found_of, rows_of};
 ghost use Rattle.clubdesk_arguments.specs.Words as spec;
+ghost use Rattle.clubdesk_arguments.specs.computed.TextReaders.{text_readers};
 ghost use Rattle.command_line.specs.Job.{Answers};
 
 use crate::clock::Clock;
@@ -28,7 +29,7 @@ pub fn work_of<'a>(
     name: CommandName,
     words: &ArgMatches<'a>,
 ) -> Result<Work<'a>, WordsFault<()>>
-    ensures { Answers (spec.work_named name (rows_of (found_of words.now))) result }
+    ensures { Answers (spec.work_named text_readers name (rows_of (found_of words.now))) result }
 {
     match name {
         CommandName::AddMember => or_bad_value(add_member(words)),
@@ -53,7 +54,7 @@ pub fn work_of<'a>(
 
 // `add-member FILE NAME QUOTA`
 fn add_member<'a>(words: &ArgMatches<'a>) -> Option<Work<'a>>
-    ensures { result ≡ spec.add_member_of (rows_of (found_of words.now)) }
+    ensures { result ≡ spec.add_member_of text_readers (rows_of (found_of words.now)) }
 {
     let name = name_of(words, "NAME")?;
     let quota = number_at(words, "QUOTA")?;
@@ -62,7 +63,7 @@ fn add_member<'a>(words: &ArgMatches<'a>) -> Option<Work<'a>>
 
 // `credit FILE MEMBER POINTS`
 fn credit<'a>(words: &ArgMatches<'a>) -> Option<Work<'a>>
-    ensures { result ≡ spec.credit_of (rows_of (found_of words.now)) }
+    ensures { result ≡ spec.credit_of text_readers (rows_of (found_of words.now)) }
 {
     let member = name_of(words, "MEMBER")?;
     let points = number_at(words, "POINTS")?;
@@ -71,7 +72,7 @@ fn credit<'a>(words: &ArgMatches<'a>) -> Option<Work<'a>>
 
 // `add-facility FILE NAME KIND PLACES PRICE OPENS SHUTS`
 fn add_facility<'a>(words: &ArgMatches<'a>) -> Option<Work<'a>>
-    ensures { result ≡ spec.add_facility_of (rows_of (found_of words.now)) }
+    ensures { result ≡ spec.add_facility_of text_readers (rows_of (found_of words.now)) }
 {
     let name = name_of(words, "NAME")?;
     let kind = Kind::read(value_of(words, "KIND").as_bytes())?;
@@ -92,8 +93,8 @@ fn add_facility<'a>(words: &ArgMatches<'a>) -> Option<Work<'a>>
 // `add-key FILE KEY MEMBER ROOT [--form FORM]`, or without the root's word where the root is read
 // from the input.
 fn add_key<'a>(words: &ArgMatches<'a>, root: Option<&str>, form: Form) -> Option<Work<'a>>
-    ensures { result ≡ spec.add_key_of (option_map (λ text. text.now) root.entry) form
-        (rows_of (found_of words.now)) }
+    ensures { result ≡ spec.add_key_of text_readers (option_map (λ text. text.now) root.entry)
+        form (rows_of (found_of words.now)) }
 {
     let name = name_of(words, "KEY")?;
     let member = name_of(words, "MEMBER")?;
@@ -103,7 +104,7 @@ fn add_key<'a>(words: &ArgMatches<'a>, root: Option<&str>, form: Form) -> Option
 
 // `revoke-key FILE KEY`
 fn revoke_key<'a>(words: &ArgMatches<'a>) -> Option<Work<'a>>
-    ensures { result ≡ spec.revoke_key_of (rows_of (found_of words.now)) }
+    ensures { result ≡ spec.revoke_key_of text_readers (rows_of (found_of words.now)) }
 {
     let name = name_of(words, "KEY")?;
     Some(Work::Office(Task::Order(Command::RevokeKey { name })))
@@ -112,8 +113,8 @@ fn revoke_key<'a>(words: &ArgMatches<'a>) -> Option<Work<'a>>
 // `rotate-key FILE KEY ROOT MOMENT [--form FORM]`, or without the root's word where the root is
 // read from the input.
 fn rotate_key<'a>(words: &ArgMatches<'a>, root: Option<&str>, form: Form) -> Option<Work<'a>>
-    ensures { result ≡ spec.rotate_key_of (option_map (λ text. text.now) root.entry) form
-        (rows_of (found_of words.now)) }
+    ensures { result ≡ spec.rotate_key_of text_readers (option_map (λ text. text.now) root.entry)
+        form (rows_of (found_of words.now)) }
 {
     let name = name_of(words, "KEY")?;
     let until = Moment::read(moment_word(words).as_bytes())?;
@@ -136,7 +137,7 @@ fn key_work<'a>(order: KeyOrder, root: Option<&str>) -> Option<Work<'a>>
 
 // `close-slot FILE FACILITY DAY HOUR`
 fn close_slot<'a>(words: &ArgMatches<'a>) -> Option<Work<'a>>
-    ensures { result ≡ spec.close_slot_of (rows_of (found_of words.now)) }
+    ensures { result ≡ spec.close_slot_of text_readers (rows_of (found_of words.now)) }
 {
     let slot = slot_of(words)?;
     Some(Work::Office(Task::Order(Command::CloseSlot(slot))))
@@ -144,7 +145,7 @@ fn close_slot<'a>(words: &ArgMatches<'a>) -> Option<Work<'a>>
 
 // `sheet FILE DAY`
 fn sheet<'a>(words: &ArgMatches<'a>) -> Option<Work<'a>>
-    ensures { result ≡ spec.sheet_of (rows_of (found_of words.now)) }
+    ensures { result ≡ spec.sheet_of text_readers (rows_of (found_of words.now)) }
 {
     let day = Day::read(value_of(words, "DAY").as_bytes())?;
     Some(Work::Office(Task::Sheet(day)))
@@ -152,7 +153,7 @@ fn sheet<'a>(words: &ArgMatches<'a>) -> Option<Work<'a>>
 
 // `serve FILE --port P --count N [--zone RULE] [--at MOMENT] [--patience SECONDS] [--log]`
 fn serve<'a>(words: &ArgMatches<'a>) -> Option<Work<'a>>
-    ensures { result ≡ spec.serve_of (rows_of (found_of words.now)) }
+    ensures { result ≡ spec.serve_of text_readers (rows_of (found_of words.now)) }
 {
     let port = port_of(value_of(words, "port"))?;
     let count = count_of(value_of(words, "count"))?;
@@ -170,7 +171,7 @@ fn serve<'a>(words: &ArgMatches<'a>) -> Option<Work<'a>>
 
 // `show-account FILE KEY [--zone RULE] [--at MOMENT]`
 fn show_account<'a>(words: &ArgMatches<'a>) -> Option<Work<'a>>
-    ensures { result ≡ spec.show_account_of (rows_of (found_of words.now)) }
+    ensures { result ≡ spec.show_account_of text_readers (rows_of (found_of words.now)) }
 {
     let key = name_of(words, "KEY")?;
     let zone = Zone::from_rule(value_of(words, "zone"))?;
@@ -180,7 +181,7 @@ fn show_account<'a>(words: &ArgMatches<'a>) -> Option<Work<'a>>
 
 // `show-slot FILE FACILITY DAY HOUR`
 fn show_slot<'a>(words: &ArgMatches<'a>) -> Option<Work<'a>>
-    ensures { result ≡ spec.show_slot_of (rows_of (found_of words.now)) }
+    ensures { result ≡ spec.show_slot_of text_readers (rows_of (found_of words.now)) }
 {
     let slot = slot_of(words)?;
     Some(Work::Office(Task::ShowSlot(slot)))
@@ -188,7 +189,7 @@ fn show_slot<'a>(words: &ArgMatches<'a>) -> Option<Work<'a>>
 
 // `FACILITY DAY HOUR`
 fn slot_of(words: &ArgMatches<'_>) -> Option<Slot>
-    ensures { result ≡ spec.slot_in (rows_of (found_of words.now)) }
+    ensures { result ≡ spec.slot_in text_readers (rows_of (found_of words.now)) }
 {
     let facility = name_of(words, "FACILITY")?;
     let day = Day::read(value_of(words, "DAY").as_bytes())?;
@@ -202,7 +203,8 @@ fn slot_of(words: &ArgMatches<'_>) -> Option<Slot>
 
 // The moment that `--at` fixes, else the clock in the zone.
 fn clock_of<'a>(zone: Zone<'a>, at: Option<&str>) -> Option<Clock<'a>>
-    ensures { result ≡ spec.clock_of zone.entry (option_map (λ text. text.now) at.entry) }
+    ensures { result ≡ spec.clock_of text_readers zone.entry
+        (option_map (λ text. text.now) at.entry) }
 {
     match at {
         None => Some(Clock::InZone(zone)),

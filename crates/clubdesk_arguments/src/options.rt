@@ -3,6 +3,7 @@
 ghost use Rattle.std.specs.Prelude.{◌≡◌, option_map};
 ghost use Rattle.clap.specs.Words.{first_of, found_of, rows_of};
 ghost use Rattle.clubdesk_arguments.specs.Words as spec;
+ghost use Rattle.clubdesk_arguments.specs.computed.TextReaders.{text_readers};
 
 use crate::table::CommandName;
 use crate::values::parse_number;
@@ -15,7 +16,7 @@ use std::alloc::Global;
 
 /// The value of a word, parsed as a name.
 pub fn name_of(words: &ArgMatches<'_>, id: &str) -> Option<Name>
-    ensures { result ≡ spec.name_value id.now (rows_of (found_of words.now)) }
+    ensures { result ≡ spec.name_value text_readers id.now (rows_of (found_of words.now)) }
 {
     Name::read(value_of(words, id).as_bytes())
 }

@@ -1,5 +1,5 @@
 -- How work ends, and when it writes nothing.
-use Rattle.std.proofs.Common.{◌≡◌, ℕ, List, Option, Some, Result, Ok, Err, ap, subst, sym, ◌∙◌}
+use Rattle.std.proofs.Common.{◌≡◌, ℕ, List, Option, Result, Ok, Err, ap, subst, sym, ◌∙◌}
 use Rattle.clap.specs.Words.{Text}
 use Rattle.club_core.specs.Club.{Club}
 use Rattle.club_core.specs.declared.command.Command.{Command}
@@ -16,7 +16,7 @@ use Rattle.desk_server.specs.declared.databases.Databases.{Ghosts as DatabasesWo
 use Rattle.desk_server.specs.declared.databases.Visit.{Ghosts as VisitWords}
 use Rattle.clubdesk_arguments.specs.Fault.{fault_of_opening}
 use Rattle.clubdesk_arguments.specs.JobModel.{JobModel}
-use Rattle.clubdesk_arguments.specs.Words.{ReadsWords}
+use Rattle.clubdesk_arguments.specs.Words.{AskFor, ReadsWords}
 use Rattle.clubdesk_arguments.specs.declared.fault.Fault.{Fault}
 use Rattle.clubdesk_arguments.specs.declared.fault.Fault.TheVariants.{Words, BadValue, Memory, ClockOutOfRange, InputOutput, NoAnswer, Answered}
 use Rattle.clubdesk_arguments.specs.declared.task.Service.{Service}
@@ -26,7 +26,7 @@ use Rattle.clubdesk_arguments.specs.declared.task.Work.{Work}
 use Rattle.command_line.specs.declared.errors.WordsFault.{WordsFault}
 use Rattle.command_line.specs.declared.job.Asked.{Asked}
 use Rattle.command_line.specs.declared.job.Asked.TheVariants.{Perform}
-use Rattle.clubdesk_commands.specs.Does.{AskFor, Does}
+use Rattle.clubdesk_commands.specs.Does.{Does}
 use Rattle.clubdesk_commands.specs.Looks as looks
 use Rattle.clubdesk_commands.specs.Office as office
 use Rattle.clubdesk_commands.specs.Office.{GivesText, GivesReply, IsAnswered, fault_of_desk}
@@ -39,8 +39,9 @@ use Rattle.clubdesk_commands.specs.Run as spec
 pub asks_for : (given words : List Text) (read : Asked JobModel) (job whole : JobModel) (work : Work) → given ≡ words → ReadsWords given (Ok read)
     → read ≡ Perform whole → job ≡ whole → job.work ≡ work → AskFor words job.file work
 asks_for given words read job whole work same reads is as_whole asked =
-    let reads_job : ReadsWords words (Ok (Perform whole)) = rw (← same) (rw is at reads) in
-    reads_job ∙ ap (λ (it : JobModel). Some (Ok it)) (sym as_whole) ∙ ap (λ (it : Work). Some (Ok (record { file = job.file; work = it }))) asked
+    let as_asked : read ≡ Perform (record { file = job.file; work = work }) =
+    is ∙ ap Perform (sym as_whole) ∙ ap (λ (it : Work). Perform (record { file = job.file; work = it })) asked in
+    subst (λ (it : Asked JobModel). ReadsWords words (Ok it)) as_asked (subst (λ (texts : List Text). ReadsWords texts (Ok read)) same reads)
 
 -- equal words have the same fault
 pub refused_alike : (given words : List Text) (fault : WordsFault Unit) → given ≡ words → ReadsWords given (Err fault) → ReadsWords words (Err fault)

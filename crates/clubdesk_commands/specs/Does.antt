@@ -1,24 +1,16 @@
 -- What a task of the office does at a desk (ours).
-use Rattle.std.specs.Prelude.{◌≡◌, ℕ, List, Ok, Result, codes}
-use Rattle.clap.specs.Words.{Text}
+use Rattle.std.specs.Prelude.{◌≡◌, ℕ, List, Result, codes}
 use Rattle.club_core.specs.declared.command.Command.{Command}
 use Rattle.club_core.specs.declared.command.Command.TheVariants as order
 use Rattle.club_core.specs.Club.{Club}
 use Rattle.club_core.specs.Store.{KeepsClub}
-use Rattle.clubdesk_arguments.specs.Words.{ReadsWords}
 use Rattle.clubdesk_arguments.specs.declared.fault.Fault.{Fault}
 use Rattle.clubdesk_arguments.specs.declared.task.KeyChange.{KeyChange}
 use Rattle.clubdesk_arguments.specs.declared.task.KeyChange.TheVariants.{Add, Rotate}
 use Rattle.clubdesk_arguments.specs.declared.task.Task.{Task}
 use Rattle.clubdesk_arguments.specs.declared.task.Task.TheVariants.{Order, Key, Sheet, ShowAccount, ShowSlot}
-use Rattle.clubdesk_arguments.specs.declared.task.Work.{Work}
-use Rattle.command_line.specs.declared.job.Asked.TheVariants.{Perform}
 use Rattle.clubdesk_commands.specs.Looks.{IsAccountShown, Looks, ShowsSlot}
 use Rattle.clubdesk_commands.specs.Office.{GivesText, IsAnswered, IsPassLine, IsSheetRead, pass_text}
-
--- words ask for this work over a file
-abbrev pub AskFor : List Text → Text → Work → Type 0
-AskFor words file work = ReadsWords words (Ok (Perform (record { file = file; work = work })))
 
 -- the desk's order that gives a key this root
 abbrev pub key_command : List ℕ → KeyChange → List ℕ → Command

@@ -8,7 +8,7 @@ use Rattle.desk_server.specs.declared.office.Answer.{Answer}
 use Rattle.command_line.specs.declared.errors.WordsFault.{WordsFault}
 use Rattle.command_line.specs.declared.job.Asked.TheVariants.{ShowText}
 use Rattle.clubdesk_arguments.specs.Fault.{fault_line, fault_status, of_words}
-use Rattle.clubdesk_arguments.specs.Words.{ReadsWords}
+use Rattle.clubdesk_arguments.specs.Words.{AskFor, ReadsWords}
 use Rattle.clubdesk_arguments.specs.declared.fault.Fault.{Fault}
 use Rattle.clubdesk_arguments.specs.declared.fault.Fault.TheVariants.{BadValue}
 use Rattle.clubdesk_arguments.specs.declared.task.KeyOrder.{KeyOrder}
@@ -16,7 +16,7 @@ use Rattle.clubdesk_arguments.specs.declared.task.Service.{Service}
 use Rattle.clubdesk_arguments.specs.declared.task.Task.{Task}
 use Rattle.clubdesk_arguments.specs.declared.task.Task.TheVariants.{Key}
 use Rattle.clubdesk_arguments.specs.declared.task.Work.TheVariants.{Office, Rootless, Serve}
-use Rattle.clubdesk_commands.specs.Does.{AskFor, Does}
+use Rattle.clubdesk_commands.specs.Does.{Does}
 use Rattle.clubdesk_commands.specs.Input.{root_in_input}
 use Rattle.clubdesk_commands.specs.Order.{IsOrder, SpellsNoOrder}
 

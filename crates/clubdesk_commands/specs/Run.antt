@@ -21,7 +21,7 @@ use Rattle.desk_server.specs.declared.databases.Reached.TheVariants.{Opened, Ser
 use Rattle.desk_server.specs.declared.databases.Visit.{Ghosts as VisitWords}
 use Rattle.desk_server.specs.declared.serve.ClockOutOfRange.{ClockOutOfRange as ClockFault}
 use Rattle.clubdesk_arguments.specs.Fault.{fault_of_opening, of_words}
-use Rattle.clubdesk_arguments.specs.Words.{ReadsWords}
+use Rattle.clubdesk_arguments.specs.Words.{AskFor, ReadsWords}
 use Rattle.clubdesk_arguments.specs.declared.clock.Clock.{Clock}
 use Rattle.clubdesk_arguments.specs.declared.fault.Fault.{Fault}
 use Rattle.clubdesk_arguments.specs.declared.fault.Fault.TheVariants.{Words, BadValue, Memory, ClockOutOfRange, InputOutput, NoAnswer, Answered}
@@ -30,7 +30,7 @@ use Rattle.clubdesk_arguments.specs.declared.task.Service.{Service}
 use Rattle.clubdesk_arguments.specs.declared.task.Task.{Task}
 use Rattle.clubdesk_arguments.specs.declared.task.Task.TheVariants.{Key}
 use Rattle.clubdesk_arguments.specs.declared.task.Work.TheVariants.{Office, Rootless, Serve}
-use Rattle.clubdesk_commands.specs.Does.{AskFor, Does}
+use Rattle.clubdesk_commands.specs.Does.{Does}
 use Rattle.clubdesk_commands.specs.Input.{TakesRoot}
 use Rattle.clubdesk_commands.specs.Looks.{showing}
 use Rattle.clubdesk_commands.specs.Machine.{machine_answers, machine_orders}

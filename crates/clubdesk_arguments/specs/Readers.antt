@@ -1,0 +1,24 @@
+-- How the texts of the club's values are read (ours).
+use Rattle.std.specs.Prelude.{◌≡◌, ◌↔◌, ℕ, List, Option, Some}
+use Rattle.club_values.specs.Day.{SpellsDay}
+use Rattle.club_values.specs.Hour.{SpellsHour}
+use Rattle.club_values.specs.Kind.{kind_text}
+use Rattle.club_values.specs.Moment.{SpellsMoment}
+use Rattle.club_values.specs.Name.{IsName}
+use Rattle.club_values.specs.declared.kind.Kind.{Kind}
+
+-- a reader of texts for each kind of value
+pub record Readers : Type 0 where
+  pub name : List ℕ → Option (List ℕ)
+  pub kind : List ℕ → Option Kind
+  pub day : List ℕ → Option ℕ
+  pub hour : List ℕ → Option ℕ
+  pub moment : List ℕ → Option ℕ
+
+-- Each returns a value exactly if the text spells it. So all such readers return the same.
+pub record ReadExactly (read : Readers) : Type 0 where
+  pub names : (text name : List ℕ) → (read.name text ≡ Some name) ↔ (IsName text × (name ≡ text))
+  pub kinds : (text : List ℕ) (kind : Kind) → (read.kind text ≡ Some kind) ↔ (text ≡ kind_text kind)
+  pub days : (text : List ℕ) (n : ℕ) → (read.day text ≡ Some n) ↔ SpellsDay text n
+  pub hours : (text : List ℕ) (n : ℕ) → (read.hour text ≡ Some n) ↔ SpellsHour text n
+  pub moments : (text : List ℕ) (n : ℕ) → (read.moment text ≡ Some n) ↔ SpellsMoment text n

@@ -1,0 +1,3 @@
+-- Definitions that compute what the others of specs/ state. Laws say that both agree.
+
+pub mod TextReaders
