@@ -13,8 +13,8 @@ use Rattle.club_gate.specs.declared.fault.Fault.{Fault as DeskFault}
 use Rattle.club_gate.specs.declared.fault.Fault.TheVariants as desk
 use Rattle.club_core.specs.Run.{ToOffice}
 use Rattle.pass_forms.specs.declared.form.Form.{Form}
-use Rattle.pass_forms.specs.declared.fault.FormFault.{FormFault}
-use Rattle.pass_json.specs.computed.AnyForm.{writing}
+use Rattle.pass_forms.specs.Writing.{IsWritableText}
+use Rattle.pass_json.specs.AnyForm.{IsTextIn}
 use Rattle.clubdesk_arguments.specs.declared.fault.Fault.{Fault}
 use Rattle.clubdesk_arguments.specs.declared.fault.Fault.TheVariants.{Refused, Memory}
 use Rattle.clubdesk_arguments.specs.Fault.{fault_of_opening}
@@ -37,14 +37,10 @@ pub record IsOrdered {S : Type 0} (Represents : S → Club → List Club → Typ
   pub steps : Clean new → Steps Represents old new (machine.Ordered order) (ToOffice reply)
   pub answers : Answered reply
 
--- the text of a key's pass under a root, in a form
-abbrev pub pass_text : List ℕ → List ℕ → Form → Result (List ℕ) FormFault
-pass_text name root form = writing form (key_pass name (minted_signature name root))
-
--- the text that was made, with a line feed
-pub record IsPassLine (made : Result (List ℕ) FormFault) (line : List ℕ) : Type 0 where
+-- the line is the text of a key's pass under a root, in a form, with a line feed; there is none if the pass has no text within the limits
+pub record IsPassLine (name root : List ℕ) (form : Form) (line : List ℕ) : Type 0 where
   pub text : List ℕ
-  pub is : made ≡ Ok text
+  pub is : IsWritableText (IsTextIn form) (key_pass name (minted_signature name root)) text
   pub ends : line ≡ text ++ 10 ∷ []
 
 -- The text was made before the order was given; if memory ran out for it, nothing was done.

@@ -55,7 +55,7 @@ pub fn order_pass<S: ClubStore>(
     order: &Command,
 ) -> Result<String, Fault>
     ensures { spec.IsAnswered S.represents S.disk_is_clean desk.old desk.new order.now
-        (spec.IsPassLine (spec.pass_text name.now root.now form)) (text_of result) }
+        (spec.IsPassLine name.now root.now form) (text_of result) }
 {
     match pass_line(alloc, name, root, form) {
         None => Err(Fault::Memory),
@@ -90,8 +90,8 @@ fn done_line(alloc: Global) -> Option<String>
 // The line of a key's pass under a root; `None` if memory ran out. A pass this short has a text in
 // every form.
 fn pass_line(alloc: Global, name: &Name, root: &Root, form: Form) -> Option<String>
-    ensures { IfSome result (λ line. spec.IsPassLine
-        (spec.pass_text name.now root.now form) (string_bytes line)) }
+    ensures { IfSome result (λ line. spec.IsPassLine name.now root.now form
+        (string_bytes line)) }
 {
     let pass = minted(alloc, name, key_signature(name, root)).ok()?;
     let mut line = write_any(alloc, form, &pass).ok()?;
