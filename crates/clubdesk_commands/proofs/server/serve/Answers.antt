@@ -1,4 +1,3 @@
-use Rattle.std.proofs.Common.{◌≡◌, false}
 use Rattle.clubdesk_commands.proofs.ServerLemmas.{serves, serves_nobody}
 use Rattle.clubdesk_commands.proofs.server.serve.Goals as goal
 
@@ -14,5 +13,5 @@ returns-then-logs-clause-served g c =
 pub returns-clause-served : goal.returns-clause-served
 returns-clause-served g c =
     rw c.outcome_of-else-logs.ensures
-    (serves _ _ _ c.args.service _ _ _ _ _ _ (λ turns noted asked. let left_out : c.args.service.log ≡ false = c.if-logs.false in cc) _
+    (serves _ _ _ c.args.service _ _ _ _ _ _ (λ turns noted asked. let left_out = c.if-logs.false in cc) _
     (rw c.new-arrivals.ensures.failures at c.serve_on.ensures.2))
