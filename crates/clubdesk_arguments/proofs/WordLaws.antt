@@ -70,7 +70,7 @@ module _ (read : Readers) (exact : ReadExactly read) where
   -- words that clap reads ask for the job of the row that it found
   asked_is : (words : List Text) (name : CommandName) (rows : List Row) (job : JobModel) → refusals clubdesk words ≡ []
       → asked clubdesk words ≡ Some (name, rows) → job_of read name rows ≡ Ok job → ReadsWords words (Ok (Perform job))
-  asked_is words name rows job clear same is = record { read = read; exact = exact; reads = rw (clear, same, is) refl }
+  asked_is words name rows job clear same is = (clear, rw same (record { read = read; exact = exact; answers = is }))
 
   names : (text : Text) → IsName text → read.name text ≡ Some text
   names text is = (exact.names text text).1 (is, refl)

@@ -1,5 +1,5 @@
 -- Laws of the definitions: what each command's words ask for. After `--` words are never options, whatever they begin with.
-use Rattle.std.specs.Prelude.{◌≡◌, ◌⊎◌, ℕ, List, [], ◌∷◌, ◌++◌, Some, Result, Ok, Err, codes, false, true}
+use Rattle.std.specs.Prelude.{◌≡◌, ℕ, [], ◌∷◌, ◌++◌, Some, codes, false, true}
 use Rattle.clap.specs.Words.{Text}
 use Rattle.club_values.specs.Day.{SpellsDay}
 use Rattle.club_values.specs.Hour.{SpellsHour}
@@ -11,14 +11,11 @@ use Rattle.club_core.specs.declared.command.Command.TheVariants as order
 use Rattle.pass_forms.specs.declared.form.Form.{Form}
 use Rattle.pass_forms.specs.declared.form.Form.TheVariants.{V2}
 use Rattle.command_line.specs.FormName.{form_name}
-use Rattle.command_line.specs.declared.errors.WordsFault.{WordsFault}
-use Rattle.command_line.specs.declared.errors.WordsFault.TheVariants.{Memory}
-use Rattle.command_line.specs.declared.job.Asked.{Asked}
-use Rattle.command_line.specs.declared.job.Asked.TheVariants.{Perform}
-use Rattle.clubdesk_arguments.specs.JobModel.{JobModel}
+use Rattle.command_line.specs.JobLaws.{AskOnce}
+use Rattle.clubdesk_arguments.specs.Application.{clubdesk}
 use Rattle.clubdesk_arguments.specs.Values.{count_of, parse_number, patience_of, port_of, key_root_of}
 use Rattle.club_clock.specs.Zone.{zone_of}
-use Rattle.clubdesk_arguments.specs.Words.{AskFor, ReadsWords}
+use Rattle.clubdesk_arguments.specs.Words.{AskFor, ReadsValues}
 use Rattle.clubdesk_arguments.specs.declared.clock.Clock.TheVariants.{Fixed, InZone}
 use Rattle.clubdesk_arguments.specs.declared.task.KeyChange.TheVariants.{Add, Rotate}
 use Rattle.clubdesk_arguments.specs.declared.task.KeyOrder.{KeyOrder}
@@ -27,8 +24,7 @@ use Rattle.clubdesk_arguments.specs.declared.task.Work.TheVariants.{Office, Root
 
 -- Words that ask for a job ask for no other, and have no fault: each of their results is this job, or out of memory.
 abbrev pub AskForOneJob : Type 0
-AskForOneJob = (words : List Text) (job : JobModel) (result : Result (Asked JobModel) (WordsFault Unit))
-    → ReadsWords words (Ok (Perform job)) → ReadsWords words result → (result ≡ Ok (Perform job)) ⊎ (result ≡ Err Memory)
+AskForOneJob = AskOnce clubdesk ReadsValues
 
 abbrev added : Text → Text → Form → KeyOrder
 added key member form = record { name = key; change = Add member; form = form }

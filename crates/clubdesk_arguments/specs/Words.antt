@@ -188,13 +188,17 @@ module _ (read : Readers) where
   abbrev pub job_of : JobOf CommandName JobModel Unit
   job_of name rows = over_file (word_in (codes "FILE") rows) (work_named name rows)
 
--- ---- the words
-
--- The results of reading the words, whose values are exactly those that they spell.
-pub record ReadsWords (words : List Text) (result : Result (Asked JobModel) (WordsFault Unit)) : Type 0 where
+-- The results of reading the words of a row, whose values are exactly those that they spell.
+pub record ReadsValues (name : CommandName) (rows : List Row) (result : Result JobModel (WordsFault Unit)) : Type 0 where
   pub read : Readers
   pub exact : ReadExactly read
-  pub reads : ReadsJob clubdesk (job_of read) words result
+  pub answers : Answers (job_of read name rows) result
+
+-- ---- the words
+
+-- the results of reading the words
+abbrev pub ReadsWords : List Text → Result (Asked JobModel) (WordsFault Unit) → Type 0
+ReadsWords words result = ReadsJob clubdesk ReadsValues words result
 
 -- words ask for this work over a file
 abbrev pub AskFor : List Text → Text → Work → Type 0

@@ -4,7 +4,9 @@ ghost use Rattle.clubdesk_arguments.specs.Laws.{AskForOneJob, CommandsTakeTheirW
 ghost use Rattle.clubdesk_arguments.specs.Readers.{ReadExactly};
 ghost use Rattle.clubdesk_arguments.specs.computed.TextReaders.{text_readers};
 
+use crate::task::Job;
 use club_values::laws::{reads_days, reads_hours, reads_kinds, reads_moments, reads_names};
+use command_line::laws::{arguments_ask_once, rows_answer_once};
 
 /// Each command asks for the task of the values that its words and options spell, over its file. A
 /// form that is left out is V2, a zone UTC, a patience ten seconds; there is no log unasked.
@@ -17,7 +19,10 @@ pub fn commands_take_their_words()
 /// Words that ask for a job ask for no other, and have no fault.
 pub fn ask_for_one_job()
     ensures { AskForOneJob }
-{}
+{
+    rows_answer_once::<Job<'static>, ()>();
+    arguments_ask_once::<Job<'static>>();
+}
 
 /// The computed readers return a value exactly if the text spells it.
 pub(crate) fn readers_are_exact()

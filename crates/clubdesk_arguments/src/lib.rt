@@ -17,4 +17,3 @@ pub use fault::Fault;
 pub use table::CommandName;
 pub use task::{Job, KeyChange, KeyOrder, Service, Task, Work};
 pub use values::root_of;
-pub use words::read_job;

@@ -1,10 +1,14 @@
 -- Lemmas on the job that arguments ask for.
-use Rattle.std.proofs.Common.{◌≡◌, List, [], Option, Result, Err, inr}
-use Rattle.clap.specs.Words.{Row, Text, fault_of, subcommand_of}
+use Rattle.std.proofs.Common.{◌≡◌, List, [], Option, Some, None, Result, Ok, Err, inl, inr, refl, ap, subst}
+use Rattle.clap.specs.Words.{IsAmong, Kinds, Row, Text, fault_of, subcommand_of}
+use Rattle.clap.specs.declared.error.kind.ErrorKind.{ErrorKind}
+use Rattle.command_line.specs.JobLaws.{AnswersOnce, AskOnce, IsOrLacksMemory, ReadsOnce}
 use Rattle.command_line.specs.Job.{ReadsAccepted, ReadsFound, ReadsJob, ReadsRow}
 use Rattle.command_line.specs.Table.{Table, app_of_table, asked, asked_in, refusals}
 use Rattle.command_line.specs.declared.errors.WordsFault.{WordsFault}
 use Rattle.command_line.specs.declared.errors.WordsFault.TheVariants.{Refused, BadValue, Memory}
+use Rattle.command_line.specs.declared.job.Asked.{Asked}
+use Rattle.command_line.specs.declared.job.Asked.TheVariants.{Perform, ShowText}
 
 -- clap accepts the arguments, and found this of them
 module _ {C J V : Type 0} (table : Table C) (Reads : ReadsRow C J V) (words : List Text) (found : Option (Text × List Row))
@@ -18,3 +22,41 @@ module _ {C J V : Type 0} (table : Table C) (Reads : ReadsRow C J V) (words : Li
   reads_fault (Refused error) reads = inr (reads_accepted _ reads)
   reads_fault (BadValue value) reads = reads_accepted _ reads
   reads_fault Memory reads = tt
+
+-- ---- one job
+
+pub answers_once : {J V : Type 0} → AnswersOnce J V
+answers_once (Ok expected) job (Ok other) is that = let same : other ≡ job = cc in inl (ap Ok same)
+answers_once (Ok expected) job (Err (Refused error)) is that = absurd cc
+answers_once (Ok expected) job (Err (BadValue value)) is that = absurd cc
+answers_once (Ok expected) job (Err Memory) is that = inr refl
+answers_once (Err refusal) job result is that = absurd cc
+
+pub ask_once : {C J V : Type 0} (table : Table C) (Reads : ReadsRow C J V) → ReadsOnce Reads → AskOnce table Reads
+ask_once {C} {J} {V} table Reads once words job result asks is = go result is
+  where
+    accepted : (kind : ErrorKind) → IsAmong kind (refusals table words) → ⊥
+    accepted kind among = subst (λ (kinds : Kinds). IsAmong kind kinds) asks.0 among
+
+    found : (row : Option (C × List Row)) (result : Result J (WordsFault V)) → ReadsFound Reads row (Ok job) → ReadsFound Reads row result
+        → IsOrLacksMemory job result
+    found None result none is = absurd none
+    found (Some row) result one is = once row.0 row.1 job result one is
+
+    go : (result : Result (Asked J) (WordsFault V)) → ReadsJob table Reads words result → IsOrLacksMemory (Perform job) result
+    go (Ok (ShowText text)) (inl among) = absurd (accepted _ among)
+    go (Ok (ShowText text)) (inr among) = absurd (accepted _ among)
+    go (Ok (Perform other)) is = elim (found (asked table words) (Ok other) asks.1 is.1) [
+      | inl same ↦ let one : other ≡ job = cc in inl (ap (λ (j : J). Ok (Perform j)) one)
+      | inr none ↦ cc
+    ]
+    go (Err (Refused error)) (inl among) = absurd (accepted _ among.0)
+    go (Err (Refused error)) (inr is) = elim (found (asked table words) (Err (Refused error)) asks.1 is.1) [
+      | inl same ↦ cc
+      | inr none ↦ cc
+    ]
+    go (Err (BadValue value)) is = elim (found (asked table words) (Err (BadValue value)) asks.1 is.1) [
+      | inl same ↦ cc
+      | inr none ↦ cc
+    ]
+    go (Err Memory) is = inr refl

@@ -7,3 +7,4 @@ pub mod Words
 pub mod Laws
 pub mod Table
 pub mod Job
+pub mod JobLaws

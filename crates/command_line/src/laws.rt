@@ -2,8 +2,11 @@
 
 ghost use Rattle.std.specs.Prelude.{◌≡◌, List, [], IsSome};
 ghost use Rattle.clap.specs.Words.{Text};
+ghost use Rattle.command_line.specs.JobLaws.{AnswersOnce, AskOnce, ReadsOnce};
 ghost use Rattle.command_line.specs.Laws.{WordsEnterACommand};
 ghost use Rattle.command_line.specs.Table.{IsGood, Table, asked, refusals};
+
+use crate::job::Job;
 
 /// Arguments that `clap` accepts for an application that needs a command name one of its commands.
 pub fn words_enter_a_command()
@@ -17,3 +20,14 @@ pub fn words_name_a_row<C: Copy>()
 {
     words_enter_a_command();
 }
+
+/// A row that is read as a function says has one job at most, and a fault only without one; memory
+/// aside.
+pub fn rows_answer_once<J, V>()
+    ensures { AnswersOnce J V }
+{}
+
+/// If rows have one job at most, so have arguments, and a fault only without one; memory aside.
+pub fn arguments_ask_once<'a, J: Job<'a>>()
+    ensures { ReadsOnce J.Reads → AskOnce J.Command.table J.Reads }
+{}

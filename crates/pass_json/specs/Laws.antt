@@ -52,3 +52,12 @@ AnyFormReadsBack = (form : Form) (pass : Plain) (text : List ℕ) → HasBytes p
 abbrev pub WritesAnyFormExactly : Type 0
 WritesAnyFormExactly = (form : Form) (pass : Plain) (answer : Result (List ℕ) FormFault) → HasBytes pass → length pass.signature ≡ 32 →
     (writing form pass ≡ answer) ↔ IsWriting (IsTextIn form) pass answer
+
+-- A text has one reading: its form and its pass, or its fault.
+abbrev pub OneReading : Type 0
+OneReading = (text : List ℕ) (one other : Result (Form × Plain) FormFault) → IsAnyReading text one → IsAnyReading text other → one ≡ other
+
+-- Writing a pass in a form has one result: its text, or its fault.
+abbrev pub OneWriting : Type 0
+OneWriting = (form : Form) (pass : Plain) (one other : Result (List ℕ) FormFault) → IsWriting (IsTextIn form) pass one → IsWriting (IsTextIn form) pass other
+    → one ≡ other

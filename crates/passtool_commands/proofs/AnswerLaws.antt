@@ -4,22 +4,17 @@ use Rattle.std.proofs.lemmas.List.Sums.{fold-append}
 use Rattle.std.specs.Io.BufRead.{strip_last}
 use Rattle.pass_mac.specs.Chain.{derived_key, extended_signature}
 use Rattle.pass_mac.specs.Hmac.{hmac}
-use Rattle.pass_forms.specs.Laws.{AnswersExactly, OnePassEach, WrapsOne}
 use Rattle.pass_forms.specs.Pass.{IsSigned, Plain}
 use Rattle.pass_forms.specs.Reading.{max_caveats}
-use Rattle.pass_forms.specs.V1.{SpellsV1}
-use Rattle.pass_forms.specs.V2.{SpellsV2}
 use Rattle.pass_forms.specs.declared.fault.FormFault.{FormFault}
 use Rattle.pass_forms.specs.declared.fault.FormFault.TheVariants.{TooMany}
 use Rattle.pass_forms.specs.declared.form.Form.{Form}
-use Rattle.pass_json.specs.Json.{SpellsJson}
-use Rattle.pass_json.specs.Laws.{OneTextEachForm}
+use Rattle.pass_json.specs.Laws.{OneReading, OneWriting}
 use Rattle.passtool_commands.specs.Answer.{IsVerdict, OutcomeText, ReadsPass, WritesPass, done_with, narrowing, new_pass, with_caveats}
 use Rattle.passtool_commands.specs.Laws.{AnswersOnce, MintSigns, NarrowingKeepsSigned, VerifyDecidesSigned}
 use Rattle.passtool_commands.specs.Shown.{shown_text, with_line_feed}
 use Rattle.passtool_commands.specs.declared.answer.Outcome.TheVariants.{Done, NotSigned}
 use Rattle.passtool_commands.specs.declared.command.Command.TheVariants.{Mint, Show, Narrow, Convert, Verify}
-use Rattle.passtool_commands.proofs.ReadingLemmas.{one_reading, one_writing}
 use Rattle.passtool_commands.proofs.StepLemmas.{HasOne, one_only, one_then}
 
 narrowed_to : (caveats : List (List ℕ)) (pass narrowed_pass : Plain) → narrowing caveats pass ≡ Ok narrowed_pass → with_caveats caveats pass ≡ narrowed_pass
@@ -50,13 +45,13 @@ one_verdict root pass (Ok (NotSigned, text)) (Ok (NotSigned, other)) p q =
 one_verdict root pass (Err fault) other p q = absurd p
 one_verdict root pass one (Err fault) p q = absurd q
 
-module _ (wraps : WrapsOne) (v1 : OnePassEach SpellsV1) (v2 : OnePassEach SpellsV2) (json : OnePassEach SpellsJson) (exactly : AnswersExactly) where
+module _ (readings : OneReading) where
   one_pass_read : (bytes : List ℕ) → HasOne (ReadsPass bytes)
-  one_pass_read bytes = one_reading wraps v1 v2 json exactly (strip_last 10 bytes)
+  one_pass_read bytes = readings (strip_last 10 bytes)
 
-  module _ (texts : OneTextEachForm) where
+  module _ (writings : OneWriting) where
     one_pass_written : (form : Form) (pass : Plain) → HasOne (WritesPass form pass)
-    one_pass_written form pass = one_then _ _ (one_writing texts form pass) (λ text. one_only (done_with text))
+    one_pass_written form pass = one_then _ _ (writings form pass) (λ text. one_only (done_with text))
 
     pub answers_once : AnswersOnce
     answers_once (Mint minting) bytes =

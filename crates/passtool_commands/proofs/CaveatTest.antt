@@ -1,26 +1,18 @@
 -- There is one test of caveats, by which arguments ask for one command.
-use Rattle.std.proofs.Common.{◌≡◌, ◌↔◌, ◌⊎◌, Bool, true, false, IsTrue, is_some, if◌then◌else◌, List, [], ◌∷◌, length, Option, Some, None}
-use Rattle.std.proofs.Common.{Result, Ok, Err, inl, inr, refl, sym, ap, subst, arith}
+use Rattle.std.proofs.Common.{◌≡◌, ◌↔◌, Bool, true, false, IsTrue, is_some, List, Option, Some, None, Result, refl, sym, ap, subst}
 use Rattle.std.proofs.Math.Path.{fun_ext}
-use Rattle.std.proofs.lemmas.Bool.Decides.{nat_tests}
-use Rattle.clap.specs.Walk.{is_empty}
-use Rattle.clap.specs.Words.{IsAmong, Kinds, Text}
-use Rattle.clap.specs.declared.error.kind.ErrorKind.{ErrorKind}
-use Rattle.command_line.specs.Job.{ReadsJob}
-use Rattle.command_line.specs.Table.{refusals}
+use Rattle.clap.specs.Words.{Row, Text}
+use Rattle.command_line.specs.Job.{Answers}
+use Rattle.command_line.specs.JobLaws.{AnswersOnce, ReadsOnce}
 use Rattle.command_line.specs.declared.errors.WordsFault.{WordsFault}
-use Rattle.command_line.specs.declared.errors.WordsFault.TheVariants.{Refused, BadValue, Memory}
-use Rattle.command_line.specs.declared.job.Asked.{Asked}
-use Rattle.command_line.specs.declared.job.Asked.TheVariants.{ShowText, Perform}
 use Rattle.pass_caveats.specs.Laws.{ReadsWhatIsUnderstood}
 use Rattle.pass_caveats.specs.computed.CaveatOf.{caveat_of}
 use Rattle.pass_caveats.specs.declared.caveat.Caveat.{Caveat}
-use Rattle.passtool_commands.specs.Application.{passtool}
-use Rattle.passtool_commands.specs.Laws.{AskForOneCommand}
-use Rattle.passtool_commands.specs.Words.{IsCaveatTest, IsCaveatText, ReadsWords, command_of}
+use Rattle.passtool_commands.specs.Words.{IsCaveatTest, IsCaveatText, ReadsValues, command_of}
 use Rattle.passtool_commands.specs.computed.Words.{is_understood}
 use Rattle.passtool_commands.specs.declared.answer.BadValue.{BadValue as OurBadValue}
 use Rattle.passtool_commands.specs.declared.command.Command.{Command}
+use Rattle.passtool_commands.specs.declared.table.Name.{Name}
 
 same_test : (a b : Bool) (P : Type 0) → IsTrue a ↔ P → IsTrue b ↔ P → a ≡ b
 same_test true b P h k = sym (k.1 (h.0 refl))
@@ -38,38 +30,14 @@ is_test reads text = (found (caveat_of text) refl, λ is. ap is_some ((reads tex
     found (Some caveat) same is = (caveat, (reads text caveat).1 same)
     found None same is = cc
 
--- what is read by this test
-pub words_read : ReadsWhatIsUnderstood → (words : List Text) (result : Result (Asked Command) (WordsFault OurBadValue))
-    → ReadsJob passtool (command_of is_understood) words result → ReadsWords words result
-words_read reads words result is = record { is_understood = is_understood; is_test = is_test reads; reads = is }
+-- a row's values are read by this test
+pub values_read : ReadsWhatIsUnderstood → (name : Name) (rows : List Row) (result : Result Command (WordsFault OurBadValue))
+    → Answers (command_of is_understood name rows) result → ReadsValues name rows result
+values_read reads name rows result is = record { is_understood = is_understood; is_test = is_test reads; answers = is }
 
--- ---- one command
-
--- what arguments ask for they ask where clap accepts them
-clear_where_asked : {R : Type 0} (test : Bool) (asked : Option R) (one : R) → (if test then asked else None) ≡ Some one → test ≡ true
-clear_where_asked true asked one is = refl
-clear_where_asked false asked one is = cc
-
-none_among : (of_kind : ErrorKind) (kinds : Kinds) → is_empty kinds ≡ true → ¬ (IsAmong of_kind kinds)
-none_among of_kind [] clear among = absurd among
-none_among of_kind (first ∷ more) clear among =
-    let none : length (first ∷ more) ≡ 0 = grind (arith, nat_tests) in
-    absurd (omega arith)
-
-pub ask_for_one_command : AskForOneCommand
-ask_for_one_command words command result p q =
-    let Reads : (Text → Bool) → Type 0 = λ test. ReadsJob passtool (command_of test) words result in
-    go result (subst Reads (one_test q.is_understood p.is_understood q.is_test p.is_test) q.reads)
-  where
-    clear : is_empty (refusals passtool words) ≡ true
-    clear = clear_where_asked (is_empty (refusals passtool words)) _ _ p.reads
-
-    go : (result : Result (Asked Command) (WordsFault OurBadValue)) → ReadsJob passtool (command_of p.is_understood) words result
-        → (result ≡ Ok (Perform command)) ⊎ (result ≡ Err Memory)
-    go (Ok (ShowText text)) (inl help) = absurd (none_among _ _ clear help)
-    go (Ok (ShowText text)) (inr version) = absurd (none_among _ _ clear version)
-    go (Ok (Perform other)) is = let one : other ≡ command = cc in inl (ap (λ (c : Command). Ok (Perform c)) one)
-    go (Err (Refused error)) (inl among) = absurd (none_among _ _ clear among.0)
-    go (Err (Refused error)) (inr is) = cc
-    go (Err (BadValue value)) is = cc
-    go (Err Memory) is = inr refl
+-- as one command at most
+pub reads_once : AnswersOnce Command OurBadValue → ReadsOnce ReadsValues
+reads_once once name rows command result one other =
+    let Reads : (Text → Bool) → Type 0 = λ test. Answers (command_of test name rows) result in
+    let alike = one_test other.is_understood one.is_understood other.is_test one.is_test in
+    once (command_of one.is_understood name rows) command result one.answers (subst Reads alike other.answers)

@@ -4,7 +4,6 @@ pub mod ShownLemmas
 pub mod WordsLemmas
 pub mod CaveatTest
 pub mod StepLemmas
-pub mod ReadingLemmas
 pub mod OutputLemmas
 pub mod RunLemmas
 pub mod AnswerLaws

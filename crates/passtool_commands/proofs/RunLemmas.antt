@@ -20,7 +20,7 @@ use Rattle.passtool_commands.specs.declared.answer.Fault.TheVariants.{Words, Pas
 use Rattle.passtool_commands.specs.declared.answer.Outcome.{Outcome}
 use Rattle.passtool_commands.specs.declared.answer.Outcome.TheVariants.{Done}
 use Rattle.passtool_commands.specs.declared.command.Command.{Command}
-use Rattle.passtool_commands.proofs.CaveatTest.{ask_for_one_command}
+use Rattle.passtool_commands.specs.Laws.{AskForOneCommand}
 
 module _ (command : Command) (left left' held held' : Option (List ℕ)) (bytes : List ℕ) (reads : ReadsInput (reads_input command) left left' bytes) where
   module _ (ending : OutcomeText) (is : IsAnswer command bytes (Ok ending)) (reads_back : ReadsBack command bytes ending.1) where
@@ -54,7 +54,7 @@ module _ (command : Command) (left left' held held' : Option (List ℕ)) (bytes 
   failed Memory is = tt
   failed fault is = (bytes, reads, is)
 
-module _ (words : List Text) (command : Command) (ask : AskForCommand words command) where
+module _ (once : AskForOneCommand) (words : List Text) (command : Command) (ask : AskForCommand words command) where
   -- what is performed is what the arguments allow
   pub performs_words : (left left' held held' : Option (List ℕ)) (result : Result Outcome Fault) → Performs command left left' held held' result
       → AnswersWords words result
@@ -69,12 +69,12 @@ module _ (words : List Text) (command : Command) (ask : AskForCommand words comm
   -- no other command is asked for
   pub performs_alone : (left left' held held' : Option (List ℕ)) (result : Result Outcome Fault) (other : Command) → AskForCommand words other
       → Performs command left left' held held' result → Performs other left left' held held' result
-  performs_alone left left' held held' result other asked is = elim (ask_for_one_command words other (Ok (Perform command)) asked ask) [
+  performs_alone left left' held held' result other asked is = elim (once words other (Ok (Perform command)) asked ask) [
     | inl same ↦ let one : command ≡ other = cc in subst (λ (c : Command). Performs c left left' held held' result) one is
     | inr none ↦ cc
   ]
 
-module _ (words : List Text) (fault : WordsFault OurBadValue) (read : ReadsWords words (Err fault)) where
+module _ (once : AskForOneCommand) (words : List Text) (fault : WordsFault OurBadValue) (read : ReadsWords words (Err fault)) where
   pub refused_words : AnswersWords words (Err (of_words fault))
   refused_words = go fault read
     where
@@ -87,7 +87,7 @@ module _ (words : List Text) (fault : WordsFault OurBadValue) (read : ReadsWords
   -- no command is asked for, unless memory ran out
   pub refused_alone : (left left' held held' : Option (List ℕ)) (command : Command) → AskForCommand words command
       → Performs command left left' held held' (Err (of_words fault))
-  refused_alone left left' held held' command ask = elim (ask_for_one_command words command (Err fault) ask read) [
+  refused_alone left left' held held' command ask = elim (once words command (Err fault) ask read) [
     | inl same ↦ cc
     | inr none ↦ let out : OutOfMemory ≡ fault = cc in subst (λ (f : WordsFault OurBadValue). Performs command left left' held held' (Err (of_words f))) out tt
   ]

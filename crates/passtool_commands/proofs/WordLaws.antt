@@ -15,43 +15,48 @@ use Rattle.hex.specs.declared.error.FromHexError.{FromHexError}
 use Rattle.hex.proofs.HexLemmas.{decode_of-ok}
 use Rattle.pass_forms.specs.declared.form.Form.{Form}
 use Rattle.pass_forms.specs.declared.form.Form.TheVariants.{V1, V2, Json}
-use Rattle.command_line.specs.Job.{Refusal, job_asked}
+use Rattle.command_line.specs.Job.{ReadsFound, Refusal}
 use Rattle.command_line.specs.Table.{asked, refusals}
-use Rattle.command_line.specs.declared.job.Asked.TheVariants.{Perform}
 use Rattle.pass_caveats.specs.Laws.{ReadsWhatIsUnderstood}
 use Rattle.passtool_commands.specs.Application.{passtool}
 use Rattle.passtool_commands.specs.Laws.{ConvertTakesItsForm, ShowTakesNothing, VerifyTakesItsRoot}
-use Rattle.passtool_commands.specs.Words.{AskForCommand, command_of}
+use Rattle.passtool_commands.specs.Words.{AskForCommand, ReadsValues, command_of}
 use Rattle.passtool_commands.specs.computed.Words.{is_understood}
 use Rattle.passtool_commands.specs.declared.answer.BadValue.{BadValue}
 use Rattle.passtool_commands.specs.declared.command.Command.{Command}
 use Rattle.passtool_commands.specs.declared.command.Command.TheVariants.{Show, Convert, Verify}
 use Rattle.passtool_commands.specs.declared.table.Name.{Name}
 use Rattle.passtool_commands.specs.declared.table.Name.TheVariants as row
-use Rattle.passtool_commands.proofs.CaveatTest.{words_read}
+use Rattle.passtool_commands.proofs.CaveatTest.{values_read}
 
 -- what the row that clap found asks for
 abbrev pub asked_by : Option (Name × List Row) → Option (Result Command (Refusal BadValue))
 asked_by = option_map (λ row. command_of is_understood row.0 row.1)
 
--- what the words ask for by the test of caveats that the code has
+-- what clap accepts, and what it found of it asks for by the test of caveats that the code has
 abbrev AskByTest : List Text → Command → Type 0
-AskByTest words command = job_asked passtool (command_of is_understood) words ≡ Some (Ok command)
+AskByTest words command = (refusals passtool words ≡ []) × (asked_by (asked passtool words) ≡ Some (Ok command))
 
 module _ (reads : ReadsWhatIsUnderstood) where
-  ask_for : (words : List Text) (command : Command) → AskByTest words command → AskForCommand words command
-  ask_for words command is = words_read reads words (Ok (Perform command)) is
+  found_asks : (found : Option (Name × List Row)) (command : Command) → asked_by found ≡ Some (Ok command) → ReadsFound ReadsValues found (Ok command)
+  found_asks None command is = absurd cc
+  found_asks (Some row) command is =
+      let same : command_of is_understood row.0 row.1 ≡ Ok command = cc in
+      values_read reads row.0 row.1 (Ok command) same
 
   -- words that clap reads ask for the command that it found
   pub asked_is : (words : List Text) (found : Option (Name × List Row)) (command : Command) → refusals passtool words ≡ [] → asked passtool words ≡ found
       → asked_by found ≡ Some (Ok command) → AskForCommand words command
-  asked_is words found command clear same is = ask_for words command (rw (clear, same) is)
+  asked_is words found command clear same is = (clear, rw same (found_asks found command is))
+
+  ask_for : (words : List Text) (command : Command) → AskByTest words command → AskForCommand words command
+  ask_for words command is = asked_is words _ command is.0 refl is.1
 
 -- ---- show
 
 shown : (name : Text) → AskByTest (name ∷ codes "show" ∷ []) Show
 unfolding clap_on_literals passtool refusals asked
-shown name = refl
+shown name = (refl, refl)
 
 pub show_takes_nothing : ReadsWhatIsUnderstood → ShowTakesNothing
 show_takes_nothing reads name = ask_for reads _ _ (shown name)
@@ -60,9 +65,9 @@ show_takes_nothing reads name = ask_for reads _ _ (shown name)
 
 converted : (name : Text) (form : Form) → AskByTest (name ∷ codes "convert" ∷ codes "--form" ∷ form_name form ∷ []) (Convert form)
 unfolding clap_on_literals passtool refusals asked
-converted name V1 = refl
-converted name V2 = refl
-converted name Json = refl
+converted name V1 = (refl, refl)
+converted name V2 = (refl, refl)
+converted name Json = (refl, refl)
 
 pub convert_takes_its_form : ReadsWhatIsUnderstood → ConvertTakesItsForm
 convert_takes_its_form reads name form = ask_for reads _ _ (converted name form)

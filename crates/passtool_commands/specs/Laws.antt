@@ -1,5 +1,5 @@
 -- Laws of the definitions.
-use Rattle.std.specs.Prelude.{◌≡◌, ◌↔◌, ◌⊎◌, ℕ, List, [], ◌∷◌, ◌++◌, All, Result, Some, Ok, Err, IsSome, codes}
+use Rattle.std.specs.Prelude.{◌≡◌, ◌↔◌, ℕ, List, [], ◌∷◌, ◌++◌, All, Result, Some, Ok, IsSome, codes}
 use Rattle.clap.specs.Words.{Text}
 use Rattle.pass_forms.specs.declared.fault.FormFault.{FormFault}
 use Rattle.pass_forms.specs.declared.form.Form.{Form}
@@ -10,14 +10,10 @@ use Rattle.command_line.specs.Table.{asked, refusals}
 use Rattle.passtool_commands.specs.Application.{passtool}
 use Rattle.command_line.specs.FormName.{form_name}
 use Rattle.passtool_commands.specs.Minting.{Minting}
+use Rattle.command_line.specs.JobLaws.{AskOnce}
 use Rattle.command_line.specs.Root.{root_of}
-use Rattle.command_line.specs.declared.errors.WordsFault.{WordsFault}
-use Rattle.command_line.specs.declared.errors.WordsFault.TheVariants.{Memory}
-use Rattle.command_line.specs.declared.job.Asked.{Asked}
-use Rattle.command_line.specs.declared.job.Asked.TheVariants.{Perform}
 use Rattle.passtool_commands.specs.Shown.{with_line_feed}
-use Rattle.passtool_commands.specs.Words.{AskForCommand, IsCaveatText, ReadsWords}
-use Rattle.passtool_commands.specs.declared.answer.BadValue.{BadValue}
+use Rattle.passtool_commands.specs.Words.{AskForCommand, IsCaveatText, ReadsValues}
 use Rattle.passtool_commands.specs.declared.answer.Outcome.TheVariants.{Done}
 use Rattle.passtool_commands.specs.declared.command.Command.{Command}
 use Rattle.passtool_commands.specs.declared.command.Command.TheVariants.{Mint, Show, Narrow, Convert, Verify}
@@ -30,8 +26,7 @@ WordsNameACommand = (words : List Text) → refusals passtool words ≡ [] → I
 
 -- Arguments that ask for a command ask for no other, and have no fault: each of their results is this command, or out of memory.
 abbrev pub AskForOneCommand : Type 0
-AskForOneCommand = (words : List Text) (command : Command) (result : Result (Asked Command) (WordsFault BadValue))
-    → AskForCommand words command → ReadsWords words result → (result ≡ Ok (Perform command)) ⊎ (result ≡ Err Memory)
+AskForOneCommand = AskOnce passtool ReadsValues
 
 -- `mint`, under any name of the program, with all its options and any caveats, in their order
 abbrev pub MintTakesItsParts : Type 0

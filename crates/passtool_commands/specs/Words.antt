@@ -2,7 +2,7 @@
 use Rattle.std.specs.Prelude.{◌↔◌, ℕ, ◌+◌, Bool, IsTrue, not, if◌then◌else◌, List, [], Option, Some, None, Result, Ok, Err, codes, position, unwrap_or}
 use Rattle.std.specs.Option.{ok_or}
 use Rattle.clap.specs.Words.{Row, Text, all_of}
-use Rattle.command_line.specs.Job.{JobOf, ReadsJob, Refusal, bad_value, ◌>>=◌, form_given}
+use Rattle.command_line.specs.Job.{Answers, JobOf, ReadsJob, Refusal, bad_value, ◌>>=◌, form_given}
 use Rattle.command_line.specs.Root.{root_of}
 use Rattle.command_line.specs.Words.{is_set, value_in}
 use Rattle.command_line.specs.declared.errors.WordsFault.{WordsFault}
@@ -69,11 +69,15 @@ module _ (is_understood : Text → Bool) where
     root ← root_in rows
     Ok (Verify root)
 
--- the results of reading the arguments
-pub record ReadsWords (words : List Text) (result : Result (Asked Command) (WordsFault BadValue)) : Type 0 where
+-- the results of reading the values of a row
+pub record ReadsValues (name : Name) (rows : List Row) (result : Result Command (WordsFault BadValue)) : Type 0 where
   pub is_understood : Text → Bool
   pub is_test : IsCaveatTest is_understood
-  pub reads : ReadsJob passtool (command_of is_understood) words result
+  pub answers : Answers (command_of is_understood name rows) result
+
+-- the results of reading the arguments
+abbrev pub ReadsWords : List Text → Result (Asked Command) (WordsFault BadValue) → Type 0
+ReadsWords words result = ReadsJob passtool ReadsValues words result
 
 -- The arguments have no fault, and ask for this command.
 abbrev pub AskForCommand : List Text → Command → Type 0

@@ -3,7 +3,7 @@
 ghost use Rattle.std.specs.Prelude.{◌≡◌, ◌≢◌, ◌≤◌, IfErr, IfOk, false, length, take};
 ghost use Rattle.clap.specs.Words.{found_of, rows_of};
 ghost use Rattle.command_line.specs.Job.{Answers};
-ghost use Rattle.passtool_commands.specs.Words.{checked_caveats, command_of};
+ghost use Rattle.passtool_commands.specs.Words.{ReadsValues, checked_caveats, command_of};
 ghost use Rattle.passtool_commands.specs.computed.Words.{is_understood};
 
 use crate::answer::{Answer, BadValue, Fault, Outcome};
@@ -18,6 +18,7 @@ use crate::table::Name;
 use crate::verify::verify;
 use clap::ArgMatches;
 use command_line::{Job, Root, WordsFault, fill, is_set, read_form, value_of, write_text};
+use pass_caveats::laws::reads_what_is_understood;
 use pass_forms::{Form, FormFault};
 use std::alloc::Global;
 use std::io::{self, Read, Write};
@@ -42,15 +43,18 @@ impl<'a> Job<'a> for Command<'a> {
 
     type BadValue = BadValue;
 
-    ghost job_of = { command_of is_understood };
+    ghost Reads = { ReadsValues };
 
+    #[tactic(auto, using(crate::proofs::CaveatTest::values_read))]
     fn read(
         alloc: Global,
         name: Name,
         options: &ArgMatches<'a>,
     ) -> Result<Command<'a>, WordsFault<BadValue>>
-        ensures { Answers (command_of is_understood name (rows_of (found_of options.now))) result }
+        ensures { ReadsValues name (rows_of (found_of options.now)) result }
     {
+        // By this law the code tests caveats as the clause does.
+        reads_what_is_understood();
         match name {
             Name::Mint => mint_of(alloc, options),
             Name::Show => Ok(Command::Show),

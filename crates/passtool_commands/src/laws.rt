@@ -16,11 +16,12 @@ ghost use Rattle.passtool_commands.specs.Laws.{
   WordsNameACommand,
 };
 
+use crate::answer::BadValue;
+use crate::command::Command;
 use crate::table::Name;
-use command_line::laws::words_name_a_row;
+use command_line::laws::{arguments_ask_once, rows_answer_once, words_name_a_row};
 use pass_caveats::laws::reads_what_is_understood;
-use pass_forms::laws::{answers_exactly, one_pass_for_each_v1, one_pass_for_each_v2, wraps_one};
-use pass_json::laws::{one_pass_for_each_json, one_text_for_each_form};
+use pass_json::laws::{one_reading, one_writing};
 
 /// Arguments that `clap` accepts name a command of the program.
 pub fn words_name_a_command()
@@ -32,7 +33,10 @@ pub fn words_name_a_command()
 /// Arguments that ask for a command ask for no other, and have no fault.
 pub fn ask_for_one_command()
     ensures { AskForOneCommand }
-{}
+{
+    rows_answer_once::<Command<'static>, BadValue>();
+    arguments_ask_once::<Command<'static>>();
+}
 
 /// `mint` with all its options and any number of caveats asks for the pass of these, the caveats in
 /// their order.
@@ -82,23 +86,15 @@ pub fn verify_takes_its_root()
 pub fn answers_once()
     ensures { AnswersOnce }
 {
-    wraps_one();
-    one_pass_for_each_v1();
-    one_pass_for_each_v2();
-    one_pass_for_each_json();
-    answers_exactly();
-    one_text_for_each_form();
+    one_reading();
+    one_writing();
 }
 
 /// `verify` prints `signed` exactly if the pass is signed under the root.
 pub fn verify_decides_signed()
     ensures { VerifyDecidesSigned }
 {
-    wraps_one();
-    one_pass_for_each_v1();
-    one_pass_for_each_v2();
-    one_pass_for_each_json();
-    answers_exactly();
+    one_reading();
 }
 
 /// The pass that `mint` makes is signed under its root.

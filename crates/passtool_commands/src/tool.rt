@@ -7,8 +7,8 @@ ghost use Rattle.passtool_commands.specs.declared.command.Command.{Command as Co
 
 use crate::answer::{Fault, Outcome};
 use crate::command::Command;
+use crate::laws::ask_for_one_command;
 use command_line::{Asked, flush, read_job};
-use pass_caveats::laws::reads_what_is_understood;
 use std::alloc::Global;
 use std::convert::AsStr;
 use std::io::{Read, Write};
@@ -45,8 +45,8 @@ pub fn run<S: AsStr, R: Read, W: Write>(
     ensures silent { IfErr result (λ fault. fault ≢ Fault.InputOutput
         → writer.new ≡ writer.old) }
 {
-    // By this law the code tests caveats as the clauses do.
-    reads_what_is_understood();
+    // By this law the arguments ask for one command.
+    ask_for_one_command();
     let command: Command<'_> = match read_job(alloc, words) {
         Ok(Asked::Perform(command)) => command,
         Ok(Asked::ShowText(text)) => return show(&text, writer),

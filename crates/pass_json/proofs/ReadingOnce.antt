@@ -1,4 +1,4 @@
--- A text has one reading, and a pass one text in each form.
+-- A text has one reading: what it spells is one pass, or none.
 use Rattle.std.proofs.Common.{◌≡◌, ◌∙◌, ℕ, ◌≤◌, List, length, Option, Some, None, Result, Ok, Err, inl, inr, refl, sym, ap, ap₂, subst, arith}
 use Rattle.std.proofs.lemmas.Bool.{cases_lt}
 use Rattle.pass_forms.specs.Laws.{AnswersExactly, OnePassEach, WrapsOne}
@@ -7,18 +7,14 @@ use Rattle.pass_forms.specs.Reading.{IsReadAs, max_text_len}
 use Rattle.pass_forms.specs.Text.{SpellsText}
 use Rattle.pass_forms.specs.V1.{SpellsV1}
 use Rattle.pass_forms.specs.V2.{SpellsV2}
-use Rattle.pass_forms.specs.Writing.{IsWriting}
 use Rattle.pass_forms.specs.computed.Reading.{reading_of}
 use Rattle.pass_forms.specs.declared.fault.FormFault.{FormFault}
 use Rattle.pass_forms.specs.declared.fault.FormFault.TheVariants.{TooLong, Malformed, ThirdParty, TooMany, Memory}
 use Rattle.pass_forms.specs.declared.form.Form.{Form}
 use Rattle.pass_forms.specs.declared.form.Form.TheVariants.{V1, V2, Json}
-use Rattle.pass_json.specs.AnyForm.{IsAnyReading, IsTextIn, SpellsForm}
+use Rattle.pass_json.specs.AnyForm.{IsAnyReading, SpellsForm}
 use Rattle.pass_json.specs.Json.{SpellsJson}
-use Rattle.pass_json.specs.Laws.{OneTextEachForm}
-use Rattle.passtool_commands.proofs.StepLemmas.{HasOne}
-
--- ---- reading
+use Rattle.pass_json.specs.Laws.{OneReading}
 
 -- the wide pass that is spelled, if one is
 abbrev IsFound : (WidePass → Type 0) → Option WidePass → Type 0
@@ -86,7 +82,7 @@ module _ (wraps : WrapsOne) (v1 : OnePassEach SpellsV1) (v2 : OnePassEach Spells
   read_as text (Ok read) h = (h.0, (read.0, h.1), h.2)
   read_as text (Err fault) h = h
 
-  pub one_reading : (text : List ℕ) → HasOne (IsAnyReading text)
+  pub one_reading : OneReading
   one_reading text one other p q =
       go one other p q (one_result exactly (length text) (Spelled text) (λ wide other a b. (one_spelled text a.0 b.0 wide other a.1 b.1).1)
       (without_form one) (without_form other) (read_as text one p) (read_as text other q))
@@ -99,22 +95,3 @@ module _ (wraps : WrapsOne) (v1 : OnePassEach SpellsV1) (v2 : OnePassEach Spells
       go (Ok read) (Err fault) p q same = cc
       go (Err fault) (Ok read) p q same = cc
       go (Err fault) (Err other) p q same = let is : fault ≡ other = cc in ap Err is
-
--- ---- writing
-
-pub one_writing : OneTextEachForm → (form : Form) (pass : Plain) → HasOne (IsWriting (IsTextIn form) pass)
-one_writing unique form pass (Ok text) (Ok other) p q = ap Ok (unique form pass text other p.is_text q.is_text)
-one_writing unique form pass (Ok text) (Err TooLong) p q = absurd (omega (arith, p.short, q.1 text p.is_text))
-one_writing unique form pass (Ok text) (Err TooMany) p q = absurd (omega (arith, p.few, q))
-one_writing unique form pass (Err TooLong) (Ok text) p q = absurd (omega (arith, q.short, p.1 text q.is_text))
-one_writing unique form pass (Err TooLong) (Err TooLong) p q = refl
-one_writing unique form pass (Err TooLong) (Err TooMany) p q = absurd (omega (arith, p.0, q))
-one_writing unique form pass (Err TooMany) (Ok text) p q = absurd (omega (arith, q.few, p))
-one_writing unique form pass (Err TooMany) (Err TooLong) p q = absurd (omega (arith, q.0, p))
-one_writing unique form pass (Err TooMany) (Err TooMany) p q = refl
-one_writing unique form pass (Err Malformed) other p q = absurd p
-one_writing unique form pass (Err ThirdParty) other p q = absurd p
-one_writing unique form pass (Err Memory) other p q = absurd p
-one_writing unique form pass one (Err Malformed) p q = absurd q
-one_writing unique form pass one (Err ThirdParty) p q = absurd q
-one_writing unique form pass one (Err Memory) p q = absurd q
