@@ -6,7 +6,7 @@ use Rattle.club_values.specs.Kind.{kind_text}
 use Rattle.club_values.specs.Moment.{SpellsMoment}
 use Rattle.club_values.specs.Name.{IsName}
 use Rattle.command_line.specs.Job.{Answers}
-use Rattle.command_line.specs.JobLaws.{AnswersOnce, ReadsOnce}
+use Rattle.command_line.specs.JobLaws.{RowsAnswerOnce, ReadsOnce}
 use Rattle.clubdesk_arguments.specs.JobModel.{JobModel}
 use Rattle.clubdesk_arguments.specs.Readers.{ReadExactly, Readers}
 use Rattle.clubdesk_arguments.specs.Words.{ReadsValues, job_of}
@@ -26,7 +26,7 @@ same_readers a b f g = λ i. record {
 }
 
 -- the values of a row are read as one job at most
-pub reads_once : AnswersOnce JobModel Unit → ReadsOnce ReadsValues
+pub reads_once : RowsAnswerOnce JobModel Unit → ReadsOnce ReadsValues
 reads_once once name rows job result one other =
     let Reads : Readers → Type 0 = λ read. Answers (job_of read name rows) result in
     once (job_of one.read name rows) job result one.answers (subst Reads (same_readers other.read one.read other.exact one.exact) other.answers)

@@ -2,7 +2,7 @@
 use Rattle.std.proofs.Common.{◌≡◌, List, [], Option, Some, None, Result, Ok, Err, inl, inr, refl, ap, subst}
 use Rattle.clap.specs.Words.{IsAmong, Kinds, Row, Text, fault_of, subcommand_of}
 use Rattle.clap.specs.declared.error.kind.ErrorKind.{ErrorKind}
-use Rattle.command_line.specs.JobLaws.{AnswersOnce, AskOnce, IsOrLacksMemory, ReadsOnce}
+use Rattle.command_line.specs.JobLaws.{RowsAnswerOnce, AskOnce, IsOrLacksMemory, ReadsOnce}
 use Rattle.command_line.specs.Job.{ReadsAccepted, ReadsFound, ReadsJob, ReadsRow}
 use Rattle.command_line.specs.Table.{Table, app_of_table, asked, asked_in, refusals}
 use Rattle.command_line.specs.declared.errors.WordsFault.{WordsFault}
@@ -25,7 +25,7 @@ module _ {C J V : Type 0} (table : Table C) (Reads : ReadsRow C J V) (words : Li
 
 -- ---- one job
 
-pub answers_once : {J V : Type 0} → AnswersOnce J V
+pub answers_once : {J V : Type 0} → RowsAnswerOnce J V
 answers_once (Ok expected) job (Ok other) is that = let same : other ≡ job = cc in inl (ap Ok same)
 answers_once (Ok expected) job (Err (Refused error)) is that = absurd cc
 answers_once (Ok expected) job (Err (BadValue value)) is that = absurd cc

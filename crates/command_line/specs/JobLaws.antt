@@ -18,8 +18,8 @@ ReadsOnce {C} {J} {V} Reads = (row : C) (rows : List Row) (job : J) (result : Re
     → IsOrLacksMemory job result
 
 -- So is a row that is read as a function says.
-abbrev pub AnswersOnce : Type 0 → Type 0 → Type 0
-AnswersOnce J V = (expected : Result J (Refusal V)) (job : J) (result : Result J (WordsFault V)) → Answers expected (Ok job) → Answers expected result
+abbrev pub RowsAnswerOnce : Type 0 → Type 0 → Type 0
+RowsAnswerOnce J V = (expected : Result J (Refusal V)) (job : J) (result : Result J (WordsFault V)) → Answers expected (Ok job) → Answers expected result
     → IsOrLacksMemory job result
 
 -- Arguments that ask for a job ask for no other, and have no fault.

@@ -2,7 +2,7 @@
 
 ghost use Rattle.std.specs.Prelude.{◌≡◌, List, [], IsSome};
 ghost use Rattle.clap.specs.Words.{Text};
-ghost use Rattle.command_line.specs.JobLaws.{AnswersOnce, AskOnce, ReadsOnce};
+ghost use Rattle.command_line.specs.JobLaws.{RowsAnswerOnce, AskOnce, ReadsOnce};
 ghost use Rattle.command_line.specs.Laws.{WordsEnterACommand};
 ghost use Rattle.command_line.specs.Table.{IsGood, Table, asked, refusals};
 
@@ -24,7 +24,7 @@ pub fn words_name_a_row<C: Copy>()
 /// A row that is read as a function says has one job at most, and a fault only without one; memory
 /// aside.
 pub fn rows_answer_once<J, V>()
-    ensures { AnswersOnce J V }
+    ensures { RowsAnswerOnce J V }
 {}
 
 /// If rows have one job at most, so have arguments, and a fault only without one; memory aside.

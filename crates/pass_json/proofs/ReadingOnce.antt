@@ -14,7 +14,7 @@ use Rattle.pass_forms.specs.declared.form.Form.{Form}
 use Rattle.pass_forms.specs.declared.form.Form.TheVariants.{V1, V2, Json}
 use Rattle.pass_json.specs.AnyForm.{IsAnyReading, SpellsForm}
 use Rattle.pass_json.specs.Json.{SpellsJson}
-use Rattle.pass_json.specs.Laws.{OneReading}
+use Rattle.pass_json.specs.Laws.{OneReadingEachText}
 
 -- the wide pass that is spelled, if one is
 abbrev IsFound : (WidePass → Type 0) → Option WidePass → Type 0
@@ -82,8 +82,8 @@ module _ (wraps : WrapsOne) (v1 : OnePassEach SpellsV1) (v2 : OnePassEach Spells
   read_as text (Ok read) h = (h.0, (read.0, h.1), h.2)
   read_as text (Err fault) h = h
 
-  pub one_reading : OneReading
-  one_reading text one other p q =
+  pub one_reading_for_each_text : OneReadingEachText
+  one_reading_for_each_text text one other p q =
       go one other p q (one_result exactly (length text) (Spelled text) (λ wide other a b. (one_spelled text a.0 b.0 wide other a.1 b.1).1)
       (without_form one) (without_form other) (read_as text one p) (read_as text other q))
     where

@@ -54,10 +54,11 @@ WritesAnyFormExactly = (form : Form) (pass : Plain) (answer : Result (List ℕ) 
     (writing form pass ≡ answer) ↔ IsWriting (IsTextIn form) pass answer
 
 -- A text has one reading: its form and its pass, or its fault.
-abbrev pub OneReading : Type 0
-OneReading = (text : List ℕ) (one other : Result (Form × Plain) FormFault) → IsAnyReading text one → IsAnyReading text other → one ≡ other
+abbrev pub OneReadingEachText : Type 0
+OneReadingEachText = (text : List ℕ) (one other : Result (Form × Plain) FormFault) → IsAnyReading text one → IsAnyReading text other →
+    one ≡ other
 
 -- Writing a pass in a form has one result: its text, or its fault.
-abbrev pub OneWriting : Type 0
-OneWriting = (form : Form) (pass : Plain) (one other : Result (List ℕ) FormFault) → IsWriting (IsTextIn form) pass one → IsWriting (IsTextIn form) pass other
-    → one ≡ other
+abbrev pub OneWritingEachForm : Type 0
+OneWritingEachForm = (form : Form) (pass : Plain) (one other : Result (List ℕ) FormFault) →
+    IsWriting (IsTextIn form) pass one → IsWriting (IsTextIn form) pass other → one ≡ other

@@ -3,9 +3,9 @@
 
 ghost use Rattle.pass_json.specs.Laws.{
   AnyFormReadsBack,
-  OneReading,
+  OneReadingEachText,
   OneTextEachForm,
-  OneWriting,
+  OneWritingEachForm,
   ReadsAnyFormExactly,
   ReadsWhatIsWrapped,
   RefusesWhatWrapsNothing,
@@ -102,8 +102,8 @@ pub fn writes_any_form_exactly()
 }
 
 /// A text has one reading: its form and its pass, or its fault.
-pub fn one_reading()
-    ensures { OneReading }
+pub fn one_reading_for_each_text()
+    ensures { OneReadingEachText }
 {
     wraps_one();
     one_pass_for_each_v1();
@@ -113,8 +113,8 @@ pub fn one_reading()
 }
 
 /// Writing a pass in a form has one result: its text, or its fault.
-pub fn one_writing()
-    ensures { OneWriting }
+pub fn one_writing_for_each_form()
+    ensures { OneWritingEachForm }
 {
     one_text_for_each_form();
 }

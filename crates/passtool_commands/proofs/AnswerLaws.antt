@@ -9,7 +9,7 @@ use Rattle.pass_forms.specs.Reading.{max_caveats}
 use Rattle.pass_forms.specs.declared.fault.FormFault.{FormFault}
 use Rattle.pass_forms.specs.declared.fault.FormFault.TheVariants.{TooMany}
 use Rattle.pass_forms.specs.declared.form.Form.{Form}
-use Rattle.pass_json.specs.Laws.{OneReading, OneWriting}
+use Rattle.pass_json.specs.Laws.{OneReadingEachText, OneWritingEachForm}
 use Rattle.passtool_commands.specs.Answer.{IsVerdict, OutcomeText, ReadsPass, WritesPass, done_with, narrowing, new_pass, with_caveats}
 use Rattle.passtool_commands.specs.Laws.{AnswersOnce, MintSigns, NarrowingKeepsSigned, VerifyDecidesSigned}
 use Rattle.passtool_commands.specs.Shown.{shown_text, with_line_feed}
@@ -45,11 +45,11 @@ one_verdict root pass (Ok (NotSigned, text)) (Ok (NotSigned, other)) p q =
 one_verdict root pass (Err fault) other p q = absurd p
 one_verdict root pass one (Err fault) p q = absurd q
 
-module _ (readings : OneReading) where
+module _ (readings : OneReadingEachText) where
   one_pass_read : (bytes : List ℕ) → HasOne (ReadsPass bytes)
   one_pass_read bytes = readings (strip_last 10 bytes)
 
-  module _ (writings : OneWriting) where
+  module _ (writings : OneWritingEachForm) where
     one_pass_written : (form : Form) (pass : Plain) → HasOne (WritesPass form pass)
     one_pass_written form pass = one_then _ _ (writings form pass) (λ text. one_only (done_with text))
 

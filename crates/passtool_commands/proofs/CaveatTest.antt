@@ -3,12 +3,12 @@ use Rattle.std.proofs.Common.{◌≡◌, ◌↔◌, Bool, true, false, IsTrue, i
 use Rattle.std.proofs.Math.Path.{fun_ext}
 use Rattle.clap.specs.Words.{Row, Text}
 use Rattle.command_line.specs.Job.{Answers}
-use Rattle.command_line.specs.JobLaws.{AnswersOnce, ReadsOnce}
+use Rattle.command_line.specs.JobLaws.{RowsAnswerOnce, ReadsOnce}
 use Rattle.command_line.specs.declared.errors.WordsFault.{WordsFault}
 use Rattle.pass_caveats.specs.Laws.{ReadsWhatIsUnderstood}
 use Rattle.pass_caveats.specs.computed.CaveatOf.{caveat_of}
 use Rattle.pass_caveats.specs.declared.caveat.Caveat.{Caveat}
-use Rattle.passtool_commands.specs.Words.{IsCaveatTest, IsCaveatText, ReadsValues, command_of}
+use Rattle.passtool_commands.specs.Words.{IsCaveatTest, IsCaveatText, ReadsCommand, command_of}
 use Rattle.passtool_commands.specs.computed.Words.{is_understood}
 use Rattle.passtool_commands.specs.declared.answer.BadValue.{BadValue as OurBadValue}
 use Rattle.passtool_commands.specs.declared.command.Command.{Command}
@@ -32,11 +32,11 @@ is_test reads text = (found (caveat_of text) refl, λ is. ap is_some ((reads tex
 
 -- a row's values are read by this test
 pub values_read : ReadsWhatIsUnderstood → (name : Name) (rows : List Row) (result : Result Command (WordsFault OurBadValue))
-    → Answers (command_of is_understood name rows) result → ReadsValues name rows result
+    → Answers (command_of is_understood name rows) result → ReadsCommand name rows result
 values_read reads name rows result is = record { is_understood = is_understood; is_test = is_test reads; answers = is }
 
 -- as one command at most
-pub reads_once : AnswersOnce Command OurBadValue → ReadsOnce ReadsValues
+pub reads_once : RowsAnswerOnce Command OurBadValue → ReadsOnce ReadsCommand
 reads_once once name rows command result one other =
     let Reads : (Text → Bool) → Type 0 = λ test. Answers (command_of test name rows) result in
     let alike = one_test other.is_understood one.is_understood other.is_test one.is_test in

@@ -20,7 +20,7 @@ use Rattle.command_line.specs.Table.{asked, refusals}
 use Rattle.pass_caveats.specs.Laws.{ReadsWhatIsUnderstood}
 use Rattle.passtool_commands.specs.Application.{passtool}
 use Rattle.passtool_commands.specs.Laws.{ConvertTakesItsForm, ShowTakesNothing, VerifyTakesItsRoot}
-use Rattle.passtool_commands.specs.Words.{AskForCommand, ReadsValues, command_of}
+use Rattle.passtool_commands.specs.Words.{AskForCommand, ReadsCommand, command_of}
 use Rattle.passtool_commands.specs.computed.Words.{is_understood}
 use Rattle.passtool_commands.specs.declared.answer.BadValue.{BadValue}
 use Rattle.passtool_commands.specs.declared.command.Command.{Command}
@@ -38,7 +38,7 @@ abbrev AskByTest : List Text → Command → Type 0
 AskByTest words command = (refusals passtool words ≡ []) × (asked_by (asked passtool words) ≡ Some (Ok command))
 
 module _ (reads : ReadsWhatIsUnderstood) where
-  found_asks : (found : Option (Name × List Row)) (command : Command) → asked_by found ≡ Some (Ok command) → ReadsFound ReadsValues found (Ok command)
+  found_asks : (found : Option (Name × List Row)) (command : Command) → asked_by found ≡ Some (Ok command) → ReadsFound ReadsCommand found (Ok command)
   found_asks None command is = absurd cc
   found_asks (Some row) command is =
       let same : command_of is_understood row.0 row.1 ≡ Ok command = cc in

@@ -13,7 +13,7 @@ use Rattle.passtool_commands.specs.Minting.{Minting}
 use Rattle.command_line.specs.JobLaws.{AskOnce}
 use Rattle.command_line.specs.Root.{root_of}
 use Rattle.passtool_commands.specs.Shown.{with_line_feed}
-use Rattle.passtool_commands.specs.Words.{AskForCommand, IsCaveatText, ReadsValues}
+use Rattle.passtool_commands.specs.Words.{AskForCommand, IsCaveatText, ReadsCommand}
 use Rattle.passtool_commands.specs.declared.answer.Outcome.TheVariants.{Done}
 use Rattle.passtool_commands.specs.declared.command.Command.{Command}
 use Rattle.passtool_commands.specs.declared.command.Command.TheVariants.{Mint, Show, Narrow, Convert, Verify}
@@ -26,7 +26,7 @@ WordsNameACommand = (words : List Text) → refusals passtool words ≡ [] → I
 
 -- Arguments that ask for a command ask for no other, and have no fault: each of their results is this command, or out of memory.
 abbrev pub AskForOneCommand : Type 0
-AskForOneCommand = AskOnce passtool ReadsValues
+AskForOneCommand = AskOnce passtool ReadsCommand
 
 -- `mint`, under any name of the program, with all its options and any caveats, in their order
 abbrev pub MintTakesItsParts : Type 0

@@ -69,15 +69,15 @@ module _ (is_understood : Text → Bool) where
     root ← root_in rows
     Ok (Verify root)
 
--- the results of reading the values of a row
-pub record ReadsValues (name : Name) (rows : List Row) (result : Result Command (WordsFault BadValue)) : Type 0 where
+-- the results of reading the command of a row
+pub record ReadsCommand (name : Name) (rows : List Row) (result : Result Command (WordsFault BadValue)) : Type 0 where
   pub is_understood : Text → Bool
   pub is_test : IsCaveatTest is_understood
   pub answers : Answers (command_of is_understood name rows) result
 
 -- the results of reading the arguments
 abbrev pub ReadsWords : List Text → Result (Asked Command) (WordsFault BadValue) → Type 0
-ReadsWords words result = ReadsJob passtool ReadsValues words result
+ReadsWords words result = ReadsJob passtool ReadsCommand words result
 
 -- The arguments have no fault, and ask for this command.
 abbrev pub AskForCommand : List Text → Command → Type 0

@@ -3,7 +3,7 @@
 ghost use Rattle.std.specs.Prelude.{◌≡◌, ◌≢◌, ◌≤◌, IfErr, IfOk, false, length, take};
 ghost use Rattle.clap.specs.Words.{found_of, rows_of};
 ghost use Rattle.command_line.specs.Job.{Answers};
-ghost use Rattle.passtool_commands.specs.Words.{ReadsValues, checked_caveats, command_of};
+ghost use Rattle.passtool_commands.specs.Words.{ReadsCommand, checked_caveats, command_of};
 ghost use Rattle.passtool_commands.specs.computed.Words.{is_understood};
 
 use crate::answer::{Answer, BadValue, Fault, Outcome};
@@ -43,7 +43,7 @@ impl<'a> Job<'a> for Command<'a> {
 
     type BadValue = BadValue;
 
-    ghost Reads = { ReadsValues };
+    ghost Reads = { ReadsCommand };
 
     #[tactic(auto, using(crate::proofs::CaveatTest::values_read))]
     fn read(
@@ -51,7 +51,7 @@ impl<'a> Job<'a> for Command<'a> {
         name: Name,
         options: &ArgMatches<'a>,
     ) -> Result<Command<'a>, WordsFault<BadValue>>
-        ensures { ReadsValues name (rows_of (found_of options.now)) result }
+        ensures { ReadsCommand name (rows_of (found_of options.now)) result }
     {
         // By this law the code tests caveats as the clause does.
         reads_what_is_understood();

@@ -21,7 +21,7 @@ use crate::command::Command;
 use crate::table::Name;
 use command_line::laws::{arguments_ask_once, rows_answer_once, words_name_a_row};
 use pass_caveats::laws::reads_what_is_understood;
-use pass_json::laws::{one_reading, one_writing};
+use pass_json::laws::{one_reading_for_each_text, one_writing_for_each_form};
 
 /// Arguments that `clap` accepts name a command of the program.
 pub fn words_name_a_command()
@@ -86,15 +86,15 @@ pub fn verify_takes_its_root()
 pub fn answers_once()
     ensures { AnswersOnce }
 {
-    one_reading();
-    one_writing();
+    one_reading_for_each_text();
+    one_writing_for_each_form();
 }
 
 /// `verify` prints `signed` exactly if the pass is signed under the root.
 pub fn verify_decides_signed()
     ensures { VerifyDecidesSigned }
 {
-    one_reading();
+    one_reading_for_each_text();
 }
 
 /// The pass that `mint` makes is signed under its root.
