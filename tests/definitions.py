@@ -187,6 +187,10 @@ class Walk:
         if at + 1 < len(tokens) and tokens[at + 1] == "←":
             self.scopes[-1].add(token)
             return at + 2
+        # A field of a record's type, which those after it may name.
+        if at + 1 < len(tokens) and tokens[at + 1] == ":" and len(self.scopes) > 1:
+            self.scopes[-1].add(token)
+            return at + 2
         # A label in a record, unless it is the equation's own sign.
         if at + 1 < len(tokens) and tokens[at + 1] == "=" and len(self.scopes) > 1:
             return at + 2

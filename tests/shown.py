@@ -33,7 +33,7 @@ WRITTEN = {
     "passes.Fields.take passes.v2_field": "pass_forms.V2: field",
     "passes.Fields.take_if": "pass_forms.V2: optional_field",
     "passes.Fields.end": "pass_forms.V2: end_of_section",
-    "passes.read_v2 passes.v2_bytes": "pass_forms.V2: caveat_section sections SpellsV2",
+    "passes.read_v2 passes.v2_bytes": "pass_forms.V2: types caveat_section sections SpellsV2",
     "passes.json_bytes_of": "pass_json.Json: IsField",
     "passes.json_caveat": "pass_json.Json: caveat_names IsCaveatObject",
     "passes.is_whole_two": "pass_json.Json: IsVersion",

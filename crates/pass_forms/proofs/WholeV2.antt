@@ -6,10 +6,9 @@ use Rattle.std.proofs.lemmas.List.{append-nil, length-append}
 use Rattle.pass_forms.specs.computed.Caveats.{caveats_at}
 use Rattle.pass_forms.specs.computed.Parts.{◌>>=◌, after_prefix, last_signature}
 use Rattle.pass_forms.specs.Pass.{WideCaveat, WidePass}
-use Rattle.pass_forms.specs.V2.{field, optional_field, end_of_section, caveat_section}
-use Rattle.pass_forms.specs.V2.{sections, SpellsV2}
+use Rattle.pass_forms.specs.V2.{field, optional_field, end_of_section, caveat_section, types}
+use Rattle.pass_forms.specs.V2.{sections, SpellsV2, types}
 use Rattle.pass_forms.specs.computed.V2Reading.{field_at, optional_at, caveat_at, header_at, footer_at, wide_at, reading_v2}
-use Rattle.pass_forms.proofs.FieldNames.{location_type, identifier_type, verifier_id_type, signature_type}
 use Rattle.pass_forms.proofs.CaveatTexts.{Exact, caveats_take, caveats_again, caveats_fit}
 use Rattle.pass_forms.proofs.Digits.{bind_some, some_is}
 use Rattle.pass_forms.proofs.Fields.{field_takes, field_again, optional_takes, optional_again}
@@ -28,18 +27,18 @@ section_assoc a b c rest =
 caveat_takes : (bytes : List ℕ) (found : WideCaveat × List ℕ) → caveat_at bytes ≡ Some found → (bytes ≡ caveat_section found.0 ++ found.1) × Unit {0}
 unfolding caveat_at
 caveat_takes bytes found e =
-    let l = optional_at location_type bytes in
-    let v = λ (i : List ℕ × List ℕ). optional_at verifier_id_type i.1 in
+    let l = optional_at types.location bytes in
+    let v = λ (i : List ℕ × List ℕ). optional_at types.verifier_id i.1 in
     let caveat = λ (i : List ℕ × List ℕ). let c : WideCaveat = record { identifier = i.0; verifier_id = (v i).0; location = l.0 } in c in
-    let i = bind_some (field_at identifier_type l.1) (λ i. after_prefix end_of_section (v i).1 >>= λ rest. Some (caveat i, rest)) found e in
+    let i = bind_some (field_at types.identifier l.1) (λ i. after_prefix end_of_section (v i).1 >>= λ rest. Some (caveat i, rest)) found e in
     let r = bind_some (after_prefix end_of_section (v i.0).1) (λ rest. Some (caveat i.0, rest)) found i.2 in
-    let tl = optional_takes location_type bytes (field_at location_type bytes) refl in
-    let ti = field_takes identifier_type l.1 i.0.0 i.0.1 i.1 in
-    let tv = optional_takes verifier_id_type i.0.1 (field_at verifier_id_type i.0.1) refl in
+    let tl = optional_takes types.location bytes (field_at types.location bytes) refl in
+    let ti = field_takes types.identifier l.1 i.0.0 i.0.1 i.1 in
+    let tv = optional_takes types.verifier_id i.0.1 (field_at types.verifier_id i.0.1) refl in
     let tr = after_prefix_takes end_of_section (v i.0).1 r.0 r.1 in
-    let lt = optional_field location_type l.0 in
-    let it = field identifier_type i.0.0 in
-    let vt = optional_field verifier_id_type (v i.0).0 in
+    let lt = optional_field types.location l.0 in
+    let it = field types.identifier i.0.0 in
+    let vt = optional_field types.verifier_id (v i.0).0 in
     let parts : bytes ≡ lt ++ (it ++ (vt ++ (end_of_section ++ r.0))) =
     tl ∙ ap (λ (x : List ℕ). lt ++ x) (ti ∙ ap (λ (x : List ℕ). it ++ x) (tv ∙ ap (λ (x : List ℕ). vt ++ x) tr)) in
     let grouped : caveat_section (caveat i.0) ++ r.0 ≡ lt ++ (it ++ (vt ++ (end_of_section ++ r.0))) = section_assoc lt it vt r.0 in
@@ -47,25 +46,25 @@ caveat_takes bytes found e =
     (parts ∙ sym grouped ∙ ap (λ (x : WideCaveat × List ℕ). caveat_section x.0 ++ x.1) same, tt)
 
 -- A field of another type is no field of this one.
-not_location : (text rest : List ℕ) → field_at location_type (field identifier_type text ++ rest) ≡ None
+not_location : (text rest : List ℕ) → field_at types.location (field types.identifier text ++ rest) ≡ None
 unfolding field_at
 not_location text rest = refl
 
-end_is_no_verifier_id : (rest : List ℕ) → field_at verifier_id_type (end_of_section ++ rest) ≡ None
+end_is_no_verifier_id : (rest : List ℕ) → field_at types.verifier_id (end_of_section ++ rest) ≡ None
 unfolding field_at
 end_is_no_verifier_id rest = refl
 
 caveat_again : (caveat : WideCaveat) (rest : List ℕ) → Unit {0} → Unit {0} → caveat_at (caveat_section caveat ++ rest) ≡ Some (caveat, rest)
 unfolding caveat_at
 caveat_again caveat rest fits ends =
-    let lt = optional_field location_type caveat.location in
-    let it = field identifier_type caveat.identifier in
-    let vt = optional_field verifier_id_type caveat.verifier_id in
+    let lt = optional_field types.location caveat.location in
+    let it = field types.identifier caveat.identifier in
+    let vt = optional_field types.verifier_id caveat.verifier_id in
     let l =
-    optional_again location_type caveat.location (it ++ (vt ++ (end_of_section ++ rest)))
+    optional_again types.location caveat.location (it ++ (vt ++ (end_of_section ++ rest)))
     (not_location caveat.identifier (vt ++ (end_of_section ++ rest))) in
-    let i = field_again identifier_type caveat.identifier (vt ++ (end_of_section ++ rest)) in
-    let v = optional_again verifier_id_type caveat.verifier_id (end_of_section ++ rest) (end_is_no_verifier_id rest) in
+    let i = field_again types.identifier caveat.identifier (vt ++ (end_of_section ++ rest)) in
+    let v = optional_again types.verifier_id caveat.verifier_id (end_of_section ++ rest) (end_is_no_verifier_id rest) in
     ap caveat_at (section_assoc lt it vt rest) ∙ rw (l, i, v) refl
 
 exact_caveats : Exact caveat_at caveat_section (λ _. Unit {0}) (λ _. Unit {0})
@@ -73,28 +72,28 @@ exact_caveats = record { takes = caveat_takes; again = caveat_again; next = λ _
 
 caveat_has_bytes : (caveat : WideCaveat) → 1 ≤ length (caveat_section caveat)
 caveat_has_bytes caveat =
-    let lt = optional_field location_type caveat.location in
-    let it = field identifier_type caveat.identifier in
-    let vt = optional_field verifier_id_type caveat.verifier_id in
+    let lt = optional_field types.location caveat.location in
+    let it = field types.identifier caveat.identifier in
+    let vt = optional_field types.verifier_id caveat.verifier_id in
     omega (arith, length-append lt (it ++ (vt ++ end_of_section)), length-append it (vt ++ end_of_section), length-append vt end_of_section)
 
 -- ---- the signature
 
 footer_takes : (bytes signature : List ℕ) → footer_at bytes ≡ Some signature →
-    (bytes ≡ end_of_section ++ field signature_type signature) × (length signature ≡ 32)
+    (bytes ≡ end_of_section ++ field types.signature signature) × (length signature ≡ 32)
 unfolding footer_at
 footer_takes bytes signature e =
-    let r = bind_some (after_prefix end_of_section bytes) (λ rest. field_at signature_type rest >>= last_signature) signature e in
-    let s = last_takes (field_at signature_type r.0) signature r.2 in
-    let is_field : r.0 ≡ field signature_type signature =
-    field_takes signature_type r.0 signature [] s.0 ∙ append-nil (field signature_type signature) in
+    let r = bind_some (after_prefix end_of_section bytes) (λ rest. field_at types.signature rest >>= last_signature) signature e in
+    let s = last_takes (field_at types.signature r.0) signature r.2 in
+    let is_field : r.0 ≡ field types.signature signature =
+    field_takes types.signature r.0 signature [] s.0 ∙ append-nil (field types.signature signature) in
     (after_prefix_takes end_of_section bytes r.0 r.1 ∙ ap (λ (x : List ℕ). end_of_section ++ x) is_field, s.1)
 
-footer_again : (signature : List ℕ) → length signature ≡ 32 → footer_at (end_of_section ++ field signature_type signature) ≡ Some signature
+footer_again : (signature : List ℕ) → length signature ≡ 32 → footer_at (end_of_section ++ field types.signature signature) ≡ Some signature
 unfolding footer_at
 footer_again signature len =
-    let read : field_at signature_type (field signature_type signature) ≡ Some (signature, []) =
-    ap (field_at signature_type) (sym (append-nil (field signature_type signature))) ∙ field_again signature_type signature [] in
+    let read : field_at types.signature (field types.signature signature) ≡ Some (signature, []) =
+    ap (field_at types.signature) (sym (append-nil (field types.signature signature))) ∙ field_again types.signature signature [] in
     rw (read, len) refl
 
 -- The end of the caveats is no caveat.
@@ -107,41 +106,41 @@ end_is_no_caveat rest = refl
 pub record Heads (bytes : List ℕ) (header : List ℕ × List ℕ × List ℕ) : Type 0 where
   pub location : Option (List ℕ)
   pub is_location : unwrap_or location [] ≡ header.0
-  pub parts : bytes ≡ 2 ∷ optional_field location_type location ++ (field identifier_type header.1 ++ (end_of_section ++ header.2))
+  pub parts : bytes ≡ 2 ∷ optional_field types.location location ++ (field types.identifier header.1 ++ (end_of_section ++ header.2))
 
 header_takes : (bytes : List ℕ) (header : List ℕ × List ℕ × List ℕ) → header_at bytes ≡ Some header → Heads bytes header
 unfolding header_at
 header_takes bytes header e =
-    let l = λ (first : List ℕ). optional_at location_type first in
+    let l = λ (first : List ℕ). optional_at types.location first in
     let f =
     bind_some (after_prefix (2 ∷ []) bytes)
-    (λ first. field_at identifier_type (l first).1 >>= λ i. after_prefix end_of_section i.1 >>= λ rest. Some
+    (λ first. field_at types.identifier (l first).1 >>= λ i. after_prefix end_of_section i.1 >>= λ rest. Some
     (unwrap_or (l first).0 [], i.0, rest)) header e in
     let i =
-    bind_some (field_at identifier_type (l f.0).1) (λ i. after_prefix end_of_section i.1 >>= λ rest. Some (unwrap_or (l f.0).0 [], i.0, rest)) header f.2 in
+    bind_some (field_at types.identifier (l f.0).1) (λ i. after_prefix end_of_section i.1 >>= λ rest. Some (unwrap_or (l f.0).0 [], i.0, rest)) header f.2 in
     let r = bind_some (after_prefix end_of_section i.0.1) (λ rest. Some (unwrap_or (l f.0).0 [], i.0.0, rest)) header i.2 in
     let tf = after_prefix_takes (2 ∷ []) bytes f.0 f.1 in
-    let tl = optional_takes location_type f.0 (field_at location_type f.0) refl in
-    let ti = field_takes identifier_type (l f.0).1 i.0.0 i.0.1 i.1 in
+    let tl = optional_takes types.location f.0 (field_at types.location f.0) refl in
+    let ti = field_takes types.identifier (l f.0).1 i.0.0 i.0.1 i.1 in
     let tr = after_prefix_takes end_of_section i.0.1 r.0 r.1 in
-    let lt = optional_field location_type (l f.0).0 in
+    let lt = optional_field types.location (l f.0).0 in
     let found : List ℕ × List ℕ × List ℕ = (unwrap_or (l f.0).0 [], i.0.0, r.0) in
     let heads : Heads bytes found = record {
       location = (l f.0).0;
       is_location = refl;
-      parts = tf ∙ ap (λ (x : List ℕ). 2 ∷ x) (tl ∙ ap (λ (x : List ℕ). lt ++ x) (ti ∙ ap (λ (x : List ℕ). field identifier_type i.0.0 ++ x) tr));
+      parts = tf ∙ ap (λ (x : List ℕ). 2 ∷ x) (tl ∙ ap (λ (x : List ℕ). lt ++ x) (ti ∙ ap (λ (x : List ℕ). field types.identifier i.0.0 ++ x) tr));
     } in
     subst (λ (h : List ℕ × List ℕ × List ℕ). Heads bytes h) (some_is found header r.2) heads
 
 header_again : (location : Option (List ℕ)) (identifier rest : List ℕ) →
-    header_at (2 ∷ optional_field location_type location ++ (field identifier_type identifier ++ (end_of_section ++ rest))) ≡ Some
+    header_at (2 ∷ optional_field types.location location ++ (field types.identifier identifier ++ (end_of_section ++ rest))) ≡ Some
     (unwrap_or location [], identifier, rest)
 unfolding header_at
 header_again location identifier rest =
     let l =
-    optional_again location_type location (field identifier_type identifier ++ (end_of_section ++ rest))
+    optional_again types.location location (field types.identifier identifier ++ (end_of_section ++ rest))
     (not_location identifier (end_of_section ++ rest)) in
-    let i = field_again identifier_type identifier (end_of_section ++ rest) in
+    let i = field_again types.identifier identifier (end_of_section ++ rest) in
     rw (l, i) refl
 
 wide_takes : (bytes : List ℕ) (wide : WidePass) → wide_at bytes ≡ Some wide → SpellsV2 bytes wide
@@ -152,7 +151,7 @@ wide_takes bytes wide e =
     let c = caveats_take caveat_at caveat_section (λ _. Unit {0}) (λ _. Unit {0}) exact_caveats (length p.header.2) p.header.2 in
     let s = footer_takes read.1 p.signature p.at_footer in
     let parts : bytes ≡ sections h.location (made p.header read.0 p.signature) =
-    h.parts ∙ ap (λ (x : List ℕ). 2 ∷ optional_field location_type h.location ++ (field identifier_type p.header.1 ++ (end_of_section ++ x)))
+    h.parts ∙ ap (λ (x : List ℕ). 2 ∷ optional_field types.location h.location ++ (field types.identifier p.header.1 ++ (end_of_section ++ x)))
     (c.0 ∙ ap (λ (x : List ℕ). flat_map caveat_section read.0 ++ x) s.0) in
     let spelling : SpellsV2 bytes (made p.header read.0 p.signature) =
     record { location = h.location; is_location = h.is_location; sections = parts; signature = s.1 } in
@@ -164,14 +163,14 @@ all_fit (caveat ∷ caveats) = (tt, all_fit caveats)
 
 wide_again : (bytes : List ℕ) (wide : WidePass) → SpellsV2 bytes wide → wide_at bytes ≡ Some wide
 wide_again bytes wide spelling =
-    let last = end_of_section ++ field signature_type wide.signature in
+    let last = end_of_section ++ field types.signature wide.signature in
     let caveats = flat_map caveat_section wide.caveats ++ last in
     let fuel : length wide.caveats ≤ length caveats =
     omega (arith, caveats_fit caveat_section caveat_has_bytes wide.caveats, length-append (flat_map caveat_section wide.caveats) last) in
     let h = ap header_at spelling.sections ∙ header_again spelling.location wide.identifier caveats in
     let c =
     caveats_again caveat_at caveat_section (λ _. Unit {0}) (λ _. Unit {0}) exact_caveats (length caveats) wide.caveats last fuel (all_fit wide.caveats) tt
-    (end_is_no_caveat (field signature_type wide.signature)) in
+    (end_is_no_caveat (field types.signature wide.signature)) in
     whole_again header_at caveat_at footer_at bytes (unwrap_or spelling.location [], wide.identifier, caveats) wide.caveats last wide.signature h c
     (footer_again wide.signature spelling.signature)
     ∙ ap (λ (l : List ℕ). Some (made (l, wide.identifier, caveats) wide.caveats wide.signature)) spelling.is_location

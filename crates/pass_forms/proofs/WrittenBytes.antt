@@ -10,9 +10,9 @@ use Rattle.pass_forms.specs.Putting.{buffer_len}
 use Rattle.pass_forms.specs.V1.{FitsPackets, FitsCaveat, FitsPacket, caveat_packets, four_hex_digits, hex_digit}
 use Rattle.pass_forms.specs.V1.{packet}
 use Rattle.pass_forms.specs.V1.{packet_len}
-use Rattle.pass_forms.specs.V2.{caveat_section, end_of_section, field, optional_field, varint}
+use Rattle.pass_forms.specs.V2.{caveat_section, end_of_section, field, optional_field, varint, types}
 use Rattle.pass_forms.specs.Writing.{HasBytes, nonempty_location, v1_bytes, v2_bytes}
-use Rattle.pass_forms.proofs.FieldNames.{caveat_key, identifier_key, location_key, signature_key, identifier_type, location_type, signature_type}
+use Rattle.pass_forms.proofs.FieldNames.{caveat_key, identifier_key, location_key, signature_key}
 use Rattle.pass_forms.proofs.Base64Bytes.{append_is_bytes, nil_is_bytes}
 use Rattle.pass_forms.proofs.PutVarints.{varint_of_one, varint_of_two}
 use Rattle.pass_forms.proofs.WholePass.{both_true}
@@ -83,10 +83,10 @@ field_is_bytes type bytes small fits are =
     one_more type (varint (length bytes) ++ bytes) small
     (append_is_bytes (varint (length bytes)) bytes (varint_is_bytes (length bytes) (omega (arith, length-append (varint (length bytes)) bytes))) are)
 
-location_is_bytes : (location : List ℕ) → length (optional_field location_type (nonempty_location location)) ≤ buffer_len → IsBytes location →
-    IsBytes (optional_field location_type (nonempty_location location))
+location_is_bytes : (location : List ℕ) → length (optional_field types.location (nonempty_location location)) ≤ buffer_len → IsBytes location →
+    IsBytes (optional_field types.location (nonempty_location location))
 location_is_bytes [] fits are = nil_is_bytes
-location_is_bytes (byte ∷ bytes) fits are = field_is_bytes location_type (byte ∷ bytes) (omega arith) fits are
+location_is_bytes (byte ∷ bytes) fits are = field_is_bytes types.location (byte ∷ bytes) (omega arith) fits are
 
 ends_are_bytes : IsBytes end_of_section
 ends_are_bytes = one_more 0 [] (omega arith) nil_is_bytes
@@ -95,21 +95,21 @@ sections_are_bytes : (caveats : List (List ℕ)) → length (flat_map caveat_sec
     IsBytes (flat_map caveat_section (map widened_caveat caveats))
 sections_are_bytes [] fits are = nil_is_bytes
 sections_are_bytes (caveat ∷ caveats) fits are =
-    let identifier : List ℕ = field identifier_type caveat in
+    let identifier : List ℕ = field types.identifier caveat in
     let others : List ℕ = flat_map caveat_section (map widened_caveat caveats) in
     let one = length-append (identifier ++ end_of_section) others in
     let two = length-append identifier end_of_section in
     append_is_bytes (identifier ++ end_of_section) others
-    (append_is_bytes identifier end_of_section (field_is_bytes identifier_type caveat (omega arith) (omega (arith, one, two)) are.0) ends_are_bytes)
+    (append_is_bytes identifier end_of_section (field_is_bytes types.identifier caveat (omega arith) (omega (arith, one, two)) are.0) ends_are_bytes)
     (sections_are_bytes caveats (omega (arith, one)) are.1)
 
 pub v2_is_bytes : (pass : Plain) → length (v2_bytes pass) ≤ buffer_len → HasBytes pass → IsBytes (v2_bytes pass)
 unfolding v2_bytes
 v2_is_bytes pass fits are =
-    let location : List ℕ = optional_field location_type (nonempty_location pass.location) in
-    let identifier : List ℕ = field identifier_type pass.identifier in
+    let location : List ℕ = optional_field types.location (nonempty_location pass.location) in
+    let identifier : List ℕ = field types.identifier pass.identifier in
     let caveats : List ℕ = flat_map caveat_section (map widened_caveat pass.caveats) in
-    let signature : List ℕ = field signature_type pass.signature in
+    let signature : List ℕ = field types.signature pass.signature in
     let one = length-append location (identifier ++ (end_of_section ++ (caveats ++ (end_of_section ++ signature)))) in
     let two = length-append identifier (end_of_section ++ (caveats ++ (end_of_section ++ signature))) in
     let three = length-append end_of_section (caveats ++ (end_of_section ++ signature)) in
@@ -119,8 +119,8 @@ v2_is_bytes pass fits are =
     (append_is_bytes location (identifier ++ (end_of_section ++ (caveats ++ (end_of_section ++ signature))))
     (location_is_bytes pass.location (omega (arith, one)) are.location)
     (append_is_bytes identifier (end_of_section ++ (caveats ++ (end_of_section ++ signature)))
-    (field_is_bytes identifier_type pass.identifier (omega arith) (omega (arith, one, two)) are.identifier)
+    (field_is_bytes types.identifier pass.identifier (omega arith) (omega (arith, one, two)) are.identifier)
     (append_is_bytes end_of_section (caveats ++ (end_of_section ++ signature)) ends_are_bytes
     (append_is_bytes caveats (end_of_section ++ signature) (sections_are_bytes pass.caveats (omega (arith, one, two, three, four)) are.caveats)
     (append_is_bytes end_of_section signature ends_are_bytes
-    (field_is_bytes signature_type pass.signature (omega arith) (omega (arith, one, two, three, four, five)) are.signature))))))
+    (field_is_bytes types.signature pass.signature (omega arith) (omega (arith, one, two, three, four, five)) are.signature))))))

@@ -13,8 +13,11 @@ groups (suc more) n = if nat_lt n 128 then n ∷ [] else (128 + n % 128) ∷ gro
 unfoldable pub varint : ℕ → List ℕ
 varint n = groups n n
 
--- A field: its type, its length and its bytes. The types are 1 for a location, 2 for an identifier, 4 for a verifier id and 6 for a signature;
--- each is its own varint.
+-- the types of fields; each is its own varint
+abbrev pub types : record { location : ℕ; identifier : ℕ; verifier_id : ℕ; signature : ℕ }
+types = record { location = 1; identifier = 2; verifier_id = 4; signature = 6 }
+
+-- a field: its type, its length and its bytes
 abbrev pub field : ℕ → List ℕ → List ℕ
 field type bytes = type ∷ varint (length bytes) ++ bytes
 
@@ -30,14 +33,14 @@ end_of_section = 0 ∷ []
 -- the section of a caveat: its identifier, and a third party's location before it and verifier id after it
 abbrev pub caveat_section : WideCaveat → List ℕ
 caveat_section caveat =
-    optional_field 1 caveat.location ++ (field 2 caveat.identifier
-    ++ (optional_field 4 caveat.verifier_id ++ end_of_section))
+    optional_field types.location caveat.location ++ (field types.identifier caveat.identifier
+    ++ (optional_field types.verifier_id caveat.verifier_id ++ end_of_section))
 
 -- the version, which is 2, the header, the caveats and the signature; the header's location may be left out
 abbrev pub sections : Option (List ℕ) → WidePass → List ℕ
 sections location wide =
-    2 ∷ optional_field 1 location ++ (field 2 wide.identifier ++ (end_of_section
-    ++ (flat_map caveat_section wide.caveats ++ (end_of_section ++ field 6 wide.signature))))
+    2 ∷ optional_field types.location location ++ (field types.identifier wide.identifier ++ (end_of_section
+    ++ (flat_map caveat_section wide.caveats ++ (end_of_section ++ field types.signature wide.signature))))
 
 -- The bytes are the sections of the wide pass. A location that is left out is the empty one (ours).
 pub record SpellsV2 (bytes : List ℕ) (wide : WidePass) : Type 0 where

@@ -6,7 +6,7 @@ use Rattle.pass_forms.specs.computed.Caveats.{whole_at}
 use Rattle.pass_forms.specs.computed.Parts.{◌>>=◌, after_prefix, found_or_none, last_signature}
 use Rattle.pass_forms.specs.Pass.{Plain, WideCaveat, WidePass}
 use Rattle.pass_forms.specs.computed.Reading.{reading_of}
-use Rattle.pass_forms.specs.V2.{end_of_section}
+use Rattle.pass_forms.specs.V2.{end_of_section, types}
 
 -- seven low bits below the bits of the bytes that follow, which must not all be zero
 abbrev pub above : ℕ → Option (ℕ × List ℕ) → Option (ℕ × List ℕ)
@@ -34,13 +34,13 @@ optional_at type bytes = found_or_none bytes (field_at type bytes)
 
 unfoldable pub caveat_at : List ℕ → Option (WideCaveat × List ℕ)
 caveat_at bytes = do
-  identifier ← field_at 2 (optional_at 1 bytes).1
-  rest ← after_prefix end_of_section (optional_at 4 identifier.1).1
+  identifier ← field_at types.identifier (optional_at types.location bytes).1
+  rest ← after_prefix end_of_section (optional_at types.verifier_id identifier.1).1
   Some (
     record {
       identifier = identifier.0;
-      verifier_id = (optional_at 4 identifier.1).0;
-      location = (optional_at 1 bytes).0;
+      verifier_id = (optional_at types.verifier_id identifier.1).0;
+      location = (optional_at types.location bytes).0;
     },
     rest,
   )
@@ -49,15 +49,15 @@ caveat_at bytes = do
 unfoldable pub header_at : List ℕ → Option (List ℕ × List ℕ × List ℕ)
 header_at bytes = do
   first ← after_prefix (2 ∷ []) bytes
-  identifier ← field_at 2 (optional_at 1 first).1
+  identifier ← field_at types.identifier (optional_at types.location first).1
   rest ← after_prefix end_of_section identifier.1
-  Some (unwrap_or (optional_at 1 first).0 [], identifier.0, rest)
+  Some (unwrap_or (optional_at types.location first).0 [], identifier.0, rest)
 
 -- the footer: the end of the caveats' sections, and the signature's field
 unfoldable pub footer_at : List ℕ → Option (List ℕ)
 footer_at bytes = do
   rest ← after_prefix end_of_section bytes
-  signature ← field_at 6 rest
+  signature ← field_at types.signature rest
   last_signature signature
 
 -- the whole pass
