@@ -1,32 +1,45 @@
 -- What a scan for caveats on the kind of a facility tells.
-use Rattle.std.proofs.Common.{◌≡◌, ℕ, ◌≤◌, List, [], ◌∷◌, length, Option, refl, sym, ◌∙◌}
+use Rattle.std.proofs.Common.{◌≡◌, ℕ, ◌+◌, List, [], ◌∷◌, ◌++◌, map, Option, refl, sym, ap, ◌∙◌, subst}
+use Rattle.std.specs.Option.{option_or}
 use Rattle.pass_caveats.specs.declared.ask.Ask.{Ask}
+use Rattle.pass_caveats.specs.declared.fault.CaveatFault.{CaveatFault}
 use Rattle.pass_caveats.specs.computed.CaveatOf.{caveat_of}
 use Rattle.pass_caveats.specs.Fault.{first_fault_from}
 use Rattle.pass_caveats.specs.Kinds.{IsBlindToKind, at_kind}
 use Rattle.pass_caveats.specs.Laws.{FindsTheFaultAt, ReadsWhatIsUnderstood}
 use Rattle.club_values.specs.declared.kind.Kind.{Kind}
-use Rattle.pass_forms.specs.FieldSource.{PassField, pass_fields}
+use Rattle.pass_forms.specs.FieldSource.{PassField, caveat_field, signature_field, location_field, identifier_field, pass_fields}
 use Rattle.pass_forms.specs.Pass.{Plain}
 use Rattle.club_gate.specs.Reading.{IsBlindPass}
-use Rattle.club_gate.proofs.Walking.{fault_at_last, fault_in, fault_is}
+use Rattle.club_gate.proofs.Walking.{fault_is, fault_on}
 
--- the first fault of these fields is the same for each kind
+-- each caveat among these fields has one fault for all kinds
 abbrev pub AreBlind : List PassField → Type 0
-AreBlind these = (n : ℕ) (ask : Ask) (kind : Option Kind) → fault_in (at_kind kind ask) n these ≡ fault_in ask n these
+AreBlind [] = Unit {0}
+AreBlind (location_field bytes ∷ fields) = AreBlind fields
+AreBlind (identifier_field bytes ∷ fields) = AreBlind fields
+AreBlind (caveat_field bytes ∷ fields) = IsBlindToKind bytes × AreBlind fields
+AreBlind (signature_field bytes ∷ fields) = AreBlind fields
 
--- a text that is blind to kinds has one fault for all
-pub fault_alike : FindsTheFaultAt → ReadsWhatIsUnderstood → (text : List ℕ) → IsBlindToKind text → (n : ℕ) (ask : Ask) (kind : Option Kind)
-    → first_fault_from n (caveat_of text ∷ []) (at_kind kind ask) ≡ first_fault_from n (caveat_of text ∷ []) ask
-fault_alike finds reads text blind n ask kind =
-    let fault = first_fault_from n (caveat_of text ∷ []) (at_kind kind ask) in
-    (fault_is finds reads text n ask fault).0 ((blind n ask kind fault).0 ((fault_is finds reads text n (at_kind kind ask) fault).1 refl))
+module _ (finds : FindsTheFaultAt) (reads : ReadsWhatIsUnderstood) (ask : Ask) (kind : Option Kind) where
+  one_alike : (text : List ℕ) → IsBlindToKind text → (n : ℕ)
+      → first_fault_from n (caveat_of text ∷ []) (at_kind kind ask) ≡ first_fault_from n (caveat_of text ∷ []) ask
+  one_alike text blind n =
+      let fault = first_fault_from n (caveat_of text ∷ []) (at_kind kind ask) in
+      (fault_is finds reads text n ask fault).0 ((blind n ask kind fault).0 ((fault_is finds reads text n (at_kind kind ask) fault).1 refl))
+
+  all_alike : (signature : List ℕ) (n : ℕ) (caveats : List (List ℕ)) → AreBlind (map caveat_field caveats ++ signature_field signature ∷ [])
+      → first_fault_from n (map caveat_of caveats) (at_kind kind ask) ≡ first_fault_from n (map caveat_of caveats) ask
+  all_alike signature n [] blind = refl
+  all_alike signature n (caveat ∷ caveats) blind =
+      let others = map caveat_of caveats in
+      sym (fault_on n (caveat_of caveat) others (at_kind kind ask))
+      ∙ (ap (λ (o : Option CaveatFault). option_or o (first_fault_from (n + 1) others (at_kind kind ask))) (one_alike caveat blind.0 n)
+      ∙ (ap (λ (o : Option CaveatFault). option_or (first_fault_from n (caveat_of caveat ∷ []) ask) o) (all_alike signature (n + 1) caveats blind.1)
+      ∙ fault_on n (caveat_of caveat) others ask))
 
 -- a scan that finds none
-pub blind_at_last : (these left : List PassField) → left ≡ [] → (AreBlind left → AreBlind these) → (pass : Plain) → these ≡ pass_fields pass
-    → length pass.caveats ≤ 64 → IsBlindPass pass
-blind_at_last these left none all pass g short ask kind =
-    let last : AreBlind left = λ n a k. rw none refl in
-    sym (fault_at_last (at_kind kind ask) 1 these these (fault_in (at_kind kind ask) 1 these) refl refl pass g short)
-    ∙ (all last 1 ask kind
-    ∙ fault_at_last ask 1 these these (fault_in ask 1 these) refl refl pass g short)
+pub blind_at_last : FindsTheFaultAt → ReadsWhatIsUnderstood → (these left : List PassField) → left ≡ [] → (AreBlind left → AreBlind these)
+    → (pass : Plain) → these ≡ pass_fields pass → IsBlindPass pass
+blind_at_last finds reads these left none all pass g ask kind =
+    all_alike finds reads ask kind pass.signature 1 pass.caveats (subst AreBlind g (all (subst AreBlind (sym none) tt)))

@@ -38,7 +38,7 @@ fault_in ask n (caveat_field bytes ∷ fields) =
 fault_in ask n (signature_field bytes ∷ fields) = fault_in ask n fields
 
 -- the first of the caveats refuses, or one of the others decides
-fault_on : (n : ℕ) (caveat : Option Caveat) (caveats : List (Option Caveat)) (ask : Ask)
+pub fault_on : (n : ℕ) (caveat : Option Caveat) (caveats : List (Option Caveat)) (ask : Ask)
     → option_or (first_fault_from n (caveat ∷ []) ask)
     (first_fault_from (n + 1) caveats ask) ≡ first_fault_from n (caveat ∷ caveats) ask
 fault_on n None caveats ask = refl
