@@ -17,6 +17,7 @@ same_answer One Other to from len (Err ThirdParty) h = (h.0, h.1, to h.1 h.2, h.
 same_answer One Other to from len (Err TooMany) h = (h.0, h.1, to h.1 h.2, h.3, h.4)
 same_answer One Other to from len (Err Memory) h = h
 
+-- What holds of an answer holds unless memory runs out.
 pub holds_of : {A : Type 0} (Holds : Result A FormFault → Type 0) (answer : Result A FormFault) → Holds answer → UnlessMemory Holds answer
 holds_of Holds (Ok read) h = h
 holds_of Holds (Err TooLong) h = h
