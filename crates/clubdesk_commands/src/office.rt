@@ -93,8 +93,12 @@ fn pass_line(alloc: Global, name: &Name, root: &Root, form: Form) -> Option<Stri
     ensures { IfSome result (λ line. spec.IsPassLine name.now root.now form
         (string_bytes line)) }
 {
-    let pass = minted(alloc, name, key_signature(name, root)).ok()?;
-    let mut line = write_any(alloc, form, &pass).ok()?;
+    let Ok(pass) = minted(alloc, name, key_signature(name, root)) else {
+        return None;
+    };
+    let Ok(mut line) = write_any(alloc, form, &pass) else {
+        return None;
+    };
     line.push('\n').ok()?;
     Some(line)
 }
