@@ -19,11 +19,11 @@ impl<S: Alter> ClubStore for Store<S> {
     ghost fails = { Fails S.Store };
 
     fn key_row(&mut self, name: &Name) -> Result<Option<Key>, StoreFault> {
-        Store::key_row(self, name)
+        self.tables.key(name)
     }
 
     fn older_root(&mut self, name: &Name) -> Result<Option<OlderRoot>, StoreFault> {
-        Store::older_root(self, name)
+        self.tables.older_root(name)
     }
 
     fn facility(&mut self, name: &Name) -> Result<Option<Facility>, StoreFault> {

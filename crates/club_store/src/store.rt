@@ -13,7 +13,6 @@ ghost use Rattle.std.specs.Prelude.{
   IfErr,
   IfSome,
   option_and_then,
-  option_map,
   IsErrAnd,
   codes,
 };
@@ -24,9 +23,8 @@ ghost use Rattle.club_core.specs.Club.{key_named, member_named, facility_named};
 ghost use Rattle.club_core.specs.Sheet.{AreRowsOf};
 ghost use Rattle.club_core.specs.Sums.{booking_under, count_to_come, spent_under};
 ghost use Rattle.club_core.specs.Basis.{account_named, slot_use, state_of, view_in};
-ghost use Rattle.club_core.specs.KeyParts.{older_root_of, row_alone};
 ghost use Rattle.club_core.specs.Request.{request_number, request_slot};
-ghost use Rattle.club_rows.specs.Rows.{IsMember, IsFacility, IsKey, IsOlderRoot, IsBooking};
+ghost use Rattle.club_rows.specs.Rows.{IsMember, IsFacility, IsKey, IsBooking};
 ghost use Rattle.club_core.specs.declared.change.Change.TheVariants.{
   InsertMember,
   AddCredit,
@@ -35,8 +33,6 @@ ghost use Rattle.club_core.specs.declared.change.Change.TheVariants.{
   MarkRevoked,
   ReplaceRoot,
   MarkClosed,
-  InsertBooking,
-  MarkCancelled,
 };
 ghost use Rattle.sqlite.specs.Steps.{over_memory, IsFresh, IsEmpty};
 ghost use Rattle.sqlite.specs.View.{IsClean};
@@ -54,7 +50,6 @@ ghost use Rattle.club_store.specs.Opening.{
 ghost use Rattle.club_tables.specs.Opening.{AcceptsTables, IsOpeningFault};
 ghost use Rattle.club_tables.specs.Tables.{Represents, IsFound};
 ghost use Rattle.club_tables.specs.ReadsAndChanges.{ReadsClub, ChangesClub};
-ghost use Rattle.club_tables.specs.Stored.{IsMemberRow, member_row};
 ghost use Rattle.club_store.specs.Limits.{HasLimits};
 
 use crate::Remains;
@@ -62,7 +57,7 @@ use crate::remains::remains_of;
 use club_core::laws::own_bookings_suffice;
 use club_core::{Change, MemberAccount, Request, SlotUse, StoreFault, View};
 use club_rows::{Booking, BookingNumber, Facility, Key, Member, OlderRoot, Root};
-use club_tables::{MemberRow, Rotation, fault_of, open_tables, reads, writes};
+use club_tables::{Rotation, Tables, fault_of};
 use club_values::{Day, Moment, Name, Slot};
 use sqlite::{Alter, Connection, FileFrom, FileStore, MemStore, Start};
 use std::alloc::Global;
@@ -73,21 +68,18 @@ use std::rt::HostRuntime;
 /// it as the connection.
 #[derive(Drop)]
 pub struct Store<S: Alter> {
-    connection: Connection<S>,
+    pub(crate) tables: Tables<S>,
     alloc: Global,
 }
 
 impl<S: Alter> Model for Store<S> {
-    ghost use Rattle.std.specs.Prelude.{◌≡◌, false};
     ghost use Rattle.sqlite.specs.Held.{Held, held_code};
 
     ghost Value = { Held S };
 
     ghost coded = { held_code S.code };
 
-    ghost view = { λ store. store.connection };
-
-    ghost invariant = { λ store. store.connection.in_transaction ≡ false };
+    ghost view = { λ store. store.tables };
 }
 
 impl Store<MemStore> {
@@ -145,7 +137,7 @@ impl<S: Alter + Drop> Store<S> {
     /// connection in a transaction.
     pub fn adopt(
         alloc: Global,
-        mut connection: Connection<S>,
+        connection: Connection<S>,
     ) -> Result<Store<S>, (StoreFault, Connection<S>)>
         ensures was_clean { IfOk result
             (λ store. HasCleanDisk (state S.Store store)
@@ -172,9 +164,10 @@ impl<S: Alter + Drop> Store<S> {
         if !connection.is_autocommit() {
             return Err((StoreFault::Storage, connection));
         }
-        match open_tables(&mut connection) {
-            Ok(()) => Ok(Store { connection, alloc }),
-            Err(fault) => Err((fault, connection)),
+        let mut tables = Tables::over(connection);
+        match tables.open() {
+            Ok(()) => Ok(Store { tables, alloc }),
+            Err(fault) => Err((fault, tables.into_connection())),
         }
     }
 
@@ -200,11 +193,7 @@ impl<S: Alter> Store<S> {
     pub fn into_connection(self) -> Connection<S>
         ensures { result ≡ self }
     {
-        let Store {
-            connection,
-            alloc: _,
-        } = self;
-        connection
+        self.tables.into_connection()
     }
 
     /// The key of this name; `None` if there is none. A row out of its limits is a fault of
@@ -214,10 +203,10 @@ impl<S: Alter> Store<S> {
             (λ club key. key ≡ key_named name.now club) }
         ensures limits { IfOk result (λ key. IfSome key IsKey) }
     {
-        let Some(key) = self.key_row(name)? else {
+        let Some(key) = self.tables.key(name)? else {
             return Ok(None);
         };
-        let older = self.older_root(name)?;
+        let older = self.tables.older_root(name)?;
         Ok(Some(Key {
             name: key.name,
             member: key.member,
@@ -227,24 +216,6 @@ impl<S: Alter> Store<S> {
         }))
     }
 
-    /// The key of this name, without its older root; `None` if there is none.
-    pub(crate) fn key_row(&mut self, name: &Name) -> Result<Option<Key>, StoreFault>
-        ensures reads { ReadsClub S.Store self.old self.new result
-            (λ club key. key ≡ option_map row_alone (key_named name.now club)) }
-        ensures limits { IfOk result (λ key. IfSome key IsKey) }
-    {
-        reads::key(&mut self.connection, name)
-    }
-
-    /// The older root of the key of this name; `None` if it was never rotated.
-    pub(crate) fn older_root(&mut self, name: &Name) -> Result<Option<OlderRoot>, StoreFault>
-        ensures reads { ReadsClub S.Store self.old self.new result
-            (λ club older. older ≡ older_root_of name.now club) }
-        ensures limits { IfOk result (λ older. IfSome older IsOlderRoot) }
-    {
-        reads::older_root(&mut self.connection, name)
-    }
-
     /// The member of this name; `None` if there is none. A row out of its limits is a fault of
     /// storage.
     pub fn member(&mut self, name: &Name) -> Result<Option<Member>, StoreFault>
@@ -252,19 +223,10 @@ impl<S: Alter> Store<S> {
             (λ club member. member ≡ member_named name.now club) }
         ensures limits { IfOk result (λ member. IfSome member IsMember) }
     {
-        match self.member_row(name)? {
+        match self.tables.member(name)? {
             Some(row) => Ok(Some(row.member)),
             None => Ok(None),
         }
-    }
-
-    /// The row of the member of this name; `None` if there is none.
-    fn member_row(&mut self, name: &Name) -> Result<Option<MemberRow>, StoreFault>
-        ensures reads { ReadsClub S.Store self.old self.new result
-            (λ club row. row ≡ option_map (member_row club) (member_named name.now club)) }
-        ensures limits { IfOk result (λ row. IfSome row IsMemberRow) }
-    {
-        reads::member(&mut self.connection, name)
     }
 
     /// The member of this name with its balance, in points; `None` if there is none. A row out of
@@ -274,7 +236,7 @@ impl<S: Alter> Store<S> {
             (λ club account. account ≡ account_named member.now club) }
         ensures limits { IfOk result (λ account. IfSome account (λ it. IsMember it.member)) }
     {
-        match self.member_row(member)? {
+        match self.tables.member(member)? {
             Some(row) => Ok(Some(MemberAccount {
                 member: row.member,
                 balance: row.member.credited.saturating_sub(row.used),
@@ -289,7 +251,7 @@ impl<S: Alter> Store<S> {
         ensures reads { ReadsClub S.Store self.old self.new result
             (λ club count. count ≡ count_to_come moment (bookings_of member.now club)) }
     {
-        reads::open_count(&mut self.connection, member, moment)
+        self.tables.open_count(member, moment)
     }
 
     /// The points that a key has spent.
@@ -297,7 +259,7 @@ impl<S: Alter> Store<S> {
         ensures reads { ReadsClub S.Store self.old self.new result
             (λ club spent. spent ≡ spent_under key.now club.bookings) }
     {
-        reads::spent(&mut self.connection, key)
+        self.tables.spent(key)
     }
 
     /// The facility of this name; `None` if there is none. A row out of its limits is a fault of
@@ -307,7 +269,7 @@ impl<S: Alter> Store<S> {
             (λ club facility. facility ≡ facility_named name.now club) }
         ensures limits { IfOk result (λ facility. IfSome facility IsFacility) }
     {
-        reads::facility(&mut self.connection, name)
+        self.tables.facility(name)
     }
 
     /// The use of a slot: the persons who booked it, and whether it is closed.
@@ -315,7 +277,7 @@ impl<S: Alter> Store<S> {
         ensures reads { ReadsClub S.Store self.old self.new result
             (λ club found. found ≡ slot_use club slot.now) }
     {
-        reads::slot(&mut self.connection, slot)
+        self.tables.slot(slot)
     }
 
     /// The day's bookings that aren't cancelled, in the order of the day sheet: by facility, hour,
@@ -325,7 +287,7 @@ impl<S: Alter> Store<S> {
             (λ club rows. AreRowsOf club day rows.items) }
         ensures within { IfOk result (λ rows. All IsBooking rows.items) }
     {
-        reads::day(&mut self.connection, self.alloc, day)
+        self.tables.day(self.alloc, day)
     }
 
     /// The facility of a request's slot; `None` if it is unknown, or the request has no slot.
@@ -431,36 +393,15 @@ impl<S: Alter> Store<S> {
                 until,
             } => self.replace_root(key, former, root, *until),
             Change::MarkClosed(slot) => self.close_slot(slot),
-            Change::InsertBooking { booking, member } => self.insert_booking(booking, member),
+            Change::InsertBooking { booking, member } => self
+                .tables
+                .insert_booking(booking, member),
             Change::MarkCancelled {
                 booking,
                 member,
                 refund,
-            } => self.cancel_booking(booking, member, *refund),
+            } => self.tables.cancel_booking(booking, member, *refund),
         }
-    }
-
-    /// Inserts a booking under a key of the member, and adds it to the member's cost and its slot's
-    /// persons, in one transaction. Fails as `apply`.
-    fn insert_booking(&mut self, booking: &Booking, member: &Name) -> Result<(), StoreFault>
-        ensures makes { ChangesClub S.Store
-            (InsertBooking booking.now member.now) self.old self.new result }
-    {
-        writes::insert_booking(&mut self.connection, booking, member)
-    }
-
-    /// Marks a booking cancelled with its refund, gives the refund back to its member and its
-    /// places to its slot, in one transaction. Fails as `apply`.
-    fn cancel_booking(
-        &mut self,
-        booking: &Booking,
-        member: &Name,
-        refund: u32,
-    ) -> Result<(), StoreFault>
-        ensures makes { ChangesClub S.Store
-            (MarkCancelled booking.now member.now refund) self.old self.new result }
-    {
-        writes::cancel_booking(&mut self.connection, booking, member, refund)
     }
 
     /// The booking of a key under a number; `None` if there is none. A row out of its limits is a
@@ -476,28 +417,28 @@ impl<S: Alter> Store<S> {
         ensures named { IfOk result (λ found. IfSome found
             (λ booking. (booking.key ≡ key.now) × (booking.number ≡ number))) }
     {
-        reads::booking(&mut self.connection, key, number)
+        self.tables.booking(key, number)
     }
 
     /// Inserts a member, in one transaction. Fails as `apply`.
     pub fn insert_member(&mut self, member: &Member) -> Result<(), StoreFault>
         ensures makes { ChangesClub S.Store (InsertMember member.now) self.old self.new result }
     {
-        writes::insert_member(&mut self.connection, member)
+        self.tables.insert_member(member)
     }
 
     /// Adds points to what a member was credited, in one transaction. Fails as `apply`.
     pub fn add_credit(&mut self, member: &Name, points: u32) -> Result<(), StoreFault>
         ensures makes { ChangesClub S.Store (AddCredit member.now points) self.old self.new result }
     {
-        writes::add_credit(&mut self.connection, member, points)
+        self.tables.add_credit(member, points)
     }
 
     /// Inserts a facility, in one transaction. Fails as `apply`.
     pub fn insert_facility(&mut self, facility: &Facility) -> Result<(), StoreFault>
         ensures makes { ChangesClub S.Store (InsertFacility facility.now) self.old self.new result }
     {
-        writes::insert_facility(&mut self.connection, facility)
+        self.tables.insert_facility(facility)
     }
 
     /// Inserts a key, in one transaction. Fails as `apply`, and with `Storage` if the key has an
@@ -505,14 +446,14 @@ impl<S: Alter> Store<S> {
     pub fn insert_key(&mut self, key: &Key) -> Result<(), StoreFault>
         ensures makes { ChangesClub S.Store (InsertKey key.now) self.old self.new result }
     {
-        writes::insert_key(&mut self.connection, key)
+        self.tables.insert_key(key)
     }
 
     /// Marks a key revoked, in one transaction. Fails as `apply`.
     pub fn revoke_key(&mut self, key: &Name) -> Result<(), StoreFault>
         ensures makes { ChangesClub S.Store (MarkRevoked key.now) self.old self.new result }
     {
-        writes::revoke_key(&mut self.connection, key)
+        self.tables.revoke_key(key)
     }
 
     /// Gives a key a new root, in one transaction. Its former root becomes its older root, good
@@ -535,13 +476,13 @@ impl<S: Alter> Store<S> {
                 until,
             },
         };
-        writes::replace_root(&mut self.connection, &rotation)
+        self.tables.replace_root(&rotation)
     }
 
     /// Marks a slot closed, in one transaction. Fails as `apply`.
     pub fn close_slot(&mut self, slot: &Slot) -> Result<(), StoreFault>
         ensures makes { ChangesClub S.Store (MarkClosed slot.now) self.old self.new result }
     {
-        writes::close_slot(&mut self.connection, slot)
+        self.tables.close_slot(slot)
     }
 }

@@ -1,7 +1,5 @@
 //! Tables in memory, and the steps of a test over them: what is written, and what reads return.
 
-ghost use Rattle.std.specs.Prelude.{◌≡◌, false};
-
 use crate::expect::expect_eq;
 use crate::rows::{
     AMY_1, Kept, Older, booking_of, day, facility_of, key_of, member_of, moment, name, number,
@@ -10,19 +8,17 @@ use crate::rows::{
 use crate::write::{Write, change};
 use club_core::{Change, SlotUse, StoreFault};
 use club_rows::{OlderRoot, Root};
-use club_tables::{Rotation, open_tables, reads, writes};
+use club_tables::{Rotation, Tables};
 use club_values::{Moment, Name};
 use sqlite::{Connection, MemStore};
 use std::alloc::Global;
 use std::process::Abort;
 use test_kit::{BOOKING_7, COURT, PlainBooking, PlainFacility, PlainSlot};
 
-/// The tables of a club. The calls are those of `club_tables`, over a connection that is in no
-/// transaction between them.
+/// The tables of a club, over which a test plays its steps.
 #[derive(Drop)]
-struct Tables {
-    conn: Connection<MemStore>,
-    ghost idle: { conn.in_transaction ≡ false },
+struct Played {
+    tables: Tables<MemStore>,
 }
 
 #[derive(Clone, Copy)]
@@ -75,18 +71,19 @@ fn rotation(key: &Name, former: &Root, root: &Root, until: Moment) -> Rotation {
     }
 }
 
-impl Tables {
+impl Played {
     /// Those of an empty club.
-    fn empty(rt: &(impl Abort + Alloc<A = Global>)) -> Tables {
-        let mut conn = Connection::open_in_memory(rt.alloc()).expect(rt, "memory");
-        expect_eq(rt, &open_tables(&mut conn), &Ok(()));
-        Tables { conn }
+    fn empty(rt: &(impl Abort + Alloc<A = Global>)) -> Played {
+        let connection = Connection::open_in_memory(rt.alloc()).expect(rt, "memory");
+        let mut tables = Tables::over(connection);
+        expect_eq(rt, &tables.open(), &Ok(()));
+        Played { tables }
     }
 
-    fn with_rows(rt: &(impl Abort + Alloc<A = Global>)) -> Tables {
-        let mut tables = Tables::empty(rt);
-        tables.plays_all(rt, &FILLS);
-        tables
+    fn with_rows(rt: &(impl Abort + Alloc<A = Global>)) -> Played {
+        let mut played = Played::empty(rt);
+        played.plays_all(rt, &FILLS);
+        played
     }
 
     /// Plays the steps, and ends the test at the first that fails.
@@ -98,7 +95,7 @@ impl Tables {
 
     fn play(&mut self, rt: &(impl Abort + Alloc<A = Global>), step: &Step) {
         match step {
-            Step::Opens => expect_eq(rt, &open_tables(&mut self.conn), &Ok(())),
+            Step::Opens => expect_eq(rt, &self.tables.open(), &Ok(())),
             Step::Writes(write) => self.makes(rt, &change(rt, write)),
             Step::Refuses(write) => self.refuses(rt, &change(rt, write)),
             Step::Expects(expected) => self.expects(rt, expected),
@@ -110,28 +107,26 @@ impl Tables {
     }
 
     fn make(&mut self, change: &Change) -> Result<(), StoreFault> {
-        let conn = &mut self.conn;
+        let tables = &mut self.tables;
         match change {
-            Change::InsertMember(member) => writes::insert_member(conn, member),
-            Change::AddCredit { member, points } => writes::add_credit(conn, member, *points),
-            Change::InsertFacility(facility) => writes::insert_facility(conn, facility),
-            Change::InsertKey(key) => writes::insert_key(conn, key),
-            Change::MarkRevoked { key } => writes::revoke_key(conn, key),
+            Change::InsertMember(member) => tables.insert_member(member),
+            Change::AddCredit { member, points } => tables.add_credit(member, *points),
+            Change::InsertFacility(facility) => tables.insert_facility(facility),
+            Change::InsertKey(key) => tables.insert_key(key),
+            Change::MarkRevoked { key } => tables.revoke_key(key),
             Change::ReplaceRoot {
                 key,
                 former,
                 root,
                 until,
-            } => writes::replace_root(conn, &rotation(key, former, root, *until)),
-            Change::MarkClosed(slot) => writes::close_slot(conn, slot),
-            Change::InsertBooking { booking, member } => {
-                writes::insert_booking(conn, booking, member)
-            }
+            } => tables.replace_root(&rotation(key, former, root, *until)),
+            Change::MarkClosed(slot) => tables.close_slot(slot),
+            Change::InsertBooking { booking, member } => { tables.insert_booking(booking, member) }
             Change::MarkCancelled {
                 booking,
                 member,
                 refund,
-            } => writes::cancel_booking(conn, booking, member, *refund),
+            } => tables.cancel_booking(booking, member, *refund),
         }
     }
 
@@ -154,7 +149,7 @@ impl Tables {
     }
 
     fn expects_member(&mut self, rt: &impl Abort, text: &str, points: &Option<(u32, u32)>) {
-        let found = reads::member(&mut self.conn, &name(rt, text)).expect(rt, "an answer");
+        let found = self.tables.member(&name(rt, text)).expect(rt, "an answer");
         match (found, points) {
             (Some(row), Some(points)) => {
                 expect_eq(rt, &row.member, &member_of(rt, text, points.0));
@@ -165,28 +160,28 @@ impl Tables {
     }
 
     fn expects_facility(&mut self, rt: &impl Abort, facility: &str, place: &Option<PlainFacility>) {
-        let found = reads::facility(&mut self.conn, &name(rt, facility));
+        let found = self.tables.facility(&name(rt, facility));
         expect_eq(rt, &found, &Ok(facility_of(rt, place)));
     }
 
     fn expects_key(&mut self, rt: &impl Abort, key: &str, kept: &Option<Kept>) {
-        let found = reads::key(&mut self.conn, &name(rt, key));
+        let found = self.tables.key(&name(rt, key));
         expect_eq(rt, &found, &Ok(key_of(rt, kept)));
     }
 
     fn expects_older_root(&mut self, rt: &impl Abort, key: &str, older: &Option<Older>) {
-        let found = reads::older_root(&mut self.conn, &name(rt, key));
+        let found = self.tables.older_root(&name(rt, key));
         expect_eq(rt, &found, &Ok(older_root_of(rt, older)));
     }
 
     fn expects_slot(&mut self, rt: &impl Abort, at: &PlainSlot, taken: u32, closed: bool) {
-        let found = reads::slot(&mut self.conn, &slot(rt, at));
+        let found = self.tables.slot(&slot(rt, at));
         expect_eq(rt, &found, &Ok(SlotUse { taken, closed }));
     }
 
     fn expects_booking(&mut self, rt: &impl Abort, booking: u32, booked: &Option<PlainBooking>) {
         let amy_1 = name(rt, "amy-1");
-        let found = reads::booking(&mut self.conn, &amy_1, number(rt, booking));
+        let found = self.tables.booking(&amy_1, number(rt, booking));
         expect_eq(rt, &found, &Ok(booking_of(rt, booked)));
     }
 
@@ -196,29 +191,29 @@ impl Tables {
         date: &str,
         booked: &Option<PlainBooking>,
     ) {
-        let found = reads::day(&mut self.conn, rt.alloc(), day(rt, date));
+        let found = self.tables.day(rt.alloc(), day(rt, date));
         let rows = found.expect(rt, "an answer");
         expect_eq(rt, &rows.len(), &usize::from(booked.is_some()));
         expect_eq(rt, &rows.first().copied(), &booking_of(rt, booked));
     }
 
     fn expects_spent(&mut self, rt: &impl Abort, key: &str, points: u64) {
-        let found = reads::spent(&mut self.conn, &name(rt, key));
+        let found = self.tables.spent(&name(rt, key));
         expect_eq(rt, &found, &Ok(points));
     }
 
     fn expects_open(&mut self, rt: &impl Abort, member: &str, at: &str, count: u64) {
-        let found = reads::open_count(&mut self.conn, &name(rt, member), moment(rt, at));
+        let found = self.tables.open_count(&name(rt, member), moment(rt, at));
         expect_eq(rt, &found, &Ok(count));
     }
 }
 
 /// Plays the steps over the tables of an empty club.
 pub(crate) fn plays_empty(rt: &(impl Abort + Alloc<A = Global>), steps: &[Step]) {
-    Tables::empty(rt).plays_all(rt, steps);
+    Played::empty(rt).plays_all(rt, steps);
 }
 
 /// Plays the steps over the filled tables.
 pub(crate) fn plays_filled(rt: &(impl Abort + Alloc<A = Global>), steps: &[Step]) {
-    Tables::with_rows(rt).plays_all(rt, steps);
+    Played::with_rows(rt).plays_all(rt, steps);
 }

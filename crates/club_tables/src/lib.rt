@@ -4,14 +4,15 @@
 
 mod open;
 mod params;
-pub mod reads;
+mod reads;
 mod row;
 mod sum;
+mod tables;
 mod texts;
 mod transaction;
-pub mod writes;
+mod writes;
 
-pub use open::open_tables;
 pub use params::Rotation;
 pub use row::MemberRow;
-pub use transaction::{Statement, ask, fault_of, prepare, run, write};
+pub use tables::Tables;
+pub use transaction::{Statement, fault_of};

@@ -3,7 +3,6 @@
 
 ghost use Rattle.std.specs.Prelude.{
   ◌≡◌,
-  false,
   [],
   ◌∷◌,
   map,
@@ -38,10 +37,11 @@ ghost use Rattle.club_tables.specs.Opening.{
 };
 
 use crate::row::integer_at;
+use crate::tables::Tables;
 use crate::texts;
-use crate::transaction::{Statement, ask, prepare, run};
+use crate::transaction::Statement;
 use club_core::StoreFault;
-use sqlite::{Alter, Connection, Row};
+use sqlite::{Alter, Row};
 
 /// The current version of the tables.
 const VERSION: u8 = 2;
@@ -93,30 +93,6 @@ const TABLE_STATEMENTS: [Statement<'static>; 10] = [
     },
 ];
 
-/// Reads the version of the tables. If it is read, tables of that version represent the club.
-fn version<S: Alter>(conn: &mut Connection<S>) -> Result<Vec<Row>, StoreFault>
-    requires { conn.old.in_transaction ≡ false }
-    ensures idle { conn.new.in_transaction ≡ false }
-    ensures ok { HasCleanDisk (state S.Store conn.new) → IfOk result
-        (λ rows. YieldsVersion S.Store conn.old conn.new rows.items) }
-    ensures fault { HasCleanDisk (state S.Store conn.new) → IfErr result
-        (FailsToAsk S.Store (version_text, []) conn.old conn.new) }
-    ensures kept { IsKept (state S.Store conn.old) (state S.Store conn.new) }
-    ensures survives { Survives (state S.Store conn.old) (state S.Store conn.new) (λ _. ⊥) }
-{
-    ask(conn, texts::VERSION, &[])
-}
-
-/// Makes the tables of an empty club, in one transaction. Fails if there are tables of these names.
-fn make_tables<S: Alter>(conn: &mut Connection<S>) -> Result<(), StoreFault>
-    requires { conn.old.in_transaction ≡ false }
-    ensures idle { conn.new.in_transaction ≡ false }
-    ensures opens { RunsBatch S.Store (found_in S.Store) table_batch conn.old conn.new result }
-    ensures untouched { OnErr result (IsKept (state S.Store conn.old) (state S.Store conn.new)) }
-{
-    run(conn, &TABLE_STATEMENTS)
-}
-
 /// Whether the rows hold this version, and nothing else.
 fn is_version(rows: &[Row], version: u8) -> bool
     ensures one { rows.now ≡ version_values version ∷ [] → IsTrue result }
@@ -129,39 +105,58 @@ fn is_version(rows: &[Row], version: u8) -> bool
     }
 }
 
-/// Prepares each text, so that it fails unless all are statements over the tables. Nothing is
-/// changed.
-fn prepare_all<S: Alter>(conn: &mut Connection<S>, texts: &[&str]) -> Result<(), StoreFault>
-    requires { conn.old.in_transaction ≡ false }
-    ensures idle { conn.new.in_transaction ≡ false }
-    ensures kept { IsUntouched (state S.Store conn.old) (state S.Store conn.new) }
-    ensures understood { HasCleanDisk (state S.Store conn.new) → OnOk result
-        (WhenIdle S.Store (λ _. Understands S.Store (map (λ text. text.now) texts.now))
-        conn.old conn.new) }
-    ensures fault { HasCleanDisk (state S.Store conn.new) → IfErr result
-        (FailsToPrepareOne S.Store (map (λ text. text.now) texts.now) conn.old conn.new) }
-    ensures survives { Survives (state S.Store conn.old) (state S.Store conn.new) (λ _. ⊥) }
-{
-    for text in texts {
-        match prepare(conn, text) {
-            Ok(()) => {}
-            Err(fault) => return Err(fault),
-        }
+impl<S: Alter> Tables<S> {
+    /// Reads the version of the tables. If it is read, tables of that version represent the club.
+    fn version(&mut self) -> Result<Vec<Row>, StoreFault>
+        ensures ok { HasCleanDisk (state S.Store self.new) → IfOk result
+            (λ rows. YieldsVersion S.Store self.old self.new rows.items) }
+        ensures fault { HasCleanDisk (state S.Store self.new) → IfErr result
+            (FailsToAsk S.Store (version_text, []) self.old self.new) }
+        ensures kept { IsKept (state S.Store self.old) (state S.Store self.new) }
+        ensures survives { Survives (state S.Store self.old) (state S.Store self.new) (λ _. ⊥) }
+    {
+        self.ask(texts::VERSION, &[])
     }
-    Ok(())
-}
 
-/// Turns tables of version 1 into version 2, in one transaction: adds the table of older roots,
-/// which is empty, and the index of the bookings.
-fn add_old_roots<S: Alter>(conn: &mut Connection<S>) -> Result<(), StoreFault>
-    requires { conn.old.in_transaction ≡ false }
-    ensures idle { conn.new.in_transaction ≡ false }
-    ensures opens { RunsBatch S.Store (version_1_in S.Store) migration conn.old conn.new result }
-    ensures untouched { OnErr result (IsKept (state S.Store conn.old) (state S.Store conn.new)) }
-{
-    run(
-        conn,
-        &[
+    /// Makes the tables of an empty club, in one transaction. Fails if there are tables of these
+    /// names.
+    fn make_tables(&mut self) -> Result<(), StoreFault>
+        ensures opens { RunsBatch S.Store (found_in S.Store) table_batch self.old self.new result }
+        ensures untouched { OnErr result
+            (IsKept (state S.Store self.old) (state S.Store self.new)) }
+    {
+        self.run(&TABLE_STATEMENTS)
+    }
+
+    /// Prepares each text, so that it fails unless all are statements over the tables. Nothing is
+    /// changed.
+    fn prepare_all(&mut self, texts: &[&str]) -> Result<(), StoreFault>
+        ensures kept { IsUntouched (state S.Store self.old) (state S.Store self.new) }
+        ensures understood { HasCleanDisk (state S.Store self.new) → OnOk result
+            (WhenIdle S.Store (λ _. Understands S.Store (map (λ text. text.now) texts.now))
+            self.old self.new) }
+        ensures fault { HasCleanDisk (state S.Store self.new) → IfErr result
+            (FailsToPrepareOne S.Store (map (λ text. text.now) texts.now) self.old self.new) }
+        ensures survives { Survives (state S.Store self.old) (state S.Store self.new) (λ _. ⊥) }
+    {
+        for text in texts {
+            match self.prepare(text) {
+                Ok(()) => {}
+                Err(fault) => return Err(fault),
+            }
+        }
+        Ok(())
+    }
+
+    /// Turns tables of version 1 into version 2, in one transaction: adds the table of older roots,
+    /// which is empty, and the index of the bookings.
+    fn add_old_roots(&mut self) -> Result<(), StoreFault>
+        ensures opens { RunsBatch S.Store (version_1_in S.Store) migration
+            self.old self.new result }
+        ensures untouched { OnErr result
+            (IsKept (state S.Store self.old) (state S.Store self.new)) }
+    {
+        self.run(&[
             Statement {
                 text: texts::MAKE_OLD_ROOTS,
                 params: &[],
@@ -174,95 +169,88 @@ fn add_old_roots<S: Alter>(conn: &mut Connection<S>) -> Result<(), StoreFault>
                 text: texts::SET_VERSION,
                 params: &[],
             },
-        ],
-    )
-}
-
-/// Migrates tables of version 1, after checking that each of their rows can be read by its key. If
-/// it fails, they are unchanged; after a crash they are of version 1 or of version 2.
-fn migrate<S: Alter>(conn: &mut Connection<S>) -> Result<(), StoreFault>
-    requires { conn.old.in_transaction ≡ false }
-    ensures idle { conn.new.in_transaction ≡ false }
-    ensures opens { Opens S.Store (version_1_in S.Store)
-        (λ from to. IsIdle (state S.Store from) → HasMigrated S.Store from to)
-        (IsOpeningFault S.Store) conn.old conn.new result }
-    ensures untouched { OnErr result
-        (IsUntouched (state S.Store conn.old) (state S.Store conn.new)) }
-{
-    match prepare_all(conn, &texts::FIRST_ROWS_BY_KEY) {
-        Ok(()) => add_old_roots(conn),
-        Err(fault) => Err(fault),
+        ])
     }
-}
 
-/// Makes the index of the bookings, in one transaction. Fails if there is an index of this name.
-fn add_index<S: Alter>(conn: &mut Connection<S>) -> Result<(), StoreFault>
-    requires { conn.old.in_transaction ≡ false }
-    ensures idle { conn.new.in_transaction ≡ false }
-    ensures opens { RunsBatch S.Store (version_2_in S.Store) index_batch conn.old conn.new result }
-    ensures untouched { OnErr result (IsKept (state S.Store conn.old) (state S.Store conn.new)) }
-{
-    run(
-        conn,
-        &[Statement {
+    /// Migrates tables of version 1, after checking that each of their rows can be read by its key.
+    /// If it fails, they are unchanged; after a crash they are of version 1 or of version 2.
+    fn migrate(&mut self) -> Result<(), StoreFault>
+        ensures opens { Opens S.Store (version_1_in S.Store)
+            (λ from to. IsIdle (state S.Store from) → HasMigrated S.Store from to)
+            (IsOpeningFault S.Store) self.old self.new result }
+        ensures untouched { OnErr result
+            (IsUntouched (state S.Store self.old) (state S.Store self.new)) }
+    {
+        match self.prepare_all(&texts::FIRST_ROWS_BY_KEY) {
+            Ok(()) => self.add_old_roots(),
+            Err(fault) => Err(fault),
+        }
+    }
+
+    /// Makes the index of the bookings, in one transaction. Fails if there is an index of this
+    /// name.
+    fn add_index(&mut self) -> Result<(), StoreFault>
+        ensures opens { RunsBatch S.Store (version_2_in S.Store) index_batch
+            self.old self.new result }
+        ensures untouched { OnErr result
+            (IsKept (state S.Store self.old) (state S.Store self.new)) }
+    {
+        self.run(&[Statement {
             text: texts::MAKE_BOOKINGS_BY_KEY,
             params: &[],
-        }],
-    )
-}
+        }])
+    }
 
-/// Finds the index of the bookings, or makes it if there is none.
-fn ensure_index<S: Alter>(conn: &mut Connection<S>) -> Result<(), StoreFault>
-    requires { conn.old.in_transaction ≡ false }
-    ensures idle { conn.new.in_transaction ≡ false }
-    ensures opens { Opens S.Store (version_2_in S.Store) (HasOrGetsIndex S.Store)
-        (IsOpeningFault S.Store) conn.old conn.new result }
-    ensures untouched { OnErr result (IsKept (state S.Store conn.old) (state S.Store conn.new)) }
-{
-    match prepare(conn, texts::DROP_BOOKINGS_BY_KEY) {
-        Ok(()) => Ok(()),
-        Err(StoreFault::Memory) => Err(StoreFault::Memory),
-        Err(StoreFault::Storage) => add_index(conn),
+    /// Finds the index of the bookings, or makes it if there is none.
+    fn ensure_index(&mut self) -> Result<(), StoreFault>
+        ensures opens { Opens S.Store (version_2_in S.Store) (HasOrGetsIndex S.Store)
+            (IsOpeningFault S.Store) self.old self.new result }
+        ensures untouched { OnErr result
+            (IsKept (state S.Store self.old) (state S.Store self.new)) }
+    {
+        match self.prepare(texts::DROP_BOOKINGS_BY_KEY) {
+            Ok(()) => Ok(()),
+            Err(StoreFault::Memory) => Err(StoreFault::Memory),
+            Err(StoreFault::Storage) => self.add_index(),
+        }
     }
-}
 
-/// Accepts tables of version 2, after checking that each of their rows can be read by its key, and
-/// adds the index of the bookings if it is missing. If it fails, they are unchanged; after a crash
-/// they are unchanged or have the index.
-fn complete<S: Alter>(conn: &mut Connection<S>) -> Result<(), StoreFault>
-    requires { conn.old.in_transaction ≡ false }
-    ensures idle { conn.new.in_transaction ≡ false }
-    ensures opens { Opens S.Store (version_2_in S.Store) (WhenIdle S.Store (EnsuresIndex S.Store))
-        (IsOpeningFault S.Store) conn.old conn.new result }
-    ensures untouched { OnErr result
-        (IsUntouched (state S.Store conn.old) (state S.Store conn.new)) }
-{
-    match prepare_all(conn, &texts::ROWS_BY_KEY) {
-        Ok(()) => ensure_index(conn),
-        Err(fault) => Err(fault),
+    /// Accepts tables of version 2, after checking that each of their rows can be read by its key,
+    /// and adds the index of the bookings if it is missing. If it fails, they are unchanged; after
+    /// a crash they are unchanged or have the index.
+    fn complete(&mut self) -> Result<(), StoreFault>
+        ensures opens { Opens S.Store (version_2_in S.Store)
+            (WhenIdle S.Store (EnsuresIndex S.Store)) (IsOpeningFault S.Store)
+            self.old self.new result }
+        ensures untouched { OnErr result
+            (IsUntouched (state S.Store self.old) (state S.Store self.new)) }
+    {
+        match self.prepare_all(&texts::ROWS_BY_KEY) {
+            Ok(()) => self.ensure_index(),
+            Err(fault) => Err(fault),
+        }
     }
-}
 
-/// Finds the tables, migrates those of version 1, makes the index of the bookings where it is
-/// missing, or makes all where the version cannot be read.
-pub fn open_tables<S: Alter>(conn: &mut Connection<S>) -> Result<(), StoreFault>
-    requires { conn.old.in_transaction ≡ false }
-    ensures idle { conn.new.in_transaction ≡ false }
-    ensures opens { Opens S.Store (found_in S.Store) (WhenIdle S.Store (AcceptsTables S.Store))
-        (IsOpeningFault S.Store) conn.old conn.new result }
-    ensures untouched { OnErr result (IsKept (state S.Store conn.old) (state S.Store conn.new)) }
-{
-    let found = match version(conn) {
-        Ok(found) => found,
-        Err(StoreFault::Memory) => return Err(StoreFault::Memory),
-        Err(StoreFault::Storage) => return make_tables(conn),
-    };
-    let rows = found.as_slice();
-    if is_version(rows, VERSION) {
-        return complete(conn);
+    /// Finds the tables, migrates those of version 1, makes the index of the bookings where it is
+    /// missing, or makes all where the version cannot be read.
+    pub fn open(&mut self) -> Result<(), StoreFault>
+        ensures opens { Opens S.Store (found_in S.Store) (WhenIdle S.Store (AcceptsTables S.Store))
+            (IsOpeningFault S.Store) self.old self.new result }
+        ensures untouched { OnErr result
+            (IsKept (state S.Store self.old) (state S.Store self.new)) }
+    {
+        let found = match self.version() {
+            Ok(found) => found,
+            Err(StoreFault::Memory) => return Err(StoreFault::Memory),
+            Err(StoreFault::Storage) => return self.make_tables(),
+        };
+        let rows = found.as_slice();
+        if is_version(rows, VERSION) {
+            return self.complete();
+        }
+        if is_version(rows, FIRST_VERSION) {
+            return self.migrate();
+        }
+        Err(StoreFault::Storage)
     }
-    if is_version(rows, FIRST_VERSION) {
-        return migrate(conn);
-    }
-    Err(StoreFault::Storage)
 }

@@ -8,13 +8,13 @@ use Rattle.club_store.proofs.ReadingLemmas.{opens_nothing}
 use Rattle.club_store.proofs.store.Store.adopt.Goals as goal
 
 pub returns-in-Ok-clause-was_clean : goal.returns-in-Ok-clause-was_clean
-returns-in-Ok-clause-was_clean g c clean = omega (arith, c.in-Ok.ensures.opens.survives.clean)
+returns-in-Ok-clause-was_clean g c clean = omega (arith, (rw c.over-tables.ensures at c.in-Ok.ensures.opens).survives.clean)
 
 pub returns-in-Ok-clause-again : goal.returns-in-Ok-clause-again
 returns-in-Ok-clause-again g c clean clubs on =
     let was = c.args.connection in
     represents_one (state g.S.Store was) on.opening on.live (λ is_open trees may.
-    g.met.S.Store.settled was.store trees is_open may) _ (c.in-Ok.ensures.opens.represents clean) clubs on.left
+    g.met.S.Store.settled was.store trees is_open may) _ ((rw c.over-tables.ensures at c.in-Ok.ensures.opens).represents clean) clubs on.left
 
 pub returns-in-Ok-clause-empty : goal.returns-in-Ok-clause-empty
 returns-in-Ok-clause-empty g c clean empty =
@@ -25,11 +25,12 @@ returns-in-Ok-clause-empty g c clean empty =
       (empty.1 empty.0.is_open).1,
     )) in
     the_one _ empty_club (represents_one (state g.S.Store was) empty.0 empty.1 (λ is_open trees may.
-    g.met.S.Store.settled was.store trees is_open may) _ (c.in-Ok.ensures.opens.represents clean)
+    g.met.S.Store.settled was.store trees is_open may) _ ((rw c.over-tables.ensures at c.in-Ok.ensures.opens).represents clean)
     (empty_club ∷ []) (inl ((state g.S.Store was).committed, refl, blank)))
 
 pub returns-in-Ok-clause-accepted : goal.returns-in-Ok-clause-accepted
-returns-in-Ok-clause-accepted g c clean is_open = c.in-Ok.ensures.opens.done clean is_open (c.is_autocommit.ensures.settled c.if-not-is_autocommit.false)
+returns-in-Ok-clause-accepted g c clean is_open =
+    (rw c.over-tables.ensures at c.in-Ok.ensures.opens).done clean is_open (c.is_autocommit.ensures.settled c.if-not-is_autocommit.false)
 
 pub returns-then-not-is_autocommit-clause-refused : goal.returns-then-not-is_autocommit-clause-refused
 returns-then-not-is_autocommit-clause-refused g c =
@@ -52,13 +53,17 @@ still_idle true now tested is test idle = absurd cc
 pub returns-in-Err-clause-refused : goal.returns-in-Err-clause-refused
 returns-in-Err-clause-refused g c =
     let was = c.args.connection in
-    let left = c.in-Err.ensures in
+    let opens = rw (c.over-tables.ensures, ← c.into_connection.ensures.same) at c.in-Err.ensures.opens in
     record {
-      clean = λ clean. omega (arith, left.opens.survives.clean);
-      kept = left.opens.keeps_club;
-      mode = still_idle _ _ _ c.is_autocommit.ensures.value c.if-not-is_autocommit.false left.idle;
-      same_database = λ idle. left.untouched;
-      survives = left.opens.survives;
+      clean = λ clean. omega (arith, opens.survives.clean);
+      kept = opens.keeps_club;
+      mode = still_idle _ _ _ c.is_autocommit.ensures.value c.if-not-is_autocommit.false c.into_connection.ensures.idle;
+      same_database = λ idle. rw (c.over-tables.ensures, ← c.into_connection.ensures.same) at c.in-Err.ensures.untouched;
+      survives = opens.survives;
       again = λ clean clubs on. one_found (state g.S.Store was) on.opening on.live (λ is_open trees may.
-          g.met.S.Store.settled was.store trees is_open may) _ (left.opens.keeps_club clean) clubs on.left;
+          g.met.S.Store.settled was.store trees is_open may) _ (opens.keeps_club clean) clubs on.left;
     }
+
+pub returns-in-Err-clause-fault : goal.returns-in-Err-clause-fault
+returns-in-Err-clause-fault g c idle clean =
+    (rw (c.over-tables.ensures, ← c.into_connection.ensures.same) at c.in-Err.ensures.opens).fault clean

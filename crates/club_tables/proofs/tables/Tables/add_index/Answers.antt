@@ -1,0 +1,12 @@
+use Rattle.std.proofs.Common.{inr, refl}
+use Rattle.club_tables.specs.Opening.{index_batch}
+use Rattle.club_tables.specs.Tables.{HoldsClubVersion2}
+use Rattle.club_tables.proofs.opening.IndexLemmas.{holds_second}
+use Rattle.club_tables.proofs.opening.OpenLemmas.{runs_batch}
+use Rattle.club_tables.proofs.tables.Tables.add_index.Goals as goal
+
+pub returns-clause-opens : goal.returns-clause-opens
+returns-clause-opens g c =
+    let old = c.args.self.now in
+    runs_batch g.S.Store HoldsClubVersion2 index_batch old c.run.new.self (holds_second g.S.Store old) c.run.result c.run.ensures.commits
+    (inr (inr refl)) (λ is_open trees may. g.met.S.Store.settled c.run.new.self.store trees is_open may)

@@ -1,0 +1,12 @@
+use Rattle.std.proofs.Common.{inl, inr, refl}
+use Rattle.club_tables.specs.Opening.{migration}
+use Rattle.club_tables.specs.Tables.{HoldsClubVersion1}
+use Rattle.club_tables.proofs.opening.MigrateLemmas.{holds_first}
+use Rattle.club_tables.proofs.opening.OpenLemmas.{runs_batch}
+use Rattle.club_tables.proofs.tables.Tables.add_old_roots.Goals as goal
+
+pub returns-clause-opens : goal.returns-clause-opens
+returns-clause-opens g c =
+    let old = c.args.self.now in
+    runs_batch g.S.Store HoldsClubVersion1 migration old c.run.new.self (holds_first g.S.Store old) c.run.result c.run.ensures.commits
+    (inr (inl refl)) (λ is_open trees may. g.met.S.Store.settled c.run.new.self.store trees is_open may)

@@ -1,0 +1,88 @@
+use Rattle.std.proofs.Common.{◌≡◌, List, ℕ, Option, Result, inr, refl}
+use Rattle.sqlite.specs.Store.{Ghosts}
+use Rattle.sqlite.specs.State.{Survives}
+use Rattle.sqlite.specs.Held.{Held, state}
+use Rattle.club_rows.specs.declared.booking.Booking.{Booking}
+use Rattle.club_core.specs.declared.store.StoreFault.{StoreFault}
+use Rattle.club_core.specs.Sums.{booking_under}
+use Rattle.club_tables.specs.Answers.{Answers, OfBooking, FailsToRead, IsFirst, IsBookingIn, IsBookingNamed, reading_statement}
+use Rattle.club_tables.specs.ReadsAndChanges.{ReadsClub}
+use Rattle.club_tables.specs.Transaction.{BoundStatement, IsKept}
+use Rattle.club_tables.proofs.queries.BookingLemmas.{booking_shown}
+use Rattle.club_tables.proofs.lists.FirstLemmas.{booking_first, unnamed, none_named, one_named, not_named}
+use Rattle.club_tables.proofs.queries.ReadLemmas.{read_answer, fewer_read}
+use Rattle.club_tables.proofs.tables.Tables.booking.Goals as goal
+
+-- rows that yield no booking yield none of this key and number
+unread_named : {S : Type 0} (g : Ghosts S) (key : List ℕ) (number : ℕ) (statement : BoundStatement) (old new : Held S) (fault : StoreFault)
+    → FailsToRead g statement (λ rows. (found : Option Booking) × IsFirst IsBookingIn rows found) old new fault
+    → FailsToRead g statement (λ rows. (found : Option Booking) × IsFirst (IsBookingNamed key number) rows found) old new fault
+unread_named g key number statement old new fault failed =
+    fewer_read g statement (λ rows. (found : Option Booking) × IsFirst IsBookingIn rows found)
+    (λ rows. (found : Option Booking) × IsFirst (IsBookingNamed key number) rows found) old new fault
+    (λ rows can. (can.0, unnamed key number rows can.0 can.1)) failed
+
+read_booking : {S : Type 0} (g : Ghosts S) (key : List ℕ) (number : ℕ) {old new : Held S} {result : Result (Option Booking) StoreFault}
+    → Answers g (reading_statement (OfBooking key number)) (IsFirst (IsBookingNamed key number)) old new result → IsKept (state g old) (state g new)
+    → Survives (state g old) (state g new) (λ _. ⊥) → ReadsClub g old new result (λ club found. found ≡ booking_under key number club.bookings)
+read_booking g key number {old = old} gives kept quiet =
+    read_answer (OfBooking key number) gives kept quiet (λ rows can. can) (booking_shown g old key number) (λ club rows found shown first.
+    booking_first (booking_under key number club.bookings) rows found shown (unnamed key number rows found first))
+
+pub returns-in-Err-clause-gives : goal.returns-in-Err-clause-gives
+returns-in-Err-clause-gives g c =
+    let gives = rw (c.params-to_sql.ensures, c.params-to_sql-2.ensures, c.as_str.ensures.value, c.get.ensures.value) at c.in-Err.ensures.gives in
+    record {
+      success = λ clean. tt;
+      failure = λ clean. unread_named g.S.Store c.args.key.now c.args.number _ c.args.self.now c.answer.new.self _ (gives.failure clean);
+    }
+
+pub returns-in-Err-clause-reads : goal.returns-in-Err-clause-reads
+returns-in-Err-clause-reads g c =
+    read_booking g.S.Store c.args.key.now c.args.number (returns-in-Err-clause-gives g c) c.answer.ensures.kept c.answer.ensures.survives
+
+pub returns-in-None-clause-gives : goal.returns-in-None-clause-gives
+returns-in-None-clause-gives g c =
+    let gives = rw (c.params-to_sql.ensures, c.params-to_sql-2.ensures, c.as_str.ensures.value, c.get.ensures.value) at c.in-Ok.ensures.gives in
+    record {
+      success = λ clean. let it = gives.success clean in (it.0, it.1, none_named c.args.key.now c.args.number it.0 (rw c.in-None.is at it.2));
+      failure = λ clean. tt;
+    }
+
+pub returns-in-None-clause-reads : goal.returns-in-None-clause-reads
+returns-in-None-clause-reads g c =
+    read_booking g.S.Store c.args.key.now c.args.number (returns-in-None-clause-gives g c) c.answer.ensures.kept c.answer.ensures.survives
+
+pub returns-then-is_named-clause-gives : goal.returns-then-is_named-clause-gives
+returns-then-is_named-clause-gives g c =
+    let gives = rw (c.params-to_sql.ensures, c.params-to_sql-2.ensures, c.as_str.ensures.value, c.get.ensures.value) at c.in-Ok.ensures.gives in
+    record {
+      success = λ clean. let it = gives.success clean in (
+        it.0,
+        it.1,
+        one_named c.args.key.now c.args.number it.0 c.in-Some.booking (rw c.in-Some.is at it.2) (c.is_named.ensures.0 c.if-is_named.true),
+      );
+      failure = λ clean. tt;
+    }
+
+pub returns-then-is_named-clause-reads : goal.returns-then-is_named-clause-reads
+returns-then-is_named-clause-reads g c =
+    read_booking g.S.Store c.args.key.now c.args.number (returns-then-is_named-clause-gives g c) c.answer.ensures.kept c.answer.ensures.survives
+
+pub returns-else-is_named-clause-gives : goal.returns-else-is_named-clause-gives
+returns-else-is_named-clause-gives g c =
+    let gives = rw (c.params-to_sql.ensures, c.params-to_sql-2.ensures, c.as_str.ensures.value, c.get.ensures.value) at c.in-Ok.ensures.gives in
+    record {
+      success = λ clean. tt;
+      failure = λ clean. let it = gives.success clean in inr (record {
+        rows = it.0;
+        query = it.1;
+        unread = λ can. not_named c.args.key.now c.args.number it.0 c.in-Some.booking (rw c.in-Some.is at it.2) (λ named.
+            absurd (let yes = c.is_named.ensures.1 named in let no = c.if-is_named.false in cc)) can.0 can.1;
+        fault_is = refl;
+      });
+    }
+
+pub returns-else-is_named-clause-reads : goal.returns-else-is_named-clause-reads
+returns-else-is_named-clause-reads g c =
+    read_booking g.S.Store c.args.key.now c.args.number (returns-else-is_named-clause-gives g c) c.answer.ensures.kept c.answer.ensures.survives

@@ -1,0 +1,8 @@
+use Rattle.club_core.specs.declared.change.Change.TheVariants.{InsertFacility}
+use Rattle.club_tables.proofs.changes.ChangedLemmas.{changes}
+use Rattle.club_tables.proofs.tables.Tables.insert_facility.Goals as goal
+
+pub returns-clause-makes : goal.returns-clause-makes
+returns-clause-makes g c =
+    changes (InsertFacility c.args.facility.now) (λ none. none) (rw c.of_facility.ensures at c.write_one.ensures.commits)
+    (λ is_open trees may. g.met.S.Store.settled c.write_one.new.self.store trees is_open may)

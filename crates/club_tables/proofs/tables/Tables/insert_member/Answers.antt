@@ -1,0 +1,8 @@
+use Rattle.club_core.specs.declared.change.Change.TheVariants.{InsertMember}
+use Rattle.club_tables.proofs.changes.ChangedLemmas.{changes}
+use Rattle.club_tables.proofs.tables.Tables.insert_member.Goals as goal
+
+pub returns-clause-makes : goal.returns-clause-makes
+returns-clause-makes g c =
+    changes (InsertMember c.args.member.now) (λ none. none) (rw c.of_member.ensures at c.write_one.ensures.commits)
+    (λ is_open trees may. g.met.S.Store.settled c.write_one.new.self.store trees is_open may)

@@ -1,0 +1,11 @@
+use Rattle.std.proofs.Common.{inl, refl}
+use Rattle.club_tables.specs.Opening.{table_batch}
+use Rattle.club_tables.specs.Tables.{HoldsClubAnyVersion}
+use Rattle.club_tables.proofs.opening.OpenLemmas.{holds_found, runs_batch}
+use Rattle.club_tables.proofs.tables.Tables.make_tables.Goals as goal
+
+pub returns-clause-opens : goal.returns-clause-opens
+returns-clause-opens g c =
+    let old = c.args.self.now in
+    runs_batch g.S.Store HoldsClubAnyVersion table_batch old c.run.new.self (holds_found g.S.Store old) c.run.result c.run.ensures.commits
+    (inl refl) (λ is_open trees may. g.met.S.Store.settled c.run.new.self.store trees is_open may)

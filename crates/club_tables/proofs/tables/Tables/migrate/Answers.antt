@@ -1,0 +1,51 @@
+use Rattle.std.proofs.Common.{[], ◌∷◌, All, inl, inr, refl, subst, arith}
+use Rattle.sqlite.specs.Effect.{Database}
+use Rattle.sqlite.specs.Held.{Held, state}
+use Rattle.club_tables.specs.declared.texts.TheConstants.{OLDER_ROOT}
+use Rattle.club_tables.specs.Fault.{FailsToPrepare, FailsToRun}
+use Rattle.club_tables.specs.Opening.{HasMigrated, IsOpeningFault, first_texts, migration}
+use Rattle.club_tables.specs.ReadsAndChanges.{version_1_in}
+use Rattle.club_tables.specs.Tables.{HoldsClubVersion1}
+use Rattle.club_tables.specs.Transaction.{IsIdle, IsUnderstood, Ran}
+use Rattle.club_tables.proofs.opening.PrepareLemmas.{kept_then, one_more}
+use Rattle.club_tables.proofs.opening.StepLemmas.{batch_failed, keeps_after, opens_after, opens_not}
+use Rattle.club_tables.proofs.crashes.RepresentsLemmas.{on_err}
+use Rattle.club_tables.proofs.crashes.SurviveLemmas.{was_clean}
+use Rattle.club_tables.proofs.tables.Tables.migrate.Goals as goal
+
+pub returns-in-Ok-clause-opens : goal.returns-in-Ok-clause-opens
+returns-in-Ok-clause-opens g c =
+    let old = c.args.self.now in
+    let mid = c.prepare_all.new.self in
+    let kept = c.prepare_all.ensures.kept in
+    let quiet = c.prepare_all.ensures.survives in
+    opens_after g.S.Store old mid kept quiet (version_1_in g.S.Store) (version_1_in g.S.Store)
+    (λ (from to : Held _). IsIdle (state g.S.Store from) → HasMigrated g.S.Store from to)
+    (λ from to. Ran g.S.Store 0 migration from (state g.S.Store to).committed) (FailsToRun g.S.Store 0 migration)
+    c.add_old_roots.new.self c.add_old_roots.result c.add_old_roots.ensures.opens
+    (keeps_after g.S.Store old mid kept quiet HoldsClubVersion1) (λ club others first. first)
+    (λ earlier clean ran rest.
+    let is_open = ran.was_open (omega arith) in
+    let same = kept rest earlier is_open in
+    let known = c.in-Ok.ensures.understood earlier is_open rest in
+    (mid, same.0, subst (λ (db : Database). All (IsUnderstood db.schema) first_texts) same.2 known, same.2, same.1, ran))
+    (batch_failed g.S.Store migration (inr (inl refl)) old mid c.add_old_roots.new.self)
+
+pub returns-in-Ok-clause-untouched : goal.returns-in-Ok-clause-untouched
+returns-in-Ok-clause-untouched g c =
+    let mid = state g.S.Store c.prepare_all.new.self in
+    let new = state g.S.Store c.add_old_roots.new.self in
+    on_err c.add_old_roots.result c.add_old_roots.ensures.untouched (λ kept rest.
+    kept_then (state g.S.Store c.args.self.now) mid new (was_clean mid new _ c.add_old_roots.ensures.opens.survives) (c.prepare_all.ensures.kept rest) kept)
+
+pub returns-in-Err-clause-opens : goal.returns-in-Err-clause-opens
+returns-in-Err-clause-opens g c =
+    opens_not g.S.Store c.args.self.now c.prepare_all.new.self c.prepare_all.ensures.kept c.prepare_all.ensures.survives HoldsClubVersion1
+    (λ (from to : Held _). IsIdle (state g.S.Store from) → HasMigrated g.S.Store from to) (IsOpeningFault g.S.Store) c.in-Err.fault (λ clean.
+    let it = c.in-Err.ensures.fault clean in
+    record {
+      from = it.from;
+      after = it.after;
+      failure = inr (inr (inl (one_more (λ text. FailsToPrepare g.S.Store text it.from c.prepare_all.new.self c.in-Err.fault) first_texts (OLDER_ROOT.now ∷ [])
+          it.failure)));
+    })

@@ -1,0 +1,159 @@
+use Rattle.std.proofs.Common.{◌≡◌, ◌≢◌, ℕ, List, [], ◌∷◌, All, IsTrue, inl, inr, refl, sym, subst, ◌∙◌, arith}
+use Rattle.sqlite.specs.Order.{Row}
+use Rattle.sqlite.specs.Store.{Ghosts}
+use Rattle.sqlite.specs.Effect.{Database}
+use Rattle.sqlite.specs.State.{HasCleanDisk}
+use Rattle.sqlite.specs.Held.{Held, state}
+use Rattle.club_core.specs.Club.{Club}
+use Rattle.club_core.specs.declared.store.StoreFault.TheVariants.{Memory, Storage}
+use Rattle.club_tables.specs.Fault.{FailsToRun}
+use Rattle.club_tables.specs.Transaction.{BoundStatement, IsIdle, IsKept, IsUnderstood, Ran}
+use Rattle.club_tables.specs.declared.texts.TheConstants.{VERSION}
+use Rattle.club_tables.specs.Columns.{HasValues, version_values}
+use Rattle.club_tables.specs.Opening.{HasNoDesk, AcceptsTables, YieldsRows, YieldsVersion, IsOpeningFault, HasRunOver, Upgrade, EnsuresIndex, HasMigrated}
+use Rattle.club_tables.specs.Opening.{WhenIdle, first_texts, texts_by_key, indexed_texts, table_batch, migration, index_batch}
+use Rattle.club_tables.specs.ReadsAndChanges.{found_in, version_1_in, version_2_in}
+use Rattle.club_tables.specs.Tables.{HoldsClubAnyVersion, IsFound, RepresentsVersion1, RepresentsVersion2}
+use Rattle.club_tables.proofs.crashes.RepresentsLemmas.{on_err}
+use Rattle.club_tables.proofs.crashes.SurviveLemmas.{opened_after, was_clean}
+use Rattle.club_tables.proofs.opening.MakingLemmas.{makes_free}
+use Rattle.club_tables.proofs.opening.OpenLemmas.{one_version, first_found, second_found}
+use Rattle.club_tables.proofs.opening.PrepareLemmas.{kept_then}
+use Rattle.club_tables.proofs.opening.ReadyLemmas.{found_ready}
+use Rattle.club_tables.proofs.opening.StepLemmas.{batch_failed, keeps_after, opens_after, opens_not}
+use Rattle.club_tables.proofs.queries.ReadLemmas.{at_once}
+use Rattle.club_tables.proofs.tables.Tables.open.Goals as goal
+
+-- where a batch was run over what was there, tables of the version that was read were there
+upgraded : {S : Type 0} (g : Ghosts S) (old mid new : Held S) (version : ℕ) (texts : List (List ℕ)) (statements : List BoundStatement) (rows : List Row)
+    → HasCleanDisk (state g mid) → IsIdle (state g old) → IsKept (state g old) (state g mid)
+    → (row : Row) × (rows ≡ row ∷ []) × HasValues row (version_values version) → YieldsRows VERSION.now (state g old).now rows
+    → HasRunOver texts statements g mid new → Upgrade version texts statements g old new
+upgraded g old mid new version texts statements rows earlier rest kept one answered it =
+    let before = kept earlier it.1 in
+    let same = it.3 ∙ before.2 in
+    let here = rest before.0 ∙ sym same in
+    let returned = subst (λ db. YieldsRows VERSION.now db (one.0 ∷ [])) here (subst (YieldsRows VERSION.now (state g old).now) one.1 answered) in
+    record {
+      from = it.0;
+      found = record {
+        ready = record { version_row = (one.0, returned, one.2); by_key = subst (λ (db : Database). All (IsUnderstood db.schema) texts) (sym it.3) it.2 };
+        same = same;
+      };
+      same = it.4 ∙ before.2;
+      ran = it.5;
+    }
+
+-- tables of version 2 with the index were there, or got it
+ensured : {S : Type 0} (g : Ghosts S) (old mid new : Held S) (rows : List Row) → HasCleanDisk (state g mid) → HasCleanDisk (state g new)
+    → IsTrue (state g new).is_open → IsIdle (state g old) → IsKept (state g old) (state g mid)
+    → (row : Row) × (rows ≡ row ∷ []) × HasValues row (version_values 2) → YieldsRows VERSION.now (state g old).now rows
+    → EnsuresIndex g mid new → AcceptsTables g old new
+ensured g old mid new rows earlier clean is_open rest kept one answered (inl it) =
+    inl (found_ready (state g old) (state g mid) (state g new) earlier clean is_open rest kept (λ _. it.0) 2 indexed_texts rows one answered (λ _. it.1))
+ensured g old mid new rows earlier clean is_open rest kept one answered (inr it) =
+    inr (inl (upgraded g old mid new 2 texts_by_key index_batch rows earlier rest kept one answered it))
+
+-- a connection is idle after a read that left it unchanged
+rests : {S : Type 0} (g : Ghosts S) (old new : Held S) → HasCleanDisk (state g new) → IsKept (state g old) (state g new) → IsIdle (state g new)
+rests g old new clean kept opened = let k = kept clean opened in k.1 ∙ sym k.2
+
+-- the rows hold version 2, or version 1
+is_second : {S : Type 0} (g : Ghosts S) (old mid : Held S) (rows : List Row) → YieldsVersion g old mid rows
+    → (row : Row) × (rows ≡ row ∷ []) × HasValues row (version_values 2)
+    → (club : Club) (others : List Club) → IsFound (state g old) club others → RepresentsVersion2 (state g mid) club others
+is_second g old mid rows read one club others found = elim (read.version_of_club club others found) [
+  | inl second ↦ second.0
+  | inr first ↦ absurd (let e : ◌≡◌ {A = ℕ} 1 2 = one_version rows 1 2 first.1 one in omega (arith, e))
+]
+
+is_first : {S : Type 0} (g : Ghosts S) (old mid : Held S) (rows : List Row) → YieldsVersion g old mid rows
+    → (row : Row) × (rows ≡ row ∷ []) × HasValues row (version_values 1)
+    → (club : Club) (others : List Club) → IsFound (state g old) club others → RepresentsVersion1 (state g mid) club others
+is_first g old mid rows read one club others found = elim (read.version_of_club club others found) [
+  | inl second ↦ absurd (let e : ◌≡◌ {A = ℕ} 2 1 = one_version rows 2 1 second.1 one in omega (arith, e))
+  | inr first ↦ first.0
+]
+
+pub returns-in-Err-Memory-clause-opens : goal.returns-in-Err-Memory-clause-opens
+returns-in-Err-Memory-clause-opens g c =
+    let old = c.args.self.now in
+    let mid = c.version.new.self in
+    opens_not g.S.Store old mid (λ rest. c.version.ensures.kept) c.version.ensures.survives HoldsClubAnyVersion
+    (WhenIdle g.S.Store (AcceptsTables g.S.Store)) (IsOpeningFault g.S.Store) Memory (λ clean. record {
+      from = old;
+      after = at_once g.S.Store old (was_clean (state g.S.Store old) (state g.S.Store mid) _ c.version.ensures.survives clean);
+      failure = inl (refl, inl (rw c.in-Err-Memory.field-0-is at (c.in-Err-Memory.ensures.fault clean)));
+    })
+
+pub returns-in-Err-Storage-clause-opens : goal.returns-in-Err-Storage-clause-opens
+returns-in-Err-Storage-clause-opens g c =
+    let old = c.args.self.now in
+    let mid = c.version.new.self in
+    let new = c.make_tables.new.self in
+    opens_after g.S.Store old mid (λ rest. c.version.ensures.kept) c.version.ensures.survives (found_in g.S.Store) (found_in g.S.Store)
+    (WhenIdle g.S.Store (AcceptsTables g.S.Store)) (λ from to. Ran g.S.Store 0 table_batch from (state g.S.Store to).committed)
+    (FailsToRun g.S.Store 0 table_batch) new c.make_tables.result c.make_tables.ensures.opens
+    (keeps_after g.S.Store old mid (λ rest. c.version.ensures.kept) c.version.ensures.survives HoldsClubAnyVersion) (λ club others found. found)
+    (λ earlier clean ran is_open rest.
+    let same = (c.version.ensures.kept earlier (ran.was_open (omega arith))).1 in
+    let no_desk_table = subst (λ (db : Database). HasNoDesk db.schema) same (makes_free g.S.Store mid (state g.S.Store new).committed ran) in
+    inr (inr (inr (record { from = mid; same = same; no_desk_table = no_desk_table; ran = ran }))))
+    (batch_failed g.S.Store table_batch (inl refl) old mid new)
+
+pub returns-then-is_version-clause-opens : goal.returns-then-is_version-clause-opens
+returns-then-is_version-clause-opens g c =
+    let old = c.args.self.now in
+    let mid = c.version.new.self in
+    let new = c.complete.new.self in
+    let rows = c.in-Ok.found.items in
+    let read = c.in-Ok.ensures.ok in
+    let one = rw c.as_slice-rows.ensures.value at (c.is_version.ensures.only c.if-is_version.true) in
+    opens_after g.S.Store old mid (λ rest. c.version.ensures.kept) c.version.ensures.survives (found_in g.S.Store) (version_2_in g.S.Store)
+    (WhenIdle g.S.Store (AcceptsTables g.S.Store)) (WhenIdle g.S.Store (EnsuresIndex g.S.Store)) (IsOpeningFault g.S.Store)
+    new c.complete.result c.complete.ensures.opens
+    (λ earlier. is_second g.S.Store old mid rows (read earlier) one) (second_found (state g.S.Store new))
+    (λ earlier clean it is_open rest. ensured g.S.Store old mid new rows earlier clean is_open rest c.version.ensures.kept one
+    (read earlier).version_rows (it is_open (rests g.S.Store old mid earlier c.version.ensures.kept)))
+    (opened_after g.S.Store old mid new)
+
+pub returns-then-is_version-clause-untouched : goal.returns-then-is_version-clause-untouched
+returns-then-is_version-clause-untouched g c =
+    let old = c.args.self.now in
+    let mid = c.version.new.self in
+    let new = state g.S.Store c.complete.new.self in
+    on_err c.complete.result c.complete.ensures.untouched (λ untouched clean is_open.
+    let earlier : HasCleanDisk (state g.S.Store mid) = was_clean (state g.S.Store mid) new _ c.complete.ensures.opens.survives clean in
+    kept_then (state g.S.Store old) (state g.S.Store mid) new (λ _. earlier) c.version.ensures.kept
+    (untouched (rests g.S.Store old mid earlier c.version.ensures.kept)) clean is_open)
+
+pub returns-then-is_version-2-clause-opens : goal.returns-then-is_version-2-clause-opens
+returns-then-is_version-2-clause-opens g c =
+    let old = c.args.self.now in
+    let mid = c.version.new.self in
+    let new = c.migrate.new.self in
+    let rows = c.in-Ok.found.items in
+    let read = c.in-Ok.ensures.ok in
+    let one = rw c.as_slice-rows.ensures.value at (c.is_version-2.ensures.only c.if-is_version-2.true) in
+    opens_after g.S.Store old mid (λ rest. c.version.ensures.kept) c.version.ensures.survives (found_in g.S.Store) (version_1_in g.S.Store)
+    (WhenIdle g.S.Store (AcceptsTables g.S.Store)) (λ (from to : Held _). IsIdle (state g.S.Store from) → HasMigrated g.S.Store from to)
+    (IsOpeningFault g.S.Store) new c.migrate.result c.migrate.ensures.opens
+    (λ earlier. is_first g.S.Store old mid rows (read earlier) one) (first_found (state g.S.Store new))
+    (λ earlier clean it is_open rest. inr (inr (inl (upgraded g.S.Store old mid new 1 first_texts migration rows earlier rest c.version.ensures.kept one
+    (read earlier).version_rows (it (rests g.S.Store old mid earlier c.version.ensures.kept))))))
+    (opened_after g.S.Store old mid new)
+
+pub returns-clause-opens : goal.returns-clause-opens
+returns-clause-opens g c =
+    let old = c.args.self.now in
+    let mid = c.version.new.self in
+    let two = rw c.as_slice-rows.ensures.value at c.is_version.ensures.one in
+    let one = rw c.as_slice-rows.ensures.value at c.is_version-2.ensures.one in
+    let not_two : c.in-Ok.found.items ≢ version_values 2 ∷ [] = λ is. absurd (let yes = two is in let no = c.if-is_version.false in cc) in
+    let not_one : c.in-Ok.found.items ≢ version_values 1 ∷ [] = λ is. absurd (let yes = one is in let no = c.if-is_version-2.false in cc) in
+    opens_not g.S.Store old mid (λ rest. c.version.ensures.kept) c.version.ensures.survives HoldsClubAnyVersion
+    (WhenIdle g.S.Store (AcceptsTables g.S.Store)) (IsOpeningFault g.S.Store) Storage (λ clean. record {
+      from = old;
+      after = at_once g.S.Store old (was_clean (state g.S.Store old) (state g.S.Store mid) _ c.version.ensures.survives clean);
+      failure = inr (inr (inr (refl, c.in-Ok.found.items, (c.in-Ok.ensures.ok clean).query, not_two, not_one)));
+    })

@@ -1,0 +1,144 @@
+//! The tables over a connection: runs a query, prepares a statement, and runs statements that
+//! write, each in a transaction of its own.
+
+ghost use Rattle.std.specs.Prelude.{◌≡◌, false, map, IfOk, IfErr, OnOk};
+ghost use Rattle.sqlite.specs.Values.{bound};
+ghost use Rattle.sqlite.specs.State.{HasCleanDisk, Survives};
+ghost use Rattle.sqlite.specs.Held.{state};
+ghost use Rattle.club_tables.specs.Transaction.{Asked, IsKept, IsUnderstood, bound_statement};
+ghost use Rattle.club_tables.specs.Fault.{Commits, FailsToAsk, FailsToPrepare};
+
+use crate::transaction::{Statement, fault_of};
+use club_core::StoreFault;
+use sqlite::types::ValueRef;
+use sqlite::{Alter, Connection, Row};
+use std::marker::Model;
+
+/// The tables of a club over a connection, which is in no transaction between calls. Contracts see
+/// them as the connection.
+#[derive(Drop)]
+pub struct Tables<S: Alter> {
+    connection: Connection<S>,
+}
+
+impl<S: Alter> Model for Tables<S> {
+    ghost use Rattle.std.specs.Prelude.{◌≡◌, false};
+    ghost use Rattle.sqlite.specs.Held.{Held, held_code};
+
+    ghost Value = { Held S };
+
+    ghost coded = { held_code S.code };
+
+    ghost view = { λ tables. tables.connection };
+
+    ghost invariant = { λ tables. tables.connection.in_transaction ≡ false };
+}
+
+impl<S: Alter> Tables<S> {
+    /// The tables over this connection, which is in no transaction.
+    pub fn over(connection: Connection<S>) -> Tables<S>
+        requires { connection.in_transaction ≡ false }
+        ensures { result ≡ connection }
+    {
+        Tables { connection }
+    }
+
+    /// Returns the connection, unchanged, in no transaction.
+    pub fn into_connection(self) -> Connection<S>
+        ensures same { result ≡ self }
+        ensures idle { result.in_transaction ≡ false }
+    {
+        self.connection
+    }
+
+    /// Runs a query and returns its rows. Nothing is changed.
+    ///
+    /// # Errors
+    ///
+    /// The database refused the query; `fault_of` maps its error.
+    pub fn ask(&mut self, sql: &str, params: &[ValueRef<'_>]) -> Result<Vec<Row>, StoreFault>
+        ensures asked { IfOk result (λ rows. HasCleanDisk (state S.Store self.new) →
+            Asked S.Store sql.now (bound params.now) self.old rows.items) }
+        ensures fault { HasCleanDisk (state S.Store self.new) → IfErr result
+            (FailsToAsk S.Store (sql.now, bound params.now) self.old self.new) }
+        ensures kept { IsKept (state S.Store self.old) (state S.Store self.new) }
+        ensures survives { Survives (state S.Store self.old) (state S.Store self.new) (λ _. ⊥) }
+    {
+        let mut tx = self.connection.transaction();
+        let rows = match tx.query_all(sql, params) {
+            Ok(rows) => rows,
+            Err(error) => return Err(fault_of(error)),
+        };
+        tx.rollback();
+        Ok(rows)
+    }
+
+    /// Prepares a text as a statement over the current schema. Nothing is changed.
+    ///
+    /// # Errors
+    ///
+    /// The text isn't a statement, or the database refused it; `fault_of` maps the error.
+    pub fn prepare(&mut self, sql: &str) -> Result<(), StoreFault>
+        ensures understood { HasCleanDisk (state S.Store self.new) → OnOk result
+            (IsUnderstood (state S.Store self.old).now.schema sql.now) }
+        ensures fault { HasCleanDisk (state S.Store self.new) → IfErr result
+            (FailsToPrepare S.Store sql.now self.old self.new) }
+        ensures kept { IsKept (state S.Store self.old) (state S.Store self.new) }
+        ensures survives { Survives (state S.Store self.old) (state S.Store self.new) (λ _. ⊥) }
+    {
+        let mut tx = self.connection.transaction();
+        match tx.prepare(sql) {
+            Ok(_) => {}
+            Err(error) => return Err(fault_of(error)),
+        }
+        tx.rollback();
+        Ok(())
+    }
+
+    /// Runs statements in order, in one transaction, and commits them.
+    ///
+    /// # Errors
+    ///
+    /// The database refused one of them, or the commit; `fault_of` maps the error. The committed
+    /// state is unchanged. After a crash the statements' effects may still be there, all of them.
+    pub fn run(&mut self, statements: &[Statement<'_>]) -> Result<(), StoreFault>
+        ensures commits { Commits S.Store 0 (map bound_statement statements.now)
+            self.old self.new result }
+    {
+        self.run_on_rows(statements, 0)
+    }
+
+    /// Runs statements as `run` does, each of which has to insert or update a row.
+    ///
+    /// # Errors
+    ///
+    /// `Storage` if a statement inserted or updated no row, and those of `run`.
+    pub fn write(&mut self, statements: &[Statement<'_>]) -> Result<(), StoreFault>
+        ensures commits { Commits S.Store 1 (map bound_statement statements.now)
+            self.old self.new result }
+    {
+        self.run_on_rows(statements, 1)
+    }
+
+    /// Runs statements as `run` does, each of which has to insert or update at least so many rows.
+    fn run_on_rows(&mut self, statements: &[Statement<'_>], fewest: usize) -> Result<(), StoreFault>
+        ensures commits { Commits S.Store fewest (map bound_statement statements.now)
+            self.old self.new result }
+    {
+        let mut tx = self.connection.transaction();
+        for statement in statements {
+            let count = match tx.execute(statement.text, statement.params) {
+                Ok(count) => count,
+                Err(error) => return Err(fault_of(error)),
+            };
+            if count < fewest {
+                return Err(StoreFault::Storage);
+            }
+        }
+        match tx.commit() {
+            Ok(()) => {}
+            Err(error) => return Err(fault_of(error)),
+        }
+        Ok(())
+    }
+}
