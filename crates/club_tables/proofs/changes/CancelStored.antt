@@ -9,7 +9,6 @@ use Rattle.std.proofs.lemmas.List.{length-map}
 use Rattle.club_values.specs.declared.slot.Slot.{Slot}
 use Rattle.club_rows.specs.declared.booking.Booking.{Booking}
 use Rattle.club_rows.specs.declared.member.Member.{Member}
-use Rattle.club_core.specs.declared.slot_use.SlotUse.{SlotUse}
 use Rattle.club_core.specs.After.{cancelled_booking, is_marked}
 use Rattle.club_rows.specs.Booking.{same_slot, persons_of}
 use Rattle.club_core.specs.Club.{Club, IsSound, is_key_of}
@@ -19,14 +18,11 @@ use Rattle.club_core.specs.Sums.{is_in, is_under, taken_in, cost_of}
 use Rattle.club_tables.specs.declared.row.MemberRow.{MemberRow}
 use Rattle.club_tables.specs.Stored.{Rows, IsStoredAs, member_row, used_by}
 use Rattle.club_tables.proofs.changes.ChangeLemmas.{used_row, or_true, or_false}
-use Rattle.club_tables.proofs.statements.JoinLemmas.{map_map}
 use Rattle.club_tables.proofs.statements.SelectLemmas.{Apart, apart_from_pairs}
-use Rattle.club_tables.proofs.lists.SlotRows.{put_slot, use_put, put_once}
-use Rattle.club_tables.proofs.changes.UpsertLemmas.{take_use}
 use Rattle.club_tables.proofs.lists.FindLemmas.{found}
 use Rattle.std.specs.Cmp.{unsigned_Decides}
-use Rattle.club_tables.proofs.lists.OwnerLemmas.{map_agree, IsAlone, picked_changed, same_name, owner_is}
-use Rattle.club_tables.proofs.changes.StoredLemmas.{recounted_use}
+use Rattle.club_tables.proofs.lists.OwnerLemmas.{IsAlone, picked_changed, same_name, owner_is}
+use Rattle.club_tables.proofs.changes.StoredLemmas.{totals_rows, bookings_stored}
 
 -- ---- cancellations
 
@@ -146,14 +142,7 @@ module _ (club : Club) (sound : IsSound club) (booking : Booking) (cancels : IsT
       omega (arith, sums, before, after)
 
   abbrev pub cancel_rows : Rows → List ℕ → Rows
-  cancel_rows rows member = record {
-    members = map (used_row member (λ n. n - refund)) rows.members;
-    facilities = rows.facilities;
-    keys = rows.keys;
-    slots = put_slot booking.slot (take_use (λ n. n - persons_of booking)) rows.slots;
-    bookings = map change rows.bookings;
-    olders = rows.olders;
-  }
+  cancel_rows rows member = totals_rows rows (map change) member (λ n. n - refund) booking.slot (λ n. n - persons_of booking)
 
   used_less : (member : List ℕ) → IsOwnedBy member key club → (m : Member) → used_row member (λ n. n - refund) (member_row club m) ≡ member_row next m
   used_less member owned m =
@@ -176,18 +165,5 @@ module _ (club : Club) (sound : IsSound club) (booking : Booking) (cancels : IsT
       less false all left back is = omega (arith, is)
 
   pub cancel_stored : (rows : Rows) → IsStoredAs club rows → (member : List ℕ) → IsOwnedBy member key club → IsStoredAs next (cancel_rows rows member)
-  cancel_stored rows stored member owned = record {
-    members = ap (map (used_row member (λ n. n - refund))) stored.members ∙ map_map (used_row member (λ n. n - refund)) (member_row club) club.members
-        ∙ map_agree _ (member_row next) (used_less member owned) club.members;
-    facilities = stored.facilities;
-    keys = stored.keys;
-    bookings = ap (map change) stored.bookings;
-    slots = λ s.
-        let less : ℕ → ℕ = λ n. n - persons_of booking in
-        use_put booking.slot (take_use less) s rows.slots ∙ ap (λ u. let v : SlotUse = if same_slot booking.slot s then take_use less u else u in
-        v) (stored.slots s)
-        ∙ recounted_use club s less (same_slot booking.slot s) (taken_in s next.bookings) (taken_less s);
-    olders = stored.olders;
-    olders_once = stored.olders_once;
-    once = put_once booking.slot (take_use (λ n. n - persons_of booking)) rows.slots stored.once;
-  }
+  cancel_stored rows stored member owned =
+      bookings_stored club rows stored (map change) member (λ n. n - refund) booking.slot (λ n. n - persons_of booking) (used_less member owned) taken_less

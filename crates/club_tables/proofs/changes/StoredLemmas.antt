@@ -1,7 +1,7 @@
 -- The rows of the club after each change, as they are stored.
 use Rattle.std.proofs.Common.{◌≡◌, ◌≢◌, ℕ, ◌+◌, Bool, true, false, not, ◌&&◌, ◌||◌, cond, if◌then◌else◌, List, [], ◌∷◌, ◌++◌, map, Option, Some, None, Contains}
 use Rattle.std.proofs.Common.{refl, sym, ap, subst, ◌∙◌, arith, true≢false}
-use Rattle.std.specs.Prelude.{filter, find, sum_by, IfSome, option_and_then}
+use Rattle.std.specs.Prelude.{filter, find, sum_by, IfSome, option_and_then, AllPairs}
 use Rattle.std.specs.List.{AllByRecursion, list_any}
 use Rattle.std.specs.Str.{bytes_eq}
 use Rattle.std.proofs.lemmas.Bool.{false_from_ne_true}
@@ -21,14 +21,16 @@ use Rattle.club_core.specs.After.{after, credited_member, revoked_key, good_unti
 use Rattle.club_rows.specs.Booking.{same_slot, persons_of}
 use Rattle.club_core.specs.Club.{Club, IsSound, key_named, is_key_of, is_closed}
 use Rattle.club_core.specs.Basis.{slot_use}
+use Rattle.club_core.specs.KeyParts.{older_root_of}
 use Rattle.club_core.specs.Store.{IsOwnedBy, HasRoot}
 use Rattle.club_core.specs.Sums.{is_in, taken_in, cost_of}
 use Rattle.club_tables.specs.declared.row.MemberRow.{MemberRow}
-use Rattle.club_tables.specs.Stored.{Rows, IsStoredAs, member_row, used_by, persons_taken}
+use Rattle.club_tables.specs.Stored.{Rows, OlderRow, IsStoredAs, older_by, member_row, used_by, persons_taken}
 use Rattle.club_tables.proofs.changes.AddLemmas.{new_row}
 use Rattle.club_tables.proofs.changes.ChangeLemmas.{credited_row, used_row, or_true, or_false}
 use Rattle.club_tables.proofs.statements.JoinLemmas.{map_map}
 use Rattle.club_tables.proofs.statements.SelectLemmas.{apart_from_pairs, none_pass}
+use Rattle.club_tables.proofs.statements.UpdateLemmas.{each_of}
 use Rattle.club_tables.proofs.changes.OlderLemmas.{put_older, older_put, put_once as olders_once}
 use Rattle.club_tables.proofs.lists.SlotRows.{put_slot, use_put, put_once}
 use Rattle.club_tables.proofs.changes.UpsertLemmas.{close_use, take_use}
@@ -102,12 +104,26 @@ facility_stored club rows stored facility = record {
   once = stored.once;
 }
 
--- where each booking's key has the owners that it had, each member's bookings have cost what they had
-used_same : (club : Club) (keys : List Key) (name : List ℕ)
-    → AllByRecursion (λ (b : Booking). list_any (λ (key : Key). bytes_eq key.name b.key) (filter (λ (key : Key). bytes_eq key.member name) keys)
-    ≡ is_key_of name club b.key) club.bookings
-    → used_by (record club { keys = keys }) name ≡ used_by club name
-used_same club keys name same = ap (sum_by cost_of) (filter_same _ _ club.bookings same)
+-- other keys, under which each booking has the owners that it had
+keys_stored : (club : Club) (rows : Rows) → IsStoredAs club rows → (change : List Key → List Key) (olders : List OlderRow)
+    → ((name : List ℕ) → AllByRecursion (λ (b : Booking).
+    list_any (λ (key : Key). bytes_eq key.name b.key) (filter (λ (key : Key). bytes_eq key.member name) (change club.keys)) ≡ is_key_of name club b.key)
+    club.bookings)
+    → ((name : List ℕ) → older_by name olders ≡ older_root_of name (record club { keys = change club.keys }))
+    → AllPairs (λ (a : OlderRow) (b : OlderRow). a.key ≢ b.key) olders
+    → IsStoredAs (record club { keys = change club.keys }) (record rows { keys = change rows.keys; olders = olders })
+keys_stored club rows stored change olders owned roots olders_once = record {
+  members = stored.members ∙ map_agree (member_row club) (member_row (record club { keys = change club.keys })) (λ (m : Member).
+      ap (λ n. let row : MemberRow = record { member = m; used = n } in row) (sym (ap (sum_by cost_of) (filter_same _ _ club.bookings (owned m.name)))))
+      club.members;
+  facilities = stored.facilities;
+  keys = ap change stored.keys;
+  bookings = stored.bookings;
+  slots = stored.slots;
+  olders = roots;
+  olders_once = olders_once;
+  once = stored.once;
+}
 
 owned_more : (names owns : Key → Bool) (keys : List Key) (key : Key) → names key ≡ false
     → list_any names (filter owns (keys ++ key ∷ [])) ≡ list_any names (filter owns keys)
@@ -144,18 +160,9 @@ older_mapped f named same name (k ∷ keys) =
 
 pub key_stored : (club : Club) (rows : Rows) → IsStoredAs club rows → IsSound club → (key : Key) → key.older ≡ None → IsSound (after (InsertKey key) club)
     → IsStoredAs (after (InsertKey key) club) (record rows { keys = rows.keys ++ key ∷ [] })
-key_stored club rows stored sound key new fits = record {
-  members = stored.members ∙ map_agree (member_row club) (member_row (after (InsertKey key) club)) (λ (m : Member).
-      ap (λ n. let row : MemberRow = record { member = m; used = n } in row)
-      (sym (used_same club (club.keys ++ key ∷ []) m.name (each m.name club.bookings (all_of _ club.bookings sound.references.bookings))))) club.members;
-  facilities = stored.facilities;
-  keys = ap (λ ks. ks ++ key ∷ []) stored.keys;
-  bookings = stored.bookings;
-  slots = stored.slots;
-  olders = λ name. stored.olders name ∙ sym (older_pushed name club.keys key new);
-  olders_once = stored.olders_once;
-  once = stored.once;
-}
+key_stored club rows stored sound key new fits =
+    keys_stored club rows stored (λ ks. ks ++ key ∷ []) rows.olders (λ name. each name club.bookings (all_of _ club.bookings sound.references.bookings))
+    (λ name. stored.olders name ∙ sym (older_pushed name club.keys key new)) stored.olders_once
   where
     apart : AllByRecursion (λ (k : Key). k.name ≢ key.name) club.keys
     apart = let R : Key → Key → Type 0 = λ a b. a.name ≢ b.name in apart_last R club.keys key (apart_from_pairs R (club.keys ++ key ∷ []) fits.unique.keys)
@@ -179,30 +186,18 @@ owned_mapped names owns f named owned (k ∷ keys) =
     ≡ list_any names (cond b (k ∷ filter owns keys) (filter owns keys)))
     [ true ↦ let e = named k in cc | false ↦ more ])
 
+owned_still : (club : Club) (f : Key → Key) → ((key : Key) → (f key).name ≡ key.name) → ((key : Key) → (f key).member ≡ key.member) → (owner : List ℕ)
+    → AllByRecursion (λ (b : Booking). list_any (λ (k : Key). bytes_eq k.name b.key) (filter (λ (k : Key). bytes_eq k.member owner) (map f club.keys))
+    ≡ is_key_of owner club b.key) club.bookings
+owned_still club f named kept owner = each_of _ (λ (b : Booking).
+    owned_mapped (λ (k : Key). bytes_eq k.name b.key) (λ (k : Key). bytes_eq k.member owner) f (λ k. ap (λ n. bytes_eq n b.key) (named k))
+    (λ k. ap (λ n. bytes_eq n owner) (kept k)) club.keys) club.bookings
+
 pub revoke_stored : (club : Club) (rows : Rows) → IsStoredAs club rows → (name : List ℕ)
     → IsStoredAs (after (MarkRevoked name) club) (record rows { keys = map (revoked_key name) rows.keys })
-revoke_stored club rows stored name = record {
-  members = stored.members ∙ map_agree (member_row club) (member_row (after (MarkRevoked name) club)) (λ (m : Member).
-      ap (λ n. let row : MemberRow = record { member = m; used = n } in row)
-      (sym (used_same club (map (revoked_key name) club.keys) m.name (each m.name club.bookings)))) club.members;
-  facilities = stored.facilities;
-  keys = ap (map (revoked_key name)) stored.keys;
-  bookings = stored.bookings;
-  slots = stored.slots;
-  olders = λ n. stored.olders n ∙ sym (older_mapped (revoked_key name) (λ k. refl) (λ k. refl) n club.keys);
-  olders_once = stored.olders_once;
-  once = stored.once;
-}
-  where
-    each : (owner : List ℕ) (bookings : List Booking) → AllByRecursion (λ (b : Booking).
-        list_any (λ (k : Key). bytes_eq k.name b.key) (filter (λ (k : Key). bytes_eq k.member owner) (map (revoked_key name) club.keys))
-        ≡ is_key_of owner club b.key) bookings
-    each owner [] = tt
-    each owner (b ∷ bookings) = (
-      owned_mapped (λ (k : Key). bytes_eq k.name b.key) (λ (k : Key). bytes_eq k.member owner) (revoked_key name) (λ k. refl) (λ k.
-          refl) club.keys,
-      each owner bookings,
-    )
+revoke_stored club rows stored name =
+    keys_stored club rows stored (map (revoked_key name)) rows.olders (owned_still club (revoked_key name) (λ k. refl) (λ k. refl))
+    (λ n. stored.olders n ∙ sym (older_mapped (revoked_key name) (λ k. refl) (λ k. refl) n club.keys)) stored.olders_once
 
 -- the older roots after a rotation
 older_rotated : (name root : List ℕ) (until : ℕ) (n : List ℕ) (keys : List Key)
@@ -248,33 +243,15 @@ pub rotate_stored : (club : Club) (rows : Rows) → IsStoredAs club rows → (na
       olders =
           put_older name (good_until until was) rows.olders;
     })
-rotate_stored club rows stored name root was until has = record {
-  members = stored.members ∙ map_agree (member_row club) (member_row (after (ReplaceRoot name was root until) club)) (λ (m : Member).
-      ap (λ n. let row : MemberRow = record { member = m; used = n } in row)
-      (sym (used_same club (map (rotated_key name root until) club.keys) m.name (each m.name club.bookings)))) club.members;
-  facilities = stored.facilities;
-  keys = ap (map (rotated_key name root until)) stored.keys;
-  bookings = stored.bookings;
-  slots = stored.slots;
-  once = stored.once;
-  olders = λ n.
-      older_put name (good_until until was) n rows.olders
-      ∙ ap (λ o. let returned : Option OlderRoot = if bytes_eq name n then Some (good_until until was) else o in
-      returned) (stored.olders n)
-      ∙ sym (named_so name was n until (key_named n club) (found_named n) (of_name n)) ∙ sym (older_rotated name root until n club.keys);
-  olders_once = olders_once name (good_until until was) rows.olders stored.olders_once;
-}
+rotate_stored club rows stored name root was until has =
+    keys_stored club rows stored (map (rotated_key name root until)) (put_older name (good_until until was) rows.olders)
+    (owned_still club (rotated_key name root until) (λ k. refl) (λ k. refl)) (λ n.
+    older_put name (good_until until was) n rows.olders
+    ∙ ap (λ o. let returned : Option OlderRoot = if bytes_eq name n then Some (good_until until was) else o in
+    returned) (stored.olders n)
+    ∙ sym (named_so name was n until (key_named n club) (found_named n) (of_name n)) ∙ sym (older_rotated name root until n club.keys))
+    (olders_once name (good_until until was) rows.olders stored.olders_once)
   where
-    each : (owner : List ℕ) (bookings : List Booking) → AllByRecursion (λ (b : Booking).
-        list_any (λ (k : Key). bytes_eq k.name b.key) (filter (λ (k : Key). bytes_eq k.member owner) (map (rotated_key name root until) club.keys))
-        ≡ is_key_of owner club b.key) bookings
-    each owner [] = tt
-    each owner (b ∷ bookings) = (
-      owned_mapped (λ (k : Key). bytes_eq k.name b.key) (λ (k : Key). bytes_eq k.member owner) (rotated_key name root until) (λ k.
-          refl) (λ k. refl) club.keys,
-      each owner bookings,
-    )
-
     found_named : (n : List ℕ) → IfSome (key_named n club) (λ (k : Key). bytes_eq k.name n ≡ true)
     found_named n = go (key_named n club) refl
       where
@@ -311,15 +288,17 @@ close_stored club rows stored slot = record {
 
 -- ---- bookings
 
-abbrev pub book_rows : Rows → List ℕ → Booking → Rows
-book_rows rows member booking = record {
-  members = map (used_row member (λ n. n + cost_of booking)) rows.members;
-  facilities = rows.facilities;
-  keys = rows.keys;
-  slots = put_slot booking.slot (take_use (λ n. n + persons_taken booking)) rows.slots;
-  bookings = rows.bookings ++ booking ∷ [];
-  olders = rows.olders;
+-- the bookings are others, and with them what those of one member have cost, and the persons of one slot
+abbrev pub totals_rows : Rows → (List Booking → List Booking) → List ℕ → (ℕ → ℕ) → Slot → (ℕ → ℕ) → Rows
+totals_rows rows change member used slot taken = record rows {
+  members = map (used_row member used) rows.members;
+  bookings = change rows.bookings;
+  slots = put_slot slot (take_use taken) rows.slots;
 }
+
+abbrev pub book_rows : Rows → List ℕ → Booking → Rows
+book_rows rows member booking =
+    totals_rows rows (λ bs. bs ++ booking ∷ []) member (λ n. n + cost_of booking) booking.slot (λ n. n + persons_taken booking)
 
 used_more : (club : Club) → IsSound club → (member : List ℕ) (booking : Booking) → IsOwnedBy member booking.key club → (m : Member)
     → used_row member (λ n. n + cost_of booking) (member_row club m) ≡ member_row (after (InsertBooking booking member) club) m
@@ -358,27 +337,32 @@ taken_more club booking s = go booking.cancelled (same_slot booking.slot s) refl
     go false false is same more = let none : cond (is_in s booking) (persons_of booking) 0 ≡ 0 = counts false false is same in omega (arith, more, none)
 
 -- the use of a slot whose persons are recounted
-pub recounted_use : (club : Club) (s : Slot) (next : ℕ → ℕ) (b : Bool) (taken : ℕ)
+recounted_use : (club : Club) (s : Slot) (next : ℕ → ℕ) (b : Bool) (taken : ℕ)
     → taken ≡ (if b then next (taken_in s club.bookings) else taken_in s club.bookings)
     → (if b then take_use next (slot_use club s) else slot_use club s) ≡ record { taken = taken; closed = is_closed s club }
 recounted_use club s next true taken is = ap (λ n. let u : SlotUse = record { taken = n; closed = is_closed s club } in u) (sym is)
 recounted_use club s next false taken is = ap (λ n. let u : SlotUse = record { taken = n; closed = is_closed s club } in u) (sym is)
 
-pub booking_stored : (club : Club) (rows : Rows) → IsStoredAs club rows → IsSound club → (member : List ℕ) (booking : Booking)
-    → IsOwnedBy member booking.key club → IsStoredAs (after (InsertBooking booking member) club) (book_rows rows member booking)
-booking_stored club rows stored sound member booking owned = record {
-  members = ap (map (used_row member (λ n. n + cost_of booking))) stored.members
-      ∙ map_map (used_row member (λ n. n + cost_of booking)) (member_row club) club.members
-      ∙ map_agree _ (member_row (after (InsertBooking booking member) club)) (used_more club sound member booking owned) club.members;
+pub bookings_stored : (club : Club) (rows : Rows) → IsStoredAs club rows → (change : List Booking → List Booking) (member : List ℕ) (used : ℕ → ℕ)
+    (slot : Slot) (taken : ℕ → ℕ) → ((m : Member) → used_row member used (member_row club m) ≡ member_row (record club { bookings = change club.bookings }) m)
+    → ((s : Slot) → taken_in s (change club.bookings) ≡ (if same_slot slot s then taken (taken_in s club.bookings) else taken_in s club.bookings))
+    → IsStoredAs (record club { bookings = change club.bookings }) (totals_rows rows change member used slot taken)
+bookings_stored club rows stored change member used slot taken costs persons = record {
+  members = ap (map (used_row member used)) stored.members ∙ map_map (used_row member used) (member_row club) club.members
+      ∙ map_agree _ (member_row (record club { bookings = change club.bookings })) costs club.members;
   facilities = stored.facilities;
   keys = stored.keys;
-  bookings = ap (λ bs. bs ++ booking ∷ []) stored.bookings;
+  bookings = ap change stored.bookings;
   slots = λ s.
-      let next : ℕ → ℕ = λ n. n + persons_taken booking in
-      use_put booking.slot (take_use next) s rows.slots ∙ ap (λ u. let v : SlotUse = if same_slot booking.slot s then take_use next u else u in
-      v) (stored.slots s)
-      ∙ recounted_use club s next (same_slot booking.slot s) (taken_in s (club.bookings ++ booking ∷ [])) (taken_more club booking s);
+      use_put slot (take_use taken) s rows.slots ∙ ap (λ u. let v : SlotUse = if same_slot slot s then take_use taken u else u in v) (stored.slots s)
+      ∙ recounted_use club s taken (same_slot slot s) (taken_in s (change club.bookings)) (persons s);
   olders = stored.olders;
   olders_once = stored.olders_once;
-  once = put_once booking.slot (take_use (λ n. n + persons_taken booking)) rows.slots stored.once;
+  once = put_once slot (take_use taken) rows.slots stored.once;
 }
+
+pub booking_stored : (club : Club) (rows : Rows) → IsStoredAs club rows → IsSound club → (member : List ℕ) (booking : Booking)
+    → IsOwnedBy member booking.key club → IsStoredAs (after (InsertBooking booking member) club) (book_rows rows member booking)
+booking_stored club rows stored sound member booking owned =
+    bookings_stored club rows stored (λ bs. bs ++ booking ∷ []) member (λ n. n + cost_of booking) booking.slot (λ n. n + persons_taken booking)
+    (used_more club sound member booking owned) (taken_more club booking)
