@@ -17,44 +17,30 @@ use Rattle.club_tables.specs.Schema.{old_roots_table, keys_by_member, first_sche
 use Rattle.club_tables.specs.declared.texts.TheConstants.{MAKE_DESK, MAKE_MEMBERS, MAKE_FACILITIES, MAKE_KEYS, MAKE_SLOTS, MAKE_BOOKINGS, MAKE_KEYS_BY_MEMBER}
 use Rattle.club_tables.specs.declared.texts.TheConstants.{MAKE_OLD_ROOTS, MAKE_BOOKINGS_BY_KEY, DROP_BOOKINGS_BY_KEY}
 
-pub makes_desk : Makes no_schema MAKE_DESK.now desk_table
+-- each text makes a table over those before it
+abbrev pub MakesEach : Schema → List (List ℕ × Table) → Type 0
+MakesEach schema [] = Unit {0}
+MakesEach schema (one ∷ more) = Makes schema one.0 one.1 × MakesEach (created schema one.1) more
+
+pub makes_six : MakesEach no_schema ((MAKE_DESK.now, desk_table) ∷ (MAKE_MEMBERS.now, members_table) ∷ (MAKE_FACILITIES.now, facilities_table)
+    ∷ (MAKE_KEYS.now, keys_table) ∷ (MAKE_SLOTS.now, slots_table) ∷ (MAKE_BOOKINGS.now, bookings_table) ∷ [])
 unfolding understood everything
-makes_desk = record { plain = (refl, refl); is = refl; whole = refl; defined = refl; uncounted = refl }
-
-abbrev pub schema_1 : Schema
-schema_1 = created no_schema desk_table
-
-pub makes_members : Makes schema_1 MAKE_MEMBERS.now members_table
-unfolding understood everything
-makes_members = record { plain = (refl, refl); is = refl; whole = refl; defined = refl; uncounted = refl }
-
-abbrev pub schema_2 : Schema
-schema_2 = created schema_1 members_table
-
-pub makes_facilities : Makes schema_2 MAKE_FACILITIES.now facilities_table
-unfolding understood everything
-makes_facilities = record { plain = (refl, refl); is = refl; whole = refl; defined = refl; uncounted = refl }
-
-abbrev pub schema_3 : Schema
-schema_3 = created schema_2 facilities_table
-
-pub makes_keys : Makes schema_3 MAKE_KEYS.now keys_table
-unfolding understood everything
-makes_keys = record { plain = (refl, refl); is = refl; whole = refl; defined = refl; uncounted = refl }
-
-abbrev pub schema_4 : Schema
-schema_4 = created schema_3 keys_table
-
-pub makes_slots : Makes schema_4 MAKE_SLOTS.now slots_table
-unfolding understood everything
-makes_slots = record { plain = (refl, refl); is = refl; whole = refl; defined = refl; uncounted = refl }
-
-abbrev pub schema_5 : Schema
-schema_5 = created schema_4 slots_table
-
-pub makes_bookings : Makes schema_5 MAKE_BOOKINGS.now bookings_table
-unfolding understood everything
-makes_bookings = record { plain = (refl, refl); is = refl; whole = refl; defined = refl; uncounted = refl }
+makes_six = (
+  record { plain = (refl, refl); is = refl; whole = refl; defined = refl; uncounted = refl },
+  (
+    record { plain = (refl, refl); is = refl; whole = refl; defined = refl; uncounted = refl },
+    (
+      record { plain = (refl, refl); is = refl; whole = refl; defined = refl; uncounted = refl },
+      (
+        record { plain = (refl, refl); is = refl; whole = refl; defined = refl; uncounted = refl },
+        (
+          record { plain = (refl, refl); is = refl; whole = refl; defined = refl; uncounted = refl },
+          (record { plain = (refl, refl); is = refl; whole = refl; defined = refl; uncounted = refl }, tt),
+        ),
+      ),
+    ),
+  ),
+)
 
 abbrev pub keys_made : Table
 keys_made = record keys_table { tree = 5 }

@@ -24,8 +24,7 @@ use Rattle.club_tables.specs.Transaction.{Ran, transaction_start}
 use Rattle.club_tables.proofs.opening.DeskLemmas.{desk_made}
 use Rattle.club_tables.proofs.statements.InsertLemmas.{creates, indexes, inserts, cast_null, cast_int}
 use Rattle.club_tables.proofs.lists.RowLemmas.{holds_more, holds_none}
-use Rattle.club_tables.proofs.opening.MakesLemmas.{makes_desk, makes_members, makes_facilities, makes_keys}
-use Rattle.club_tables.proofs.opening.MakesLemmas.{makes_slots, makes_bookings, makes_keys_by_member, makes_old_roots, makes_bookings_by_key}
+use Rattle.club_tables.proofs.opening.MakesLemmas.{makes_six, makes_keys_by_member, makes_old_roots, makes_bookings_by_key}
 
 abbrev version_terms : List Term
 version_terms = lit Null ∷ lit (Int (pos 2)) ∷ []
@@ -92,12 +91,12 @@ module _ {S : Type 0} (g : Ghosts S) (old : Held S) (db : Database) (ran : Ran g
       let t8 = t7.3 in
       let t9 = t8.3 in
       let t10 = t9.3 in
-      let c1 = creates makes_desk (state g (transaction_start old)) (state g t1.0) has t1.1 t1.2 in
-      let c2 = creates makes_members (state g t1.0) (state g t2.0) c1.1 t2.1 t2.2 in
-      let c3 = creates makes_facilities (state g t2.0) (state g t3.0) c2.1 t3.1 t3.2 in
-      let c4 = creates makes_keys (state g t3.0) (state g t4.0) c3.1 t4.1 t4.2 in
-      let c5 = creates makes_slots (state g t4.0) (state g t5.0) c4.1 t5.1 t5.2 in
-      let c6 = creates makes_bookings (state g t5.0) (state g t6.0) c5.1 t6.1 t6.2 in
+      let c1 = creates makes_six.0 (state g (transaction_start old)) (state g t1.0) has t1.1 t1.2 in
+      let c2 = creates makes_six.1.0 (state g t1.0) (state g t2.0) c1.1 t2.1 t2.2 in
+      let c3 = creates makes_six.1.1.0 (state g t2.0) (state g t3.0) c2.1 t3.1 t3.2 in
+      let c4 = creates makes_six.1.1.1.0 (state g t3.0) (state g t4.0) c3.1 t4.1 t4.2 in
+      let c5 = creates makes_six.1.1.1.1.0 (state g t4.0) (state g t5.0) c4.1 t5.1 t5.2 in
+      let c6 = creates makes_six.1.1.1.1.1.0 (state g t5.0) (state g t6.0) c5.1 t6.1 t6.2 in
       let c7 = indexes makes_keys_by_member (state g t6.0) (state g t7.0) c6.1 t7.1 t7.2 in
       let c8 = creates makes_old_roots (state g t7.0) (state g t8.0) c7.0 t8.1 t8.2 in
       let c9 = indexes makes_bookings_by_key (state g t8.0) (state g t9.0) c8.1 t9.1 t9.2 in
