@@ -59,7 +59,7 @@ class Contracts:
             above = before[-1] if before else above
             texts = self.texts(citation.crate, name, above, citation.labels)
             if texts is None:
-                self.unknown.append(f"no contract {name}")
+                self.unknown.append(": ".join([f"no contract {name}", *citation.labels]))
             for file, start, label, text in texts or []:
                 cited, unknown = file.cited_by(start, text)
                 self.unknown += [f"{name}: {label}: {it}" for it in unknown]

@@ -16,7 +16,7 @@ BY_HAND = "#!/bin/sh\n"
 PLANTS = {
     "beside": ("tests/beside_go/desk.go", '"left":', '"lost":', "booking: the replies differ", "10", "1", "100"),
     "bookings_survive_kill": ("clubdesk", BY_HAND, '[ "$1" != sheet ] || rm -f "$2-wal"; exec "$PROGRAM" "$@"', "'sheet "),
-    "audit": ("docs/AUDIT.md", "| 1. Depends only on |", "| 1. Depends on |", "isn't current"),
+    "audit": ("docs/PROMISES.md", "`opens`", "`openz`", "no contract Tables::open: openz"),
     "builds_side_by_side": ("bin/proved", '[ ! -e "$out/build.started" ] || return 0', ":", "not ok 8 a build that is killed"),
     "client_survives": ("examples/client.py", "        self.file.flush()\n        os.fsync(self.file.fileno())\n", "",
                         "test_servers_and_clients_that_are_killed"),
@@ -24,7 +24,7 @@ PLANTS = {
     "club_stays_whole": ("tests/club_stays_whole.py", "VALUES ('amy', 0, 5, 0)", "VALUES ('amy', 0, 4, 0)", "assert found in wanted"),
     "completions_hold": ("bin/completions", 'compgen -W "$values"', 'compgen -W ""', "test_completions[clubdesk-Bash]"),
     "demo_tells": ("bin/demo", 'kill "$server" 2>/dev/null', "true", "not ok 6 a signal"),
-    "docs_hold-quick": ("docs/PROMISES.md", "`opens`", "`openz`", "no clause openz"),
+    "docs_hold-quick": ("docs/TOUR.md", "`row_refusal`", "`row_refusel`", "row_refusel"),
     "field_outlives_bytes": ("tests/field_outlives_bytes.bats", "'drop(bytes);'", "''", "not ok 1 a field of V1"),
     "hostile-quick": ("clubdesk", "quota reached", "quota reachex", "quota reachex"),
     "jobs_hold": ("deploy/old_copies", "now - its_day < 14", "now - its_day < 13", "too few"),
