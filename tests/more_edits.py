@@ -157,11 +157,12 @@ def open_goal(lines, gone):
 
 
 def lines_of(crate, path, function, lines):
-    """The lines of a check that are of this function."""
+    """The lines of a check that are of this function. A method may stand in another file than its type, by whose module rt knows it."""
     words, first, last = function
-    proofs, name = "/".join(["proofs", *words, ""]), "::".join([crate.name, *words])
-    own = {line for line, where, number, _, _ in faults_in(lines) if where.startswith(proofs) or where == path and first <= number <= last}
-    return [line for line in lines if line in own or line.startswith(f"fn {name}:")]
+    before, own = (r"(\w+/)*", words[-2:]) if words[-2:][0][0].isupper() else ("", words)
+    proofs, head = re.compile(f"proofs/{before}{'/'.join(own)}/"), re.compile(f"fn {crate.name}::{before.replace('/', '::')}{'::'.join(own)}:")
+    found = {line for line, where, number, _, _ in faults_in(lines) if proofs.match(where) or where == path and first <= number <= last}
+    return [line for line in lines if line in found or head.match(line)]
 
 
 class Trial:
