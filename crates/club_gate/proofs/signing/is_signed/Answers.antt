@@ -9,7 +9,7 @@ pub returns-then-is_signed_by : goal.returns-then-is_signed_by
 returns-then-is_signed_by g c = λ pass named left.
     let key = c.args.key.now in
     let current = signed_by pass _ _ named (c.again-fields.ensures ∙ left) key.root _ _ c.is_signed_by.result
-        c.derived-current.ensures c.from_key.ensures c.is_signed_by.ensures in
+    c.derived-current.ensures c.from_key.ensures c.is_signed_by.ensures in
     let later = option_map_or (λ root. is_signed root pass) (older_root_at key.older c.args.moment) false in
     ap (λ (b : Bool). b || later) (sym c.if-is_signed_by.true)
     ∙ signed_under pass key c.args.moment c.is_signed_by.result later _ current refl refl
@@ -18,7 +18,7 @@ pub returns-in_default : goal.returns-in_default
 returns-in_default g c = λ pass named left.
     let key = c.args.key.now in
     let current = signed_by pass _ _ named (c.again-fields.ensures ∙ left) key.root _ _ c.is_signed_by.result
-        c.derived-current.ensures c.from_key.ensures c.is_signed_by.ensures in
+    c.derived-current.ensures c.from_key.ensures c.is_signed_by.ensures in
     let none : None ≡ older_root_at key.older c.args.moment = ap option_copied (sym c.in_default.is) ∙ c.older_root_at.ensures in
     ap (λ (b : Bool). b || false) (sym c.if-is_signed_by.false)
     ∙ signed_under pass key c.args.moment c.is_signed_by.result false None current none refl
@@ -27,9 +27,9 @@ pub returns : goal.returns
 returns g c = λ pass named left.
     let key = c.args.key.now in
     let current = signed_by pass _ _ named (c.again-fields.ensures ∙ left) key.root _ _ c.is_signed_by.result
-        c.derived-current.ensures c.from_key.ensures c.is_signed_by.ensures in
+    c.derived-current.ensures c.from_key.ensures c.is_signed_by.ensures in
     let older = signed_by pass _ _ named (c.again-once_more.ensures ∙ left) c.in-Some.root.now _ _ c.is_signed_by-2.result
-        c.derived_before-older.ensures c.from_key-2.ensures c.is_signed_by-2.ensures in
+    c.derived_before-older.ensures c.from_key-2.ensures c.is_signed_by-2.ensures in
     let some : Some c.in-Some.root.now ≡ older_root_at key.older c.args.moment = ap option_copied (sym c.in-Some.is) ∙ c.older_root_at.ensures in
     ap (λ (b : Bool). b || c.is_signed_by-2.result) (sym c.if-is_signed_by.false)
     ∙ signed_under pass key c.args.moment c.is_signed_by.result c.is_signed_by-2.result (Some c.in-Some.root.now) current some older
