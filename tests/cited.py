@@ -54,6 +54,8 @@ class Contracts:
     def below(self, citation):
         """Each cited clause and definition, with what is below it; and below what types have for a ghost that is there."""
         above = None
+        if citation.labels and not citation.names:
+            self.unknown.append(f"no function of {' '.join(citation.labels)}")
         for name in citation.names:
             *before, _ = name.split("::")
             above = before[-1] if before else above
