@@ -290,6 +290,7 @@ class Audit:
         for it in sorted((it for it in self.every.values() if it.kind == "ghost"), key=lambda it: (it.path, it.line)):
             stands = []
             for of, file, value, below in self.book.standing_for(it):
+                below = [it for it in below if it.kind in OF_SPECS]
                 counts = f" ({len(below)}, {sum(it.is_computed for it in below)} computing)" if below else ""
                 stands.append(f"of `{of}` in `{file.path.relative_to(ROOT)}`: `{' '.join(value.split())}`{counts}")
             yield f"| `{it.name}`, `{it.file}` line {it.line} | {self.numbers(it)} | {'; '.join(stands)} |"

@@ -76,8 +76,15 @@ class Contracts:
             yield name, self.with_ghosts(found)
 
     def with_ghosts(self, cited):
-        found = closure(cited)
-        return found + [it for ghost in found if ghost.kind == "ghost" for *_, below in self.book.standing_for(ghost) for it in below]
+        found = {id(it): it for it in closure(cited)}
+        left = list(found.values())
+        while left:
+            it = left.pop()
+            if it.kind == "ghost":
+                new = {id(other): other for *_, below in self.book.standing_for(it) for other in below if id(other) not in found}
+                found |= new
+                left += new.values()
+        return found.values()
 
     def files(self, crate):
         return [file for key, file in self.book.code.items() if key.startswith(f"{crate}/")]

@@ -630,7 +630,7 @@ class Book:
         return it
 
     def standing_for(self, ghost):
-        """What types of ours have for a ghost: the type, its file, the value, and the definitions below that."""
+        """What types of ours have for a ghost: the type, its file, the value, and what is below that."""
         trait, name = ghost.name.split(".")
         for key, file in self.code.items():
             if key.split("/")[0].endswith("_tests") or key.split("/")[0] in ("test_kit", "club_bench"):
@@ -639,8 +639,7 @@ class Book:
                 block = file.text[found.start():file.block_end(found.start())]
                 value = re.search(rf"\bghost {name} = \{{\s*(.*?)\s*\}};", block, re.DOTALL)
                 if value:
-                    below = closure(file.cited_by(found.start() + value.start(), value[1])[0])
-                    yield found[1], file, value[1], [it for it in below if it.kind in OF_SPECS]
+                    yield found[1], file, value[1], closure(file.cited_by(found.start() + value.start(), value[1])[0])
 
     def resolve_type(self, file, it):
         """The types of a type's fields, or the value by which contracts see it."""
