@@ -36,14 +36,18 @@ one_piece p q r s same piece other = elim (cases_order (length p) (length q)) [
   | inr (inr more) ↦ absurd (not_shorter q p s r (sym same) other piece more)
 ]
 
+-- what begins with a piece has one
+pub no_piece : (bytes piece rest : List ℕ) → IsPiece piece → bytes ≡ piece ++ rest → ¬ (HasNoPiece bytes)
+no_piece bytes piece rest cut parts none =
+    let within : length piece ≤ length bytes = rw parts (simp length-append (omega arith)) in
+    let front : take (length piece) bytes ≡ piece = rw parts (take-append_seam piece rest) in
+    let no : ends_with nat_eq piece empty_line ≡ false = rw front at (none (length piece) within cut.short) in
+    let yes = cut.ends in
+    cc
+
 -- no frame where no piece is
 pub no_frame : (bytes : List ℕ) → HasNoPiece bytes → (head : RequestHead) (body : List ℕ) → ¬ (IsFramed bytes head body)
-no_frame bytes none head body frame =
-    let within : length frame.piece ≤ length bytes = rw frame.parts (simp length-append (omega arith)) in
-    let front : take (length frame.piece) bytes ≡ frame.piece = rw frame.parts (take-append_seam frame.piece (body ++ frame.after)) in
-    let no : ends_with nat_eq frame.piece empty_line ≡ false = rw front at (none (length frame.piece) within frame.cut.short) in
-    let yes = frame.cut.ends in
-    cc
+no_frame bytes none head body frame = no_piece bytes frame.piece (body ++ frame.after) frame.cut frame.parts none
 
 -- nor where the piece is refused
 pub refused_frame : (bytes : List ℕ) → IsRefusedHead bytes → (head : RequestHead) (body : List ℕ) → ¬ (IsFramed bytes head body)
@@ -60,15 +64,11 @@ same_asked piece head other n m asks again =
     (same, cc)
 
 -- nor where the body is cut
-pub short_frame : (bytes : List ℕ) (fields : List HeaderSpan) (found : Head) → IsHeadAt bytes fields found
-    → length (drop found.len bytes) < found.body_len
-    → (head : RequestHead) (body : List ℕ) → ¬ (IsFramed bytes head body)
-short_frame bytes fields found at short head body frame =
-    let piece = take found.len bytes in
-    let rest = drop found.len bytes in
-    let parts : piece ++ rest ≡ bytes = take-append-drop found.len bytes in
-    let same = one_piece frame.piece piece (body ++ frame.after) rest (sym frame.parts ∙ sym parts) frame.cut at.cut in
-    let requests = same_asked piece at.head head found.body_len (length body) at.asks (rw same.0 at frame.asks) in
+pub cut_frame : (bytes piece rest : List ℕ) (head : RequestHead) (n : ℕ) → IsPiece piece → bytes ≡ piece ++ rest → AsksForBody piece head n → length rest < n
+    → (other : RequestHead) (body : List ℕ) → ¬ (IsFramed bytes other body)
+cut_frame bytes piece rest head n cut parts asks short other body frame =
+    let same = one_piece frame.piece piece (body ++ frame.after) rest (sym frame.parts ∙ parts) frame.cut cut in
+    let requests = same_asked piece head other n (length body) asks (rw same.0 at frame.asks) in
     let long : length body ≤ length rest = rw (← same.1) (simp length-append (omega arith)) in
     omega (arith, requests.1)
 

@@ -1,45 +1,36 @@
 -- No body has more than 256 bytes.
 use Rattle.std.proofs.Common.{◌≡◌, ℕ, ◌-◌, ◌<◌, ◌≤◌, ◌||◌, refl, Bool, true, false, cond, eqb, leb, List, [], ◌∷◌, length, Option, Some, None}
-use Rattle.std.proofs.Common.{arith, rules, tests, codes, take}
+use Rattle.std.proofs.Common.{arith, codes, take}
+use Rattle.std.proofs.lemmas.Bool.Decides.{nat_tests}
 use Rattle.std.proofs.lemmas.List.{length-take-le}
+use Rattle.std.proofs.lemmas.Option.{cond_some}
 use Rattle.std.specs.Prelude.{option_and_then}
 use Rattle.std.specs.Str.{bytes_eq}
 use Rattle.httparse.specs.declared.spans.HeaderSpan.{HeaderSpan}
 use Rattle.club_values.specs.Number.{number_of_digits}
 use Rattle.http_request.specs.declared.front.Head.{Head}
 use Rattle.http_request.specs.Fields.{values_of}
-use Rattle.http_request.specs.Length.{body_length, length_in, declared_length, where_allowed, unless_coded, asked_length}
+use Rattle.http_request.specs.Length.{body_length, declared_length, where_allowed, unless_coded, asked_length}
 use Rattle.http_request.specs.Frame.{header_fields}
 use Rattle.http_request.specs.Front.{IsHeadAt}
 
-some_of : (test : Bool) (a n : ℕ) → cond test (Some a) None ≡ Some n → (test ≡ true) × (a ≡ n)
-some_of true a n e = (refl, cc)
-some_of false a n e = absurd cc
+few_body : (m n : ℕ) → body_length m ≡ Some n → n ≤ 256
+few_body m n e = grind (arith, nat_tests)
 
-few_of : (found : Option ℕ) (n : ℕ) → option_and_then body_length found ≡ Some n → n ≤ 256
-few_of None n e = absurd cc
-few_of (Some m) n e =
-    let is = some_of (leb m 256) m n e in
-    let small : leb m 256 ≡ true = is.0 in
-    let le : m ≤ 256 = search (rules, tests) in
-    omega (arith, is.1)
-
-few_in : (short : Bool) (found : Option ℕ) (n : ℕ) → cond short (option_and_then body_length found) None ≡ Some n → n ≤ 256
-few_in true found n e = few_of found n e
-few_in false found n e = absurd cc
-
-few_digits : (value : List ℕ) (n : ℕ) → length_in value ≡ Some n → n ≤ 256
-few_digits value n e = few_in (leb (length value) 4) (number_of_digits value) n e
+few_digits : (short : Bool) (found : Option ℕ) (n : ℕ) → cond short (option_and_then body_length found) None ≡ Some n → n ≤ 256
+few_digits true (Some m) n e = few_body m n e
+few_digits true None n e = absurd cc
+few_digits false found n e = absurd cc
 
 few_declared : (values : List (List ℕ)) (n : ℕ) → declared_length values ≡ Some n → n ≤ 256
 few_declared [] n e = let zero : 0 ≡ n = cc in omega arith
-few_declared (value ∷ []) n e = few_digits value n e
+few_declared (value ∷ []) n e = few_digits (leb (length value) 4) (number_of_digits value) n e
 few_declared (value ∷ other ∷ more) n e = absurd cc
 
 few_allowed : (method : List ℕ) (found_len : Option ℕ) (n : ℕ) → ((m : ℕ) → found_len ≡ Some m → m ≤ 256) → where_allowed method found_len ≡ Some n → n ≤ 256
 few_allowed method None n few e = absurd cc
 few_allowed method (Some m) n few e =
-    let is = some_of (eqb m 0 || bytes_eq method (codes "PUT")) m n e in
+    let is = cond_some (eqb m 0 || bytes_eq method (codes "PUT")) m n e in
     omega (arith, is.1, few m refl)
 
 few_asked : (codings : List (List ℕ)) (found_len : Option ℕ) (n : ℕ) → ((m : ℕ) → found_len ≡ Some m → m ≤ 256) → unless_coded codings found_len ≡ Some n

@@ -3,8 +3,10 @@ use Rattle.std.proofs.Common.{◌≡◌, ℕ, ◌≤◌, ◌==◌, Bool, true, f
 use Rattle.std.specs.Prelude.{◌&&◌, nat_le, option_map}
 use Rattle.std.specs.Fmt.{decimal}
 use Rattle.std.specs.Str.{bytes_eq}
+use Rattle.std.proofs.lemmas.Bool.{cond-true, eqb-true}
 use Rattle.std.proofs.lemmas.Bool.Decides.{nat_tests}
-use Rattle.std.proofs.lemmas.Option.{same_Some}
+use Rattle.std.proofs.lemmas.Option.{cond_some, same_Some}
+use Rattle.std.proofs.lemmas.Slice.Eq.{bytes_eq-Decides}
 use Rattle.club_values.specs.declared.slot.Slot.{Slot}
 use Rattle.club_values.specs.Day.{IsDay, day_text}
 use Rattle.club_values.specs.Digits.{two_digits}
@@ -21,25 +23,33 @@ use Rattle.http_request.specs.Path.{HasRealValues, IsPlace, IsPlaceOf, place_par
 use Rattle.http_request.specs.computed.Parts.{number_of_text, slot_of_parts, within_limits, ◌>>=◌}
 use Rattle.http_request.specs.computed.Path.{account_at, at_slot, place_of, under_root, under_slots}
 use Rattle.http_request.specs.Laws.{ReadsPlaces}
-use Rattle.http_request.proofs.RouteLemmas.{bound, same}
+
+-- what was found, of a test or of steps
+pub bound : {A B : Type 0} (found : Option A) (then : A → Option B) (b : B) → (found >>= then) ≡ Some b → (a : A) × (found ≡ Some a) × (then a ≡ Some b)
+bound None then b e = cc
+bound (Some a) then b e = (a, refl, e)
+
+chosen : {A : Type 0} (test : Bool) (found : Option A) (a : A) → cond test found None ≡ Some a → (test ≡ true) × (found ≡ Some a)
+chosen true found a e = (refl, e)
+chosen false found a e = cc
+
+mapped : {A B : Type 0} (f : A → B) (found : Option A) (b : B) → option_map f found ≡ Some b → (a : A) × (found ≡ Some a) × (f a ≡ b)
+mapped f None b e = cc
+mapped f (Some a) b e = (a, refl, same_Some (f a) b e)
+
+-- a test that finds two texts equal
+same : (text other : List ℕ) → bytes_eq text other ≡ true → text ≡ other
+same text other e = (bytes_eq-Decides text other).0 e
 
 within : (n : ℕ) → IsBookingNumber n → within_limits n ≡ Some n
-within n h = go (nat_le 1 n && nat_le n booking_number_limit) (grind (arith, nat_tests, h.0, h.1))
-  where
-    go : (b : Bool) → b ≡ true → cond b (Some n) None ≡ Some n
-    go true e = refl
-    go false e = cc
+within n h = cond-true (nat_le 1 n && nat_le n booking_number_limit) (Some n) None (grind (arith, nat_tests, h.0, h.1))
 
 within_from : (m n : ℕ) → within_limits m ≡ Some n → (m ≡ n) × IsBookingNumber n
-within_from m n e = go (nat_le 1 m && nat_le m booking_number_limit) refl e
-  where
-    go : (b : Bool) → (nat_le 1 m && nat_le m booking_number_limit) ≡ b → cond b (Some m) None ≡ Some n → (m ≡ n) × IsBookingNumber n
-    go true is e =
-        let at : m ≡ n = same_Some m n e in
-        let low : 1 ≤ m = grind (arith, nat_tests) in
-        let high : m ≤ booking_number_limit = grind (arith, nat_tests) in
-        (at, subst IsBookingNumber at (low, high))
-    go false is e = cc
+within_from m n e =
+    let both = cond_some (nat_le 1 m && nat_le m booking_number_limit) m n e in
+    let low : 1 ≤ m = grind (arith, nat_tests, both.0) in
+    let high : m ≤ booking_number_limit = grind (arith, nat_tests, both.0) in
+    (both.1, subst IsBookingNumber both.1 (low, high))
 
 -- the parts of a place, and its values
 abbrev Spells : List (List ℕ) → Place → Type 0
@@ -108,62 +118,38 @@ module _ (names : ReadsNames) (days : ReadsDays) (texts : IsTextOfDay) (hours : 
       let real : IsSlot made = record { facility = subst IsName (sym name.1) name.0; day = date.0; hour = time.within } in
       subst (SpellsSlot facility day hour) (same_Some made slot h.2) (real, sym name.1, date.1, time.spelling)
 
-  booking_spelled : (slot : Slot) (word number : List ℕ) (place : Place) (is : Bool) → bytes_eq word (codes "bookings") ≡ is
-      → cond is (option_map (λ n. BookingPlace slot n) (number_of_text number)) None ≡ Some place
+  booking_spelled : (slot : Slot) (word number : List ℕ) (place : Place) → at_slot slot (word ∷ number ∷ []) ≡ Some place
       → (n : ℕ) × IsBookingNumber n × (word ≡ codes "bookings") × (number ≡ decimal n) × (BookingPlace slot n ≡ place)
-  booking_spelled slot word number place true is e = go (number_of_text number) refl e
-    where
-      go : (found : Option ℕ) → number_of_text number ≡ found → option_map (λ n. BookingPlace slot n) found ≡ Some place
-          → (n : ℕ) × IsBookingNumber n × (word ≡ codes "bookings") × (number ≡ decimal n) × (BookingPlace slot n ≡ place)
-      go None f e = cc
-      go (Some n) f e =
-          let spelled = number_spelled number n f in
-          (n, spelled.0, same word (codes "bookings") is, spelled.1, same_Some (BookingPlace slot n) place e)
-  booking_spelled slot word number place false is e = cc
+  booking_spelled slot word number place e =
+      let test = chosen (bytes_eq word (codes "bookings")) (option_map (λ n. BookingPlace slot n) (number_of_text number)) place e in
+      let found = mapped (λ n. BookingPlace slot n) (number_of_text number) place test.1 in
+      let spelled = number_spelled number found.0 found.1 in
+      (found.0, spelled.0, same word (codes "bookings") test.0, spelled.1, found.2)
 
   slots_spelled : (parts : List (List ℕ)) (place : Place) → under_slots parts ≡ Some place → Spells (codes "slots" ∷ parts) place
-  slots_spelled [] place e = cc
-  slots_spelled (facility ∷ []) place e = cc
-  slots_spelled (facility ∷ day ∷ []) place e = cc
   slots_spelled (facility ∷ day ∷ hour ∷ []) place e =
       let found = bound (slot_of_parts facility day hour) _ place e in
       let slot = slot_spelled facility day hour found.0 found.1 in
-      let f = slot.1 in
-      let d = slot.2 in
-      let h = slot.3 in
-      let same_parts : codes "slots" ∷ facility ∷ day ∷ hour ∷ [] ≡ slot_parts found.0 [] = cc in
+      let same_parts : codes "slots" ∷ facility ∷ day ∷ hour ∷ [] ≡ slot_parts found.0 [] = cc (slot.1, slot.2, slot.3) in
       subst (Spells (codes "slots" ∷ facility ∷ day ∷ hour ∷ [])) (same_Some (SlotPlace found.0) place found.2) (same_parts, slot.0)
-  slots_spelled (facility ∷ day ∷ hour ∷ word ∷ []) place e =
-      let found = bound (slot_of_parts facility day hour) _ place e in
-      let no = found.2 in
-      cc
+  slots_spelled (facility ∷ day ∷ hour ∷ word ∷ []) place e = cc (bound (slot_of_parts facility day hour) _ place e).2
   slots_spelled (facility ∷ day ∷ hour ∷ word ∷ number ∷ []) place e =
       let found = bound (slot_of_parts facility day hour) _ place e in
       let slot = slot_spelled facility day hour found.0 found.1 in
-      let booking = booking_spelled found.0 word number place (bytes_eq word (codes "bookings")) refl found.2 in
-      let f = slot.1 in
-      let d = slot.2 in
-      let h = slot.3 in
-      let w = booking.2 in
-      let n = booking.3 in
-      let same_parts : codes "slots" ∷ facility ∷ day ∷ hour ∷ word ∷ number ∷ [] ≡ slot_parts found.0 (codes "bookings" ∷ decimal booking.0 ∷ []) = cc in
+      let booking = booking_spelled found.0 word number place found.2 in
+      let same_parts : codes "slots" ∷ facility ∷ day ∷ hour ∷ word ∷ number ∷ [] ≡ slot_parts found.0 (codes "bookings" ∷ decimal booking.0 ∷ []) =
+      cc (slot.1, slot.2, slot.3, booking.2, booking.3) in
       subst (Spells (codes "slots" ∷ facility ∷ day ∷ hour ∷ word ∷ number ∷ [])) booking.4 (same_parts, (slot.0, booking.1))
-  slots_spelled (facility ∷ day ∷ hour ∷ word ∷ number ∷ other ∷ parts) place e =
-      let found = bound (slot_of_parts facility day hour) _ place e in
-      let no = found.2 in
-      cc
-
-  account_spelled : (word : List ℕ) (place : Place) (is : Bool) → bytes_eq word (codes "account") ≡ is → cond is (Some AccountPlace) None ≡ Some place
-      → Spells (word ∷ []) place
-  account_spelled word place true is e =
-      subst (Spells (word ∷ [])) (same_Some AccountPlace place e) (ap (λ (w : List ℕ). w ∷ []) (same word (codes "account") is), tt)
-  account_spelled word place false is e = cc
+  slots_spelled (facility ∷ day ∷ hour ∷ word ∷ number ∷ other ∷ parts) place e = cc (bound (slot_of_parts facility day hour) _ place e).2
+  slots_spelled parts place e = cc
 
   root_spelled_by : (word : List ℕ) (parts : List (List ℕ)) (place : Place) (is : Bool) → bytes_eq word (codes "slots") ≡ is
       → cond is (under_slots parts) (account_at word parts) ≡ Some place → Spells (word ∷ parts) place
   root_spelled_by word parts place true is e =
       subst (λ (w : List ℕ). Spells (w ∷ parts) place) (sym (same word (codes "slots") is)) (slots_spelled parts place e)
-  root_spelled_by word [] place false is e = account_spelled word place (bytes_eq word (codes "account")) refl e
+  root_spelled_by word [] place false is e =
+      let account = cond_some (bytes_eq word (codes "account")) AccountPlace place e in
+      subst (Spells (word ∷ [])) account.1 (ap (λ (w : List ℕ). w ∷ []) (same word (codes "account") account.0), tt)
   root_spelled_by word (part ∷ parts) place false is e = cc
 
   root_spelled : (parts : List (List ℕ)) (place : Place) → under_root parts ≡ Some place → Spells parts place
@@ -172,17 +158,12 @@ module _ (names : ReadsNames) (days : ReadsDays) (texts : IsTextOfDay) (hours : 
 
   -- ---- the target
 
-  target_spelled_by : (byte : ℕ) (path : List ℕ) (place : Place) (slash : Bool) → (byte == 47) ≡ slash
-      → cond slash (under_root (segments path)) None ≡ Some place → IsPlace (byte ∷ path) place
-  target_spelled_by byte path place true is e =
-      let at : byte ≡ 47 = grind (arith, nat_tests) in
-      let spelled = root_spelled (segments path) place e in
-      record { path = path; slash = ap (λ (b : ℕ). b ∷ path) at; parts = spelled.0; real = spelled.1 }
-  target_spelled_by byte path place false is e = cc
-
   target_spelled : (target : List ℕ) (place : Place) → place_of target ≡ Some place → IsPlace target place
   target_spelled [] place e = cc
-  target_spelled (byte ∷ path) place e = target_spelled_by byte path place (byte == 47) refl e
+  target_spelled (byte ∷ path) place e =
+      let found = chosen (byte == 47) (under_root (segments path)) place e in
+      let spelled = root_spelled (segments path) place found.1 in
+      record { path = path; slash = ap (λ (b : ℕ). b ∷ path) (eqb-true byte 47 found.0); parts = spelled.0; real = spelled.1 }
 
   target_found : (target : List ℕ) (place : Place) → IsPlace target place → place_of target ≡ Some place
   target_found target place h = ap place_of h.slash ∙ (ap under_root h.parts ∙ place_found place h.real)

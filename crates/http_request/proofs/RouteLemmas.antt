@@ -1,20 +1,20 @@
 -- Every place of the desk has a route.
-use Rattle.std.proofs.Common.{◌≡◌, ℕ, ◌<◌, List, [], ◌∷◌, ◌++◌, length, Option, Some, None}
-use Rattle.std.proofs.Common.{Bool, true, false, cond, ◌==◌, append-nil, codes, refl, sym, ap, ◌∙◌, arith}
-use Rattle.std.specs.Prelude.{IsSome, option_map}
-use Rattle.std.proofs.lemmas.Bool.Decides.{nat_tests}
-use Rattle.std.specs.Str.{bytes_eq}
-use Rattle.club_values.specs.computed.TextOf.{name_of_text, day_of_text, hour_of_text, decimal_of_text}
+use Rattle.std.proofs.Common.{◌≡◌, ℕ, ◌<◌, List, [], ◌∷◌, ◌++◌, length, Some}
+use Rattle.std.proofs.Common.{Bool, true, false, cond, ◌==◌, append-nil, codes, refl, sym, ap, subst, ◌∙◌, arith}
+use Rattle.std.specs.Prelude.{IsSome}
+use Rattle.std.specs.Fmt.{decimal}
+use Rattle.std.proofs.lemmas.Bool.{eqb-true}
+use Rattle.std.proofs.lemmas.Fmt.{decimal_nonempty}
 use Rattle.matchit.specs.Rows.{RowsOf, param_token}
 use Rattle.matchit.specs.Seek.{has_slash, seek, first, own, step, param_step}
+use Rattle.club_values.specs.Day.{day_text}
+use Rattle.club_values.specs.Digits.{two_digits}
 use Rattle.http_request.specs.declared.path.Place.{Place}
-use Rattle.http_request.specs.declared.path.Place.TheVariants.{BookingPlace, AccountPlace}
-use Rattle.club_values.specs.declared.slot.Slot.{Slot}
+use Rattle.http_request.specs.declared.path.Place.TheVariants.{SlotPlace, BookingPlace, AccountPlace}
+use Rattle.http_request.specs.Laws.{ReadsPlaces}
 use Rattle.http_request.specs.Parts.{with_front, segments}
-use Rattle.http_request.specs.computed.Parts.{slot_of_parts, number_of_text, ◌>>=◌}
+use Rattle.http_request.specs.Path.{HasRealValues, IsPlace, place_parts}
 use Rattle.http_request.specs.Routes.{KnowsPlaces}
-use Rattle.std.proofs.lemmas.Slice.Eq.{bytes_eq-Decides}
-use Rattle.http_request.specs.computed.Path.{under_slots, account_at, under_root}
 use Rattle.http_request.proofs.Segments.{first_part}
 use Rattle.http_request.proofs.Walks.{over_bytes, over_part, takes_two, takes_one, takes_last, takes_end}
 
@@ -40,8 +40,7 @@ parted_at : (byte : ℕ) (path part : List ℕ) (parts : List (List ℕ)) (slash
     → (byte ∷ path ≡ glued (cond slash ([] ∷ segments path) (with_front (byte ∷ []) (segments path))))
     × AreParts (cond slash ([] ∷ segments path) (with_front (byte ∷ []) (segments path)))
 parted_at byte path part parts true is e whole none =
-    let at : byte ≡ 47 = grind (arith, nat_tests) in
-    rw e (rw at (ap (λ (l : List ℕ). 47 ∷ l) whole), (refl, none))
+    rw e (rw (eqb-true byte 47 is) (ap (λ (l : List ℕ). 47 ∷ l) whole), (refl, none))
 parted_at byte path part parts false is e whole none =
     rw e (ap (λ (l : List ℕ). byte ∷ l) whole ∙ sym (glued_more byte part parts), (rw is none.0, none.1))
 
@@ -74,6 +73,10 @@ has_account : {K : Type 0} (account booking slot : K) → IsSome (first (routes 
 unfolding seek
 has_account account booking slot = over_bytes (codes "/account") (routes account booking slot) [] refl
 
+some_day : (day : ℕ) → 0 < length (day_text day)
+unfolding day_text
+some_day day = omega arith
+
 -- a part of a path that a parameter takes
 abbrev IsPart : List ℕ → Type 0
 IsPart part = (0 < length part) × (has_slash part ≡ false)
@@ -101,105 +104,20 @@ has_booking account booking slot facility day hour number f d h n =
     (over_bytes (codes "/bookings/") _ number
     (over_last _ _ _ number n.0 refl (takes_end _ number n.1) refl)))))))
 
--- a text that parses as a value isn't empty
-some_name : (text : List ℕ) (value : List ℕ) → name_of_text text ≡ Some value → 0 < length text
-unfolding name_of_text
-some_name [] value e = cc
-some_name (b ∷ text) value e = omega arith
+-- the parts of a place's path, without slashes, have a route
+placed : {K : Type 0} (a b s : K) (place : Place) → HasRealValues place → AreParts (place_parts place)
+    → IsSome (first (routes a b s) (47 ∷ glued (place_parts place)))
+placed a b s (SlotPlace slot) real none =
+    has_slot a b s slot.facility (day_text slot.day) (two_digits slot.hour) (real.facility.nonempty, none.1.0) (some_day slot.day, none.1.1.0)
+    (omega arith, none.1.1.1.0)
+placed a b s (BookingPlace slot n) real none =
+    has_booking a b s slot.facility (day_text slot.day) (two_digits slot.hour) (decimal n) (real.0.facility.nonempty, none.1.0) (some_day slot.day, none.1.1.0)
+    (omega arith, none.1.1.1.0) (decimal_nonempty n (omega (arith, real.1)), none.1.1.1.1.1.0)
+placed a b s AccountPlace real none = has_account a b s
 
-some_day : (text : List ℕ) (value : ℕ) → day_of_text text ≡ Some value → 0 < length text
-unfolding day_of_text
-some_day [] value e = cc
-some_day (b ∷ text) value e = omega arith
-
-some_hour : (text : List ℕ) (value : ℕ) → hour_of_text text ≡ Some value → 0 < length text
-unfolding hour_of_text
-some_hour [] value e = cc
-some_hour (b ∷ text) value e = omega arith
-
-some_number : (text : List ℕ) (value : ℕ) → number_of_text text ≡ Some value → 0 < length text
-unfolding number_of_text decimal_of_text
-some_number [] value e = cc
-some_number (b ∷ text) value e = omega arith
-
-pub bound : {A B : Type 0} (found : Option A) (then : A → Option B) (b : B) → (found >>= then) ≡ Some b → (a : A) × (found ≡ Some a) × (then a ≡ Some b)
-bound None then b e = cc
-bound (Some a) then b e = (a, refl, e)
-
--- the parts of a slot
-slot_parts : (facility day hour : List ℕ) (slot : Slot) → slot_of_parts facility day hour ≡ Some slot → (0 < length facility) × (0 < length day)
-    × (0 < length hour)
-unfolding slot_of_parts
-slot_parts facility day hour slot e =
-    let f = bound (name_of_text facility) _ slot e in
-    let d = bound (day_of_text day) _ slot f.2 in
-    let h = bound (hour_of_text hour) _ slot d.2 in
-    (some_name facility f.0 f.1, some_day day d.0 d.1, some_hour hour h.0 h.1)
-
-mapped : (slot : Slot) (found : Option ℕ) (place : Place) → option_map (λ n. BookingPlace slot n) found ≡ Some place → (n : ℕ) × (found ≡ Some n)
-mapped slot None place e = cc
-mapped slot (Some n) place e = (n, refl)
-
--- a test that finds two texts equal
-pub same : (text other : List ℕ) → bytes_eq text other ≡ true → text ≡ other
-same text other e = (bytes_eq-Decides text other).0 e
-
--- the parts of a booking behind its slot
-booking_parts : (slot : Slot) (word number : List ℕ) (place : Place) (is : Bool) → bytes_eq word (codes "bookings") ≡ is
-    → cond is (option_map (λ n. BookingPlace slot n) (number_of_text number)) None ≡ Some place → (word ≡ codes "bookings") × (0 < length number)
-booking_parts slot word number place true is e =
-    let n = mapped slot (number_of_text number) place e in (same word (codes "bookings") is, some_number number n.0 n.1)
-booking_parts slot word number place false is e = cc
-
-under : {K : Type 0} (a b s : K) (parts : List (List ℕ)) (place : Place) → AreParts parts → under_slots parts ≡ Some place
-    → IsSome (first (routes a b s) (codes "/slots/" ++ glued parts))
-under a b s [] place none e = cc
-under a b s (facility ∷ []) place none e = cc
-under a b s (facility ∷ day ∷ []) place none e = cc
-under a b s (facility ∷ day ∷ hour ∷ []) place none e =
-    let slot = bound (slot_of_parts facility day hour) _ place e in
-    let some = slot_parts facility day hour slot.0 slot.1 in
-    has_slot a b s facility day hour (some.0, none.0) (some.1, none.1.0) (some.2, none.1.1.0)
-under a b s (facility ∷ day ∷ hour ∷ word ∷ []) place none e =
-    let slot = bound (slot_of_parts facility day hour) _ place e in
-    let no = slot.2 in
-    cc
-under a b s (facility ∷ day ∷ hour ∷ word ∷ number ∷ []) place none e =
-    let slot = bound (slot_of_parts facility day hour) _ place e in
-    let some = slot_parts facility day hour slot.0 slot.1 in
-    let booking = booking_parts slot.0 word number place _ refl slot.2 in
-    rw booking.0 (has_booking a b s facility day hour number (some.0, none.0) (some.1, none.1.0) (some.2, none.1.1.0) (booking.1, none.1.1.1.1.0))
-under a b s (facility ∷ day ∷ hour ∷ word ∷ number ∷ other ∷ parts) place none e =
-    let slot = bound (slot_of_parts facility day hour) _ place e in
-    let no = slot.2 in
-    cc
-
-account_word : (word : List ℕ) (place : Place) (is : Bool) → bytes_eq word (codes "account") ≡ is → cond is (Some AccountPlace) None ≡ Some place
-    → word ≡ codes "account"
-account_word word place true is e = same word (codes "account") is
-account_word word place false is e = cc
-
-rooted_at : {K : Type 0} (a b s : K) (word : List ℕ) (parts : List (List ℕ)) (place : Place) (is : Bool) → bytes_eq word (codes "slots") ≡ is → AreParts parts
-    → cond is (under_slots parts) (account_at word parts) ≡ Some place → IsSome (first (routes a b s) (47 ∷ glued (word ∷ parts)))
-rooted_at a b s word [] place true is none e = cc
-rooted_at a b s word (part ∷ parts) place true is none e = rw (same word (codes "slots") is) (under a b s (part ∷ parts) place none e)
-rooted_at a b s word [] place false is none e = rw (account_word word place _ refl e) (has_account a b s)
-rooted_at a b s word (part ∷ parts) place false is none e = cc
-
-rooted : {K : Type 0} (a b s : K) (parts : List (List ℕ)) (place : Place) → AreParts parts → under_root parts ≡ Some place
-    → IsSome (first (routes a b s) (47 ∷ glued parts))
-rooted a b s [] place none e = cc
-rooted a b s (word ∷ parts) place none e = rooted_at a b s word parts place _ refl none.1 e
-
-known_at : {K : Type 0} (a b s : K) (byte : ℕ) (path : List ℕ) (place : Place) (slash : Bool) → (byte == 47) ≡ slash
-    → cond slash (under_root (segments path)) None ≡ Some place → IsSome (first (routes a b s) (byte ∷ path))
-known_at a b s byte path place true is e =
-    let at : byte ≡ 47 = grind (arith, nat_tests) in
-    let parts = parted path in
-    let found = rooted a b s (segments path) place parts.1 e in
-    rw at (rw (← parts.0) at found)
-known_at a b s byte path place false is e = cc
-
-pub knows_places : {K : Type 0} (account booking slot : K) → KnowsPlaces (routes account booking slot)
-knows_places account booking slot [] place e = cc
-knows_places account booking slot (byte ∷ path) place e = known_at account booking slot byte path place _ refl e
+pub knows_places : {K : Type 0} → ReadsPlaces → (account booking slot : K) → KnowsPlaces (routes account booking slot)
+knows_places reads account booking slot target place e =
+    let is : IsPlace target place = (reads target (Some place)).1 e in
+    let whole = parted is.path in
+    let glued_parts : is.path ≡ glued (place_parts place) = whole.0 ∙ ap glued is.parts in
+    rw (is.slash, glued_parts) (placed account booking slot place is.real (subst AreParts is.parts whole.1))

@@ -1,8 +1,7 @@
 -- A path, one part at a time.
 use Rattle.std.proofs.Common.{◌≡◌, ℕ, ◌+◌, ◌-◌, ◌<◌, ◌≤◌, Bool, true, false, List, [], ◌∷◌, ◌++◌, cond, eqb, length, get_or, take, drop, refl, sym, ap, ◌∙◌}
-use Rattle.std.proofs.Common.{append_assoc, append-nil}
+use Rattle.std.proofs.Common.{append_assoc, append-nil, arith}
 use Rattle.std.proofs.Math.ListN.{drop_of_length-le}
-use Rattle.std.proofs.Math.Seq.{take-length}
 use Rattle.std.proofs.lemmas.List.{at_drop_more, length-drop, take_more, take_all}
 use Rattle.http_request.specs.Parts.{with_front, segments}
 
@@ -22,35 +21,35 @@ first_part (byte ∷ path) = elim (eqb byte 47) as (λ b. (part : List ℕ) × (
 pub from_the_front : (path : List ℕ) → segments path ≡ with_front [] (segments path)
 from_the_front path = let first = first_part path in first.2 ∙ sym (ap (with_front []) first.2)
 
-segments_at : (path : List ℕ) (i : ℕ) (slash : Bool) → i < length path → eqb (get_or path i 0) 47 ≡ slash
-    → segments (drop i path) ≡ cond slash ([] ∷ segments (drop (i + 1) path)) (with_front (get_or path i 0 ∷ []) (segments (drop (i + 1) path)))
-segments_at path i slash h e =
-    at_drop_more segments path i 0 h
-    ∙ ap (λ (b : Bool). cond b ([] ∷ segments (drop (i + 1) path)) (with_front (get_or path i 0 ∷ []) (segments (drop (i + 1) path)))) e
+-- all that follows some items
+pub rest_of : {A : Type 0} (xs : List A) (k : ℕ) → take (length xs - k) (drop k xs) ≡ drop k xs
+rest_of xs k = take_all (length xs - k) (drop k xs) (omega (arith, length-drop k xs))
 
-rest_of : (path : List ℕ) (k : ℕ) → take (length path - k) (drop k path) ≡ drop k path
-rest_of path k = ap (λ (n : ℕ). take n (drop k path)) (sym (length-drop k path)) ∙ take-length (drop k path)
+module _ (path : List ℕ) (i : ℕ) where
+  segments_at : (slash : Bool) → i < length path → eqb (get_or path i 0) 47 ≡ slash
+      → segments (drop i path) ≡ cond slash ([] ∷ segments (drop (i + 1) path)) (with_front (get_or path i 0 ∷ []) (segments (drop (i + 1) path)))
+  segments_at slash h e =
+      at_drop_more segments path i 0 h
+      ∙ ap (λ (b : Bool). cond b ([] ∷ segments (drop (i + 1) path)) (with_front (get_or path i 0 ∷ []) (segments (drop (i + 1) path)))) e
 
--- a byte that is no slash
-pub byte_passed : (path : List ℕ) (i : ℕ) → i < length path → eqb (get_or path i 0) 47 ≡ false
-    → segments path ≡ with_front (take i path) (segments (drop i path))
-    → segments path ≡ with_front (take (i + 1) path) (segments (drop (i + 1) path))
-byte_passed path i h e so_far =
-    so_far ∙ ap (with_front (take i path)) (segments_at path i false h e)
-    ∙ joined-joined (take i path) (get_or path i 0 ∷ []) (segments (drop (i + 1) path))
-    ∙ ap (λ (front : List ℕ). with_front front (segments (drop (i + 1) path))) (sym (take_more path i 0 h))
+  -- a byte that is no slash
+  pub byte_passed : i < length path → eqb (get_or path i 0) 47 ≡ false → segments path ≡ with_front (take i path) (segments (drop i path))
+      → segments path ≡ with_front (take (i + 1) path) (segments (drop (i + 1) path))
+  byte_passed h e so_far =
+      so_far ∙ ap (with_front (take i path)) (segments_at false h e)
+      ∙ joined-joined (take i path) (get_or path i 0 ∷ []) (segments (drop (i + 1) path))
+      ∙ ap (λ (front : List ℕ). with_front front (segments (drop (i + 1) path))) (sym (take_more path i 0 h))
 
--- the slash
-pub slash_found : (path : List ℕ) (i : ℕ) → i < length path → eqb (get_or path i 0) 47 ≡ true
-    → segments path ≡ with_front (take i path) (segments (drop i path))
-    → segments path ≡ take i path ∷ segments (take (length path - (i + 1)) (drop (i + 1) path))
-slash_found path i h e so_far =
-    so_far ∙ ap (with_front (take i path)) (segments_at path i true h e)
-    ∙ ap (λ (front : List ℕ). front ∷ segments (drop (i + 1) path)) (append-nil (take i path))
-    ∙ ap (λ (rest : List ℕ). take i path ∷ segments rest) (sym (rest_of path (i + 1)))
+  -- the slash
+  pub slash_found : i < length path → eqb (get_or path i 0) 47 ≡ true → segments path ≡ with_front (take i path) (segments (drop i path))
+      → segments path ≡ take i path ∷ segments (take (length path - (i + 1)) (drop (i + 1) path))
+  slash_found h e so_far =
+      so_far ∙ ap (with_front (take i path)) (segments_at true h e)
+      ∙ ap (λ (front : List ℕ). front ∷ segments (drop (i + 1) path)) (append-nil (take i path))
+      ∙ ap (λ (rest : List ℕ). take i path ∷ segments rest) (sym (rest_of path (i + 1)))
 
--- no slash
-pub no_slash : (path : List ℕ) (i : ℕ) → length path ≤ i → segments path ≡ with_front (take i path) (segments (drop i path)) → segments path ≡ path ∷ []
-no_slash path i h so_far =
-    so_far ∙ ap (λ (rest : List ℕ). with_front (take i path) (segments rest)) (drop_of_length-le path h)
-    ∙ ap (λ (front : List ℕ). front ∷ []) (append-nil (take i path) ∙ take_all i path h)
+  -- no slash
+  pub no_slash : length path ≤ i → segments path ≡ with_front (take i path) (segments (drop i path)) → segments path ≡ path ∷ []
+  no_slash h so_far =
+      so_far ∙ ap (λ (rest : List ℕ). with_front (take i path) (segments rest)) (drop_of_length-le path h)
+      ∙ ap (λ (front : List ℕ). front ∷ []) (append-nil (take i path) ∙ take_all i path h)

@@ -1,9 +1,10 @@
 -- Which paths have a route: a walk of matchit over one part of a path.
 use Rattle.std.proofs.Common.{◌≡◌, ℕ, zero, suc, ◌-◌, ◌<◌, List, [], ◌∷◌, ◌++◌, length, drop, Option, Some}
-use Rattle.std.proofs.Common.{None, Bool, true, false, cond, ◌==◌, ◌&&◌, ltb, nat_eq, refl, ap, ◌∙◌, arith, length-append}
+use Rattle.std.proofs.Common.{None, true, false, cond, ◌==◌, ltb, nat_eq, refl, ap, ◌∙◌, arith, length-append}
 use Rattle.std.specs.Prelude.{IsSome}
 use Rattle.std.specs.Cmp.Lexicographic.{pointwise}
 use Rattle.std.proofs.Math.Seq.{drop-append_seam}
+use Rattle.std.proofs.lemmas.Bool.{and_right}
 use Rattle.std.proofs.lemmas.Bool.Decides.{nat_tests}
 use Rattle.matchit.specs.Rows.{RowsOf, param_token}
 use Rattle.matchit.specs.Seek.{segment, has_slash, cuts, step, or_else, param_step, seek}
@@ -46,21 +47,22 @@ over_part rs ts kept [] rest some from takes is = let no : ⊥ = omega arith in 
 over_part rs ts kept (b ∷ part) rest some from takes is =
     some_second _ _ (some_first _ _ (past _ b part rest kept (ap (λ (r : _). param_step r (b ∷ part ++ rest)) from ∙ takes) is))
 
--- a part without a slash
-head_none : (b : ℕ) (part : List ℕ) → has_slash (b ∷ part) ≡ false → (b == 47) ≡ false
-head_none b part none = elim (b == 47) as (λ v. cond v true (has_slash part) ≡ false → v ≡ false) [ true ↦ λ no. cc | false ↦ λ no. refl ] none
-
-rest_none : (b : ℕ) (part : List ℕ) → has_slash (b ∷ part) ≡ false → has_slash part ≡ false
-rest_none b part none = elim (b == 47) as (λ v. cond v true (has_slash part) ≡ false → has_slash part ≡ false) [ true ↦ λ no. cc | false ↦ λ no. no ] none
+-- a part without a slash, by its first byte and the others
+no_slash : (b : ℕ) (part : List ℕ) → has_slash (b ∷ part) ≡ false → ((b == 47) ≡ false) × (has_slash part ≡ false)
+no_slash b part none =
+    elim (b == 47) as (λ v. cond v true (has_slash part) ≡ false → (v ≡ false) × (has_slash part ≡ false)) [
+      | true ↦ λ no. absurd cc
+      | false ↦ λ no. (refl, no)
+    ] none
 
 -- the segment of a part and a slash
 segment_of : (part rest : List ℕ) → has_slash part ≡ false → segment (part ++ 47 ∷ rest) ≡ part ++ 47 ∷ []
 segment_of [] rest none = refl
-segment_of (b ∷ part) rest none = rw (head_none b part none) (ap (λ (l : List ℕ). b ∷ l) (segment_of part rest (rest_none b part none)))
+segment_of (b ∷ part) rest none = rw (no_slash b part none).0 (ap (λ (l : List ℕ). b ∷ l) (segment_of part rest (no_slash b part none).1))
 
 last_segment : (part : List ℕ) → has_slash part ≡ false → segment part ≡ part
 last_segment [] none = refl
-last_segment (b ∷ part) none = rw (head_none b part none) (ap (λ (l : List ℕ). b ∷ l) (last_segment part (rest_none b part none)))
+last_segment (b ∷ part) none = rw (no_slash b part none).0 (ap (λ (l : List ℕ). b ∷ l) (last_segment part (no_slash b part none).1))
 
 one_less : (part : List ℕ) → length (part ++ 47 ∷ []) - 1 ≡ length part
 one_less part = rw (length-append part (47 ∷ [])) (omega arith)
@@ -73,17 +75,13 @@ cuts_slash part some =
 not_at : (n : ℕ) (part : List ℕ) → has_slash part ≡ false → pointwise nat_eq (47 ∷ []) (drop n part) ≡ false
 not_at zero [] none = refl
 not_at zero (b ∷ part) none =
-    let other : nat_eq 47 b ≡ false = let no = head_none b part none in grind (arith, nat_tests) in
+    let other : nat_eq 47 b ≡ false = let no = (no_slash b part none).0 in grind (arith, nat_tests) in
     rw other refl
 not_at (suc n) [] none = refl
-not_at (suc n) (b ∷ part) none = not_at n part (rest_none b part none)
-
-and_false : (a b : Bool) → b ≡ false → (a && b) ≡ false
-and_false true b is = is
-and_false false b is = refl
+not_at (suc n) (b ∷ part) none = not_at n part (no_slash b part none).1
 
 cuts_no_slash : (part : List ℕ) → has_slash part ≡ false → cuts part (47 ∷ []) ≡ false
-cuts_no_slash part none = and_false _ _ (not_at (length part - 1) part none)
+cuts_no_slash part none = and_right _ _ (not_at (length part - 1) part none)
 
 -- what a parameter takes of a part and a slash, where each row goes on with a slash
 pub takes_two : {K : Type 0} (t s : List ℕ) (k j : K) (part rest : List ℕ) → 0 < length part → has_slash part ≡ false

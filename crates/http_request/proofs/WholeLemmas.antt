@@ -1,7 +1,6 @@
 -- When a request is whole, and what follows it.
-use Rattle.std.proofs.Common.{◌≡◌, ℕ, ◌-◌, ◌<◌, ◌≤◌, ◌↔◌, inl, inr, false, List, ◌++◌, length, take, drop, nat_eq, Option, refl, sym, ap, ◌∙◌, arith}
+use Rattle.std.proofs.Common.{◌≡◌, ℕ, ◌-◌, ◌<◌, ◌≤◌, ◌↔◌, inl, inr, List, ◌++◌, length, take, drop, Option, refl, sym, ap, ◌∙◌, arith}
 use Rattle.std.proofs.Common.{append_assoc, length-append}
-use Rattle.std.specs.List.{ends_with}
 use Rattle.std.proofs.Math.Seq.{take-append_seam}
 use Rattle.std.proofs.lemmas.Bool.{cases_lt}
 use Rattle.std.proofs.lemmas.List.{take-append-le, take-append-drop, length-drop}
@@ -9,7 +8,7 @@ use Rattle.httparse.specs.declared.spans.HeaderSpan.{HeaderSpan}
 use Rattle.httparse.specs.Grammar.{RequestHead}
 use Rattle.http_request.specs.declared.front.Head.{Head}
 use Rattle.http_request.specs.declared.path.Place.{Place}
-use Rattle.http_request.specs.Head.{empty_line, IsPiece}
+use Rattle.http_request.specs.Head.{IsPiece}
 use Rattle.http_request.specs.Frame.{AsksForBody, IsFramed, IsOneRequest, IsRefusedHead, HasNoPiece, IsWhole, has_frame, endless, bad_head}
 use Rattle.http_request.specs.Front.{IsHeadAt}
 use Rattle.http_request.specs.Words as words
@@ -17,15 +16,7 @@ use Rattle.http_request.specs.Words.{DecodedRequest, IsRequestReading, HoldsBody
 use Rattle.http_request.specs.Laws.{OneReading, ReadsPlaces, WholeKeepsItsReading, BodyStays}
 use Rattle.http_request.specs.Path.{IsPlaceOf}
 use Rattle.http_request.specs.computed.Path.{place_of}
-use Rattle.http_request.proofs.FrameLemmas.{one_piece, no_frame, refused_frame, same_asked, whole_frame}
-
-no_piece : (bytes piece rest : List ℕ) → IsPiece piece → bytes ≡ piece ++ rest → ¬ (HasNoPiece bytes)
-no_piece bytes piece rest cut parts none =
-    let within : length piece ≤ length bytes = rw parts (simp length-append (omega arith)) in
-    let front : take (length piece) bytes ≡ piece = rw parts (take-append_seam piece rest) in
-    let no : ends_with nat_eq piece empty_line ≡ false = rw front at (none (length piece) within cut.short) in
-    let yes = cut.ends in
-    cc
+use Rattle.http_request.proofs.FrameLemmas.{one_piece, no_piece, no_frame, cut_frame, refused_frame, same_asked, whole_frame}
 
 -- if no head has ended within the limit, the bytes hold no whole request
 pub open_head : (bytes : List ℕ) → HasNoPiece bytes → length bytes < 16384 → ¬ (IsWhole bytes)
@@ -43,11 +34,7 @@ headless_whole bytes none = (
 -- nor if the body is cut off
 pub open_body : (bytes piece rest : List ℕ) (head : RequestHead) (n : ℕ) → IsPiece piece → bytes ≡ piece ++ rest → AsksForBody piece head n → length rest < n
     → ¬ (IsWhole bytes)
-open_body bytes piece rest head n cut parts asks short (has_frame other body is) =
-    let same = one_piece is.piece piece (body ++ is.after) rest (sym is.parts ∙ parts) is.cut cut in
-    let same_length = same_asked piece head other n (length body) asks (rw same.0 at is.asks) in
-    let long : length body ≤ length rest = rw (← same.1) (simp length-append (omega arith)) in
-    omega (arith, same_length.1)
+open_body bytes piece rest head n cut parts asks short (has_frame other body is) = cut_frame bytes piece rest head n cut parts asks short other body is
 open_body bytes piece rest head n cut parts asks short (endless none long) = no_piece bytes piece rest cut parts none
 open_body bytes piece rest head n cut parts asks short (bad_head is) =
     let same = one_piece piece is.piece rest is.rest (sym parts ∙ is.parts) cut is.cut in

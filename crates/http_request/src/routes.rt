@@ -60,6 +60,7 @@ impl Routes {
         )?;
         add(&mut router, "/slots/{facility}/{day}/{hour}")?;
         add(&mut router, "/account")?;
+        reads_places();
         Ok(Routes { alloc, router })
     }
 

@@ -1,7 +1,8 @@
 use Rattle.std.proofs.Common.{◌≡◌, ◌+◌, length, sym, ◌∙◌}
 use Rattle.std.proofs.lemmas.List.Elements.{All-drop, All-same}
 use Rattle.httparse.specs.Spans.{IsHeaderWithin}
-use Rattle.http_request.proofs.FieldValues.{found_at, passed_at, none_left, rest_of, value_at}
+use Rattle.http_request.proofs.FieldValues.{found_at, passed_at, none_left, value_at}
+use Rattle.http_request.proofs.Segments.{rest_of}
 use Rattle.http_request.proofs.fields.next_value.Goals as goal
 
 pub returns-then-is_named : goal.returns-then-is_named

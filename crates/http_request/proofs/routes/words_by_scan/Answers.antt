@@ -1,6 +1,7 @@
-use Rattle.std.proofs.Common.{refl, inr}
+use Rattle.std.proofs.Common.{refl, sym, inr}
+use Rattle.std.proofs.lemmas.List.{take-append-drop}
 use Rattle.http_request.specs.Words.{lacks_frame}
-use Rattle.http_request.proofs.FrameLemmas.{short_frame}
+use Rattle.http_request.proofs.FrameLemmas.{cut_frame}
 use Rattle.http_request.proofs.ReadingLemmas.{unasked, reading_at}
 use Rattle.http_request.proofs.routes.words_by_scan.Goals as goal
 
@@ -11,7 +12,8 @@ pub returns-then-rest-head : goal.returns-then-rest-head
 returns-then-rest-head c =
     let at = rw c.in-Asking.is at c.requires in
     let short = rw c.split_at.ensures.back at c.if-rest-head.true in
-    inr (lacks_frame (short_frame c.args.bytes.now c.args.scan.now.fields c.in-Asking.head at short) refl)
+    let head = c.in-Asking.head in
+    inr (lacks_frame (cut_frame c.args.bytes.now _ _ at.head head.body_len at.cut (sym (take-append-drop head.len c.args.bytes.now)) at.asks short) refl)
 
 pub returns : goal.returns
 returns c =

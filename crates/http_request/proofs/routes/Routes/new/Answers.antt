@@ -8,4 +8,4 @@ invariant_of-result c =
     let booking = c.in_ok-add.ensures in
     let slot = c.in_ok-add-2.ensures in
     let account = c.in_ok-add-3.ensures in
-    rw (account.1, slot.1, booking.1, c.new-router.ensures) (record { knows = knows_places _ _ _ })
+    rw (account.1, slot.1, booking.1, c.new-router.ensures) (record { knows = knows_places c.reads_places.ensures _ _ _ })
