@@ -2,40 +2,48 @@
 use Rattle.std.proofs.Common.{◌≡◌, ℕ, ◌≤◌, List, ◌++◌, length, Option, Some, None, refl, sym, ap, subst, ◌∙◌, append_assoc, arith}
 use Rattle.std.specs.Prelude.{IfSome}
 use Rattle.std.proofs.lemmas.List.{length-append}
+use Rattle.std.proofs.lemmas.Option.{same_Some}
 use Rattle.pass_forms.specs.Pass.{WideCaveat}
 use Rattle.pass_forms.specs.V1.{packet, optional_packet, caveat_packets, FitsPacket, FitsCaveat}
 use Rattle.pass_forms.specs.computed.Parts.{found_or_none}
 use Rattle.pass_forms.specs.computed.V1Reading.{packet_at, optional_at, caveat_at}
 use Rattle.pass_forms.proofs.FieldNames.{caveat_key, verifier_id_key, caveat_location_key}
 use Rattle.pass_forms.proofs.CaveatTexts.{Exact}
-use Rattle.pass_forms.proofs.Digits.{bind_some, some_is}
+use Rattle.pass_forms.proofs.Digits.{bind_some}
 use Rattle.pass_forms.proofs.Packets.{packet_takes, packet_again, packet_other, length-packet}
 
-optional_takes : (key bytes : List ℕ) (read : Option (List ℕ × List ℕ)) → packet_at key bytes ≡ read →
-    (bytes ≡ optional_packet key (found_or_none bytes read).0 ++ (found_or_none bytes read).1) × IfSome (found_or_none bytes read).0 (FitsPacket key)
-optional_takes key bytes None e = (refl, tt)
-optional_takes key bytes (Some found) e = packet_takes key bytes found.0 found.1 e
+optional_takes : (key bytes : List ℕ) → (bytes ≡ optional_packet key (optional_at key bytes).0 ++ (optional_at key bytes).1)
+    × IfSome (optional_at key bytes).0 (FitsPacket key)
+optional_takes key bytes = by_read (packet_at key bytes) refl
+  where
+    by_read : (read : Option (List ℕ × List ℕ)) → packet_at key bytes ≡ read →
+        (bytes ≡ optional_packet key (found_or_none bytes read).0 ++ (found_or_none bytes read).1) × IfSome (found_or_none bytes read).0 (FitsPacket key)
+    by_read None e = (refl, tt)
+    by_read (Some found) e = packet_takes key bytes found.0 found.1 e
+
+packets_assoc : (caveat : WideCaveat) (rest : List ℕ) → caveat_packets caveat ++ rest ≡ packet caveat_key caveat.identifier
+    ++ (optional_packet verifier_id_key caveat.verifier_id ++ (optional_packet caveat_location_key caveat.location ++ rest))
+packets_assoc caveat rest =
+    let i = packet caveat_key caveat.identifier in
+    let v = optional_packet verifier_id_key caveat.verifier_id in
+    let l = optional_packet caveat_location_key caveat.location in
+    append_assoc i (v ++ l) rest ∙ ap (λ (x : List ℕ). i ++ x) (append_assoc v l rest)
 
 caveat_takes : (bytes : List ℕ) (found : WideCaveat × List ℕ) → caveat_at bytes ≡ Some found → (bytes ≡ caveat_packets found.0 ++ found.1) × FitsCaveat found.0
 unfolding caveat_at
 caveat_takes bytes found e =
-    let made = λ (i : List ℕ × List ℕ).
-    let v = optional_at verifier_id_key i.1 in
-    let l = optional_at caveat_location_key v.1 in
-    let c : WideCaveat × List ℕ = (record { identifier = i.0; verifier_id = v.0; location = l.0 }, l.1) in c in
-    let i = bind_some (packet_at caveat_key bytes) (λ i. Some (made i)) found e in
+    let i = bind_some _ _ found e in
     let v = optional_at verifier_id_key i.0.1 in
     let l = optional_at caveat_location_key v.1 in
     let ti = packet_takes caveat_key bytes i.0.0 i.0.1 i.1 in
-    let tv = optional_takes verifier_id_key i.0.1 (packet_at verifier_id_key i.0.1) refl in
-    let tl = optional_takes caveat_location_key v.1 (packet_at caveat_location_key v.1) refl in
-    let parts : bytes ≡ caveat_packets (made i.0).0 ++ (made i.0).1 =
-    ti.0 ∙ ap (λ (x : List ℕ). packet caveat_key i.0.0 ++ x)
-    (tv.0 ∙ ap (λ (x : List ℕ). optional_packet verifier_id_key v.0 ++ x) tl.0 ∙ sym
-    (append_assoc (optional_packet verifier_id_key v.0) (optional_packet caveat_location_key l.0) l.1))
-    ∙ sym (append_assoc (packet caveat_key i.0.0) (optional_packet verifier_id_key v.0 ++ optional_packet caveat_location_key l.0) l.1) in
-    let fits : FitsCaveat (made i.0).0 = record { identifier = ti.1; verifier_id = tv.1; location = tl.1 } in
-    subst (λ (x : WideCaveat × List ℕ). (bytes ≡ caveat_packets x.0 ++ x.1) × FitsCaveat x.0) (some_is (made i.0) found i.2) (parts, fits)
+    let tv = optional_takes verifier_id_key i.0.1 in
+    let tl = optional_takes caveat_location_key v.1 in
+    let caveat : WideCaveat = record { identifier = i.0.0; verifier_id = v.0; location = l.0 } in
+    let parts : bytes ≡ packet caveat_key i.0.0 ++ (optional_packet verifier_id_key v.0 ++ (optional_packet caveat_location_key l.0 ++ l.1)) =
+    cc (ti.0, tv.0, tl.0) in
+    let whole : bytes ≡ caveat_packets caveat ++ l.1 = parts ∙ sym (packets_assoc caveat l.1) in
+    let fits : FitsCaveat caveat = record { identifier = ti.1; verifier_id = tv.1; location = tl.1 } in
+    subst (λ (x : WideCaveat × List ℕ). (bytes ≡ caveat_packets x.0 ++ x.1) × FitsCaveat x.0) (same_Some (caveat, l.1) found i.2) (whole, fits)
 
 -- what may follow a caveat: no packet that would belong to it
 pub record EndsCaveat (rest : List ℕ) : Type 0 where
@@ -56,14 +64,11 @@ no_verifier_id (Some location) rest fits ends = packet_other verifier_id_key cav
 caveat_again : (caveat : WideCaveat) (rest : List ℕ) → FitsCaveat caveat → EndsCaveat rest → caveat_at (caveat_packets caveat ++ rest) ≡ Some (caveat, rest)
 unfolding caveat_at
 caveat_again caveat rest fits ends =
-    let i = packet caveat_key caveat.identifier in
     let v = optional_packet verifier_id_key caveat.verifier_id in
     let l = optional_packet caveat_location_key caveat.location in
-    let regrouped : caveat_packets caveat ++ rest ≡ i ++ (v ++ (l ++ rest)) =
-    append_assoc i (v ++ l) rest ∙ ap (λ (x : List ℕ). i ++ x) (append_assoc v l rest) in
     let last = optional_again caveat_location_key caveat.location rest fits.location ends.location in
     let second = optional_again verifier_id_key caveat.verifier_id (l ++ rest) fits.verifier_id (no_verifier_id caveat.location rest fits.location ends) in
-    ap caveat_at regrouped ∙ rw (packet_again caveat_key caveat.identifier (v ++ (l ++ rest)) fits.identifier, second, last) refl
+    ap caveat_at (packets_assoc caveat rest) ∙ rw (packet_again caveat_key caveat.identifier (v ++ (l ++ rest)) fits.identifier, second, last) refl
 
 -- A caveat ends the caveat before it.
 caveat_ends : (caveat : WideCaveat) (rest : List ℕ) → FitsCaveat caveat → EndsCaveat (caveat_packets caveat ++ rest)

@@ -1,5 +1,5 @@
 -- The caveats that are read are the caveats that were written, and the reverse, in either layout.
-use Rattle.std.proofs.Common.{◌≡◌, ℕ, zero, suc, ◌≤◌, List, [], ◌∷◌, ◌++◌, length, Option, Some, None, refl, sym, ap, ◌∙◌, append_assoc, subst, arith}
+use Rattle.std.proofs.Common.{◌≡◌, ℕ, zero, suc, ◌≤◌, List, [], ◌∷◌, ◌++◌, length, Some, None, refl, sym, ap, ◌∙◌, append_assoc, subst, arith}
 use Rattle.std.specs.List.{flat_map, AllByRecursion}
 use Rattle.std.proofs.lemmas.List.Concat.{flat_map-cons}
 use Rattle.std.proofs.lemmas.List.{length-append}
@@ -14,51 +14,43 @@ pub record Exact (at : Reader) (text : WideCaveat → List ℕ) (Fits : WideCave
   -- a caveat ends the one before it
   pub next : (caveat : WideCaveat) (rest : List ℕ) → Fits caveat → Ends (text caveat ++ rest)
 
-takes_one : (at : Reader) (text : WideCaveat → List ℕ) (Fits : WideCaveat → Type 0) (Ends : List ℕ → Type 0) (exact : Exact at text Fits Ends) (n : ℕ)
-    (bytes : List ℕ) (read : Option (WideCaveat × List ℕ)) → at bytes ≡ read →
-    ((rest : List ℕ) → (rest ≡ flat_map text (caveats_at at n rest).0 ++ (caveats_at at n rest).1) × AllByRecursion Fits (caveats_at at n rest).0) →
-    (bytes ≡ flat_map text (and_others (caveats_at at n) bytes read).0 ++ (and_others (caveats_at at n) bytes read).1) × AllByRecursion Fits
-    (and_others (caveats_at at n) bytes read).0
-takes_one at text Fits Ends exact n bytes None e others = (refl, tt)
-takes_one at text Fits Ends exact n bytes (Some found) e others =
-    let first = exact.takes bytes found e in
-    let more = others found.1 in
-    let left = caveats_at at n found.1 in (
-      first.0 ∙ ap (λ (x : List ℕ). text found.0 ++ x) more.0 ∙ sym (append_assoc (text found.0) (flat_map text left.0) left.1)
-          ∙ ap (λ (x : List ℕ). x ++ left.1) (sym (flat_map-cons text found.0 left.0)),
-      (first.1, more.1),
-    )
-
-pub caveats_take : (at : Reader) (text : WideCaveat → List ℕ) (Fits : WideCaveat → Type 0) (Ends : List ℕ → Type 0) → Exact at text Fits Ends →
-    (n : ℕ) (bytes : List ℕ) → (bytes ≡ flat_map text (caveats_at at n bytes).0 ++ (caveats_at at n bytes).1) × AllByRecursion Fits (caveats_at at n bytes).0
-unfolding caveats_at
-caveats_take at text Fits Ends exact zero bytes = (refl, tt)
-caveats_take at text Fits Ends exact (suc n) bytes = takes_one at text Fits Ends exact n bytes (at bytes) refl (caveats_take at text Fits Ends exact n)
-
 regrouped : (text : WideCaveat → List ℕ) (caveat : WideCaveat) (caveats : List WideCaveat) (rest : List ℕ) →
     flat_map text (caveat ∷ caveats) ++ rest ≡ text caveat ++ (flat_map text caveats ++ rest)
 regrouped text caveat caveats rest =
     ap (λ (x : List ℕ). x ++ rest) (flat_map-cons text caveat caveats) ∙ append_assoc (text caveat) (flat_map text caveats) rest
 
--- A caveat, or what ends the caveats, ends the caveat before it.
-caveats_end : (at : Reader) (text : WideCaveat → List ℕ) (Fits : WideCaveat → Type 0) (Ends : List ℕ → Type 0) → Exact at text Fits Ends →
-    (caveats : List WideCaveat) (rest : List ℕ) → AllByRecursion Fits caveats → Ends rest → Ends (flat_map text caveats ++ rest)
-caveats_end at text Fits Ends exact [] rest fits ends = ends
-caveats_end at text Fits Ends exact (caveat ∷ caveats) rest fits ends =
-    subst Ends (sym (regrouped text caveat caveats rest)) (exact.next caveat (flat_map text caveats ++ rest) fits.0)
+module _ (at : Reader) (text : WideCaveat → List ℕ) (Fits : WideCaveat → Type 0) (Ends : List ℕ → Type 0) (exact : Exact at text Fits Ends) where
+  pub caveats_take : (n : ℕ) (bytes : List ℕ) → (bytes ≡ flat_map text (caveats_at at n bytes).0 ++ (caveats_at at n bytes).1)
+      × AllByRecursion Fits (caveats_at at n bytes).0
+  unfolding caveats_at
+  caveats_take zero bytes = (refl, tt)
+  caveats_take (suc n) bytes = elim (at bytes) as (λ read. at bytes ≡ read →
+      (bytes ≡ flat_map text (and_others (caveats_at at n) bytes read).0 ++ (and_others (caveats_at at n) bytes read).1)
+      × AllByRecursion Fits (and_others (caveats_at at n) bytes read).0) [
+        | None ↦ λ e. (refl, tt)
+        | Some found ↦ λ e.
+            let first = exact.takes bytes found e in
+            let more = caveats_take n found.1 in
+            let left = caveats_at at n found.1 in
+            (first.0 ∙ ap (λ (x : List ℕ). text found.0 ++ x) more.0 ∙ sym (regrouped text found.0 left.0 left.1), (first.1, more.1))
+      ] refl
 
-pub caveats_again : (at : Reader) (text : WideCaveat → List ℕ) (Fits : WideCaveat → Type 0) (Ends : List ℕ → Type 0) → Exact at text Fits Ends →
-    (n : ℕ) (caveats : List WideCaveat) (rest : List ℕ) → length caveats ≤ n → AllByRecursion Fits caveats → Ends rest → at rest ≡ None →
-    caveats_at at n (flat_map text caveats ++ rest) ≡ (caveats, rest)
-unfolding caveats_at
-caveats_again at text Fits Ends exact zero [] rest h fits ends none = refl
-caveats_again at text Fits Ends exact (suc n) [] rest h fits ends none = rw none refl
-caveats_again at text Fits Ends exact zero (caveat ∷ caveats) rest h fits ends none = absurd (omega arith)
-caveats_again at text Fits Ends exact (suc n) (caveat ∷ caveats) rest h fits ends none =
-    let others = flat_map text caveats ++ rest in
-    let more = caveats_again at text Fits Ends exact n caveats rest (omega arith) fits.1 ends none in
-    ap (caveats_at at (suc n)) (regrouped text caveat caveats rest)
-    ∙ rw (exact.again caveat others fits.0 (caveats_end at text Fits Ends exact caveats rest fits.1 ends), more) refl
+  -- A caveat, or what ends the caveats, ends the caveat before it.
+  caveats_end : (caveats : List WideCaveat) (rest : List ℕ) → AllByRecursion Fits caveats → Ends rest → Ends (flat_map text caveats ++ rest)
+  caveats_end [] rest fits ends = ends
+  caveats_end (caveat ∷ caveats) rest fits ends =
+      subst Ends (sym (regrouped text caveat caveats rest)) (exact.next caveat (flat_map text caveats ++ rest) fits.0)
+
+  pub caveats_again : (n : ℕ) (caveats : List WideCaveat) (rest : List ℕ) → length caveats ≤ n → AllByRecursion Fits caveats → Ends rest → at rest ≡ None →
+      caveats_at at n (flat_map text caveats ++ rest) ≡ (caveats, rest)
+  unfolding caveats_at
+  caveats_again zero [] rest h fits ends none = refl
+  caveats_again (suc n) [] rest h fits ends none = rw none refl
+  caveats_again zero (caveat ∷ caveats) rest h fits ends none = absurd (omega arith)
+  caveats_again (suc n) (caveat ∷ caveats) rest h fits ends none =
+      let others = flat_map text caveats ++ rest in
+      ap (caveats_at at (suc n)) (regrouped text caveat caveats rest)
+      ∙ rw (exact.again caveat others fits.0 (caveats_end caveats rest fits.1 ends), caveats_again n caveats rest (omega arith) fits.1 ends none) refl
 
 -- Where no caveat is without bytes, there are no more caveats than bytes.
 pub caveats_fit : (text : WideCaveat → List ℕ) → ((caveat : WideCaveat) → 1 ≤ length (text caveat)) → (caveats : List WideCaveat) →

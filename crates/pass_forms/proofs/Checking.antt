@@ -4,12 +4,12 @@ use Rattle.std.proofs.Common.{Ok, Err, refl, sym, ap, subst, ◌∙◌, arith, �
 use Rattle.std.specs.Prelude.{is_some}
 use Rattle.std.specs.List.{list_any}
 use Rattle.std.proofs.lemmas.List.{length-map}
-use Rattle.std.proofs.lemmas.Bool.{ltb-true, ltb-false, le-ltb, lt-ltb}
+use Rattle.std.proofs.lemmas.Option.{same_Some}
+use Rattle.std.proofs.lemmas.Bool.{or_parts, ltb-true, ltb-false, le-ltb, lt-ltb}
 use Rattle.pass_forms.specs.declared.fault.FormFault.{FormFault}
 use Rattle.pass_forms.specs.declared.fault.FormFault.TheVariants.{TooLong, Malformed, ThirdParty, TooMany, Memory}
 use Rattle.pass_forms.specs.Laws.{ComputesSpelled, OnePassEach}
 use Rattle.pass_forms.specs.Pass.{Plain, WideCaveat, WidePass, is_third_party, has_third_party, widened_caveat, as_wide_pass, first_party_caveat, first_party}
-use Rattle.pass_forms.proofs.Digits.{some_is}
 use Rattle.pass_forms.specs.Reading.{max_text_len, max_caveats, IsReadAs}
 use Rattle.pass_forms.specs.computed.Reading.{checked_if_any, reading_of}
 
@@ -21,14 +21,10 @@ is_first_party identifier None None e = refl
 is_first_party identifier None (Some location) e = absurd cc
 is_first_party identifier (Some verifier_id) location e = absurd cc
 
-neither : (a b : Bool) → (a || b) ≡ false → (a ≡ false) × (b ≡ false)
-neither true b e = absurd cc
-neither false b e = (refl, e)
-
 all_first_party : (caveats : List WideCaveat) → list_any is_third_party caveats ≡ false → map widened_caveat (map first_party_caveat caveats) ≡ caveats
 all_first_party [] e = refl
 all_first_party (caveat ∷ caveats) e =
-    let both = neither (is_third_party caveat) (list_any is_third_party caveats) e in
+    let both = or_parts (is_third_party caveat) (list_any is_third_party caveats) e in
     let one : widened_caveat (first_party_caveat caveat) ≡ caveat = is_first_party caveat.identifier caveat.verifier_id caveat.location both.0 in
     ap (λ (c : WideCaveat). c ∷ map widened_caveat (map first_party_caveat caveats)) one ∙ ap (λ (cs : List WideCaveat). caveat ∷ cs)
     (all_first_party caveats both.1)
@@ -104,11 +100,8 @@ checked_determined len Spelled computed (Err Memory) exact within h = absurd h
 within_limit : (len : ℕ) (Spelled : WidePass → Type 0) (answer : Result Plain FormFault) → IsReadAs len Spelled answer →
     (answer ≡ Err TooLong) ⊎ (len ≤ max_text_len)
 within_limit len Spelled (Err TooLong) h = inl refl
-within_limit len Spelled (Err Malformed) h = inr h.0
-within_limit len Spelled (Err ThirdParty) h = inr h.0
-within_limit len Spelled (Err TooMany) h = inr h.0
-within_limit len Spelled (Ok pass) h = inr h.0
 within_limit len Spelled (Err Memory) h = absurd h
+within_limit len Spelled answer h = inr h.0
 
 reading_determined : (len : ℕ) (Spelled : WidePass → Type 0) (computed : Option WidePass) (answer : Result Plain FormFault) → Computes Spelled computed →
     IsReadAs len Spelled answer → reading_of len computed ≡ answer
@@ -129,4 +122,4 @@ exactly len Spelled computed exact answer =
 -- ---- of a form whose computed wide pass is the one that bytes spell
 
 pub one_each : (Spells : List ℕ → WidePass → Type 0) (wide_at : List ℕ → Option WidePass) → ComputesSpelled Spells wide_at → OnePassEach Spells
-one_each Spells wide_at exact bytes one other h k = some_is one other (sym ((exact bytes one).0 h) ∙ (exact bytes other).0 k)
+one_each Spells wide_at exact bytes one other h k = same_Some one other (sym ((exact bytes one).0 h) ∙ (exact bytes other).0 k)

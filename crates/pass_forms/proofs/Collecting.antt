@@ -35,8 +35,3 @@ was_read (Ok pass) fields e =
     let same : fields ≡ pass_fields pass = cc in
     ap (λ (p : Plain). Ok p) (sym (all_fields pass) ∙ ap (with_fields no_fields) (sym same))
 was_read (Err fault) fields e = absurd cc
-
--- No fields were opened, for the fault of the reading.
-pub not_read : (reading : Result Plain FormFault) (fault : FormFault) → Err fault ≡ opening_of reading → reading ≡ Err fault
-not_read (Ok pass) fault e = absurd cc
-not_read (Err other) fault e = cc

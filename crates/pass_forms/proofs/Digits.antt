@@ -1,6 +1,7 @@
 -- A digit that is read is the digit that was written, and so are four of them.
 use Rattle.std.proofs.Common.{◌≡◌, ℕ, ◌+◌, ◌*◌, ◌/◌, ◌%◌, ◌^◌, ◌<◌, List, [], ◌∷◌, ◌++◌, Option, Some, None, refl, sym, ap, ◌∙◌, arith}
 use Rattle.std.proofs.lemmas.Bool.Decides.{nat_tests}
+use Rattle.std.proofs.lemmas.Option.{same_Some}
 use Rattle.pass_forms.specs.V1.{hex_digit, four_hex_digits}
 use Rattle.pass_forms.specs.computed.Parts.{◌>>=◌}
 use Rattle.pass_forms.specs.computed.V1Reading.{digit_value, len_at}
@@ -28,9 +29,6 @@ pub bind_some : {A B : Type 0} (o : Option A) (f : A → Option B) (y : B) → (
 bind_some None f y e = absurd cc
 bind_some (Some x) f y e = (x, refl, e)
 
-pub some_is : {A : Type 0} (x y : A) → ◌≡◌ {A = Option A} (Some x) (Some y) → x ≡ y
-some_is x y e = cc
-
 joined : (a b c d x y z w n : ℕ) (rest : List ℕ) → (x < 16) × (a ≡ hex_digit x) → (y < 16) × (b ≡ hex_digit y) → (z < 16) × (c ≡ hex_digit z) →
     (w < 16) × (d ≡ hex_digit w) → value x y z w ≡ n → (n < 2 ^ 16) × (a ∷ b ∷ c ∷ d ∷ rest ≡ four_hex_digits n ++ rest)
 joined a b c d x y z w n rest ha hb hc hd is_n =
@@ -39,21 +37,18 @@ joined a b c d x y z w n rest ha hb hc hd is_n =
     (omega arith, rw (ha.1, hb.1, hc.1, hd.1) (ap (λ (ds : List ℕ). ds ++ rest) (sym e)))
 
 pub len_takes : (bytes : List ℕ) (n : ℕ) → len_at bytes ≡ Some n → (n < 2 ^ 16) × (rest : List ℕ) × (bytes ≡ four_hex_digits n ++ rest)
-len_takes [] n e = absurd cc
-len_takes (a ∷ []) n e = absurd cc
-len_takes (a ∷ b ∷ []) n e = absurd cc
-len_takes (a ∷ b ∷ c ∷ []) n e = absurd cc
 len_takes (a ∷ b ∷ c ∷ d ∷ rest) n e =
-    let x = bind_some (digit_value a) (λ x. digit_value b >>= λ y. digit_value c >>= λ z. digit_value d >>= λ w. Some (value x y z w)) n e in
-    let y = bind_some (digit_value b) (λ y. digit_value c >>= λ z. digit_value d >>= λ w. Some (value x.0 y z w)) n x.2 in
-    let z = bind_some (digit_value c) (λ z. digit_value d >>= λ w. Some (value x.0 y.0 z w)) n y.2 in
-    let w = bind_some (digit_value d) (λ w. Some (value x.0 y.0 z.0 w)) n z.2 in
+    let x = bind_some _ _ n e in
+    let y = bind_some _ _ n x.2 in
+    let z = bind_some _ _ n y.2 in
+    let w = bind_some _ _ n z.2 in
     let tx = digit_takes a x.0 x.1 in
     let ty = digit_takes b y.0 y.1 in
     let tz = digit_takes c z.0 z.1 in
     let tw = digit_takes d w.0 w.1 in
-    let j = joined a b c d x.0 y.0 z.0 w.0 n rest tx ty tz tw (some_is (value x.0 y.0 z.0 w.0) n w.2) in
+    let j = joined a b c d x.0 y.0 z.0 w.0 n rest tx ty tz tw (same_Some (value x.0 y.0 z.0 w.0) n w.2) in
     (j.0, rest, j.1)
+len_takes bytes n e = absurd cc
 
 pub len_again : (n : ℕ) (rest : List ℕ) → n < 2 ^ 16 → len_at (four_hex_digits n ++ rest) ≡ Some n
 len_again n rest h =

@@ -1,10 +1,10 @@
 -- What a text wraps, and the result of unwrapping it.
-use Rattle.std.proofs.Common.{◌≡◌, ◌↔◌, ◌⊎◌, ◌≤◌, ℕ, false, List, length, refl, sym, subst, ◌∙◌, inl, inr, Result, Ok, Err, Option, None, Some, arith}
+use Rattle.std.proofs.Common.{◌≡◌, ◌↔◌, ◌⊎◌, ◌≤◌, ℕ, false, List, length, refl, sym, subst, ◌∙◌, inl, inr, Result, Ok, Err, Option, None, Some, arith, rules}
 use Rattle.std.specs.Option.{ok_or, option_and_then}
 use Rattle.std.proofs.lemmas.Bool.{cases_Bool, cases_lt, lt-ltb, le-ltb}
 use Rattle.base64.specs.GeneralPurpose.{IsBytes}
 use Rattle.pass_forms.specs.declared.fault.FormFault.{FormFault}
-use Rattle.pass_forms.specs.declared.fault.FormFault.TheVariants.{TooLong, Malformed, ThirdParty, TooMany, Memory}
+use Rattle.pass_forms.specs.declared.fault.FormFault.TheVariants.{TooLong, Malformed}
 use Rattle.pass_forms.specs.declared.form.Form.{Form}
 use Rattle.pass_forms.specs.Envelope.{IsBase64, IsUnwrapped, Wraps, form_of, starts_with_brace}
 use Rattle.pass_forms.specs.computed.Envelope.{from_base64, unwrapping, with_its_form}
@@ -80,20 +80,11 @@ one_answer : (text : List ℕ) (x y : Answer) → IsUnwrapped text x → IsUnwra
 one_answer text (Ok (f, a)) (Ok (g, b)) left right =
     let same = wraps_one text f g a b left.1 right.1 in
     rw (same.0, same.1) refl
-one_answer text (Ok x) (Err TooLong) left right = absurd (omega arith)
 one_answer text (Ok (f, a)) (Err Malformed) left right = absurd (right.1 f a left.1)
-one_answer text (Err TooLong) (Ok y) left right = absurd (omega arith)
-one_answer text (Err TooLong) (Err TooLong) left right = refl
-one_answer text (Err TooLong) (Err Malformed) left right = absurd (omega arith)
 one_answer text (Err Malformed) (Ok (g, b)) left right = absurd (left.1 g b right.1)
-one_answer text (Err Malformed) (Err TooLong) left right = absurd (omega arith)
+one_answer text (Err TooLong) (Err TooLong) left right = refl
 one_answer text (Err Malformed) (Err Malformed) left right = refl
-one_answer text (Err ThirdParty) y left right = absurd left
-one_answer text (Err TooMany) y left right = absurd left
-one_answer text (Err Memory) y left right = absurd left
-one_answer text x (Err ThirdParty) left right = absurd right
-one_answer text x (Err TooMany) left right = absurd right
-one_answer text x (Err Memory) left right = absurd right
+one_answer text x y left right = first_of (search rules, omega arith)
 
 -- Nothing else is.
 pub unwrapped_is : (text : List ℕ) (answer : Answer) → IsBytes text → (unwrapping text ≡ answer) ↔ IsUnwrapped text answer

@@ -3,12 +3,13 @@ use Rattle.std.proofs.Common.{◌≡◌, ◌≢◌, ℕ, zero, suc, ◌+◌, ◌
 use Rattle.std.proofs.Common.{Some, None, refl, sym, ap, subst, ◌∙◌, append_assoc, arith, inl, inr}
 use Rattle.std.proofs.lemmas.Bool.{cases_lt, leb-true, le-leb, lt-ltb, le-ltb}
 use Rattle.std.proofs.lemmas.Bool.Decides.{nat_tests}
+use Rattle.std.proofs.lemmas.Option.{cond_some, none-some, same_Some}
 use Rattle.std.proofs.lemmas.List.{take_at, drop_at, take-append-drop, length-append, length-take}
 use Rattle.pass_forms.specs.computed.Parts.{◌>>=◌, after_prefix, found_or_none}
 use Rattle.pass_forms.specs.V2.{groups, varint, field, optional_field}
 use Rattle.pass_forms.specs.computed.V2Reading.{varint_at, counted_at, field_at, optional_at}
-use Rattle.pass_forms.proofs.Digits.{bind_some, some_is}
-use Rattle.pass_forms.proofs.Packets.{guard_some, after_prefix_takes, after_prefix_again}
+use Rattle.pass_forms.proofs.Digits.{bind_some}
+use Rattle.pass_forms.proofs.Packets.{after_prefix_takes, after_prefix_again}
 use Rattle.pass_forms.proofs.Varints.{varint_last, varint_more, above_some}
 
 -- ---- numbers
@@ -23,17 +24,14 @@ groups_more : (more n : ℕ) → 128 ≤ n → groups (suc more) n ≡ (128 + n 
 unfolding groups
 groups_more more n large = rw (le-ltb n 128 large) refl
 
-groups_same : (bound more less n : ℕ) → n ≤ bound → n ≤ more → n ≤ less → groups more n ≡ groups less n
-groups_same zero more less n b m l = groups_enough more n (omega arith) ∙ sym (groups_enough less n (omega arith))
-groups_same (suc bound) zero less n b m l = groups_enough zero n (omega arith) ∙ sym (groups_enough less n (omega arith))
-groups_same (suc bound) (suc more) zero n b m l = groups_enough (suc more) n (omega arith) ∙ sym (groups_enough zero n (omega arith))
-groups_same (suc bound) (suc more) (suc less) n b m l = elim (cases_lt n 128) [
+groups_same : (more less n : ℕ) → n ≤ more → n ≤ less → groups more n ≡ groups less n
+groups_same (suc more) (suc less) n m l = elim (cases_lt n 128) [
   | inl small ↦ groups_enough (suc more) n small ∙ sym (groups_enough (suc less) n small)
   | inr large ↦
-      groups_more more n large
-      ∙ ap (λ (x : List ℕ). (128 + n % 128) ∷ x) (groups_same bound more less (n / 128) (omega arith) (omega arith) (omega arith))
+      groups_more more n large ∙ ap (λ (x : List ℕ). (128 + n % 128) ∷ x) (groups_same more less (n / 128) (omega arith) (omega arith))
       ∙ sym (groups_more less n large)
 ]
+groups_same more less n m l = groups_enough more n (omega arith) ∙ sym (groups_enough less n (omega arith))
 
 -- a number of more than seven bits
 pub varint_large : (n : ℕ) → 128 ≤ n → varint n ≡ (128 + n % 128) ∷ varint (n / 128)
@@ -41,18 +39,15 @@ unfolding varint
 varint_large zero large = absurd (omega arith)
 varint_large (suc m) large =
     groups_more m (suc m) large
-    ∙ ap (λ (x : List ℕ). (128 + suc m % 128) ∷ x) (groups_same m m (suc m / 128) (suc m / 128) (omega arith) (omega arith) (omega arith))
+    ∙ ap (λ (x : List ℕ). (128 + suc m % 128) ∷ x) (groups_same m (suc m / 128) (suc m / 128) (omega arith) (omega arith))
 
 pub varint_small : (n : ℕ) → n < 128 → varint n ≡ n ∷ []
 unfolding varint
 varint_small n small = groups_enough n n small
 
-no_number : (n : ℕ) (rest : List ℕ) → ◌≡◌ {A = Option (ℕ × List ℕ)} None (Some (n, rest)) → ⊥
-no_number n rest e = cc
-
 last_takes : (byte : ℕ) (bytes : List ℕ) (n : ℕ) (rest : List ℕ) → byte < 128 → varint_at (byte ∷ bytes) ≡ Some (n, rest) → byte ∷ bytes ≡ varint n ++ rest
 last_takes byte bytes n rest small e =
-    let same = some_is (byte, bytes) (n, rest) (sym (varint_last byte bytes small) ∙ e) in
+    let same = same_Some (byte, bytes) (n, rest) (sym (varint_last byte bytes small) ∙ e) in
     let is_n : byte ≡ n = ap (λ (x : ℕ × List ℕ). x.0) same in
     ap (λ (x : ℕ × List ℕ). x.0 ∷ x.1) same ∙ ap (λ (x : List ℕ). x ++ rest) (sym (varint_small n (omega (arith, is_n))))
 
@@ -74,7 +69,7 @@ varint_takes [] n rest e = absurd cc
 varint_takes (byte ∷ bytes) n rest e = elim (cases_lt byte 128) [
   | inl small ↦ last_takes byte bytes n rest small e
   | inr low ↦ elim (cases_lt byte 256) [
-    | inr large ↦ let none = sym (no_byte byte bytes large) ∙ e in absurd (no_number n rest none)
+    | inr large ↦ absurd (none-some (n, rest) (sym (no_byte byte bytes large) ∙ e))
     | inl top ↦
         let more = above_some (byte - 128) (varint_at bytes) n rest (sym (varint_more byte bytes low top) ∙ e) in
         more_takes byte bytes n more.0 rest low top more.2 more.3 (varint_takes bytes more.0 rest more.1)
@@ -112,7 +107,7 @@ varint_shortens bytes n rest e = omega (arith, ap length (varint_takes bytes n r
 
 counted_takes : (n : ℕ) (bytes text rest : List ℕ) → counted_at (n, bytes) ≡ Some (text, rest) → (bytes ≡ text ++ rest) × (length text ≡ n)
 counted_takes n bytes text rest e =
-    let g = guard_some (leb n (length bytes)) (take n bytes, drop n bytes) (text, rest) e in
+    let g = cond_some (leb n (length bytes)) (take n bytes, drop n bytes) (text, rest) e in
     let within = leb-true n (length bytes) g.0 in
     subst (λ (x : List ℕ × List ℕ). (bytes ≡ x.0 ++ x.1) × (length x.0 ≡ n)) g.1 (sym (take-append-drop n bytes), omega (arith, length-take n bytes))
 
@@ -130,8 +125,8 @@ counted_too_long n bytes long =
 pub field_takes : (type : ℕ) (bytes text rest : List ℕ) → field_at type bytes ≡ Some (text, rest) → bytes ≡ field type text ++ rest
 unfolding field_at
 field_takes type bytes text rest e =
-    let t = bind_some (after_prefix (type ∷ []) bytes) (λ r. varint_at r >>= counted_at) (text, rest) e in
-    let n = bind_some (varint_at t.0) counted_at (text, rest) t.2 in
+    let t = bind_some _ _ (text, rest) e in
+    let n = bind_some _ _ (text, rest) t.2 in
     let c = counted_takes n.0.0 n.0.1 text rest n.2 in
     let len : varint n.0.0 ≡ varint (length text) = ap varint (sym c.1) in
     after_prefix_takes (type ∷ []) bytes t.0 t.1
@@ -147,10 +142,13 @@ field_again type text rest =
     ap (λ (x : List ℕ). after_prefix (type ∷ []) x >>= λ r. varint_at r >>= counted_at) regrouped
     ∙ rw (after_prefix_again (type ∷ []) (varint (length text) ++ (text ++ rest)), varint_again (length text) (text ++ rest), counted_again text rest) refl
 
-pub optional_takes : (type : ℕ) (bytes : List ℕ) (read : Option (List ℕ × List ℕ)) → field_at type bytes ≡ read →
-    bytes ≡ optional_field type (found_or_none bytes read).0 ++ (found_or_none bytes read).1
-optional_takes type bytes None e = refl
-optional_takes type bytes (Some found) e = field_takes type bytes found.0 found.1 e
+pub optional_takes : (type : ℕ) (bytes : List ℕ) → bytes ≡ optional_field type (optional_at type bytes).0 ++ (optional_at type bytes).1
+optional_takes type bytes = by_read (field_at type bytes) refl
+  where
+    by_read : (read : Option (List ℕ × List ℕ)) → field_at type bytes ≡ read →
+        bytes ≡ optional_field type (found_or_none bytes read).0 ++ (found_or_none bytes read).1
+    by_read None e = refl
+    by_read (Some found) e = field_takes type bytes found.0 found.1 e
 
 pub optional_again : (type : ℕ) (text : Option (List ℕ)) (rest : List ℕ) → field_at type rest ≡ None →
     optional_at type (optional_field type text ++ rest) ≡ (text, rest)

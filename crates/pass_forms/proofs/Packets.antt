@@ -1,23 +1,20 @@
 -- A packet that is read is the packet that was written, and what was written is read, whatever follows.
-use Rattle.std.proofs.Common.{◌≡◌, ℕ, ◌+◌, ◌-◌, ◌^◌, ◌<◌, ◌≤◌, Bool, true, false, cond, leb, nat_eq, List, [], ◌∷◌, ◌++◌, length, take, drop, Option, Some}
+use Rattle.std.proofs.Common.{◌≡◌, ℕ, ◌+◌, ◌-◌, ◌^◌, ◌<◌, ◌≤◌, true, leb, nat_eq, List, [], ◌∷◌, ◌++◌, length, take, drop, Option, Some}
 use Rattle.std.proofs.Common.{None, refl, sym, ap, ◌∙◌, append_assoc, arith}
 use Rattle.std.specs.Cmp.Lexicographic.{pointwise}
 use Rattle.std.proofs.lemmas.Bool.{leb-true, le-leb}
 use Rattle.std.proofs.Math.Seq.{take-append-add}
+use Rattle.std.proofs.lemmas.Option.{cond_some, same_Some, some_pair_parts}
 use Rattle.std.proofs.lemmas.List.{drop-take, take-take, take_at, drop_at, take-append-drop, length-append, length-take, length-drop}
 use Rattle.std.proofs.lemmas.Slice.Eq.{bytes_eq-Decides}
 use Rattle.pass_forms.specs.V1.{four_hex_digits, packet_len, packet, FitsPacket}
 use Rattle.pass_forms.specs.computed.Parts.{◌>>=◌, after_prefix, before_suffix}
 use Rattle.pass_forms.specs.computed.V1Reading.{len_at, packet_at}
-use Rattle.pass_forms.proofs.Digits.{bind_some, some_is, len_takes, len_again}
-
-pub guard_some : {A : Type 0} (b : Bool) (x y : A) → cond b (Some x) None ≡ Some y → (b ≡ true) × (x ≡ y)
-guard_some true x y e = (refl, some_is x y e)
-guard_some false x y e = absurd cc
+use Rattle.pass_forms.proofs.Digits.{bind_some, len_takes, len_again}
 
 pub after_prefix_takes : (prefix bytes rest : List ℕ) → after_prefix prefix bytes ≡ Some rest → bytes ≡ prefix ++ rest
 after_prefix_takes prefix bytes rest e =
-    let g = guard_some (pointwise nat_eq (take (length prefix) bytes) prefix) (drop (length prefix) bytes) rest e in
+    let g = cond_some (pointwise nat_eq (take (length prefix) bytes) prefix) (drop (length prefix) bytes) rest e in
     let front : take (length prefix) bytes ≡ prefix = (bytes_eq-Decides (take (length prefix) bytes) prefix).0 g.0 in
     sym (take-append-drop (length prefix) bytes) ∙ ap (λ (x : List ℕ). x ++ drop (length prefix) bytes) front ∙ ap (λ (x : List ℕ). prefix ++ x) g.1
 
@@ -29,7 +26,7 @@ after_prefix_again prefix rest =
 before_suffix_takes : (suffix bytes front : List ℕ) → before_suffix suffix bytes ≡ Some front → bytes ≡ front ++ suffix
 before_suffix_takes suffix bytes front e =
     let cut = length bytes - length suffix in
-    let g = guard_some (pointwise nat_eq (drop cut bytes) suffix) (take cut bytes) front e in
+    let g = cond_some (pointwise nat_eq (drop cut bytes) suffix) (take cut bytes) front e in
     let back : drop cut bytes ≡ suffix = (bytes_eq-Decides (drop cut bytes) suffix).0 g.0 in
     sym (take-append-drop cut bytes) ∙ ap (λ (x : List ℕ). x ++ drop cut bytes) g.1 ∙ ap (λ (x : List ℕ). front ++ x) back
 
@@ -60,25 +57,19 @@ framed bytes more key text n fits begins within body =
 pub packet_takes : (key bytes text rest : List ℕ) → packet_at key bytes ≡ Some (text, rest) → (bytes ≡ packet key text ++ rest) × FitsPacket key text
 unfolding packet_at
 packet_takes key bytes text rest e =
-    let len =
-    bind_some (len_at bytes) (λ len. cond (leb len (length bytes)) (Some (take len bytes)) None >>= λ whole. after_prefix key
-    (drop 4 whole) >>= λ body. before_suffix (10 ∷ []) body >>= λ text. Some (text, drop len bytes)) (text, rest) e in
+    let len = bind_some _ _ (text, rest) e in
     let n = len.0 in
-    let whole =
-    bind_some (cond (leb n (length bytes)) (Some (take n bytes)) None)
-    (λ whole. after_prefix key (drop 4 whole) >>= λ body. before_suffix (10 ∷ []) body >>= λ text. Some (text, drop n bytes)) (text, rest) len.2 in
-    let body =
-    bind_some (after_prefix key (drop 4 whole.0)) (λ body. before_suffix (10 ∷ []) body >>= λ text. Some (text, drop n bytes)) (text, rest) whole.2 in
-    let found = bind_some (before_suffix (10 ∷ []) body.0) (λ text. Some (text, drop n bytes)) (text, rest) body.2 in
+    let whole = bind_some _ _ (text, rest) len.2 in
+    let body = bind_some _ _ (text, rest) whole.2 in
+    let found = bind_some _ _ (text, rest) body.2 in
     let digits = len_takes bytes n len.1 in
-    let within = guard_some (leb n (length bytes)) (take n bytes) whole.0 whole.1 in
-    let is_found : found.0 ≡ text = ap (λ (x : List ℕ × List ℕ). x.0) (some_is (found.0, drop n bytes) (text, rest) found.2) in
-    let is_rest : drop n bytes ≡ rest = ap (λ (x : List ℕ × List ℕ). x.1) (some_is (found.0, drop n bytes) (text, rest) found.2) in
+    let within = cond_some (leb n (length bytes)) (take n bytes) whole.0 whole.1 in
+    let same = some_pair_parts found.0 text (drop n bytes) rest found.2 in
     let is_body : drop 4 (take n bytes) ≡ key ++ (text ++ 10 ∷ []) =
     ap (drop 4) within.1 ∙ after_prefix_takes key (drop 4 whole.0) body.0 body.1
-    ∙ ap (λ (x : List ℕ). key ++ x) (before_suffix_takes (10 ∷ []) body.0 found.0 found.1 ∙ ap (λ (x : List ℕ). x ++ 10 ∷ []) is_found) in
+    ∙ ap (λ (x : List ℕ). key ++ x) (before_suffix_takes (10 ∷ []) body.0 found.0 found.1 ∙ ap (λ (x : List ℕ). x ++ 10 ∷ []) same.0) in
     let parts = framed bytes digits.1 key text n digits.0 digits.2 (leb-true n (length bytes) within.0) is_body in
-    (parts.0 ∙ ap (λ (x : List ℕ). packet key text ++ x) is_rest, parts.1)
+    (parts.0 ∙ ap (λ (x : List ℕ). packet key text ++ x) same.1, parts.1)
 
 -- Where the key differs there is none.
 none_found : (key bytes : List ℕ) (found : Option (List ℕ × List ℕ)) → packet_at key bytes ≡ found → after_prefix key (drop 4 bytes) ≡ None → found ≡ None
@@ -135,7 +126,7 @@ none_so_short key bytes n (Some (text, rest)) e content short =
     let body = key ++ (text ++ 10 ∷ []) in
     let again : len_at bytes ≡ Some (packet_len key text) =
     ap len_at (parts.0 ∙ append_assoc (four_hex_digits (packet_len key text)) body rest) ∙ len_again (packet_len key text) (body ++ rest) parts.1 in
-    let same : n ≡ packet_len key text = some_is n (packet_len key text) (sym content ∙ again) in
+    let same : n ≡ packet_len key text = same_Some n (packet_len key text) (sym content ∙ again) in
     absurd (omega (arith, same, short))
 
 pub too_short : (key bytes : List ℕ) (n : ℕ) → len_at bytes ≡ Some n → n < 4 + length key → packet_at key bytes ≡ None

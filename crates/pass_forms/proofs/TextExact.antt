@@ -1,8 +1,8 @@
 -- The reading of a text in any form is exact, if the reading of bytes is.
-use Rattle.std.proofs.Common.{◌≡◌, ◌↔◌, ℕ, ◌≤◌, List, length, Option, Some, Result, Ok, Err, refl, sym, ap, subst, ◌∙◌, arith}
+use Rattle.std.proofs.Common.{◌≡◌, ◌↔◌, ℕ, ◌≤◌, List, length, Option, Some, Result, Ok, Err, refl, sym, ap, subst, ◌∙◌, arith, rules}
 use Rattle.base64.specs.GeneralPurpose.{IsBytes}
 use Rattle.pass_forms.specs.declared.fault.FormFault.{FormFault}
-use Rattle.pass_forms.specs.declared.fault.FormFault.TheVariants.{TooLong, Malformed, ThirdParty, TooMany, Memory}
+use Rattle.pass_forms.specs.declared.fault.FormFault.TheVariants.{TooLong, Malformed, ThirdParty, TooMany}
 use Rattle.pass_forms.specs.declared.form.Form.{Form}
 use Rattle.pass_forms.specs.Envelope.{Wraps, IsUnwrapped}
 use Rattle.pass_forms.specs.computed.Envelope.{unwrapping}
@@ -20,80 +20,66 @@ Reader = Form → List ℕ → Option WidePass
 abbrev Spells : Reader → Form → List ℕ → WidePass → Type 0
 Spells wide_at form bytes wide = wide_at form bytes ≡ Some wide
 
-abbrev SpellsIn : Reader → List ℕ → Form → WidePass → Type 0
-SpellsIn wide_at text form wide = SpellsText (Spells wide_at) text form wide
+module _ (wide_at : Reader) (text : List ℕ) where
+  abbrev SpellsIn : Form → WidePass → Type 0
+  SpellsIn form wide = SpellsText (Spells wide_at) text form wide
 
-abbrev SpellsAny : Reader → List ℕ → WidePass → Type 0
-SpellsAny wide_at text wide = (form : Form) × SpellsText (Spells wide_at) text form wide
+  abbrev SpellsAny : WidePass → Type 0
+  SpellsAny wide = (form : Form) × SpellsText (Spells wide_at) text form wide
 
--- What a text spells is what its bytes spell, in its form and in any.
-same_bytes : (wide_at : Reader) (text : List ℕ) (form other : Form) (bytes : List ℕ) (wide : WidePass) → Wraps text form bytes →
-    SpellsIn wide_at text other wide → (other ≡ form) × (wide_at form bytes ≡ Some wide)
-same_bytes wide_at text form other bytes wide wraps h =
-    let same = wraps_one text other form h.0 bytes h.1 wraps in
-    (same.0, subst (λ (x : Form × List ℕ). wide_at x.0 x.1 ≡ Some wide) (rw (same.0, same.1) refl) h.2)
+  -- What a text spells is what its bytes spell, in its form and in any.
+  same_bytes : (form other : Form) (bytes : List ℕ) (wide : WidePass) → Wraps text form bytes → SpellsIn other wide →
+      (other ≡ form) × (wide_at form bytes ≡ Some wide)
+  same_bytes form other bytes wide wraps h =
+      let same = wraps_one text other form h.0 bytes h.1 wraps in
+      (same.0, subst (λ (x : Form × List ℕ). wide_at x.0 x.1 ≡ Some wide) (rw (same.0, same.1) refl) h.2)
 
-computes_in : (wide_at : Reader) (text : List ℕ) (form : Form) (bytes : List ℕ) → Wraps text form bytes →
-    Computes (SpellsIn wide_at text form) (wide_at form bytes)
-computes_in wide_at text form bytes wraps wide = (λ h. (same_bytes wide_at text form form bytes wide wraps h).1, λ e. (bytes, wraps, e))
+  computes_in : (form : Form) (bytes : List ℕ) → Wraps text form bytes → Computes (SpellsIn form) (wide_at form bytes)
+  computes_in form bytes wraps wide = (λ h. (same_bytes form form bytes wide wraps h).1, λ e. (bytes, wraps, e))
 
-computes_any : (wide_at : Reader) (text : List ℕ) (form : Form) (bytes : List ℕ) → Wraps text form bytes →
-    Computes (SpellsAny wide_at text) (wide_at form bytes)
-computes_any wide_at text form bytes wraps wide = (λ h. (same_bytes wide_at text form h.0 bytes wide wraps h.1).1, λ e. (form, (bytes, wraps, e)))
+  computes_any : (form : Form) (bytes : List ℕ) → Wraps text form bytes → Computes SpellsAny (wide_at form bytes)
+  computes_any form bytes wraps wide = (λ h. (same_bytes form h.0 bytes wide wraps h.1).1, λ e. (form, (bytes, wraps, e)))
 
-in_form_is : (wide_at : Reader) (text : List ℕ) (form : Form) (answer : Result Plain FormFault) → IsReadAs (length text) (SpellsIn wide_at text form) answer →
-    IsReadAs (length text) (SpellsAny wide_at text) answer → IsTextReading (Spells wide_at) text (in_form form answer)
-in_form_is wide_at text form (Ok pass) here any = here
-in_form_is wide_at text form (Err fault) here any = any
+  in_form_is : (form : Form) (answer : Result Plain FormFault) → IsReadAs (length text) (SpellsIn form) answer → IsReadAs (length text) SpellsAny answer →
+      IsTextReading (Spells wide_at) text (in_form form answer)
+  in_form_is form (Ok pass) here any = here
+  in_form_is form (Err fault) here any = any
 
-reading_in_is : (wide_at : Reader) (text : List ℕ) (wrapped : Result (Form × List ℕ) FormFault) → IsUnwrapped text wrapped →
-    IsTextReading (Spells wide_at) text (reading_in wide_at wrapped)
-reading_in_is wide_at text (Ok (form, bytes)) h =
-    in_form_is wide_at text form (checked_if_any (wide_at form bytes))
-    (checked_if_any_is (length text) (SpellsIn wide_at text form) (wide_at form bytes) (computes_in wide_at text form bytes h.1) h.0)
-    (checked_if_any_is (length text) (SpellsAny wide_at text) (wide_at form bytes) (computes_any wide_at text form bytes h.1) h.0)
-reading_in_is wide_at text (Err TooLong) h = h
-reading_in_is wide_at text (Err Malformed) h = (h.0, λ wide spelling. h.1 spelling.0 spelling.1.0 spelling.1.1)
-reading_in_is wide_at text (Err ThirdParty) h = absurd h
-reading_in_is wide_at text (Err TooMany) h = absurd h
-reading_in_is wide_at text (Err Memory) h = absurd h
+  reading_in_is : (wrapped : Result (Form × List ℕ) FormFault) → IsUnwrapped text wrapped → IsTextReading (Spells wide_at) text (reading_in wide_at wrapped)
+  reading_in_is (Ok (form, bytes)) h =
+      in_form_is form (checked_if_any (wide_at form bytes))
+      (checked_if_any_is (length text) (SpellsIn form) (wide_at form bytes) (computes_in form bytes h.1) h.0)
+      (checked_if_any_is (length text) SpellsAny (wide_at form bytes) (computes_any form bytes h.1) h.0)
+  reading_in_is (Err TooLong) h = h
+  reading_in_is (Err Malformed) h = (h.0, λ wide spelling. h.1 spelling.0 spelling.1.0 spelling.1.1)
+  reading_in_is wrapped h = absurd h
 
--- A text that wraps bytes in a form has one answer.
-wrapped_determined : (wide_at : Reader) (text : List ℕ) (form : Form) (bytes : List ℕ) (answer : Result (Form × Plain) FormFault) → length text ≤ max_text_len →
-    Wraps text form bytes → IsTextReading (Spells wide_at) text answer → in_form form (checked_if_any (wide_at form bytes)) ≡ answer
-wrapped_determined wide_at text form bytes (Ok (other, pass)) within wraps h =
-    let same = same_bytes wide_at text form other bytes (as_wide_pass pass) wraps h.1 in
-    let here : IsReadAs (length text) (SpellsIn wide_at text form) (Ok pass) = (h.0, (bytes, wraps, same.1), h.2) in
-    ap (in_form form) (checked_determined (length text) (SpellsIn wide_at text form) (wide_at form bytes) (Ok pass)
-    (computes_in wide_at text form bytes wraps) within here)
-    ∙ ap (λ (f : Form). Ok (f, pass)) (sym same.0)
-wrapped_determined wide_at text form bytes (Err fault) within wraps h =
-    ap (in_form form) (checked_determined (length text) (SpellsAny wide_at text) (wide_at form bytes) (Err fault)
-    (computes_any wide_at text form bytes wraps) within h)
+  -- A text that wraps bytes in a form has one answer.
+  wrapped_determined : (form : Form) (bytes : List ℕ) (answer : Result (Form × Plain) FormFault) → length text ≤ max_text_len → Wraps text form bytes →
+      IsTextReading (Spells wide_at) text answer → in_form form (checked_if_any (wide_at form bytes)) ≡ answer
+  wrapped_determined form bytes (Ok (other, pass)) within wraps h =
+      let same = same_bytes form other bytes (as_wide_pass pass) wraps h.1 in
+      ap (in_form form) (checked_determined (length text) (SpellsIn form) (wide_at form bytes) (Ok pass) (computes_in form bytes wraps) within
+      (h.0, (bytes, wraps, same.1), h.2))
+      ∙ ap (λ (f : Form). Ok (f, pass)) (sym same.0)
+  wrapped_determined form bytes (Err fault) within wraps h =
+      ap (in_form form) (checked_determined (length text) SpellsAny (wide_at form bytes) (Err fault) (computes_any form bytes wraps) within h)
 
-reading_in_determined : (wide_at : Reader) (text : List ℕ) (wrapped : Result (Form × List ℕ) FormFault) (answer : Result (Form × Plain) FormFault) →
-    IsUnwrapped text wrapped → IsTextReading (Spells wide_at) text answer → reading_in wide_at wrapped ≡ answer
-reading_in_determined wide_at text (Ok (form, bytes)) answer h content = wrapped_determined wide_at text form bytes answer h.0 h.1 content
-reading_in_determined wide_at text (Err TooLong) (Ok read) h content = absurd (omega arith)
-reading_in_determined wide_at text (Err TooLong) (Err TooLong) h content = refl
-reading_in_determined wide_at text (Err TooLong) (Err Malformed) h content = absurd (omega arith)
-reading_in_determined wide_at text (Err TooLong) (Err ThirdParty) h content = absurd (omega arith)
-reading_in_determined wide_at text (Err TooLong) (Err TooMany) h content = absurd (omega arith)
-reading_in_determined wide_at text (Err Malformed) (Ok (form, pass)) h content = absurd (h.1 form content.1.0 content.1.1)
-reading_in_determined wide_at text (Err Malformed) (Err TooLong) h content = absurd (omega arith)
-reading_in_determined wide_at text (Err Malformed) (Err Malformed) h content = refl
-reading_in_determined wide_at text (Err Malformed) (Err ThirdParty) h content = absurd (h.1 content.2.0 content.2.1.0 content.2.1.1)
-reading_in_determined wide_at text (Err Malformed) (Err TooMany) h content = absurd (h.1 content.2.0 content.2.1.0 content.2.1.1)
-reading_in_determined wide_at text (Err wrapped) (Err Memory) h content = absurd content
-reading_in_determined wide_at text (Err ThirdParty) answer h content = absurd h
-reading_in_determined wide_at text (Err TooMany) answer h content = absurd h
-reading_in_determined wide_at text (Err Memory) answer h content = absurd h
+  reading_in_determined : (wrapped : Result (Form × List ℕ) FormFault) (answer : Result (Form × Plain) FormFault) → IsUnwrapped text wrapped →
+      IsTextReading (Spells wide_at) text answer → reading_in wide_at wrapped ≡ answer
+  reading_in_determined (Ok (form, bytes)) answer h content = wrapped_determined form bytes answer h.0 h.1 content
+  reading_in_determined (Err TooLong) (Err TooLong) h content = refl
+  reading_in_determined (Err Malformed) (Err Malformed) h content = refl
+  reading_in_determined (Err Malformed) (Ok (form, pass)) h content = absurd (h.1 form content.1.0 content.1.1)
+  reading_in_determined (Err Malformed) (Err ThirdParty) h content = absurd (h.1 content.2.0 content.2.1.0 content.2.1.1)
+  reading_in_determined (Err Malformed) (Err TooMany) h content = absurd (h.1 content.2.0 content.2.1.0 content.2.1.1)
+  reading_in_determined wrapped answer h content = first_of (search rules, omega arith)
 
-pub text_reading_exact : (wide_at : Reader) (text : List ℕ) (answer : Result (Form × Plain) FormFault) → IsBytes text →
-    IsTextReading (Spells wide_at) text answer ↔ (text_reading wide_at text ≡ answer)
-unfolding text_reading
-text_reading_exact wide_at text answer bytes =
-    let unwraps = unwrapped_answers text bytes in (
-      reading_in_determined wide_at text (unwrapping text) answer unwraps,
-      λ e. subst (IsTextReading (Spells wide_at) text) e (reading_in_is wide_at text (unwrapping text) unwraps),
-    )
+  pub text_reading_exact : (answer : Result (Form × Plain) FormFault) → IsBytes text →
+      IsTextReading (Spells wide_at) text answer ↔ (text_reading wide_at text ≡ answer)
+  unfolding text_reading
+  text_reading_exact answer bytes =
+      let unwraps = unwrapped_answers text bytes in (
+        reading_in_determined (unwrapping text) answer unwraps,
+        λ e. subst (IsTextReading (Spells wide_at) text) e (reading_in_is (unwrapping text) unwraps),
+      )

@@ -4,7 +4,7 @@ use Rattle.std.proofs.Common.{◌∙◌, arith, inl, inr}
 use Rattle.std.proofs.lemmas.Bool.{cases_lt, lt-ltb, le-ltb}
 use Rattle.std.proofs.lemmas.Bool.Decides.{nat_tests}
 use Rattle.pass_forms.specs.computed.V2Reading.{above, varint_at}
-use Rattle.pass_forms.proofs.Digits.{some_is}
+use Rattle.std.proofs.lemmas.Option.{same_Some}
 
 -- a byte with more after it
 pub varint_more : (byte : ℕ) (rest : List ℕ) → 128 ≤ byte → byte < 256 → varint_at (byte ∷ rest) ≡ above (byte - 128) (varint_at rest)
@@ -21,7 +21,7 @@ above_by : (low high : ℕ) (after : List ℕ) (n : ℕ) (rest : List ℕ) (none
     (n ≡ low + 128 * high)
 above_by low high after n rest true e h = absurd cc
 above_by low high after n rest false e h =
-    let same = some_is (low + 128 * high, after) (n, rest) h in
+    let same = same_Some (low + 128 * high, after) (n, rest) h in
     (ap (λ (x : ℕ × List ℕ). Some (high, x.1)) same, grind (arith, nat_tests), sym (ap (λ (x : ℕ × List ℕ). x.0) same))
 
 pub above_some : (low : ℕ) (tail : Option (ℕ × List ℕ)) (n : ℕ) (rest : List ℕ) → above low tail ≡ Some (n, rest) →
@@ -42,7 +42,7 @@ no_bytes (byte ∷ bytes) most len n rest e = absurd (omega arith)
 
 one_group : (first : ℕ) (others : List ℕ) (n : ℕ) (rest : List ℕ) → first < 128 → varint_at (first ∷ others) ≡ Some (n, rest) → first ≡ n
 one_group first others n rest low e =
-    ap (λ (x : ℕ × List ℕ). x.0) (some_is (first, others) (n, rest) (sym (varint_last first others low) ∙ e))
+    ap (λ (x : ℕ × List ℕ). x.0) (same_Some (first, others) (n, rest) (sym (varint_last first others low) ∙ e))
 
 -- what the bytes after the first of a longer number spell
 more_groups : (first : ℕ) (others : List ℕ) (n : ℕ) (rest : List ℕ) → 128 ≤ first → first < 256 → varint_at (first ∷ others) ≡ Some (n, rest) →
@@ -71,7 +71,7 @@ known_groups : (bytes : List ℕ) (first : ℕ) (others : List ℕ) (high : ℕ)
     first < 256 → varint_at others ≡ Some (high, after) → varint_at bytes ≡ Some (n, rest) → (0 < high) × (n ≡ (first - 128) + 128 * high)
 known_groups bytes first others high after n rest is low top content e =
     let more = more_groups first others n rest low top (sym (ap varint_at is) ∙ e) in
-    let same = ap (λ (x : ℕ × List ℕ). x.0) (some_is (more.0, rest) (high, after) (sym more.1 ∙ content)) in
+    let same = ap (λ (x : ℕ × List ℕ). x.0) (same_Some (more.0, rest) (high, after) (sym more.1 ∙ content)) in
     (omega (arith, more.2, same), omega (arith, more.3, same))
 
 pub nothing_above : (bytes : List ℕ) (first : ℕ) (others : List ℕ) (most high : ℕ) (after : List ℕ) → bytes ≡ first ∷ others → 128 ≤ first → first < 256 →

@@ -1,14 +1,14 @@
 -- From the parts that were found one after another to the whole pass.
-use Rattle.std.proofs.Common.{◌≡◌, ℕ, Bool, true, false, ◌&&◌, eqb, List, [], length, map, Option, Some, None, option_map, refl, ap, subst, ◌∙◌}
-use Rattle.std.proofs.lemmas.Bool.{eqb-true}
+use Rattle.std.proofs.Common.{◌≡◌, ℕ, Bool, ◌&&◌, eqb, List, [], length, map, Option, Some, None, option_map, refl, ap, subst, ◌∙◌}
+use Rattle.std.proofs.lemmas.Bool.{and_parts, eqb-true}
+use Rattle.std.proofs.lemmas.Option.{cond_some, same_Some}
 use Rattle.std.proofs.lemmas.List.{nil_from_length}
 use Rattle.pass_forms.specs.computed.Caveats.{caveats_at, scan_summary, whole_at, Counts}
 use Rattle.pass_forms.specs.FieldSource.{pass_fields}
 use Rattle.pass_forms.specs.computed.Parts.{◌>>=◌, last_signature}
 use Rattle.pass_forms.specs.Pass.{WideCaveat, WidePass, first_party_caveat}
-use Rattle.pass_forms.proofs.Digits.{bind_some, some_is}
+use Rattle.pass_forms.proofs.Digits.{bind_some}
 use Rattle.pass_forms.proofs.CaveatRuns.{Reader, as_many}
-use Rattle.pass_forms.proofs.Packets.{guard_some}
 
 -- What was learned of the parts is what is learned of the pass.
 pub gone_over_whole : (header_at : List ℕ → Option (List ℕ × List ℕ × List ℕ)) (caveat_at : Reader) (footer_at : List ℕ → Option (List ℕ))
@@ -50,9 +50,9 @@ pub whole_parts : (header_at : List ℕ → Option (List ℕ × List ℕ × List
 unfolding whole_at
 whole_parts header_at caveat_at footer_at bytes wide e =
     let read = λ (h : List ℕ × List ℕ × List ℕ). caveats_at caveat_at (length h.2) h.2 in
-    let h = bind_some (header_at bytes) (λ h. footer_at (read h).1 >>= λ s. Some (made h (read h).0 s)) wide e in
-    let s = bind_some (footer_at (read h.0).1) (λ s. Some (made h.0 (read h.0).0 s)) wide h.2 in
-    record { header = h.0; signature = s.0; at_header = h.1; at_footer = s.1; whole = some_is (made h.0 (read h.0).0 s.0) wide s.2 }
+    let h = bind_some _ _ wide e in
+    let s = bind_some _ _ wide h.2 in
+    record { header = h.0; signature = s.0; at_header = h.1; at_footer = s.1; whole = same_Some (made h.0 (read h.0).0 s.0) wide s.2 }
 
 pub whole_again : (header_at : List ℕ → Option (List ℕ × List ℕ × List ℕ)) (caveat_at : Reader) (footer_at : List ℕ → Option (List ℕ)) (bytes : List ℕ)
     (header : List ℕ × List ℕ × List ℕ) (caveats : List WideCaveat) (rest signature : List ℕ) → header_at bytes ≡ Some header →
@@ -63,16 +63,12 @@ whole_again header_at caveat_at footer_at bytes header caveats rest signature h 
 
 -- ---- the signature
 
-pub both_true : (a b : Bool) → (a && b) ≡ true → (a ≡ true) × (b ≡ true)
-both_true true b e = (refl, e)
-both_true false b e = absurd cc
-
 -- The signature that was found is the whole last part.
 pub last_takes : (found : Option (List ℕ × List ℕ)) (signature : List ℕ) → (found >>= last_signature) ≡ Some signature →
     (found ≡ Some (signature, [])) × (length signature ≡ 32)
 last_takes None signature e = absurd cc
 last_takes (Some (part, rest)) signature e =
-    let g = guard_some (eqb (length part) 32 && eqb (length rest) 0) part signature e in
-    let lens = both_true (eqb (length part) 32) (eqb (length rest) 0) g.0 in
+    let g = cond_some (eqb (length part) 32 && eqb (length rest) 0) part signature e in
+    let lens = and_parts (eqb (length part) 32) (eqb (length rest) 0) g.0 in
     let nothing : rest ≡ [] = nil_from_length rest (eqb-true (length rest) 0 lens.1) in
     (cc (nothing, g.1), subst (λ (x : List ℕ). length x ≡ 32) g.1 (eqb-true (length part) 32 lens.0))

@@ -2,17 +2,17 @@
 use Rattle.std.proofs.Common.{◌≡◌, ℕ, ◌≤◌, List, [], ◌++◌, length, Some, None, refl, sym, ap, subst, ◌∙◌, arith}
 use Rattle.std.specs.List.{flat_map}
 use Rattle.std.proofs.lemmas.List.{append-nil, length-append}
+use Rattle.std.proofs.lemmas.Option.{same_Some}
 use Rattle.pass_forms.specs.Pass.{WidePass}
 use Rattle.pass_forms.specs.V1.{packet, caveat_packets}
 use Rattle.pass_forms.specs.V1.{packets_of, FitsPacket, FitsCaveat, FitsPackets, SpellsV1}
-use Rattle.pass_forms.specs.computed.Parts.{◌>>=◌}
 use Rattle.pass_forms.specs.computed.V1Reading.{packet_at, header_at, caveat_at, signature_at, wide_at, reading_v1}
 use Rattle.pass_forms.specs.computed.Caveats.{caveats_at}
 use Rattle.pass_forms.specs.Laws.{ComputesSpelled, ReadsExactly}
 use Rattle.pass_forms.proofs.FieldNames.{location_key, identifier_key, caveat_key, verifier_id_key, caveat_location_key, signature_key}
 use Rattle.pass_forms.proofs.Checking.{exactly}
 use Rattle.pass_forms.proofs.WholePass.{last_takes, made, whole_parts, whole_again}
-use Rattle.pass_forms.proofs.Digits.{bind_some, some_is}
+use Rattle.pass_forms.proofs.Digits.{bind_some}
 use Rattle.pass_forms.proofs.Packets.{packet_takes, packet_again, packet_other}
 use Rattle.pass_forms.proofs.CaveatPackets.{EndsCaveat, exact_caveats, caveat_has_bytes}
 use Rattle.pass_forms.proofs.CaveatTexts.{caveats_take, caveats_again, caveats_fit}
@@ -55,14 +55,14 @@ header_takes : (bytes : List ℕ) (header : List ℕ × List ℕ × List ℕ) �
     header.1
 unfolding header_at
 header_takes bytes header e =
-    let l = bind_some (packet_at location_key bytes) (λ l. packet_at identifier_key l.1 >>= λ i. Some (l.0, i.0, i.1)) header e in
-    let i = bind_some (packet_at identifier_key l.0.1) (λ i. Some (l.0.0, i.0, i.1)) header l.2 in
+    let l = bind_some _ _ header e in
+    let i = bind_some _ _ header l.2 in
     let tl = packet_takes location_key bytes l.0.0 l.0.1 l.1 in
     let ti = packet_takes identifier_key l.0.1 i.0.0 i.0.1 i.1 in
     let found : List ℕ × List ℕ × List ℕ = (l.0.0, i.0.0, i.0.1) in
     subst (λ (h : List ℕ × List ℕ × List ℕ). (bytes ≡ packet location_key h.0 ++ (packet identifier_key h.1 ++ h.2)) × FitsPacket location_key h.0
     × FitsPacket identifier_key h.1)
-    (some_is found header i.2) (tl.0 ∙ ap (λ (x : List ℕ). packet location_key l.0.0 ++ x) ti.0, tl.1, ti.1)
+    (same_Some found header i.2) (tl.0 ∙ ap (λ (x : List ℕ). packet location_key l.0.0 ++ x) ti.0, tl.1, ti.1)
 
 header_again : (location identifier rest : List ℕ) → FitsPacket location_key location → FitsPacket identifier_key identifier →
     header_at (packet location_key location ++ (packet identifier_key identifier ++ rest)) ≡ Some (location, identifier, rest)
@@ -77,9 +77,7 @@ wide_takes bytes wide e =
     let h = header_takes bytes p.header p.at_header in
     let c = caveats_take caveat_at caveat_packets FitsCaveat EndsCaveat exact_caveats (length p.header.2) p.header.2 in
     let s = signature_takes read.1 p.signature p.at_footer in
-    let parts : bytes ≡ packets_of (made p.header read.0 p.signature) =
-    h.0 ∙ ap (λ (x : List ℕ). packet location_key p.header.0 ++ (packet identifier_key p.header.1 ++ x))
-    (c.0 ∙ ap (λ (x : List ℕ). flat_map caveat_packets read.0 ++ x) s.0) in
+    let parts : bytes ≡ packets_of (made p.header read.0 p.signature) = cc (h.0, c.0, s.0) in
     let fits : FitsPackets (made p.header read.0 p.signature) = record { location = h.1; identifier = h.2; caveats = c.1; signature = s.1 } in
     let spelling : SpellsV1 bytes (made p.header read.0 p.signature) = record { packets = parts; fits = fits } in
     subst (λ (w : WidePass). SpellsV1 bytes w) p.whole spelling

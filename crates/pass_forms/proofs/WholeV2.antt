@@ -3,14 +3,14 @@ use Rattle.std.proofs.Common.{◌≡◌, ℕ, ◌≤◌, List, [], ◌∷◌, �
 use Rattle.std.specs.Prelude.{unwrap_or}
 use Rattle.std.specs.List.{flat_map, AllByRecursion}
 use Rattle.std.proofs.lemmas.List.{append-nil, length-append}
+use Rattle.std.proofs.lemmas.Option.{same_Some}
 use Rattle.pass_forms.specs.computed.Caveats.{caveats_at}
-use Rattle.pass_forms.specs.computed.Parts.{◌>>=◌, after_prefix, last_signature}
 use Rattle.pass_forms.specs.Pass.{WideCaveat, WidePass}
 use Rattle.pass_forms.specs.V2.{field, optional_field, end_of_section, caveat_section, types}
 use Rattle.pass_forms.specs.V2.{sections, SpellsV2, types}
 use Rattle.pass_forms.specs.computed.V2Reading.{field_at, optional_at, caveat_at, header_at, footer_at, wide_at, reading_v2}
 use Rattle.pass_forms.proofs.CaveatTexts.{Exact, caveats_take, caveats_again, caveats_fit}
-use Rattle.pass_forms.proofs.Digits.{bind_some, some_is}
+use Rattle.pass_forms.proofs.Digits.{bind_some}
 use Rattle.pass_forms.proofs.Fields.{field_takes, field_again, optional_takes, optional_again}
 use Rattle.pass_forms.proofs.Packets.{after_prefix_takes}
 use Rattle.pass_forms.specs.Laws.{ComputesSpelled, ReadsExactly}
@@ -20,30 +20,26 @@ use Rattle.pass_forms.proofs.WholePass.{last_takes, made, whole_parts, whole_aga
 -- ---- caveats
 
 section_assoc : (a b c rest : List ℕ) → (a ++ (b ++ (c ++ end_of_section))) ++ rest ≡ a ++ (b ++ (c ++ (end_of_section ++ rest)))
-section_assoc a b c rest =
-    append_assoc a (b ++ (c ++ end_of_section)) rest ∙ ap (λ (x : List ℕ). a ++ x) (append_assoc b (c ++ end_of_section) rest
-    ∙ ap (λ (x : List ℕ). b ++ x) (append_assoc c end_of_section rest))
+section_assoc a b c rest = simp append_assoc
 
 caveat_takes : (bytes : List ℕ) (found : WideCaveat × List ℕ) → caveat_at bytes ≡ Some found → (bytes ≡ caveat_section found.0 ++ found.1) × Unit {0}
 unfolding caveat_at
 caveat_takes bytes found e =
+    let i = bind_some _ _ found e in
+    let r = bind_some _ _ found i.2 in
     let l = optional_at types.location bytes in
-    let v = λ (i : List ℕ × List ℕ). optional_at types.verifier_id i.1 in
-    let caveat = λ (i : List ℕ × List ℕ). let c : WideCaveat = record { identifier = i.0; verifier_id = (v i).0; location = l.0 } in c in
-    let i = bind_some (field_at types.identifier l.1) (λ i. after_prefix end_of_section (v i).1 >>= λ rest. Some (caveat i, rest)) found e in
-    let r = bind_some (after_prefix end_of_section (v i.0).1) (λ rest. Some (caveat i.0, rest)) found i.2 in
-    let tl = optional_takes types.location bytes (field_at types.location bytes) refl in
+    let v = optional_at types.verifier_id i.0.1 in
+    let tl = optional_takes types.location bytes in
     let ti = field_takes types.identifier l.1 i.0.0 i.0.1 i.1 in
-    let tv = optional_takes types.verifier_id i.0.1 (field_at types.verifier_id i.0.1) refl in
-    let tr = after_prefix_takes end_of_section (v i.0).1 r.0 r.1 in
+    let tv = optional_takes types.verifier_id i.0.1 in
+    let tr = after_prefix_takes end_of_section v.1 r.0 r.1 in
     let lt = optional_field types.location l.0 in
     let it = field types.identifier i.0.0 in
-    let vt = optional_field types.verifier_id (v i.0).0 in
-    let parts : bytes ≡ lt ++ (it ++ (vt ++ (end_of_section ++ r.0))) =
-    tl ∙ ap (λ (x : List ℕ). lt ++ x) (ti ∙ ap (λ (x : List ℕ). it ++ x) (tv ∙ ap (λ (x : List ℕ). vt ++ x) tr)) in
-    let grouped : caveat_section (caveat i.0) ++ r.0 ≡ lt ++ (it ++ (vt ++ (end_of_section ++ r.0))) = section_assoc lt it vt r.0 in
-    let same = some_is (caveat i.0, r.0) found r.2 in
-    (parts ∙ sym grouped ∙ ap (λ (x : WideCaveat × List ℕ). caveat_section x.0 ++ x.1) same, tt)
+    let vt = optional_field types.verifier_id v.0 in
+    let parts : bytes ≡ lt ++ (it ++ (vt ++ (end_of_section ++ r.0))) = cc in
+    let caveat : WideCaveat = record { identifier = i.0.0; verifier_id = v.0; location = l.0 } in
+    let whole : bytes ≡ caveat_section caveat ++ r.0 = parts ∙ sym (section_assoc lt it vt r.0) in
+    (whole ∙ ap (λ (x : WideCaveat × List ℕ). caveat_section x.0 ++ x.1) (same_Some (caveat, r.0) found r.2), tt)
 
 -- A field of another type is no field of this one.
 not_location : (text rest : List ℕ) → field_at types.location (field types.identifier text ++ rest) ≡ None
@@ -83,7 +79,7 @@ footer_takes : (bytes signature : List ℕ) → footer_at bytes ≡ Some signatu
     (bytes ≡ end_of_section ++ field types.signature signature) × (length signature ≡ 32)
 unfolding footer_at
 footer_takes bytes signature e =
-    let r = bind_some (after_prefix end_of_section bytes) (λ rest. field_at types.signature rest >>= last_signature) signature e in
+    let r = bind_some _ _ signature e in
     let s = last_takes (field_at types.signature r.0) signature r.2 in
     let is_field : r.0 ≡ field types.signature signature =
     field_takes types.signature r.0 signature [] s.0 ∙ append-nil (field types.signature signature) in
@@ -111,26 +107,17 @@ pub record Heads (bytes : List ℕ) (header : List ℕ × List ℕ × List ℕ) 
 header_takes : (bytes : List ℕ) (header : List ℕ × List ℕ × List ℕ) → header_at bytes ≡ Some header → Heads bytes header
 unfolding header_at
 header_takes bytes header e =
-    let l = λ (first : List ℕ). optional_at types.location first in
-    let f =
-    bind_some (after_prefix (2 ∷ []) bytes)
-    (λ first. field_at types.identifier (l first).1 >>= λ i. after_prefix end_of_section i.1 >>= λ rest. Some
-    (unwrap_or (l first).0 [], i.0, rest)) header e in
-    let i =
-    bind_some (field_at types.identifier (l f.0).1) (λ i. after_prefix end_of_section i.1 >>= λ rest. Some (unwrap_or (l f.0).0 [], i.0, rest)) header f.2 in
-    let r = bind_some (after_prefix end_of_section i.0.1) (λ rest. Some (unwrap_or (l f.0).0 [], i.0.0, rest)) header i.2 in
+    let f = bind_some _ _ header e in
+    let i = bind_some _ _ header f.2 in
+    let r = bind_some _ _ header i.2 in
+    let l = optional_at types.location f.0 in
     let tf = after_prefix_takes (2 ∷ []) bytes f.0 f.1 in
-    let tl = optional_takes types.location f.0 (field_at types.location f.0) refl in
-    let ti = field_takes types.identifier (l f.0).1 i.0.0 i.0.1 i.1 in
+    let tl = optional_takes types.location f.0 in
+    let ti = field_takes types.identifier l.1 i.0.0 i.0.1 i.1 in
     let tr = after_prefix_takes end_of_section i.0.1 r.0 r.1 in
-    let lt = optional_field types.location (l f.0).0 in
-    let found : List ℕ × List ℕ × List ℕ = (unwrap_or (l f.0).0 [], i.0.0, r.0) in
-    let heads : Heads bytes found = record {
-      location = (l f.0).0;
-      is_location = refl;
-      parts = tf ∙ ap (λ (x : List ℕ). 2 ∷ x) (tl ∙ ap (λ (x : List ℕ). lt ++ x) (ti ∙ ap (λ (x : List ℕ). field types.identifier i.0.0 ++ x) tr));
-    } in
-    subst (λ (h : List ℕ × List ℕ × List ℕ). Heads bytes h) (some_is found header r.2) heads
+    let found : List ℕ × List ℕ × List ℕ = (unwrap_or l.0 [], i.0.0, r.0) in
+    let heads : Heads bytes found = record { location = l.0; is_location = refl; parts = cc } in
+    subst (λ (h : List ℕ × List ℕ × List ℕ). Heads bytes h) (same_Some found header r.2) heads
 
 header_again : (location : Option (List ℕ)) (identifier rest : List ℕ) →
     header_at (2 ∷ optional_field types.location location ++ (field types.identifier identifier ++ (end_of_section ++ rest))) ≡ Some
@@ -150,9 +137,7 @@ wide_takes bytes wide e =
     let h = header_takes bytes p.header p.at_header in
     let c = caveats_take caveat_at caveat_section (λ _. Unit {0}) (λ _. Unit {0}) exact_caveats (length p.header.2) p.header.2 in
     let s = footer_takes read.1 p.signature p.at_footer in
-    let parts : bytes ≡ sections h.location (made p.header read.0 p.signature) =
-    h.parts ∙ ap (λ (x : List ℕ). 2 ∷ optional_field types.location h.location ++ (field types.identifier p.header.1 ++ (end_of_section ++ x)))
-    (c.0 ∙ ap (λ (x : List ℕ). flat_map caveat_section read.0 ++ x) s.0) in
+    let parts : bytes ≡ sections h.location (made p.header read.0 p.signature) = cc (h.parts, c.0, s.0) in
     let spelling : SpellsV2 bytes (made p.header read.0 p.signature) =
     record { location = h.location; is_location = h.is_location; sections = parts; signature = s.1 } in
     subst (λ (w : WidePass). SpellsV2 bytes w) p.whole spelling

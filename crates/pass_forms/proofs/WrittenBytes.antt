@@ -1,21 +1,17 @@
 -- The bytes that are written of a pass are bytes, where its parts are.
-use Rattle.std.proofs.Common.{◌≡◌, ℕ, zero, suc, ◌+◌, ◌/◌, ◌%◌, ◌^◌, ◌<◌, ◌≤◌, true, ltb, List, [], ◌∷◌, ◌++◌, length, map, refl, subst, sym, arith, inl, inr}
+use Rattle.std.proofs.Common.{◌≡◌, ℕ, zero, suc, ◌+◌, ◌/◌, ◌%◌, ◌^◌, ◌<◌, ◌≤◌, true, ltb, List, [], ◌∷◌, ◌++◌, length, map, refl, arith, inl, inr}
 use Rattle.std.specs.List.{AllByRecursion, flat_map, list_all}
-use Rattle.std.proofs.lemmas.Bool.{cases_lt, ltb-true}
+use Rattle.std.proofs.lemmas.Bool.{and_parts, cases_lt, lt-ltb, le-ltb, ltb-true}
 use Rattle.std.proofs.lemmas.Bool.Decides.{nat_tests}
-use Rattle.std.proofs.lemmas.List.{length-append}
 use Rattle.base64.specs.GeneralPurpose.{IsBytes}
 use Rattle.pass_forms.specs.Pass.{Plain, as_wide_pass, widened_caveat}
-use Rattle.pass_forms.specs.Putting.{buffer_len}
 use Rattle.pass_forms.specs.V1.{FitsPackets, FitsCaveat, FitsPacket, caveat_packets, four_hex_digits, hex_digit}
 use Rattle.pass_forms.specs.V1.{packet}
 use Rattle.pass_forms.specs.V1.{packet_len}
-use Rattle.pass_forms.specs.V2.{caveat_section, end_of_section, field, optional_field, varint, types}
+use Rattle.pass_forms.specs.V2.{caveat_section, end_of_section, field, groups, optional_field, varint, types}
 use Rattle.pass_forms.specs.Writing.{HasBytes, nonempty_location, v1_bytes, v2_bytes}
 use Rattle.pass_forms.proofs.FieldNames.{caveat_key, identifier_key, location_key, signature_key}
 use Rattle.pass_forms.proofs.Base64Bytes.{append_is_bytes, nil_is_bytes}
-use Rattle.pass_forms.proofs.PutVarints.{varint_of_one, varint_of_two}
-use Rattle.pass_forms.proofs.WholePass.{both_true}
 
 one_more : (byte : ℕ) (bytes : List ℕ) → byte < 256 → IsBytes bytes → IsBytes (byte ∷ bytes)
 one_more byte bytes h others zero = h
@@ -38,7 +34,7 @@ digits_are_bytes n h =
 key_is_bytes : (key : List ℕ) → list_all (λ byte. ltb byte 256) key ≡ true → IsBytes key
 key_is_bytes [] h = nil_is_bytes
 key_is_bytes (byte ∷ bytes) h =
-    let split = both_true (ltb byte 256) (list_all (λ b. ltb b 256) bytes) h in
+    let split = and_parts (ltb byte 256) (list_all (λ b. ltb b 256) bytes) h in
     one_more byte bytes (ltb-true byte 256 split.0) (key_is_bytes bytes split.1)
 
 packet_is_bytes : (key bytes : List ℕ) → list_all (λ byte. ltb byte 256) key ≡ true → FitsPacket key bytes → IsBytes bytes → IsBytes (packet key bytes)
@@ -70,57 +66,45 @@ v1_is_bytes pass fits are =
 
 -- ---- V2
 
-varint_is_bytes : (n : ℕ) → n < 2 ^ 14 → IsBytes (varint n)
-varint_is_bytes n h = elim (cases_lt n 128) [
-  | inl small ↦ subst IsBytes (sym (varint_of_one n small)) (one_more n [] (omega arith) nil_is_bytes)
+groups_are_bytes : (more n : ℕ) → n ≤ more → IsBytes (groups more n)
+unfolding groups
+groups_are_bytes zero n h = one_more n [] (omega arith) nil_is_bytes
+groups_are_bytes (suc more) n h = elim (cases_lt n 128) [
+  | inl small ↦ rw (lt-ltb n 128 small) (one_more n [] (omega arith) nil_is_bytes)
   | inr large ↦
-      subst IsBytes (sym (varint_of_two n large h))
-      (one_more (128 + n % 128) (n / 128 ∷ []) (omega arith) (one_more (n / 128) [] (omega arith) nil_is_bytes))
+      rw (le-ltb n 128 large) (one_more (128 + n % 128) (groups more (n / 128)) (omega arith) (groups_are_bytes more (n / 128) (omega arith)))
 ]
 
-field_is_bytes : (type : ℕ) (bytes : List ℕ) → type < 256 → length (field type bytes) ≤ buffer_len → IsBytes bytes → IsBytes (field type bytes)
-field_is_bytes type bytes small fits are =
-    one_more type (varint (length bytes) ++ bytes) small
-    (append_is_bytes (varint (length bytes)) bytes (varint_is_bytes (length bytes) (omega (arith, length-append (varint (length bytes)) bytes))) are)
+field_is_bytes : (type : ℕ) (bytes : List ℕ) → type < 256 → IsBytes bytes → IsBytes (field type bytes)
+unfolding varint
+field_is_bytes type bytes small are =
+    let len : ℕ = length bytes in
+    one_more type (varint len ++ bytes) small (append_is_bytes (varint len) bytes (groups_are_bytes len len (omega arith)) are)
 
-location_is_bytes : (location : List ℕ) → length (optional_field types.location (nonempty_location location)) ≤ buffer_len → IsBytes location →
-    IsBytes (optional_field types.location (nonempty_location location))
-location_is_bytes [] fits are = nil_is_bytes
-location_is_bytes (byte ∷ bytes) fits are = field_is_bytes types.location (byte ∷ bytes) (omega arith) fits are
+location_is_bytes : (location : List ℕ) → IsBytes location → IsBytes (optional_field types.location (nonempty_location location))
+location_is_bytes [] are = nil_is_bytes
+location_is_bytes (byte ∷ bytes) are = field_is_bytes types.location (byte ∷ bytes) (omega arith) are
 
-ends_are_bytes : IsBytes end_of_section
-ends_are_bytes = one_more 0 [] (omega arith) nil_is_bytes
+-- a field and the end of its section, with what follows
+section_is_bytes : (type : ℕ) (bytes rest : List ℕ) → type < 256 → IsBytes bytes → IsBytes rest → IsBytes (field type bytes ++ (end_of_section ++ rest))
+section_is_bytes type bytes rest small are others =
+    append_is_bytes (field type bytes) (end_of_section ++ rest) (field_is_bytes type bytes small are) (one_more 0 rest (omega arith) others)
 
-sections_are_bytes : (caveats : List (List ℕ)) → length (flat_map caveat_section (map widened_caveat caveats)) ≤ buffer_len → AllByRecursion IsBytes caveats →
-    IsBytes (flat_map caveat_section (map widened_caveat caveats))
-sections_are_bytes [] fits are = nil_is_bytes
-sections_are_bytes (caveat ∷ caveats) fits are =
-    let identifier : List ℕ = field types.identifier caveat in
-    let others : List ℕ = flat_map caveat_section (map widened_caveat caveats) in
-    let one = length-append (identifier ++ end_of_section) others in
-    let two = length-append identifier end_of_section in
-    append_is_bytes (identifier ++ end_of_section) others
-    (append_is_bytes identifier end_of_section (field_is_bytes types.identifier caveat (omega arith) (omega (arith, one, two)) are.0) ends_are_bytes)
-    (sections_are_bytes caveats (omega (arith, one)) are.1)
+sections_are_bytes : (caveats : List (List ℕ)) → AllByRecursion IsBytes caveats → IsBytes (flat_map caveat_section (map widened_caveat caveats))
+sections_are_bytes [] are = nil_is_bytes
+sections_are_bytes (caveat ∷ caveats) are =
+    append_is_bytes (field types.identifier caveat ++ end_of_section) (flat_map caveat_section (map widened_caveat caveats))
+    (section_is_bytes types.identifier caveat [] (omega arith) are.0 nil_is_bytes) (sections_are_bytes caveats are.1)
 
-pub v2_is_bytes : (pass : Plain) → length (v2_bytes pass) ≤ buffer_len → HasBytes pass → IsBytes (v2_bytes pass)
+pub v2_is_bytes : (pass : Plain) → HasBytes pass → IsBytes (v2_bytes pass)
 unfolding v2_bytes
-v2_is_bytes pass fits are =
+v2_is_bytes pass are =
     let location : List ℕ = optional_field types.location (nonempty_location pass.location) in
-    let identifier : List ℕ = field types.identifier pass.identifier in
     let caveats : List ℕ = flat_map caveat_section (map widened_caveat pass.caveats) in
-    let signature : List ℕ = field types.signature pass.signature in
-    let one = length-append location (identifier ++ (end_of_section ++ (caveats ++ (end_of_section ++ signature)))) in
-    let two = length-append identifier (end_of_section ++ (caveats ++ (end_of_section ++ signature))) in
-    let three = length-append end_of_section (caveats ++ (end_of_section ++ signature)) in
-    let four = length-append caveats (end_of_section ++ signature) in
-    let five = length-append end_of_section signature in
-    one_more 2 (location ++ (identifier ++ (end_of_section ++ (caveats ++ (end_of_section ++ signature))))) (omega arith)
-    (append_is_bytes location (identifier ++ (end_of_section ++ (caveats ++ (end_of_section ++ signature))))
-    (location_is_bytes pass.location (omega (arith, one)) are.location)
-    (append_is_bytes identifier (end_of_section ++ (caveats ++ (end_of_section ++ signature)))
-    (field_is_bytes types.identifier pass.identifier (omega arith) (omega (arith, one, two)) are.identifier)
-    (append_is_bytes end_of_section (caveats ++ (end_of_section ++ signature)) ends_are_bytes
-    (append_is_bytes caveats (end_of_section ++ signature) (sections_are_bytes pass.caveats (omega (arith, one, two, three, four)) are.caveats)
-    (append_is_bytes end_of_section signature ends_are_bytes
-    (field_is_bytes types.signature pass.signature (omega arith) (omega (arith, one, two, three, four, five)) are.signature))))))
+    let last : List ℕ = end_of_section ++ field types.signature pass.signature in
+    let others : List ℕ = field types.identifier pass.identifier ++ (end_of_section ++ (caveats ++ last)) in
+    one_more 2 (location ++ others) (omega arith)
+    (append_is_bytes location others (location_is_bytes pass.location are.location)
+    (section_is_bytes types.identifier pass.identifier (caveats ++ last) (omega arith) are.identifier
+    (append_is_bytes caveats last (sections_are_bytes pass.caveats are.caveats)
+    (one_more 0 (field types.signature pass.signature) (omega arith) (field_is_bytes types.signature pass.signature (omega arith) are.signature)))))

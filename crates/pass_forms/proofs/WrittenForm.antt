@@ -1,10 +1,10 @@
 -- The base64 text of a pass, in either form of its bytes.
-use Rattle.std.proofs.Common.{◌≡◌, ◌↔◌, ℕ, ◌≤◌, Bool, true, false, cond, ltb, List, length, Some, Result, Ok, Err, refl, sym, ap, subst, ◌∙◌, arith}
+use Rattle.std.proofs.Common.{◌≡◌, ◌↔◌, ℕ, ◌≤◌, Bool, true, false, cond, ltb, List, length, Some, Result, Ok, Err, refl, sym, ap, subst, ◌∙◌, arith, rules}
 use Rattle.std.specs.Prelude.{IfErr, IfOk, IsOk, MatchResult}
 use Rattle.std.proofs.lemmas.Bool.{ltb-false, ltb-true}
 use Rattle.base64.specs.GeneralPurpose.{IsBytes}
 use Rattle.pass_forms.specs.declared.fault.FormFault.{FormFault}
-use Rattle.pass_forms.specs.declared.fault.FormFault.TheVariants.{TooLong, Malformed, ThirdParty, TooMany, Memory}
+use Rattle.pass_forms.specs.declared.fault.FormFault.TheVariants.{TooLong, TooMany, Memory}
 use Rattle.pass_forms.specs.declared.form.Form.{Form}
 use Rattle.pass_forms.specs.Envelope.{form_of}
 use Rattle.pass_forms.specs.Pass.{Plain, WidePass, as_wide_pass}
@@ -25,96 +25,72 @@ pub record BytesForm : Type 1 where
 abbrev pub IsTextIn : BytesForm → Plain → List ℕ → Type 0
 IsTextIn f pass text = IsTextBy f.bytes_of f.Spells pass text
 
--- The bytes fit the buffer.
-pub fits_buffer : (f : BytesForm) (pass : Plain) (text : List ℕ) → IsWritableText (IsTextIn f) pass text → length (f.bytes_of pass) ≤ buffer_len
-fits_buffer f pass text written =
-    let encoding : text ≡ in_base64 (f.bytes_of pass) = written.is_text.encoding in
-    bytes_fit (f.bytes_of pass) (rw (← encoding) written.short)
+module _ (f : BytesForm) (pass : Plain) where
+  pub reads_back : (text : List ℕ) → IsBytes (f.bytes_of pass) → IsWritableText (IsTextIn f) pass text → IsReadBack f.Spells f.form (f.bytes_of pass) pass text
+  reads_back text are written =
+      let spelling = written.is_text.spelling in
+      let encoding : text ≡ in_base64 (f.bytes_of pass) = written.is_text.encoding in
+      let short : length (f.bytes_of pass) ≤ buffer_len = bytes_fit (f.bytes_of pass) (rw (← encoding) written.short) in
+      record {
+        content = rw encoding (unwraps f.form (f.bytes_of pass) are short (f.has_form pass spelling));
+        read = (omega arith, spelling, written.few);
+      }
 
-pub reads_back : (f : BytesForm) (pass : Plain) (text : List ℕ) → IsBytes (f.bytes_of pass) → IsWritableText (IsTextIn f) pass text →
-    IsReadBack f.Spells f.form (f.bytes_of pass) pass text
-reads_back f pass text are written =
-    let spelling = written.is_text.spelling in
-    let encoding : text ≡ in_base64 (f.bytes_of pass) = written.is_text.encoding in
-    let short : length (f.bytes_of pass) ≤ buffer_len = fits_buffer f pass text written in
-    record {
-      content = rw encoding (unwraps f.form (f.bytes_of pass) are short (f.has_form pass spelling));
-      read = (omega arith, spelling, written.few);
-    }
+  -- ---- the result, a text or a fault
 
--- ---- the result, a text or a fault
+  -- the computed result, by its two tests, is one that the relation allows
+  abbrev result_by : Bool → Bool → Result (List ℕ) FormFault
+  result_by many long = cond many (Err TooMany) (cond long (Err TooLong) (Ok (in_base64 (f.bytes_of pass))))
 
--- the computed result, by its two tests, is one that the relation allows
-abbrev result_by : BytesForm → Plain → Bool → Bool → Result (List ℕ) FormFault
-result_by f pass many long = cond many (Err TooMany) (cond long (Err TooLong) (Ok (in_base64 (f.bytes_of pass))))
+  allowed_by : (many long : Bool) → (IsOk (result_by many long) → length pass.signature ≡ 32) → ltb max_caveats (length pass.caveats) ≡ many
+      → ltb max_text_len (length (in_base64 (f.bytes_of pass))) ≡ long → IsWriting (IsTextIn f) pass (result_by many long)
+  allowed_by true long len m l = ltb-true _ _ m
+  allowed_by false true len m l = (ltb-false _ _ m, λ text is. rw is.encoding (ltb-true _ _ l))
+  allowed_by false false len m l = record {
+    is_text = record { encoding = refl; spelling = f.spells pass (bytes_fit (f.bytes_of pass) (ltb-false _ _ l)) (len refl) };
+    short = ltb-false _ _ l;
+    few = ltb-false _ _ m;
+  }
 
-allowed_by : (f : BytesForm) (pass : Plain) (many long : Bool) → (IsOk (result_by f pass many long) → length pass.signature ≡ 32)
-    → ltb max_caveats (length pass.caveats) ≡ many → ltb max_text_len (length (in_base64 (f.bytes_of pass))) ≡ long
-    → IsWriting (IsTextIn f) pass (result_by f pass many long)
-allowed_by f pass true long len m l = ltb-true _ _ m
-allowed_by f pass false true len m l = (ltb-false _ _ m, λ text is. rw is.encoding (ltb-true _ _ l))
-allowed_by f pass false false len m l = record {
-  is_text = record { encoding = refl; spelling = f.spells pass (bytes_fit (f.bytes_of pass) (ltb-false _ _ l)) (len refl) };
-  short = ltb-false _ _ l;
-  few = ltb-false _ _ m;
-}
+  -- the relation allows one result
+  one_result : (one other : Result (List ℕ) FormFault) → IsWriting (IsTextIn f) pass one → IsWriting (IsTextIn f) pass other → one ≡ other
+  one_result (Ok text) (Ok other) h k = ap (λ (t : List ℕ). Ok t) (h.is_text.encoding ∙ sym k.is_text.encoding)
+  one_result (Ok text) (Err TooLong) h k = absurd (omega (arith, h.short, k.1 text h.is_text))
+  one_result (Err TooLong) (Ok other) h k = absurd (omega (arith, k.short, h.1 other k.is_text))
+  one_result (Err TooLong) (Err TooLong) h k = refl
+  one_result (Err TooMany) (Err TooMany) h k = refl
+  one_result one other h k = first_of (search rules, omega arith)
 
-computed_is_allowed : (f : BytesForm) (pass : Plain) → (IsOk (writing_of (f.bytes_of pass) pass) → length pass.signature ≡ 32)
-    → IsWriting (IsTextIn f) pass (writing_of (f.bytes_of pass) pass)
-computed_is_allowed f pass len =
-    allowed_by f pass (ltb max_caveats (length pass.caveats)) (ltb max_text_len (length (in_base64 (f.bytes_of pass)))) len refl refl
+  pub exact : (answer : Result (List ℕ) FormFault) → (IsOk (writing_of (f.bytes_of pass) pass) → length pass.signature ≡ 32)
+      → (writing_of (f.bytes_of pass) pass ≡ answer) ↔ IsWriting (IsTextIn f) pass answer
+  exact answer len =
+      let allowed = allowed_by (ltb max_caveats (length pass.caveats)) (ltb max_text_len (length (in_base64 (f.bytes_of pass)))) len refl refl in
+      let Allows : Result (List ℕ) FormFault → Type 0 = λ r. IsWriting (IsTextIn f) pass r in
+      ((λ e. subst Allows e allowed), (λ h. one_result _ answer allowed h))
 
--- the relation allows one result
-one_result : (f : BytesForm) (pass : Plain) (one other : Result (List ℕ) FormFault) → IsWriting (IsTextIn f) pass one → IsWriting (IsTextIn f) pass other →
-    one ≡ other
-one_result f pass (Ok text) (Ok other) h k = ap (λ (t : List ℕ). Ok t) (h.is_text.encoding ∙ sym k.is_text.encoding)
-one_result f pass (Ok text) (Err TooLong) h k = absurd (omega (arith, h.short, k.1 text h.is_text))
-one_result f pass (Ok text) (Err TooMany) h k = absurd (omega (arith, h.few, k))
-one_result f pass (Err TooLong) (Ok other) h k = absurd (omega (arith, k.short, h.1 other k.is_text))
-one_result f pass (Err TooLong) (Err TooLong) h k = refl
-one_result f pass (Err TooLong) (Err TooMany) h k = absurd (omega (arith, h.0, k))
-one_result f pass (Err TooMany) (Ok other) h k = absurd (omega (arith, k.few, h))
-one_result f pass (Err TooMany) (Err TooLong) h k = absurd (omega (arith, k.0, h))
-one_result f pass (Err TooMany) (Err TooMany) h k = refl
-one_result f pass one (Err Malformed) h k = absurd k
-one_result f pass one (Err ThirdParty) h k = absurd k
-one_result f pass one (Err Memory) h k = absurd k
-one_result f pass (Err Malformed) other h k = absurd h
-one_result f pass (Err ThirdParty) other h k = absurd h
-one_result f pass (Err Memory) other h k = absurd h
+  -- ---- what a writer promises of its result
 
-pub exact : (f : BytesForm) (pass : Plain) (answer : Result (List ℕ) FormFault)
-    → (IsOk (writing_of (f.bytes_of pass) pass) → length pass.signature ≡ 32)
-    → (writing_of (f.bytes_of pass) pass ≡ answer) ↔ IsWriting (IsTextIn f) pass answer
-exact f pass answer len =
-    let allowed = computed_is_allowed f pass len in
-    let Allows : Result (List ℕ) FormFault → Type 0 = λ r. IsWriting (IsTextIn f) pass r in
-    ((λ e. subst Allows e allowed), (λ h. one_result f pass _ answer allowed h))
+  pub record Promises (A : Type 0) (bytes : A → List ℕ) (result : Result A FormFault) : Type 0 where
+    pub ok : IfOk result (λ text. IsWritableText (IsTextIn f) pass (bytes text))
+    pub err : IfErr result (IsWriteFault (IsTextIn f) pass)
+    pub read_back : IfOk result (λ text. IsReadBack f.Spells f.form (f.bytes_of pass) pass (bytes text))
 
--- ---- what a writer promises of its result
+  is_refused : (fault : FormFault) → (IsOk (writing_of (f.bytes_of pass) pass) → length pass.signature ≡ 32)
+      → FailsAs (writing_of (f.bytes_of pass) pass) fault → IsWriteFault (IsTextIn f) pass fault
+  is_refused TooMany len e = (exact (Err TooMany) len).0 e
+  is_refused TooLong len e = (exact (Err TooLong) len).0 e
+  is_refused Memory len some = go (writing_of (f.bytes_of pass) pass) refl some
+    where
+      go : (result : Result (List ℕ) FormFault) → writing_of (f.bytes_of pass) pass ≡ result → IsOk result → IsWriteFault (IsTextIn f) pass Memory
+      go (Ok text) e h = (text, (exact (Ok text) len).0 e)
+      go (Err fault) e h = absurd (cc)
+  is_refused fault len e = (exact (Err fault) len).0 e
 
-pub record Promises (f : BytesForm) (pass : Plain) (A : Type 0) (bytes : A → List ℕ) (result : Result A FormFault) : Type 0 where
-  pub ok : IfOk result (λ text. IsWritableText (IsTextIn f) pass (bytes text))
-  pub err : IfErr result (IsWriteFault (IsTextIn f) pass)
-  pub read_back : IfOk result (λ text. IsReadBack f.Spells f.form (f.bytes_of pass) pass (bytes text))
-
-is_refused : (f : BytesForm) (pass : Plain) (fault : FormFault) → (IsOk (writing_of (f.bytes_of pass) pass) → length pass.signature ≡ 32)
-    → FailsAs (writing_of (f.bytes_of pass) pass) fault → IsWriteFault (IsTextIn f) pass fault
-is_refused f pass TooMany len e = (exact f pass (Err TooMany) len).0 e
-is_refused f pass TooLong len e = (exact f pass (Err TooLong) len).0 e
-is_refused f pass Memory len some = go (writing_of (f.bytes_of pass) pass) refl some
-  where
-    go : (result : Result (List ℕ) FormFault) → writing_of (f.bytes_of pass) pass ≡ result → IsOk result → IsWriteFault (IsTextIn f) pass Memory
-    go (Ok text) e h = (text, (exact f pass (Ok text) len).0 e)
-    go (Err fault) e h = absurd (cc)
-is_refused f pass Malformed len e = (exact f pass (Err Malformed) len).0 e
-is_refused f pass ThirdParty len e = (exact f pass (Err ThirdParty) len).0 e
-
-pub keeps_promises : (f : BytesForm) (pass : Plain) (A : Type 0) (bytes : A → List ℕ) (result : Result A FormFault)
-    → MatchResult result (λ text. writing_of (f.bytes_of pass) pass ≡ Ok (bytes text)) (FailsAs (writing_of (f.bytes_of pass) pass))
-    → (IsOk (writing_of (f.bytes_of pass) pass) → IsBytes (f.bytes_of pass) × (length pass.signature ≡ 32)) → Promises f pass A bytes result
-keeps_promises f pass A bytes (Ok text) e real =
-    let its = real (rw e refl) in
-    let written = (exact f pass (Ok (bytes text)) (λ _. its.1)).0 e in
-    record { ok = written; err = tt; read_back = reads_back f pass (bytes text) its.0 written }
-keeps_promises f pass A bytes (Err fault) e real = record { ok = tt; err = is_refused f pass fault (λ some. (real some).1) e; read_back = tt }
+  pub keeps_promises : (A : Type 0) (bytes : A → List ℕ) (result : Result A FormFault)
+      → MatchResult result (λ text. writing_of (f.bytes_of pass) pass ≡ Ok (bytes text)) (FailsAs (writing_of (f.bytes_of pass) pass))
+      → (IsOk (writing_of (f.bytes_of pass) pass) → IsBytes (f.bytes_of pass) × (length pass.signature ≡ 32)) → Promises A bytes result
+  keeps_promises A bytes (Ok text) e real =
+      let its = real (rw e refl) in
+      let written = (exact (Ok (bytes text)) (λ _. its.1)).0 e in
+      record { ok = written; err = tt; read_back = reads_back (bytes text) its.0 written }
+  keeps_promises A bytes (Err fault) e real = record { ok = tt; err = is_refused fault (λ some. (real some).1) e; read_back = tt }

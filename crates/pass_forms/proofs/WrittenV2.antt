@@ -9,7 +9,7 @@ use Rattle.pass_forms.specs.V2.{SpellsV2}
 use Rattle.pass_forms.specs.Writing.{HasBytes, IsReadBack, IsV2Text, IsWritableText, IsWriting, nonempty_location, v2_bytes}
 use Rattle.pass_forms.specs.computed.Writing.{writing_v2}
 use Rattle.pass_forms.proofs.WrittenBytes.{v2_is_bytes}
-use Rattle.pass_forms.proofs.WrittenForm.{BytesForm, exact, fits_buffer, reads_back}
+use Rattle.pass_forms.proofs.WrittenForm.{BytesForm, exact, reads_back}
 
 nonempty_is : (location : List ℕ) → unwrap_or (nonempty_location location) [] ≡ location
 nonempty_is [] = refl
@@ -34,7 +34,7 @@ v2_form = record {
 
 -- The law: bytes that are written of bytes are bytes.
 pub law_v2 : (pass : Plain) (text : List ℕ) → HasBytes pass → IsWritableText IsV2Text pass text → IsReadBack SpellsV2 V2 (v2_bytes pass) pass text
-law_v2 pass text are written = reads_back v2_form pass text (v2_is_bytes pass (fits_buffer v2_form pass text written) are) written
+law_v2 pass text are written = reads_back v2_form pass text (v2_is_bytes pass are) written
 
 pub exact_v2 : (pass : Plain) (answer : Result (List ℕ) FormFault) → length pass.signature ≡ 32 → (writing_v2 pass ≡ answer) ↔ IsWriting IsV2Text pass answer
 unfolding writing_v2

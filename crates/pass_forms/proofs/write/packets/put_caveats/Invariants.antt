@@ -1,10 +1,9 @@
 -- What was put, with the packets of the caveats that are left, is the whole.
-use Rattle.std.proofs.Common.{◌≡◌, ◌++◌, map}
+use Rattle.std.proofs.Common.{◌≡◌, ◌++◌}
 use Rattle.pass_forms.specs.V1.{caveat_packets}
 use Rattle.pass_forms.proofs.PutCaveats.{left_from}
 use Rattle.pass_forms.proofs.write.packets.put_caveats.Given as goal
 
 abbrev pub invariant-loop-caveat : goal.invariant-loop-caveat
 invariant-loop-caveat l =
-    l.buffer ++ left_from caveat_packets (map (λ caveat. caveat.items) l.caveats) l.caveat-index
-    ≡ l.initial.buffer ++ left_from caveat_packets (map (λ caveat. caveat.items) l.caveats) 0
+    l.buffer ++ left_from caveat_packets l.caveats l.caveat-index ≡ l.initial.buffer ++ left_from caveat_packets l.caveats 0

@@ -1,10 +1,9 @@
 -- What was put, with the sections of the caveats that are left, is the whole.
-use Rattle.std.proofs.Common.{◌≡◌, ◌++◌, map}
+use Rattle.std.proofs.Common.{◌≡◌, ◌++◌}
 use Rattle.pass_forms.specs.V2.{caveat_section}
 use Rattle.pass_forms.proofs.PutCaveats.{left_from}
 use Rattle.pass_forms.proofs.write.sections.put_caveats.Given as goal
 
 abbrev pub invariant-loop-caveat : goal.invariant-loop-caveat
 invariant-loop-caveat l =
-    l.buffer ++ left_from caveat_section (map (λ caveat. caveat.items) l.caveats) l.caveat-index
-    ≡ l.initial.buffer ++ left_from caveat_section (map (λ caveat. caveat.items) l.caveats) 0
+    l.buffer ++ left_from caveat_section l.caveats l.caveat-index ≡ l.initial.buffer ++ left_from caveat_section l.caveats 0
