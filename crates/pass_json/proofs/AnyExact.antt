@@ -30,10 +30,11 @@ same_reading : (One Other : Relation) → ((form : Form) (bytes : List ℕ) (wid
     → (text : List ℕ) (answer : Result (Form × Plain) FormFault) → IsTextReading One text answer → IsTextReading Other text answer
 same_reading One Other to from text (Ok (form, pass)) h =
     same_answer (SpellsText One text form) (SpellsText Other text form) (same_in One Other to text form) (same_in Other One from text form) (length text)
-    (Ok pass) h
+    (length text) (λ k. k) (λ k. k) (Ok pass) h
 same_reading One Other to from text (Err fault) h =
     same_answer (λ wide. (form : Form) × SpellsText One text form wide) (λ wide. (form : Form) × SpellsText Other text form wide)
-    (λ wide k. (k.0, same_in One Other to text k.0 wide k.1)) (λ wide k. (k.0, same_in Other One from text k.0 wide k.1)) (length text) (Err fault) h
+    (λ wide k. (k.0, same_in One Other to text k.0 wide k.1)) (λ wide k. (k.0, same_in Other One from text k.0 wide k.1)) (length text) (length text)
+    (λ k. k) (λ k. k) (Err fault) h
 
 abbrev Computed : Relation
 Computed form bytes wide = wide_in form bytes ≡ Some wide

@@ -1,15 +1,15 @@
 -- A field, computed, is what is spelled.
-use Rattle.std.proofs.Common.{◌≡◌, ℕ, zero, suc, ◌<◌, Bool, true, false, cond, ltb, ◌&&◌, List, [], ◌∷◌, Option, Some, None, refl, sym, ap, subst, arith, ◌⊎◌}
+use Rattle.std.proofs.Common.{◌≡◌, ℕ, zero, suc, ◌<◌, Bool, true, false, cond, ltb, List, [], ◌∷◌, Option, Some, None, refl, sym, ap, subst, arith, ◌⊎◌}
 use Rattle.std.proofs.Common.{inl, inr}
 use Rattle.std.specs.List.{list_all}
 use Rattle.std.specs.Option.{option_map}
 use Rattle.std.specs.Str.{IsAscii}
-use Rattle.std.proofs.lemmas.Bool.{lt-ltb, ltb-true}
+use Rattle.std.proofs.lemmas.Bool.{and_parts, lt-ltb, ltb-true}
 use Rattle.base64.specs.declared.engine.general_purpose.GeneralPurpose.{GeneralPurpose}
 use Rattle.base64.specs.Engines.{standard, standard_no_pad, url_safe, url_safe_no_pad}
 use Rattle.base64.specs.GeneralPurpose.{IsBytes, encode_of}
 use Rattle.base64.proofs.EngineFacts.{IsAscii-encode_of}
-use Rattle.serde_json.specs.Data.{Data, null, boolean, number, string, array, object, Members}
+use Rattle.serde_json.specs.Data.{Data, string, object, Members}
 use Rattle.serde_json.specs.Find.{get, as_str}
 use Rattle.pass_forms.specs.Laws.{FromBase64IsBase64}
 use Rattle.pass_forms.specs.Envelope.{IsBase64}
@@ -35,18 +35,11 @@ pub base64_bytes_is : (text : List ℕ) → IsBytes text → base64_bytes text �
 unfolding base64_bytes
 base64_bytes_is text bytes = rw (all_below text bytes) refl
 
-both_true : (a b : Bool) → (a && b) ≡ true → (a ≡ true) × (b ≡ true)
-both_true true b e = (refl, e)
-both_true false b e = absurd cc
-
-nil_below : IsBytes []
-nil_below zero = omega arith
-nil_below (suc i) = omega arith
-
 are_below : (text : List ℕ) → list_all (λ byte. ltb byte 256) text ≡ true → IsBytes text
-are_below [] e i = nil_below i
-are_below (byte ∷ text) e zero = ltb-true byte 256 (both_true (ltb byte 256) (list_all (λ b. ltb b 256) text) e).0
-are_below (byte ∷ text) e (suc i) = are_below text (both_true (ltb byte 256) (list_all (λ b. ltb b 256) text) e).1 i
+are_below [] e zero = omega arith
+are_below [] e (suc i) = omega arith
+are_below (byte ∷ text) e zero = ltb-true byte 256 (and_parts (ltb byte 256) (list_all (λ b. ltb b 256) text) e).0
+are_below (byte ∷ text) e (suc i) = are_below text (and_parts (ltb byte 256) (list_all (λ b. ltb b 256) text) e).1 i
 
 encoded_below : (e : GeneralPurpose) (text bytes : List ℕ) → text ≡ encode_of e bytes → IsBytes text
 encoded_below e text bytes is i =
@@ -68,12 +61,8 @@ spelled_below text bytes is = elim is.spelling [
 -- ---- values
 
 str_of : (value : Data) (text : List ℕ) → as_str value ≡ Some text → value ≡ string text
-str_of null text e = absurd cc
-str_of (boolean b) text e = absurd cc
-str_of (number n) text e = absurd cc
 str_of (string s) text e = ap string cc
-str_of (array items) text e = absurd cc
-str_of (object fields) text e = absurd cc
+str_of value text e = absurd cc
 
 mapped : (o : Option (List ℕ)) (t : Option (List ℕ)) → option_map (λ bytes. Some bytes) o ≡ Some t → (bytes : List ℕ) × (o ≡ Some bytes) × (t ≡ Some bytes)
 mapped None t e = absurd cc
@@ -93,17 +82,9 @@ required_by (Some t) bytes e = ap (λ (x : Option (List ℕ)). Some x) e
 -- What has a field is an object.
 pub is_object : (plain base64 : List ℕ) (value : Data) (bytes : List ℕ) → IsField plain base64 value (Some bytes) →
     (members : Members) × (value ≡ object members)
-is_object plain base64 null bytes (inl h) = absurd (cc h.0)
-is_object plain base64 null bytes (inr h) = absurd (cc h.2)
-is_object plain base64 (boolean b) bytes (inl h) = absurd (cc h.0)
-is_object plain base64 (boolean b) bytes (inr h) = absurd (cc h.2)
-is_object plain base64 (number n) bytes (inl h) = absurd (cc h.0)
-is_object plain base64 (number n) bytes (inr h) = absurd (cc h.2)
-is_object plain base64 (string s) bytes (inl h) = absurd (cc h.0)
-is_object plain base64 (string s) bytes (inr h) = absurd (cc h.2)
-is_object plain base64 (array items) bytes (inl h) = absurd (cc h.0)
-is_object plain base64 (array items) bytes (inr h) = absurd (cc h.2)
 is_object plain base64 (object members) bytes h = (members, refl)
+is_object plain base64 value bytes (inl h) = absurd (cc h.0)
+is_object plain base64 value bytes (inr h) = absurd (cc h.2)
 
 -- ---- fields, by the law of base64
 
@@ -140,20 +121,19 @@ module _ (law : FromBase64IsBase64) where
   field_bytes_again plain base64 (Some bytes) (inl h) = rw (h.0, h.1) refl
   field_bytes_again plain base64 (Some bytes) (inr h) = rw (h.0, h.2, base64_again h.1 bytes h.3) refl
 
-  pub field_takes : (plain base64 : List ℕ) (value : Data) (t : Option (List ℕ)) → field_from plain base64 value ≡ Some t → IsField plain base64 value t
+module _ (law : FromBase64IsBase64) (plain base64 : List ℕ) (value : Data) where
+  pub field_takes : (t : Option (List ℕ)) → field_from plain base64 value ≡ Some t → IsField plain base64 value t
   unfolding field_from
-  field_takes plain base64 value None e = field_bytes_takes (get plain value) (get base64 value) None e
-  field_takes plain base64 value (Some bytes) e = field_bytes_takes (get plain value) (get base64 value) (Some bytes) e
+  field_takes None e = field_bytes_takes law (get plain value) (get base64 value) None e
+  field_takes (Some bytes) e = field_bytes_takes law (get plain value) (get base64 value) (Some bytes) e
 
-  pub field_again : (plain base64 : List ℕ) (value : Data) (t : Option (List ℕ)) → IsField plain base64 value t → field_from plain base64 value ≡ Some t
+  pub field_again : (t : Option (List ℕ)) → IsField plain base64 value t → field_from plain base64 value ≡ Some t
   unfolding field_from
-  field_again plain base64 value None h = field_bytes_again (get plain value) (get base64 value) None h
-  field_again plain base64 value (Some bytes) h = field_bytes_again (get plain value) (get base64 value) (Some bytes) h
+  field_again None h = field_bytes_again law (get plain value) (get base64 value) None h
+  field_again (Some bytes) h = field_bytes_again law (get plain value) (get base64 value) (Some bytes) h
 
-  pub required_takes : (plain base64 : List ℕ) (value : Data) (bytes : List ℕ) → must_have (field_from plain base64 value) ≡ Some bytes →
-      IsField plain base64 value (Some bytes)
-  required_takes plain base64 value bytes e = field_takes plain base64 value (Some bytes) (required_by (field_from plain base64 value) bytes e)
+  pub required_takes : (bytes : List ℕ) → must_have (field_from plain base64 value) ≡ Some bytes → IsField plain base64 value (Some bytes)
+  required_takes bytes e = field_takes (Some bytes) (required_by (field_from plain base64 value) bytes e)
 
-  pub required_again : (plain base64 : List ℕ) (value : Data) (bytes : List ℕ) → IsField plain base64 value (Some bytes) →
-      must_have (field_from plain base64 value) ≡ Some bytes
-  required_again plain base64 value bytes h = ap must_have (field_again plain base64 value (Some bytes) h)
+  pub required_again : (bytes : List ℕ) → IsField plain base64 value (Some bytes) → must_have (field_from plain base64 value) ≡ Some bytes
+  required_again bytes h = ap must_have (field_again (Some bytes) h)

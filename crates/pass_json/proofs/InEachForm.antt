@@ -1,7 +1,7 @@
 -- A text written in one form, as the definitions for any form see it.
 use Rattle.std.proofs.Common.{◌≡◌, ◌↔◌, ℕ, List, length, Result, Ok, Err, sym, ◌∙◌}
 use Rattle.pass_forms.specs.declared.fault.FormFault.{FormFault}
-use Rattle.pass_forms.specs.declared.fault.FormFault.TheVariants.{TooLong, Malformed, ThirdParty, TooMany, Memory}
+use Rattle.pass_forms.specs.declared.fault.FormFault.TheVariants.{Memory}
 use Rattle.pass_forms.specs.declared.form.Form.{Form}
 use Rattle.pass_forms.specs.declared.form.Form.TheVariants.{V1, V2, Json}
 use Rattle.pass_forms.specs.Pass.{Plain}
@@ -22,10 +22,7 @@ back_from form bytes pass text back = reads_back text form bytes pass back.conte
 pub may_fail : (writing : Result (List ℕ) FormFault) (fault : FormFault) → FailsAs writing fault → MayFailAs writing fault
 may_fail (Ok text) Memory h = λ many. cc
 may_fail (Err fault) Memory h = absurd cc
-may_fail writing TooLong h = h
-may_fail writing Malformed h = h
-may_fail writing ThirdParty h = h
-may_fail writing TooMany h = h
+may_fail writing fault h = h
 
 -- ---- the laws of each form, in any
 

@@ -3,9 +3,10 @@ use Rattle.std.proofs.Common.{◌≡◌, ◌↔◌, ℕ, Bool, true, false, cond
 use Rattle.std.proofs.Common.{◌∙◌}
 use Rattle.std.specs.Option.{unwrap_or}
 use Rattle.std.specs.Str.{IsUtf8, is_utf8}
-use Rattle.std.proofs.lemmas.Bool.Decides.{Decides-eqb}
+use Rattle.std.proofs.lemmas.Bool.{and_parts, eq-eqb, eqb-true}
+use Rattle.std.proofs.lemmas.Option.{cond_some}
 use Rattle.std.proofs.lemmas.Str.{IsUtf8-from_is_utf8, is_utf8-from_IsUtf8}
-use Rattle.serde_json.specs.Data.{Data, null, boolean, number, string, array, object, unsigned, negative, float, Items, no_items, item, Members}
+use Rattle.serde_json.specs.Data.{Data, number, array, object, unsigned, Items, no_items, item, Members}
 use Rattle.serde_json.specs.Find.{get, as_array}
 use Rattle.serde_json.specs.Read.{read}
 use Rattle.pass_forms.specs.declared.fault.FormFault.{FormFault}
@@ -19,51 +20,27 @@ use Rattle.pass_json.proofs.SameReading.{same_answer}
 use Rattle.pass_json.proofs.FieldExact.{bound, field_takes, field_again, required_takes, required_again, is_object}
 use Rattle.pass_json.proofs.NamesExact.{has_only_takes, has_only_again}
 
-tested : {A : Type 0} (test : Bool) (value a : A) → cond test (Some value) None ≡ Some a → test ≡ true
-tested true value a e = refl
-tested false value a e = absurd cc
-
 has_only_of : (names : List (List ℕ)) (value : Data) (found : (members : Members) × (value ≡ object members)) → HasOnly names value →
     has_only_names names value ≡ true
 has_only_of names value found h =
     ap (has_only_names names) found.1 ∙ has_only_again names found.0 (subst (HasOnly names) found.1 h)
 
 array_of : (value : Data) (items : Items) → as_array value ≡ Some items → value ≡ array items
-array_of null items e = absurd cc
-array_of (boolean b) items e = absurd cc
-array_of (number n) items e = absurd cc
-array_of (string s) items e = absurd cc
 array_of (array found) items e = ap array cc
-array_of (object fields) items e = absurd cc
+array_of value items e = absurd cc
 
 -- ---- the version
 
 version_takes : (found : Option Data) → is_version found ≡ true → IsVersion found
 version_takes None e = tt
-version_takes (Some null) e = absurd cc
-version_takes (Some (boolean b)) e = absurd cc
-version_takes (Some (number (unsigned n))) e =
-    let two : n ≡ 2 = (Decides-eqb n 2).0 e in
-    ap (λ (k : ℕ). number (unsigned k)) two
-version_takes (Some (number (negative z))) e = absurd cc
-version_takes (Some (number (float x))) e = absurd cc
-version_takes (Some (string s)) e = absurd cc
-version_takes (Some (array items)) e = absurd cc
-version_takes (Some (object fields)) e = absurd cc
+version_takes (Some (number (unsigned n))) e = ap (λ (k : ℕ). number (unsigned k)) (eqb-true n 2 e)
+version_takes (Some value) e = absurd cc
 
 version_again : (found : Option Data) → IsVersion found → is_version found ≡ true
 version_again None h = refl
 version_again (Some value) h = rw h refl
 
 -- ---- parts of a pass
-
-both_true : (a b : Bool) → (a && b) ≡ true → (a ≡ true) × (b ≡ true)
-both_true true b e = (refl, e)
-both_true false b e = absurd cc
-
-length_by : (test : Bool) (bytes a : List ℕ) → cond test (Some bytes) None ≡ Some a → (test ≡ true) × (bytes ≡ a)
-length_by true bytes a e = (refl, cc)
-length_by false bytes a e = absurd cc
 
 value_takes : (bytes : List ℕ) (test : Bool) (value : Data) → is_utf8 bytes ≡ test → cond test (read bytes) None ≡ Some value →
     IsUtf8 bytes × (read bytes ≡ Some value)
@@ -83,7 +60,7 @@ module _ (law : FromBase64IsBase64) where
       let w : WideCaveat = record { identifier = identifier.0; verifier_id = verifier_id.0; location = location.0 } in
       let is : w ≡ caveat = cc location.2 in
       let spelling : IsCaveatObject value w = record {
-        names = has_only_takes caveat_names value (tested (has_only_names caveat_names value) value names.0 names.1);
+        names = has_only_takes caveat_names value (cond_some (has_only_names caveat_names value) value names.0 names.1).0;
         identifier = required_takes law (codes "i") (codes "i64") value identifier.0 identifier.1;
         verifier_id = field_takes law (codes "v") (codes "v64") value verifier_id.0 verifier_id.1;
         location = field_takes law (codes "l") (codes "l64") value location.0 location.1;
@@ -104,29 +81,25 @@ module _ (law : FromBase64IsBase64) where
   caveats_take : (items : Items) (caveats : List WideCaveat) → caveats_of items ≡ Some caveats → AreCaveats items caveats
   unfolding caveats_of
   caveats_take no_items [] e = tt
-  caveats_take no_items (caveat ∷ caveats) e = absurd cc
-  caveats_take (item value values) [] e =
-      let one = bound (caveat_from value) _ [] e in
-      let more = bound (caveats_of values) _ [] one.2 in
-      absurd (cc more.2)
   caveats_take (item value values) (caveat ∷ caveats) e =
       let one = bound (caveat_from value) _ (caveat ∷ caveats) e in
       let more = bound (caveats_of values) _ (caveat ∷ caveats) one.2 in
       let first : one.0 ≡ caveat = cc more.2 in
       let rest : more.0 ≡ caveats = cc more.2 in
       (subst (IsCaveatObject value) first (caveat_takes value one.0 one.1), caveats_take values caveats (more.1 ∙ ap (λ (cs : List WideCaveat). Some cs) rest))
+  caveats_take no_items caveats e = absurd cc
+  caveats_take (item value values) [] e =
+      let one = bound (caveat_from value) _ [] e in
+      absurd (cc (bound (caveats_of values) _ [] one.2).2)
 
   caveats_again : (items : Items) (caveats : List WideCaveat) → AreCaveats items caveats → caveats_of items ≡ Some caveats
   unfolding caveats_of
   caveats_again no_items [] h = refl
-  caveats_again no_items (caveat ∷ caveats) h = absurd h
-  caveats_again (item value values) [] h = absurd h
   caveats_again (item value values) (caveat ∷ caveats) h = rw (caveat_again value caveat h.0, caveats_again values caveats h.1) refl
+  caveats_again items caveats h = absurd h
 
   listed_takes : (found : Option Data) (caveats : List WideCaveat) → caveat_list found ≡ Some caveats → IsCaveatList found caveats
-  listed_takes None caveats e =
-      let nothing : [] ≡ caveats = cc in
-      sym nothing
+  listed_takes None caveats e = cc
   listed_takes (Some value) caveats e =
       let items = bound (as_array value) caveats_of caveats e in
       (items.0, array_of value items.0 items.1, caveats_take items.0 caveats items.2)
@@ -144,10 +117,10 @@ module _ (law : FromBase64IsBase64) where
       let caveats = bound (caveat_list (get (codes "c") value)) _ wide identifier.2 in
       let signature = bound (signature_from value) _ wide caveats.2 in
       let both =
-      both_true (has_only_names pass_names value) (is_version (get (codes "v") value))
-      (tested (has_only_names pass_names value && is_version (get (codes "v") value)) value names.0 names.1) in
+      and_parts (has_only_names pass_names value) (is_version (get (codes "v") value))
+      (cond_some (has_only_names pass_names value && is_version (get (codes "v") value)) value names.0 names.1).0 in
       let bytes = bound (must_have (field_from (codes "s") (codes "s64") value)) (of_length 32) signature.0 signature.1 in
-      let sized = length_by (eqb (length bytes.0) 32) bytes.0 signature.0 bytes.2 in
+      let sized = cond_some (eqb (length bytes.0) 32) bytes.0 signature.0 bytes.2 in
       let w : WidePass = record { location = unwrap_or location.0 []; identifier = identifier.0; caveats = caveats.0; signature = signature.0 } in
       let is : w ≡ wide = cc signature.2 in
       let spelling : IsPass value w = record {
@@ -159,7 +132,7 @@ module _ (law : FromBase64IsBase64) where
         identifier = required_takes law (codes "i") (codes "i64") value identifier.0 identifier.1;
         caveats = listed_takes (get (codes "c") value) caveats.0 caveats.1;
         signature = required_takes law (codes "s") (codes "s64") value signature.0 (bytes.1 ∙ ap (λ (b : List ℕ). Some b) sized.1);
-        signature_len = subst (λ (b : List ℕ). length b ≡ 32) sized.1 ((Decides-eqb (length bytes.0) 32).0 sized.0);
+        signature_len = subst (λ (b : List ℕ). length b ≡ 32) sized.1 (eqb-true (length bytes.0) 32 sized.0);
       } in
       subst (IsPass value) is spelling
 
@@ -174,7 +147,7 @@ module _ (law : FromBase64IsBase64) where
         required_again law (codes "i") (codes "i64") value wide.identifier is.identifier,
         listed_again (get (codes "c") value) wide.caveats is.caveats,
         required_again law (codes "s") (codes "s64") value wide.signature is.signature,
-        (Decides-eqb (length wide.signature) 32).1 is.signature_len,
+        eq-eqb (length wide.signature) 32 is.signature_len,
         ← is.location_is,
       ) refl
 
@@ -200,6 +173,6 @@ module _ (law : FromBase64IsBase64) where
   reading_json_exact exact bytes answer =
       let Computed = λ (wide : WidePass). wide_json bytes ≡ Some wide in
       let both = exact (length bytes) (wide_json bytes) answer in (
-        λ h. both.0 (same_answer (SpellsJson bytes) Computed (json_again bytes) (json_takes bytes) (length bytes) answer h),
-        λ e. same_answer Computed (SpellsJson bytes) (json_takes bytes) (json_again bytes) (length bytes) answer (both.1 e),
+        λ h. both.0 (same_answer (SpellsJson bytes) Computed (json_again bytes) (json_takes bytes) (length bytes) (length bytes) (λ k. k) (λ k. k) answer h),
+        λ e. same_answer Computed (SpellsJson bytes) (json_takes bytes) (json_again bytes) (length bytes) (length bytes) (λ k. k) (λ k. k) answer (both.1 e),
       )

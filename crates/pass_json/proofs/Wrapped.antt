@@ -1,7 +1,7 @@
 -- The reading of a text by what it wraps.
 use Rattle.std.proofs.Common.{◌≡◌, ◌↔◌, ℕ, ◌≤◌, List, length, Result, Ok, Err, refl, subst, ◌⊎◌, inl, inr, arith}
 use Rattle.pass_forms.specs.declared.fault.FormFault.{FormFault}
-use Rattle.pass_forms.specs.declared.fault.FormFault.TheVariants.{TooLong, Malformed, ThirdParty, TooMany, Memory}
+use Rattle.pass_forms.specs.declared.fault.FormFault.TheVariants.{TooLong, Malformed, Memory}
 use Rattle.pass_forms.specs.declared.form.Form.{Form}
 use Rattle.pass_forms.specs.declared.form.Form.TheVariants.{Json}
 use Rattle.pass_forms.specs.Envelope.{IsUnwrapped, Wraps}
@@ -16,9 +16,7 @@ use Rattle.pass_json.proofs.SameReading.{Spelling, same_answer}
 pub refused_wrapping : (text : List ℕ) (fault : FormFault) → IsUnwrapped text (Err fault) → IsAnyReading text (Err fault)
 refused_wrapping text TooLong h = h
 refused_wrapping text Malformed h = (h.0, λ wide k. h.1 k.0 k.1.0 k.1.1)
-refused_wrapping text ThirdParty h = absurd h
-refused_wrapping text TooMany h = absurd h
-refused_wrapping text Memory h = absurd h
+refused_wrapping text fault h = absurd h
 
 -- ---- what it wraps
 
@@ -36,16 +34,6 @@ spelled one text bytes form other wide wraps h =
 abbrev SpellsAny : List ℕ → Spelling
 SpellsAny text wide = (form : Form) × SpellsText SpellsForm text form wide
 
--- within the limit the length doesn't matter
-of_length : (len other : ℕ) (Spelled : Spelling) (answer : Result Plain FormFault) → len ≤ max_text_len → other ≤ max_text_len → IsReadAs len Spelled answer →
-    IsReadAs other Spelled answer
-of_length len other Spelled (Ok pass) short within h = (within, h.1, h.2)
-of_length len other Spelled (Err TooLong) short within h = absurd (omega arith)
-of_length len other Spelled (Err Malformed) short within h = (within, h.1)
-of_length len other Spelled (Err ThirdParty) short within h = (within, h.1, h.2, h.3)
-of_length len other Spelled (Err TooMany) short within h = (within, h.1, h.2, h.3, h.4)
-of_length len other Spelled (Err Memory) short within h = h
-
 pub reads_wrapped : WrapsOne → (text bytes : List ℕ) (form : Form) (answer : Result (Form × Plain) FormFault) → IsUnwrapped text (Ok (form, bytes)) →
     length bytes ≤ max_text_len → IsAnyReading text answer ↔ IsReadingInForm form bytes answer
 reads_wrapped one text bytes form (Ok (other, pass)) content short = (
@@ -58,10 +46,8 @@ reads_wrapped one text bytes form (Err fault) content short =
     let Here : Spelling = SpellsForm form bytes in
     let to = λ (wide : WidePass) (k : SpellsAny text wide). (spelled one text bytes form k.0 wide content.1 k.1).1 in
     let from : (wide : WidePass) → Here wide → SpellsAny text wide = λ wide k. (form, (bytes, content.1, k)) in (
-      λ h. of_length (length text) (length bytes) Here (Err fault) content.0 short (same_answer (SpellsAny text) Here to from (length text) (Err fault) h),
-      λ h.
-          of_length (length bytes) (length text) (SpellsAny text) (Err fault) short content.0
-          (same_answer Here (SpellsAny text) from to (length bytes) (Err fault) h),
+      λ h. same_answer (SpellsAny text) Here to from (length text) (length bytes) (λ _. short) (λ long. absurd (omega arith)) (Err fault) h,
+      λ h. same_answer Here (SpellsAny text) from to (length bytes) (length text) (λ _. content.0) (λ long. absurd (omega arith)) (Err fault) h,
     )
 
 -- ---- memory

@@ -1,9 +1,9 @@
 -- What the writer of JSON answers, and that its text is read back.
-use Rattle.std.proofs.Common.{◌≡◌, ◌↔◌, ℕ, ◌<◌, Bool, true, false, cond, ltb, List, length, Result, Ok, Err, refl, sym, ap, subst, ◌∙◌, inl, arith}
+use Rattle.std.proofs.Common.{◌≡◌, ◌↔◌, ℕ, ◌<◌, Bool, true, false, cond, ltb, List, length, Result, Ok, Err, refl, sym, ap, subst, ◌∙◌, inl}
 use Rattle.std.specs.Result.{IfErr, IfOk, MatchResult, OnOk}
 use Rattle.std.proofs.lemmas.Bool.{ltb-false, ltb-true}
 use Rattle.pass_forms.specs.declared.fault.FormFault.{FormFault}
-use Rattle.pass_forms.specs.declared.fault.FormFault.TheVariants.{TooLong, Malformed, ThirdParty, TooMany, Memory}
+use Rattle.pass_forms.specs.declared.fault.FormFault.TheVariants.{TooLong, TooMany, Memory}
 use Rattle.pass_forms.specs.declared.form.Form.TheVariants.{Json}
 use Rattle.pass_forms.specs.Laws.{FromBase64IsBase64}
 use Rattle.pass_forms.specs.Envelope.{starts_with_brace}
@@ -14,6 +14,8 @@ use Rattle.pass_json.specs.Json.{SpellsJson}
 use Rattle.pass_json.specs.JsonWriting.{IsJsonText, IsRefusedJson, MayFailAs, json_text}
 use Rattle.pass_json.specs.Laws.{WritesJsonExactly}
 use Rattle.pass_json.specs.computed.JsonWriting.{writing_json}
+use Rattle.pass_json.proofs.InEachForm.{one_text}
+use Rattle.pass_json.proofs.WritingOnce.{one_writing_for_each_form}
 use Rattle.pass_json.proofs.WrittenJson.{spells_json, starts_json}
 
 abbrev answer_by : Bool → Bool → List ℕ → Result (List ℕ) FormFault
@@ -39,30 +41,12 @@ unfolding writing_json
 computed_is_allowed law pass are len =
     allowed_by law pass (ltb max_caveats (length pass.caveats)) (ltb max_text_len (length (json_text pass))) are len refl refl
 
--- the relation allows one result
-one_result : (pass : Plain) (one other : Result (List ℕ) FormFault) → IsWriting IsJsonText pass one → IsWriting IsJsonText pass other → one ≡ other
-one_result pass (Ok text) (Ok other) h k = ap (λ (t : List ℕ). Ok t) (h.is_text.compact ∙ sym k.is_text.compact)
-one_result pass (Ok text) (Err TooLong) h k = absurd (omega (arith, h.short, k.1 text h.is_text))
-one_result pass (Ok text) (Err TooMany) h k = absurd (omega (arith, h.few, k))
-one_result pass (Err TooLong) (Ok other) h k = absurd (omega (arith, k.short, h.1 other k.is_text))
-one_result pass (Err TooLong) (Err TooLong) h k = refl
-one_result pass (Err TooLong) (Err TooMany) h k = absurd (omega (arith, h.0, k))
-one_result pass (Err TooMany) (Ok other) h k = absurd (omega (arith, k.few, h))
-one_result pass (Err TooMany) (Err TooLong) h k = absurd (omega (arith, k.0, h))
-one_result pass (Err TooMany) (Err TooMany) h k = refl
-one_result pass one (Err Malformed) h k = absurd k
-one_result pass one (Err ThirdParty) h k = absurd k
-one_result pass one (Err Memory) h k = absurd k
-one_result pass (Err Malformed) other h k = absurd h
-one_result pass (Err ThirdParty) other h k = absurd h
-one_result pass (Err Memory) other h k = absurd h
-
 pub exact_json : FromBase64IsBase64 → (pass : Plain) (answer : Result (List ℕ) FormFault) → HasBytes pass → length pass.signature ≡ 32 →
     (writing_json pass ≡ answer) ↔ IsWriting IsJsonText pass answer
 exact_json law pass answer are len =
     let allowed = computed_is_allowed law pass are len in
     let Allows : Result (List ℕ) FormFault → Type 0 = λ r. IsWriting IsJsonText pass r in
-    ((λ e. subst Allows e allowed), (λ h. one_result pass _ answer allowed h))
+    ((λ e. subst Allows e allowed), (λ h. one_writing_for_each_form one_text Json pass _ answer allowed h))
 
 -- ---- reading back
 
@@ -80,18 +64,11 @@ refused_by : (pass : Plain) (many long : Bool) → ltb max_caveats (length pass.
     → (fault : FormFault) → MayFailAs (answer_by many long (json_text pass)) fault → IsRefusedJson pass fault
 refused_by pass true long m l TooMany e = ltb-true _ _ m
 refused_by pass true long m l Memory e = absurd (e refl)
-refused_by pass true long m l TooLong e = absurd cc
-refused_by pass true long m l Malformed e = absurd cc
-refused_by pass true long m l ThirdParty e = absurd cc
 refused_by pass false long m l Memory e = ltb-false _ _ m
 refused_by pass false true m l TooLong e = (ltb-false _ _ m, λ text is. subst (λ (t : List ℕ). max_text_len < length t) (sym is.compact) (ltb-true _ _ l))
-refused_by pass false true m l TooMany e = absurd cc
-refused_by pass false true m l Malformed e = absurd cc
-refused_by pass false true m l ThirdParty e = absurd cc
-refused_by pass false false m l TooLong e = absurd cc
-refused_by pass false false m l TooMany e = absurd cc
-refused_by pass false false m l Malformed e = absurd cc
-refused_by pass false false m l ThirdParty e = absurd cc
+refused_by pass true long m l fault e = absurd cc
+refused_by pass false true m l fault e = absurd cc
+refused_by pass false false m l fault e = absurd cc
 
 pub is_refused_json : (pass : Plain) (fault : FormFault) → MayFailAs (writing_json pass) fault → IsRefusedJson pass fault
 unfolding writing_json

@@ -2,7 +2,7 @@
 use Rattle.std.proofs.Common.{◌≡◌, ℕ, Bool, true, false, eqb, List, [], ◌∷◌, length, map, Option, Some, None, inl, refl, ap, ◌∙◌, arith}
 use Rattle.std.specs.List.{AllByRecursion}
 use Rattle.std.specs.Str.{IsUtf8, is_utf8}
-use Rattle.std.proofs.lemmas.Bool.Decides.{Decides-eqb}
+use Rattle.std.proofs.lemmas.Bool.{eq-eqb}
 use Rattle.base64.specs.Engines.{url_safe_no_pad}
 use Rattle.base64.specs.GeneralPurpose.{IsBytes, encode_of}
 use Rattle.serde_json.specs.Data.{object, Items, no_members}
@@ -12,11 +12,11 @@ use Rattle.pass_forms.specs.Envelope.{starts_with_brace}
 use Rattle.pass_forms.specs.Pass.{Plain, WideCaveat, as_wide_pass, widened_caveat}
 use Rattle.pass_forms.specs.Writing.{HasBytes}
 use Rattle.pass_json.specs.Json.{SpellsJson}
-use Rattle.pass_json.specs.computed.JsonReading.{base64_bytes, caveat_from, caveats_of, field_from, has_only_names, pass_from, signature_from}
+use Rattle.pass_json.specs.computed.JsonReading.{base64_bytes, caveat_from, caveats_of, field_from, has_only_names, pass_from}
 use Rattle.pass_json.specs.JsonWriting.{caveat_object, caveat_objects, json_text, object_of}
 use Rattle.pass_json.proofs.FieldExact.{base64_again}
 use Rattle.pass_json.proofs.JsonExact.{pass_takes}
-use Rattle.pass_json.proofs.ObjectOf.{FieldText, caveat_is, identified, object_depth, object_is, object_numbers, object_reads, object_texts, field_text}
+use Rattle.pass_json.proofs.ObjectOf.{FieldText, caveat_is, identified, object_is, object_is_fine, object_reads, field_text}
 use Rattle.pass_json.proofs.ObjectOf.{text_by_test}
 use Rattle.pass_json.proofs.ObjectOf.{location_text, whole}
 use Rattle.pass_json.proofs.ReadsText.{reads_text, utf8_text}
@@ -38,15 +38,12 @@ unfolding caveat_from field_from has_only_names
 caveat_from_text (true, text) bytes e = rw e refl
 caveat_from_text (false, text) bytes e = rw e refl
 
-sized : (bytes : List ℕ) → length bytes ≡ 32 → eqb (length bytes) 32 ≡ true
-sized bytes e = (Decides-eqb (length bytes) 32).1 e
-
 pass_from_texts : (items : Items) (caveats : List WideCaveat) (i : FieldText) (identifier : List ℕ) (l : Option FieldText) (location : List ℕ)
     (text signature : List ℕ)
     → caveats_of items ≡ Some caveats → YieldsBytes i identifier → YieldsIfAny l location → base64_bytes text ≡ Some signature
     → eqb (length signature) 32 ≡ true
     → pass_from (whole items i l text) ≡ Some (record { location = location; identifier = identifier; caveats = caveats; signature = signature })
-unfolding pass_from field_from has_only_names signature_from
+unfolding pass_from field_from has_only_names
 pass_from_texts items caveats (true, i) identifier None location text signature c ti tl s len = rw (c, ti, tl, s, len) refl
 pass_from_texts items caveats (false, i) identifier None location text signature c ti tl s len = rw (c, ti, tl, s, len) refl
 pass_from_texts items caveats (true, i) identifier (Some (true, l)) location text signature c ti tl s len = rw (c, ti, tl, s, len) refl
@@ -58,13 +55,13 @@ pass_from_texts items caveats (false, i) identifier (Some (false, l)) location t
 
 pub utf8_json : (pass : Plain) → IsUtf8 (json_text pass)
 unfolding json_text
-utf8_json pass = utf8_text (object_of pass) (object_texts pass)
+utf8_json pass = utf8_text (object_of pass) (object_is_fine pass).texts
 
 pub read_json_text : (pass : Plain) → read (json_text pass) ≡ Some (object_of pass)
 unfolding json_text
 read_json_text pass =
-    let depth = object_depth pass in
-    reads_text (object_of pass) (object_numbers pass) (omega arith) ∙ object_reads pass
+    let fine = object_is_fine pass in
+    reads_text (object_of pass) fine.numbers (omega arith) ∙ object_reads pass
 
 pub starts_json : (pass : Plain) → starts_with_brace (json_text pass) ≡ true
 unfolding json_text object_of
@@ -102,7 +99,7 @@ module _ (law : FromBase64IsBase64) where
       (location_text pass.location) pass.location
       (encode_of url_safe_no_pad pass.signature) pass.signature
       (caveats_read_back pass.caveats are.caveats) (field_text_yields pass.identifier are.identifier) (location_yields pass.location are.location)
-      (base64_yields pass.signature are.signature) (sized pass.signature len)
+      (base64_yields pass.signature are.signature) (eq-eqb _ 32 len)
 
   pub spells_json : (pass : Plain) → HasBytes pass → length pass.signature ≡ 32 → SpellsJson (json_text pass) (as_wide_pass pass)
   spells_json pass are len = record {

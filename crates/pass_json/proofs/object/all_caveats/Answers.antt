@@ -6,15 +6,15 @@ use Rattle.pass_json.proofs.object.all_caveats.Goals as goal
 pub returns-in_err-found-clause-err : goal.returns-in_err-found-clause-err
 returns-in_err-found-clause-err c =
     let h =
-    one_refused c.args.list.now c.loop-value.value-index c.value-item.result _ _ c.in_err-found.field-0.0
+    one_refused _ _ c.args.list.now c.loop-value.value-index c.value-item.result c.in_err-found.field-0.0
     (omega arith) c.value-item.is c.loop-value.invariant c.in_err-found.ensures.err in
     search rules
 
 pub loop-value-preserved : goal.loop-value-preserved
 loop-value-preserved c =
     rw (c.in_ok-push.ensures.items, map_push)
-    (one_more _ c.args.list.now c.loop-value.value-index c.value-item.result _ _ _ _
-    (omega arith) c.value-item.is c.in_ok-found.ensures.ok c.loop-value.invariant)
+    (one_more _ _ _ c.args.list.now c.loop-value.value-index c.value-item.result _ _ (omega arith) c.value-item.is c.in_ok-found.ensures.ok
+    c.loop-value.invariant)
 
 pub returns-clause-ok : goal.returns-clause-ok
-returns-clause-ok c = all_read _ c.args.list.now c.loop-value.value-index _ _ (omega arith) c.loop-value.invariant
+returns-clause-ok c = all_read _ _ _ c.args.list.now c.loop-value.value-index (omega arith) c.loop-value.invariant
