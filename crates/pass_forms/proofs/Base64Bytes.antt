@@ -1,7 +1,8 @@
 -- What decodes is a list of bytes.
-use Rattle.std.proofs.Common.{◌≡◌, ℕ, zero, suc, ◌+◌, ◌*◌, ◌/◌, ◌<◌, Bool, List, [], ◌∷◌, ◌++◌, length, take, drop, slice_index, refl, sym, subst, arith, inl}
-use Rattle.std.proofs.Common.{inr, ◌⊎◌}
-use Rattle.std.proofs.lemmas.Bool.{eq-eqb}
+use Rattle.std.proofs.Common.{◌≡◌, ℕ, zero, suc, ◌+◌, ◌*◌, ◌/◌, ◌<◌, Bool, true, ltb, List, [], ◌∷◌, ◌++◌, length, take, drop, slice_index, refl, sym}
+use Rattle.std.proofs.Common.{subst, arith, inl, inr, ◌⊎◌}
+use Rattle.std.specs.List.{list_all}
+use Rattle.std.proofs.lemmas.Bool.{and_parts, eq-eqb, lt-ltb, ltb-true}
 use Rattle.std.proofs.lemmas.List.{get_or-drop, take-append-drop}
 use Rattle.std.specs.declared.option.Option.{Option}
 use Rattle.std.specs.declared.option.Option.TheVariants.{None, Some}
@@ -28,6 +29,21 @@ Leftover = TypeOf no_leftover
 pub nil_is_bytes : IsBytes []
 nil_is_bytes zero = omega arith
 nil_is_bytes (suc i) = omega arith
+
+pub one_more : (byte : ℕ) (bytes : List ℕ) → byte < 256 → IsBytes bytes → IsBytes (byte ∷ bytes)
+one_more byte bytes h others zero = h
+one_more byte bytes h others (suc i) = others i
+
+-- the same, as a test
+pub bytes_from_passes : (text : List ℕ) → list_all (λ byte. ltb byte 256) text ≡ true → IsBytes text
+bytes_from_passes [] e = nil_is_bytes
+bytes_from_passes (byte ∷ text) e =
+    let both = and_parts (ltb byte 256) (list_all (λ b. ltb b 256) text) e in
+    one_more byte text (ltb-true byte 256 both.0) (bytes_from_passes text both.1)
+
+pub passes_from_bytes : (text : List ℕ) → IsBytes text → list_all (λ byte. ltb byte 256) text ≡ true
+passes_from_bytes [] bytes = refl
+passes_from_bytes (byte ∷ text) bytes = rw (lt-ltb byte 256 (bytes 0)) (passes_from_bytes text (λ i. bytes (suc i)))
 
 pub append_is_bytes : (a b : List ℕ) → IsBytes a → IsBytes b → IsBytes (a ++ b)
 append_is_bytes [] b front back i = back i

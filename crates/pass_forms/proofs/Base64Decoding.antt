@@ -1,13 +1,6 @@
 -- The engines in turn: which bytes the first that decodes gives.
-use Rattle.std.proofs.Common.{◌≡◌, ℕ, zero, suc, ◌-◌, ◌==◌, nat_eq, not, Bool, true, false, List, [], ◌∷◌, ◌++◌, length, take, replicate, refl, sym, ap, ◌∙◌}
-use Rattle.std.proofs.Common.{inl, inr, add-one, arith, ◌≤◌}
-use Rattle.std.proofs.lemmas.Bool.{and_right, both_ways}
-use Rattle.std.proofs.lemmas.Bool.Decides.{Decides-eqb}
-use Rattle.std.proofs.lemmas.Grind.{replicate_next}
-use Rattle.std.proofs.lemmas.List.{append-nil, append_assoc}
-use Rattle.std.proofs.lemmas.List.Folds.{list_all-append}
-use Rattle.std.proofs.lemmas.Slice.Eq.{ends_is}
-use Rattle.std.specs.List.{ends_with, list_all}
+use Rattle.std.proofs.Common.{◌≡◌, ℕ, Bool, true, false, cond, ltb, List, length, take, refl, ap, ◌∙◌, inl, inr, arith, ◌≤◌}
+use Rattle.std.specs.List.{list_all}
 use Rattle.std.specs.Option.{IfSome, option_map, option_or}
 use Rattle.std.specs.Result.{IfErr, IfOk, result_ok}
 use Rattle.std.specs.declared.option.Option.{Option}
@@ -16,13 +9,12 @@ use Rattle.std.specs.declared.result.Result.{Result}
 use Rattle.std.specs.declared.result.Result.TheVariants.{Ok, Err}
 use Rattle.base64.specs.declared.decode.DecodeError.{DecodeError}
 use Rattle.base64.specs.Engines.{standard, standard_no_pad, url_safe, url_safe_no_pad}
-use Rattle.base64.specs.GeneralPurpose.{IsBytes, IsConsistent, IsDecodedInto, IsStrict, decode_of, decoded_of, encode_of, engine_symbols}
-use Rattle.base64.specs.Rfc4648.{encode, encode_symbols, padding_len}
+use Rattle.base64.specs.GeneralPurpose.{IsBytes, IsConsistent, IsDecodedInto, IsStrict, decode_of, decoded_of, encode_of}
 use Rattle.base64.specs.declared.engine.general_purpose.GeneralPurpose.{GeneralPurpose}
 use Rattle.pass_forms.specs.Envelope.{IsBase64}
-use Rattle.pass_forms.specs.computed.Envelope.{from_base64}
-use Rattle.pass_forms.proofs.Base64Spelling.{decoded-encode, decoded_spells, spells_one}
-use Rattle.pass_forms.proofs.Base64Symbols.{symbols_pass}
+use Rattle.pass_forms.specs.computed.Envelope.{by_decoders, from_base64}
+use Rattle.pass_forms.proofs.Base64Bytes.{bytes_from_passes, passes_from_bytes}
+use Rattle.pass_forms.proofs.Base64Spelling.{decoded-encode, decoded_spells, spelling_passes, spells_one}
 
 -- what a decoder answers is what the text is base64 of
 abbrev IsSound : List ℕ → Option (List ℕ) → Type 0
@@ -66,102 +58,43 @@ decoded_by : (e : GeneralPurpose) (text b : List ℕ) → IsConsistent e → IsB
 decoded_by e text b consistent bytes spelling = rw spelling (decoded-encode e b consistent bytes)
 
 -- The four engines in turn give the bytes that the text is base64 of.
-pub from_base64_spells : (text b : List ℕ) → IsBytes text → from_base64 text ≡ Some b → IsBase64 text b
-unfolding from_base64
-from_base64_spells text b bytes found =
-    or_sound text _ _ (url_safe_no_pad_sound text bytes) (or_sound text _ _ (url_safe_sound text bytes)
-    (or_sound text _ _ (standard_no_pad_sound text bytes) (standard_sound text bytes))) b found
+decoders_spell : (text b : List ℕ) → IsBytes text → by_decoders text ≡ Some b → IsBase64 text b
+unfolding by_decoders
+decoders_spell text b bytes found =
+    or_sound text _ _ (or_sound text _ _ (url_safe_no_pad_sound text bytes) (url_safe_sound text bytes))
+    (or_sound text _ _ (standard_no_pad_sound text bytes) (standard_sound text bytes)) b found
 
 -- If it is base64 of bytes, they give those.
-pub spells_from_base64 : (text b : List ℕ) → IsBytes text → IsBase64 text b → from_base64 text ≡ Some b
-unfolding from_base64
-spells_from_base64 text b bytes is = elim is.spelling [
-  | inl e ↦ at_first _ _ b (decoded_by url_safe_no_pad text b refl is.are_bytes e)
-  | inr other ↦ at_second text _ _ b (url_safe_no_pad_sound text bytes) is (elim other [
-    | inl e ↦ at_first _ _ b (decoded_by url_safe text b refl is.are_bytes e)
-    | inr other ↦ at_second text _ _ b (url_safe_sound text bytes) is (elim other [
+spells_to_decoders : (text b : List ℕ) → IsBytes text → IsBase64 text b → by_decoders text ≡ Some b
+unfolding by_decoders
+spells_to_decoders text b bytes is = elim is.spelling [
+  | inl e ↦ at_first _ _ b (at_first _ _ b (decoded_by url_safe_no_pad text b refl is.are_bytes e))
+  | inr other ↦ elim other [
+    | inl e ↦ at_first _ _ b (at_second text _ _ b (url_safe_no_pad_sound text bytes) is (decoded_by url_safe text b refl is.are_bytes e))
+    | inr other ↦ at_second text _ _ b (or_sound text _ _ (url_safe_no_pad_sound text bytes) (url_safe_sound text bytes)) is (elim other [
       | inl e ↦ at_first _ _ b (decoded_by standard_no_pad text b refl is.are_bytes e)
       | inr e ↦ at_second text _ _ b (standard_no_pad_sound text bytes) is (decoded_by standard text b refl is.are_bytes e)
     ])
-  ])
+  ]
 ]
 
--- two decoders with the same answers
-same_answers : (x y : Option (List ℕ)) → ((b : List ℕ) → x ≡ Some b → y ≡ Some b) → ((b : List ℕ) → y ≡ Some b → x ≡ Some b) → x ≡ y
-same_answers None None f g = refl
-same_answers None (Some b) f g = g b refl
-same_answers (Some a) y f g = sym (f a refl)
+-- of a text that is tested to be bytes
+pub from_base64_is : (text : List ℕ) → IsBytes text → from_base64 text ≡ by_decoders text
+unfolding from_base64
+from_base64_is text bytes = rw (passes_from_bytes text bytes) refl
 
--- ---- padding
+pub from_base64_spells : (text b : List ℕ) → from_base64 text ≡ Some b → IsBase64 text b
+unfolding from_base64
+from_base64_spells text b found = by_test (list_all (λ byte. ltb byte 256) text) refl found
+  where
+    by_test : (test : Bool) → list_all (λ byte. ltb byte 256) text ≡ test → cond test (by_decoders text) None ≡ Some b → IsBase64 text b
+    by_test true passes found = decoders_spell text b (bytes_from_passes text passes) found
+    by_test false passes found = absurd cc
 
-abbrev ends_in_padding : List ℕ → Bool
-ends_in_padding text = ends_with nat_eq text (61 ∷ [])
-
--- no encoding without padding ends in a padding byte
-unpadded_end : (t m : List ℕ) → list_all (λ x. not (x == 61)) t ≡ true → ends_in_padding (encode t 61 false m) ≡ true → ⊥
-unpadded_end t m none ends =
-    let text : List ℕ = encode t 61 false m in
-    let test : ℕ → Bool = λ x. not (x == 61) in
-    let front : List ℕ = take (length text - 1) text in
-    let cut : text ≡ front ++ 61 ∷ [] = (ends_is Decides-eqb text (61 ∷ []) (ends_in_padding text) refl).0 ends in
-    let all : list_all test text ≡ true = rw append-nil (symbols_pass test t m refl none) in
-    let last : list_all test (front ++ 61 ∷ []) ≡ false = list_all-append test front (61 ∷ []) ∙ and_right (list_all test front) false refl in
-    both_ways (list_all test text) (ap (list_all test) cut ∙ last) all
-
--- copies of the padding that a text does not end in are none
-no_copies : (front : List ℕ) (k : ℕ) → ends_in_padding (front ++ replicate k 61) ≡ false → replicate {A = ℕ} k 61 ≡ []
-no_copies front zero ends = refl
-no_copies front (suc k) ends =
-    let next : replicate {A = ℕ} (suc k) 61 ≡ replicate k 61 ++ 61 ∷ [] = rw add-one at (replicate_next {X = ℕ} k 61) in
-    let whole : front ++ replicate (suc k) 61 ≡ (front ++ replicate k 61) ++ 61 ∷ [] =
-    ap (λ (l : List ℕ). front ++ l) next ∙ sym (append_assoc front (replicate {A = ℕ} k 61) (61 ∷ [])) in
-    absurd (both_ways _ ends ((ends_is Decides-eqb _ (61 ∷ []) _ refl).1 (front ++ replicate k 61) whole))
-
--- an encoding that does not end in padding has none
-padded_end : (t m : List ℕ) → ends_in_padding (encode t 61 true m) ≡ false → encode t 61 true m ≡ encode t 61 false m
-padded_end t m ends = ap (λ (l : List ℕ). encode_symbols t m ++ l) (no_copies (encode_symbols t m) (padding_len (length m)) ends)
-
--- A text that ends in padding is decoded by one of the padded engines, if by any.
-pub from_padded : (text : List ℕ) → IsBytes text → ends_in_padding text ≡ true
-    → option_or (decoded_of url_safe text) (decoded_of standard text) ≡ from_base64 text
-from_padded text bytes ends =
-    same_answers _ _
-    (λ b h. spells_from_base64 text b bytes (or_sound text _ _ (url_safe_sound text bytes) (standard_sound text bytes) b h))
-    (λ b h.
-    let is = from_base64_spells text b bytes h in
-    elim is.spelling [
-      | inl e ↦ absurd (unpadded_end (engine_symbols url_safe) b refl (rw e at ends))
-      | inr other ↦ elim other [
-        | inl e ↦ at_first _ _ b (decoded_by url_safe text b refl is.are_bytes e)
-        | inr other ↦ elim other [
-          | inl e ↦ absurd (unpadded_end (engine_symbols standard) b refl (rw e at ends))
-          | inr e ↦ at_second text _ _ b (url_safe_sound text bytes) is (decoded_by standard text b refl is.are_bytes e)
-        ]
-      ]
-    ])
-
--- Any other is decoded by one of the unpadded engines, if by any.
-pub from_unpadded : (text : List ℕ) → IsBytes text → ends_in_padding text ≡ false
-    → option_or (decoded_of url_safe_no_pad text) (decoded_of standard_no_pad text) ≡ from_base64 text
-from_unpadded text bytes ends =
-    same_answers _ _
-    (λ b h. spells_from_base64 text b bytes (or_sound text _ _ (url_safe_no_pad_sound text bytes) (standard_no_pad_sound text bytes) b h))
-    (λ b h.
-    let is = from_base64_spells text b bytes h in
-    let first : text ≡ encode_of url_safe_no_pad b → option_or (decoded_of url_safe_no_pad text) (decoded_of standard_no_pad text) ≡ Some b =
-    λ e. at_first _ _ b (decoded_by url_safe_no_pad text b refl is.are_bytes e) in
-    let second : text ≡ encode_of standard_no_pad b → option_or (decoded_of url_safe_no_pad text) (decoded_of standard_no_pad text) ≡ Some b =
-    λ e. at_second text _ _ b (url_safe_no_pad_sound text bytes) is (decoded_by standard_no_pad text b refl is.are_bytes e) in
-    elim is.spelling [
-      | inl e ↦ first e
-      | inr other ↦ elim other [
-        | inl e ↦ first (e ∙ padded_end (engine_symbols url_safe) b (rw e at ends))
-        | inr other ↦ elim other [
-          | inl e ↦ second e
-          | inr e ↦ second (e ∙ padded_end (engine_symbols standard) b (rw e at ends))
-        ]
-      ]
-    ])
+pub spells_from_base64 : (text b : List ℕ) → IsBase64 text b → from_base64 text ≡ Some b
+spells_from_base64 text b is =
+    let bytes : IsBytes text = bytes_from_passes text (spelling_passes (λ byte. ltb byte 256) text b refl refl refl refl is) in
+    from_base64_is text bytes ∙ spells_to_decoders text b bytes is
 
 -- what one engine's call answers
 pub decoded_into : (e : GeneralPurpose) (text old new : List ℕ) (r : Result ℕ DecodeError) (answer : Option ℕ) → answer ≡ result_ok r

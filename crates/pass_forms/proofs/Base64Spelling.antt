@@ -63,7 +63,7 @@ spells_one text a b left right =
     cc both
 
 -- base64 passes a test that both alphabets, 0 and the padding pass
-spelling_passes : (p : ℕ → Bool) (text b : List ℕ) → p 0 ≡ true → p 61 ≡ true → list_all p standard_symbols ≡ true → list_all p url_safe_symbols ≡ true
+pub spelling_passes : (p : ℕ → Bool) (text b : List ℕ) → p 0 ≡ true → p 61 ≡ true → list_all p standard_symbols ≡ true → list_all p url_safe_symbols ≡ true
     → IsBase64 text b → list_all p text ≡ true
 spelling_passes p text b past padded std url is = elim is.spelling [
   | inl e ↦ rw e (encode_passes p url_safe_symbols b 61 false past padded url)

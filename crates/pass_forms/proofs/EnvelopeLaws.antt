@@ -35,20 +35,20 @@ option_cases None = inl refl
 option_cases (Some x) = inr (x, refl)
 
 -- what a text answers that is no longer than it may be, and does not start with a brace
-decoded_answer : (text : List ℕ) → IsBytes text → length text ≤ max_text_len → starts_with_brace text ≡ false
+decoded_answer : (text : List ℕ) → length text ≤ max_text_len → starts_with_brace text ≡ false
     → IsUnwrapped text (ok_or (option_and_then with_its_form (from_base64 text)) Malformed)
-decoded_answer text bytes short brace = elim (option_cases (from_base64 text)) [
+decoded_answer text short brace = elim (option_cases (from_base64 text)) [
   | inl none ↦
       rw none (
         short,
         λ form b wraps. elim wraps [
           | inl plain ↦ cc (plain.0, brace)
-          | inr is ↦ cc (spells_from_base64 text b bytes is.0, none)
+          | inr is ↦ cc (spells_from_base64 text b is.0, none)
         ],
       )
   | inr some ↦
       let b : List ℕ = some.0 in
-      let is : IsBase64 text b = from_base64_spells text b bytes some.1 in
+      let is : IsBase64 text b = from_base64_spells text b some.1 in
       elim (option_cases (form_of b)) [
         | inl none ↦
             rw (some.1, none) (
@@ -65,13 +65,13 @@ decoded_answer text bytes short brace = elim (option_cases (from_base64 text)) [
 ]
 
 -- `unwrapping` is what taking the text out of its envelope answers.
-pub unwrapped_answers : (text : List ℕ) → IsBytes text → IsUnwrapped text (unwrapping text)
+pub unwrapped_answers : (text : List ℕ) → IsUnwrapped text (unwrapping text)
 unfolding unwrapping
-unwrapped_answers text bytes = elim (cases_lt max_text_len (length text)) [
+unwrapped_answers text = elim (cases_lt max_text_len (length text)) [
   | inl long ↦ rw (lt-ltb max_text_len (length text) long) long
   | inr short ↦ elim (cases_Bool (starts_with_brace text)) [
     | inl brace ↦ rw (le-ltb max_text_len (length text) short, brace) (short, inl (brace, refl, refl))
-    | inr brace ↦ rw (le-ltb max_text_len (length text) short, brace) (decoded_answer text bytes short brace)
+    | inr brace ↦ rw (le-ltb max_text_len (length text) short, brace) (decoded_answer text short brace)
   ]
 ]
 
@@ -87,10 +87,10 @@ one_answer text (Err Malformed) (Err Malformed) left right = refl
 one_answer text x y left right = first_of (search rules, omega arith)
 
 -- Nothing else is.
-pub unwrapped_is : (text : List ℕ) (answer : Answer) → IsBytes text → (unwrapping text ≡ answer) ↔ IsUnwrapped text answer
-unwrapped_is text answer bytes =
-    (λ e. subst (IsUnwrapped text) e (unwrapped_answers text bytes), one_answer text (unwrapping text) answer (unwrapped_answers text bytes))
+pub unwrapped_is : (text : List ℕ) (answer : Answer) → (unwrapping text ≡ answer) ↔ IsUnwrapped text answer
+unwrapped_is text answer =
+    (λ e. subst (IsUnwrapped text) e (unwrapped_answers text), one_answer text (unwrapping text) answer (unwrapped_answers text))
 
 -- an answer that is `unwrapping` of the text
-pub answers_as : (text : List ℕ) (answer : Answer) → IsBytes text → answer ≡ unwrapping text → IsUnwrapped text answer
-answers_as text answer bytes is = subst (IsUnwrapped text) (sym is) (unwrapped_answers text bytes)
+pub answers_as : (text : List ℕ) (answer : Answer) → answer ≡ unwrapping text → IsUnwrapped text answer
+answers_as text answer is = subst (IsUnwrapped text) (sym is) (unwrapped_answers text)

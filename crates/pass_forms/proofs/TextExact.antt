@@ -1,6 +1,5 @@
 -- The reading of a text in any form is exact, if the reading of bytes is.
 use Rattle.std.proofs.Common.{◌≡◌, ◌↔◌, ℕ, ◌≤◌, List, length, Option, Some, Result, Ok, Err, refl, sym, ap, subst, ◌∙◌, arith, rules}
-use Rattle.base64.specs.GeneralPurpose.{IsBytes}
 use Rattle.pass_forms.specs.declared.fault.FormFault.{FormFault}
 use Rattle.pass_forms.specs.declared.fault.FormFault.TheVariants.{TooLong, Malformed, ThirdParty, TooMany}
 use Rattle.pass_forms.specs.declared.form.Form.{Form}
@@ -75,11 +74,11 @@ module _ (wide_at : Reader) (text : List ℕ) where
   reading_in_determined (Err Malformed) (Err TooMany) h content = absurd (h.1 content.2.0 content.2.1.0 content.2.1.1)
   reading_in_determined wrapped answer h content = first_of (search rules, omega arith)
 
-  pub text_reading_exact : (answer : Result (Form × Plain) FormFault) → IsBytes text →
+  pub text_reading_exact : (answer : Result (Form × Plain) FormFault) →
       IsTextReading (Spells wide_at) text answer ↔ (text_reading wide_at text ≡ answer)
   unfolding text_reading
-  text_reading_exact answer bytes =
-      let unwraps = unwrapped_answers text bytes in (
+  text_reading_exact answer =
+      let unwraps = unwrapped_answers text in (
         reading_in_determined (unwrapping text) answer unwraps,
         λ e. subst (IsTextReading (Spells wide_at) text) e (reading_in_is (unwrapping text) unwraps),
       )

@@ -1,7 +1,7 @@
 -- The bytes that are written of a pass are bytes, where its parts are.
 use Rattle.std.proofs.Common.{◌≡◌, ℕ, zero, suc, ◌+◌, ◌/◌, ◌%◌, ◌^◌, ◌<◌, ◌≤◌, true, ltb, List, [], ◌∷◌, ◌++◌, length, map, refl, arith, inl, inr}
 use Rattle.std.specs.List.{AllByRecursion, flat_map, list_all}
-use Rattle.std.proofs.lemmas.Bool.{and_parts, cases_lt, lt-ltb, le-ltb, ltb-true}
+use Rattle.std.proofs.lemmas.Bool.{cases_lt, lt-ltb, le-ltb}
 use Rattle.std.proofs.lemmas.Bool.Decides.{nat_tests}
 use Rattle.base64.specs.GeneralPurpose.{IsBytes}
 use Rattle.pass_forms.specs.Pass.{Plain, as_wide_pass, widened_caveat}
@@ -11,11 +11,7 @@ use Rattle.pass_forms.specs.V1.{packet_len}
 use Rattle.pass_forms.specs.V2.{caveat_section, end_of_section, field, groups, optional_field, varint, types}
 use Rattle.pass_forms.specs.Writing.{HasBytes, nonempty_location, v1_bytes, v2_bytes}
 use Rattle.pass_forms.proofs.FieldNames.{caveat_key, identifier_key, location_key, signature_key}
-use Rattle.pass_forms.proofs.Base64Bytes.{append_is_bytes, nil_is_bytes}
-
-one_more : (byte : ℕ) (bytes : List ℕ) → byte < 256 → IsBytes bytes → IsBytes (byte ∷ bytes)
-one_more byte bytes h others zero = h
-one_more byte bytes h others (suc i) = others i
+use Rattle.pass_forms.proofs.Base64Bytes.{append_is_bytes, bytes_from_passes, nil_is_bytes, one_more}
 
 -- ---- V1
 
@@ -31,16 +27,10 @@ digits_are_bytes n h =
     (digit_is_byte (n / 4096) (omega arith)) (digit_is_byte (n / 256 % 16) (omega arith)) (digit_is_byte (n / 16 % 16) (omega arith))
     (digit_is_byte (n % 16) (omega arith))
 
-key_is_bytes : (key : List ℕ) → list_all (λ byte. ltb byte 256) key ≡ true → IsBytes key
-key_is_bytes [] h = nil_is_bytes
-key_is_bytes (byte ∷ bytes) h =
-    let split = and_parts (ltb byte 256) (list_all (λ b. ltb b 256) bytes) h in
-    one_more byte bytes (ltb-true byte 256 split.0) (key_is_bytes bytes split.1)
-
 packet_is_bytes : (key bytes : List ℕ) → list_all (λ byte. ltb byte 256) key ≡ true → FitsPacket key bytes → IsBytes bytes → IsBytes (packet key bytes)
 packet_is_bytes key bytes passes fits are =
     append_is_bytes (four_hex_digits (packet_len key bytes)) (key ++ (bytes ++ 10 ∷ [])) (digits_are_bytes (packet_len key bytes) fits)
-    (append_is_bytes key (bytes ++ 10 ∷ []) (key_is_bytes key passes)
+    (append_is_bytes key (bytes ++ 10 ∷ []) (bytes_from_passes key passes)
     (append_is_bytes bytes (10 ∷ []) are (one_more 10 [] (omega arith) nil_is_bytes)))
 
 packets_are_bytes : (caveats : List (List ℕ)) → AllByRecursion FitsCaveat (map widened_caveat caveats) → AllByRecursion IsBytes caveats →

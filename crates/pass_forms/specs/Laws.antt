@@ -52,18 +52,15 @@ WrapsBytes = (text : List ℕ) (form : Form) (bytes : List ℕ)
 
 -- `from_base64` returns the bytes that the text is base64 of, and `None` if there are none.
 abbrev pub FromBase64IsBase64 : Type 0
-FromBase64IsBase64 = (text bytes : List ℕ)
-    → IsBytes text → (from_base64 text ≡ Some bytes) ↔ IsBase64 text bytes
+FromBase64IsBase64 = (text bytes : List ℕ) → (from_base64 text ≡ Some bytes) ↔ IsBase64 text bytes
 
 -- `unwrapping` of a text is the only result that `IsUnwrapped` allows.
 abbrev pub UnwrappedIsTheAnswer : Type 0
-UnwrappedIsTheAnswer = (text : List ℕ) (answer : Result (Form × List ℕ) FormFault)
-    → IsBytes text → (unwrapping text ≡ answer) ↔ IsUnwrapped text answer
+UnwrappedIsTheAnswer = (text : List ℕ) (answer : Result (Form × List ℕ) FormFault) → (unwrapping text ≡ answer) ↔ IsUnwrapped text answer
 
 -- The relation allows exactly one result for a text: the computed reading.
 abbrev pub ReadsTextsExactly : Type 0
 ReadsTextsExactly = (wide_at : Form → List ℕ → Option WidePass) (text : List ℕ) (answer : Result (Form × Plain) FormFault) →
-    IsBytes text →
     IsTextReading (λ form bytes wide. wide_at form bytes ≡ Some wide) text answer ↔ (text_reading wide_at text ≡ answer)
 
 -- ---- of what is written

@@ -128,19 +128,17 @@ pub fn decode_base64(alloc: Global, text: &[u8]) -> Result<Option<Vec<u8>>, Allo
     Ok(Some(buffer))
 }
 
-// Decodes a text into the start of the buffer, which is long enough for it. Returns the number of
-// bytes.
+// Decodes a text into the start of the buffer, which is long enough for it, with the first of four
+// engines that accepts the text. Returns the number of bytes.
 fn decode(text: &[u8], buffer: &mut [u8]) -> Option<usize>
     requires { decoded_estimate (length text.now) ≤ length buffer.old }
     ensures bytes { option_map (λ len. take len buffer.new) result ≡ from_base64 text.now }
     ensures len { IfSome result (λ len. len ≤ length buffer.old) }
 {
-    // Only a padded text ends in `=`.
-    if text.ends_with(b"=") {
-        decode_under(&URL_SAFE, &STANDARD, text, buffer)
-    } else {
-        decode_under(&URL_SAFE_NO_PAD, &STANDARD_NO_PAD, text, buffer)
+    if let Some(len) = decode_under(&URL_SAFE_NO_PAD, &URL_SAFE, text, buffer) {
+        return Some(len);
     }
+    decode_under(&STANDARD_NO_PAD, &STANDARD, text, buffer)
 }
 
 // The same, with the first of two engines that accepts the text.

@@ -1,6 +1,5 @@
 -- The reading of a text in any form is exact.
-use Rattle.std.proofs.Common.{◌≡◌, ◌↔◌, ℕ, List, length, Some, Result, Ok, Err}
-use Rattle.base64.specs.GeneralPurpose.{IsBytes}
+use Rattle.std.proofs.Common.{◌≡◌, ◌↔◌, ◌∙◌, ℕ, List, length, Some, Result, Ok, Err, sym}
 use Rattle.pass_forms.specs.declared.fault.FormFault.{FormFault}
 use Rattle.pass_forms.specs.declared.form.Form.{Form}
 use Rattle.pass_forms.specs.declared.form.Form.TheVariants.{V1, V2, Json}
@@ -12,6 +11,7 @@ use Rattle.pass_forms.specs.computed.V1Reading as v1
 use Rattle.pass_forms.specs.V2.{SpellsV2}
 use Rattle.pass_forms.specs.computed.V2Reading as v2
 use Rattle.pass_json.specs.AnyForm.{SpellsForm, IsAnyReading}
+use Rattle.pass_json.specs.Laws.{OneReadingEachText}
 use Rattle.pass_json.specs.computed.AnyForm.{reading, wide_in}
 use Rattle.pass_json.specs.Json.{SpellsJson}
 use Rattle.pass_json.specs.computed.JsonReading.{wide_json}
@@ -48,10 +48,13 @@ module _ (packets : ComputesSpelled SpellsV1 v1.wide_at) (sections : ComputesSpe
   in_each V2 bytes wide = sections bytes wide
   in_each Json bytes wide = json bytes wide
 
-  pub reading_exact : (text : List ℕ) (answer : Result (Form × Plain) FormFault) → IsBytes text → IsAnyReading text answer ↔ (reading text ≡ answer)
+  pub reading_exact : (text : List ℕ) (answer : Result (Form × Plain) FormFault) → IsAnyReading text answer ↔ (reading text ≡ answer)
   unfolding reading
-  reading_exact text answer bytes =
+  reading_exact text answer =
       let to = λ (form : Form) (b : List ℕ) (wide : WidePass). (in_each form b wide).0 in
       let from = λ (form : Form) (b : List ℕ) (wide : WidePass). (in_each form b wide).1 in
-      let exact = texts wide_in text answer bytes in
+      let exact = texts wide_in text answer in
       (λ h. exact.0 (same_reading SpellsForm Computed to from text answer h), λ e. same_reading Computed SpellsForm from to text answer (exact.1 e))
+
+  pub one_reading : OneReadingEachText
+  one_reading text one other p q = sym ((reading_exact text one).0 p) ∙ (reading_exact text other).0 q

@@ -1,14 +1,7 @@
 -- A field, computed, is what is spelled.
-use Rattle.std.proofs.Common.{◌≡◌, ℕ, zero, suc, ◌<◌, Bool, true, false, cond, ltb, List, [], ◌∷◌, Option, Some, None, refl, sym, ap, subst, arith, ◌⊎◌}
+use Rattle.std.proofs.Common.{◌≡◌, ℕ, List, Option, Some, None, refl, sym, ap, subst, ◌⊎◌}
 use Rattle.std.proofs.Common.{inl, inr}
-use Rattle.std.specs.List.{list_all}
 use Rattle.std.specs.Option.{option_map}
-use Rattle.std.specs.Str.{IsAscii}
-use Rattle.std.proofs.lemmas.Bool.{and_parts, lt-ltb, ltb-true}
-use Rattle.base64.specs.declared.engine.general_purpose.GeneralPurpose.{GeneralPurpose}
-use Rattle.base64.specs.Engines.{standard, standard_no_pad, url_safe, url_safe_no_pad}
-use Rattle.base64.specs.GeneralPurpose.{IsBytes, encode_of}
-use Rattle.base64.proofs.EngineFacts.{IsAscii-encode_of}
 use Rattle.serde_json.specs.Data.{Data, string, object, Members}
 use Rattle.serde_json.specs.Find.{get, as_str}
 use Rattle.pass_forms.specs.Laws.{FromBase64IsBase64}
@@ -16,47 +9,11 @@ use Rattle.pass_forms.specs.Envelope.{IsBase64}
 use Rattle.pass_forms.specs.computed.Envelope.{from_base64}
 use Rattle.pass_forms.specs.computed.Parts.{◌>>=◌}
 use Rattle.pass_json.specs.Json.{IsField}
-use Rattle.pass_json.specs.computed.JsonReading.{base64_bytes, decoded_text, field_bytes, field_from, must_have}
+use Rattle.pass_json.specs.computed.JsonReading.{decoded_text, field_bytes, field_from, must_have}
 
 pub bound : {A B : Type 0} (o : Option A) (f : A → Option B) (b : B) → (o >>= f) ≡ Some b → (a : A) × (o ≡ Some a) × (f a ≡ Some b)
 bound None f b e = absurd cc
 bound (Some a) f b e = (a, refl, e)
-
--- ---- bytes, as a test
-
-all_below : (text : List ℕ) → IsBytes text → list_all (λ byte. ltb byte 256) text ≡ true
-all_below [] bytes = refl
-all_below (byte ∷ text) bytes =
-    let first : byte < 256 = bytes 0 in
-    let rest : list_all (λ b. ltb b 256) text ≡ true = all_below text (λ i. bytes (suc i)) in
-    rw (lt-ltb byte 256 first) rest
-
-pub base64_bytes_is : (text : List ℕ) → IsBytes text → base64_bytes text ≡ from_base64 text
-unfolding base64_bytes
-base64_bytes_is text bytes = rw (all_below text bytes) refl
-
-are_below : (text : List ℕ) → list_all (λ byte. ltb byte 256) text ≡ true → IsBytes text
-are_below [] e zero = omega arith
-are_below [] e (suc i) = omega arith
-are_below (byte ∷ text) e zero = ltb-true byte 256 (and_parts (ltb byte 256) (list_all (λ b. ltb b 256) text) e).0
-are_below (byte ∷ text) e (suc i) = are_below text (and_parts (ltb byte 256) (list_all (λ b. ltb b 256) text) e).1 i
-
-encoded_below : (e : GeneralPurpose) (text bytes : List ℕ) → text ≡ encode_of e bytes → IsBytes text
-encoded_below e text bytes is i =
-    let ascii : IsAscii text = subst IsAscii (sym is) (IsAscii-encode_of e bytes) in
-    omega (arith, ascii i)
-
-spelled_below : (text bytes : List ℕ) → IsBase64 text bytes → IsBytes text
-spelled_below text bytes is = elim is.spelling [
-  | inl e ↦ encoded_below url_safe_no_pad text bytes e
-  | inr other ↦ elim other [
-    | inl e ↦ encoded_below url_safe text bytes e
-    | inr other ↦ elim other [
-      | inl e ↦ encoded_below standard_no_pad text bytes e
-      | inr e ↦ encoded_below standard text bytes e
-    ]
-  ]
-]
 
 -- ---- values
 
@@ -89,20 +46,6 @@ is_object plain base64 value bytes (inr h) = absurd (cc h.2)
 -- ---- fields, by the law of base64
 
 module _ (law : FromBase64IsBase64) where
-  base64_by : (text bytes : List ℕ) (test : Bool) → list_all (λ byte. ltb byte 256) text ≡ test → cond test (from_base64 text) None ≡ Some bytes →
-      IsBase64 text bytes
-  base64_by text bytes true below e = (law text bytes (are_below text below)).0 e
-  base64_by text bytes false below e = absurd cc
-
-  pub base64_takes : (text bytes : List ℕ) → base64_bytes text ≡ Some bytes → IsBase64 text bytes
-  unfolding base64_bytes
-  base64_takes text bytes e = base64_by text bytes (list_all (λ byte. ltb byte 256) text) refl e
-
-  pub base64_again : (text bytes : List ℕ) → IsBase64 text bytes → base64_bytes text ≡ Some bytes
-  base64_again text bytes is =
-      let below : IsBytes text = spelled_below text bytes is in
-      rw (base64_bytes_is text below) ((law text bytes below).1 is)
-
   field_bytes_takes : (plain base64 : Option Data) (t : Option (List ℕ)) → field_bytes plain base64 ≡ Some t → IsFieldBytes plain base64 t
   field_bytes_takes None None t e =
       let none : None ≡ t = cc in
@@ -112,14 +55,14 @@ module _ (law : FromBase64IsBase64) where
       subst (IsFieldBytes (Some value) None) (sym m.2) (inl (ap (λ (d : Data). Some d) (str_of value m.0 m.1), refl))
   field_bytes_takes None (Some value) t e =
       let m = mapped (decoded_text value) t e in
-      let d = bound (as_str value) base64_bytes m.0 m.1 in
-      subst (IsFieldBytes None (Some value)) (sym m.2) (inr (refl, d.0, ap (λ (d : Data). Some d) (str_of value d.0 d.1), base64_takes d.0 m.0 d.2))
+      let d = bound (as_str value) from_base64 m.0 m.1 in
+      subst (IsFieldBytes None (Some value)) (sym m.2) (inr (refl, d.0, ap (λ (d : Data). Some d) (str_of value d.0 d.1), (law d.0 m.0).0 d.2))
   field_bytes_takes (Some value) (Some other) t e = absurd cc
 
   field_bytes_again : (plain base64 : Option Data) (t : Option (List ℕ)) → IsFieldBytes plain base64 t → field_bytes plain base64 ≡ Some t
   field_bytes_again plain base64 None h = rw (h.0, h.1) refl
   field_bytes_again plain base64 (Some bytes) (inl h) = rw (h.0, h.1) refl
-  field_bytes_again plain base64 (Some bytes) (inr h) = rw (h.0, h.2, base64_again h.1 bytes h.3) refl
+  field_bytes_again plain base64 (Some bytes) (inr h) = rw (h.0, h.2, (law h.1 bytes).1 h.3) refl
 
 module _ (law : FromBase64IsBase64) (plain base64 : List ℕ) (value : Data) where
   pub field_takes : (t : Option (List ℕ)) → field_from plain base64 value ≡ Some t → IsField plain base64 value t

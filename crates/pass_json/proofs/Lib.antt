@@ -12,5 +12,4 @@ pub mod ReadsText
 pub mod ObjectOf
 pub mod WrittenJson
 pub mod WritingJson
-pub mod ReadingOnce
 pub mod WritingOnce

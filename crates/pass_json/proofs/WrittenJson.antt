@@ -9,12 +9,12 @@ use Rattle.serde_json.specs.Data.{object, Items, no_members}
 use Rattle.serde_json.specs.Read.{read}
 use Rattle.pass_forms.specs.Laws.{FromBase64IsBase64}
 use Rattle.pass_forms.specs.Envelope.{starts_with_brace}
+use Rattle.pass_forms.specs.computed.Envelope.{from_base64}
 use Rattle.pass_forms.specs.Pass.{Plain, WideCaveat, as_wide_pass, widened_caveat}
 use Rattle.pass_forms.specs.Writing.{HasBytes}
 use Rattle.pass_json.specs.Json.{SpellsJson}
-use Rattle.pass_json.specs.computed.JsonReading.{base64_bytes, caveat_from, caveats_of, field_from, has_only_names, pass_from}
+use Rattle.pass_json.specs.computed.JsonReading.{caveat_from, caveats_of, field_from, has_only_names, pass_from}
 use Rattle.pass_json.specs.JsonWriting.{caveat_object, caveat_objects, json_text, object_of}
-use Rattle.pass_json.proofs.FieldExact.{base64_again}
 use Rattle.pass_json.proofs.JsonExact.{pass_takes}
 use Rattle.pass_json.proofs.ObjectOf.{FieldText, caveat_is, identified, object_is, object_is_fine, object_reads, field_text}
 use Rattle.pass_json.proofs.ObjectOf.{text_by_test}
@@ -26,7 +26,7 @@ use Rattle.pass_json.proofs.ReadsText.{reads_text, utf8_text}
 -- the text under a name holds these bytes
 abbrev YieldsBytes : FieldText → List ℕ → Type 0
 YieldsBytes (true, text) bytes = text ≡ bytes
-YieldsBytes (false, text) bytes = base64_bytes text ≡ Some bytes
+YieldsBytes (false, text) bytes = from_base64 text ≡ Some bytes
 
 abbrev YieldsIfAny : Option FieldText → List ℕ → Type 0
 YieldsIfAny None bytes = bytes ≡ []
@@ -40,7 +40,7 @@ caveat_from_text (false, text) bytes e = rw e refl
 
 pass_from_texts : (items : Items) (caveats : List WideCaveat) (i : FieldText) (identifier : List ℕ) (l : Option FieldText) (location : List ℕ)
     (text signature : List ℕ)
-    → caveats_of items ≡ Some caveats → YieldsBytes i identifier → YieldsIfAny l location → base64_bytes text ≡ Some signature
+    → caveats_of items ≡ Some caveats → YieldsBytes i identifier → YieldsIfAny l location → from_base64 text ≡ Some signature
     → eqb (length signature) 32 ≡ true
     → pass_from (whole items i l text) ≡ Some (record { location = location; identifier = identifier; caveats = caveats; signature = signature })
 unfolding pass_from field_from has_only_names
@@ -70,8 +70,8 @@ starts_json pass = refl
 -- ---- by the law of base64
 
 module _ (law : FromBase64IsBase64) where
-  base64_yields : (bytes : List ℕ) → IsBytes bytes → base64_bytes (encode_of url_safe_no_pad bytes) ≡ Some bytes
-  base64_yields bytes are = base64_again law (encode_of url_safe_no_pad bytes) bytes (record { are_bytes = are; spelling = inl refl })
+  base64_yields : (bytes : List ℕ) → IsBytes bytes → from_base64 (encode_of url_safe_no_pad bytes) ≡ Some bytes
+  base64_yields bytes are = (law (encode_of url_safe_no_pad bytes) bytes).1 (record { are_bytes = are; spelling = inl refl })
 
   text_by_test_yields : (test : Bool) (bytes : List ℕ) → IsBytes bytes → YieldsBytes (text_by_test test bytes) bytes
   text_by_test_yields true bytes are = refl

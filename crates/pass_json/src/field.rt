@@ -3,16 +3,11 @@
 ghost use Rattle.std.specs.Prelude.{◌≡◌, Some, option_map, IfErr, IfOk};
 ghost use Rattle.serde_json.specs.Find.{as_str};
 ghost use Rattle.serde_json.specs.View.{view};
-ghost use Rattle.pass_json.specs.computed.JsonReading.{
-  base64_bytes,
-  decoded_text,
-  field_from,
-  RefusesPart,
-};
+ghost use Rattle.pass_json.specs.computed.JsonReading.{decoded_text, field_from, RefusesPart};
 
 use pass_forms::{FormFault, decode_base64};
 use serde_json::Value;
-use std::alloc::{AllocError, Global};
+use std::alloc::Global;
 
 /// The bytes under the plain name or the `64` name, if one of them is present.
 #[tactic(auto, unfolding(crate::specs::computed::JsonReading::field_from))]
@@ -53,12 +48,5 @@ fn decode_text(alloc: Global, value: &Value) -> Result<Vec<u8>, FormFault>
     let Some(text) = value.as_str() else {
         return Err(FormFault::Malformed);
     };
-    decode(alloc, text)?.ok_or(FormFault::Malformed)
-}
-
-// The same, of the text's bytes.
-fn decode(alloc: Global, text: &str) -> Result<Option<Vec<u8>>, AllocError>
-    ensures { IfOk result (λ bytes. option_map (λ b. b.items) bytes ≡ base64_bytes text.now) }
-{
-    decode_base64(alloc, text.as_bytes())
+    decode_base64(alloc, text.as_bytes())?.ok_or(FormFault::Malformed)
 }

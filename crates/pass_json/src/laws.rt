@@ -18,8 +18,8 @@ ghost use Rattle.pass_json.specs.Json.{SpellsJson};
 ghost use Rattle.pass_json.specs.computed.JsonReading.{reading_json, wide_json};
 
 use pass_forms::laws::{
-    answers_exactly, computes_v1, computes_v2, from_base64_is_base64, one_pass_for_each_v1,
-    one_pass_for_each_v2, reads_texts_exactly, texts_read_back, wraps_one, writes_exactly,
+    answers_exactly, computes_v1, computes_v2, from_base64_is_base64, reads_texts_exactly,
+    texts_read_back, wraps_one, writes_exactly,
 };
 
 /// Bytes spell at most one pass in JSON.
@@ -105,11 +105,10 @@ pub fn writes_any_form_exactly()
 pub fn one_reading_for_each_text()
     ensures { OneReadingEachText }
 {
-    wraps_one();
-    one_pass_for_each_v1();
-    one_pass_for_each_v2();
-    one_pass_for_each_json();
-    answers_exactly();
+    computes_v1();
+    computes_v2();
+    computes_json();
+    reads_texts_exactly();
 }
 
 /// Writing a pass in a form has one result: its text, or its fault.

@@ -1,5 +1,6 @@
 -- What a text wraps, computed.
-use Rattle.std.specs.Prelude.{ℕ, List, length, nat_lt, if◌then◌else◌, Option, Result, Ok, Err}
+use Rattle.std.specs.Prelude.{ℕ, List, length, nat_lt, if◌then◌else◌, Option, None, Result, Ok, Err}
+use Rattle.std.specs.List.{list_all}
 use Rattle.std.specs.Option.{option_and_then, option_map, option_or, ok_or}
 use Rattle.base64.specs.Engines.{url_safe_no_pad, url_safe, standard_no_pad, standard}
 use Rattle.base64.specs.GeneralPurpose.{decoded_of}
@@ -11,11 +12,14 @@ use Rattle.pass_forms.specs.Reading.{max_text_len}
 use Rattle.pass_forms.specs.Envelope.{starts_with_brace, form_of}
 
 -- the bytes, by the first of the four decoders that accepts the text
+unfoldable pub by_decoders : List ℕ → Option (List ℕ)
+by_decoders text =
+    option_or (option_or (decoded_of url_safe_no_pad text) (decoded_of url_safe text))
+    (option_or (decoded_of standard_no_pad text) (decoded_of standard text))
+
+-- the same, if the text is bytes
 unfoldable pub from_base64 : List ℕ → Option (List ℕ)
-from_base64 text =
-    option_or (decoded_of url_safe_no_pad text)
-    (option_or (decoded_of url_safe text)
-    (option_or (decoded_of standard_no_pad text) (decoded_of standard text)))
+from_base64 text = if list_all (λ byte. nat_lt byte 256) text then by_decoders text else None
 
 -- the bytes, with the form that they are in
 abbrev pub with_its_form : List ℕ → Option (Form × List ℕ)

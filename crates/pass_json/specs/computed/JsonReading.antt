@@ -1,7 +1,7 @@
 -- The JSON form, computed: the value of each part of the object.
-use Rattle.std.specs.Prelude.{◌≡◌, ℕ, ◌==◌, ◌&&◌, nat_lt, if◌then◌else◌, Bool, true, false, List, [], ◌∷◌, codes, length, map, Option, None, Some, option_map}
+use Rattle.std.specs.Prelude.{◌≡◌, ℕ, ◌==◌, ◌&&◌, if◌then◌else◌, Bool, true, false, List, [], ◌∷◌, codes, length, map, Option, None, Some, option_map}
 use Rattle.std.specs.Prelude.{unwrap_or, Result}
-use Rattle.std.specs.List.{list_all, list_any}
+use Rattle.std.specs.List.{list_any}
 use Rattle.std.specs.Str.{bytes_eq, is_utf8}
 use Rattle.serde_json.specs.Data.{Data, Items, no_items, item, Members, no_members, member}
 use Rattle.serde_json.specs.Find.{get, as_array, as_number, as_object, as_str, as_u64}
@@ -14,13 +14,9 @@ use Rattle.pass_forms.specs.Pass.{Plain, WideCaveat, WidePass, is_third_party, f
 use Rattle.pass_forms.specs.computed.Reading.{reading_of}
 use Rattle.pass_json.specs.Json.{caveat_names, pass_names}
 
--- the bytes that a text of bytes is base64 of
-unfoldable pub base64_bytes : List ℕ → Option (List ℕ)
-base64_bytes text = if list_all (λ byte. nat_lt byte 256) text then from_base64 text else None
-
--- the same, of a value that is a text
+-- the bytes that a value is base64 of, if it is a text
 abbrev pub decoded_text : Data → Option (List ℕ)
-decoded_text value = as_str value >>= base64_bytes
+decoded_text value = as_str value >>= from_base64
 
 -- the value of a plain name and of its `64` name: bytes or nothing, if both are well formed
 abbrev pub field_bytes : Option Data → Option Data → Option (Option (List ℕ))

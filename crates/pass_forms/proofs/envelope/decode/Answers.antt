@@ -1,17 +1,17 @@
 -- `decoded_of` is opened, since the constants' proof that they are engines isn't the one of the specification's.
-use Rattle.std.proofs.Common.{sym, ◌∙◌, arith}
+use Rattle.std.proofs.Common.{refl, ◌∙◌, arith}
 use Rattle.base64.specs.GeneralPurpose.{decoded_of}
-use Rattle.pass_forms.proofs.Base64Decoding.{from_padded, from_unpadded}
+use Rattle.pass_forms.specs.computed.Envelope.{by_decoders}
+use Rattle.pass_forms.proofs.Base64Decoding.{from_base64_is}
 use Rattle.pass_forms.proofs.envelope.decode.Goals as goal
 
-pub returns-then-ends_with-clause-bytes : goal.returns-then-ends_with-clause-bytes
-unfolding decoded_of
-returns-then-ends_with-clause-bytes c =
-    c.decode_under.ensures.bytes
-    ∙ from_padded c.args.text.now (λ i. let byte = c.type_inv.text i in omega arith) (sym c.ends_with.ensures.value ∙ c.if-ends_with.true)
+pub returns-in-Some-clause-bytes : goal.returns-in-Some-clause-bytes
+unfolding decoded_of by_decoders
+returns-in-Some-clause-bytes c =
+    rw (from_base64_is c.args.text.now (λ i. let byte = c.type_inv.text i in omega arith), ← c.in-Some.ensures.bytes) refl
 
-pub returns-else-ends_with-clause-bytes : goal.returns-else-ends_with-clause-bytes
-unfolding decoded_of
-returns-else-ends_with-clause-bytes c =
-    c.decode_under-else-ends_with.ensures.bytes
-    ∙ from_unpadded c.args.text.now (λ i. let byte = c.type_inv.text i in omega arith) (sym c.ends_with.ensures.value ∙ c.if-ends_with.false)
+pub returns-clause-bytes : goal.returns-clause-bytes
+unfolding decoded_of by_decoders
+returns-clause-bytes c =
+    c.decode_under-2.ensures.bytes
+    ∙ rw (from_base64_is c.args.text.now (λ i. let byte = c.type_inv.text i in omega arith), ← c.in_default.ensures.bytes) refl

@@ -1,18 +1,16 @@
 use Rattle.std.proofs.Common.{◌≡◌, ◌↔◌, List, ℕ, Option, None, Some, sym, ◌∙◌, arith, rules}
 use Rattle.std.proofs.lemmas.Grind.{common_steps}
-use Rattle.base64.specs.GeneralPurpose.{IsBytes}
 use Rattle.pass_forms.specs.Envelope.{IsBase64}
 use Rattle.pass_forms.specs.computed.Envelope.{from_base64}
 use Rattle.pass_forms.proofs.Base64Decoding.{from_base64_spells, spells_from_base64}
 use Rattle.pass_forms.proofs.envelope.decode_base64.Goals as goal
 
 -- What is computed of a text is what it is base64 of.
-is_decoded : (text : List ℕ) (found : Option (List ℕ)) → IsBytes text → found ≡ from_base64 text → (bytes : List ℕ) → (found ≡ Some bytes) ↔ IsBase64 text bytes
-is_decoded text found are e bytes = (λ some. from_base64_spells text bytes are (sym e ∙ some), λ is. e ∙ spells_from_base64 text bytes are is)
+is_decoded : (text : List ℕ) (found : Option (List ℕ)) → found ≡ from_base64 text → (bytes : List ℕ) → (found ≡ Some bytes) ↔ IsBase64 text bytes
+is_decoded text found e bytes = (λ some. from_base64_spells text bytes (sym e ∙ some), λ is. e ∙ spells_from_base64 text bytes is)
 
 pub returns-in_default-clause-spelling : goal.returns-in_default-clause-spelling
-returns-in_default-clause-spelling c = is_decoded c.args.text.now None (λ i. let byte = c.type_inv.text i in omega arith) (search rules)
+returns-in_default-clause-spelling c = is_decoded c.args.text.now None (search rules)
 
 pub returns-clause-spelling : goal.returns-clause-spelling
-returns-clause-spelling c =
-    is_decoded c.args.text.now (Some c.truncate.new.self.items) (λ i. let byte = c.type_inv.text i in omega arith) (grind (arith, common_steps))
+returns-clause-spelling c = is_decoded c.args.text.now (Some c.truncate.new.self.items) (grind (arith, common_steps))

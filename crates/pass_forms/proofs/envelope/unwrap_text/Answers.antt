@@ -1,4 +1,4 @@
-use Rattle.std.proofs.Common.{Ok, Err, arith, rules, take}
+use Rattle.std.proofs.Common.{Ok, Err, rules, take}
 use Rattle.pass_forms.specs.declared.fault.FormFault.TheVariants.{Malformed}
 use Rattle.pass_forms.specs.computed.Envelope.{unwrapping}
 use Rattle.pass_forms.proofs.EnvelopeLaws.{answers_as}
@@ -6,14 +6,14 @@ use Rattle.pass_forms.proofs.envelope.unwrap_text.Goals as goal
 
 pub returns-in_default-clause-reading : goal.returns-in_default-clause-reading
 unfolding unwrapping
-returns-in_default-clause-reading c = answers_as c.args.text.now (Err Malformed) (λ i. let byte = c.type_inv.text i in omega arith) (search rules)
+returns-in_default-clause-reading c = answers_as c.args.text.now (Err Malformed) (search rules)
 
 pub returns-in_default-form_of-clause-reading : goal.returns-in_default-form_of-clause-reading
 unfolding unwrapping
-returns-in_default-form_of-clause-reading c = answers_as c.args.text.now (Err Malformed) (λ i. let byte = c.type_inv.text i in omega arith) (search rules)
+returns-in_default-form_of-clause-reading c = answers_as c.args.text.now (Err Malformed) (search rules)
 
 pub returns-clause-reading : goal.returns-clause-reading
 unfolding unwrapping
 returns-clause-reading c =
-    answers_as c.args.text.now (Ok (c.in-Some-form_of.form, take c.in-Some.len c.decode.new.buffer)) (λ i. let byte = c.type_inv.text i in omega arith)
+    answers_as c.args.text.now (Ok (c.in-Some-form_of.form, take c.in-Some.len c.decode.new.buffer))
     (search rules)

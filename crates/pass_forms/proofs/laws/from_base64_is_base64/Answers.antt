@@ -2,4 +2,4 @@ use Rattle.pass_forms.proofs.Base64Decoding.{from_base64_spells, spells_from_bas
 use Rattle.pass_forms.proofs.laws.from_base64_is_base64.Goals as goal
 
 pub returns : goal.returns
-returns c = λ text b bytes. (from_base64_spells text b bytes, spells_from_base64 text b bytes)
+returns c text b = (from_base64_spells text b, spells_from_base64 text b)
