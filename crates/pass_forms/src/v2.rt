@@ -1,18 +1,6 @@
 //! The reader of V2, libmacaroons' binary form.
 
-ghost use Rattle.std.specs.Prelude.{
-  ◌≡◌,
-  ℕ,
-  List,
-  ◌<◌,
-  ◌≤◌,
-  Some,
-  None,
-  length,
-  option_map,
-  is_some,
-  MatchOption,
-};
+ghost use Rattle.std.specs.Prelude.{◌≡◌, ◌≤◌, IfSome, length, option_map, is_some};
 ghost use Rattle.pass_forms.specs.Reading.{IsReadAs, OrOutOfMemory};
 ghost use Rattle.pass_forms.specs.V2.{SpellsV2};
 ghost use Rattle.pass_forms.specs.computed.V2Reading as reading;
@@ -37,9 +25,9 @@ pub const END_OF_SECTION: &[u8] = &[0];
 
 // The varint at the front, if it is at most `most`. Each byte holds seven bits, the lowest first.
 fn varint_up_to(most: usize, bytes: &[u8]) -> Option<(usize, &[u8])>
-    ensures { MatchOption result
-        ((n : ℕ) (rest : List ℕ) → reading.varint_at bytes.now ≡ Some (n, rest) → most < n)
-        (λ found. (reading.varint_at bytes.now ≡ Some (found.0, found.1.now)) × (found.0 ≤ most)) }
+    ensures value { option_map (λ found. (found.0, found.1.now)) result
+        ≡ reading.varint_up_to most bytes.now }
+    ensures bound { IfSome result (λ found. found.0 ≤ most) }
 {
     let (first, rest) = bytes.split_first()?;
     let low = usize::from(*first);

@@ -1,5 +1,5 @@
 -- V2, parsed from the front: each function returns a value and the bytes after it.
-use Rattle.std.specs.Prelude.{ℕ, ◌+◌, ◌-◌, ◌*◌, nat_lt, nat_le, ◌==◌, if◌then◌else◌, List, [], ◌∷◌, length, take, drop, Option, Some, None, Result}
+use Rattle.std.specs.Prelude.{ℕ, ◌+◌, ◌-◌, ◌*◌, ◌/◌, nat_lt, nat_le, ◌==◌, if◌then◌else◌, List, [], ◌∷◌, length, take, drop, Option, Some, None, Result}
 use Rattle.std.specs.Prelude.{unwrap_or}
 use Rattle.pass_forms.specs.declared.fault.FormFault.{FormFault}
 use Rattle.pass_forms.specs.computed.Caveats.{whole_at}
@@ -8,16 +8,20 @@ use Rattle.pass_forms.specs.Pass.{Plain, WideCaveat, WidePass}
 use Rattle.pass_forms.specs.computed.Reading.{reading_of}
 use Rattle.pass_forms.specs.V2.{end_of_section, types}
 
--- seven low bits below the bits of the bytes that follow, which must not all be zero
-abbrev pub above : ℕ → Option (ℕ × List ℕ) → Option (ℕ × List ℕ)
-above low None = None
-above low (Some high) = if high.0 == 0 then None else Some (low + 128 * high.0, high.1)
+-- seven low bits below the bits of the bytes that follow, which must not all be zero; the number is at most `most`
+abbrev pub above : ℕ → ℕ → Option (ℕ × List ℕ) → Option (ℕ × List ℕ)
+above most low None = None
+above most low (Some high) =
+    if high.0 == 0 then None
+    else (if nat_lt (most - high.0 * 128) low then None else Some (high.0 * 128 + low, high.1))
 
-unfoldable pub varint_at : List ℕ → Option (ℕ × List ℕ)
-varint_at [] = None
-varint_at (byte ∷ rest) =
-    if nat_lt byte 128 then Some (byte, rest)
-    else (if nat_lt byte 256 then above (byte - 128) (varint_at rest) else None)
+-- the number at the front, if it is at most `most`
+unfoldable pub varint_up_to : ℕ → List ℕ → Option (ℕ × List ℕ)
+varint_up_to most [] = None
+varint_up_to most (byte ∷ rest) =
+    if nat_lt most byte then None
+    else if nat_lt byte 128 then Some (byte, rest)
+    else (if nat_lt byte 256 then above most (byte - 128) (varint_up_to (most / 128) rest) else None)
 
 -- as many bytes as the number says
 abbrev pub counted_at : ℕ × List ℕ → Option (List ℕ × List ℕ)
@@ -26,7 +30,7 @@ counted_at len = if nat_le len.0 (length len.1) then Some (take len.0 len.1, dro
 unfoldable pub field_at : ℕ → List ℕ → Option (List ℕ × List ℕ)
 field_at type bytes = do
   rest ← after_prefix (type ∷ []) bytes
-  len ← varint_at rest
+  len ← varint_up_to (length rest) rest
   counted_at len
 
 abbrev pub optional_at : ℕ → List ℕ → Option (List ℕ) × List ℕ
