@@ -1,8 +1,10 @@
 -- The ways in which a request is answered, each with what it rests on.
-use Rattle.std.proofs.Common.{◌≡◌, ℕ, ◌+◌, ◌-◌, Bool, true, false, cond, List, [], ◌∷◌, Option, Some, None, Ok, Err, refl, sym, ◌∙◌, subst}
+use Rattle.std.proofs.Common.{◌≡◌, ℕ, ◌+◌, ◌-◌, true, false, cond, List, [], ◌∷◌, Option, Some, None, Ok, Err, refl, sym, ◌∙◌, subst, arith}
+use Rattle.std.proofs.lemmas.Slice.Eq.{bytes_eq-Decides}
+use Rattle.club_laws.proofs.NamedRows.{is_numbered, numbered}
 use Rattle.std.specs.Prelude.{Result, ◌&&◌, ◌==◌, not, nat_lt, nat_le, option_map}
 use Rattle.std.specs.Str.{bytes_eq}
-use Rattle.std.proofs.lemmas.Bool.{and_parts, and_from, cond_both}
+use Rattle.std.proofs.lemmas.Bool.{cond_both, not-false}
 use Rattle.pass_caveats.specs.declared.fault.CaveatFault.{CaveatFault}
 use Rattle.pass_caveats.specs.declared.fault.CaveatFault.TheVariants.{NotUnderstood, Denied}
 use Rattle.club_values.specs.declared.slot.Slot.{Slot}
@@ -14,7 +16,6 @@ use Rattle.club_rows.specs.declared.key.Key.{Key}
 use Rattle.club_rows.specs.declared.booking.Booking.{Booking}
 use Rattle.club_core.specs.declared.view.View.{View}
 use Rattle.club_core.specs.declared.verdict.Verdict.{Verdict}
-use Rattle.club_core.specs.declared.refusal.Refusal.{Refusal}
 use Rattle.club_core.specs.declared.refusal.Refusal.TheVariants as refusals
 use Rattle.club_core.specs.declared.reply.Reply.{Reply}
 use Rattle.club_core.specs.declared.reply.Reply.TheVariants.{SlotShown, Booked, Cancelled, AccountShown, Refused}
@@ -27,12 +28,12 @@ use Rattle.club_core.specs.declared.pass_fault.PassFault.{PassFault}
 use Rattle.club_core.specs.declared.pass_fault.PassFault.TheVariants.{TooLong, Malformed, ThirdParty, TooMany}
 use Rattle.club_core.specs.Pass.{Pass, Words, is_signed_under}
 use Rattle.club_core.specs.Club.{Club, facility_named, is_key_of, bookings_of, is_closed}
-use Rattle.club_core.specs.Sums.{taken_in, balance_of, is_under, booking_under}
+use Rattle.club_core.specs.Sums.{taken_in, balance_of, booking_under}
 use Rattle.club_core.specs.Basis.{Basis, basis_of, view_of}
 use Rattle.club_core.specs.Verdict as verdicts
 use Rattle.club_core.specs.Answer.{answer_to, acceptance_lines, ask_of, after_caveats, form_refusal, verdict_in}
 use Rattle.club_laws.proofs.BasisRows.{Knows, basis_with, rests_on_name, known_rows}
-use Rattle.club_laws.proofs.FoundRows.{found_passes, found_is_there, find-filter, any_passes, any-filter, bytes_same, same_bytes}
+use Rattle.club_laws.proofs.FoundRows.{found_passes, found_is_there, find-filter, any_passes, any-filter}
 
 abbrev pub NoneFits : {A : Type 0} → List (Line A) → Type 0
 NoneFits [] = Unit {0}
@@ -44,11 +45,8 @@ EachAnswer P (l ∷ lines) = P l.answer × EachAnswer P lines
 
 pub first_of_cases : {A : Type 0} (P : A → Type 0) (lines : List (Line A)) (last : A) → EachAnswer P lines → (NoneFits lines → P last) → P (first_of lines last)
 first_of_cases P [] last each none = none tt
-first_of_cases P (l ∷ lines) last each none = go l.fits refl (first_of_cases P lines last each.1)
-  where
-    go : (b : Bool) → l.fits ≡ b → ((NoneFits lines → P last) → P (first_of lines last)) → P (cond b l.answer (first_of lines last))
-    go true e rest = each.0
-    go false e rest = rest (λ h. none (e, h))
+first_of_cases P (l ∷ lines) last each none =
+    cond_both l.fits l.answer (first_of lines last) P (λ e. each.0) (λ e. first_of_cases P lines last each.1 (λ h. none (e, h)))
 
 -- a reply that names no booking, and doesn't say that memory or storage was refused
 abbrev pub IsSilent : Reply → Type 0
@@ -108,22 +106,18 @@ pub record Ways (P : Verdict → Type 0) (club : Club) (words : Words) (moment :
 -- the key is one of its member's
 pub is_own_key : (club : Club) (words : Words) (key : Key) (member : Member) → Knows club words key member → is_key_of member.name club key.name ≡ true
 is_own_key club words key member k =
-    let own : member.name ≡ key.member = bytes_same member.name key.member
-    (found_passes (λ (m : Member). bytes_eq m.name key.member) club.members member k.owned) in
+    let own = found_passes (λ (m : Member). bytes_eq m.name key.member) club.members member k.owned in
     let there = found_is_there (λ (other : Key). bytes_eq other.name key.name) club.keys key k.known in
-    let mine : bytes_eq key.member member.name ≡ true = rw own (same_bytes key.member) in
     any-filter (λ (other : Key). bytes_eq other.name key.name) (λ (other : Key). bytes_eq other.member member.name) club.keys
     ∙ any_passes (λ (other : Key). bytes_eq other.member member.name && bytes_eq other.name key.name) club.keys key there
-    (and_from (bytes_eq key.member member.name) (bytes_eq key.name key.name) mine (same_bytes key.name))
+    (grind (arith, bytes_eq-Decides member.name key.member, bytes_eq-Decides key.member member.name, bytes_eq-Decides key.name key.name))
 
 -- what the key booked is among its member's bookings
 pub own_booking : (club : Club) (words : Words) (key : Key) (member : Member) (number : ℕ) → Knows club words key member
     → booking_under key.name number (bookings_of member.name club) ≡ booking_under key.name number club.bookings
 own_booking club words key member number k =
-    find-filter (λ (booking : Booking). is_under key.name booking && booking.number == number) (λ (booking : Booking).
-    is_key_of member.name club booking.key) club.bookings
-    (λ booking e. let same : booking.key ≡ key.name = bytes_same booking.key key.name (and_parts (is_under key.name booking) (booking.number == number) e).0 in
-    rw same (is_own_key club words key member k))
+    find-filter (is_numbered key.name number) (λ (booking : Booking). is_key_of member.name club booking.key) club.bookings
+    (λ booking e. rw (numbered key.name number booking e).0 (is_own_key club words key member k))
 
 -- the view of a request of a known key
 abbrev view_at : Club → Request → ℕ → Key → Member → View
@@ -131,125 +125,105 @@ view_at club request moment key member =
     view_of (basis_with club request key member) request moment
 
 module _ (P : Verdict → Type 0) (club : Club) (words : Words) (moment : ℕ) (w : Ways P club words moment) where
-  refused_cases : (refusal : Refusal) → IsSilent (Refused refusal) → P (verdicts.refusal_verdict refusal)
-  refused_cases refusal h = w.silent (Refused refusal) h
-
   form_cases : (fault : PassFault) → P (verdicts.refusal_verdict (form_refusal fault))
-  form_cases TooLong = refused_cases refusals.PassTooLong tt
-  form_cases Malformed = refused_cases refusals.PassMalformed tt
-  form_cases ThirdParty = refused_cases refusals.ThirdPartyCaveat tt
-  form_cases TooMany = refused_cases refusals.TooManyCaveats tt
+  form_cases TooLong = w.silent (Refused refusals.PassTooLong) tt
+  form_cases Malformed = w.silent (Refused refusals.PassMalformed) tt
+  form_cases ThirdParty = w.silent (Refused refusals.ThirdPartyCaveat) tt
+  form_cases TooMany = w.silent (Refused refusals.TooManyCaveats) tt
 
-  new_cases : (key : Key) (member : Member) → Knows club words key member → (slot : Slot) (number guests : ℕ) → words.request ≡ asked.Book slot number guests
-      → booking_under key.name number club.bookings ≡ None → (o : Option Facility) → facility_named slot.facility club ≡ o
-      → P (verdicts.new_verdict (view_at club (asked.Book slot number guests) moment key member) slot number guests moment o)
-  new_cases key member k slot number guests r new None at = refused_cases refusals.NoSuchFacility tt
-  new_cases key member k slot number guests r new (Some facility) at =
-      let view = view_at club (asked.Book slot number guests) moment key member in
-      first_of_cases P (verdicts.book_lines view slot guests moment facility) (verdicts.booked_now (written club key slot number guests facility) key.member) (
-        refused_cases refusals.NotBookable tt,
-        (
-          refused_cases refusals.SlotClosed tt,
-          (refused_cases refusals.NoPlaces tt, (refused_cases refusals.QuotaReached tt, (refused_cases refusals.BalanceTooLow tt, tt))),
-        ),
-      )
-      (λ none. w.books key member slot number guests facility k r (record {
-        new = new;
-        located = at;
-        opened = none.1.0;
-        placed = none.1.1.0;
-        paid =
-            none.1.1.1.1.0;
-      }))
+  module _ (key : Key) (member : Member) (k : Knows club words key member) where
+    new_cases : (slot : Slot) (number guests : ℕ) → words.request ≡ asked.Book slot number guests → booking_under key.name number club.bookings ≡ None
+        → (o : Option Facility) → facility_named slot.facility club ≡ o
+        → P (verdicts.new_verdict (view_at club (asked.Book slot number guests) moment key member) slot number guests moment o)
+    new_cases slot number guests r new None at = w.silent (Refused refusals.NoSuchFacility) tt
+    new_cases slot number guests r new (Some facility) at =
+        let view = view_at club (asked.Book slot number guests) moment key member in
+        first_of_cases P (verdicts.book_lines view slot guests moment facility) (verdicts.booked_now (written club key slot number guests facility) key.member) (
+          w.silent (Refused refusals.NotBookable) tt,
+          (
+            w.silent (Refused refusals.SlotClosed) tt,
+            (
+              w.silent (Refused refusals.NoPlaces) tt,
+              (w.silent (Refused refusals.QuotaReached) tt, (w.silent (Refused refusals.BalanceTooLow) tt, tt)),
+            ),
+          ),
+        )
+        (λ none. w.books key member slot number guests facility k r (record {
+          new = new;
+          located = at;
+          opened = none.1.0;
+          placed = none.1.1.0;
+          paid = none.1.1.1.1.0;
+        }))
 
-  repeat_booking_cases : (key : Key) (member : Member) → Knows club words key member → (slot : Slot) (number guests : ℕ)
-      → words.request ≡ asked.Book slot number guests → (booking : Booking) → booking_under key.name number club.bookings ≡ Some booking
-      → P (verdicts.repeat_booking_verdict booking slot guests)
-  repeat_booking_cases key member k slot number guests r booking found =
-      cond_both (same_slot booking.slot slot && booking.guests == guests) (verdicts.booked_before booking) (verdicts.refusal_verdict refusals.NumberUsed) P
-      (λ same. w.repeats_booking key member slot number guests booking k r (record { found = found; same = same }))
-      (λ other. refused_cases refusals.NumberUsed tt)
+    -- what is on record under the number
+    book_cases : (slot : Slot) (number guests : ℕ) → words.request ≡ asked.Book slot number guests → (o : Option Booking)
+        → booking_under key.name number club.bookings ≡ o → P (verdicts.recorded_or o (λ booking. verdicts.repeat_booking_verdict booking slot guests)
+        (verdicts.new_verdict (view_at club (asked.Book slot number guests) moment key member) slot number guests moment (facility_named slot.facility club)))
+    book_cases slot number guests r None new = new_cases slot number guests r new (facility_named slot.facility club) refl
+    book_cases slot number guests r (Some booking) found =
+        cond_both (same_slot booking.slot slot && booking.guests == guests) (verdicts.booked_before booking) (verdicts.refusal_verdict refusals.NumberUsed) P
+        (λ same. w.repeats_booking key member slot number guests booking k r (record { found = found; same = same }))
+        (λ other. w.silent (Refused refusals.NumberUsed) tt)
 
-  cancel_recorded_cases : (key : Key) (member : Member) → Knows club words key member → (slot : Slot) (number : ℕ) → words.request ≡ asked.Cancel slot number
-      → (booking : Booking) → booking_under key.name number club.bookings ≡ Some booking → P (verdicts.cancel_recorded_verdict booking key.member slot moment)
-  cancel_recorded_cases key member k slot number r booking found = go (same_slot booking.slot slot) refl booking.cancelled refl
-    where
-      go : (b : Bool) → same_slot booking.slot slot ≡ b → (c : Bool) → booking.cancelled ≡ c
-          → P (cond (not b) (verdicts.refusal_verdict refusals.NumberUsed) (cond c (verdicts.cancelled_before booking)
-          (cond (nat_le (start_of booking.slot) moment) (verdicts.refusal_verdict refusals.SlotHasBegun)
-          (verdicts.cancelled_now booking key.member (refund_at booking moment)))))
-      go false e c h = refused_cases refusals.NumberUsed tt
-      go true e true h = w.cancels_recorded key member slot number booking k r (record { found = found; same = e; before = h })
-      go true e false h =
-          cond_both (nat_le (start_of booking.slot) moment) (verdicts.refusal_verdict refusals.SlotHasBegun)
-          (verdicts.cancelled_now booking key.member (refund_at booking moment))
-          P
-          (λ late. refused_cases refusals.SlotHasBegun tt)
-          (λ early. w.cancels key member slot number booking k r (record { found = found; same = e; still_booked = h }))
+    unknown_cases : (o : Option Facility) → P (verdicts.unknown_verdict o)
+    unknown_cases None = w.silent (Refused refusals.NoSuchFacility) tt
+    unknown_cases (Some facility) = w.silent (Refused refusals.NoSuchBooking) tt
 
-  -- what is on record under the number
-  book_cases : (key : Key) (member : Member) → Knows club words key member → (slot : Slot) (number guests : ℕ) → words.request ≡ asked.Book slot number guests
-      → (o : Option Booking) → booking_under key.name number club.bookings ≡ o
-      → P (verdicts.recorded_or o (λ booking. verdicts.repeat_booking_verdict booking slot guests)
-      (verdicts.new_verdict (view_at club (asked.Book slot number guests) moment key member) slot number guests moment (facility_named slot.facility club)))
-  book_cases key member k slot number guests r None new = new_cases key member k slot number guests r new (facility_named slot.facility club) refl
-  book_cases key member k slot number guests r (Some booking) found = repeat_booking_cases key member k slot number guests r booking found
+    cancel_cases : (slot : Slot) (number : ℕ) → words.request ≡ asked.Cancel slot number → (o : Option Booking)
+        → booking_under key.name number club.bookings ≡ o → P (verdicts.recorded_or o (λ booking.
+        verdicts.cancel_recorded_verdict booking key.member slot moment) (verdicts.unknown_verdict (facility_named slot.facility club)))
+    cancel_cases slot number r None new = unknown_cases (facility_named slot.facility club)
+    cancel_cases slot number r (Some booking) found =
+        let now = verdicts.cancelled_now booking key.member (refund_at booking moment) in
+        let due = cond (nat_le (start_of booking.slot) moment) (verdicts.refusal_verdict refusals.SlotHasBegun) now in
+        cond_both (not (same_slot booking.slot slot)) (verdicts.refusal_verdict refusals.NumberUsed)
+        (cond booking.cancelled (verdicts.cancelled_before booking) due) P (λ other. w.silent (Refused refusals.NumberUsed) tt)
+        (λ same.
+        let is_same = not-false (same_slot booking.slot slot) same in
+        cond_both booking.cancelled (verdicts.cancelled_before booking) due P
+        (λ before. w.cancels_recorded key member slot number booking k r (record { found = found; same = is_same; before = before }))
+        (λ still.
+        cond_both (nat_le (start_of booking.slot) moment) (verdicts.refusal_verdict refusals.SlotHasBegun) now P
+        (λ late. w.silent (Refused refusals.SlotHasBegun) tt)
+        (λ early. w.cancels key member slot number booking k r (record { found = found; same = is_same; still_booked = still }))))
 
-  cancel_cases : (key : Key) (member : Member) → Knows club words key member → (slot : Slot) (number : ℕ) → words.request ≡ asked.Cancel slot number
-      → (o : Option Booking) → booking_under key.name number club.bookings ≡ o
-      → P (verdicts.recorded_or o (λ booking. verdicts.cancel_recorded_verdict booking key.member slot moment)
-      (verdicts.unknown_verdict (facility_named slot.facility club)))
-  cancel_cases key member k slot number r None new = go (facility_named slot.facility club)
-    where
-      go : (o : Option Facility) → P (verdicts.unknown_verdict o)
-      go None = refused_cases refusals.NoSuchFacility tt
-      go (Some facility) = refused_cases refusals.NoSuchBooking tt
-  cancel_cases key member k slot number r (Some booking) found = cancel_recorded_cases key member k slot number r booking found
+    shown_cases : (slot : Slot) (o : Option Facility) → P (verdicts.shown_at (view_at club (asked.View slot) moment key member) slot o)
+    shown_cases slot None = w.silent (Refused refusals.NoSuchFacility) tt
+    shown_cases slot (Some facility) =
+        w.silent (SlotShown slot facility.kind facility.price facility.places (taken_in slot club.bookings) (is_closed slot club)) tt
 
-  verdict_cases : (key : Key) (member : Member) → Knows club words key member → (request : Request) → words.request ≡ request
-      → P (verdicts.verdict_of (view_at club request moment key member) request moment)
-  verdict_cases key member k (asked.View slot) r = go (facility_named slot.facility club)
-    where
-      go : (o : Option Facility) → P (verdicts.shown_at (view_at club (asked.View slot) moment key member) slot o)
-      go None = refused_cases refusals.NoSuchFacility tt
-      go (Some facility) = w.silent (SlotShown slot facility.kind facility.price facility.places (taken_in slot club.bookings) (is_closed slot club)) tt
-  verdict_cases key member k (asked.Book slot number guests) r =
-      let Q : Option Booking → Type 0 = λ o. P (verdicts.recorded_or o (λ booking.
-      verdicts.repeat_booking_verdict booking slot guests) (verdicts.new_verdict (view_at club (asked.Book slot number guests) moment key member) slot
-      number guests moment (facility_named slot.facility club))) in
-      subst Q (sym (own_booking club words key member number k))
-      (book_cases key member k slot number guests r (booking_under key.name number club.bookings) refl)
-  verdict_cases key member k (asked.Cancel slot number) r =
-      let Q : Option Booking → Type 0 = λ o. P (verdicts.recorded_or o (λ booking.
-      verdicts.cancel_recorded_verdict booking key.member slot moment) (verdicts.unknown_verdict (facility_named slot.facility club))) in
-      subst Q (sym (own_booking club words key member number k))
-      (cancel_cases key member k slot number r (booking_under key.name number club.bookings) refl)
-  verdict_cases key member k asked.Account r =
-      let view = view_at club asked.Account moment key member in
-      w.silent (AccountShown member.name view.balance member.quota view.open_count view.spent) tt
+    verdict_cases : (request : Request) → words.request ≡ request → P (verdicts.verdict_of (view_at club request moment key member) request moment)
+    verdict_cases (asked.View slot) r = shown_cases slot (facility_named slot.facility club)
+    verdict_cases (asked.Book slot number guests) r =
+        rw (own_booking club words key member number k) (book_cases slot number guests r (booking_under key.name number club.bookings) refl)
+    verdict_cases (asked.Cancel slot number) r =
+        rw (own_booking club words key member number k) (cancel_cases slot number r (booking_under key.name number club.bookings) refl)
+    verdict_cases asked.Account r =
+        let view = view_at club asked.Account moment key member in
+        w.silent (AccountShown member.name view.balance member.quota view.open_count view.spent) tt
 
-  caveat_cases : (fault : Option CaveatFault) (verdict : Verdict) → P verdict → P (after_caveats fault verdict)
-  caveat_cases None verdict h = h
-  caveat_cases (Some (NotUnderstood n)) verdict h = refused_cases (refusals.CaveatNotUnderstood n) tt
-  caveat_cases (Some (Denied n)) verdict h = refused_cases (refusals.CaveatDenies n) tt
+    caveat_cases : (fault : Option CaveatFault) (verdict : Verdict) → P verdict → P (after_caveats fault verdict)
+    caveat_cases None verdict h = h
+    caveat_cases (Some (NotUnderstood n)) verdict h = w.silent (Refused (refusals.CaveatNotUnderstood n)) tt
+    caveat_cases (Some (Denied n)) verdict h = w.silent (Refused (refusals.CaveatDenies n)) tt
 
-  known_cases : (pass : Pass) (key : Key) (member : Member) → Knows club words key member
-      → P (answer_to (Ok pass) words.request moment (Some (view_at club words.request moment key member)))
-  known_cases pass key member k =
-      let view = view_at club words.request moment key member in
-      let fault = first_fault_of pass.caveats (ask_of view words.request moment) in
-      let verdict = verdicts.verdict_of view words.request moment in
-      first_of_cases P (acceptance_lines key (is_signed_under pass key moment)) (after_caveats fault verdict)
-      (refused_cases refusals.NotVerified tt, (refused_cases refusals.KeyRevoked tt, tt))
-      (λ none. caveat_cases fault verdict (verdict_cases key member k words.request refl))
+    known_cases : (pass : Pass) → P (answer_to (Ok pass) words.request moment (Some (view_at club words.request moment key member)))
+    known_cases pass =
+        let view = view_at club words.request moment key member in
+        let fault = first_fault_of pass.caveats (ask_of view words.request moment) in
+        let verdict = verdicts.verdict_of view words.request moment in
+        first_of_cases P (acceptance_lines key (is_signed_under pass key moment)) (after_caveats fault verdict)
+        (w.silent (Refused refusals.NotVerified) tt, (w.silent (Refused refusals.KeyRevoked) tt, tt))
+        (λ none. caveat_cases fault verdict (verdict_cases words.request refl))
 
   text_cases : (pass : Result Pass PassFault) (basis : Option Basis) → basis_of club words ≡ basis
       → P (answer_to pass words.request moment (option_map (λ (b : Basis). view_of b words.request moment) basis))
   text_cases (Err fault) basis e = form_cases fault
-  text_cases (Ok pass) None e = refused_cases refusals.NotVerified tt
+  text_cases (Ok pass) None e = w.silent (Refused refusals.NotVerified) tt
   text_cases (Ok pass) (Some basis) e =
       subst (λ (b : Basis). P (answer_to (Ok pass) words.request moment (Some (view_of b words.request moment)))) (sym (rests_on_name club words basis e).whole)
-      (known_cases pass basis.key basis.member (known_rows club words basis e))
+      (known_cases basis.key basis.member (known_rows club words basis e) pass)
 
   pub answer_cases : P (verdict_in club words moment)
   answer_cases = text_cases words.pass (basis_of club words) refl

@@ -1,7 +1,6 @@
 -- What a change says of the club's rows is true, and so it fits.
 use Rattle.std.proofs.Common.{◌≡◌, ℕ, List, Option, Some, None, Ok, Err, refl, sym, subst}
 use Rattle.std.specs.Prelude.{Result}
-use Rattle.club_rows.specs.declared.booking.Booking.{Booking}
 use Rattle.club_core.specs.declared.change.Change.{Change}
 use Rattle.club_core.specs.declared.command.Command.{Command}
 use Rattle.club_core.specs.declared.command.Command.TheVariants.{Credit, AddKey, RevokeKey, RotateKey}
@@ -14,14 +13,13 @@ use Rattle.club_core.specs.Office.{office_verdict}
 use Rattle.club_core.specs.Pass.{Words}
 use Rattle.club_core.specs.Run.{Event, Asked, Ordered}
 use Rattle.club_core.specs.Store.{FitsClub, IsTrueOf, IsToCancel}
-use Rattle.club_core.specs.Sums.{booking_under}
 use Rattle.club_laws.specs.SoundRuns.{IsChangeBy}
 use Rattle.club_laws.proofs.AnswerCases.{answer_cases}
 use Rattle.club_laws.proofs.FittingAnswers.{fits_answer}
 use Rattle.club_laws.proofs.FittingChanges.{FitsIfAny}
 use Rattle.club_laws.proofs.FittingOffice.{FitsIfOk, fits_order}
 use Rattle.club_laws.proofs.FoundRows.{found_passes}
-use Rattle.club_laws.proofs.NamedRows.{is_numbered, numbered}
+use Rattle.club_laws.proofs.NamedRows.{is_numbered, numbered, found_by_own}
 use Rattle.club_laws.proofs.OrderCases.{OrderRestsOn, change_of, order_cases}
 use Rattle.club_laws.proofs.SoundSteps.{sound_after}
 
@@ -33,13 +31,6 @@ abbrev IsTrueIfOk : Club → Result Change OfficeFault → Type 0
 IsTrueIfOk club (Err fault) = Unit {0}
 IsTrueIfOk club (Ok change) = IsTrueOf change club
 
--- a booking that is found under a key and number is found under its own
-own_names : (club : Club) (key : List ℕ) (number : ℕ) (booking : Booking) → (booking.key ≡ key) × (booking.number ≡ number)
-    → booking_under key number club.bookings ≡ Some booking → booking_under booking.key booking.number club.bookings ≡ Some booking
-own_names club key number booking named found =
-    subst (λ (n : ℕ). booking_under booking.key n club.bookings ≡ Some booking) (sym named.1)
-    (subst (λ (k : List ℕ). booking_under k number club.bookings ≡ Some booking) (sym named.0) found)
-
 true_answer : (club : Club) (words : Words) (moment : ℕ) → IsTrueIfAny club (verdict_in club words moment).change
 true_answer club words moment =
     answer_cases (λ (v : Verdict). IsTrueIfAny club v.change) club words moment (record {
@@ -49,7 +40,7 @@ true_answer club words moment =
       cancels_recorded = λ key member slot number booking k e b. tt;
       cancels = λ key member slot number booking k e c.
           let named = numbered key.name number booking (found_passes (is_numbered key.name number) club.bookings booking c.found) in
-          let found : IsToCancel booking club = (own_names club key.name number booking named c.found, c.still_booked) in
+          let found : IsToCancel booking club = (found_by_own key.name number booking club.bookings c.found, c.still_booked) in
           (found, (key, subst (λ (n : List ℕ). key_named n club ≡ Some key) (sym named.0) k.known, refl));
     })
 

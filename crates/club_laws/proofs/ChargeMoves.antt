@@ -1,12 +1,12 @@
 -- The sum of the bookings' charges moves with the charges in the replies.
-use Rattle.std.proofs.Common.{◌≡◌, ℕ, Bool, true, false, List, [], ◌∷◌, ◌++◌, map, Some, None, refl, ap, ◌∙◌}
-use Rattle.std.specs.Prelude.{◌||◌, filter, find, sum_by}
+use Rattle.std.proofs.Common.{◌≡◌, ℕ, Bool, List, [], ◌∷◌, ◌++◌, map, Some, None, refl, ap, ◌∙◌, arith}
+use Rattle.std.specs.Prelude.{filter, find, sum_by}
 use Rattle.std.specs.List.{list_any}
 use Rattle.std.proofs.lemmas.List.Folds.{list_any-append, list_any_none}
 use Rattle.club_rows.specs.declared.booking.Booking.{Booking}
 use Rattle.club_core.specs.declared.verdict.Verdict.{Verdict}
 use Rattle.club_core.specs.declared.reply.Reply.{Reply}
-use Rattle.club_core.specs.declared.reply.Reply.TheVariants.{SlotShown, Booked, Cancelled, AccountShown, Refused}
+use Rattle.club_core.specs.declared.reply.Reply.TheVariants.{Booked, Cancelled}
 use Rattle.club_core.specs.Pass.{Words}
 use Rattle.club_rows.specs.Booking.{refund_at}
 use Rattle.club_core.specs.Club.{Club}
@@ -34,16 +34,8 @@ abbrev pub MovesCharge : (List ℕ → Bool) → List Booking → List Booking �
 MovesCharge p bookings new_bookings reply = Moves p (charged p bookings) (charged p new_bookings) (has_number bookings) (has_number new_bookings)
     (charge_of_reply reply)
 
-or_nothing : (b : Bool) → (b || false) ≡ b
-or_nothing true = refl
-or_nothing false = refl
-
 no_charge_of_silent : (reply : Reply) → IsSilent reply → charge_of_reply (ToMember reply) ≡ []
-no_charge_of_silent (SlotShown slot kind price places taken closed) h = refl
-no_charge_of_silent (Booked key number charge left) h = absurd h
-no_charge_of_silent (Cancelled key number refund) h = refl
-no_charge_of_silent (AccountShown member balance quota open_count spent) h = refl
-no_charge_of_silent (Refused refusal) h = refl
+no_charge_of_silent reply h = grind arith
 
 charges_stay : (p : List ℕ → Bool) (bookings : List Booking) (reply : EventReply) → charge_of_reply reply ≡ [] → MovesCharge p bookings bookings reply
 charges_stay p bookings reply e = Stays e refl (λ key number. refl)
@@ -62,10 +54,7 @@ charge_new p bookings new none =
     Adds (record { key = new.key; number = new.number; points = new.charge }) refl
     (list_any_none (is_numbered new.key new.number) bookings (none_found (is_numbered new.key new.number) bookings none))
     (sum_one_more (λ (b : Booking). b.charge) (λ (b : Booking). p b.key) bookings new)
-    (λ key number.
-    list_any-append (is_numbered key number) bookings (new ∷ [])
-    ∙ (ap (λ b. has_number bookings key number || b) (or_nothing (is_numbered key number new))
-    ∙ ap (λ b. has_number bookings key number || b) (numbered_back key number new)))
+    (λ key number. grind (arith, list_any-append (is_numbered key number) bookings (new ∷ []), numbered_back key number new))
 
 charge_cancelled : (p : List ℕ → Bool) (bookings : List Booking) (key : List ℕ) (number refund : ℕ) (reply : EventReply) → charge_of_reply reply ≡ []
     → MovesCharge p bookings (map (cancelled_booking key number refund) bookings) reply

@@ -1,5 +1,5 @@
 -- The laws over runs in which some events failed: the same laws over the events that were answered.
-use Rattle.std.proofs.Common.{◌≡◌, ℕ, inl, inr, Bool, true, false, cond, List, [], ◌∷◌, ◌++◌, length, All, Some, refl, sym, ap, ◌∙◌, subst, arith, append_assoc}
+use Rattle.std.proofs.Common.{◌≡◌, ℕ, inl, inr, Bool, false, cond, List, [], ◌∷◌, ◌++◌, length, All, Some, refl, sym, ap, ◌∙◌, subst, arith, append_assoc}
 use Rattle.std.proofs.lemmas.Bool.{both_ways}
 use Rattle.pass_caveats.specs.Laws.{TestsTheSet}
 use Rattle.club_values.specs.declared.slot.Slot.{Slot}
@@ -9,7 +9,6 @@ use Rattle.club_core.specs.declared.reply.Reply.TheVariants.{Refused}
 use Rattle.club_core.specs.Club.{Club, empty_club, member_named, IsSound}
 use Rattle.club_core.specs.Laws.{TestsTheSignature}
 use Rattle.club_core.specs.Pass.{Words}
-use Rattle.club_core.specs.Answer.{verdict_in}
 use Rattle.club_core.specs.Run.{Event, Asked, Outcome, step, replies_of, club_after, ToMember, Response}
 use Rattle.club_laws.specs.RunsWithFailures.{WasReturned, RepeatsServedReplies}
 use Rattle.club_laws.specs.Conservation.{IsConserved, HasPlaces}
@@ -36,8 +35,7 @@ module _ {O : Type 0} (presentation : Presentation O) where
   conserved_with_failures last events replies name member h run is =
       let answered = answered_events presentation events replies in
       let left = (run_of_answered presentation empty_club last events replies run).left in
-      subst (λ (c : Club). IsConserved c answered (replies_of empty_club answered) member) (sym left)
-      (conserved answered name member (events_left presentation events replies h) (subst (λ (c : Club). member_named name c ≡ Some member) left is))
+      rw left (conserved answered name member (events_left presentation events replies h) (rw left at is))
 
   pub places_with_failures : (last : Club) (events : List Event) (replies : List (Response O)) (slot : Slot) → All IsEvent events
       → IsRun presentation empty_club events replies last → HasPlaces slot last
@@ -45,21 +43,11 @@ module _ {O : Type 0} (presentation : Presentation O) where
       subst (HasPlaces slot) (sym (run_of_answered presentation empty_club last events replies run).left)
       (has_room (answered_events presentation events replies) slot (events_left presentation events replies h))
 
-  -- the answered events of two lists, one after the other
-  one_before : (failed : Bool) (event : Event) (front rest : List Event) → cond failed (front ++ rest) (event ∷ front ++ rest)
-      ≡ cond failed front (event ∷ front) ++ rest
-  one_before true event front rest = refl
-  one_before false event front rest = refl
-
   answered-append : (front rest : List Event) (before since : List (Response O)) → length before ≡ length front
       → answered_events presentation (front ++ rest) (before ++ since) ≡ answered_events presentation front before ++ answered_events presentation rest since
   answered-append [] rest [] since e = refl
-  answered-append [] rest (returned ∷ before) since e = absurd (omega arith)
-  answered-append (event ∷ front) rest [] since e = absurd (omega arith)
-  answered-append (event ∷ front) rest (returned ∷ before) since e =
-      ap (λ (events : List Event). cond (has_failed presentation event returned) events (event ∷ events))
-      (answered-append front rest before since (omega arith))
-      ∙ one_before (has_failed presentation event returned) event (answered_events presentation front before) (answered_events presentation rest since)
+  answered-append (event ∷ front) rest (returned ∷ before) since e = grind (arith, answered-append front rest before since (omega arith))
+  answered-append front rest before since e = absurd (omega arith)
 
   -- a booking or a cancellation that was served didn't fail
   not_unavailable : (reply : Reply) → IsBookedOrCancelled reply → is_unavailable reply ≡ false
@@ -68,11 +56,7 @@ module _ {O : Type 0} (presentation : Presentation O) where
 
   served_by_machine : (club next : Club) (words : Words) (moment : ℕ) (reply : Reply) → is_unavailable reply ≡ false
       → IsStep presentation club (Asked words moment) (ToMember reply) next → (step club (Asked words moment)).reply ≡ ToMember reply
-  served_by_machine club next words moment reply e (inl a) =
-      let verdict = verdict_in club words moment in
-      let same : ToMember reply ≡ ToMember verdict.reply = a.reply in
-      let same_reply : verdict.reply ≡ reply = cc in
-      ap ToMember same_reply
+  served_by_machine club next words moment reply e (inl a) = let same = a.reply in grind arith
   served_by_machine club next words moment reply e (inr f) = absurd (both_ways (is_unavailable reply) e f.failure)
 
   -- a request with a serving reply was served in the machine's run of the answered events

@@ -1,5 +1,5 @@
 -- A total that grows with each first entry is the total of the first entries.
-use Rattle.std.proofs.Common.{◌≡◌, ℕ, ◌+◌, Bool, true, false, cond, List, [], ◌∷◌, ◌++◌, refl, sym, ap, ◌∙◌, subst, arith}
+use Rattle.std.proofs.Common.{◌≡◌, ℕ, ◌+◌, Bool, true, false, cond, List, [], ◌∷◌, ◌++◌, ap, ◌∙◌, arith}
 use Rattle.std.specs.Prelude.{◌&&◌, ◌||◌, ◌==◌, not, filter, sum_by}
 use Rattle.std.specs.Str.{bytes_eq}
 use Rattle.std.proofs.lemmas.List.Elements.{filter_agree}
@@ -39,55 +39,28 @@ pub seen_adds_nothing : (p : List ℕ → Bool) (seen : Seen) (entry : Entry) (e
     → unseen_total p seen (entry ∷ entries) ≡ unseen_total p seen entries
 seen_adds_nothing p seen entry entries e =
     let others : Entry → Bool = λ (other : Entry). not (is_entry_of entry.key entry.number other) in
-    let rest : filter (counts p seen) (filter others (firsts entries)) ≡ filter (counts p seen) (firsts entries) =
+    let kept = filter (counts p seen) (filter others (firsts entries)) in
+    let rest : kept ≡ filter (counts p seen) (firsts entries) =
     filter-filter (counts p seen) others (firsts entries) ∙ filter_agree (λ other. others other && counts p seen other) (counts p seen) (λ other.
     same other) (firsts entries) in
-    ap (λ (kept : List Entry). sum_by points_of kept) (drops (p entry.key) (seen entry.key entry.number) e
-    (filter (counts p seen) (filter others (firsts entries))) ∙ rest)
+    let dropped : cond (counts p seen entry) (entry ∷ kept) kept ≡ kept = grind arith in
+    ap (λ (entries : List Entry). sum_by points_of entries) (dropped ∙ rest)
   where
-    drops : (b c : Bool) → c ≡ true → (kept : List Entry) → cond (b && not c) (entry ∷ kept) kept ≡ kept
-    drops true true h kept = refl
-    drops false c h kept = refl
-    drops true false h kept = absurd (cc)
-
-    go : (a b c : Bool) → (a ≡ true → c ≡ true) → (not a && (b && not c)) ≡ (b && not c)
-    go false b c h = refl
-    go true true true h = refl
-    go true false c h = refl
-    go true true false h = absurd (let f : false ≡ true = h refl in cc)
-
     same : (other : Entry) → (not (is_entry_of entry.key entry.number other) && counts p seen other) ≡ counts p seen other
-    same other = go (is_entry_of entry.key entry.number other) (p other.key) (seen other.key other.number) (λ h. alike seen entry other h ∙ e)
+    same other = let on_record = alike seen entry other in grind arith
 
 -- a new one adds its points, and is on record from then on
 pub new_adds_its_points : (p : List ℕ → Bool) (seen : Seen) (entry : Entry) (entries : List Entry) → seen entry.key entry.number ≡ false
     → unseen_total p seen (entry ∷ entries) ≡ cond (p entry.key) entry.points 0 + unseen_total p (with_entry entry seen) entries
 new_adds_its_points p seen entry entries e =
     let others : Entry → Bool = λ (other : Entry). not (is_entry_of entry.key entry.number other) in
-    let rest : filter (counts p seen) (filter others (firsts entries)) ≡ filter (counts p (with_entry entry seen)) (firsts entries) =
+    let kept = filter (counts p seen) (filter others (firsts entries)) in
+    let rest : kept ≡ filter (counts p (with_entry entry seen)) (firsts entries) =
     filter-filter (counts p seen) others (firsts entries) ∙ filter_agree (λ other. others other
-    && counts p seen other) (counts p (with_entry entry seen)) (λ other. same other) (firsts entries) in
-    keeps (p entry.key) (seen entry.key entry.number) e (filter (counts p seen) (filter others (firsts entries)))
-    ∙ ap (λ (kept : List Entry). cond (p entry.key) entry.points 0 + sum_by points_of kept) rest
-  where
-    keeps : (b c : Bool) → c ≡ false → (kept : List Entry) → sum_by points_of (cond (b && not c) (entry ∷ kept) kept)
-        ≡ cond b entry.points 0 + sum_by points_of kept
-    keeps true false h kept = sum_by-cons points_of entry kept
-    keeps false c h kept = omega arith
-    keeps true true h kept = absurd (cc)
-
-    go : (a b c d : Bool) → a ≡ d → (not a && (b && not c)) ≡ (b && not (c || d))
-    go true true true d h = refl
-    go true true false true h = refl
-    go true true false false h = absurd (cc)
-    go true false c d h = refl
-    go false true true d h = refl
-    go false true false false h = refl
-    go false true false true h = absurd (cc)
-    go false false c d h = refl
-
-    same : (other : Entry) → (not (is_entry_of entry.key entry.number other) && counts p seen other) ≡ counts p (with_entry entry seen) other
-    same other = go (is_entry_of entry.key entry.number other) (p other.key) (seen other.key other.number) (is_entry_of entry.key entry.number other) refl
+    && counts p seen other) (counts p (with_entry entry seen)) (λ other. grind arith) (firsts entries) in
+    let added : sum_by points_of (cond (counts p seen entry) (entry ∷ kept) kept) ≡ cond (p entry.key) entry.points 0 + sum_by points_of kept =
+    grind (arith, sum_by-cons points_of entry kept) in
+    added ∙ ap (λ (entries : List Entry). cond (p entry.key) entry.points 0 + sum_by points_of entries) rest
 
 -- how a total and the record move with the entries of a reply
 pub data Moves (p : List ℕ → Bool) (total new_total : ℕ) (seen new_seen : Seen) (returned : List Entry) : Type 0 where
@@ -101,20 +74,17 @@ pub data Moves (p : List ℕ → Bool) (total new_total : ℕ) (seen new_seen : 
 same_unseen : (p : List ℕ → Bool) (seen new_seen : Seen) (entries : List Entry) → ((key : List ℕ) (number : ℕ) → new_seen key number ≡ seen key number)
     → unseen_total p new_seen entries ≡ unseen_total p seen entries
 same_unseen p seen new_seen entries h =
-    ap (λ (kept : List Entry). sum_by points_of kept)
-    (filter_agree (counts p new_seen) (counts p seen) (λ entry. ap (λ b. p entry.key && not b) (h entry.key entry.number)) (firsts entries))
+    ap (sum_by points_of) (filter_agree (counts p new_seen) (counts p seen) (λ entry. rw (h entry.key entry.number)) (firsts entries))
 
 pub moved : (p : List ℕ → Bool) (total new_total : ℕ) (seen new_seen : Seen) (returned rest : List Entry) (end : ℕ)
     → Moves p total new_total seen new_seen returned
     → end ≡ new_total + unseen_total p new_seen rest → end ≡ total + unseen_total p seen (returned ++ rest)
 moved p total new_total seen new_seen returned rest end (Stays none same kept) h =
     let later = same_unseen p seen new_seen rest kept in
-    subst (λ (t : List Entry). end ≡ total + unseen_total p seen (t ++ rest)) (sym none) (omega arith)
+    rw none (omega arith)
 moved p total new_total seen new_seen returned rest end (Repeats entry one known same kept) h =
     let later = same_unseen p seen new_seen rest kept in
-    let first = seen_adds_nothing p seen entry rest known in
-    subst (λ (t : List Entry). end ≡ total + unseen_total p seen (t ++ rest)) (sym one) (omega arith)
+    rw one (omega (arith, seen_adds_nothing p seen entry rest known))
 moved p total new_total seen new_seen returned rest end (Adds entry one new more kept) h =
     let later = same_unseen p (with_entry entry seen) new_seen rest kept in
-    let first = new_adds_its_points p seen entry rest new in
-    subst (λ (t : List Entry). end ≡ total + unseen_total p seen (t ++ rest)) (sym one) (omega arith)
+    rw one (omega (arith, new_adds_its_points p seen entry rest new))

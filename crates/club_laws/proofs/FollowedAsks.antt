@@ -1,6 +1,6 @@
 -- The member's part follows each event of the club by the member's own entry for it.
-use Rattle.std.proofs.Common.{◌≡◌, ◌≢◌, ℕ, Bool, true, false, cond, List, [], ◌∷◌, Option, Some, None, bytes_eq, refl, sym, ap, ◌∙◌, subst}
-use Rattle.std.proofs.lemmas.Bool.{both_ways, false_from_ne_true}
+use Rattle.std.proofs.Common.{◌≡◌, ℕ, Bool, true, false, cond, List, [], ◌∷◌, Option, Some, None, bytes_eq, refl, sym, ap, ◌∙◌, subst, arith}
+use Rattle.std.proofs.lemmas.Slice.Eq.{bytes_eq-Decides}
 use Rattle.club_core.specs.declared.verdict.Verdict.{Verdict}
 use Rattle.club_core.specs.declared.change.Change.{Change}
 use Rattle.club_core.specs.declared.change.Change.TheVariants.{InsertBooking, MarkCancelled}
@@ -12,7 +12,7 @@ use Rattle.club_core.specs.Answer.{answer_by_basis}
 use Rattle.club_core.specs.After.{after}
 use Rattle.club_core.specs.Run.{after_change, EventReply, ToMember}
 use Rattle.club_core.specs.Solo.{OwnEvent, OwnAsk, OwnChange, outside, own_ask, part_of, solo_verdict}
-use Rattle.club_laws.proofs.FoundRows.{found_passes, bytes_same, same_bytes_of}
+use Rattle.club_laws.proofs.FoundRows.{found_passes, bytes_same}
 use Rattle.club_laws.proofs.ChangedParts.{HasKnownKeys, is_named, part_changed}
 use Rattle.club_laws.proofs.KnownKeys.{IsKeyed}
 use Rattle.club_laws.proofs.KeyOwners.{owner}
@@ -32,17 +32,14 @@ Follows part (OwnAsk words moment others ∷ []) reply next =
 Follows part own reply next = ⊥
 
 -- a change under a key of the member makes the same change in the part, and one under another's key none
-pub under_own : (name : List ℕ) (club : Club) (key : List ℕ) (change : Option Change) (b : Bool) → HasKnownKeys club → IsUnder key change
-    → is_key_of name club key ≡ b → part_of name (after_change change club) ≡ cond b (after_change change (part_of name club)) (part_of name club)
-under_own name club key None true known under e = refl
-under_own name club key None false known under e = refl
-under_own name club key (Some (InsertBooking booking member)) b known under e =
-    part_changed name club (InsertBooking booking member) known tt
-    ∙ ap (λ (t : Bool). cond t (after (InsertBooking booking member) (part_of name club)) (part_of name club)) (ap (is_key_of name club) under ∙ e)
-under_own name club key (Some (MarkCancelled booking member refund)) b known under e =
-    part_changed name club (MarkCancelled booking member refund) known tt
-    ∙ ap (λ (t : Bool). cond t (after (MarkCancelled booking member refund) (part_of name club)) (part_of name club)) (ap (is_key_of name club) under ∙ e)
-under_own name club key (Some change) b known under e = absurd under
+under_own : (name : List ℕ) (club : Club) (key : List ℕ) (change : Option Change) → HasKnownKeys club → IsUnder key change
+    → part_of name (after_change change club) ≡ cond (is_key_of name club key) (after_change change (part_of name club)) (part_of name club)
+under_own name club key None known under = grind arith
+under_own name club key (Some (InsertBooking booking member)) known under =
+    rw (← under) (part_changed name club (InsertBooking booking member) known tt)
+under_own name club key (Some (MarkCancelled booking member refund)) known under =
+    rw (← under) (part_changed name club (MarkCancelled booking member refund) known tt)
+under_own name club key (Some change) known under = absurd under
 
 -- a request of the member's
 own_follows : (club : Club) (words : Words) (moment : ℕ) (basis : Basis) → IsKeyed club → basis_of club words ≡ Some basis
@@ -51,14 +48,13 @@ own_follows : (club : Club) (words : Words) (moment : ℕ) (basis : Basis) → I
     (part_of basis.member.name (after_change (answer_by_basis words moment (Some basis)).change club))
 own_follows club words moment basis keyed e =
     let own = basis.member.name in
-    let same : answer_by_basis words moment (Some basis) ≡ solo_verdict (part_of own club) words moment (outside own club (request_slot words.request)) =
-    ap (λ (b : Option Basis). answer_by_basis words moment b) (sym (own_basis club words basis e))
-    in
+    let solo = solo_verdict (part_of own club) words moment (outside own club (request_slot words.request)) in
+    let same : answer_by_basis words moment (Some basis) ≡ solo = ap (answer_by_basis words moment) (sym (own_basis club words basis e)) in
     let change = (answer_by_basis words moment (Some basis)).change in
-    let under = answer_changes_under club words moment basis e in (
+    let mine = is_own_key club words basis.key basis.member (known_rows club words basis e) in
+    let followed = under_own own club basis.key.name change keyed.known (answer_changes_under club words moment basis e) in (
       ap (λ (v : Verdict). ToMember v.reply) same,
-      under_own own club basis.key.name change true keyed.known under (is_own_key club words basis.key basis.member (known_rows club words basis e))
-          ∙ ap (λ (v : Verdict). after_change v.change (part_of own club)) same,
+      followed ∙ rw mine (ap (λ (v : Verdict). after_change v.change (part_of own club)) same),
     )
 
 -- a request of another's
@@ -66,13 +62,9 @@ not_own_key : (name : List ℕ) (club : Club) (words : Words) (basis : Basis) �
     → bytes_eq basis.member.name name ≡ false → is_key_of name club basis.key.name ≡ false
 not_own_key name club words basis keyed e other =
     let rests = rests_on_name club words basis e in
-    let differs : is_key_of name club basis.key.name ≢ true =
-    λ any.
-    let member_name = bytes_same basis.member.name basis.key.member (found_passes (is_named basis.key.member) club.members basis.member rests.member) in
-    both_ways (bytes_eq basis.member.name name) other
-    (same_bytes_of basis.member.name name (member_name ∙ sym (owner club keyed.unique basis.key rests.row name any)))
-    in
-    false_from_ne_true (is_key_of name club basis.key.name) differs
+    let member_name = found_passes (is_named basis.key.member) club.members basis.member rests.member in
+    let own = owner club keyed.unique basis.key rests.row name in
+    grind (arith, bytes_eq-Decides basis.member.name name, bytes_eq-Decides basis.member.name basis.key.member)
 
 asked_follows : (name : List ℕ) (club : Club) (words : Words) (moment : ℕ) (basis : Basis) (b : Bool) → IsKeyed club → basis_of club words ≡ Some basis
     → bytes_eq basis.member.name name ≡ b → Follows (part_of name club) (cond b (OwnAsk words moment (outside name club (request_slot words.request)) ∷ []) [])
@@ -82,9 +74,9 @@ asked_follows name club words moment basis true keyed e own =
     (ToMember (answer_by_basis words moment (Some basis)).reply) (part_of n (after_change (answer_by_basis words moment (Some basis)).change club)) in
     subst family (bytes_same basis.member.name name own) (own_follows club words moment basis keyed e)
 asked_follows name club words moment basis false keyed e own =
-    let under = answer_changes_under club words moment basis e in
-    under_own name club basis.key.name (answer_by_basis words moment (Some basis)).change false keyed.known under
-    (not_own_key name club words basis keyed e own)
+    let change = (answer_by_basis words moment (Some basis)).change in
+    under_own name club basis.key.name change keyed.known (answer_changes_under club words moment basis e)
+    ∙ rw (not_own_key name club words basis keyed e own)
 
 pub ask_follows : (name : List ℕ) (club : Club) (words : Words) (moment : ℕ) (basis : Option Basis) → IsKeyed club → basis_of club words ≡ basis
     → Follows (part_of name club) (own_ask name club words moment basis) (ToMember (answer_by_basis words moment basis).reply)

@@ -1,5 +1,5 @@
 -- Each step: the member's part follows, and key names stay unique and known.
-use Rattle.std.proofs.Common.{◌≡◌, ℕ, Bool, true, false, cond, List, [], ◌∷◌, Option, Some, None, Result, Ok, Err, refl, sym, ap, ◌∙◌, subst, map, Contains}
+use Rattle.std.proofs.Common.{◌≡◌, ℕ, List, Option, Some, None, Result, Ok, Err, refl, sym, subst, map, Contains, arith}
 use Rattle.club_rows.specs.declared.key.Key.{Key}
 use Rattle.club_core.specs.declared.verdict.Verdict.{Verdict}
 use Rattle.club_core.specs.declared.change.Change.{Change}
@@ -10,10 +10,9 @@ use Rattle.club_core.specs.Pass.{Words}
 use Rattle.club_core.specs.Club.{Club}
 use Rattle.club_core.specs.Basis.{Basis, basis_of}
 use Rattle.club_core.specs.Answer.{answer_by_basis}
-use Rattle.club_core.specs.After.{after}
 use Rattle.club_core.specs.Office.{office_verdict}
-use Rattle.club_core.specs.Run.{Event, Asked, Ordered, step, after_change, order_outcome, EventReply}
-use Rattle.club_core.specs.Solo.{OwnChange, is_own, own_change, own_part, part_of}
+use Rattle.club_core.specs.Run.{Event, Asked, Ordered, step, after_change, order_outcome}
+use Rattle.club_core.specs.Solo.{own_change, own_part, part_of}
 use Rattle.club_laws.proofs.ChangedParts.{part_changed}
 use Rattle.club_laws.proofs.KnownKeys.{IsKeyed, keyed_after}
 use Rattle.club_laws.proofs.BasisRows.{known_rows}
@@ -23,19 +22,14 @@ use Rattle.club_laws.proofs.NamedRows.{named_there}
 use Rattle.club_laws.proofs.FollowedAsks.{Follows, ask_follows}
 use Rattle.club_laws.proofs.OfficialChanges.{IsOfficial, official, own_of_part, official_fresh, official_known}
 
-change_follows : (part next : Club) (change : Change) (reply : EventReply) (b : Bool) → next ≡ cond b (after change part) part
-    → Follows part (cond b (OwnChange change ∷ []) []) reply next
-change_follows part next change reply true e = e
-change_follows part next change reply false e = e
-
 order_follows : (name : List ℕ) (club : Club) (command : Command) (verdict : Result Change OfficeFault) → IsKeyed club → IsOfficial club verdict
     → Follows (part_of name club) (own_change name club verdict) (order_outcome club command verdict).reply
     (part_of name (order_outcome club command verdict).club)
 order_follows name club command (Err fault) keyed h = refl
 order_follows name club command (Ok change) keyed h =
-    change_follows (part_of name club) (part_of name (after change club)) change (order_outcome club command (Ok change)).reply (is_own name club change)
-    (part_changed name club change keyed.known (official_fresh club change h)
-    ∙ ap (λ (b : Bool). cond b (after change (part_of name club)) (part_of name club)) (own_of_part name club change h))
+    let changed = part_changed name club change keyed.known (official_fresh club change h) in
+    let own = own_of_part name club change h in
+    grind arith
 
 -- the member's part follows each event
 pub follows : (name : List ℕ) (club : Club) (event : Event) → IsKeyed club

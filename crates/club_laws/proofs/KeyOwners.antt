@@ -1,16 +1,16 @@
 -- Whose a key is, as keys are added and their rows are edited.
-use Rattle.std.proofs.Common.{◌≡◌, ◌≢◌, ℕ, Bool, true, false, List, [], ◌∷◌, ◌++◌, get_or, map, Option, Some, refl, sym, ap, ◌∙◌, subst}
+use Rattle.std.proofs.Common.{◌≡◌, ◌≢◌, ℕ, Bool, true, List, [], ◌∷◌, ◌++◌, get_or, map, Option, Some, sym, ◌∙◌, arith}
+use Rattle.std.proofs.lemmas.Slice.Eq.{bytes_eq-Decides}
 use Rattle.std.specs.Prelude.{All, AllPairs, Contains, ◌&&◌, ◌||◌}
 use Rattle.std.specs.Str.{bytes_eq}
 use Rattle.std.specs.List.{list_any}
 use Rattle.std.proofs.lemmas.List.Elements.{All-map, All-contains}
 use Rattle.std.proofs.lemmas.List.Folds.{list_any-append, Any-from_list_any}
-use Rattle.std.proofs.lemmas.Bool.{and_parts, and_right}
 use Rattle.club_rows.specs.declared.key.Key.{Key}
 use Rattle.club_rows.specs.declared.key.OlderRoot.{OlderRoot}
 use Rattle.club_rows.specs.declared.booking.Booking.{Booking}
 use Rattle.club_core.specs.Club.{Club, key_named, is_key_of, bookings_of}
-use Rattle.club_laws.proofs.FoundRows.{any-filter, any-map, bytes_same, other_bytes}
+use Rattle.club_laws.proofs.FoundRows.{any-filter, any-map, other_bytes}
 use Rattle.club_laws.proofs.NamedRows.{only_named}
 use Rattle.club_laws.proofs.Filtering.{filter_same}
 
@@ -24,14 +24,12 @@ is_key_of-any member club name = any-filter (λ (key : Key). bytes_eq key.name n
 pub is_key_of-added : (member : List ℕ) (club : Club) (key : Key) (name : List ℕ)
     → is_key_of member (record club { keys = club.keys ++ key ∷ [] }) name ≡ (is_key_of member club name || is_own member name key)
 is_key_of-added member club key name =
-    is_key_of-any member (record club { keys = club.keys ++ key ∷ [] }) name
-    ∙ (list_any-append (is_own member name) club.keys (key ∷ [])
-    ∙ (ap (λ b. b || (is_own member name key || false)) (sym (is_key_of-any member club name))
-    ∙ ap (λ b. is_key_of member club name || b) (or_nothing (is_own member name key))))
-  where
-    or_nothing : (b : Bool) → (b || false) ≡ b
-    or_nothing true = refl
-    or_nothing false = refl
+    grind (
+      arith,
+      is_key_of-any member (record club { keys = club.keys ++ key ∷ [] }) name,
+      is_key_of-any member club name,
+      list_any-append (is_own member name) club.keys (key ∷ []),
+    )
 
 -- an edit of a key's row that keeps its name and its member
 abbrev pub edited : (Key → List ℕ) → (Key → Option OlderRoot) → (Key → Bool) → Key → Key
@@ -52,19 +50,14 @@ bookings_of-added member club key fresh known =
     is_key_of member club booking.key) club.bookings
     (λ k d short. same (get_or club.bookings k d) (known k d short))
   where
-    or_not : (b c : Bool) → c ≡ false → (b || c) ≡ b
-    or_not true c e = refl
-    or_not false c e = e
-
     same : (booking : Booking) → Contains (map (λ (k : Key). k.name) club.keys) booking.key
         → is_key_of member (record club { keys = club.keys ++ key ∷ [] }) booking.key ≡ is_key_of member club booking.key
     same booking there =
         let other : booking.key ≢ key.name = All-contains (λ (name : List ℕ).
         name ≢ key.name) (map (λ (k : Key). k.name) club.keys) booking.key
         (All-map (λ (name : List ℕ). name ≢ key.name) (λ (k : Key). k.name) club.keys fresh) there in
-        let no_own : is_own member booking.key key ≡ false = and_right (bytes_eq key.member member) (bytes_eq key.name booking.key)
-        (other_bytes key.name booking.key (λ e. other (sym e))) in
-        is_key_of-added member club key booking.key ∙ or_not (is_key_of member club booking.key) (is_own member booking.key key) no_own
+        let differs = other_bytes key.name booking.key (λ e. other (sym e)) in
+        grind (arith, is_key_of-added member club key booking.key)
 
 pub bookings_of-edited : (root : Key → List ℕ) (older : Key → Option OlderRoot) (is_revoked : Key → Bool) (member : List ℕ) (club : Club)
     → bookings_of member (record club { keys = map (edited root older is_revoked) club.keys }) ≡ bookings_of member club
@@ -78,9 +71,5 @@ pub owner : (club : Club) → AllPairs (λ (a : Key) (b : Key). a.name ≢ b.nam
     → is_key_of name club key.name ≡ true → name ≡ key.member
 owner club unique key known name e =
     let any = Any-from_list_any (is_own name key.name) club.keys (sym (is_key_of-any name club key.name) ∙ e) in
-    let parts = and_parts (bytes_eq any.1.member name) (bytes_eq any.1.name key.name) any.4 in
-    let is : any.1 ≡ key =
-    subst (λ (x : Key). bytes_eq x.name key.name ≡ true → x ≡ key) any.3
-    (only_named (λ (x : Key). x.name) key.name club.keys key unique known any.0 any.1 any.2) parts.1
-    in
-    sym (bytes_same any.1.member name parts.0) ∙ ap (λ (x : Key). x.member) is
+    let only = only_named (λ (x : Key). x.name) key.name club.keys key unique known any.0 any.1 any.2 in
+    grind (arith, bytes_eq-Decides any.1.member name, any.3, any.4)

@@ -1,5 +1,5 @@
 -- Key names are unique and bookings are under known keys, before and after each change.
-use Rattle.std.proofs.Common.{◌≡◌, ◌≢◌, ℕ, suc, cond, Bool, List, [], ◌∷◌, ◌++◌, map, find, length, get_or, Option, Some, None, AllPairs, Contains, refl, sym}
+use Rattle.std.proofs.Common.{◌≡◌, ◌≢◌, ℕ, suc, Bool, List, [], ◌∷◌, ◌++◌, map, find, length, get_or, Option, None, AllPairs, Contains, refl, sym}
 use Rattle.std.proofs.Common.{ap, ◌∙◌, subst, arith, length-append}
 use Rattle.std.proofs.lemmas.List.{get_or-append-add}
 use Rattle.std.proofs.lemmas.List.Elements.{All-push, All-map}
@@ -69,8 +69,7 @@ pushed_fresh (key ∷ keys) new unique =
     let differs : key.name ≢ new.name =
     λ s. unique 0 (suc (length keys)) new (omega arith) (omega (arith, length-append keys (new ∷ []))) (s ∙ ap (λ (k : Key). k.name) (sym last))
     in
-    ap (λ (b : Bool). cond b (Some key) (find (has_name new.name) keys)) (other_bytes key.name new.name differs)
-    ∙ pushed_fresh keys new (λ i j d h k. unique (suc i) (suc j) d (omega arith) (omega arith))
+    rw (other_bytes key.name new.name differs) (pushed_fresh keys new (λ i j d h k. unique (suc i) (suc j) d (omega arith) (omega arith)))
 
 fresh_from_keyed : (club : Club) (change : Change) → AllPairs (λ (a : Key) (b : Key). a.name ≢ b.name) (after change club).keys → IsFresh club change
 fresh_from_keyed club (InsertKey key) unique = pushed_fresh club.keys key unique

@@ -1,30 +1,28 @@
 -- Rows found by their names, and slots that differ.
-use Rattle.std.proofs.Common.{◌≡◌, ◌≢◌, ℕ, Bool, true, false, List, [], ◌∷◌, ◌++◌, map, Option, Some, None, refl, sym, ◌∙◌, subst}
+use Rattle.std.proofs.Common.{◌≡◌, ◌≢◌, ℕ, Bool, true, false, List, [], ◌∷◌, ◌++◌, map, Option, Some, None, sym, ◌∙◌, subst, arith, ap}
+use Rattle.std.proofs.lemmas.Slice.Eq.{bytes_eq-Decides}
 use Rattle.std.specs.Prelude.{All, AllPairs, Contains, ◌&&◌, ◌==◌, find, is_some}
 use Rattle.std.specs.Str.{bytes_eq}
 use Rattle.std.specs.List.{list_any}
 use Rattle.std.proofs.lemmas.List.Elements.{All-nil, All-cons, Contains-append_left}
 use Rattle.std.proofs.lemmas.List.{map-append}
-use Rattle.std.proofs.lemmas.Bool.{both_ways, or_parts, and_parts, and_from, eqb-true, eq-eqb}
+use Rattle.std.proofs.lemmas.Bool.{both_ways}
 use Rattle.club_values.specs.declared.slot.Slot.{Slot}
 use Rattle.club_rows.specs.declared.booking.Booking.{Booking}
 use Rattle.club_rows.specs.Booking.{same_slot}
 use Rattle.club_core.specs.Sums.{is_under}
-use Rattle.club_laws.proofs.FoundRows.{found_passes, found_is_there, Contains-map, none_found, only_found, All-each, bytes_same, same_bytes}
+use Rattle.club_laws.proofs.FoundRows.{found_passes, found_is_there, Contains-map, none_found, only_found, All-each, bytes_same, same_bytes_of}
 
 pub none_there : {X : Type 0} (o : Option X) → is_some o ≡ false → o ≡ None
-none_there None e = refl
-none_there (Some x) e = absurd (cc)
+none_there o e = grind arith
 
 pub some_there : {X : Type 0} (o : Option X) → is_some o ≡ true → (x : X) × (o ≡ Some x)
-some_there None e = absurd (cc)
-some_there (Some x) e = (x, refl)
+some_there o e = grind arith
 
 -- nobody has this name
 pub none_named : {X : Type 0} (name : X → List ℕ) (n : List ℕ) (xs : List X) → find (λ x. bytes_eq (name x) n) xs ≡ None → All (λ x. name x ≢ n) xs
 none_named name n xs e =
-    All-each (λ x. bytes_eq (name x) n ≡ false) (λ x. name x ≢ n) xs (λ x f h.
-    both_ways (bytes_eq (name x) n) f (subst (λ (m : List ℕ). bytes_eq (name x) m ≡ true) h (same_bytes (name x))))
+    All-each (λ x. bytes_eq (name x) n ≡ false) (λ x. name x ≢ n) xs (λ x f h. both_ways (bytes_eq (name x) n) f (same_bytes_of (name x) n h))
     (none_found (λ x. bytes_eq (name x) n) xs e)
 
 pub named : {X : Type 0} (name : X → List ℕ) (n : List ℕ) (xs : List X) (x : X) → find (λ y. bytes_eq (name y) n) xs ≡ Some x → name x ≡ n
@@ -56,32 +54,24 @@ only_named name n xs x unique e =
 
 pub none_passes : {X : Type 0} (p : X → Bool) (xs : List X) → list_any p xs ≡ false → All (λ x. p x ≡ false) xs
 none_passes p [] e = All-nil (λ x. p x ≡ false)
-none_passes p (x ∷ xs) e =
-    let parts = or_parts (p x) (list_any p xs) e in
-    All-cons (λ y. p y ≡ false) x xs parts.0 (none_passes p xs parts.1)
+none_passes p (x ∷ xs) e = All-cons (λ y. p y ≡ false) x xs (grind arith) (none_passes p xs (grind arith))
 
 pub slots_same : (a b : Slot) → same_slot a b ≡ true → a ≡ b
 slots_same a b e =
-    let parts = and_parts (bytes_eq a.facility b.facility && a.day == b.day) (a.hour == b.hour) e in
-    let front = and_parts (bytes_eq a.facility b.facility) (a.day == b.day) parts.0 in
-    let f = bytes_same a.facility b.facility front.0 in
-    let d = eqb-true a.day b.day front.1 in
-    let h = eqb-true a.hour b.hour parts.1 in
+    let f : a.facility ≡ b.facility = grind (arith, bytes_eq-Decides a.facility b.facility) in
+    let d : a.day ≡ b.day = grind arith in
+    let h : a.hour ≡ b.hour = grind arith in
     λ i. record { facility = f i; day = d i; hour = h i }
 
 pub same_slots : (a : Slot) → same_slot a a ≡ true
-same_slots a =
-    and_from (bytes_eq a.facility a.facility && a.day == a.day) (a.hour == a.hour)
-    (and_from (bytes_eq a.facility a.facility) (a.day == a.day) (same_bytes a.facility) (eq-eqb a.day a.day refl)) (eq-eqb a.hour a.hour refl)
+same_slots a = grind (arith, bytes_eq-Decides a.facility a.facility)
 
 -- whether the booking is the key's under this number
 abbrev pub is_numbered : List ℕ → ℕ → Booking → Bool
 is_numbered key number booking = is_under key booking && booking.number == number
 
 pub numbered : (key : List ℕ) (number : ℕ) (booking : Booking) → is_numbered key number booking ≡ true → (booking.key ≡ key) × (booking.number ≡ number)
-numbered key number booking e =
-    let parts = and_parts (is_under key booking) (booking.number == number) e in
-    (bytes_same booking.key key parts.0, eqb-true booking.number number parts.1)
+numbered key number booking e = grind (arith, bytes_eq-Decides booking.key key)
 
 pub only_numbered : (key : List ℕ) (number : ℕ) (bookings : List Booking) (booking : Booking)
     → AllPairs (λ (a : Booking) (b : Booking). ¬ ((a.key ≡ b.key) × (a.number ≡ b.number))) bookings → find (is_numbered key number) bookings ≡ Some booking
@@ -91,23 +81,18 @@ only_numbered key number bookings booking unique e =
     (λ a b h k other. let l = numbered key number a h in let r = numbered key number b k in other (l.0 ∙ sym r.0, l.1 ∙ sym r.1)) bookings booking unique e
 
 pub tests_same : (a b : Bool) → (a ≡ true → b ≡ true) → (b ≡ true → a ≡ true) → a ≡ b
-tests_same true true h k = refl
-tests_same true false h k = sym (h refl)
-tests_same false true h k = k refl
-tests_same false false h k = refl
+tests_same a b h k = grind arith
 
 -- a key and number are the booking's, whichever side names them
 pub numbered_back : (key : List ℕ) (number : ℕ) (booking : Booking) → is_numbered key number booking ≡ (bytes_eq key booking.key && number == booking.number)
-numbered_back key number booking =
-    tests_same (is_numbered key number booking) (bytes_eq key booking.key && number == booking.number)
-    (λ e. let same = numbered key number booking e in
-    and_from (bytes_eq key booking.key) (number == booking.number) (subst (λ (n : List ℕ). bytes_eq n booking.key ≡ true) same.0 (same_bytes booking.key))
-    (eq-eqb number booking.number (sym same.1)))
-    (λ e. let parts = and_parts (bytes_eq key booking.key) (number == booking.number) e in
-    let same = bytes_same key booking.key parts.0 in
-    and_from (is_under key booking) (booking.number == number) (subst (λ (n : List ℕ). bytes_eq n key ≡ true) same (same_bytes key))
-    (eq-eqb booking.number number (sym (eqb-true number booking.number parts.1))))
+numbered_back key number booking = grind (arith, bytes_eq-Decides booking.key key, bytes_eq-Decides key booking.key)
 
 pub self_numbered : (booking : Booking) → is_numbered booking.key booking.number booking ≡ true
-self_numbered booking = and_from (bytes_eq booking.key booking.key) (booking.number == booking.number) (same_bytes booking.key)
-    (eq-eqb booking.number booking.number refl)
+self_numbered booking = grind (arith, bytes_eq-Decides booking.key booking.key)
+
+-- a booking that is found under a key and number is found under its own
+pub found_by_own : (key : List ℕ) (number : ℕ) (booking : Booking) (bookings : List Booking) → find (is_numbered key number) bookings ≡ Some booking
+    → find (is_numbered booking.key booking.number) bookings ≡ Some booking
+found_by_own key number booking bookings found =
+    let it = numbered key number booking (found_passes (is_numbered key number) bookings booking found) in
+    ap (λ (k : List ℕ). find (is_numbered k booking.number) bookings) it.0 ∙ (ap (λ (n : ℕ). find (is_numbered key n) bookings) it.1 ∙ found)

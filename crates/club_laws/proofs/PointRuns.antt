@@ -1,6 +1,6 @@
 -- Charges, refunds and places over a run from the empty club.
-use Rattle.std.proofs.Common.{◌≡◌, ℕ, ◌+◌, ◌≤◌, Bool, true, false, List, [], ◌∷◌, Option, Some, None, Ok, refl, sym, ap, ◌∙◌, arith}
-use Rattle.std.specs.Prelude.{Result, All, ◌&&◌, not, filter, sum_by, MatchOption}
+use Rattle.std.proofs.Common.{◌≡◌, ℕ, ◌+◌, ◌≤◌, Bool, false, List, [], ◌∷◌, Option, Some, None, Ok, refl, sym, ap, ◌∙◌, arith}
+use Rattle.std.specs.Prelude.{Result, All, filter, sum_by, MatchOption}
 use Rattle.std.specs.Str.{bytes_eq}
 use Rattle.std.proofs.lemmas.List.Elements.{All-head, All-tail, All-filter, filter_agree}
 use Rattle.std.proofs.lemmas.List.Sums.{sum_by-cons}
@@ -10,7 +10,6 @@ use Rattle.club_rows.specs.declared.facility.Facility.{Facility}
 use Rattle.club_rows.specs.declared.booking.Booking.{Booking}
 use Rattle.club_core.specs.declared.change.Change.{Change}
 use Rattle.club_core.specs.declared.command.Command.{Command}
-use Rattle.club_core.specs.declared.command.Command.TheVariants.{RevokeKey}
 use Rattle.club_core.specs.declared.command.OfficeFault.{OfficeFault}
 use Rattle.club_rows.specs.Rows.{IsBooking}
 use Rattle.club_core.specs.Club.{Club, empty_club, member_named, facility_named, is_key_of, bookings_of, IsSound}
@@ -38,25 +37,23 @@ pub record KeepsPoints (club : Club) (command : Command) (verdict : Result Chang
   pub no_refund : refund_of_reply (order_outcome club command verdict).reply ≡ []
 
 order_keeps : (club : Club) (command : Command) → KeepsPoints club command (office_verdict club command)
-order_keeps club command = order_cases (KeepsPoints club command) club (λ fault. record { bookings = refl; no_charge = refl; no_refund = refl }) command
-    (done command)
+order_keeps club command = order_cases (KeepsPoints club command) club (λ fault. assumption) command (done command)
   where
     done : (c : Command) (r : OrderRestsOn club c) → KeepsPoints club c (Ok (change_of club c r))
-    done (RevokeKey name) r = record { bookings = refl; no_charge = refl; no_refund = refl }
-    done c r = record { bookings = refl; no_charge = refl; no_refund = refl }
+    done c r = grind arith
 
 module _ (p : List ℕ → Bool) where
   step_charges : (club : Club) (event : Event) → MovesCharge p club.bookings (step club event).club.bookings (step club event).reply
   step_charges club (Asked words moment) = charge_moves p club words moment
   step_charges club (Ordered command) =
       let k = order_keeps club command in
-      Stays k.no_charge (ap (charged p) k.bookings) (λ key number. ap (λ (bookings : List Booking). has_number bookings key number) k.bookings)
+      Stays k.no_charge (ap (charged p) k.bookings) (λ key number. rw k.bookings)
 
   step_refunds : (club : Club) (event : Event) → IsSound club → MovesRefund p club.bookings (step club event).club.bookings (step club event).reply
   step_refunds club (Asked words moment) s = refund_moves p club words moment s
   step_refunds club (Ordered command) s =
       let k = order_keeps club command in
-      Stays k.no_refund (ap (refunded p) k.bookings) (λ key number. ap (λ (bookings : List Booking). has_cancelled bookings key number) k.bookings)
+      Stays k.no_refund (ap (refunded p) k.bookings) (λ key number. rw k.bookings)
 
   -- over a run, the sum of charges grows by the first charge of each booking that was not on record
   run_charges : (club : Club) (events : List Event) → charged p (club_after club events).bookings
@@ -84,11 +81,7 @@ all_count : (keys : List (List ℕ)) (seen : Seen) (entries : List Entry) → ((
 all_count keys seen entries none =
     ap (λ (kept : List Entry). sum_by points_of kept)
     (filter_agree (counts (is_among keys) seen) (λ (entry : Entry). is_among keys entry.key)
-    (λ entry. ap (λ b. is_among keys entry.key && not b) (none entry.key entry.number) ∙ go (is_among keys entry.key)) (firsts entries))
-  where
-    go : (b : Bool) → (b && true) ≡ b
-    go true = refl
-    go false = refl
+    (λ entry. let new = none entry.key entry.number in grind arith) (firsts entries))
 
 -- what bookings were charged is what they cost and what came back
 cost_and_refund : (bookings : List Booking) → All IsBooking bookings → sum_by (λ (b : Booking). b.charge) bookings
@@ -96,40 +89,16 @@ cost_and_refund : (bookings : List Booking) → All IsBooking bookings → sum_b
 cost_and_refund [] h = refl
 cost_and_refund (b ∷ bookings) h =
     let row = (All-head IsBooking b bookings h).refund in
-    let rest = cost_and_refund bookings (All-tail IsBooking b bookings h) in
-    let charges = sum_by-cons (λ (x : Booking). x.charge) b bookings in
-    let costs = sum_by-cons cost_of b bookings in
-    let refunds = sum_by-cons (λ (x : Booking). x.refund) b bookings in
-    omega arith
+    omega (
+      arith,
+      cost_and_refund bookings (All-tail IsBooking b bookings h),
+      sum_by-cons (λ (x : Booking). x.charge) b bookings,
+      sum_by-cons cost_of b bookings,
+      sum_by-cons (λ (x : Booking). x.refund) b bookings,
+    )
 
 pub sound_empty : IsSound empty_club
-sound_empty = record {
-  rows = record {
-    members = λ k d h. absurd (omega arith);
-    facilities = λ k d h. absurd (omega arith);
-    keys = λ k d h. absurd (omega arith);
-    bookings =
-        λ k d h. absurd (omega arith);
-    closed = λ k d h. absurd (omega arith);
-  };
-  unique = record {
-    members = λ i j d l h. absurd (omega arith);
-    facilities = λ i j d l h. absurd (omega arith);
-    keys =
-        λ i j d l h. absurd (omega arith);
-    bookings = λ i j d l h. absurd (omega arith);
-    closed = λ i j d l h. absurd (omega arith);
-  };
-  references = record {
-    keys = λ k d h. absurd (omega arith);
-    bookings = λ k d h. absurd (omega arith);
-    facilities = λ k d h. absurd (omega arith);
-    closed =
-        λ k d h. absurd (omega arith);
-  };
-  balances = λ k d h. absurd (omega arith);
-  places = λ k d h. absurd (omega arith);
-}
+sound_empty = search arith
 
 pub conserved : (events : List Event) (name : List ℕ) (member : Member) → All IsEvent events → member_named name (club_after empty_club events) ≡ Some member
     → IsConserved (club_after empty_club events) events (replies_of empty_club events) member

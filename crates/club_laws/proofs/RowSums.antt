@@ -1,5 +1,5 @@
 -- Sums over the elements that a test keeps.
-use Rattle.std.proofs.Common.{◌≡◌, ℕ, ◌+◌, ◌≤◌, Bool, true, false, cond, List, [], ◌∷◌, map, refl, sym, ap, ◌∙◌, arith}
+use Rattle.std.proofs.Common.{◌≡◌, ℕ, ◌+◌, ◌≤◌, Bool, cond, List, [], ◌∷◌, map, refl, ap, arith}
 use Rattle.std.specs.Prelude.{All, filter, not, sum_by}
 use Rattle.std.proofs.lemmas.List.Elements.{All-head, All-tail}
 use Rattle.std.proofs.lemmas.List.Filters.{sum_by-filter_both}
@@ -8,19 +8,12 @@ use Rattle.club_laws.proofs.Filtering.{filters_swap}
 
 pub sum-filter : {X : Type 0} (f : X → ℕ) (p : X → Bool) (xs : List X) → sum_by f (filter p xs) ≡ sum_by (λ x. cond (p x) (f x) 0) xs
 sum-filter f p [] = refl
-sum-filter {X} f p (x ∷ xs) = go (p x) refl (sum-filter f p xs)
-  where
-    g : X → ℕ
-    g y = cond (p y) (f y) 0
-
-    go : (b : Bool) → p x ≡ b → sum_by f (filter p xs) ≡ sum_by (λ y. cond (p y) (f y) 0) xs
-        → sum_by f (cond b (x ∷ filter p xs) (filter p xs)) ≡ sum_by (λ y. cond (p y) (f y) 0) (x ∷ xs)
-    go true e rest = sum_by-cons f x (filter p xs) ∙ (rw (sum_by-cons (λ y. cond (p y) (f y) 0) x xs, e) (ap (λ n. f x + n) rest))
-    go false e rest = rw (sum_by-cons (λ y. cond (p y) (f y) 0) x xs, e) (omega arith)
+sum-filter f p (x ∷ xs) =
+    grind (arith, sum-filter f p xs, sum_by-cons f x xs, sum_by-cons f x (filter p xs), sum_by-cons (λ y. cond (p y) (f y) 0) x xs)
 
 pub sum-map : {X Y : Type 0} (f : X → Y) (g : Y → ℕ) (xs : List X) → sum_by g (map f xs) ≡ sum_by (λ x. g (f x)) xs
 sum-map f g [] = refl
-sum-map f g (x ∷ xs) = sum_by-cons g (f x) (map f xs) ∙ (ap (λ n. g (f x) + n) (sum-map f g xs) ∙ sym (sum_by-cons (λ y. g (f y)) x xs))
+sum-map f g (x ∷ xs) = grind (arith, sum-map f g xs, sum_by-cons g (f x) (map f xs), sum_by-cons (λ y. g (f y)) x xs)
 
 pub sum_same : {X : Type 0} (f g : X → ℕ) (xs : List X) → All (λ x. f x ≡ g x) xs → sum_by f xs ≡ sum_by g xs
 sum_same f g [] h = refl
@@ -35,6 +28,13 @@ sum_less f g (x ∷ xs) h =
     let rest = sum_less f g xs (All-tail (λ y. f y ≤ g y) x xs h) in
     let here = All-head (λ y. f y ≤ g y) x xs h in
     rw (sum_by-cons f x xs, sum_by-cons g x xs) (omega arith)
+
+-- an edit by which no element counts more
+pub sum_no_more : {X : Type 0} (f : X → ℕ) (p : X → Bool) (edit : X → X) (xs : List X)
+    → All (λ x. cond (p (edit x)) (f (edit x)) 0 ≤ cond (p x) (f x) 0) xs → sum_by f (filter p (map edit xs)) ≤ sum_by f (filter p xs)
+sum_no_more {X} f p edit xs h =
+    let part : X → ℕ = λ x. cond (p x) (f x) 0 in
+    omega (arith, sum-filter f p (map edit xs), sum-map edit part xs, sum-filter f p xs, sum_less (λ x. part (edit x)) part xs h)
 
 -- a sum in two parts
 pub sum_in_parts : {X : Type 0} (f : X → ℕ) (q p : X → Bool) (xs : List X)

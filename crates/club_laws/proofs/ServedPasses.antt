@@ -1,42 +1,27 @@
 -- What a served request shows of its pass.
-use Rattle.std.proofs.Common.{◌≡◌, ℕ, ◌+◌, Bool, true, false, not, cond, List, [], ◌∷◌, ◌++◌, Option, Some, None, Result, Ok, Err, option_map, option_and_then}
+use Rattle.std.proofs.Common.{◌≡◌, ℕ, ◌+◌, true, false, List, [], ◌∷◌, ◌++◌, Option, Some, None, Result, Ok, Err, option_map, option_and_then, arith}
 use Rattle.std.proofs.Common.{All, refl, sym, ap, ◌∙◌, subst}
-use Rattle.std.proofs.lemmas.Bool.{not-false, false_from_ne_true}
+use Rattle.std.proofs.lemmas.Bool.{false_from_ne_true}
 use Rattle.std.proofs.lemmas.Option.{same_Some}
 use Rattle.std.proofs.lemmas.List.Elements.{All-nil, All-cons, All-head, All-tail}
 use Rattle.pass_caveats.specs.declared.ask.Ask.{Ask}
 use Rattle.pass_caveats.specs.declared.caveat.Caveat.{Caveat}
-use Rattle.pass_caveats.specs.declared.fault.CaveatFault.{CaveatFault}
-use Rattle.pass_caveats.specs.declared.fault.CaveatFault.TheVariants.{NotUnderstood, Denied}
-use Rattle.pass_caveats.specs.Tests.{permits}
 use Rattle.pass_caveats.specs.Fault.{first_fault_from, first_fault_of}
 use Rattle.pass_caveats.specs.Laws.{TestsTheSet}
 use Rattle.club_core.specs.Laws.{TestsTheSignature}
 use Rattle.club_core.specs.declared.view.View.{View}
 use Rattle.club_rows.specs.declared.key.Key.{Key}
-use Rattle.club_core.specs.declared.refusal.Refusal.{Refusal}
 use Rattle.club_core.specs.declared.refusal.Refusal.TheVariants.{NotVerified, KeyRevoked, CaveatNotUnderstood, CaveatDenies}
 use Rattle.club_core.specs.declared.request.Request.{Request}
-use Rattle.club_core.specs.declared.verdict.Verdict.{Verdict}
 use Rattle.club_core.specs.declared.pass_fault.PassFault.{PassFault}
 use Rattle.club_core.specs.Pass.{Pass, Words, IsSignedUnder, is_signed_under}
 use Rattle.club_core.specs.Club.{Club, key_named}
 use Rattle.club_core.specs.Basis.{Basis, basis_of, basis_under, key_of, view_of}
-use Rattle.club_core.specs.Answer.{answer_to, ask_of, after_caveats, form_refusal, verdict_in}
+use Rattle.club_core.specs.Answer.{answer_to, ask_of, form_refusal, verdict_in}
 use Rattle.club_core.specs.Verdict.{refusal_verdict, verdict_of}
 use Rattle.club_core.specs.Acceptance.{IsServed, IsAllowedBy, IsAcceptedPass, IsEntitled}
 use Rattle.club_laws.specs.SingleRequest.{blind_refusal, words_with}
 use Rattle.club_laws.proofs.BasisRows.{rests_on_name}
-
-served_line : (fits : Bool) (refusal : Refusal) (rest : Verdict) → IsServed (cond fits (refusal_verdict refusal) rest).reply → (fits ≡ false)
-    × IsServed rest.reply
-served_line true refusal rest h = absurd (h refusal refl)
-served_line false refusal rest h = (refl, h)
-
-served_caveats : (fault : Option CaveatFault) (rest : Verdict) → IsServed (after_caveats fault rest).reply → fault ≡ None
-served_caveats None rest h = refl
-served_caveats (Some (NotUnderstood n)) rest h = absurd (h (CaveatNotUnderstood n) refl)
-served_caveats (Some (Denied n)) rest h = absurd (h (CaveatDenies n) refl)
 
 -- the pass passes the tests of the answer
 pub record PassesTests (pass : Pass) (request : Request) (moment : ℕ) (view : View) : Type 0 where
@@ -48,35 +33,22 @@ pub record PassesTests (pass : Pass) (request : Request) (moment : ℕ) (view : 
 served_under : (pass : Pass) (request : Request) (moment : ℕ) (view : View) → IsServed (answer_to (Ok pass) request moment (Some view)).reply
     → PassesTests pass request moment view
 served_under pass request moment view h =
-    let signed = is_signed_under pass view.key moment in
-    let fault = first_fault_of pass.caveats (ask_of view request moment) in
-    let decided = after_caveats fault (verdict_of view request moment) in
-    let one = served_line (not signed) NotVerified (cond view.key.revoked (refusal_verdict KeyRevoked) decided) h in
-    let two = served_line view.key.revoked KeyRevoked decided one.1 in
-    record { signed = not-false signed one.0; not_revoked = two.0; faultless = served_caveats fault (verdict_of view request moment) two.1 }
+    let verified = h NotVerified in
+    let current = h KeyRevoked in
+    let understood = λ (n : ℕ). h (CaveatNotUnderstood n) in
+    let permitted = λ (n : ℕ). h (CaveatDenies n) in
+    grind arith
 
 -- and what passes them, the decision answers
 passing_under : (pass : Pass) (request : Request) (moment : ℕ) (view : View) → PassesTests pass request moment view
     → answer_to (Ok pass) request moment (Some view) ≡ verdict_of view request moment
-passing_under pass request moment view h =
-    let verdict = verdict_of view request moment in
-    let lines : Bool → Bool → Option CaveatFault → Verdict =
-    λ signed revoked fault. cond (not signed) (refusal_verdict NotVerified) (cond revoked (refusal_verdict KeyRevoked) (after_caveats fault verdict))
-    in
-    ap (λ (b : Bool). lines b view.key.revoked (first_fault_of pass.caveats (ask_of view request moment))) h.signed
-    ∙ (ap (λ (b : Bool). lines true b (first_fault_of pass.caveats (ask_of view request moment))) h.not_revoked
-    ∙ ap (λ (fault : Option CaveatFault). lines true false fault) h.faultless)
-
-permitted_first : (b : Bool) (rest : Option CaveatFault) (n : ℕ) → cond b rest (Some (Denied n)) ≡ None → (b ≡ true) × (rest ≡ None)
-permitted_first true rest n e = (refl, e)
-permitted_first false rest n e = absurd (cc)
+passing_under pass request moment view h = grind arith
 
 pub all_allowed : TestsTheSet → (n : ℕ) (caveats : List (Option Caveat)) (ask : Ask) → first_fault_from n caveats ask ≡ None → All (IsAllowedBy ask) caveats
 all_allowed tests n [] ask e = All-nil (IsAllowedBy ask)
 all_allowed tests n (None ∷ caveats) ask e = absurd (cc)
 all_allowed tests n (Some caveat ∷ caveats) ask e =
-    let parts = permitted_first (permits caveat ask) (first_fault_from (n + 1) caveats ask) n e in
-    All-cons (IsAllowedBy ask) (Some caveat) caveats ((tests caveat ask).1 parts.0) (all_allowed tests (n + 1) caveats ask parts.1)
+    All-cons (IsAllowedBy ask) (Some caveat) caveats ((tests caveat ask).1 (grind arith)) (all_allowed tests (n + 1) caveats ask (grind arith))
 
 -- and a list whose caveats all allow the request has no fault
 none_at_fault : TestsTheSet → (n : ℕ) (caveats : List (Option Caveat)) (ask : Ask) → All (IsAllowedBy ask) caveats → first_fault_from n caveats ask ≡ None
@@ -84,8 +56,7 @@ none_at_fault tests n [] ask h = refl
 none_at_fault tests n (None ∷ caveats) ask h = absurd (All-head (IsAllowedBy ask) None caveats h)
 none_at_fault tests n (Some caveat ∷ caveats) ask h =
     let permitted = (tests caveat ask).0 (All-head (IsAllowedBy ask) (Some caveat) caveats h) in
-    let rest = none_at_fault tests (n + 1) caveats ask (All-tail (IsAllowedBy ask) (Some caveat) caveats h) in
-    ap (λ (b : Bool). cond b (first_fault_from (n + 1) caveats ask) (Some (Denied n))) permitted ∙ rest
+    rw permitted (none_at_fault tests (n + 1) caveats ask (All-tail (IsAllowedBy ask) (Some caveat) caveats h))
 
 -- what is accepted, the decision answers
 pub accepted_under : TestsTheSet → TestsTheSignature → (pass : Pass) (request : Request) (moment : ℕ) (view : View)
@@ -102,10 +73,7 @@ pub faultless_front : (n : ℕ) (caveats more : List (Option Caveat)) (ask : Ask
     → first_fault_from n caveats ask ≡ None
 faultless_front n [] more ask e = refl
 faultless_front n (None ∷ caveats) more ask e = absurd (cc)
-faultless_front n (Some caveat ∷ caveats) more ask e =
-    let parts = permitted_first (permits caveat ask) (first_fault_from (n + 1) (caveats ++ more) ask) n e in
-    let rest = faultless_front (n + 1) caveats more ask parts.1 in
-    ap (λ (b : Bool). cond b (first_fault_from (n + 1) caveats ask) (Some (Denied n))) parts.0 ∙ rest
+faultless_front n (Some caveat ∷ caveats) more ask e = grind (arith, faultless_front (n + 1) caveats more ask)
 
 -- so what is served is entitled
 pub served_entitled : TestsTheSet → TestsTheSignature → (words : Words) (moment : ℕ) (club : Club) (pass : Result Pass PassFault) (basis : Option Basis)
@@ -137,12 +105,7 @@ refused_blind (Ok pass) request moment = refl
 refused_unsigned : (pass : Pass) (request : Request) (moment : ℕ) (view : Option View)
     → ((v : View) → view ≡ Some v → is_signed_under pass v.key moment ≡ false) → answer_to (Ok pass) request moment view ≡ refusal_verdict NotVerified
 refused_unsigned pass request moment None unsigned = refl
-refused_unsigned pass request moment (Some view) unsigned =
-    let lines : Bool → Verdict =
-    λ signed. cond (not signed) (refusal_verdict NotVerified) (cond view.key.revoked (refusal_verdict KeyRevoked)
-    (after_caveats (first_fault_of pass.caveats (ask_of view request moment)) (verdict_of view request moment)))
-    in
-    ap lines (unsigned view refl)
+refused_unsigned pass request moment (Some view) unsigned = let e = unsigned view refl in grind arith
 
 -- the key of the view is the one that the pass names
 seen_key : (club : Club) (words : Words) (moment : ℕ) (key : Key) → key_of words.pass ≡ Some key.name → key_named key.name club ≡ Some key
@@ -151,9 +114,8 @@ seen_key : (club : Club) (words : Words) (moment : ℕ) (key : Key) → key_of w
 seen_key club words moment key n row None e view is = absurd (cc)
 seen_key club words moment key n row (Some basis) e view is =
     let rests = rests_on_name club words basis e in
-    let named : key.name ≡ basis.key.name = same_Some key.name basis.key.name (sym n ∙ rests.key_name) in
-    let found : Some key ≡ Some basis.key = sym row ∙ (ap (λ (name : List ℕ). key_named name club) named ∙ rests.row) in
-    same_Some key basis.key found ∙ ap (λ (v : View). v.key) (same_Some (view_of basis words.request moment) view is)
+    let named = same_Some key.name basis.key.name (sym n ∙ rests.key_name) in
+    same_Some key basis.key (sym row ∙ rw named rests.row) ∙ ap (λ (v : View). v.key) (same_Some (view_of basis words.request moment) view is)
 
 pub unsigned_in : TestsTheSignature → (words : Words) (moment : ℕ) (club : Club) (pass : Pass) (key : Key) → words.pass ≡ Ok pass → pass.key ≡ Some key.name
     → key_named key.name club ≡ Some key → ¬ IsSignedUnder pass key moment → verdict_in club words moment ≡ refusal_verdict NotVerified
