@@ -1,6 +1,5 @@
 -- What a basis is made of.
-use Rattle.std.proofs.Common.{◌≡◌, ℕ, List, Option, Some, None, option_map, option_and_then, bytes_eq, refl, sym, ap, ◌∙◌, subst}
-use Rattle.std.proofs.lemmas.Option.{same_Some}
+use Rattle.std.proofs.Common.{◌≡◌, ℕ, List, Option, Some, None, option_map, option_and_then, bytes_eq, refl, sym, subst, arith}
 use Rattle.club_rows.specs.declared.key.Key.{Key}
 use Rattle.club_rows.specs.declared.member.Member.{Member}
 use Rattle.club_core.specs.declared.request.Request.{Request}
@@ -27,29 +26,18 @@ pub record RestsOn (club : Club) (request : Request) (name : Option (List ℕ)) 
   pub member : member_named basis.key.member club ≡ Some basis.member
   pub whole : basis ≡ basis_with club request basis.key basis.member
 
-with_member : (club : Club) (request : Request) (key : Key) (member : Option Member) (basis : Basis)
-    → option_map (basis_with club request key) member ≡ Some basis → (key ≡ basis.key) × (member ≡ Some basis.member)
-    × (basis ≡ basis_with club request basis.key basis.member)
-with_member club request key None basis e = absurd (cc)
-with_member club request key (Some member) basis e =
-    let s : basis_with club request key member ≡ basis = same_Some (basis_with club request key member) basis e in
-    let k : key ≡ basis.key = ap (λ (b : Basis). b.key) s in
-    let m : member ≡ basis.member = ap (λ (b : Basis). b.member) s in
-    (k, ap Some m, sym s ∙ (ap (λ (x : Key). basis_with club request x member) k ∙ ap (λ (x : Member). basis_with club request basis.key x) m))
+with_row : (club : Club) (request : Request) (key : Key) (member : Option Member) (basis : Basis) → key_named key.name club ≡ Some key
+    → member_named key.member club ≡ member → option_map (basis_with club request key) member ≡ Some basis
+    → RestsOn club request (Some key.name) basis
+with_row club request key member basis row owned e = grind arith
 
 with_key : (club : Club) (request : Request) (name : List ℕ) (key : Option Key) (basis : Basis) → key_named name club ≡ key
     → option_and_then (basis_under club request) key ≡ Some basis → RestsOn club request (Some name) basis
 with_key club request name None basis f e = absurd (cc)
 with_key club request name (Some key) basis f e =
-    let parts = with_member club request key (member_named key.member club) basis e in
     let same : key.name ≡ name = bytes_same key.name name (found_passes (λ (k : Key). bytes_eq k.name name) club.keys key f) in
-    let at : name ≡ basis.key.name = sym same ∙ ap (λ (k : Key). k.name) parts.0 in
-    record {
-      key_name = ap Some at;
-      row = subst (λ (n : List ℕ). key_named n club ≡ Some basis.key) at (f ∙ ap Some parts.0);
-      member = subst (λ (k : Key). member_named k.member club ≡ Some basis.member) parts.0 parts.1;
-      whole = parts.2;
-    }
+    let row = subst (λ (n : List ℕ). key_named n club ≡ Some key) (sym same) f in
+    subst (λ (n : List ℕ). RestsOn club request (Some n) basis) same (with_row club request key (member_named key.member club) basis row refl e)
 
 with_name : (club : Club) (request : Request) (name : Option (List ℕ)) (basis : Basis)
     → option_and_then (basis_under club request) (option_and_then (λ (n : List ℕ). key_named n club) name) ≡ Some basis → RestsOn club request name basis
@@ -60,6 +48,4 @@ pub rests_on_name : (club : Club) (words : Words) (basis : Basis) → basis_of c
 rests_on_name club words basis e = with_name club words.request (key_of words.pass) basis e
 
 pub known_rows : (club : Club) (words : Words) (basis : Basis) → basis_of club words ≡ Some basis → Knows club words basis.key basis.member
-known_rows club words basis e =
-    let rests = rests_on_name club words basis e in
-    record { key_name = rests.key_name; known = rests.row; owned = rests.member }
+known_rows club words basis e = let rests = rests_on_name club words basis e in record { key_name = rests.key_name; known = rests.row; owned = rests.member }

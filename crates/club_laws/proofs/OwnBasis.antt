@@ -1,5 +1,5 @@
 -- A request of the member's is answered by the member's part and what others hold.
-use Rattle.std.proofs.Common.{◌≡◌, ℕ, ◌+◌, Bool, List, filter, Option, Some, None, option_map, option_and_then, refl, sym, ap, ◌∙◌}
+use Rattle.std.proofs.Common.{◌≡◌, ℕ, ◌+◌, Bool, List, Option, Some, None, option_map, option_and_then, refl, sym, ap, ◌∙◌}
 use Rattle.club_values.specs.declared.slot.Slot.{Slot}
 use Rattle.club_rows.specs.declared.member.Member.{Member}
 use Rattle.club_rows.specs.declared.facility.Facility.{Facility}
@@ -10,7 +10,7 @@ use Rattle.club_rows.specs.Booking.{persons_of}
 use Rattle.club_core.specs.Sums.{is_in}
 use Rattle.club_core.specs.Request.{request_slot}
 use Rattle.club_core.specs.Pass.{Words}
-use Rattle.club_core.specs.Club.{Club, key_named, member_named, facility_named, keys_of, is_key_of, bookings_of, is_closed}
+use Rattle.club_core.specs.Club.{Club, key_named, member_named, keys_of, is_key_of, bookings_of}
 use Rattle.club_core.specs.Basis.{Basis, SlotState, basis_of, basis_under, state_of, key_of}
 use Rattle.club_core.specs.declared.slot_use.SlotUse.{SlotUse}
 use Rattle.club_core.specs.Solo.{outside, part_of, with_others}
@@ -31,25 +31,18 @@ basis_of_rows key member bookings state = record { key = key; member = member; b
 
 -- the bookings of the part are those of the member
 own_bookings : (name : List ℕ) (club : Club) → bookings_of name (part_of name club) ≡ bookings_of name club
-own_bookings name club =
-    ap (λ (keys : List Key). filter (is_under_one keys) (bookings_of name club)) (filter_twice (is_owned name) club.keys)
-    ∙ filter_twice (is_under_one (keys_of name club)) club.bookings
+own_bookings name club = rw (filter_twice (is_owned name) club.keys) (filter_twice (is_under_one (keys_of name club)) club.bookings)
 
 -- the state of a slot is that in the part, with what others hold
 own_state : (name : List ℕ) (club : Club) (slot : Option Slot) → with_outside (outside name club slot) (state_of (part_of name club) slot) ≡ state_of club slot
 own_state name club None = refl
-own_state name club (Some slot) =
-    ap (λ (taken : ℕ). state_with (facility_named slot.facility club) taken (is_closed slot club))
-    (sym (sum_in_parts persons_of (is_in slot) (λ (booking : Booking). is_key_of name club booking.key) club.bookings))
+own_state name club (Some slot) = rw (sum_in_parts persons_of (is_in slot) (λ (booking : Booking). is_key_of name club booking.key) club.bookings)
 
 -- the basis in the part, with what others hold, is the basis in the club
 own_basis_with : (club : Club) (request : Request) (key : Key) (member : Member)
     → with_others (outside member.name club (request_slot request)) (basis_with (part_of member.name club) request key member)
     ≡ basis_with club request key member
-own_basis_with club request key member =
-    ap (λ (bookings : List Booking). basis_of_rows key member bookings (with_outside (outside member.name club (request_slot request))
-    (state_of (part_of member.name club) (request_slot request)))) (own_bookings member.name club)
-    ∙ ap (λ (state : SlotState). basis_of_rows key member (bookings_of member.name club) state) (own_state member.name club (request_slot request))
+own_basis_with club request key member = rw (own_bookings member.name club, own_state member.name club (request_slot request))
 
 -- the rows of a member's key are in the member's part
 rests_in_part : (club : Club) (request : Request) (name : Option (List ℕ)) (basis : Basis) → RestsOn club request name basis

@@ -1,5 +1,9 @@
 -- Charges, refunds and places over a run from the empty club.
-use Rattle.std.proofs.Common.{◌≡◌, ℕ, ◌+◌, ◌≤◌, Bool, false, List, [], ◌∷◌, Option, Some, None, Ok, refl, sym, ap, ◌∙◌, arith}
+use Rattle.std.proofs.Common.{◌≡◌, ℕ, ◌+◌, ◌≤◌, Bool, false, List, [], ◌∷◌, Option, Some, None, Ok, refl, sym, ap, ◌∙◌, arith, flat_map}
+use Rattle.club_core.specs.declared.command.OfficeAnswer.TheVariants.{NotDone}
+use Rattle.club_core.specs.After.{after}
+use Rattle.club_core.specs.Pass.{Words}
+use Rattle.club_core.specs.declared.command.OfficeAnswer.{OfficeAnswer}
 use Rattle.std.specs.Prelude.{Result, All, filter, sum_by, MatchOption}
 use Rattle.std.specs.Str.{bytes_eq}
 use Rattle.std.proofs.lemmas.List.Elements.{All-head, All-tail, All-filter, filter_agree}
@@ -14,8 +18,7 @@ use Rattle.club_core.specs.declared.command.OfficeFault.{OfficeFault}
 use Rattle.club_rows.specs.Rows.{IsBooking}
 use Rattle.club_core.specs.Club.{Club, empty_club, member_named, facility_named, is_key_of, bookings_of, IsSound}
 use Rattle.club_core.specs.Sums.{cost_of, taken_in}
-use Rattle.club_core.specs.Office.{office_verdict}
-use Rattle.club_core.specs.Run.{Event, Asked, Ordered, step, order_outcome, replies_of, club_after}
+use Rattle.club_core.specs.Run.{Event, Asked, Ordered, step, order_outcome, replies_of, club_after, EventReply, Outcome, ToOffice, done_answer}
 use Rattle.club_core.specs.Events.{IsEvent}
 use Rattle.club_laws.specs.Points.{Entry, charge_of_reply, charges_of_replies, refund_of_reply, refunds_of_replies, keys_given, credits_accepted, total_under}
 use Rattle.club_laws.specs.Points.{firsts}
@@ -25,55 +28,40 @@ use Rattle.club_laws.proofs.NamedRows.{named, none_named}
 use Rattle.club_laws.proofs.OrderCases.{OrderRestsOn, change_of, order_cases}
 use Rattle.club_laws.proofs.SoundOffice.{nobody_in}
 use Rattle.club_laws.proofs.SoundSteps.{sound_step, sound_run}
-use Rattle.club_laws.proofs.FirstEntries.{Seen, Stays, unseen_total, counts, points_of, moved}
-use Rattle.club_laws.proofs.ChargeMoves.{charged, has_number, MovesCharge, charge_moves}
-use Rattle.club_laws.proofs.RefundMoves.{refunded, has_cancelled, MovesRefund, refund_moves}
+use Rattle.club_laws.proofs.FirstEntries.{Seen, Stays, unseen_total, counts, points_of, moved, Moves}
+use Rattle.club_laws.proofs.ChargeMoves.{charged, has_number, charge_moves}
+use Rattle.club_laws.proofs.RefundMoves.{refunded, has_cancelled, refund_moves}
 use Rattle.club_laws.proofs.MemberAccounts.{is_among, keys_of_run, credit_of, credit_of_run}
 
--- orders of the office don't change the bookings, and their answers have no points
-pub record KeepsPoints (club : Club) (command : Command) (verdict : Result Change OfficeFault) : Type 0 where
-  pub bookings : (order_outcome club command verdict).club.bookings ≡ club.bookings
-  pub no_charge : charge_of_reply (order_outcome club command verdict).reply ≡ []
-  pub no_refund : refund_of_reply (order_outcome club command verdict).reply ≡ []
+-- a step moves a total of the bookings by the entries in its reply
+abbrev MovesTo : (List ℕ → Bool) → (List Booking → ℕ) → (List Booking → Seen) → (EventReply → List Entry) → Club → Outcome → Type 0
+MovesTo p total seen entries_of club next =
+    Moves p (total club.bookings) (total next.club.bookings) (seen club.bookings) (seen next.club.bookings) (entries_of next.reply)
 
-order_keeps : (club : Club) (command : Command) → KeepsPoints club command (office_verdict club command)
-order_keeps club command = order_cases (KeepsPoints club command) club (λ fault. assumption) command (done command)
-  where
-    done : (c : Command) (r : OrderRestsOn club c) → KeepsPoints club c (Ok (change_of club c r))
-    done c r = grind arith
+-- answers to the office have no entry, and orders don't change the bookings: so a total that requests move grows over a run by the first entry of each
+-- booking that was not on record
+module _ (p : List ℕ → Bool) (total : List Booking → ℕ) (seen : List Booking → Seen) (entries_of : EventReply → List Entry)
+    (no_entry : (answer : OfficeAnswer) → entries_of (ToOffice answer) ≡ []) (asked : (club : Club) (words : Words) (moment : ℕ) → IsSound club
+    → MovesTo p total seen entries_of club (step club (Asked words moment))) where
+  step_moves : (club : Club) (event : Event) → IsSound club → MovesTo p total seen entries_of club (step club event)
+  step_moves club (Asked words moment) s = asked club words moment s
+  step_moves club (Ordered command) s =
+      order_cases (λ (v : Result Change OfficeFault). MovesTo p total seen entries_of club (order_outcome club command v)) club
+      (λ fault. Stays (no_entry (NotDone fault)) refl (λ key number. refl)) command (done command)
+    where
+      done : (c : Command) (r : OrderRestsOn club c) → MovesTo p total seen entries_of club (order_outcome club c (Ok (change_of club c r)))
+      done c r =
+          let kept : (after (change_of club c r) club).bookings ≡ club.bookings = grind arith in
+          Stays (no_entry (done_answer c)) (ap total kept) (λ key number. rw kept)
 
-module _ (p : List ℕ → Bool) where
-  step_charges : (club : Club) (event : Event) → MovesCharge p club.bookings (step club event).club.bookings (step club event).reply
-  step_charges club (Asked words moment) = charge_moves p club words moment
-  step_charges club (Ordered command) =
-      let k = order_keeps club command in
-      Stays k.no_charge (ap (charged p) k.bookings) (λ key number. rw k.bookings)
-
-  step_refunds : (club : Club) (event : Event) → IsSound club → MovesRefund p club.bookings (step club event).club.bookings (step club event).reply
-  step_refunds club (Asked words moment) s = refund_moves p club words moment s
-  step_refunds club (Ordered command) s =
-      let k = order_keeps club command in
-      Stays k.no_refund (ap (refunded p) k.bookings) (λ key number. rw k.bookings)
-
-  -- over a run, the sum of charges grows by the first charge of each booking that was not on record
-  run_charges : (club : Club) (events : List Event) → charged p (club_after club events).bookings
-      ≡ charged p club.bookings + unseen_total p (has_number club.bookings) (charges_of_replies (replies_of club events))
-  run_charges club [] = omega arith
-  run_charges club (event ∷ events) =
+  run_moves : (club : Club) (events : List Event) → IsSound club → All IsEvent events → total (club_after club events).bookings
+      ≡ total club.bookings + unseen_total p (seen club.bookings) (flat_map entries_of (replies_of club events))
+  run_moves club [] s h = omega arith
+  run_moves club (event ∷ events) s h =
       let next = step club event in
-      moved p (charged p club.bookings) (charged p next.club.bookings) (has_number club.bookings) (has_number next.club.bookings) (charge_of_reply next.reply)
-      (charges_of_replies (replies_of next.club events)) (charged p (club_after next.club events).bookings)
-      (step_charges club event) (run_charges next.club events)
-
-  run_refunds : (club : Club) (events : List Event) → IsSound club → All IsEvent events
-      → refunded p (club_after club events).bookings ≡ refunded p club.bookings + unseen_total p (has_cancelled club.bookings)
-      (refunds_of_replies (replies_of club events))
-  run_refunds club [] s h = omega arith
-  run_refunds club (event ∷ events) s h =
-      let next = step club event in
-      moved p (refunded p club.bookings) (refunded p next.club.bookings) (has_cancelled club.bookings) (has_cancelled next.club.bookings)
-      (refund_of_reply next.reply) (refunds_of_replies (replies_of next.club events)) (refunded p (club_after next.club events).bookings)
-      (step_refunds club event s) (run_refunds next.club events (sound_step club event s (All-head IsEvent event events h)) (All-tail IsEvent event events h))
+      moved p (total club.bookings) (total next.club.bookings) (seen club.bookings) (seen next.club.bookings) (entries_of next.reply)
+      (flat_map entries_of (replies_of next.club events)) (total (club_after next.club events).bookings) (step_moves club event s)
+      (run_moves next.club events (sound_step club event s (All-head IsEvent event events h)) (All-tail IsEvent event events h))
 
 -- where nothing is on record, all first entries count
 all_count : (keys : List (List ℕ)) (seen : Seen) (entries : List Entry) → ((key : List ℕ) (number : ℕ) → seen key number ≡ false)
@@ -113,9 +101,11 @@ conserved events name member h e =
     let own : bookings_of member.name club ≡ filter (λ (b : Booking). p b.key) club.bookings =
     filter_agree (λ (b : Booking). is_key_of member.name club b.key) (λ (b : Booking). p b.key) (λ b.
     keys_of_run member.name empty_club b.key events) club.bookings in
-    let charges : charged p club.bookings ≡ 0 + unseen_total p (has_number []) (charges_of_replies replies) = run_charges p empty_club events in
+    let charges : charged p club.bookings ≡ 0 + unseen_total p (has_number []) (charges_of_replies replies) =
+    run_moves p (charged p) has_number charge_of_reply (λ answer. refl) (λ c words moment _. charge_moves p c words moment) empty_club events sound_empty h in
     let refunds : refunded p club.bookings
-    ≡ 0 + unseen_total p (has_cancelled []) (refunds_of_replies replies) = run_refunds p empty_club events sound_empty h in
+    ≡ 0 + unseen_total p (has_cancelled []) (refunds_of_replies replies) =
+    run_moves p (refunded p) has_cancelled refund_of_reply (λ answer. refl) (refund_moves p) empty_club events sound_empty h in
     let all_charges = all_count keys (has_number []) (charges_of_replies replies) (λ key number. refl) in
     let all_refunds = all_count keys (has_cancelled []) (refunds_of_replies replies) (λ key number. refl) in
     let parts = cost_and_refund (filter (λ (b : Booking). p b.key) club.bookings)

@@ -1,26 +1,20 @@
 -- What is on record is answered by the record.
-use Rattle.std.proofs.Common.{◌≡◌, ℕ, true, cond, List, ◌∷◌, ◌++◌, Option, Some, None, Ok, refl, sym, ap, ◌∙◌, subst}
-use Rattle.std.specs.Prelude.{Result, ◌&&◌, ◌==◌, not, nat_le, option_map, option_and_then}
-use Rattle.std.proofs.lemmas.Bool.{cond-true, cond-false, not_from_true}
-use Rattle.club_values.specs.Slot.{start_of}
+use Rattle.std.proofs.Common.{◌≡◌, ℕ, List, ◌∷◌, ◌++◌, Option, Some, sym, ap, ◌∙◌, subst, arith}
+use Rattle.std.specs.Prelude.{option_and_then}
 use Rattle.pass_caveats.specs.Laws.{TestsTheSet}
 use Rattle.club_rows.specs.declared.booking.Booking.{Booking}
 use Rattle.club_core.specs.declared.view.View.{View}
-use Rattle.club_core.specs.declared.verdict.Verdict.{Verdict}
-use Rattle.club_core.specs.declared.refusal.Refusal.TheVariants as refusals
 use Rattle.club_core.specs.declared.reply.Reply.{Reply}
 use Rattle.club_core.specs.declared.request.Request.{Request}
 use Rattle.club_core.specs.declared.request.Request.TheVariants as asked
-use Rattle.club_rows.specs.Booking.{same_slot, refund_at}
 use Rattle.club_core.specs.Sums.{booking_under}
 use Rattle.club_core.specs.Request.{request_number}
-use Rattle.club_core.specs.declared.pass_fault.PassFault.{PassFault}
-use Rattle.club_core.specs.Pass.{Pass, Words}
+use Rattle.club_core.specs.Pass.{Words}
 use Rattle.club_core.specs.Club.{Club}
 use Rattle.club_core.specs.Laws.{TestsTheSignature}
 use Rattle.club_core.specs.Basis.{Basis, key_of, basis_of, view_of}
 use Rattle.club_core.specs.Verdict as verdicts
-use Rattle.club_core.specs.Answer.{answer_to, verdict_in}
+use Rattle.club_core.specs.Answer.{verdict_in}
 use Rattle.club_core.specs.Run.{Event, Asked, Outcome, step, verdict_outcome, replies_of, club_after, ToMember}
 use Rattle.club_core.specs.Acceptance.{IsAcceptedIn}
 use Rattle.club_laws.specs.Repeats.{IsBookedOrCancelled, WasServed, MayBeLeftOut}
@@ -31,8 +25,7 @@ use Rattle.club_laws.proofs.KeptByRuns.{club_after-append, replies_of-append}
 use Rattle.club_laws.proofs.OnRecord.{OnRecord, IsRecorded, recorded_when_served, stays_on_record}
 
 same_lookups : {A : Type 0} (f g : ℕ → Option A) → ((n : ℕ) → f n ≡ g n) → (o : Option ℕ) → option_and_then f o ≡ option_and_then g o
-same_lookups f g h None = refl
-same_lookups f g h (Some n) = h n
+same_lookups f g h o = grind (arith, h)
 
 -- the view of an accepted request holds the booking that the club has under the key and the number
 pub seen_booking : (club : Club) (words : Words) (moment : ℕ) (basis : Basis) (key : List ℕ) → basis_of club words ≡ Some basis → key_of words.pass ≡ Some key
@@ -47,44 +40,27 @@ seen_booking club words moment basis key is named =
     ∙ ap (λ (name : List ℕ). booking_under name number club.bookings) same))
     (request_number words.request)
 
-recorded-some : (o : Option Booking) (booking : Booking) (f : Booking → Verdict) (other : Verdict) → o ≡ Some booking
-    → verdicts.recorded_or o f other ≡ f booking
-recorded-some o booking f other e = ap (λ (x : Option Booking). verdicts.recorded_or x f other) e
-
 decides_by_record : (bookings : List Booking) (key : List ℕ) (request : Request) (reply : Reply) (view : View) (moment : ℕ)
     → OnRecord bookings key request reply → view.booking ≡ option_and_then (λ (number : ℕ). booking_under key number bookings) (request_number request)
     → verdicts.verdict_of view request moment ≡ verdicts.reply_only reply
-decides_by_record bookings key (asked.View slot) reply view moment h e = absurd h
 decides_by_record bookings key (asked.Book slot number guests) reply view moment h e =
-    recorded-some view.booking h.booking (λ booking. verdicts.repeat_booking_verdict booking slot guests)
-    (verdicts.new_verdict view slot number guests moment view.facility) (e ∙ h.found)
-    ∙ (cond-true (same_slot h.booking.slot slot && h.booking.guests == guests) (verdicts.booked_before h.booking)
-    (verdicts.refusal_verdict refusals.NumberUsed) h.same
-    ∙ ap verdicts.reply_only (sym h.returned))
+    let found = h.found in
+    let same = h.same in
+    let returned = h.returned in
+    grind arith
 decides_by_record bookings key (asked.Cancel slot number) reply view moment h e =
-    recorded-some view.booking h.booking (λ booking. verdicts.cancel_recorded_verdict booking view.key.member slot moment)
-    (verdicts.unknown_verdict view.facility) (e ∙ h.found)
-    ∙ (cancels_as_recorded h.booking h.same h.before ∙ ap verdicts.reply_only (sym h.returned))
-  where
-    cancels_as_recorded : (booking : Booking) → same_slot booking.slot slot ≡ true → booking.cancelled ≡ true
-        → verdicts.cancel_recorded_verdict booking view.key.member slot moment ≡ verdicts.cancelled_before booking
-    cancels_as_recorded booking same before =
-        let late : Verdict = cond (nat_le (start_of booking.slot) moment) (verdicts.refusal_verdict refusals.SlotHasBegun)
-        (verdicts.cancelled_now booking view.key.member (refund_at booking moment)) in
-        cond-false (not (same_slot booking.slot slot)) (verdicts.refusal_verdict refusals.NumberUsed)
-        (cond booking.cancelled (verdicts.cancelled_before booking) late)
-        (not_from_true (same_slot booking.slot slot) same)
-        ∙ cond-true booking.cancelled (verdicts.cancelled_before booking) late before
-decides_by_record bookings key asked.Account reply view moment h e = absurd h
+    let found = h.found in
+    let same = h.same in
+    let before = h.before in
+    let returned = h.returned in
+    grind arith
+decides_by_record bookings key request reply view moment h e = absurd h
 
 -- an accepted request is answered by the decision
 accepted_answer : TestsTheSet → TestsTheSignature → (club : Club) (words : Words) (moment : ℕ) (a : IsAcceptedIn club words moment)
     → verdict_in club words moment ≡ verdicts.verdict_of (view_of a.basis words.request moment) words.request moment
 accepted_answer set signature club words moment a =
-    let seen : Option Basis → Option View = λ basis. option_map (λ (b : Basis). view_of b words.request moment) basis in
-    ap (λ (pass : Result Pass PassFault). answer_to pass words.request moment (seen (basis_of club words))) a.read
-    ∙ (ap (λ (basis : Option Basis). answer_to (Ok a.pass) words.request moment (seen basis)) a.known
-    ∙ accepted_under set signature a.pass words.request moment (view_of a.basis words.request moment) a.acceptance)
+    rw (a.known, a.read) (accepted_under set signature a.pass words.request moment (view_of a.basis words.request moment) a.acceptance)
 
 step_by_record : TestsTheSet → TestsTheSignature → (club : Club) (words : Words) (moment : ℕ) (reply : Reply) → IsRecorded club.bookings words reply
     → IsAcceptedIn club words moment
