@@ -32,12 +32,6 @@ actions_again actions some = ap actions_from (choice_again (has_action actions) 
 weekdays_again : (set : SomeWeekdays) → weekday_texts set ≢ [] → weekdays_of (comma_list (weekday_texts set)) ≡ set
 weekdays_again set some = ap weekdays_from (choice_again (has_weekday set) weekday_text weekdays weekday_words some)
 
-same_hours : (a b c d : ℕ) → a ≡ c → b ≡ d → Hours a b ≡ Hours c d
-same_hours a b c d e f = rw (e, f)
-
-same_days : (a b c d : ℕ) → a ≡ c → b ≡ d → Days a b ≡ Days c d
-same_days a b c d e f = rw (e, f)
-
 second_day : (a b : ℕ) → IsDay b → day_of (drop 12 (day_text a ++ (codes ".." ++ day_text b))) ≡ b
 unfolding day_text
 second_day a b h = day_of-day_text b [] h
@@ -49,9 +43,8 @@ candidate-caveat_text (Facility names) h = ap Facility (names_again names h)
 candidate-caveat_text (Kind Court) h = refl
 candidate-caveat_text (Kind Boat) h = refl
 candidate-caveat_text (Kind Room) h = refl
-candidate-caveat_text (Hours from until) h = same_hours _ _ from until (two_again from) (two_again until)
-candidate-caveat_text (Days first last) h =
-    same_days _ _ first last (day_of-day_text first (codes ".." ++ day_text last) h.0) (second_day first last h.1)
+candidate-caveat_text (Hours from until) h = rw (two_again from, two_again until)
+candidate-caveat_text (Days first last) h = rw (day_of-day_text first (codes ".." ++ day_text last) h.0, second_day first last h.1)
 candidate-caveat_text (Weekdays set) h = ap Weekdays (weekdays_again set h)
 candidate-caveat_text (Until moment) h = ap Until (moment_of-moment_text moment h)
 candidate-caveat_text (Guests n) h = ap Guests (decimal_is_IsNumeral n (omega arith)).1

@@ -1,5 +1,7 @@
 -- The functions agree with the definitions.
-use Rattle.std.proofs.Common.{◌≡◌, ◌↔◌, ℕ, ◌+◌, Bool, true, false, cond, List, [], ◌∷◌, ◌++◌, length, map, ◌⊎◌, Option, Some, None, inl, inr, refl, sym, ap}
+use Rattle.std.proofs.Common.{◌≡◌, ◌↔◌, ℕ, ◌+◌, Bool, true, false, List, [], ◌∷◌, ◌++◌, length, map, ◌⊎◌, Option, Some, None, inl, inr, refl, sym, ap}
+use Rattle.std.proofs.lemmas.Option.{cond_some}
+use Rattle.std.proofs.lemmas.Bool.{false_from_ne_true, both_ways}
 use Rattle.std.proofs.Common.{subst, ◌∙◌, arith, add-zero}
 use Rattle.std.specs.Option.{option_or}
 use Rattle.std.proofs.lemmas.List.Elements.{All-head, All-tail, All-push, All-nil, All-cons}
@@ -23,36 +25,20 @@ caveat_of-understood text caveat h =
     let e : candidate text ≡ caveat = ap candidate h.line.spelling ∙ candidate-caveat_text caveat h.line.real in
     rw (e, (Decides-spells text caveat).1 h) refl
 
-chosen_is : (text : List ℕ) (found caveat : Caveat) (b : Bool) → (b ≡ true → Understood text found) → cond b (Some found) None ≡ Some caveat →
-    Understood text caveat
-chosen_is text found caveat true h e =
-    let same : found ≡ caveat = cc in
-    let P : Caveat → Type 0 = λ c. Understood text c in
-    subst P same (h refl)
-chosen_is text found caveat false h e = absurd (cc)
-
 pub understood-caveat_of : (text : List ℕ) (caveat : Caveat) → caveat_of text ≡ Some caveat → Understood text caveat
 unfolding caveat_of
 understood-caveat_of text caveat e =
-    chosen_is text (candidate text) caveat (spells text (candidate text)) (Decides-spells text (candidate text)).0 e
-
-none_chosen : (found : Caveat) (b : Bool) → (b ≡ true → ⊥) → cond b (Some found) None ≡ None
-none_chosen found true h = absurd (h refl)
-none_chosen found false h = refl
+    let is = cond_some (spells text (candidate text)) (candidate text) caveat e in
+    subst (Understood text) is.1 ((Decides-spells text (candidate text)).0 is.0)
 
 pub caveat_of-unknown : (text : List ℕ) → IsUnknown text → caveat_of text ≡ None
 unfolding caveat_of
-caveat_of-unknown text h =
-    none_chosen (candidate text) (spells text (candidate text)) (λ e. h (candidate text) ((Decides-spells text (candidate text)).0 e))
+caveat_of-unknown text h = rw (false_from_ne_true (spells text (candidate text)) (λ e. h (candidate text) ((Decides-spells text (candidate text)).0 e)))
 
 -- a parser returns what the function returns
 pub reads_caveat_of : (text : List ℕ) (r : Option Caveat) → Reads (Understood text) r → r ≡ caveat_of text
 reads_caveat_of text (Some caveat) h = sym (caveat_of-understood text caveat h)
 reads_caveat_of text None h = sym (caveat_of-unknown text h)
-
-not_true : (b : Bool) → (b ≡ true → ⊥) → b ≡ false
-not_true true h = absurd (h refl)
-not_true false h = refl
 
 -- caveats that allow the request are passed over
 passed : (n : ℕ) (front rest : List (List ℕ)) (ask : Ask) → Allowed front ask →
@@ -79,7 +65,7 @@ first_fault-is texts ask (Some (NotUnderstood n)) h =
     sym (rw h.place (passed 1 h.front (h.text ∷ h.rest) ask h.before ∙ rw (caveat_of-unknown h.text h.fault, number) refl))
 first_fault-is texts ask (Some (Denied n)) h =
     let number : 1 + length h.front ≡ n = omega (arith, h.number) in
-    let denied = not_true (permits h.fault.0 ask) (λ e. h.fault.2 ((Decides-permits h.fault.0 ask).0 e)) in
+    let denied = false_from_ne_true (permits h.fault.0 ask) (λ e. h.fault.2 ((Decides-permits h.fault.0 ask).0 e)) in
     sym (rw h.place (passed 1 h.front (h.text ∷ h.rest) ask h.before ∙ rw (caveat_of-understood h.text h.fault.0 h.fault.1, denied, number) refl))
 
 -- the caveats as which texts are understood are those that the function returns
@@ -94,8 +80,7 @@ all_caveats_of (text ∷ texts) (caveat ∷ caveats) h =
 verdict_on : (text : List ℕ) (ask : Ask) (caveat : Caveat) (b : Bool) → Understood text caveat → permits caveat ask ≡ b →
     Allows text ask ⊎ (IsUnknown text ⊎ Denies text ask)
 verdict_on text ask caveat true h e = inl (caveat, h, (Decides-permits caveat ask).0 e)
-verdict_on text ask caveat false h e =
-    inr (inr (caveat, h, λ permitted. let t = (Decides-permits caveat ask).1 permitted in cc))
+verdict_on text ask caveat false h e = inr (inr (caveat, h, λ permitted. both_ways (permits caveat ask) e ((Decides-permits caveat ask).1 permitted)))
 
 verdict_by : (text : List ℕ) (ask : Ask) (found : Option Caveat) → caveat_of text ≡ found → Allows text ask ⊎ (IsUnknown text ⊎ Denies text ask)
 verdict_by text ask None e = inr (inl (λ caveat h. let t = caveat_of-understood text caveat h in cc))
@@ -129,11 +114,6 @@ first_fault_of-is_first texts ask =
     let P : Option CaveatFault → Type 0 = λ r. IsFirstFault texts ask r in
     subst P (first_fault-is texts ask found.0 found.1) found.1
 
-fault_by : (b : Bool) (all front last : Option CaveatFault) (fault : CaveatFault) → all ≡ option_or front last →
-    cond b all (Some fault) ≡ option_or (cond b front (Some fault)) last
-fault_by true all front last fault e = e
-fault_by false all front last fault e = refl
-
 -- the first fault of a list with one more caveat
 pub fault_of_one_more : (n : ℕ) (caveats : List (Option Caveat)) (caveat : Option Caveat) (ask : Ask) →
     first_fault_from n (caveats ++ caveat ∷ []) ask ≡ option_or (first_fault_from n caveats ask) (first_fault_from (n + length caveats) (caveat ∷ []) ask)
@@ -141,14 +121,15 @@ fault_of_one_more n [] caveat ask = rw add-zero refl
 fault_of_one_more n (None ∷ caveats) caveat ask = refl
 fault_of_one_more n (Some first ∷ caveats) caveat ask =
     let next : n + 1 + length caveats ≡ n + length (Some first ∷ caveats) = omega arith in
-    fault_by (permits first ask) _ _ _ (Denied n) (rw next at (fault_of_one_more (n + 1) caveats caveat ask))
+    let rest = rw next at (fault_of_one_more (n + 1) caveats caveat ask) in
+    grind arith
 
 -- the fault of one text
 pub fault_at-is : (text : List ℕ) (n : ℕ) (ask : Ask) (r : Option CaveatFault) → IsFaultAt text n ask r → r ≡ first_fault_from n (caveat_of text ∷ []) ask
 fault_at-is text n ask None h = rw (caveat_of-understood text h.0 h.1, (Decides-permits h.0 ask).1 h.2) refl
 fault_at-is text n ask (Some (NotUnderstood m)) h = rw (caveat_of-unknown text h.1, h.0) refl
 fault_at-is text n ask (Some (Denied m)) h =
-    let denied = not_true (permits h.1.0 ask) (λ e. h.1.2 ((Decides-permits h.1.0 ask).0 e)) in
+    let denied = false_from_ne_true (permits h.1.0 ask) (λ e. h.1.2 ((Decides-permits h.1.0 ask).0 e)) in
     rw (caveat_of-understood text h.1.0 h.1.1, denied, h.0) refl
 
 fault_there : (text : List ℕ) (n : ℕ) (ask : Ask) → (r : Option CaveatFault) × IsFaultAt text n ask r

@@ -1,5 +1,6 @@
 -- Some words of a list, in its order: how their text is parsed, word after word.
 use Rattle.std.proofs.Common.{◌≡◌, ◌≢◌, ℕ, ◌<◌, Bool, true, false, cond, List, [], ◌∷◌, ◌++◌, length, map, Option, Some, None, refl, sym, ap, ◌∙◌, arith}
+use Rattle.std.proofs.lemmas.Bool.{cond_both}
 use Rattle.std.proofs.Common.{Decides, Bor}
 use Rattle.std.specs.Prelude.{◌==◌, ◌&&◌, ◌||◌, not, filter, is_some, All}
 use Rattle.std.specs.Option.{option_copied}
@@ -19,16 +20,9 @@ chosen [] words = []
 chosen (flag ∷ flags) [] = []
 chosen (flag ∷ flags) (word ∷ words) = cond flag (word ∷ chosen flags words) (chosen flags words)
 
-with_item : {A : Type 0} (flag : Bool) (text : A → List ℕ) (x : A) (xs : List A) →
-    map text (cond flag (x ∷ xs) xs) ≡ cond flag (text x ∷ map text xs) (map text xs)
-with_item true text x xs = refl
-with_item false text x xs = refl
-
 chosen_is : {A : Type 0} (test : A → Bool) (text : A → List ℕ) (xs : List A) → map text (filter test xs) ≡ chosen (map test xs) (map text xs)
 chosen_is test text [] = refl
-chosen_is test text (x ∷ xs) =
-    with_item (test x) text x (filter test xs)
-    ∙ ap (λ (texts : List (List ℕ)). cond (test x) (text x ∷ texts) texts) (chosen_is test text xs)
+chosen_is test text (x ∷ xs) = grind (arith, chosen_is test text xs)
 
 -- words that differ, and have no comma
 abbrev is_among : List ℕ → List (List ℕ) → Bool
@@ -46,34 +40,10 @@ pub record AreWords {A : Type 0} (text : A → List ℕ) (xs : List A) : Type 0 
   pub distinct : are_distinct (map text xs) ≡ true
   pub plain : are_plain (map text xs) ≡ true
 
-both : (a b : Bool) → (a && b) ≡ true → (a ≡ true) × (b ≡ true)
-both true b e = (refl, e)
-both false b e = absurd (cc)
-
-neither : (a b : Bool) → (a || b) ≡ false → (a ≡ false) × (b ≡ false)
-neither true b e = absurd (cc)
-neither false b e = (refl, e)
-
-denied : (a : Bool) → not a ≡ true → a ≡ false
-denied true e = absurd (cc)
-denied false e = refl
-
-refused : (a : Bool) → a ≡ false → not a ≡ true
-refused true e = absurd (cc)
-refused false e = refl
-
--- a word that isn't among the words isn't the first of them
-next_by : (flag : Bool) (word other : List ℕ) (rest : List (List ℕ)) → bytes_eq other word ≡ false → is_next word rest ≡ false →
-    is_next word (cond flag (other ∷ rest) rest) ≡ false
-next_by true word other rest differs none = differs
-next_by false word other rest differs none = none
-
 not_next : (word : List ℕ) (flags : List Bool) (words : List (List ℕ)) → is_among word words ≡ false → is_next word (chosen flags words) ≡ false
 not_next word [] words none = refl
 not_next word (flag ∷ flags) [] none = refl
-not_next word (flag ∷ flags) (other ∷ others) none =
-    let apart = neither (bytes_eq other word) (is_among word others) none in
-    next_by flag word other (chosen flags others) apart.0 (not_next word flags others apart.1)
+not_next word (flag ∷ flags) (other ∷ others) none = grind (arith, not_next word flags others)
 
 -- what is left after all words
 abbrev left_after : List (List ℕ) → List (List ℕ) → List (List ℕ)
@@ -84,18 +54,11 @@ left_after (word ∷ words) parts = left_after words (after_next word parts)
 found_again : (flags : List Bool) (words : List (List ℕ)) → length flags ≡ length words → are_distinct words ≡ true →
     (words_found words (chosen flags words) ≡ flags) × (left_after words (chosen flags words) ≡ [])
 found_again [] [] same distinct = (refl, refl)
-found_again [] (word ∷ words) same distinct = absurd (omega arith)
-found_again (flag ∷ flags) [] same distinct = absurd (omega arith)
-found_again (true ∷ flags) (word ∷ words) same distinct =
-    let rest = found_again flags words (omega arith) (both (not (is_among word words)) (are_distinct words) distinct).1 in
-    let this : bytes_eq word word ≡ true = (bytes_eq-Decides word word).1 refl in
-    (rw this (ap (λ (found : List Bool). true ∷ found) rest.0), rw this rest.1)
-found_again (false ∷ flags) (word ∷ words) same distinct =
-    let apart = both (not (is_among word words)) (are_distinct words) distinct in
-    let rest = found_again flags words (omega arith) apart.1 in
-    let other = not_next word flags words (denied (is_among word words) apart.0) in
-    let left = all_left word (chosen flags words) other in
-    (rw (other, left) (ap (λ (found : List Bool). false ∷ found) rest.0), rw left rest.1)
+found_again (flag ∷ flags) (word ∷ words) same distinct =
+    let rest = found_again flags words (omega arith) (grind arith) in
+    let other = not_next word flags words (grind arith) in
+    grind (arith, bytes_eq-Decides word word, all_left word (chosen flags words))
+found_again flags words same distinct = absurd (omega arith)
 
 -- the steps of a parser: for each word its flag, and what is left after it
 abbrev pub Steps : List Bool → List (List ℕ) → List (List ℕ) → List (List ℕ) → Type 0
@@ -105,46 +68,34 @@ Steps (flag ∷ flags) [] parts last = ⊥
 Steps (flag ∷ flags) (word ∷ words) parts last =
     (next : List (List ℕ)) × Skips word parts flag next × Steps flags words next last
 
-front_of : (flag : Bool) (word : List ℕ) (front rest : List (List ℕ)) →
-    cond flag (word ∷ (front ++ rest)) (front ++ rest) ≡ cond flag (word ∷ front) front ++ rest
-front_of true word front rest = refl
-front_of false word front rest = refl
-
 steps_take : (flags : List Bool) (words parts last : List (List ℕ)) → Steps flags words parts last → parts ≡ chosen flags words ++ last
 steps_take [] [] parts last e = e
-steps_take [] (word ∷ words) parts last e = absurd e
-steps_take (flag ∷ flags) [] parts last e = absurd e
 steps_take (flag ∷ flags) (word ∷ words) parts last s =
-    skip_takes word parts s.0 flag s.1
-    ∙ (ap (λ (next : List (List ℕ)). cond flag (word ∷ next) next) (steps_take flags words s.0 last s.2) ∙ front_of flag word (chosen flags words) last)
+    grind (arith, skip_takes word parts s.0 flag s.1, steps_take flags words s.0 last s.2)
+steps_take flags words parts last e = absurd e
 
 steps_leave : (flags : List Bool) (words parts last : List (List ℕ)) → Steps flags words parts last → last ≡ left_after words parts
 steps_leave [] [] parts last e = sym e
-steps_leave [] (word ∷ words) parts last e = absurd e
-steps_leave (flag ∷ flags) [] parts last e = absurd e
-steps_leave (flag ∷ flags) (word ∷ words) parts last s =
-    rw (skip_leaves word parts s.0 flag s.1) at (steps_leave flags words s.0 last s.2)
+steps_leave (flag ∷ flags) (word ∷ words) parts last s = rw (skip_leaves word parts s.0 flag s.1) at (steps_leave flags words s.0 last s.2)
+steps_leave flags words parts last e = absurd e
 
 plain_words : (words : List (List ℕ)) → are_plain words ≡ true → All HasNoComma words
 plain_words words e =
-    let byte : (n : ℕ) → Decides (not (n == 44)) ((n == 44) ≡ false) = λ n. (denied (n == 44), refused (n == 44)) in
+    let byte : (n : ℕ) → Decides (not (n == 44)) ((n == 44) ≡ false) = λ n. grind arith in
     let word : (w : List ℕ) → Decides (list_all (λ n. not (n == 44)) w) (HasNoComma w) =
     λ w. Decides-by_and _ _ (list_all (λ n. not (n == 44))) byte refl (λ _ _. refl) w in
     (Decides-by_and _ _ (list_all (list_all (λ n. not (n == 44)))) word refl (λ _ _. refl) words).0 e
 
-chosen_by : (flag : Bool) (word : List ℕ) (rest : List (List ℕ)) → HasNoComma word → All HasNoComma rest → All HasNoComma (cond flag (word ∷ rest) rest)
-chosen_by true word rest h k = All-cons HasNoComma word rest h k
-chosen_by false word rest h k = k
-
 chosen_plain : (flags : List Bool) (words : List (List ℕ)) → All HasNoComma words → All HasNoComma (chosen flags words)
-chosen_plain [] words h = All-nil HasNoComma
-chosen_plain (flag ∷ flags) [] h = All-nil HasNoComma
 chosen_plain (flag ∷ flags) (word ∷ words) h =
-    chosen_by flag word (chosen flags words) (All-head HasNoComma word words h) (chosen_plain flags words (All-tail HasNoComma word words h))
+    let rest = chosen_plain flags words (All-tail HasNoComma word words h) in
+    cond_both flag (word ∷ chosen flags words) (chosen flags words) (All HasNoComma)
+    (λ _. All-cons HasNoComma word (chosen flags words) (All-head HasNoComma word words h) rest) (λ _. rest)
+chosen_plain flags words h = All-nil HasNoComma
 
-some_of : (parts : List (List ℕ)) → parts ≢ [] → 0 < length parts
+pub some_of : {A : Type 0} (xs : List A) → xs ≢ [] → 0 < length xs
 some_of [] h = absurd (h refl)
-some_of (part ∷ parts) h = omega arith
+some_of (x ∷ xs) h = omega arith
 
 -- what is chosen is the list of the parts of its text
 parts_again : (flags : List Bool) (words : List (List ℕ)) → are_plain words ≡ true → chosen flags words ≢ [] →

@@ -1,5 +1,5 @@
 -- The tests decide what they test.
-use Rattle.std.proofs.Common.{IsTrue, ◌↔◌, ◌≡◌, ◌≢◌, ℕ, ◌+◌, ◌<◌, Bool, false, nat_lt, List, [], ◌∷◌, length, Option, Some, None, refl, arith, Decides}
+use Rattle.std.proofs.Common.{IsTrue, ◌↔◌, ◌≡◌, ◌≢◌, ℕ, ◌+◌, Bool, false, nat_lt, List, [], length, Option, Some, None, refl, arith, Decides, ap}
 use Rattle.std.specs.Prelude.{◌&&◌, Contains, IsSomeAnd, is_some}
 use Rattle.std.specs.List.{list_all, list_any}
 use Rattle.std.specs.Option.{option_map_or}
@@ -10,7 +10,6 @@ use Rattle.std.proofs.lemmas.Slice.Eq.{bytes_eq-Decides}
 use Rattle.pass_caveats.specs.declared.caveat.Caveat.{Caveat}
 use Rattle.pass_caveats.specs.declared.caveat.Caveat.TheVariants.{Facility, Kind, Hours, Days, Weekdays, Until, Guests, Spend, Actions}
 use Rattle.club_values.specs.declared.kind.Kind.{Kind as AKind}
-use Rattle.club_values.specs.declared.kind.Kind.TheVariants.{Court, Boat, Room}
 use Rattle.club_values.specs.declared.slot.Slot.{Slot}
 use Rattle.pass_caveats.specs.declared.ask.Ask.{Ask}
 use Rattle.club_values.specs.Name.{IsName}
@@ -22,6 +21,7 @@ use Rattle.pass_caveats.specs.Tests.{is_kind, permits}
 use Rattle.club_values.specs.computed.TextOf.{is_name}
 use Rattle.club_values.proofs.TestLemmas.{Decides-leb, Decides-range, Decides-is_name}
 use Rattle.pass_caveats.specs.computed.CaveatOf.{is_caveat, spells}
+use Rattle.pass_caveats.proofs.ChoiceLemmas.{some_of}
 
 Decides-are_names : (names : List (List ℕ)) → Decides (is_caveat (Facility names)) (AreNames names)
 Decides-are_names names =
@@ -29,16 +29,9 @@ Decides-are_names names =
     Decides-like _ (λ h. record { some = h.0.0; few = h.0.1; each_is_name = h.1 }) (λ h. ((h.some, h.few), h.each_is_name))
     (Decides-and _ _ (Decides-and _ _ (Decides-ltb 0 (length names)) (Decides-leb (length names) 8)) all)
 
-nonempty_from : {A : Type 0} (xs : List A) → 0 < length xs → xs ≢ []
-nonempty_from [] h e = absurd (omega arith)
-nonempty_from (x ∷ xs) h e = cc
-
-nonempty_to : {A : Type 0} (xs : List A) → xs ≢ [] → 0 < length xs
-nonempty_to [] h = absurd (h refl)
-nonempty_to (x ∷ xs) h = omega arith
-
 Decides-some : (texts : List (List ℕ)) → Decides (nat_lt 0 (length texts)) (texts ≢ [])
-Decides-some texts = Decides-like _ (nonempty_from texts) (nonempty_to texts) (Decides-ltb 0 (length texts))
+Decides-some texts =
+    Decides-like _ (λ h e. absurd (omega (arith, ap (length {A = List ℕ}) e, h))) (some_of texts) (Decides-ltb 0 (length texts))
 
 Decides-is_caveat : (caveat : Caveat) → Decides (is_caveat caveat) (IsCaveat caveat)
 Decides-is_caveat (Facility names) = Decides-are_names names
@@ -64,16 +57,7 @@ Decides-slot None p P h = ((λ e. cc), (λ h. absurd h))
 Decides-slot (Some slot) p P h = h slot
 
 Decides-is_kind : (known : Option AKind) (kind : AKind) → Decides (is_kind known kind) (known ≡ Some kind)
-Decides-is_kind None kind = ((λ e. cc), (λ h. cc))
-Decides-is_kind (Some Court) Court = ((λ e. refl), (λ h. refl))
-Decides-is_kind (Some Court) Boat = ((λ e. cc), (λ h. cc))
-Decides-is_kind (Some Court) Room = ((λ e. cc), (λ h. cc))
-Decides-is_kind (Some Boat) Court = ((λ e. cc), (λ h. cc))
-Decides-is_kind (Some Boat) Boat = ((λ e. refl), (λ h. refl))
-Decides-is_kind (Some Boat) Room = ((λ e. cc), (λ h. cc))
-Decides-is_kind (Some Room) Court = ((λ e. cc), (λ h. cc))
-Decides-is_kind (Some Room) Boat = ((λ e. cc), (λ h. cc))
-Decides-is_kind (Some Room) Room = ((λ e. refl), (λ h. refl))
+Decides-is_kind known kind = grind arith
 
 Decides-kind_of_slot : (slot : Option Slot) (known : Option AKind) (kind : AKind) →
     Decides (is_some slot && is_kind known kind) (IsSomeAnd slot (λ _. known ≡ Some kind))

@@ -1,11 +1,9 @@
 -- A caveat that isn't on the kind has the same fault for each kind.
-use Rattle.std.proofs.Common.{◌≡◌, ℕ, Bool, false, cond, List, [], ◌∷◌, Option, Some, None, refl, sym, ap, ◌∙◌}
+use Rattle.std.proofs.Common.{◌≡◌, ℕ, false, List, [], ◌∷◌, Option, Some, None, refl, sym, ◌∙◌}
 use Rattle.club_values.specs.declared.kind.Kind.{Kind as AKind}
 use Rattle.pass_caveats.specs.declared.ask.Ask.{Ask}
 use Rattle.pass_caveats.specs.declared.caveat.Caveat.{Caveat}
 use Rattle.pass_caveats.specs.declared.caveat.Caveat.TheVariants.{Kind}
-use Rattle.pass_caveats.specs.declared.fault.CaveatFault.{CaveatFault}
-use Rattle.pass_caveats.specs.declared.fault.CaveatFault.TheVariants.{Denied}
 use Rattle.pass_caveats.specs.Kinds.{IsBlindToKind, at_kind, is_on_kind}
 use Rattle.pass_caveats.specs.computed.CaveatOf.{caveat_of}
 use Rattle.pass_caveats.specs.Tests.{permits}
@@ -21,8 +19,7 @@ permits_alike caveat ask kind h = refl
 fault_alike : (number : ℕ) (caveat : Option Caveat) (ask : Ask) (kind : Option AKind) → is_on_kind caveat ≡ false
     → first_fault_from number (caveat ∷ []) (at_kind kind ask) ≡ first_fault_from number (caveat ∷ []) ask
 fault_alike number None ask kind h = refl
-fault_alike number (Some caveat) ask kind h =
-    ap (λ (b : Bool). let fault : Option CaveatFault = cond b None (Some (Denied number)) in fault) (permits_alike caveat ask kind h)
+fault_alike number (Some caveat) ask kind h = rw (permits_alike caveat ask kind h)
 
 pub blind_to_kind : (text : List ℕ) → is_on_kind (caveat_of text) ≡ false → IsBlindToKind text
 blind_to_kind text h number ask kind fault =

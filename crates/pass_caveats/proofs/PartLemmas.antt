@@ -1,5 +1,6 @@
 -- The parts of a list with commas.
 use Rattle.std.proofs.Common.{◌≡◌, ◌≢◌, ℕ, ◌+◌, ◌<◌, ◌≤◌, ◌↔◌, ◌-◌, Bool, true, false, cond, List, [], ◌∷◌, ◌++◌, length, get_or, take, drop, add-one, refl}
+use Rattle.std.proofs.lemmas.Bool.{false_from_ne_true}
 use Rattle.std.proofs.Common.{sym, ap, ◌∙◌, arith, IsTrue}
 use Rattle.std.proofs.lemmas.List.{take-append-drop, length-take-le, get_or-take, take_all, length-drop}
 use Rattle.std.proofs.Math.Seq.{drop-cons}
@@ -96,16 +97,13 @@ skip_takes word parts left false s = sym s.0
 
 not_first : (word : List ℕ) (parts : List (List ℕ)) → ((others : List (List ℕ)) → parts ≢ word ∷ others) → is_next word parts ≡ false
 not_first word [] none = refl
-not_first word (part ∷ parts) none = go (bytes_eq part word) refl
-  where
-    go : (b : Bool) → bytes_eq part word ≡ b → bytes_eq part word ≡ false
-    go true e = absurd (none parts (ap (λ (first : List ℕ). first ∷ parts) ((bytes_eq-Decides part word).0 e)))
-    go false e = e
+not_first word (part ∷ parts) none =
+    false_from_ne_true (bytes_eq part word) (λ e. none parts (ap (λ (first : List ℕ). first ∷ parts) ((bytes_eq-Decides part word).0 e)))
 
 pub all_left : (word : List ℕ) (parts : List (List ℕ)) → is_next word parts ≡ false → after_next word parts ≡ parts
 all_left word [] e = refl
 all_left word (part ∷ parts) e = rw e refl
 
 pub skip_leaves : (word : List ℕ) (parts left : List (List ℕ)) (b : Bool) → Skips word parts b left → left ≡ after_next word parts
-skip_leaves word parts left true s = let this : bytes_eq word word ≡ true = (bytes_eq-Decides word word).1 refl in rw (s, this) refl
+skip_leaves word parts left true s = rw (s, (bytes_eq-Decides word word).1 refl) refl
 skip_leaves word parts left false s = s.0 ∙ sym (all_left word parts (not_first word parts s.1))

@@ -1,6 +1,6 @@
 -- What was spent before changes the first fault of a list only under a spend limit, and only where something is owed.
-use Rattle.std.proofs.Common.{◌≡◌, ◌⊎◌, inl, inr, ℕ, zero, suc, ◌+◌, ◌-◌, ◌≤◌, ◌==◌, ◌||◌, Bool, true, false, cond, nat_le, List, [], ◌∷◌}
-use Rattle.std.proofs.Common.{Option, Some, None, refl, sym, subst, ◌∙◌, arith}
+use Rattle.std.proofs.Common.{◌≡◌, ℕ, zero, suc, ◌+◌, ◌-◌, ◌≤◌, ◌==◌, ◌||◌, true, false, cond, nat_le, List, [], ◌∷◌, ◌<◌}
+use Rattle.std.proofs.Common.{Option, Some, None, refl, subst, ◌∙◌, arith}
 use Rattle.std.specs.Prelude.{All, IfSome}
 use Rattle.std.proofs.lemmas.List.Elements.{All-head, All-tail}
 use Rattle.std.proofs.lemmas.Bool.Decides.{nat_tests}
@@ -41,12 +41,7 @@ permits_free caveat ask one other free = refl
 numbered : (n : ℕ) (caveats : List (Option Caveat)) (ask : Ask) (m : ℕ) → first_fault_from n caveats ask ≡ Some (Denied m) → n ≤ m
 numbered n [] ask m e = absurd (cc)
 numbered n (None ∷ caveats) ask m e = absurd (cc)
-numbered n (Some caveat ∷ caveats) ask m e = go (permits caveat ask) (λ h. numbered (n + 1) caveats ask m h) e
-  where
-    go : (b : Bool) → (first_fault_from (n + 1) caveats ask ≡ Some (Denied m) → n + 1 ≤ m)
-        → cond b (first_fault_from (n + 1) caveats ask) (Some (Denied n)) ≡ Some (Denied m) → n ≤ m
-    go true later h = let far = later h in omega (arith, far)
-    go false later h = let same : n ≡ m = cc in omega (arith, same)
+numbered n (Some caveat ∷ caveats) ask m e = grind (arith, numbered (n + 1) caveats ask m)
 
 pub free : (n : ℕ) (caveats : List (Option Caveat)) (ask : Ask) (spent : ℕ) → ask.owed ≡ 0
     → first_fault_from n caveats (after_spending spent ask) ≡ first_fault_from n caveats (after_spending 0 ask)
@@ -61,23 +56,13 @@ between : (n : ℕ) (caveats : List (Option Caveat)) (ask : Ask) (spent most : �
 between n [] ask spent most short e = refl
 between n (None ∷ caveats) ask spent most short e = refl
 between n (Some caveat ∷ caveats) ask spent most short e =
-    go (permits caveat (after_spending most ask)) (permits caveat (after_spending spent ask)) (permits caveat (after_spending 0 ask))
-    (permits_less caveat ask spent most short) (permits_less caveat ask 0 spent (omega arith))
-    (between (n + 1) caveats ask spent most short) e
-  where
-    go : (a b c : Bool) → (a ≡ true → b ≡ true) → (b ≡ true → c ≡ true)
-        → (first_fault_from (n + 1) caveats (after_spending most ask) ≡ first_fault_from (n + 1) caveats (after_spending 0 ask)
-        → first_fault_from (n + 1) caveats (after_spending spent ask) ≡ first_fault_from (n + 1) caveats (after_spending 0 ask))
-        → cond a (first_fault_from (n + 1) caveats (after_spending most ask)) (Some (Denied n))
-        ≡ cond c (first_fault_from (n + 1) caveats (after_spending 0 ask)) (Some (Denied n))
-        → cond b (first_fault_from (n + 1) caveats (after_spending spent ask)) (Some (Denied n))
-        ≡ cond c (first_fault_from (n + 1) caveats (after_spending 0 ask)) (Some (Denied n))
-    go true true true f g rest h = rest h
-    go true false c f g rest h = let x = f refl in absurd (cc)
-    go a true false f g rest h = let x = g refl in absurd (cc)
-    go false b true f g rest h =
-        let late = numbered (n + 1) caveats (after_spending 0 ask) n (sym h) in absurd (omega (arith, late))
-    go false false false f g rest h = refl
+    grind (
+      arith,
+      permits_less caveat ask spent most short,
+      permits_less caveat ask 0 spent,
+      between (n + 1) caveats ask spent most short,
+      numbered (n + 1) caveats (after_spending 0 ask) n,
+    )
 
 -- no limit allows a charge after spending that much
 within_beyond : (owed spent most n : ℕ) → n ≤ most → most ≤ spent → (owed == 0 || nat_le (spent + owed) n) ≡ (owed == 0 || nat_le (most + owed) n)
@@ -99,19 +84,13 @@ beyond n (Some caveat ∷ caveats) ask spent most real far more =
     let others = All-tail (λ (one : Option Caveat). IfSome one IsCaveat) (Some caveat) caveats real in
     rw (permits_beyond caveat ask spent most first far more, beyond (n + 1) caveats ask spent most others far more) refl
 
-total : (a b : ℕ) → (a ≤ b) ⊎ (b ≤ a)
-total zero b = inl (omega arith)
-total (suc a) zero = inr (omega arith)
-total (suc a) (suc b) = elim (total a b) [ inl h ↦ inl (omega (arith, h)) | inr h ↦ inr (omega (arith, h)) ]
-
 pub limits_no_more : LimitsNoMore
-limits_no_more caveats ask spent most real far same = go (total spent most) (total spent number_limit)
-  where
-    go : (spent ≤ most) ⊎ (most ≤ spent) → (spent ≤ number_limit) ⊎ (number_limit ≤ spent)
-        → first_fault_from 1 caveats (after_spending spent ask) ≡ first_fault_from 1 caveats (after_spending 0 ask)
-    go (inl less) limit = between 1 caveats ask spent most less same
-    go (inr more) (inl small) = between 1 caveats ask spent most (omega (arith, far, more, small)) same
-    go (inr more) (inr great) = beyond 1 caveats ask spent most real (omega (arith, far, great)) more ∙ same
+limits_no_more caveats ask spent most real far same =
+    let early : spent ≤ most → first_fault_from 1 caveats (after_spending spent ask) ≡ first_fault_from 1 caveats (after_spending 0 ask) =
+    λ less. between 1 caveats ask spent most less same in
+    let late : most < spent → number_limit < spent → first_fault_from 1 caveats (after_spending spent ask) ≡ first_fault_from 1 caveats (after_spending 0 ask) =
+    λ more great. beyond 1 caveats ask spent most real (omega (arith, far, great)) (omega arith) ∙ same in
+    grind (arith, far)
 
 -- ---- one caveat
 
@@ -131,7 +110,7 @@ permits_within caveat ask spent h = (λ _. tt, λ _. h)
 
 never : (caveat : Caveat) (ask : Ask) (spent : ℕ) → permits caveat (after_spending 0 ask) ≡ false → ¬ Permits caveat (after_spending spent ask)
 never caveat ask spent h permitted =
-    let x = permits_less caveat ask 0 spent (omega arith) ((Decides-permits caveat (after_spending spent ask)).1 permitted) in absurd (cc)
+    let allowed = permits_less caveat ask 0 spent (omega arith) ((Decides-permits caveat (after_spending spent ask)).1 permitted) in absurd (cc)
 
 module _ (text : List ℕ) (n : ℕ) (ask : Ask) (caveat : Caveat) (understood : Understood text caveat) where
   -- a caveat that denies a key that spent nothing denies it whatever it spent
