@@ -117,17 +117,7 @@ pub booking_put : (old new : State) (rows : Rows) → HoldsRows old.now rows →
     → HoldsRows new.now (record rows { bookings = rows.bookings ++ booking ∷ [] }) × (1 ≤ count)
 booking_put old new rows holds_rows booking count ran =
     let put = inserts booking_means booking_table refl refl refl (λ row. refl) old new holds_rows.schema (booking_values booking) (booking_values booking) refl
-    (rw (
-      cast_null,
-      cast_int (pos booking.number),
-      cast_int (pos booking.slot.day),
-      cast_int (pos booking.slot.hour),
-      cast_int (pos booking.guests),
-      cast_int (pos booking.charge),
-      cast_int (pos booking.left),
-      cast_int (pos (truth booking.cancelled)),
-      cast_int (pos booking.refund),
-    )) count ran in (
+    (simp (cast_null, cast_int)) count ran in (
       on_bookings holds_rows put.0
           (subst (λ rs. Holds booking_values rs (rows.bookings ++ booking ∷ [])) (sym put.1)
           (holds_more booking_values _ rows.bookings booking holds_rows.held.bookings)),

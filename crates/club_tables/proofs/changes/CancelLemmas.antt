@@ -5,6 +5,7 @@ use Rattle.std.specs.Prelude.{filter, find}
 use Rattle.std.specs.Cmp.{unsigned_Decides}
 use Rattle.std.proofs.lemmas.Slice.Eq.{bytes_eq-Decides}
 use Rattle.std.proofs.lemmas.Bool.{and_parts}
+use Rattle.std.proofs.Math.Bool.{or-true, or-false}
 use Rattle.sqlite_tied.specs.Compute.{everything}
 use Rattle.sqlite_value.specs.declared.value.Value.{Value}
 use Rattle.sqlite_value.specs.declared.value.Value.TheVariants.{Int, Text}
@@ -35,7 +36,6 @@ use Rattle.club_tables.proofs.statements.PassLemmas.{contains_counts}
 use Rattle.club_tables.proofs.statements.PassLemmas.{Implies, agree, fewer, found_by_both}
 use Rattle.club_tables.proofs.statements.SelectLemmas.{text_equal, whole_equal, test, shows}
 use Rattle.club_tables.proofs.statements.UpdateLemmas.{updates, Finds, finds, passes_one, writes_one, changes_one, each_of}
-use Rattle.club_tables.proofs.changes.ChangeLemmas.{or_true, or_false}
 use Rattle.club_tables.proofs.changes.AddLemmas.{booking_table}
 use Rattle.club_tables.proofs.lists.BookingRows.{truths}
 use Rattle.club_tables.proofs.lists.FindLemmas.{found}
@@ -180,10 +180,10 @@ module _ (old new : State) (rows : Rows) (holds_rows : HoldsRows old.now rows) (
         ∷ whole b.slot.hour ∷ whole b.guests ∷ whole b.charge ∷ whole b.left ∷ v ∷ w ∷ [] in
         let low = one_marked booking.key booking.number rows.bookings unique in
         let bookings = changes_one cancel_finds p (agree is_as_given p marked rows.bookings passing.0 low passing.1) change (λ b fails.
-        ap (as_marked b) fails ∙ ap (λ c. let k : Booking = record b { cancelled = c } in k) (or_false b.cancelled))
+        ap (as_marked b) fails ∙ ap (λ c. let k : Booking = record b { cancelled = c } in k) (or-false b.cancelled))
         (λ _. Unit {0}) (each_of _ (λ b. tt) rows.bookings)
         (λ id b _ passes.
-        ap (λ v. shown id b v (whole refund)) (sym (ap (λ c. flag (b.cancelled || c)) passes ∙ ap flag (or_true b.cancelled)))
+        ap (λ v. shown id b v (whole refund)) (sym (ap (λ c. flag (b.cancelled || c)) passes ∙ ap flag (or-true b.cancelled)))
         ∙ ap (λ w. shown id b (flag (change b).cancelled) w) (sym (ap (λ c. whole (cond c refund b.refund)) passes)))
         (λ id b. rw (
           cast_int id,

@@ -17,10 +17,11 @@ use Rattle.club_core.specs.Store.{IsOwnedBy, IsToCancel}
 use Rattle.club_core.specs.Sums.{is_in, is_under, taken_in, cost_of}
 use Rattle.club_tables.specs.declared.row.MemberRow.{MemberRow}
 use Rattle.club_tables.specs.Stored.{Rows, IsStoredAs, member_row, used_by}
-use Rattle.club_tables.proofs.changes.ChangeLemmas.{used_row, or_true, or_false}
+use Rattle.club_tables.proofs.changes.ChangeLemmas.{used_row}
 use Rattle.club_tables.proofs.statements.SelectLemmas.{Apart, apart_from_pairs}
 use Rattle.club_tables.proofs.lists.FindLemmas.{found}
 use Rattle.std.specs.Cmp.{unsigned_Decides}
+use Rattle.std.proofs.Math.Bool.{or-true, or-false}
 use Rattle.club_tables.proofs.lists.OwnerLemmas.{IsAlone, picked_changed, same_name, owner_is}
 use Rattle.club_tables.proofs.changes.StoredLemmas.{totals_rows, bookings_stored}
 
@@ -37,7 +38,7 @@ is_named key number booking = is_under key booking && booking.number == number
 unmarked : (key : List ℕ) (number refund : ℕ) (booking : Booking) → is_marked key number booking ≡ false → cancelled_booking key number refund booking ≡ booking
 unmarked key number refund booking fails =
     ap (λ b. let k : Booking = record booking { cancelled = booking.cancelled || b; refund = if b then refund else booking.refund } in k) fails
-    ∙ ap (λ b. let k : Booking = record booking { cancelled = b } in k) (or_false booking.cancelled)
+    ∙ ap (λ b. let k : Booking = record booking { cancelled = b } in k) (or-false booking.cancelled)
 
 unnamed : (key : List ℕ) (number refund : ℕ) (booking : Booking) → is_named key number booking ≡ false → cancelled_booking key number refund booking ≡ booking
 unnamed key number refund booking fails = unmarked key number refund booking (rw fails refl)
@@ -103,7 +104,7 @@ module _ (club : Club) (sound : IsSound club) (booking : Booking) (cancels : IsT
   nothing_back = row.kept cancels.1
 
   now_cancelled : (change booking).cancelled ≡ true
-  now_cancelled = ap (λ b. booking.cancelled || b) marked ∙ or_true booking.cancelled
+  now_cancelled = ap (λ b. booking.cancelled || b) marked ∙ or-true booking.cancelled
 
   now_refund : (change booking).refund ≡ refund
   now_refund = ap (λ b. if b then refund else booking.refund) marked

@@ -6,6 +6,7 @@ use Rattle.std.specs.List.{AllByRecursion, AllZip, list_all}
 use Rattle.std.specs.Str.{bytes_eq}
 use Rattle.std.proofs.lemmas.Bool.{and_parts}
 use Rattle.std.proofs.lemmas.Slice.Eq.{bytes_eq-Decides}
+use Rattle.std.proofs.Math.Bool.{and-true, or-true, or-false}
 use Rattle.sqlite_tied.specs.Compute.{everything}
 use Rattle.sqlite_value.specs.declared.value.Value.TheVariants.{Int, Text}
 use Rattle.sqlite_value.specs.declared.keys.Collation.TheVariants.{Binary}
@@ -32,7 +33,7 @@ use Rattle.club_tables.specs.Statements.{select, is_given}
 use Rattle.club_tables.specs.Stored.{Rows}
 use Rattle.club_tables.specs.Tables.{HoldsRows, members_tree, keys_tree}
 use Rattle.club_tables.proofs.statements.InsertLemmas.{cast_int}
-use Rattle.club_tables.proofs.queries.KeyLemmas.{and_true, both_tests, one_named}
+use Rattle.club_tables.proofs.queries.KeyLemmas.{both_tests, one_named}
 use Rattle.club_tables.proofs.changes.AddLemmas.{member_table}
 use Rattle.club_tables.proofs.statements.HoldsRowsLemmas.{on_members}
 use Rattle.club_tables.proofs.statements.CountedLemmas.{is_counted, some_counted, counted_some, passes, shown, count_in, with_count, answered_counted}
@@ -42,14 +43,6 @@ use Rattle.club_tables.proofs.statements.PassLemmas.{each_row, find_some, agree,
 use Rattle.club_tables.proofs.statements.SelectLemmas.{text_equal, shows}
 use Rattle.club_tables.proofs.statements.UpdateLemmas.{Updates, updates, Finds, finds, passes_one, writes_one, changes_one, each_of}
 use Rattle.club_tables.proofs.lists.FindLemmas.{found}
-
-pub or_true : (b : Bool) → (b || true) ≡ true
-or_true true = refl
-or_true false = refl
-
-pub or_false : (b : Bool) → (b || false) ≡ b
-or_false true = refl
-or_false false = refl
 
 -- ---- keys by their names
 
@@ -116,7 +109,7 @@ module _ (old new : State) (rows : Rows) (holds_rows : HoldsRows old.now rows) (
 
   credit_finds : Finds member_values is_named rows.members (shows (Text name ∷ whole points ∷ []) (is_given 1 0 ∷ []) credit_terms) old new member_table count
   credit_finds = finds member_values is_named rows.members (updates credit_means member_table refl holds_rows.schema ran) holds_rows.held.members
-      (λ id row. and_true _ ∙ text_equal row.member.name name)
+      (λ id row. and-true _ ∙ text_equal row.member.name name)
 
   -- the member is there
   pub credit_found : 1 ≤ count → (row : MemberRow) × (find is_named rows.members ≡ Some row)
@@ -196,7 +189,7 @@ module _ (old new : State) (rows : Rows) (holds_rows : HoldsRows old.now rows) (
       let passes : owns k ≡ true = rw (it.1, (bytes_eq-Decides k.member name).1 same) refl in
       let owned = counted_some (filter owns rows.keys) (contains_counts owns rows.keys k it.0 passes) in
       let one = found is_member rows.members row stored in
-      let is_hit : is_owner row ≡ true = ap (λ b. is_member row && b) owned ∙ and_true (is_member row) ∙ one.1 in
+      let is_hit : is_owner row ≡ true = ap (λ b. is_member row && b) owned ∙ and-true (is_member row) ∙ one.1 in
       writes_one used_finds (contains_counts is_owner rows.members row one.0 is_hit)
 
   module _ (some : 1 ≤ count) where
@@ -220,7 +213,7 @@ module _ (old new : State) (rows : Rows) (holds_rows : HoldsRows old.now rows) (
     pub member_used : AreNamedOnce rows.members → (next : ℕ → ℕ) → AllByRecursion (Uses name points next) rows.members
         → HoldsRows new.now (record rows { members = map (used_row name next) rows.members })
     member_used unique next sums =
-        let members = changes_one used_finds is_member (each_of _ (λ row. ap (λ b. is_member row && b) owned ∙ and_true (is_member row)) rows.members)
+        let members = changes_one used_finds is_member (each_of _ (λ row. ap (λ b. is_member row && b) owned ∙ and-true (is_member row)) rows.members)
         (used_row name next) (λ row fails. ap (λ b. let m : MemberRow = record row { used = cond b (next row.used) row.used } in m) fails)
         (Uses name points next) sums
         (λ id row sum passes. ap (λ v. Int id ∷ Int id ∷ Text row.member.name ∷ whole row.member.credited ∷ whole row.member.quota ∷ v ∷ [])

@@ -6,6 +6,7 @@ use Rattle.std.specs.List.{AllByRecursion}
 use Rattle.std.specs.Str.{bytes_eq}
 use Rattle.std.proofs.lemmas.Bool.{and_parts}
 use Rattle.std.proofs.lemmas.Slice.Eq.{bytes_eq-Decides}
+use Rattle.std.proofs.Math.Bool.{and-true, or-true, or-false}
 use Rattle.sqlite_tied.specs.Compute.{everything}
 use Rattle.sqlite_value.specs.declared.value.Value.TheVariants.{Int, Text, Blob}
 use Rattle.sqlite.specs.Cast.{cast_row}
@@ -26,7 +27,7 @@ use Rattle.club_tables.specs.Statements.{select, is_given}
 use Rattle.club_tables.specs.Stored.{Rows}
 use Rattle.club_tables.specs.Tables.{HoldsRows, keys_tree}
 use Rattle.club_tables.proofs.statements.InsertLemmas.{cast_int}
-use Rattle.club_tables.proofs.queries.KeyLemmas.{and_true, both_tests, one_named}
+use Rattle.club_tables.proofs.queries.KeyLemmas.{both_tests, one_named}
 use Rattle.club_tables.proofs.changes.AddLemmas.{key_table}
 use Rattle.club_tables.proofs.statements.HoldsRowsLemmas.{on_keys}
 use Rattle.club_tables.proofs.statements.PassLemmas.{contains_counts, found_counts}
@@ -34,7 +35,7 @@ use Rattle.club_tables.proofs.statements.PassLemmas.{agree, found_by_both}
 use Rattle.club_tables.proofs.statements.SelectLemmas.{text_equal, blob_equal, shows}
 use Rattle.club_tables.proofs.statements.UpdateLemmas.{updates, Finds, finds, passes_one, writes_one, changes_one, each_of}
 use Rattle.club_tables.proofs.lists.FindLemmas.{found}
-use Rattle.club_tables.proofs.changes.ChangeLemmas.{or_true, or_false, AreKeysOnce, StoresKey}
+use Rattle.club_tables.proofs.changes.ChangeLemmas.{AreKeysOnce, StoresKey}
 
 -- ---- a key is revoked
 
@@ -55,7 +56,7 @@ module _ (old new : State) (rows : Rows) (holds_rows : HoldsRows old.now rows) (
 
   revoke_finds : Finds key_values is_named rows.keys (shows (Text name ∷ []) (is_given 1 0 ∷ []) revoke_terms) old new key_table count
   revoke_finds = finds key_values is_named rows.keys (updates revoke_means key_table refl holds_rows.schema ran) holds_rows.held.keys
-      (λ id key. and_true _ ∙ text_equal key.name name)
+      (λ id key. and-true _ ∙ text_equal key.name name)
 
   -- the key is there
   pub revoke_found : 1 ≤ count → (key : Key) × StoresKey name rows.keys key
@@ -68,10 +69,10 @@ module _ (old new : State) (rows : Rows) (holds_rows : HoldsRows old.now rows) (
   pub key_revoked : AreKeysOnce rows.keys → HoldsRows new.now (record rows { keys = map (revoked_key name) rows.keys })
   key_revoked unique =
       let marked : (key : Key) → is_named key ≡ true → flag (revoked_key name key).revoked ≡ whole 1 = λ key passes.
-      ap (λ b. flag (key.revoked || b)) passes ∙ ap flag (or_true key.revoked) in
+      ap (λ b. flag (key.revoked || b)) passes ∙ ap flag (or-true key.revoked) in
       let keys = changes_one revoke_finds is_named (each_of _ (λ key. refl) rows.keys) (revoked_key name) (λ key fails.
       ap (λ b. let k : Key = record key { revoked = key.revoked || b } in k) fails
-      ∙ ap (λ b. let k : Key = record key { revoked = b } in k) (or_false key.revoked)) (λ _. Unit {0}) (each_of _ (λ key. tt) rows.keys)
+      ∙ ap (λ b. let k : Key = record key { revoked = b } in k) (or-false key.revoked)) (λ _. Unit {0}) (each_of _ (λ key. tt) rows.keys)
       (λ id key _ passes. ap (λ v. Int id ∷ Int id ∷ Text key.name ∷ Text key.member ∷ Blob key.root ∷ v ∷ []) (sym (marked key passes)))
       casts_key (one_named (λ (key : Key). key.name) name rows.keys unique) in
       on_keys holds_rows revoke_finds.wrote keys

@@ -2,6 +2,7 @@
 use Rattle.std.proofs.Common.{◌≡◌}
 use Rattle.std.proofs.Common.{map, sym, ap, subst, ◌∙◌}
 use Rattle.std.specs.List.{AllByRecursion}
+use Rattle.std.proofs.lemmas.List.Elements.{recursion_from_All}
 use Rattle.sqlite.specs.Store.{Ghosts}
 use Rattle.sqlite.specs.Effect.{Database}
 use Rattle.sqlite.specs.Held.{Held, state}
@@ -20,7 +21,6 @@ use Rattle.club_tables.proofs.changes.AddLemmas.{member_put, facility_put, key_p
 use Rattle.club_tables.proofs.changes.ChangeLemmas.{member_credited}
 use Rattle.club_tables.proofs.changes.ChangeLemmas.{Credits}
 use Rattle.club_tables.proofs.changes.OlderLemmas.{put_older, older_represents}
-use Rattle.club_tables.proofs.lists.OwnerLemmas.{all_of}
 use Rattle.club_tables.proofs.changes.StoredLemmas.{member_stored, credit_stored, facility_stored, key_stored, revoke_stored, rotate_stored, close_stored}
 use Rattle.club_tables.proofs.changes.StoredLemmas.{booking_stored}
 use Rattle.club_tables.proofs.changes.CancelStored.{cancel_stored}
@@ -53,7 +53,7 @@ module _ {S : Type 0} (g : Ghosts S) (old : Held S) (db : Database) (club : Club
   made (AddCredit name points) fits ran =
       let t = one_turn g old db _ ran in
       let within = all_mapped IsMember (credited_member name points) club.members
-      (all_of IsMember (map (credited_member name points) club.members) fits.sound.rows.members) in
+      (recursion_from_All IsMember (map (credited_member name points) club.members) fits.sound.rows.members) in
       let sums = subst (AllByRecursion (Credits name points)) (sym tables.storage.members) (credits_of club name points club.members within) in
       left_by fits t.mid t.left (member_credited (state g (transaction_start old)) (state g t.mid) tables.rows tables.holds_rows name points t.count t.ran
       (named_once club tables.rows.members tables.storage.members tables.sound) sums)

@@ -5,6 +5,7 @@ use Rattle.std.proofs.Common.{ap, ◌∙◌}
 use Rattle.std.specs.Prelude.{AllPairs, option_map}
 use Rattle.std.specs.Str.{bytes_eq}
 use Rattle.std.proofs.lemmas.Slice.Eq.{bytes_eq-Decides}
+use Rattle.std.proofs.Math.Bool.{and-true, or-false}
 use Rattle.sqlite_tied.specs.Compute.{everything}
 use Rattle.sqlite_value.specs.declared.value.Value.TheVariants.{Null, Int, Text}
 use Rattle.sqlite_value.specs.Keys.{first_key}
@@ -23,9 +24,7 @@ use Rattle.club_tables.specs.Schema.{old_roots_table, club_schema}
 use Rattle.club_tables.specs.Columns.{older_root_values, older_values}
 use Rattle.club_tables.specs.Stored.{Rows, OlderRow, older_by}
 use Rattle.club_tables.specs.Tables.{HoldsRows, olders_tree}
-use Rattle.club_tables.proofs.changes.ChangeLemmas.{or_false}
 use Rattle.club_tables.proofs.statements.InsertLemmas.{cast_null, cast_int}
-use Rattle.club_tables.proofs.queries.KeyLemmas.{and_true}
 use Rattle.club_tables.proofs.statements.HoldsRowsLemmas.{on_olders}
 use Rattle.club_tables.proofs.statements.UpdateLemmas.{each_of}
 use Rattle.club_tables.proofs.statements.PutLemmas.{PutsRow, first_clause, row_put}
@@ -43,7 +42,7 @@ target = Some (1 ∷ [])
 olders_conflict : (id id' : ℤ) (row : OlderRow) (key : List ℕ) (older : OlderRoot)
     → conflicts target club_schema.indexes older_table (Int id' ∷ Text key ∷ older_root_values older) (Int id ∷ older_values row) ≡ bytes_eq row.key key
 unfolding first_key
-olders_conflict id id' row key older = rw (text_equal row.key key) (or_false _ ∙ and_true _)
+olders_conflict id id' row key older = rw (text_equal row.key key) (or-false _ ∙ and-true _)
 
 abbrev put_terms : List Term
 put_terms = lit Null ∷ col 0 0 ∷ col 0 1 ∷ col 0 2 ∷ []

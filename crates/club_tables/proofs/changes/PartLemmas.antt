@@ -3,6 +3,7 @@ use Rattle.std.proofs.Common.{◌≡◌, ◌≢◌, ℕ, ◌+◌, ◌-◌, ◌�
 use Rattle.std.proofs.Common.{List, [], ◌∷◌, ◌++◌, map, Contains, sym, ap, subst, ◌∙◌, arith}
 use Rattle.std.specs.List.{AllByRecursion, list_any}
 use Rattle.std.specs.Str.{bytes_eq}
+use Rattle.std.proofs.lemmas.List.Elements.{recursion_from_All}
 use Rattle.sqlite_value.specs.declared.value.Value.TheVariants.{Int}
 use Rattle.sqlite.specs.Store.{Ghosts}
 use Rattle.sqlite.specs.State.{Executes}
@@ -32,7 +33,7 @@ use Rattle.club_tables.proofs.changes.ChangeLemmas.{AreNamedOnce, Uses}
 use Rattle.club_tables.proofs.queries.MemberLemmas.{total}
 use Rattle.club_tables.proofs.statements.SelectLemmas.{apart_from_pairs}
 use Rattle.club_tables.proofs.lists.SlotRows.{same_itself}
-use Rattle.club_tables.proofs.lists.OwnerLemmas.{all_of, all_last, owner_is}
+use Rattle.club_tables.proofs.lists.OwnerLemmas.{all_last, owner_is}
 use Rattle.club_tables.proofs.changes.StoredLemmas.{taken_more}
 use Rattle.club_tables.proofs.changes.CancelStored.{there, used_back, taken_back}
 use Rattle.club_tables.proofs.changes.UpsertLemmas.{slot_taken, Takes}
@@ -64,7 +65,7 @@ module _ {S : Type 0} (g : Ghosts S) (old : Held S) (club : Club) (tables : Hold
     taken_rows = record charged_rows { slots = put_slot booking.slot (take_use (λ n. n + persons_taken booking)) charged_rows.slots }
 
     booking_limits : IsBooking booking
-    booking_limits = all_last IsBooking club.bookings booking (all_of IsBooking (club.bookings ++ booking ∷ []) fits.sound.rows.bookings)
+    booking_limits = all_last IsBooking club.bookings booking (recursion_from_All IsBooking (club.bookings ++ booking ∷ []) fits.sound.rows.bookings)
 
     booking_uses : AllByRecursion (Uses member (pos (cost_of booking)) (λ n. n + cost_of booking)) tables.rows.members
     booking_uses =
@@ -75,7 +76,7 @@ module _ {S : Type 0} (g : Ghosts S) (old : Held S) (club : Club) (tables : Hold
     booking_takes : AllByRecursion (Takes booking.slot (pos (persons_taken booking)) (λ n. n + persons_taken booking)) tables.rows.slots
     booking_takes =
         let booked = all_last (λ (b : Booking). Contains (map (λ (f : Facility). f.name) club.facilities) b.slot.facility) club.bookings booking
-        (all_of _ (club.bookings ++ booking ∷ []) fits.sound.references.facilities) in
+        (recursion_from_All _ (club.bookings ++ booking ∷ []) fits.sound.references.facilities) in
         let few = few_taken (after (InsertBooking booking member) club) fits.sound booking.slot booked in
         let more = taken_more club booking booking.slot in
         let here : (if same_slot booking.slot booking.slot then taken_in booking.slot club.bookings + persons_taken booking else taken_in booking.slot

@@ -8,6 +8,8 @@ use Rattle.std.proofs.lemmas.Bool.{false_from_ne_true}
 use Rattle.std.proofs.lemmas.List.{map-append}
 use Rattle.std.proofs.lemmas.List.Folds.{list_any-append}
 use Rattle.std.proofs.lemmas.Slice.Eq.{bytes_eq-Decides}
+use Rattle.std.proofs.Math.Bool.{or-true, or-false}
+use Rattle.std.proofs.lemmas.List.Elements.{recursion_from_All}
 use Rattle.club_values.specs.declared.slot.Slot.{Slot}
 use Rattle.club_rows.specs.declared.booking.Booking.{Booking}
 use Rattle.club_rows.specs.declared.facility.Facility.{Facility}
@@ -27,15 +29,15 @@ use Rattle.club_core.specs.Sums.{is_in, taken_in, cost_of}
 use Rattle.club_tables.specs.declared.row.MemberRow.{MemberRow}
 use Rattle.club_tables.specs.Stored.{Rows, OlderRow, IsStoredAs, older_by, member_row, used_by, persons_taken}
 use Rattle.club_tables.proofs.changes.AddLemmas.{new_row}
-use Rattle.club_tables.proofs.changes.ChangeLemmas.{credited_row, used_row, or_true, or_false}
-use Rattle.club_tables.proofs.statements.JoinLemmas.{map_map}
+use Rattle.club_tables.proofs.changes.ChangeLemmas.{credited_row, used_row}
 use Rattle.club_tables.proofs.statements.SelectLemmas.{apart_from_pairs, none_pass}
 use Rattle.club_tables.proofs.statements.UpdateLemmas.{each_of}
 use Rattle.club_tables.proofs.changes.OlderLemmas.{put_older, older_put, put_once as olders_once}
 use Rattle.club_tables.proofs.lists.SlotRows.{put_slot, use_put, put_once}
 use Rattle.club_tables.proofs.changes.UpsertLemmas.{close_use, take_use}
 use Rattle.club_tables.proofs.lists.FindLemmas.{found}
-use Rattle.club_tables.proofs.lists.OwnerLemmas.{all_of, map_agree, filter_same, none_of, apart_last, not_among, unequal, sum_more, owner_is}
+use Rattle.club_tables.proofs.lists.OwnerLemmas.{map_agree, filter_same, none_of, apart_last, not_among, unequal, sum_more, owner_is}
+use Rattle.sqlite_trees.proofs.ListLemmas.{map-map}
 
 -- ---- members
 
@@ -48,7 +50,7 @@ used_none club name none =
 
 keys_of_none : (club : Club) → IsSound club → (name : List ℕ) → AllByRecursion (λ (m : Member). m.name ≢ name) club.members
     → AllByRecursion (λ (key : Key). bytes_eq key.member name ≡ false) club.keys
-keys_of_none club sound name apart = each club.keys (all_of _ club.keys sound.references.keys)
+keys_of_none club sound name apart = each club.keys (recursion_from_All _ club.keys sound.references.keys)
   where
     each : (keys : List Key) → AllByRecursion (λ (key : Key). Contains (map (λ (m : Member). m.name) club.members) key.member) keys
         → AllByRecursion (λ (key : Key). bytes_eq key.member name ≡ false) keys
@@ -80,8 +82,8 @@ member_stored club rows stored sound member fits =
 pub credit_stored : (club : Club) (rows : Rows) → IsStoredAs club rows → (name : List ℕ) (points : ℕ)
     → IsStoredAs (after (AddCredit name points) club) (record rows { members = map (credited_row name points) rows.members })
 credit_stored club rows stored name points = record {
-  members = ap (map (credited_row name points)) stored.members ∙ map_map (credited_row name points) (member_row club) club.members
-      ∙ sym (map_map (member_row (after (AddCredit name points) club)) (credited_member name points) club.members);
+  members = ap (map (credited_row name points)) stored.members ∙ map-map (credited_row name points) (member_row club) club.members
+      ∙ sym (map-map (member_row (after (AddCredit name points) club)) (credited_member name points) club.members);
   facilities = stored.facilities;
   keys = stored.keys;
   bookings = stored.bookings;
@@ -161,7 +163,7 @@ older_mapped f named same name (k ∷ keys) =
 pub key_stored : (club : Club) (rows : Rows) → IsStoredAs club rows → IsSound club → (key : Key) → key.older ≡ None → IsSound (after (InsertKey key) club)
     → IsStoredAs (after (InsertKey key) club) (record rows { keys = rows.keys ++ key ∷ [] })
 key_stored club rows stored sound key new fits =
-    keys_stored club rows stored (λ ks. ks ++ key ∷ []) rows.olders (λ name. each name club.bookings (all_of _ club.bookings sound.references.bookings))
+    keys_stored club rows stored (λ ks. ks ++ key ∷ []) rows.olders (λ name. each name club.bookings (recursion_from_All _ club.bookings sound.references.bookings))
     (λ name. stored.olders name ∙ sym (older_pushed name club.keys key new)) stored.olders_once
   where
     apart : AllByRecursion (λ (k : Key). k.name ≢ key.name) club.keys
@@ -266,8 +268,8 @@ rotate_stored club rows stored name root was until has =
 
 closed_use : (club : Club) (s : Slot) (b : Bool) → (if b then close_use (slot_use club s) else slot_use club s)
     ≡ record { taken = taken_in s club.bookings; closed = is_closed s club || (b || false) }
-closed_use club s true = ap (λ c. let u : SlotUse = record { taken = taken_in s club.bookings; closed = c } in u) (sym (or_true (is_closed s club)))
-closed_use club s false = ap (λ c. let u : SlotUse = record { taken = taken_in s club.bookings; closed = c } in u) (sym (or_false (is_closed s club)))
+closed_use club s true = ap (λ c. let u : SlotUse = record { taken = taken_in s club.bookings; closed = c } in u) (sym (or-true (is_closed s club)))
+closed_use club s false = ap (λ c. let u : SlotUse = record { taken = taken_in s club.bookings; closed = c } in u) (sym (or-false (is_closed s club)))
 
 pub close_stored : (club : Club) (rows : Rows) → IsStoredAs club rows → (slot : Slot)
     → IsStoredAs (after (MarkClosed slot) club) (record rows { slots = put_slot slot close_use rows.slots })
@@ -348,7 +350,7 @@ pub bookings_stored : (club : Club) (rows : Rows) → IsStoredAs club rows → (
     → ((s : Slot) → taken_in s (change club.bookings) ≡ (if same_slot slot s then taken (taken_in s club.bookings) else taken_in s club.bookings))
     → IsStoredAs (record club { bookings = change club.bookings }) (totals_rows rows change member used slot taken)
 bookings_stored club rows stored change member used slot taken costs persons = record {
-  members = ap (map (used_row member used)) stored.members ∙ map_map (used_row member used) (member_row club) club.members
+  members = ap (map (used_row member used)) stored.members ∙ map-map (used_row member used) (member_row club) club.members
       ∙ map_agree _ (member_row (record club { bookings = change club.bookings })) costs club.members;
   facilities = stored.facilities;
   keys = stored.keys;

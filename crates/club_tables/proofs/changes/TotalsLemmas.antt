@@ -6,6 +6,7 @@ use Rattle.std.specs.List.{AllByRecursion, list_any}
 use Rattle.std.specs.Str.{bytes_eq}
 use Rattle.std.proofs.lemmas.Bool.{lt-ltb}
 use Rattle.std.proofs.lemmas.Int.{ints}
+use Rattle.std.proofs.lemmas.List.Elements.{recursion_from_All}
 use Rattle.sqlite_value.specs.declared.value.Value.TheVariants.{Int}
 use Rattle.sqlite_sql.specs.declared.ops.BinaryOp.TheVariants.{Arith}
 use Rattle.sqlite_sql.specs.declared.ops.ArithOp.TheVariants.{Add}
@@ -35,7 +36,6 @@ use Rattle.club_tables.proofs.statements.OrderLemmas.{pairs_from_apart}
 use Rattle.club_tables.proofs.statements.SelectLemmas.{Apart, apart_from_pairs}
 use Rattle.club_tables.proofs.lists.KeyedRows.{absent}
 use Rattle.club_tables.proofs.lists.SlotRows.{AreApart, same_itself, not_same}
-use Rattle.club_tables.proofs.lists.OwnerLemmas.{all_of}
 use Rattle.club_tables.proofs.changes.UpsertLemmas.{Takes}
 
 -- ---- turns
@@ -87,7 +87,7 @@ credits_of club name points (m ∷ ms) h = (first, credits_of club name points m
 
 -- each member's bookings have cost no more than a member is ever credited
 pub few_used : (club : Club) → IsSound club → AllByRecursion (λ (m : Member). used_by club m.name ≤ credited_limit) club.members
-few_used club sound = each club.members (all_of _ club.members sound.balances) (all_of _ club.members sound.rows.members)
+few_used club sound = each club.members (recursion_from_All _ club.members sound.balances) (recursion_from_All _ club.members sound.rows.members)
   where
     each : (ms : List Member) → AllByRecursion (λ (m : Member). used_by club m.name ≤ m.credited) ms → AllByRecursion IsMember ms
         → AllByRecursion (λ (m : Member). used_by club m.name ≤ credited_limit) ms
@@ -150,7 +150,7 @@ no_row slot rows none = ap (λ found. unwrap_or (option_map (λ (row : SlotRow).
 -- no slot of a facility has more persons than a facility has places
 pub few_taken : (club : Club) → IsSound club → (slot : Slot) → Contains (map (λ (f : Facility). f.name) club.facilities) slot.facility
     → taken_in slot club.bookings ≤ places_limit
-few_taken club sound slot has = each club.facilities (all_of _ club.facilities sound.places) (all_of _ club.facilities sound.rows.facilities) has
+few_taken club sound slot has = each club.facilities (recursion_from_All _ club.facilities sound.places) (recursion_from_All _ club.facilities sound.rows.facilities) has
   where
     each : (fs : List Facility) → AllByRecursion (λ (f : Facility). (s : Slot) → s.facility ≡ f.name → taken_in s club.bookings ≤ f.places) fs
         → AllByRecursion IsFacility fs

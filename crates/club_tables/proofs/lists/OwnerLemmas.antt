@@ -7,6 +7,8 @@ use Rattle.std.specs.Str.{bytes_eq}
 use Rattle.std.proofs.lemmas.Bool.{false_from_ne_true}
 use Rattle.std.proofs.lemmas.List.Sums.{sum_by-cons, sum_by_push}
 use Rattle.std.proofs.lemmas.Slice.Eq.{bytes_eq-Decides}
+use Rattle.std.proofs.Math.Bool.{and-true}
+use Rattle.std.proofs.lemmas.List.Elements.{recursion_from_All}
 use Rattle.club_rows.specs.declared.key.Key.{Key}
 use Rattle.club_core.specs.Club.{Club, IsSound, is_key_of}
 use Rattle.club_core.specs.Store.{IsOwnedBy}
@@ -14,10 +16,6 @@ use Rattle.club_tables.proofs.queries.MemberLemmas.{any_owned}
 use Rattle.club_tables.proofs.statements.SelectLemmas.{Apart, apart_from_pairs, fail_beside}
 
 -- ---- lists
-
-pub all_of : {X : Type 0} (P : X → Type 0) (xs : List X) → All P xs → AllByRecursion P xs
-all_of P [] h = tt
-all_of P (x ∷ xs) h = (h 0 x (omega arith), all_of P xs (λ k d low. h (suc k) d (omega arith)))
 
 pub map_agree : {X Y : Type 0} (f g : X → Y) → ((x : X) → f x ≡ g x) → (xs : List X) → map f xs ≡ map g xs
 map_agree f g same [] = refl
@@ -129,10 +127,6 @@ module _ (names owns : Key → Bool) where
           rw (any_missing keys missing) (either (owns key) ∙ ap owns same)
       go later false other e = later e
 
-and_true' : (b : Bool) → (b && true) ≡ b
-and_true' true = refl
-and_true' false = refl
-
 pub same_name : (name a b : List ℕ) → bytes_eq a name ≡ true → bytes_eq b name ≡ true → a ≡ b
 same_name name a b p q = (bytes_eq-Decides a name).0 p ∙ sym ((bytes_eq-Decides b name).0 q)
 
@@ -153,5 +147,5 @@ owner_is club sound key member name owned =
     let owns : Key → Bool = λ row. bytes_eq row.member name in
     let R : Key → Key → Type 0 = λ a b. a.name ≢ b.name in
     let lone = lone_keys key club.keys (apart_from_pairs R club.keys sound.unique.keys) in
-    sym (and_true' _) ∙ sym (any_owned names owns true club.keys) ∙ owner_any names owns club.keys owned.0 lone owned.1
+    sym (and-true _) ∙ sym (any_owned names owns true club.keys) ∙ owner_any names owns club.keys owned.0 lone owned.1
     ∙ ap (λ m. bytes_eq m name) owned.2 ∙ bytes_eq-sym member name

@@ -7,6 +7,7 @@ use Rattle.std.specs.Str.{bytes_eq}
 use Rattle.std.specs.Cmp.{unsigned_Decides}
 use Rattle.std.proofs.lemmas.Bool.{false_from_ne_true}
 use Rattle.std.proofs.lemmas.Slice.Eq.{bytes_eq-Decides}
+use Rattle.std.proofs.Math.Bool.{or-false}
 use Rattle.sqlite_value.specs.declared.value.Value.{Value}
 use Rattle.sqlite_value.specs.declared.value.Value.TheVariants.{Int}
 use Rattle.sqlite_value.specs.Keys.{first_key}
@@ -20,7 +21,6 @@ use Rattle.club_tables.specs.Columns.{name_values, slot_values}
 use Rattle.club_tables.specs.Stored.{SlotRow, no_slot_use, stored_slot_use}
 use Rattle.club_tables.specs.Tables.{slots_tree}
 use Rattle.club_tables.proofs.statements.SelectLemmas.{text_equal, whole_equal, Apart}
-use Rattle.club_tables.proofs.changes.ChangeLemmas.{or_false}
 use Rattle.club_tables.proofs.queries.BookingLemmas.{same_slots, three}
 use Rattle.club_tables.proofs.lists.KeyedRows.{by_put, put_once as once_put}
 
@@ -36,7 +36,7 @@ pub slots_conflict : (id id' : ℤ) (a : SlotRow) (b : Slot) (v w : Value) → c
 unfolding first_key
 slots_conflict id id' a b v w =
     rw (text_equal a.slot.facility b.facility, whole_equal a.slot.day b.day, whole_equal a.slot.hour b.hour)
-    (or_false _ ∙ three (bytes_eq a.slot.facility b.facility) (a.slot.day == b.day) (a.slot.hour == b.hour))
+    (or-false _ ∙ three (bytes_eq a.slot.facility b.facility) (a.slot.day == b.day) (a.slot.hour == b.hour))
 
 pub same_itself : (slot : Slot) → same_slot slot slot ≡ true
 same_itself slot =

@@ -7,6 +7,7 @@ use Rattle.std.specs.Option.{option_to_list}
 use Rattle.std.specs.Cmp.{unsigned_Decides}
 use Rattle.std.proofs.lemmas.Slice.Eq.{bytes_eq-Decides}
 use Rattle.std.proofs.lemmas.Bool.{and_parts}
+use Rattle.std.proofs.Math.Bool.{and-true}
 use Rattle.sqlite_tied.specs.Compute.{everything}
 use Rattle.sqlite_value.specs.declared.value.Value.TheVariants.{Int, Text}
 use Rattle.sqlite_value.specs.declared.keys.Collation.TheVariants.{Binary}
@@ -34,7 +35,7 @@ use Rattle.club_tables.specs.Tables.{slots_tree, bookings_tree}
 use Rattle.club_tables.specs.Statements.{select, is_given}
 use Rattle.club_tables.proofs.statements.SelectLemmas.{text_equal, whole_equal, apart_from_pairs, one_passes}
 use Rattle.club_tables.proofs.crashes.RepresentsLemmas.{Asks, Shows, asked_tables, asked_shows, bookings_held}
-use Rattle.club_tables.proofs.queries.KeyLemmas.{and_true, both_tests, first_returned}
+use Rattle.club_tables.proofs.queries.KeyLemmas.{both_tests, first_returned}
 
 slot_asks : Asks club_schema SLOT.now (select (inner slots_tree end) (is_given 1 0 ∷ is_given 2 1 ∷ is_given 3 2 ∷ []) (col 1 4 ∷ col 1 5 ∷ []))
     (codes "closed" ∷ codes "taken" ∷ [])
@@ -130,5 +131,5 @@ pub costs_shown : {S : Type 0} (g : Ghosts S) (old : Held S) (key : List ℕ) �
     (λ club. IsPermutation (map cost_values (filter (is_under key) club.bookings)))
 costs_shown g old key rows clean asked club others represents =
     let tables = asked_tables asked clean club others represents in
-    asked_shows asked costs_asks tables booking_values (is_under key) cost_values (λ id b. and_true _ ∙ text_equal b.key key) (λ id b. refl) club.bookings
+    asked_shows asked costs_asks tables booking_values (is_under key) cost_values (λ id b. and-true _ ∙ text_equal b.key key) (λ id b. refl) club.bookings
     (bookings_held _ club tables)

@@ -6,6 +6,7 @@ use Rattle.std.proofs.lemmas.List.{length-map}
 use Rattle.std.specs.Option.{option_to_list}
 use Rattle.std.specs.Str.{bytes_eq}
 use Rattle.std.proofs.lemmas.Slice.Eq.{bytes_eq-Decides}
+use Rattle.std.proofs.Math.Bool.{and-true}
 use Rattle.sqlite_tied.specs.Compute.{everything}
 use Rattle.sqlite_value.specs.declared.value.Value.TheVariants.{Text}
 use Rattle.sqlite.specs.Order.{Row}
@@ -28,13 +29,7 @@ use Rattle.club_tables.specs.Tables.{Holds, keys_tree, members_tree, facilities_
 use Rattle.club_tables.specs.Statements.{select, is_given}
 use Rattle.club_tables.proofs.statements.SelectLemmas.{text_equal, find_first, apart_from_pairs, one_passes, short_permutation}
 use Rattle.club_tables.proofs.crashes.RepresentsLemmas.{Asks, Shows, asked_tables, asked_shows, keys_held}
-
-pub filter_mapped : {X Y : Type 0} (p : Y → Bool) (f : X → Y) (xs : List X) → filter p (map f xs) ≡ map f (filter (λ x. p (f x)) xs)
-filter_mapped p f [] = refl
-filter_mapped {X} {Y} p f (x ∷ xs) =
-    let more = filter_mapped p f xs in
-    elim (p (f x)) as (λ b. cond b (f x ∷ filter p (map f xs)) (filter p (map f xs)) ≡ map f (cond b (x ∷ filter (λ y. p (f y)) xs) (filter (λ y. p (f y)) xs)))
-    [ true ↦ ap (λ ys. f x ∷ ys) more | false ↦ more ]
+use Rattle.sqlite_trees.proofs.ListLemmas.{filter-map}
 
 pub find_mapped : {X Y : Type 0} (p : Y → Bool) (f : X → Y) (xs : List X) → find p (map f xs) ≡ option_map f (find (λ x. p (f x)) xs)
 find_mapped p f [] = refl
@@ -44,12 +39,8 @@ find_mapped p f (x ∷ xs) = elim (p (f x)) as (λ b. cond b (Some (f x)) (find 
 same_names : (name a b : List ℕ) → bytes_eq a name ≡ true → bytes_eq b name ≡ true → a ≡ b
 same_names name a b p q = (bytes_eq-Decides a name).0 p ∙ sym ((bytes_eq-Decides b name).0 q)
 
-pub and_true : (b : Bool) → (b && true) ≡ b
-and_true true = refl
-and_true false = refl
-
 pub both_tests : (a a' b b' : Bool) → a ≡ a' → b ≡ b' → (a && (b && true)) ≡ (a' && b')
-both_tests a a' b b' p q = let e = and_true b in cc
+both_tests a a' b b' p q = let e = and-true b in cc
 
 one_listed : {X : Type 0} (xs : List X) → length xs ≤ 1 → xs ≡ option_to_list (slice_get xs 0)
 one_listed [] low = refl
@@ -80,7 +71,7 @@ pub key_shown : {S : Type 0} (g : Ghosts S) (old : Held S) (name : List ℕ)
 key_shown g old name rows clean asked club others represents =
     let tables = asked_tables asked clean club others represents in
     let p : Key → Bool = λ key. bytes_eq key.name name in
-    let same = asked_shows asked key_asks tables key_values p key_values (λ id key. and_true _ ∙ text_equal key.name name) (λ id key. refl) club.keys
+    let same = asked_shows asked key_asks tables key_values p key_values (λ id key. and-true _ ∙ text_equal key.name name) (λ id key. refl) club.keys
     (keys_held _ club tables) in
     first_returned key_values p club.keys rows (one_named (λ (key : Key). key.name) name club.keys tables.sound.unique.keys) same
 
@@ -101,7 +92,7 @@ older_shown g old name rows clean asked club others represents =
     let p : OlderRow → Bool = λ row. bytes_eq row.key name in
     let show : OlderRow → Row = λ row. older_root_values row.older in
     let olders = tables.rows.olders in
-    let same = asked_shows asked older_asks tables older_values p show (λ id row. and_true _ ∙ text_equal row.key name) (λ id row. refl) olders
+    let same = asked_shows asked older_asks tables older_values p show (λ id row. and-true _ ∙ text_equal row.key name) (λ id row. refl) olders
     tables.holds_rows.held.olders in
     first_returned show p olders rows (one_named (λ (row : OlderRow). row.key) name olders tables.storage.olders_once) same
     ∙ shown_again (find p olders) ∙ ap (λ o. map older_root_values (option_to_list o)) (tables.storage.olders name)
@@ -116,10 +107,10 @@ pub member_shown : {S : Type 0} (g : Ghosts S) (old : Held S) (name : List ℕ) 
 member_shown g old name rows clean asked club others represents =
     let tables = asked_tables asked clean club others represents in
     let p : MemberRow → Bool = λ row. bytes_eq row.member.name name in
-    let same = asked_shows asked member_asks tables member_values p member_values (λ id row. and_true _ ∙ text_equal row.member.name name) (λ id row. refl)
+    let same = asked_shows asked member_asks tables member_values p member_values (λ id row. and-true _ ∙ text_equal row.member.name name) (λ id row. refl)
     (map (member_row club) club.members) (subst (Holds member_values _) tables.storage.members tables.holds_rows.held.members) in
     let low = one_named (λ (member : Member). member.name) name club.members tables.sound.unique.members in
-    let fewer = filter_mapped p (member_row club) club.members in
+    let fewer = filter-map p (member_row club) club.members in
     first_returned member_values p (map (member_row club) club.members) rows (rw fewer (omega (
       arith,
       low,
@@ -137,7 +128,7 @@ pub facility_shown : {S : Type 0} (g : Ghosts S) (old : Held S) (name : List ℕ
 facility_shown g old name rows clean asked club others represents =
     let tables = asked_tables asked clean club others represents in
     let p : Facility → Bool = λ facility. bytes_eq facility.name name in
-    let same = asked_shows asked facility_asks tables facility_values p facility_values (λ id facility. and_true _ ∙ text_equal facility.name name)
+    let same = asked_shows asked facility_asks tables facility_values p facility_values (λ id facility. and-true _ ∙ text_equal facility.name name)
     (λ id facility. refl) club.facilities (subst (Holds facility_values _) tables.storage.facilities tables.holds_rows.held.facilities) in
     first_returned facility_values p club.facilities rows
     (one_named (λ (facility : Facility). facility.name) name club.facilities tables.sound.unique.facilities) same

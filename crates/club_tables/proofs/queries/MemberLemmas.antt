@@ -12,6 +12,7 @@ use Rattle.std.proofs.lemmas.List.{length-map}
 use Rattle.std.proofs.lemmas.List.Elements.{All-head, All-tail, All-filter, filter_agree}
 use Rattle.std.proofs.lemmas.List.Sorted.{IsPermutation-map, IsPermutation-trans, length_permutation}
 use Rattle.std.proofs.lemmas.Slice.Eq.{bytes_eq-Decides}
+use Rattle.std.proofs.Math.Bool.{and-true}
 use Rattle.sqlite_tied.specs.Compute.{everything}
 use Rattle.sqlite_value.specs.declared.value.Value.{Value}
 use Rattle.sqlite_value.specs.declared.value.Value.TheVariants.{Int, Text}
@@ -40,10 +41,10 @@ use Rattle.club_tables.specs.Columns.{whole, key_values, booking_values}
 use Rattle.club_tables.specs.Tables.{keys_tree, bookings_tree}
 use Rattle.club_tables.specs.Statements.{select, is_given}
 use Rattle.club_tables.proofs.statements.SelectLemmas.{apart_from_pairs, from_truth_is, text_equal, whole_equal}
-use Rattle.club_tables.proofs.statements.JoinLemmas.{filter_filter, map_flat_map, IsElsewhere, pairs_of, selected_both}
+use Rattle.club_tables.proofs.statements.JoinLemmas.{filter_filter, IsElsewhere, pairs_of, selected_both}
 use Rattle.club_tables.proofs.crashes.RepresentsLemmas.{Asks, Shows, asked_tables, asked_reads, keys_held, bookings_held}
-use Rattle.club_tables.proofs.queries.KeyLemmas.{and_true}
 use Rattle.club_tables.proofs.queries.BookingLemmas.{no_truth}
+use Rattle.sqlite_trees.proofs.ListLemmas.{map-flat_map}
 
 -- the booking's key is the key
 abbrev under_it : Term
@@ -167,14 +168,10 @@ owned_shown : (member : List ℕ) (test : Booking → Bool) (show : Booking → 
 owned_shown member test show club rows unique h =
     let pairs : Key → List Booking = λ key. filter (is_owned member test key) club.bookings in
     IsPermutation-trans (map show (filter test (bookings_of member club))) (flat_map (λ key. map show (pairs key)) club.keys) rows
-    (subst (IsPermutation (map show (filter test (bookings_of member club)))) (map_flat_map show pairs club.keys)
+    (subst (IsPermutation (map show (filter test (bookings_of member club)))) (map-flat_map show pairs club.keys)
     (IsPermutation-map show _ _ (owned_rows member test club unique))) h
 
 -- ---- the statements
-
-all_pass : {X : Type 0} (xs : List X) → filter (λ x. true) xs ≡ xs
-all_pass [] = refl
-all_pass (x ∷ xs) = ap (λ ys. x ∷ ys) (all_pass xs)
 
 -- whether a booking is still to come, as the statement asks it
 abbrev comes : ℕ → Booking → Bool
@@ -211,7 +208,7 @@ open_shown g old member moment rows clean asked club others represents =
     let e = text_equal k.name b.key in
     let f = text_equal k.member member in
     let t = whole_equal (truth b.cancelled) 0 ∙ no_truth b.cancelled in
-    let l = and_true (is_true (binary (Compare Ge Binary) (whole b.slot.day) (whole (moment / 1440)))) in
+    let l = and-true (is_true (binary (Compare Ge Binary) (whole b.slot.day) (whole (moment / 1440)))) in
     let h : (is_true (binary (Compare Eq Binary) (Text k.name) (Text b.key)) && (is_true (binary (Compare Eq Binary) (Text k.member) (Text member))
     && (is_true (binary (Compare Eq Binary) (whole (truth b.cancelled)) (whole 0))
     && (is_true (binary (Compare Gt Binary) (start_value b) (whole moment))

@@ -13,9 +13,9 @@ use Rattle.sqlite.specs.Program.{overlay}
 use Rattle.sqlite.specs.Effect.{Database, Answers}
 use Rattle.club_tables.specs.Statements.{select}
 use Rattle.club_tables.specs.Tables.{Holds}
-use Rattle.club_tables.proofs.statements.JoinLemmas.{flat_map_agree}
 use Rattle.club_tables.proofs.statements.PassLemmas.{as_many, each_row}
 use Rattle.club_tables.proofs.statements.SelectLemmas.{no_overlay, pick_by_if}
+use Rattle.sqlite_trees.proofs.ListLemmas.{flat_map_same_on}
 
 -- whether there is a row, by a count that goes no further than one
 abbrev pub is_counted : ℕ → Bool
@@ -69,7 +69,7 @@ module _ (params : Row) (inside_tests tests project : List Term) where
       let staged : a.staged ≡ map each (filter (passes others) (db.trees outer)) =
       a.grouped ∙ ap (λ xs. flat_map (ways (overlay db.trees [] inside)) xs) (no_overlay db.trees outer)
       ∙ ap (λ ys. flat_map (ways ys) (db.trees outer)) (no_overlay db.trees inside)
-      ∙ flat_map_agree (ways others) (λ row. one (count_in others row) row) (λ row. ap (λ n. one n row) (counts row)) (db.trees outer)
+      ∙ flat_map_same_on (ways others) (λ row. one (count_in others row) row) (λ row. ap (λ n. one n row) (counts row)) (db.trees outer)
       ∙ pick_by_if (passes others) each (db.trees outer) in
       let kept : a.kept ≡ map (output query) (map each (filter (passes others) (db.trees outer))) = a.distinct ∙ ap (map (output query)) staged in
       let same = IsPermutation-map (λ (o : Output). o.1) a.kept a.ordered a.same in

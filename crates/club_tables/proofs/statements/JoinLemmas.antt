@@ -15,20 +15,9 @@ use Rattle.sqlite.specs.Effect.{Database, Reads, Answers}
 use Rattle.club_tables.specs.Tables.{IsRowOf, Holds}
 use Rattle.club_tables.specs.Statements.{select}
 use Rattle.club_tables.proofs.statements.SelectLemmas.{Apart, pick_by_if, no_overlay, picked}
+use Rattle.sqlite_trees.proofs.ListLemmas.{map-map, map-flat_map, flat_map_same_on}
 
 -- ---- lists
-
-pub flat_map_agree : {X A : Type 0} (f g : X → List A) → ((x : X) → f x ≡ g x) → (xs : List X) → flat_map f xs ≡ flat_map g xs
-flat_map_agree f g same [] = refl
-flat_map_agree f g same (x ∷ xs) = let e = same x in let more = flat_map_agree f g same xs in cc
-
-pub map_flat_map : {X A B : Type 0} (h : A → B) (f : X → List A) (xs : List X) → map h (flat_map f xs) ≡ flat_map (λ x. map h (f x)) xs
-map_flat_map h f [] = refl
-map_flat_map h f (x ∷ xs) = map-append h (f x) (flat_map f xs) ∙ ap (λ ys. map h (f x) ++ ys) (map_flat_map h f xs)
-
-pub map_map : {A B C : Type 0} (h : B → C) (f : A → B) (xs : List A) → map h (map f xs) ≡ map (λ x. h (f x)) xs
-map_map h f [] = refl
-map_map h f (x ∷ xs) = ap (λ ys. h (f x) ∷ ys) (map_map h f xs)
 
 pub filter_filter : {X : Type 0} (p q : X → Bool) (xs : List X) → filter p (filter q xs) ≡ filter (λ x. q x && p x) xs
 filter_filter p q [] = refl
@@ -103,15 +92,15 @@ module _ (params : Row) (tests : List Term) (project : List Term) where
       let staged : a.staged ≡ flat_map below (db.trees outer) =
       a.grouped ∙ ap (λ xs. flat_map (ways (overlay db.trees [] inside)) xs) (no_overlay db.trees outer)
       ∙ ap (λ ys. flat_map (ways ys) (db.trees outer)) (no_overlay db.trees inside)
-      ∙ flat_map_agree (ways (db.trees inside)) below (λ x. pick_by_if (joins x) (pair x) (db.trees inside)) (db.trees outer) in
+      ∙ flat_map_same_on (ways (db.trees inside)) below (λ x. pick_by_if (joins x) (pair x) (db.trees inside)) (db.trees outer) in
       let kept : a.kept ≡ map (output query) (flat_map below (db.trees outer)) = a.distinct ∙ ap (map (output query)) staged in
       let same = IsPermutation-map (λ (o : Output). o.1) a.kept a.ordered a.same in
       let shown : Env → Row = λ env. (output query env).1 in
       let all : map (λ (o : Output). o.1) a.kept ≡ flat_map (λ x. map (shows_both x) (filter (joins x) (db.trees inside))) (db.trees outer) =
-      ap (map (λ (o : Output). o.1)) kept ∙ map_map (λ (o : Output). o.1) (output query) (flat_map below (db.trees outer))
-      ∙ map_flat_map shown below (db.trees outer)
-      ∙ flat_map_agree (λ x. map shown (below x)) (λ x. map (shows_both x) (filter (joins x) (db.trees inside))) (λ x.
-      map_map shown (pair x) (filter (joins x) (db.trees inside))) (db.trees outer) in
+      ap (map (λ (o : Output). o.1)) kept ∙ map-map (λ (o : Output). o.1) (output query) (flat_map below (db.trees outer))
+      ∙ map-flat_map shown below (db.trees outer)
+      ∙ flat_map_same_on (λ x. map shown (below x)) (λ x. map (shows_both x) (filter (joins x) (db.trees inside))) (λ x.
+      map-map shown (pair x) (filter (joins x) (db.trees inside))) (db.trees outer) in
       subst (λ ys. IsPermutation ys rows) all (subst (IsPermutation (map (λ (o : Output). o.1) a.kept)) (sym a.shown) same)
 
 module _ {X Y : Type 0} (outer_values : X → Row) (values : Y → Row) (params : Row) (tests : List Term) (project : List Term) (p : X → Y → Bool) (show : Y → Row)

@@ -5,6 +5,7 @@ use Rattle.std.specs.Prelude.{drop, unwrap_or}
 use Rattle.std.proofs.lemmas.List.{length-map}
 use Rattle.sqlite_rules.proofs.RowLemmas.{length-numbered}
 use Rattle.std.specs.List.{AllByRecursion, AllZip, list_any, list_all}
+use Rattle.std.proofs.Math.Bool.{and-true}
 use Rattle.sqlite_value.specs.declared.value.Value.TheVariants.{Null, Int}
 use Rattle.sqlite_value.specs.declared.keys.Collation.TheVariants.{Binary}
 use Rattle.sqlite_sql.specs.declared.ops.BinaryOp.TheVariants.{Compare}
@@ -45,7 +46,6 @@ use Rattle.club_tables.proofs.lists.RowLemmas.{holds_more}
 use Rattle.club_tables.proofs.statements.InsertLemmas.{went, same_value}
 use Rattle.club_tables.proofs.statements.MeansLemmas.{Wrote}
 use Rattle.club_tables.proofs.statements.UpdateLemmas.{no_works}
-use Rattle.club_tables.proofs.queries.KeyLemmas.{and_true}
 use Rattle.club_tables.proofs.statements.PassLemmas.{any_counts, rows_found}
 use Rattle.club_tables.proofs.statements.SelectLemmas.{Apart, one_passes, test, shows, answered}
 use Rattle.club_tables.proofs.statements.ReplaceLemmas.{replaced_where}
@@ -269,7 +269,7 @@ module _ (name : List ℕ) (columns : List Column) (keys : List (List ℕ)) (che
         tests [] (y ∷ ys) same there id of found = absurd same
         tests (r ∷ before) [] same there id of found = absurd same
         tests (r ∷ before) (y ∷ ys) same there id of found =
-            let one : list_all (holds (env there ∷ r ∷ [])) (is_there there_at ∷ []) ≡ has_id id r = rw (same.0.1, of) (and_true _ ∙ id_equal same.0.0 id) in
+            let one : list_all (holds (env there ∷ r ∷ [])) (is_there there_at ∷ []) ≡ has_id id r = rw (same.0.1, of) (and-true _ ∙ id_equal same.0.0 id) in
             (one ∙ found.0, tests before ys same.1 there id of found.1)
 
         -- the row that is met is changed

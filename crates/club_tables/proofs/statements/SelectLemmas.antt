@@ -8,6 +8,7 @@ use Rattle.std.specs.Ordering.{is_eq, int_cmp}
 use Rattle.std.proofs.lemmas.Bool.Decides.{nat_tests}
 use Rattle.std.proofs.lemmas.Map.Text.{is_eq-slice_cmp}
 use Rattle.std.proofs.lemmas.List.Sorted.{IsPermutation-map, length_permutation}
+use Rattle.std.proofs.lemmas.List.Elements.{recursion_from_All}
 use Rattle.sqlite_value.specs.declared.value.Value.TheVariants.{Int, Text, Blob, Null}
 use Rattle.sqlite_value.specs.declared.keys.Collation.TheVariants.{Binary}
 use Rattle.sqlite_value.proofs.OrderLemmas.{value_cmp-Int, value_cmp-Text, value_cmp-Blob}
@@ -131,14 +132,10 @@ abbrev pub Apart : {X : Type 0} → (X → X → Type 0) → List X → Type 0
 Apart R [] = Unit {0}
 Apart R (x ∷ xs) = AllByRecursion (R x) xs × Apart R xs
 
-from_indexes : {X : Type 0} (P : X → Type 0) (xs : List X) → ((j : ℕ) (d : X) → j < length xs → P (slice_index_or xs j d)) → AllByRecursion P xs
-from_indexes P [] h = tt
-from_indexes P (x ∷ xs) h = (h 0 x (omega arith), from_indexes P xs (λ j d low. h (suc j) d (omega arith)))
-
 pub apart_from_pairs : {X : Type 0} (R : X → X → Type 0) (xs : List X) → AllPairs R xs → Apart R xs
 apart_from_pairs R [] h = tt
 apart_from_pairs R (x ∷ xs) h = (
-  from_indexes (R x) xs (λ j d low. h 0 (suc j) d (omega arith) (omega arith)),
+  recursion_from_All (R x) xs (λ j d low. h 0 (suc j) d (omega arith) (omega arith)),
   apart_from_pairs R xs (λ i j d less low. h (suc i) (suc j) d (omega arith) (omega arith)),
 )
 
