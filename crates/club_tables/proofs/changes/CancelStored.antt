@@ -5,7 +5,7 @@ use Rattle.std.specs.Prelude.{filter, sum_by, slice_index_or}
 use Rattle.std.specs.List.{AllByRecursion}
 use Rattle.std.specs.Str.{bytes_eq}
 use Rattle.std.proofs.lemmas.Bool.{and_parts}
-use Rattle.std.proofs.lemmas.List.{length-map}
+use Rattle.std.proofs.lemmas.List.{length-map, get_or-map}
 use Rattle.club_values.specs.declared.slot.Slot.{Slot}
 use Rattle.club_rows.specs.declared.booking.Booking.{Booking}
 use Rattle.club_rows.specs.declared.member.Member.{Member}
@@ -26,11 +26,6 @@ use Rattle.club_tables.proofs.lists.OwnerLemmas.{IsAlone, picked_changed, same_n
 use Rattle.club_tables.proofs.changes.StoredLemmas.{totals_rows, bookings_stored}
 
 -- ---- cancellations
-
-index_mapped : {X Y : Type 0} (f : X → Y) (xs : List X) (k : ℕ) (d : X) → k < length xs → slice_index_or (map f xs) k (f d) ≡ f (slice_index_or xs k d)
-index_mapped f [] k d low = absurd (omega arith)
-index_mapped f (x ∷ xs) zero d low = refl
-index_mapped f (x ∷ xs) (suc k) d low = index_mapped f xs k d (omega arith)
 
 abbrev pub is_named : List ℕ → ℕ → Booking → Bool
 is_named key number booking = is_under key booking && booking.number == number
@@ -97,7 +92,7 @@ module _ (club : Club) (sound : IsSound club) (booking : Booking) (cancels : IsT
   next_row : IsBooking (change booking)
   next_row =
       let at : slice_index_or (map change club.bookings) there.0.0 (change booking) ≡ change booking =
-      index_mapped change club.bookings there.0.0 booking there.0.1 ∙ ap change there.0.2 in
+      get_or-map change club.bookings there.0.0 booking (change booking) there.0.1 ∙ ap change there.0.2 in
       subst IsBooking at (fits.rows.bookings there.0.0 (change booking) (omega (arith, there.0.1, length-map club.bookings change)))
 
   nothing_back : booking.refund ≡ 0

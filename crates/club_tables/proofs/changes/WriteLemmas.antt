@@ -1,6 +1,7 @@
 -- Which club is represented after statements that write, whether they succeed or fail.
 use Rattle.std.proofs.Common.{◌≡◌, ◌<◌, length, List, [], ◌∷◌, IsTrue, Result, Ok, Err, OnOk, OnErr, inl, inr, refl, sym, subst, ◌∙◌, arith}
 use Rattle.std.specs.Prelude.{IsErr, MatchResult}
+use Rattle.std.proofs.lemmas.Result.{IfErr-weaker, on_err_weaker}
 use Rattle.sqlite.specs.Tree.{Trees}
 use Rattle.sqlite.specs.Store.{Ghosts}
 use Rattle.sqlite.specs.Effect.{Database}
@@ -19,8 +20,8 @@ use Rattle.club_tables.specs.Fault.{Commits, FailsInTurn, FailsToRun}
 use Rattle.club_core.specs.declared.change.Change.TheVariants.{InsertKey}
 use Rattle.club_tables.specs.ChangeStatements.{AreStatementsOf, statements_of}
 use Rattle.club_tables.proofs.opening.OpenLemmas.{IsSettled, settles}
-use Rattle.club_tables.proofs.crashes.RepresentsLemmas.{on_err, survives_same}
-use Rattle.club_tables.proofs.queries.ReadLemmas.{at_once, fault_if}
+use Rattle.club_tables.proofs.crashes.RepresentsLemmas.{survives_same}
+use Rattle.club_tables.proofs.queries.ReadLemmas.{at_once}
 use Rattle.club_tables.proofs.crashes.SurviveLemmas.{kept_when_idle, may_commit, commits_nothing}
 
 module _ {S : Type 0} (g : Ghosts S) (all : List BoundStatement) (some : 0 < length all) (old new : Held S)
@@ -93,11 +94,11 @@ makes g change some old new r commits settled truth made less =
           (carries, made db club tables (record { carries = carries; sound = sound }) ran)) r (commits.ran clean) commits.kept settled;
       untrue = λ clean club others represents no. refused g all some old new commits.survives clean club others represents r (IsTrueOf change club)
           (λ db tables ran. truth db club tables ran) (commits.ran clean) commits.kept no;
-      no_change = on_err r commits.kept (λ kept rest. kept);
+      no_change = on_err_weaker r (λ kept rest. kept) commits.kept;
       survives = may_commit g 1 all (AreStatementsOf change) refl old new commits.survives;
-      fault = λ clean. fault_if (FailsToRun g 1 all old new) (IsChangeFault g change old new) r (commits.fault clean) (λ fault failed.
-          inl (record { from = old; after = at_once g old (earlier clean); failure = failed }));
-      fault_if_fits = λ clean club others represents fits. fault_if (FailsToRun g 1 all old new) (IsRunFault g 0 all old new) r (commits.fault clean) (λ fault
+      fault = λ clean. IfErr-weaker r (FailsToRun g 1 all old new) (IsChangeFault g change old new) (λ fault failed.
+          inl (record { from = old; after = at_once g old (earlier clean); failure = failed })) (commits.fault clean);
+      fault_if_fits = λ clean club others represents fits. IfErr-weaker r (FailsToRun g 1 all old new) (IsRunFault g 0 all old new) (λ fault
           failed. record {
             from = old;
             after = at_once g old (earlier clean);
@@ -107,7 +108,7 @@ makes g change some old new r commits settled truth made less =
                   (represents.held (earlier clean) is_open)) failed.mid fault failed.failure;
               fault_count = failed.fault_count;
             };
-          });
+          }) (commits.fault clean);
     }
 
 never_fits : (change : Change) → HasOlderRoot change → (club : Club) → ¬ FitsClub change club

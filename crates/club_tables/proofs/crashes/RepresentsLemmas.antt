@@ -41,10 +41,6 @@ represents_on IsHeld old new kept quiet club others rests =
       left = λ clean trees may. elim (quiet.crash clean trees may) [ inl was ↦ rests.left (earlier clean) trees was | inr none ↦ absurd none ];
     }
 
-pub keeps_club : {S : Type 0} (g : Ghosts S) (old new : Held S) → IsKept (state g old) (state g new) → Survives (state g old) (state g new) (λ _. ⊥)
-    → KeepsClub (represents_in g) old new
-keeps_club g old new kept quiet club others represents = represents_on HoldsClub (state g old) (state g new) kept quiet club others represents
-
 shown_open : (sql : List ℕ) (old new : State) (c : Compiled) (full : Row) (rows : List Row) (returning : Option Returning)
     → ShowsRows old new sql c full rows returning → IsTrue old.is_open
 shown_open sql old new c full rows None h = h.3.0.was_open
@@ -93,26 +89,6 @@ abbrev pub Shows : {S : Type 0} → Ghosts S → Held S → BoundStatement → (
 Shows g old statement IsShown =
     (rows : List Row) → HasCleanDisk (state g old) → Asked g statement.0 statement.1 old rows → (club : Club) (others : List Club)
     → Represents (state g old) club others → IsShown club rows
-
-pub if_ok_map : {A E : Type 0} (P Q : A → Type 0) (r : Result A E) → IfOk r P → ((x : A) → P x → Q x) → IfOk r Q
-if_ok_map P Q (Ok x) p f = f x p
-if_ok_map P Q (Err e) p f = tt
-
-pub on_ok : {A E : Type 0} {P Q : Type 0} (r : Result A E) → OnOk r P → (P → Q) → OnOk r Q
-on_ok (Ok x) p f = f p
-on_ok (Err e) p f = tt
-
-pub on_err : {A E : Type 0} {P Q : Type 0} (r : Result A E) → OnErr r P → (P → Q) → OnErr r Q
-on_err (Ok x) p f = tt
-on_err (Err e) p f = f p
-
-pub keeps_first : {S : Type 0} (g : Ghosts S) (old new : Held S) → IsKept (state g old) (state g new) → Survives (state g old) (state g new) (λ _. ⊥)
-    → KeepsClub (version_1_in g) old new
-keeps_first g old new kept quiet club others first = represents_on HoldsClubVersion1 (state g old) (state g new) kept quiet club others first
-
-pub keeps_second : {S : Type 0} (g : Ghosts S) (old new : Held S) → IsKept (state g old) (state g new)
-    → Survives (state g old) (state g new) (λ _. ⊥) → KeepsClub (version_2_in g) old new
-keeps_second g old new kept quiet club others second = represents_on HoldsClubVersion2 (state g old) (state g new) kept quiet club others second
 
 pub survives_same : (s : State) → Survives s s (λ _. ⊥)
 survives_same s = record {

@@ -11,12 +11,12 @@ use Rattle.club_tables.specs.declared.texts.TheConstants.{DROP_BOOKINGS_BY_KEY}
 use Rattle.club_tables.specs.Schema.{unindexed_schema}
 use Rattle.club_tables.specs.Opening.{index_batch}
 use Rattle.club_tables.specs.Stored.{Rows}
-use Rattle.club_tables.specs.Tables.{HoldsClub, HoldsClubUnindexed, HoldsRowsWith, HoldsRows, Represents, RepresentsVersion2}
+use Rattle.club_tables.specs.Tables.{HoldsClub, HoldsClubUnindexed, HoldsRowsWith, HoldsRows, Represents, RepresentsVersion2, HoldsClubVersion2}
 use Rattle.club_tables.specs.Transaction.{Ran, IsKept, IsUnderstood, transaction_start}
 use Rattle.club_tables.proofs.statements.HoldsRowsLemmas.{trees_kept}
 use Rattle.club_tables.proofs.statements.InsertLemmas.{indexes}
 use Rattle.club_tables.proofs.opening.MakesLemmas.{makes_bookings_by_key, indexes_again, drops_none, never_ran}
-use Rattle.club_tables.proofs.crashes.RepresentsLemmas.{keeps_second}
+use Rattle.club_tables.proofs.crashes.RepresentsLemmas.{represents_on}
 
 module _ {S : Type 0} (g : Ghosts S) (old : Held S) (db : Database) (ran : Ran g 0 index_batch old db) where
   -- every row stays
@@ -46,7 +46,7 @@ pub named_represents : {S : Type 0} (g : Ghosts S) (old new : Held S) → IsKept
     → IsUnderstood (state g old).now.schema DROP_BOOKINGS_BY_KEY.now
     → (club : Club) (others : List Club) → RepresentsVersion2 (state g old) club others → Represents (state g new) club others
 named_represents g old new kept quiet named club others second =
-    let next = keeps_second g old new kept quiet club others second in
+    let next = represents_on HoldsClubVersion2 (state g old) (state g new) kept quiet club others second in
     let earlier = λ (clean : HasCleanDisk (state g new)). let e : HasCleanDisk (state g old) = omega (arith, quiet.clean) in e in
     record {
       held = λ clean is_open. elim (next.held clean is_open) [

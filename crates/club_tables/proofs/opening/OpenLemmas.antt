@@ -1,6 +1,7 @@
 -- What an opening finds, and what it makes.
 use Rattle.std.proofs.Common.{◌≡◌, ◌⊎◌, ℕ, List, [], ◌∷◌, Result, IsTrue, true, false, true≢false, codes, inl, inr, refl, sym, subst, ap, ◌∙◌, arith}
 use Rattle.std.specs.Prelude.{is_ok}
+use Rattle.std.proofs.lemmas.Result.{on_ok_weaker, on_err_weaker}
 use Rattle.sqlite_tied.specs.Compute.{everything}
 use Rattle.sqlite.specs.Order.{Row, column}
 use Rattle.sqlite.specs.Schema.{Schema}
@@ -24,7 +25,7 @@ use Rattle.club_tables.specs.Opening.{IsOpeningBatch, RunsBatch, table_batch}
 use Rattle.club_tables.specs.Transaction.{BoundStatement, Asked, Ran, IsKept}
 use Rattle.club_tables.specs.Fault.{Commits}
 use Rattle.club_tables.proofs.statements.SelectLemmas.{selected, short_permutation}
-use Rattle.club_tables.proofs.crashes.RepresentsLemmas.{Asks, asked_open, asked_reads, on_ok, on_err}
+use Rattle.club_tables.proofs.crashes.RepresentsLemmas.{Asks, asked_open, asked_reads}
 use Rattle.club_tables.proofs.crashes.SurviveLemmas.{may_commit, was_clean}
 use Rattle.club_tables.proofs.opening.MakingLemmas.{made_tables}
 use Rattle.club_tables.proofs.opening.MakesLemmas.{never_ran, makes_again, makes_over_unindexed, makes_over_first}
@@ -64,10 +65,10 @@ module _ {S : Type 0} (g : Ghosts S) (IsHeld : Database → Club → Type 0) (st
 
   pub runs_batch : IsOpeningBatch statements → IsSettled (state g new) → RunsBatch g (λ held. RepresentsBy IsHeld (state g held)) statements old new result
   runs_batch are settled = record {
-    represents = λ clean. on_ok result (commits.ran clean) (λ ran club others before. settles (state g new) club others (λ _ _.
-        holds (state g new).committed ran.1 (earlier clean) club others before) (λ _. ran.0) ran.2 settled);
-    done = λ clean. on_ok result (commits.ran clean) (λ ran. ran.1);
-    keeps_club = λ clean. on_err result commits.kept (λ kept club others before. refused kept club others before);
+    represents = λ clean. on_ok_weaker result (λ ran club others before. settles (state g new) club others (λ _ _.
+        holds (state g new).committed ran.1 (earlier clean) club others before) (λ _. ran.0) ran.2 settled) (commits.ran clean);
+    done = λ clean. on_ok_weaker result (λ ran. ran.1) (commits.ran clean);
+    keeps_club = λ clean. on_err_weaker result (λ kept club others before. refused kept club others before) commits.kept;
     fault = commits.fault;
     survives = may_commit g 0 statements IsOpeningBatch are old new commits.survives;
   }

@@ -1,5 +1,6 @@
 -- Steps of an opening that follow a read.
 use Rattle.std.proofs.Common.{List, Result, Err, inl, inr}
+use Rattle.std.proofs.lemmas.Result.{IfErr-weaker, on_ok_weaker, on_err_weaker}
 use Rattle.sqlite.specs.Store.{Ghosts}
 use Rattle.sqlite.specs.Effect.{Database}
 use Rattle.sqlite.specs.State.{HasCleanDisk, Survives}
@@ -11,9 +12,8 @@ use Rattle.club_tables.specs.Fault.{FailsToRun}
 use Rattle.club_tables.specs.Opening.{IsOpeningBatch, IsOpeningFault, Opens}
 use Rattle.club_tables.specs.Tables.{RepresentsBy}
 use Rattle.club_tables.specs.Transaction.{BoundStatement, IsUntouched}
-use Rattle.club_tables.proofs.crashes.RepresentsLemmas.{on_ok, on_err, represents_on}
+use Rattle.club_tables.proofs.crashes.RepresentsLemmas.{represents_on}
 use Rattle.club_tables.proofs.crashes.SurviveLemmas.{after_one, commits_after, commits_nothing, was_clean}
-use Rattle.club_tables.proofs.queries.ReadLemmas.{fault_if}
 
 -- a batch that is refused after a read
 pub batch_failed : {S : Type 0} (g : Ghosts S) (statements : List BoundStatement) → IsOpeningBatch statements → (old mid new : Held S) (fault : StoreFault)
@@ -51,12 +51,12 @@ module _ {S : Type 0} (g : Ghosts S) (old mid : Held S) (untouched : IsUntouched
   opens_after Before Between Done Next Fails new result step into back done fails =
       let earlier = was_clean (state g mid) (state g new) _ step.survives in
       record {
-        represents = λ clean. on_ok result (step.represents clean) (λ represents club others before.
-            represents club others (into (earlier clean) club others before));
-        done = λ clean. on_ok result (step.done clean) (done (earlier clean) clean);
-        keeps_club = λ clean. on_err result (step.keeps_club clean) (λ keeps club others before.
-            back club others (keeps club others (into (earlier clean) club others before)));
-        fault = λ clean. fault_if (Fails mid new) (IsOpeningFault g old new) result (step.fault clean) (λ fault failed.
-            fails fault (after_one g old mid (earlier clean) untouched quiet) failed);
+        represents = λ clean. on_ok_weaker result (λ represents club others before.
+            represents club others (into (earlier clean) club others before)) (step.represents clean);
+        done = λ clean. on_ok_weaker result (done (earlier clean) clean) (step.done clean);
+        keeps_club = λ clean. on_err_weaker result (λ keeps club others before.
+            back club others (keeps club others (into (earlier clean) club others before))) (step.keeps_club clean);
+        fault = λ clean. IfErr-weaker result (Fails mid new) (IsOpeningFault g old new) (λ fault failed.
+            fails fault (after_one g old mid (earlier clean) untouched quiet) failed) (step.fault clean);
         survives = commits_after g 0 IsOpeningBatch old mid new untouched quiet step.survives;
       }

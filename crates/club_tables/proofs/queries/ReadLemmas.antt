@@ -1,5 +1,6 @@
 -- What makes a reading, and which fault it has.
 use Rattle.std.proofs.Common.{List, Result, Ok, Err, IfOk, IfErr, inl, inr, arith}
+use Rattle.std.proofs.lemmas.Result.{IfErr-weaker, IfOk-weaker}
 use Rattle.sqlite.specs.Order.{Row}
 use Rattle.sqlite.specs.Store.{Ghosts}
 use Rattle.sqlite.specs.State.{HasCleanDisk, Survives}
@@ -9,12 +10,9 @@ use Rattle.club_core.specs.Club.{Club}
 use Rattle.club_tables.specs.Answers.{Answers, FailsAtReading, FailsToRead, IsAfterReadings, IsReadFault, Reading, CanRead, reading_statement}
 use Rattle.club_tables.specs.ReadsAndChanges.{ReadsClub}
 use Rattle.club_tables.specs.Transaction.{Asked, IsKept, BoundStatement}
-use Rattle.club_tables.proofs.crashes.RepresentsLemmas.{Shows, keeps_club, if_ok_map}
+use Rattle.club_tables.proofs.crashes.RepresentsLemmas.{Shows, represents_on}
 use Rattle.club_tables.proofs.crashes.SurviveLemmas.{kept_when_idle}
-
-pub fault_if : {A E : Type 0} (P Q : E → Type 0) (r : Result A E) → IfErr r P → ((e : E) → P e → Q e) → IfErr r Q
-fault_if P Q (Ok x) p f = tt
-fault_if P Q (Err e) p f = f e p
+use Rattle.club_tables.specs.Tables.{HoldsClub}
 
 -- no reading before
 pub at_once : {S : Type 0} (g : Ghosts S) (held : Held S) → HasCleanDisk (state g held) → IsAfterReadings g held held
@@ -45,13 +43,13 @@ read_by {A = A} g reading IsAnswer old new result {IsReturned = IsReturned} kept
     let earlier = λ (clean : HasCleanDisk (state g new)). let e : HasCleanDisk (state g old) = omega (arith, quiet.clean) in e in
     let Given = λ (answer : A). (rows : List Row) × Asked g (reading_statement reading).0 (reading_statement reading).1 old rows × IsAnswer rows answer in
     record {
-      returns = λ clean club others represents. if_ok_map Given (IsReturned club) result (gives clean) (λ answer given.
-          returned club given.0 answer (shown given.0 (earlier clean) given.1 club others represents) given.2);
-      kept = λ clean. keeps_club g old new kept quiet;
+      returns = λ clean club others represents. IfOk-weaker result Given (IsReturned club) (λ answer given.
+          returned club given.0 answer (shown given.0 (earlier clean) given.1 club others represents) given.2) (gives clean);
+      kept = λ clean. represents_on HoldsClub (state g old) (state g new) kept quiet;
       no_change = λ rest. kept;
       survives = quiet;
-      fault = λ clean. fault_if (FailsAtReading g reading old new) (IsReadFault g old new) result (fails clean) (λ fault failed.
-          one_failed g reading old new fault (earlier clean) failed);
+      fault = λ clean. IfErr-weaker result (FailsAtReading g reading old new) (IsReadFault g old new) (λ fault failed.
+          one_failed g reading old new fault (earlier clean) failed) (fails clean);
     }
 
 -- the same of an answer by its rows
@@ -64,5 +62,5 @@ pub read_answer : {S A : Type 0} {g : Ghosts S} (reading : Reading) {IsAnswer : 
 read_answer {A = A} {g = g} reading {IsAnswer = IsAnswer} {old = old} {new = new} {result = result} answers kept quiet can shown returned =
     let Unanswered = λ (rows : List Row). (answer : A) × IsAnswer rows answer in
     read_by g reading IsAnswer old new result kept quiet answers.success (λ clean.
-    fault_if (FailsToRead g (reading_statement reading) Unanswered old new) (FailsAtReading g reading old new) result (answers.failure clean) (λ fault failed.
-    inl (fewer_read g (reading_statement reading) Unanswered (CanRead reading) old new fault can failed))) shown returned
+    IfErr-weaker result (FailsToRead g (reading_statement reading) Unanswered old new) (FailsAtReading g reading old new) (λ fault failed.
+    inl (fewer_read g (reading_statement reading) Unanswered (CanRead reading) old new fault can failed)) (answers.failure clean)) shown returned

@@ -1,5 +1,6 @@
 use Rattle.std.proofs.Common.{◌≡◌, List, [], ◌∷◌, Result, Ok, Err, Vec, IfErr, inl, inr, refl}
 use Rattle.std.specs.declared.alloc.Global.{Global}
+use Rattle.std.proofs.lemmas.Result.{IfOk-weaker}
 use Rattle.sqlite.specs.Order.{Row}
 use Rattle.sqlite.specs.Store.{Ghosts}
 use Rattle.sqlite.specs.Held.{Held}
@@ -14,7 +15,6 @@ use Rattle.club_tables.specs.Transaction.{Asked}
 use Rattle.club_tables.proofs.lists.BookingRows.{day_of_rows, within_limits}
 use Rattle.club_tables.proofs.queries.DayLemmas.{day_shown}
 use Rattle.club_tables.proofs.queries.ReadLemmas.{read_by}
-use Rattle.club_tables.proofs.crashes.RepresentsLemmas.{if_ok_map}
 use Rattle.club_tables.proofs.tables.Tables.day.Goals as goal
 
 -- rows that were given and not read
@@ -39,7 +39,7 @@ returns-in-Err-clause-reads g c =
 pub returns-clause-returned : goal.returns-clause-returned
 returns-clause-returned g c clean =
     let asked = rw (c.params-to_sql.ensures, c.from.ensures, c.number.ensures.value) at (c.in-Ok.ensures.asked clean) in
-    if_ok_map _ _ c.bookings_in.result (rw c.deref.ensures.value at c.bookings_in.ensures.are) (λ bookings are. (c.in-Ok.rows.items, asked, are))
+    IfOk-weaker c.bookings_in.result _ _ (λ bookings are. (c.in-Ok.rows.items, asked, are)) (rw c.deref.ensures.value at c.bookings_in.ensures.are)
 
 pub returns-clause-failed : goal.returns-clause-failed
 returns-clause-failed g c clean =
@@ -55,4 +55,4 @@ returns-clause-reads g c =
 
 pub returns-clause-limits : goal.returns-clause-limits
 returns-clause-limits g c =
-    if_ok_map _ _ c.bookings_in.result c.bookings_in.ensures.are (λ rows are. within_limits c.deref.result.now rows.items are)
+    IfOk-weaker c.bookings_in.result _ _ (λ rows are. within_limits c.deref.result.now rows.items are) c.bookings_in.ensures.are

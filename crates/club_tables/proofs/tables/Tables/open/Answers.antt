@@ -1,4 +1,5 @@
 use Rattle.std.proofs.Common.{◌≡◌, ◌≢◌, ℕ, List, [], ◌∷◌, All, IsTrue, inl, inr, refl, sym, subst, ◌∙◌, arith}
+use Rattle.std.proofs.lemmas.Result.{on_err_weaker}
 use Rattle.sqlite.specs.Order.{Row}
 use Rattle.sqlite.specs.Store.{Ghosts}
 use Rattle.sqlite.specs.Effect.{Database}
@@ -14,7 +15,6 @@ use Rattle.club_tables.specs.Opening.{HasNoDesk, AcceptsTables, YieldsRows, Yiel
 use Rattle.club_tables.specs.Opening.{WhenIdle, first_texts, texts_by_key, indexed_texts, table_batch, migration, index_batch}
 use Rattle.club_tables.specs.ReadsAndChanges.{found_in, version_1_in, version_2_in}
 use Rattle.club_tables.specs.Tables.{HoldsClubAnyVersion, IsFound, RepresentsVersion1, RepresentsVersion2}
-use Rattle.club_tables.proofs.crashes.RepresentsLemmas.{on_err}
 use Rattle.club_tables.proofs.crashes.SurviveLemmas.{opened_after, was_clean}
 use Rattle.club_tables.proofs.opening.MakingLemmas.{makes_free}
 use Rattle.club_tables.proofs.opening.OpenLemmas.{one_version, first_found, second_found}
@@ -122,10 +122,10 @@ returns-then-is_version-clause-untouched g c =
     let old = c.args.self.now in
     let mid = c.version.new.self in
     let new = state g.S.Store c.complete.new.self in
-    on_err c.complete.result c.complete.ensures.untouched (λ untouched clean is_open.
+    on_err_weaker c.complete.result (λ untouched clean is_open.
     let earlier : HasCleanDisk (state g.S.Store mid) = was_clean (state g.S.Store mid) new _ c.complete.ensures.opens.survives clean in
     kept_then (state g.S.Store old) (state g.S.Store mid) new (λ _. earlier) c.version.ensures.kept
-    (untouched (rests g.S.Store old mid earlier c.version.ensures.kept)) clean is_open)
+    (untouched (rests g.S.Store old mid earlier c.version.ensures.kept)) clean is_open) c.complete.ensures.untouched
 
 pub returns-then-is_version-2-clause-opens : goal.returns-then-is_version-2-clause-opens
 returns-then-is_version-2-clause-opens g c =

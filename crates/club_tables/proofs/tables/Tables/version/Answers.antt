@@ -1,10 +1,12 @@
 use Rattle.std.proofs.Common.{inl, inr}
+use Rattle.std.proofs.lemmas.Result.{IfOk-weaker}
 use Rattle.sqlite.specs.State.{HasCleanDisk}
 use Rattle.sqlite.specs.Held.{state}
-use Rattle.club_tables.proofs.crashes.RepresentsLemmas.{if_ok_map, keeps_second, keeps_first}
+use Rattle.club_tables.proofs.crashes.RepresentsLemmas.{represents_on}
 use Rattle.club_tables.proofs.crashes.SurviveLemmas.{was_clean}
 use Rattle.club_tables.proofs.opening.OpenLemmas.{version_returned}
 use Rattle.club_tables.proofs.opening.VersionLemmas.{version_answered}
+use Rattle.club_tables.specs.Tables.{HoldsClubVersion1, HoldsClubVersion2}
 use Rattle.club_tables.proofs.tables.Tables.version.Goals as goal
 
 pub returns-clause-ok : goal.returns-clause-ok
@@ -12,11 +14,11 @@ returns-clause-ok g c clean =
     let old = c.args.self.now in
     let new = c.ask.new.self in
     let earlier : HasCleanDisk (state g.S.Store old) = was_clean (state g.S.Store old) (state g.S.Store new) _ c.ask.ensures.survives clean in
-    if_ok_map _ _ c.ask.result c.ask.ensures.asked (λ rows asked. record {
+    IfOk-weaker c.ask.result _ _ (λ rows asked. record {
       query = asked clean;
       version_rows = version_answered _ _ rows.items (asked clean).shown;
       version_of_club = λ club others found. elim (version_returned g.S.Store old rows.items earlier (asked clean) club others found) [
-        | inl now ↦ inl (keeps_second g.S.Store old new c.ask.ensures.kept c.ask.ensures.survives club others now.0, now.1)
-        | inr first ↦ inr (keeps_first g.S.Store old new c.ask.ensures.kept c.ask.ensures.survives club others first.0, first.1)
+        | inl now ↦ inl (represents_on HoldsClubVersion2 (state g.S.Store old) (state g.S.Store new) c.ask.ensures.kept c.ask.ensures.survives club others now.0, now.1)
+        | inr first ↦ inr (represents_on HoldsClubVersion1 (state g.S.Store old) (state g.S.Store new) c.ask.ensures.kept c.ask.ensures.survives club others first.0, first.1)
       ];
-    })
+    }) c.ask.ensures.asked
