@@ -22,8 +22,9 @@ use Rattle.club_tables.proofs.statements.SelectLemmas.{Apart, apart_from_pairs}
 use Rattle.club_tables.proofs.lists.FindLemmas.{found}
 use Rattle.std.specs.Cmp.{unsigned_Decides}
 use Rattle.std.proofs.Math.Bool.{or-true, or-false}
-use Rattle.club_tables.proofs.lists.OwnerLemmas.{IsAlone, picked_changed, same_name, owner_is}
+use Rattle.club_tables.proofs.lists.OwnerLemmas.{IsAlone, picked_changed, owner_is}
 use Rattle.club_tables.proofs.changes.StoredLemmas.{totals_rows, bookings_stored}
+use Rattle.club_tables.proofs.queries.KeyLemmas.{same_names}
 
 -- ---- cancellations
 
@@ -54,7 +55,7 @@ named_alone key number refund (b ∷ bookings) apart = (each bookings apart.0, n
             let mine = and_parts _ _ both.0 in
             let its = and_parts _ _ both.1 in
             apart.0 (
-              same_name key b.key other.key mine.0 its.0,
+              same_names key b.key other.key mine.0 its.0,
               (unsigned_Decides b.number number).0 mine.1
                   ∙ sym ((unsigned_Decides other.number number).0 its.1),
             )

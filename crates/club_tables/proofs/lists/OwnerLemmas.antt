@@ -7,27 +7,21 @@ use Rattle.std.specs.Str.{bytes_eq}
 use Rattle.std.proofs.lemmas.Bool.{false_from_ne_true}
 use Rattle.std.proofs.lemmas.List.Sums.{sum_by-cons, sum_by_push}
 use Rattle.std.proofs.lemmas.Slice.Eq.{bytes_eq-Decides}
-use Rattle.std.proofs.Math.Bool.{and-true}
+use Rattle.std.proofs.Math.Bool.{and-true, and_comm, or-false}
 use Rattle.std.proofs.lemmas.List.Elements.{recursion_from_All}
+use Rattle.std.specs.Option.{option_to_list}
 use Rattle.club_rows.specs.declared.key.Key.{Key}
 use Rattle.club_core.specs.Club.{Club, IsSound, is_key_of}
 use Rattle.club_core.specs.Store.{IsOwnedBy}
-use Rattle.club_tables.proofs.queries.MemberLemmas.{any_owned}
+use Rattle.club_tables.proofs.queries.MemberLemmas.{any_filtered}
 use Rattle.club_tables.proofs.statements.SelectLemmas.{Apart, apart_from_pairs, fail_beside}
+use Rattle.club_tables.proofs.queries.KeyLemmas.{one_listed, one_named, same_names}
 
 -- ---- lists
 
 pub map_agree : {X Y : Type 0} (f g : X → Y) → ((x : X) → f x ≡ g x) → (xs : List X) → map f xs ≡ map g xs
 map_agree f g same [] = refl
 map_agree f g same (x ∷ xs) = let e = same x in let more = map_agree f g same xs in cc
-
-pub filter_same : {X : Type 0} (p q : X → Bool) (xs : List X) → AllByRecursion (λ x. p x ≡ q x) xs → filter p xs ≡ filter q xs
-filter_same p q [] h = refl
-filter_same p q (x ∷ xs) h = let e = h.0 in let more = filter_same p q xs h.1 in rw (e, more) refl
-
-pub none_of : {X : Type 0} (xs : List X) → filter (λ x. false) xs ≡ []
-none_of [] = refl
-none_of (x ∷ xs) = none_of xs
 
 pub all_last : {X : Type 0} (P : X → Type 0) (xs : List X) (y : X) → AllByRecursion P (xs ++ y ∷ []) → P y
 all_last P [] y h = h.0
@@ -103,49 +97,14 @@ module _ {X : Type 0} (p : X → Bool) (f : X → X) (kept : (x : X) → p x ≡
 
 -- ---- whose a booking is
 
-module _ (names owns : Key → Bool) where
-  abbrev Lone : Key → Key → Type 0
-  Lone a b = ¬ ((names a ≡ true) × (names b ≡ true))
-
-  any_missing : (keys : List Key) → AllByRecursion (λ key. names key ≡ false) keys → list_any (λ key. names key && (owns key && true)) keys ≡ false
-  any_missing [] h = refl
-  any_missing (key ∷ keys) h = rw h.0 (any_missing keys h.1)
-
-  owner_any : (keys : List Key) (row : Key) → Apart Lone keys → find names keys ≡ Some row → list_any (λ key. names key && (owns key && true)) keys ≡ owns row
-  owner_any [] row lone is = absurd cc
-  owner_any (key ∷ keys) row lone is = go (owner_any keys row lone.1) (names key) refl is
-    where
-      either : (b : Bool) → ((b && true) || false) ≡ b
-      either true = refl
-      either false = refl
-
-      go : (find names keys ≡ Some row → list_any (λ key. names key && (owns key && true)) keys ≡ owns row) → (b : Bool) → names key ≡ b
-          → cond b (Some key) (find names keys) ≡ Some row → ((b && (owns key && true)) || list_any (λ key. names key && (owns key && true)) keys) ≡ owns row
-      go later true named e =
-          let same : key ≡ row = cc in
-          let missing = fail_beside Lone names (λ a b pa pb apart. apart (pa, pb)) key named keys lone.0 in
-          rw (any_missing keys missing) (either (owns key) ∙ ap owns same)
-      go later false other e = later e
-
-pub same_name : (name a b : List ℕ) → bytes_eq a name ≡ true → bytes_eq b name ≡ true → a ≡ b
-same_name name a b p q = (bytes_eq-Decides a name).0 p ∙ sym ((bytes_eq-Decides b name).0 q)
-
-lone_keys : (name : List ℕ) (keys : List Key) → Apart (λ (a : Key) (b : Key). a.name ≢ b.name) keys
-    → Apart (Lone (λ (key : Key). bytes_eq key.name name) (λ _. true)) keys
-lone_keys name [] apart = tt
-lone_keys name (key ∷ keys) apart = (each keys apart.0, lone_keys name keys apart.1)
-  where
-    each : (others : List Key) → AllByRecursion (λ (other : Key). key.name ≢ other.name) others
-        → AllByRecursion (λ (other : Key). ¬ ((bytes_eq key.name name ≡ true) × (bytes_eq other.name name ≡ true))) others
-    each [] apart = tt
-    each (other ∷ others) apart = (λ both. apart.0 (same_name name key.name other.name both.0 both.1), each others apart.1)
-
 -- a key is the member's whose name its row holds
 pub owner_is : (club : Club) → IsSound club → (key member name : List ℕ) → IsOwnedBy member key club → is_key_of name club key ≡ bytes_eq name member
 owner_is club sound key member name owned =
     let names : Key → Bool = λ row. bytes_eq row.name key in
     let owns : Key → Bool = λ row. bytes_eq row.member name in
-    let R : Key → Key → Type 0 = λ a b. a.name ≢ b.name in
-    let lone = lone_keys key club.keys (apart_from_pairs R club.keys sound.unique.keys) in
-    sym (and-true _) ∙ sym (any_owned names owns true club.keys) ∙ owner_any names owns club.keys owned.0 lone owned.1
+    let row = owned.0 in
+    let one : filter names club.keys ≡ row ∷ [] =
+    one_listed names club.keys (one_named (λ (k : Key). k.name) key club.keys sound.unique.keys) ∙ ap option_to_list owned.1 in
+    any_filtered names owns club.keys ∙ ap (λ test. list_any test club.keys) (λ i k. and_comm (owns k) (names k) i)
+    ∙ sym (any_filtered owns names club.keys) ∙ ap (list_any owns) one ∙ or-false (owns row)
     ∙ ap (λ m. bytes_eq m name) owned.2 ∙ bytes_eq-sym member name

@@ -36,23 +36,27 @@ find_mapped p f [] = refl
 find_mapped p f (x ∷ xs) = elim (p (f x)) as (λ b. cond b (Some (f x)) (find p (map f xs)) ≡ option_map f (cond b (Some x) (find (λ y. p (f y)) xs)))
     [ true ↦ refl | false ↦ find_mapped p f xs ]
 
-same_names : (name a b : List ℕ) → bytes_eq a name ≡ true → bytes_eq b name ≡ true → a ≡ b
+pub same_names : (name a b : List ℕ) → bytes_eq a name ≡ true → bytes_eq b name ≡ true → a ≡ b
 same_names name a b p q = (bytes_eq-Decides a name).0 p ∙ sym ((bytes_eq-Decides b name).0 q)
 
 pub both_tests : (a a' b b' : Bool) → a ≡ a' → b ≡ b' → (a && (b && true)) ≡ (a' && b')
 both_tests a a' b b' p q = let e = and-true b in cc
 
-one_listed : {X : Type 0} (xs : List X) → length xs ≤ 1 → xs ≡ option_to_list (slice_get xs 0)
-one_listed [] low = refl
-one_listed (x ∷ []) low = refl
-one_listed (x ∷ y ∷ xs) low = absurd (omega arith)
+-- one element passes at most, and is the first that does
+pub one_listed : {X : Type 0} (p : X → Bool) (xs : List X) → length (filter p xs) ≤ 1 → filter p xs ≡ option_to_list (find p xs)
+one_listed {X} p xs low = short (filter p xs) low ∙ ap option_to_list (sym (find_first p xs))
+  where
+    short : (ys : List X) → length ys ≤ 1 → ys ≡ option_to_list (slice_get ys 0)
+    short [] low = refl
+    short (y ∷ []) low = refl
+    short (y ∷ z ∷ ys) low = absurd (omega arith)
 
 -- where one element passes at most, the rows are of the first that does
 pub first_returned : {X : Type 0} (show : X → Row) (p : X → Bool) (xs : List X) (rows : List Row) → length (filter p xs) ≤ 1
     → IsPermutation (map show (filter p xs)) rows → rows ≡ map show (option_to_list (find p xs))
 first_returned show p xs rows low same =
     short_permutation (map show (filter p xs)) rows (omega (arith, length-map (filter p xs) show)) same
-    ∙ ap (map show) (one_listed (filter p xs) low ∙ ap option_to_list (sym (find_first p xs)))
+    ∙ ap (map show) (one_listed p xs low)
 
 -- names identify the elements
 pub one_named : {X : Type 0} (name_of : X → List ℕ) (name : List ℕ) (xs : List X) → AllPairs (λ a b. name_of a ≢ name_of b) xs

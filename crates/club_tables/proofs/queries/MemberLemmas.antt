@@ -9,10 +9,11 @@ use Rattle.std.specs.Ordering.{is_gt, is_ge, int_cmp}
 use Rattle.std.proofs.lemmas.Bool.{and_parts, lt-ltb, false_from_ne_true}
 use Rattle.std.proofs.lemmas.Bool.Decides.{nat_tests}
 use Rattle.std.proofs.lemmas.List.{length-map}
-use Rattle.std.proofs.lemmas.List.Elements.{All-head, All-tail, All-filter, filter_agree}
+use Rattle.std.proofs.lemmas.List.Elements.{All-head, All-tail, All-filter, filter_agree, recursion_from_All, All-weaker}
 use Rattle.std.proofs.lemmas.List.Sorted.{IsPermutation-map, IsPermutation-trans, length_permutation}
 use Rattle.std.proofs.lemmas.Slice.Eq.{bytes_eq-Decides}
-use Rattle.std.proofs.Math.Bool.{and-true}
+use Rattle.std.proofs.Math.Bool.{and-true, and-false, and_assoc, and_comm}
+use Rattle.std.proofs.lemmas.List.Folds.{list_any_none}
 use Rattle.sqlite_tied.specs.Compute.{everything}
 use Rattle.sqlite_value.specs.declared.value.Value.{Value}
 use Rattle.sqlite_value.specs.declared.value.Value.TheVariants.{Int, Text}
@@ -40,7 +41,7 @@ use Rattle.club_tables.specs.Schema.{club_schema}
 use Rattle.club_tables.specs.Columns.{whole, key_values, booking_values}
 use Rattle.club_tables.specs.Tables.{keys_tree, bookings_tree}
 use Rattle.club_tables.specs.Statements.{select, is_given}
-use Rattle.club_tables.proofs.statements.SelectLemmas.{apart_from_pairs, from_truth_is, text_equal, whole_equal}
+use Rattle.club_tables.proofs.statements.SelectLemmas.{apart_from_pairs, from_truth_is, text_equal, whole_equal, filter_same}
 use Rattle.club_tables.proofs.statements.JoinLemmas.{filter_filter, IsElsewhere, pairs_of, selected_both}
 use Rattle.club_tables.proofs.crashes.RepresentsLemmas.{Asks, Shows, asked_tables, asked_reads, keys_held, bookings_held}
 use Rattle.club_tables.proofs.queries.BookingLemmas.{no_truth}
@@ -119,33 +120,25 @@ start_value_is b row =
 abbrev pub is_owned : List ℕ → (Booking → Bool) → Key → Booking → Bool
 is_owned member test key booking = bytes_eq key.name booking.key && (bytes_eq key.member member && test booking)
 
-with_one : (n o c a : Bool) → ((n && (o && c)) || (a && c)) ≡ (cond o (n || a) a && c)
-with_one true true true a = refl
-with_one true true false true = refl
-with_one true true false false = refl
-with_one true false c a = refl
-with_one false true c a = refl
-with_one false false c a = refl
+pub any_filtered : {X : Type 0} (p q : X → Bool) (xs : List X) → list_any p (filter q xs) ≡ list_any (λ x. q x && p x) xs
+any_filtered p q [] = refl
+any_filtered {X} p q (x ∷ xs) = elim (q x) as (λ b. list_any p (cond b (x ∷ filter q xs) (filter q xs)) ≡ ((b && p x) || list_any (λ y. q y && p y) xs))
+    [ true ↦ ap (λ any. p x || any) (any_filtered p q xs) | false ↦ any_filtered p q xs ]
 
-any_of : (names : Key → Bool) (o : Bool) (key : Key) (keys : List Key) → list_any names (cond o (key ∷ keys) keys)
-    ≡ cond o (names key || list_any names keys) (list_any names keys)
-any_of names true key keys = refl
-any_of names false key keys = refl
+any_and : {X : Type 0} (p : X → Bool) (b : Bool) (xs : List X) → list_any (λ x. p x && b) xs ≡ (list_any p xs && b)
+any_and p true xs = ap (λ test. list_any test xs) (λ i x. and-true (p x) i) ∙ sym (and-true (list_any p xs))
+any_and p false xs = list_any_none (λ x. p x && false) xs (λ k x low. and-false (p _)) ∙ sym (and-false (list_any p xs))
 
-pub any_owned : (names owns : Key → Bool) (b : Bool) (keys : List Key) → list_any (λ key. names key && (owns key && b)) keys
+any_owned : (names owns : Key → Bool) (b : Bool) (keys : List Key) → list_any (λ key. names key && (owns key && b)) keys
     ≡ (list_any names (filter owns keys) && b)
-any_owned names owns b [] = refl
-any_owned names owns b (key ∷ keys) =
-    ap (λ rest. (names key && (owns key && b)) || rest) (any_owned names owns b keys) ∙ with_one (names key) (owns key) b (list_any names (filter owns keys))
-    ∙ ap (λ any. any && b) (sym (any_of names (owns key) key (filter owns keys)))
-
-same_name : (a b : List ℕ) → bytes_eq a b ≡ true → a ≡ b
-same_name a b h = (bytes_eq-Decides a b).0 h
+any_owned names owns b keys =
+    ap (λ test. list_any test keys) (λ i key. (sym (and_assoc (names key) (owns key) b) ∙ ap (λ both. both && b) (and_comm (names key) (owns key))) i)
+    ∙ any_and (λ key. owns key && names key) b keys ∙ ap (λ any. any && b) (sym (any_filtered names owns keys))
 
 other_key : (member : List ℕ) (test : Booking → Bool) (a b : Key) → a.name ≢ b.name → IsElsewhere (is_owned member test) a b
 other_key member test a b apart booking h =
-    let mine = same_name a.name booking.key (and_parts _ _ h).0 in
-    false_from_ne_true _ (λ k. apart (mine ∙ sym (same_name b.name booking.key (and_parts _ _ k).0)))
+    let mine = (bytes_eq-Decides a.name booking.key).0 (and_parts _ _ h).0 in
+    false_from_ne_true _ (λ k. apart (mine ∙ sym ((bytes_eq-Decides b.name booking.key).0 (and_parts _ _ k).0)))
 
 owned_rows : (member : List ℕ) (test : Booking → Bool) (club : Club) → AllPairs (λ (a : Key) (b : Key). a.name ≢ b.name) club.keys
     → IsPermutation (filter test (bookings_of member club)) (flat_map (λ key. filter (is_owned member test key) club.bookings) club.keys)
@@ -193,10 +186,6 @@ comes_is moment b row =
     (day_after moment b.slot.day b.slot.hour row.slot.hour) in
     rw (later, from, first) refl
 
-filter_where : {X : Type 0} (P : X → Type 0) (p q : X → Bool) → ((x : X) → P x → p x ≡ q x) → (xs : List X) → All P xs → filter p xs ≡ filter q xs
-filter_where P p q same [] all = refl
-filter_where P p q same (x ∷ xs) all = let e = same x (All-head P x xs all) in let more = filter_where P p q same xs (All-tail P x xs all) in rw (e, more) refl
-
 pub open_shown : {S : Type 0} (g : Ghosts S) (old : Held S) (member : List ℕ) (moment : ℕ)
     → Shows g old (OPEN.now, Text member ∷ whole moment ∷ whole (moment / 1440) ∷ [])
     (λ club rows. length rows ≡ count_to_come moment (bookings_of member club))
@@ -221,5 +210,5 @@ open_shown g old member moment rows clean asked club others represents =
     let own = bookings_of member club in
     let same = owned_shown member (comes moment) number club rows tables.sound.unique.keys both in
     length_permutation (map number (filter (comes moment) own)) rows same ∙ length-map (filter (comes moment) own) number
-    ∙ ap length (filter_where IsBooking (comes moment) (is_to_come moment) (comes_is moment) own
-    (All-filter (λ b. is_key_of member club b.key) IsBooking club.bookings tables.sound.rows.bookings))
+    ∙ ap length (filter_same (comes moment) (is_to_come moment) own (recursion_from_All _ own (All-weaker IsBooking _ (comes_is moment) own
+    (All-filter (λ b. is_key_of member club b.key) IsBooking club.bookings tables.sound.rows.bookings))))

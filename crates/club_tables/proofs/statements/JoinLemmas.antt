@@ -14,7 +14,7 @@ use Rattle.sqlite.specs.Command.TheVariants.{Select}
 use Rattle.sqlite.specs.Effect.{Database, Reads, Answers}
 use Rattle.club_tables.specs.Tables.{IsRowOf, Holds}
 use Rattle.club_tables.specs.Statements.{select}
-use Rattle.club_tables.proofs.statements.SelectLemmas.{Apart, pick_by_if, no_overlay, picked}
+use Rattle.club_tables.proofs.statements.SelectLemmas.{Apart, pick_by_if, no_overlay, picked, none_of}
 use Rattle.sqlite_trees.proofs.ListLemmas.{map-map, map-flat_map, flat_map_same_on}
 
 -- ---- lists
@@ -56,13 +56,9 @@ module _ {X Y : Type 0} (paired : X → Y → Bool) where
   none_else x y h [] apart = refl
   none_else x y h (other ∷ xs) apart = let here = apart.0 y h in rw here (none_else x y h xs apart.1)
 
-  no_pairs : (ys : List Y) → filter (λ y. false) ys ≡ []
-  no_pairs [] = refl
-  no_pairs (y ∷ ys) = no_pairs ys
-
   pub pairs_of : (xs : List X) (ys : List Y) → Apart IsElsewhere xs → IsPermutation (filter (λ y. list_any (λ x. paired x y) xs) ys)
       (flat_map (λ x. filter (paired x) ys) xs)
-  pairs_of [] ys apart = rw (no_pairs ys) (IsPermutation-refl [])
+  pairs_of [] ys apart = rw (none_of ys) (IsPermutation-refl [])
   pairs_of (x ∷ xs) ys apart =
       let others = λ (y : Y). list_any (λ other. paired other y) xs in
       IsPermutation-trans (filter (λ y. list_any (λ other. paired other y) (x ∷ xs)) ys) (filter (paired x) ys

@@ -1,13 +1,18 @@
 -- What an UPDATE found that wrote a row.
-use Rattle.std.proofs.Common.{◌≡◌, zero, suc, ◌≤◌, ℤ, Contains, Bool, true, false, ◌||◌, cond, Some, List, [], ◌∷◌, length, map, refl, sym, ap, subst, ◌∙◌}
-use Rattle.std.proofs.Common.{arith, true≢false}
+use Rattle.std.proofs.Common.{◌≡◌, zero, suc, ◌≤◌, ℤ, Contains, Bool, true, false, ◌||◌, cond, Some, List, [], ◌∷◌, length, map, refl, sym, ap, subst, ◌∙◌, not}
+use Rattle.std.proofs.Common.{arith, true≢false, slice_get}
 use Rattle.std.specs.Prelude.{filter, find, IsPermutation}
 use Rattle.std.specs.List.{AllByRecursion, AllZip, list_any}
 use Rattle.std.proofs.lemmas.List.{length-map}
 use Rattle.std.proofs.lemmas.List.Sorted.{length_permutation}
+use Rattle.std.proofs.lemmas.List.Folds.{list_any_at}
+use Rattle.std.proofs.lemmas.List.Filters.{length-filter_both}
+use Rattle.std.proofs.lemmas.Option.{slice_get_within}
 use Rattle.sqlite_value.specs.declared.value.Value.TheVariants.{Int}
 use Rattle.sqlite.specs.Order.{Row}
 use Rattle.club_tables.specs.Tables.{IsRowOf}
+use Rattle.club_tables.proofs.statements.SelectLemmas.{find_first, filter_same}
+use Rattle.sqlite_trees.proofs.ListLemmas.{filter-filter}
 
 -- as many rows pass as elements
 pub as_many : {X : Type 0} (hit : Row → Bool) (p : X → Bool) (rows : List Row) (xs : List X) → AllZip (λ row x. hit row ≡ p x) rows xs
@@ -65,72 +70,40 @@ any_counts {X} p (x ∷ xs) any = go (p x) any (any_counts p xs)
     go false any more = more any
 
 pub contains_counts : {X : Type 0} (p : X → Bool) (xs : List X) (one : X) → Contains xs one → p one ≡ true → 1 ≤ length (filter p xs)
-contains_counts p [] one has passes = absurd (omega (arith, has.1))
-contains_counts {X} p (x ∷ xs) one (zero, low, is) passes =
-    let here : p x ≡ true = ap p is ∙ passes in
-    subst (λ b. 1 ≤ length (cond b (x ∷ filter p xs) (filter p xs))) (sym here) (omega arith)
-contains_counts {X} p (x ∷ xs) one (suc k, low, is) passes =
-    let later = contains_counts p xs one (k, omega (arith, low), is) passes in
-    elim (p x) as (λ b. 1 ≤ length (cond b (x ∷ filter p xs) (filter p xs))) [ true ↦ omega arith | false ↦ later ]
+contains_counts p xs one has passes = any_counts p xs (list_any_at p xs has.0 one has.1 (ap p has.2 ∙ passes))
 
 -- what passes the one test passes the other
 abbrev pub Implies : {X : Type 0} → (X → Bool) → (X → Bool) → Type 0
 Implies {X} p q = (x : X) → p x ≡ true → q x ≡ true
 
-fails_too : {X : Type 0} (p q : X → Bool) → Implies p q → (x : X) → q x ≡ false → p x ≡ false
-fails_too p q implies x fails = go (p x) refl
-  where
-    go : (b : Bool) → p x ≡ b → p x ≡ false
-    go false is = is
-    go true is = absurd (true≢false (sym (implies x is) ∙ fails))
-
-none_found : {X : Type 0} (p q : X → Bool) → Implies p q → (xs : List X) → length (filter q xs) ≤ 0 → AllByRecursion (λ x. p x ≡ q x) xs
-none_found p q implies [] none = tt
-none_found p q implies (x ∷ xs) none = go (q x) refl none (none_found p q implies xs)
-  where
-    go : (b : Bool) → q x ≡ b → length (cond b (x ∷ filter q xs) (filter q xs)) ≤ 0
-        → (length (filter q xs) ≤ 0 → AllByRecursion (λ y. p y ≡ q y) xs) → AllByRecursion (λ y. p y ≡ q y) (x ∷ xs)
-    go true is none more = absurd (omega arith)
-    go false is none more = (fails_too p q implies x is ∙ sym is, more none)
-
 pub found_counts : {X : Type 0} (p : X → Bool) (xs : List X) (one : X) → find p xs ≡ Some one → 1 ≤ length (filter p xs)
-found_counts p [] one found = absurd cc
-found_counts {X} p (x ∷ xs) one found = go (p x) found (found_counts p xs one)
-  where
-    go : (b : Bool) → cond b (Some x) (find p xs) ≡ Some one → (find p xs ≡ Some one → 1 ≤ length (filter p xs))
-        → 1 ≤ length (cond b (x ∷ filter p xs) (filter p xs))
-    go true found more = omega arith
-    go false found more = more found
+found_counts p xs one found = slice_get_within (filter p xs) 0 one (sym (find_first p xs) ∙ found)
 
 pub fewer : {X : Type 0} (p q : X → Bool) → Implies p q → (xs : List X) → length (filter p xs) ≤ length (filter q xs)
-fewer p q implies [] = omega arith
-fewer {X} p q implies (x ∷ xs) = go (p x) (q x) refl refl (fewer p q implies xs)
+fewer p q implies xs =
+    let parts = length-filter_both p (λ x. not (p x)) (λ x. refl) (filter q xs) in
+    omega (arith, parts, ap length (filter-filter p q implies xs))
+
+-- a narrower test that as many elements pass is passed by the same
+as_wide : {X : Type 0} (p q : X → Bool) → Implies p q → (xs : List X) → length (filter q xs) ≤ length (filter p xs) → AllByRecursion (λ x. p x ≡ q x) xs
+as_wide p q implies [] low = tt
+as_wide {X} p q implies (x ∷ xs) low = go (p x) (q x) refl refl low (as_wide p q implies xs)
   where
-    go : (b c : Bool) → p x ≡ b → q x ≡ c → length (filter p xs) ≤ length (filter q xs)
-        → length (cond b (x ∷ filter p xs) (filter p xs)) ≤ length (cond c (x ∷ filter q xs) (filter q xs))
-    go true true is also more = omega arith
-    go true false is fails more = absurd (true≢false (sym (implies x is) ∙ fails))
-    go false true is also more = omega arith
-    go false false is fails more = more
+    go : (b c : Bool) → p x ≡ b → q x ≡ c → length (cond c (x ∷ filter q xs) (filter q xs)) ≤ length (cond b (x ∷ filter p xs) (filter p xs))
+        → (length (filter q xs) ≤ length (filter p xs) → AllByRecursion (λ y. p y ≡ q y) xs) → AllByRecursion (λ y. p y ≡ q y) (x ∷ xs)
+    go true true is also low more = (is ∙ sym also, more (omega arith))
+    go true false is fails low more = absurd (true≢false (sym (implies x is) ∙ fails))
+    go false false is fails low more = (is ∙ sym fails, more low)
+    go false true is also low more = absurd (omega (arith, low, fewer p q implies xs))
 
 -- where one element passes at most, and one passes a narrower test, both tests are passed by the same elements
 pub agree : {X : Type 0} (p q : X → Bool) → Implies p q → (xs : List X) (one : X) → length (filter q xs) ≤ 1 → find p xs ≡ Some one
     → AllByRecursion (λ x. p x ≡ q x) xs
-agree p q implies [] one low found = tt
-agree {X} p q implies (x ∷ xs) one low found = go (p x) (q x) refl refl low found (agree p q implies xs one)
-  where
-    go : (b c : Bool) → p x ≡ b → q x ≡ c → length (cond c (x ∷ filter q xs) (filter q xs)) ≤ 1 → cond b (Some x) (find p xs) ≡ Some one
-        → (length (filter q xs) ≤ 1 → find p xs ≡ Some one → AllByRecursion (λ y. p y ≡ q y) xs) → AllByRecursion (λ y. p y ≡ q y) (x ∷ xs)
-    go true true is also low found more = (is ∙ sym also, none_found p q implies xs (omega arith))
-    go true false is fails low found more = absurd (true≢false (sym (implies x is) ∙ fails))
-    go false false is fails low found more = (is ∙ sym fails, more low found)
-    go false true is also low found more = absurd (omega (arith, low, found_counts p xs one found, fewer p q implies xs))
+agree p q implies xs one low found = as_wide p q implies xs (omega (arith, low, found_counts p xs one found))
 
 -- and both find the same
 pub found_by_both : {X : Type 0} (p q : X → Bool) (xs : List X) → AllByRecursion (λ x. p x ≡ q x) xs → find p xs ≡ find q xs
-found_by_both p q [] same = refl
-found_by_both p q (x ∷ xs) same =
-    subst (λ b. find p (x ∷ xs) ≡ cond b (Some x) (find q xs)) same.0 (ap (cond (p x) (Some x)) (found_by_both p q xs same.1))
+found_by_both p q xs same = find_first p xs ∙ ap (λ ys. slice_get ys 0) (filter_same p q xs same) ∙ sym (find_first q xs)
 
 pub zip_agree : {X : Type 0} (hit : Row → Bool) (p q : X → Bool) (rows : List Row) (xs : List X) → AllZip (λ row x. hit row ≡ p x) rows xs
     → AllByRecursion (λ x. p x ≡ q x) xs → AllZip (λ row x. hit row ≡ q x) rows xs

@@ -64,6 +64,14 @@ find_first p [] = refl
 find_first {X} p (x ∷ xs) =
     elim (p x) as (λ b. cond b (Some x) (find p xs) ≡ slice_get (cond b (x ∷ filter p xs) (filter p xs)) 0) [ true ↦ refl | false ↦ find_first p xs ]
 
+pub filter_same : {X : Type 0} (p q : X → Bool) (xs : List X) → AllByRecursion (λ x. p x ≡ q x) xs → filter p xs ≡ filter q xs
+filter_same p q [] h = refl
+filter_same p q (x ∷ xs) h = let e = h.0 in let more = filter_same p q xs h.1 in rw (e, more) refl
+
+pub none_of : {X : Type 0} (xs : List X) → filter (λ x. false) xs ≡ []
+none_of [] = refl
+none_of (x ∷ xs) = none_of xs
+
 -- ---- a query of one table
 
 pub no_overlay : (db : Trees) (tree : ℕ) → overlay db [] tree ≡ db tree
