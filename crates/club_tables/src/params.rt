@@ -1,12 +1,13 @@
 //! The parameters of the statements that write.
 
-ghost use Rattle.std.specs.Prelude.{◌≡◌, [], ◌∷◌, ◌++◌, pos, neg_ℤ};
+ghost use Rattle.std.specs.Prelude.{◌≡◌, ◌/◌, [], ◌∷◌, ◌++◌, pos, neg_ℤ};
 ghost use Rattle.sqlite.specs.Values.{bound};
 ghost use Rattle.sqlite_value.specs.declared.value.Value.TheVariants.{
   Int as IntValue,
   Text as TextValue,
   Blob as BlobValue,
 };
+ghost use Rattle.club_values.specs.Moment.{minutes_a_day};
 ghost use Rattle.club_rows.specs.Booking.{persons_of};
 ghost use Rattle.club_rows.specs.Columns.{truth};
 ghost use Rattle.club_core.specs.Sums.{cost_of};
@@ -21,7 +22,7 @@ ghost use Rattle.club_tables.specs.Columns.{
 };
 
 use club_rows::{Booking, Facility, Key, Member, OlderRoot, Root};
-use club_values::{Name, Slot};
+use club_values::{Moment, Name, Slot};
 use sqlite::types::ValueRef;
 
 /// A truth value as 0 or 1.
@@ -136,6 +137,18 @@ pub(crate) fn of_slot(slot: &Slot) -> [ValueRef<'_>; 3]
         ValueRef::Text(slot.facility.as_bytes()),
         ValueRef::Int(i64::from(slot.day.number())),
         ValueRef::Int(i64::from(slot.hour.number())),
+    ]
+}
+
+/// A member, a moment, and its day.
+pub(crate) fn of_open(member: &Name, moment: Moment) -> [ValueRef<'_>; 3]
+    ensures { bound result ≡ TextValue member.now ∷ whole moment ∷ whole
+        (moment / minutes_a_day) ∷ [] }
+{
+    [
+        ValueRef::Text(member.as_bytes()),
+        ValueRef::Int(i64::from(moment.number())),
+        ValueRef::Int(i64::from(moment.day().number())),
     ]
 }
 

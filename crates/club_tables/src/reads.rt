@@ -44,10 +44,10 @@ ghost use Rattle.club_tables.specs.Answers.{
   OfOpen,
 };
 
-use crate::params::of_slot;
+use crate::params::{of_open, of_slot};
 use crate::row::{FromRows, MemberRow, bookings_in};
 use crate::tables::Tables;
-use crate::{sum, texts};
+use crate::texts;
 use club_core::{SlotUse, StoreFault};
 use club_rows::{Booking, BookingNumber, Facility, Key, OlderRoot};
 use club_values::{Day, Moment, Name, Slot};
@@ -55,11 +55,15 @@ use sqlite::types::ValueRef;
 use sqlite::{Alter, params};
 use std::alloc::Global;
 
-/// Whether a booking has this key and number.
-fn is_named(booking: &Booking, key: &Name, number: BookingNumber) -> bool
-    ensures { IsTrue result ↔ ((booking.now.key ≡ key.now) × (booking.now.number ≡ number)) }
+/// Whether a booking that was found has this key and number.
+fn is_named(found: &Option<Booking>, key: &Name, number: BookingNumber) -> bool
+    ensures { IsTrue result ↔ IfSome found.now
+        (λ booking. (booking.key ≡ key.now) × (booking.number ≡ number)) }
 {
-    booking.key == *key && booking.number == number
+    match found {
+        None => true,
+        Some(booking) => booking.key == *key && booking.number == number,
+    }
 }
 
 impl<S: Alter> Tables<S> {
@@ -159,15 +163,10 @@ impl<S: Alter> Tables<S> {
             Ok(found) => found,
             Err(fault) => return Err(fault),
         };
-        match found {
-            None => Ok(None),
-            Some(booking) => {
-                if is_named(&booking, key, number) {
-                    Ok(Some(booking))
-                } else {
-                    Err(StoreFault::Storage)
-                }
-            }
+        if is_named(&found, key, number) {
+            Ok(found)
+        } else {
+            Err(StoreFault::Storage)
         }
     }
 
@@ -198,11 +197,7 @@ impl<S: Alter> Tables<S> {
         ensures gives { Answers S.Store (reading_statement (OfCosts key.now)) AreCosts
             self.old self.new result }
     {
-        let rows = match self.ask(texts::COSTS_UNDER_KEY, params![key.as_str()]) {
-            Ok(rows) => rows,
-            Err(fault) => return Err(fault),
-        };
-        sum::costs(&rows)
+        self.answer(texts::COSTS_UNDER_KEY, &[ValueRef::Text(key.as_bytes())])
     }
 
     /// How many of a member's bookings aren't cancelled and begin later than the moment.
@@ -212,12 +207,7 @@ impl<S: Alter> Tables<S> {
         ensures gives { Answers S.Store (reading_statement (OfOpen member.now moment)) IsCount
             self.old self.new result }
     {
-        let params = params![
-            member.as_str(),
-            moment.number(),
-            u32::from(moment.day().number())
-        ];
-        let rows = match self.ask(texts::OPEN, params) {
+        let rows = match self.ask(texts::OPEN, &of_open(member, moment)) {
             Ok(rows) => rows,
             Err(fault) => return Err(fault),
         };

@@ -110,23 +110,3 @@ makes g change some old new r commits settled truth made less =
             };
           }) (commits.fault clean);
     }
-
-never_fits : (change : Change) → HasOlderRoot change → (club : Club) → ¬ FitsClub change club
-never_fits (InsertKey key) older club fits = absurd (let e = rw fits.carries at older in cc)
-never_fits change older club fits = absurd older
-
--- a refusal before the first statement
-pub unmade : {S : Type 0} (g : Ghosts S) (same : Held S) (change : Change) → HasOlderRoot change → ChangesClub g change same same (Err Storage)
-unmade g same change older = record {
-  was_clean = λ clean. clean;
-  effect = λ clean club others represents sound. record {
-    held = represents.held;
-    idle = represents.idle;
-    left = λ clean trees may. elim (represents.left clean trees may) [ inl here ↦ inl here | inr there ↦ inr (inr there) ];
-  };
-  untrue = λ clean club others represents no. (refl, represents);
-  no_change = kept_when_idle (state g same);
-  survives = commits_nothing g 1 (AreStatementsOf change) same same (survives_same (state g same));
-  fault = λ clean. inr (older, refl);
-  fault_if_fits = λ clean club others represents fits. absurd (never_fits change older club fits);
-}

@@ -1,7 +1,7 @@
 -- A call that changes nothing leaves the club that is represented.
 use Rattle.std.specs.Prelude.{filter, IsPermutation}
 use Rattle.std.specs.List.{list_all}
-use Rattle.std.proofs.Common.{◌≡◌, ℕ, ℤ, Bool, false, List, [], ◌∷◌, map, IsTrue, Option, Some, None, Result, Ok, Err, IfOk, OnOk, OnErr, inl}
+use Rattle.std.proofs.Common.{◌≡◌, ℕ, ℤ, Bool, false, List, [], ◌∷◌, map, IsTrue, Option, Some, None, inl}
 use Rattle.std.proofs.Common.{inr, refl, sym, subst}
 use Rattle.std.proofs.Common.{◌∙◌, arith}
 use Rattle.sqlite_value.specs.declared.value.Value.TheVariants.{Int}
@@ -20,12 +20,10 @@ use Rattle.sqlite.specs.Held.{Held, state}
 use Rattle.sqlite.proofs.StateLemmas.{survives_then}
 use Rattle.sqlite.proofs.Callers.{IsPlain, command_of, reads_as}
 use Rattle.club_core.specs.Club.{Club}
-use Rattle.club_core.specs.Store.{KeepsClub}
 use Rattle.club_tables.specs.Schema.{club_schema}
 use Rattle.club_tables.specs.Columns.{key_values, booking_values}
-use Rattle.club_tables.specs.Tables.{HoldsClub, HoldsClubVersion1, HoldsClubVersion2, Holds, RepresentsBy, Represents, keys_tree}
+use Rattle.club_tables.specs.Tables.{HoldsClub, Holds, RepresentsBy, Represents, keys_tree}
 use Rattle.club_tables.specs.Tables.{bookings_tree}
-use Rattle.club_tables.specs.ReadsAndChanges.{represents_in, version_1_in, version_2_in}
 use Rattle.club_tables.specs.Statements.{select}
 use Rattle.club_tables.specs.Transaction.{BoundStatement, Asked, IsKept, transaction_start}
 use Rattle.club_tables.proofs.statements.SelectLemmas.{selected}

@@ -1,21 +1,20 @@
 -- Lists, sums over parts of them, and whose a booking is.
-use Rattle.std.proofs.Common.{◌≡◌, ◌≢◌, ℕ, zero, suc, ◌+◌, Bool, true, false, ◌&&◌, ◌||◌, cond, List, [], ◌∷◌, ◌++◌, map, Some, Contains, refl, sym, ap, ◌∙◌}
+use Rattle.std.proofs.Common.{◌≡◌, ◌≢◌, ℕ, zero, suc, ◌+◌, Bool, true, false, cond, List, [], ◌∷◌, ◌++◌, map, Some, Contains, refl, sym, ap, ◌∙◌}
 use Rattle.std.proofs.Common.{arith, true≢false}
-use Rattle.std.specs.Prelude.{All, filter, find, sum_by}
+use Rattle.std.specs.Prelude.{filter, find, sum_by}
 use Rattle.std.specs.List.{AllByRecursion, list_any}
 use Rattle.std.specs.Str.{bytes_eq}
 use Rattle.std.proofs.lemmas.Bool.{false_from_ne_true}
 use Rattle.std.proofs.lemmas.List.Sums.{sum_by-cons, sum_by_push}
 use Rattle.std.proofs.lemmas.Slice.Eq.{bytes_eq-Decides}
-use Rattle.std.proofs.Math.Bool.{and-true, and_comm, or-false}
-use Rattle.std.proofs.lemmas.List.Elements.{recursion_from_All}
+use Rattle.std.proofs.Math.Bool.{and_comm, or-false}
 use Rattle.std.specs.Option.{option_to_list}
 use Rattle.club_rows.specs.declared.key.Key.{Key}
 use Rattle.club_core.specs.Club.{Club, IsSound, is_key_of}
 use Rattle.club_core.specs.Store.{IsOwnedBy}
 use Rattle.club_tables.proofs.queries.MemberLemmas.{any_filtered}
-use Rattle.club_tables.proofs.statements.SelectLemmas.{Apart, apart_from_pairs, fail_beside}
-use Rattle.club_tables.proofs.queries.KeyLemmas.{one_listed, one_named, same_names}
+use Rattle.club_tables.proofs.statements.SelectLemmas.{Apart, fail_beside}
+use Rattle.club_tables.proofs.queries.KeyLemmas.{one_listed, one_named}
 
 -- ---- lists
 

@@ -1,8 +1,8 @@
 -- The cost of a row, and costs of rows as those of bookings.
-use Rattle.std.proofs.Common.{◌≡◌, ℕ, ◌+◌, ◌-◌, ◌^◌, ◌<◌, ◌≤◌, List, [], ◌∷◌, length, take, get_or, map, refl, sym, ap, subst, ◌∙◌, arith}
+use Rattle.std.proofs.Common.{◌≡◌, ℕ, ◌+◌, ◌-◌, ◌<◌, List, [], ◌∷◌, length, get_or, map, refl, sym, ap, subst, ◌∙◌, arith}
 use Rattle.std.specs.Prelude.{sum_by, IsPermutation}
 use Rattle.std.proofs.lemmas.List.Elements.{All-get_or}
-use Rattle.std.proofs.lemmas.List.Sums.{sum_by-cons, sum_by_more_le}
+use Rattle.std.proofs.lemmas.List.Sums.{sum_by-cons}
 use Rattle.std.proofs.lemmas.List.Sorted.{sum_by-IsPermutation}
 use Rattle.sqlite_value.specs.Order.{Row}
 use Rattle.club_rows.specs.declared.booking.Booking.{Booking}
@@ -27,12 +27,3 @@ module _ (rows : List Row) (at : ℕ) (row : Row) (low : at < length rows) (is :
   no_costs none costs =
       let here = All-get_or IsCostRow rows at row low costs.0 in
       none here.0 (subst (λ r. IsCostIn r here.0) (sym is) here.1)
-
-  -- costs that are no `u64`
-  pub too_much : (sum cost : ℕ) → IsCostIn row cost → sum ≡ sum_by cost_in (take at rows) → 2 ^ 64 ≤ sum + cost → ¬ (AreCosts rows n)
-  too_much sum cost of so_far past costs =
-      let more = sum_by_more_le cost_in rows at row low in
-      let this : cost_in (get_or rows at row) ≡ cost = ap cost_in (sym is) ∙ cost_in_is row cost of in
-      let whole = costs.1 in
-      let fits = costs.2 in
-      omega (arith, more, this, whole, fits)

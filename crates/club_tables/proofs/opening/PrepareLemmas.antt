@@ -32,9 +32,6 @@ one_more P (text ∷ texts) others (inl here) = inl here
 one_more P (text ∷ texts) others (inr there) = inr (one_more P texts others there)
 
 module _ (db : Database) (texts : List (Bor (List ℕ))) where
-  pub none_understood : All (IsUnderstood db.schema) (map text_at (take 0 texts))
-  none_understood k d low = absurd (omega arith)
-
   -- one text more
   pub one_understood : (at : ℕ) (d : Bor (List ℕ)) (was : Database) → was ≡ db → at < length texts → All (IsUnderstood db.schema) (map text_at (take at texts))
       → IsUnderstood was.schema (get_or texts at d).now

@@ -1,5 +1,5 @@
 -- What makes a reading, and which fault it has.
-use Rattle.std.proofs.Common.{List, Result, Ok, Err, IfOk, IfErr, inl, inr, arith}
+use Rattle.std.proofs.Common.{List, Result, IfOk, IfErr, inl, inr, arith}
 use Rattle.std.proofs.lemmas.Result.{IfErr-weaker, IfOk-weaker}
 use Rattle.sqlite.specs.Order.{Row}
 use Rattle.sqlite.specs.Store.{Ghosts}

@@ -1,5 +1,5 @@
 -- What an UPDATE found that wrote a row.
-use Rattle.std.proofs.Common.{◌≡◌, zero, suc, ◌≤◌, ℤ, Contains, Bool, true, false, ◌||◌, cond, Some, List, [], ◌∷◌, length, map, refl, sym, ap, subst, ◌∙◌, not}
+use Rattle.std.proofs.Common.{◌≡◌, ◌≤◌, ℤ, Contains, Bool, true, false, ◌||◌, cond, Some, List, [], ◌∷◌, length, map, refl, sym, ap, subst, ◌∙◌, not}
 use Rattle.std.proofs.Common.{arith, true≢false, slice_get}
 use Rattle.std.specs.Prelude.{filter, find, IsPermutation}
 use Rattle.std.specs.List.{AllByRecursion, AllZip, list_any}

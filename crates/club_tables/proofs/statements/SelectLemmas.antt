@@ -1,7 +1,7 @@
 -- What a SELECT over one table gives, where the table holds a list.
-use Rattle.std.proofs.Common.{◌≡◌, ◌≤◌, ℕ, suc, ◌-◌, ◌^◌, ◌<◌, ℤ, pos, Bool, true, false, cond, ◌==◌, None, Some, List, [], ◌∷◌, ◌++◌, length, map, slice_get}
+use Rattle.std.proofs.Common.{◌≡◌, ◌≤◌, ℕ, suc, ◌-◌, ◌^◌, ℤ, pos, Bool, true, false, cond, ◌==◌, None, Some, List, [], ◌∷◌, ◌++◌, length, map, slice_get}
 use Rattle.std.proofs.Common.{refl, sym, ap, subst, ◌∙◌, arith}
-use Rattle.std.specs.Prelude.{filter, find, flat_map, AllPairs, IsPermutation, slice_index_or, nat_le, unwrap_or}
+use Rattle.std.specs.Prelude.{filter, find, flat_map, AllPairs, IsPermutation, nat_le, unwrap_or}
 use Rattle.std.specs.List.{AllByRecursion, AllZip, list_all}
 use Rattle.std.specs.Str.{bytes_eq}
 use Rattle.std.specs.Ordering.{is_eq, int_cmp}

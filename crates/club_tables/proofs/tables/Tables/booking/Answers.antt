@@ -1,4 +1,4 @@
-use Rattle.std.proofs.Common.{◌≡◌, List, ℕ, Option, Result, inr, refl}
+use Rattle.std.proofs.Common.{rules, ◌≡◌, List, ℕ, Option, Result}
 use Rattle.sqlite.specs.Store.{Ghosts}
 use Rattle.sqlite.specs.State.{Survives}
 use Rattle.sqlite.specs.Held.{Held, state}
@@ -9,7 +9,7 @@ use Rattle.club_tables.specs.Answers.{Answers, OfBooking, FailsToRead, IsFirst, 
 use Rattle.club_tables.specs.ReadsAndChanges.{ReadsClub}
 use Rattle.club_tables.specs.Transaction.{BoundStatement, IsKept}
 use Rattle.club_tables.proofs.queries.BookingLemmas.{booking_shown}
-use Rattle.club_tables.proofs.lists.FirstLemmas.{booking_first, unnamed, none_named, one_named, not_named}
+use Rattle.club_tables.proofs.lists.FirstLemmas.{booking_first, unnamed}
 use Rattle.club_tables.proofs.queries.ReadLemmas.{read_answer, fewer_read}
 use Rattle.club_tables.proofs.tables.Tables.booking.Goals as goal
 
@@ -41,48 +41,10 @@ pub returns-in-Err-clause-reads : goal.returns-in-Err-clause-reads
 returns-in-Err-clause-reads g c =
     read_booking g.S.Store c.args.key.now c.args.number (returns-in-Err-clause-gives g c) c.answer.ensures.kept c.answer.ensures.survives
 
-pub returns-in-None-clause-gives : goal.returns-in-None-clause-gives
-returns-in-None-clause-gives g c =
-    let gives = rw (c.params-to_sql.ensures, c.params-to_sql-2.ensures, c.as_str.ensures.value, c.get.ensures.value) at c.in-Ok.ensures.gives in
-    record {
-      success = λ clean. let it = gives.success clean in (it.0, it.1, none_named c.args.key.now c.args.number it.0 (rw c.in-None.is at it.2));
-      failure = λ clean. tt;
-    }
-
-pub returns-in-None-clause-reads : goal.returns-in-None-clause-reads
-returns-in-None-clause-reads g c =
-    read_booking g.S.Store c.args.key.now c.args.number (returns-in-None-clause-gives g c) c.answer.ensures.kept c.answer.ensures.survives
-
-pub returns-then-is_named-clause-gives : goal.returns-then-is_named-clause-gives
-returns-then-is_named-clause-gives g c =
-    let gives = rw (c.params-to_sql.ensures, c.params-to_sql-2.ensures, c.as_str.ensures.value, c.get.ensures.value) at c.in-Ok.ensures.gives in
-    record {
-      success = λ clean. let it = gives.success clean in (
-        it.0,
-        it.1,
-        one_named c.args.key.now c.args.number it.0 c.in-Some.booking (rw c.in-Some.is at it.2) (c.is_named.ensures.0 c.if-is_named.true),
-      );
-      failure = λ clean. tt;
-    }
-
 pub returns-then-is_named-clause-reads : goal.returns-then-is_named-clause-reads
 returns-then-is_named-clause-reads g c =
-    read_booking g.S.Store c.args.key.now c.args.number (returns-then-is_named-clause-gives g c) c.answer.ensures.kept c.answer.ensures.survives
-
-pub returns-else-is_named-clause-gives : goal.returns-else-is_named-clause-gives
-returns-else-is_named-clause-gives g c =
-    let gives = rw (c.params-to_sql.ensures, c.params-to_sql-2.ensures, c.as_str.ensures.value, c.get.ensures.value) at c.in-Ok.ensures.gives in
-    record {
-      success = λ clean. tt;
-      failure = λ clean. let it = gives.success clean in inr (record {
-        rows = it.0;
-        query = it.1;
-        unread = λ can. not_named c.args.key.now c.args.number it.0 c.in-Some.booking (rw c.in-Some.is at it.2) (λ named.
-            absurd (let yes = c.is_named.ensures.1 named in let no = c.if-is_named.false in cc)) can.0 can.1;
-        fault_is = refl;
-      });
-    }
+    read_booking g.S.Store c.args.key.now c.args.number (search rules) c.answer.ensures.kept c.answer.ensures.survives
 
 pub returns-else-is_named-clause-reads : goal.returns-else-is_named-clause-reads
 returns-else-is_named-clause-reads g c =
-    read_booking g.S.Store c.args.key.now c.args.number (returns-else-is_named-clause-gives g c) c.answer.ensures.kept c.answer.ensures.survives
+    read_booking g.S.Store c.args.key.now c.args.number (search rules) c.answer.ensures.kept c.answer.ensures.survives

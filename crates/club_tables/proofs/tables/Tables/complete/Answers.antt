@@ -1,6 +1,5 @@
 use Rattle.std.proofs.Common.{◌≡◌, All, IsTrue, inl, inr, sym, subst, ◌∙◌, arith}
 use Rattle.std.proofs.lemmas.List.Elements.{All-push}
-use Rattle.std.proofs.lemmas.Result.{on_err_weaker}
 use Rattle.sqlite.specs.Store.{Ghosts}
 use Rattle.sqlite.specs.Effect.{Database}
 use Rattle.sqlite.specs.State.{HasCleanDisk}
@@ -11,7 +10,7 @@ use Rattle.club_tables.specs.Tables.{HoldsClubVersion2}
 use Rattle.club_tables.specs.Transaction.{IsKept, IsUnderstood}
 use Rattle.club_tables.proofs.opening.PrepareLemmas.{kept_then}
 use Rattle.club_tables.proofs.opening.StepLemmas.{keeps_after, opens_after, opens_not}
-use Rattle.club_tables.proofs.crashes.SurviveLemmas.{opened_after, was_clean}
+use Rattle.club_tables.proofs.crashes.SurviveLemmas.{opened_after}
 use Rattle.club_tables.proofs.tables.Tables.complete.Goals as goal
 
 -- the index is there, or is made, after each row was asked for
@@ -49,13 +48,6 @@ returns-in-Ok-clause-opens g c =
     (λ earlier clean ensured is_open rest. ensured_after g.S.Store old mid new earlier clean is_open (kept rest) (λ opened.
     c.in-Ok.ensures.understood earlier opened rest) ensured)
     (opened_after g.S.Store old mid new)
-
-pub returns-in-Ok-clause-untouched : goal.returns-in-Ok-clause-untouched
-returns-in-Ok-clause-untouched g c =
-    let mid = state g.S.Store c.prepare_all.new.self in
-    let new = state g.S.Store c.ensure_index.new.self in
-    on_err_weaker c.ensure_index.result (λ kept rest.
-    kept_then (state g.S.Store c.args.self.now) mid new (was_clean mid new _ c.ensure_index.ensures.opens.survives) (c.prepare_all.ensures.kept rest) kept) c.ensure_index.ensures.untouched
 
 pub returns-in-Err-clause-opens : goal.returns-in-Err-clause-opens
 returns-in-Err-clause-opens g c =

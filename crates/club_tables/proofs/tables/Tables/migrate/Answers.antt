@@ -1,5 +1,4 @@
 use Rattle.std.proofs.Common.{[], ◌∷◌, All, inl, inr, refl, subst, arith}
-use Rattle.std.proofs.lemmas.Result.{on_err_weaker}
 use Rattle.sqlite.specs.Effect.{Database}
 use Rattle.sqlite.specs.Held.{Held, state}
 use Rattle.club_tables.specs.declared.texts.TheConstants.{OLDER_ROOT}
@@ -8,9 +7,8 @@ use Rattle.club_tables.specs.Opening.{HasMigrated, IsOpeningFault, first_texts, 
 use Rattle.club_tables.specs.ReadsAndChanges.{version_1_in}
 use Rattle.club_tables.specs.Tables.{HoldsClubVersion1}
 use Rattle.club_tables.specs.Transaction.{IsIdle, IsUnderstood, Ran}
-use Rattle.club_tables.proofs.opening.PrepareLemmas.{kept_then, one_more}
+use Rattle.club_tables.proofs.opening.PrepareLemmas.{one_more}
 use Rattle.club_tables.proofs.opening.StepLemmas.{batch_failed, keeps_after, opens_after, opens_not}
-use Rattle.club_tables.proofs.crashes.SurviveLemmas.{was_clean}
 use Rattle.club_tables.proofs.tables.Tables.migrate.Goals as goal
 
 pub returns-in-Ok-clause-opens : goal.returns-in-Ok-clause-opens
@@ -30,13 +28,6 @@ returns-in-Ok-clause-opens g c =
     let known = c.in-Ok.ensures.understood earlier is_open rest in
     (mid, same.0, subst (λ (db : Database). All (IsUnderstood db.schema) first_texts) same.2 known, same.2, same.1, ran))
     (batch_failed g.S.Store migration (inr (inl refl)) old mid c.add_old_roots.new.self)
-
-pub returns-in-Ok-clause-untouched : goal.returns-in-Ok-clause-untouched
-returns-in-Ok-clause-untouched g c =
-    let mid = state g.S.Store c.prepare_all.new.self in
-    let new = state g.S.Store c.add_old_roots.new.self in
-    on_err_weaker c.add_old_roots.result (λ kept rest.
-    kept_then (state g.S.Store c.args.self.now) mid new (was_clean mid new _ c.add_old_roots.ensures.opens.survives) (c.prepare_all.ensures.kept rest) kept) c.add_old_roots.ensures.untouched
 
 pub returns-in-Err-clause-opens : goal.returns-in-Err-clause-opens
 returns-in-Err-clause-opens g c =

@@ -1,5 +1,4 @@
 use Rattle.std.proofs.Common.{◌≡◌, ◌≢◌, ℕ, List, [], ◌∷◌, All, IsTrue, inl, inr, refl, sym, subst, ◌∙◌, arith}
-use Rattle.std.proofs.lemmas.Result.{on_err_weaker}
 use Rattle.sqlite.specs.Order.{Row}
 use Rattle.sqlite.specs.Store.{Ghosts}
 use Rattle.sqlite.specs.Effect.{Database}
@@ -18,7 +17,6 @@ use Rattle.club_tables.specs.Tables.{HoldsClubAnyVersion, IsFound, RepresentsVer
 use Rattle.club_tables.proofs.crashes.SurviveLemmas.{opened_after, was_clean}
 use Rattle.club_tables.proofs.opening.MakingLemmas.{makes_free}
 use Rattle.club_tables.proofs.opening.OpenLemmas.{one_version, first_found, second_found}
-use Rattle.club_tables.proofs.opening.PrepareLemmas.{kept_then}
 use Rattle.club_tables.proofs.opening.ReadyLemmas.{found_ready}
 use Rattle.club_tables.proofs.opening.StepLemmas.{batch_failed, keeps_after, opens_after, opens_not}
 use Rattle.club_tables.proofs.queries.ReadLemmas.{at_once}
@@ -116,16 +114,6 @@ returns-then-is_version-clause-opens g c =
     (λ earlier clean it is_open rest. ensured g.S.Store old mid new rows earlier clean is_open rest c.version.ensures.kept one
     (read earlier).version_rows (it is_open (rests g.S.Store old mid earlier c.version.ensures.kept)))
     (opened_after g.S.Store old mid new)
-
-pub returns-then-is_version-clause-untouched : goal.returns-then-is_version-clause-untouched
-returns-then-is_version-clause-untouched g c =
-    let old = c.args.self.now in
-    let mid = c.version.new.self in
-    let new = state g.S.Store c.complete.new.self in
-    on_err_weaker c.complete.result (λ untouched clean is_open.
-    let earlier : HasCleanDisk (state g.S.Store mid) = was_clean (state g.S.Store mid) new _ c.complete.ensures.opens.survives clean in
-    kept_then (state g.S.Store old) (state g.S.Store mid) new (λ _. earlier) c.version.ensures.kept
-    (untouched (rests g.S.Store old mid earlier c.version.ensures.kept)) clean is_open) c.complete.ensures.untouched
 
 pub returns-then-is_version-2-clause-opens : goal.returns-then-is_version-2-clause-opens
 returns-then-is_version-2-clause-opens g c =

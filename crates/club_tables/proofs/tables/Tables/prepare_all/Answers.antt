@@ -1,18 +1,10 @@
 use Rattle.std.proofs.Common.{arith}
 use Rattle.sqlite.specs.State.{HasCleanDisk}
 use Rattle.sqlite.specs.Held.{state}
-use Rattle.club_tables.proofs.crashes.RepresentsLemmas.{survives_same, survives_none}
-use Rattle.club_tables.proofs.crashes.SurviveLemmas.{kept_when_idle}
-use Rattle.club_tables.proofs.opening.PrepareLemmas.{kept_then, one_at, none_understood, one_understood, all_understood}
+use Rattle.club_tables.proofs.crashes.RepresentsLemmas.{survives_none}
+use Rattle.club_tables.proofs.opening.PrepareLemmas.{kept_then, one_at, one_understood, all_understood}
 use Rattle.club_tables.specs.Fault.{FailsToPrepare}
 use Rattle.club_tables.proofs.tables.Tables.prepare_all.Goals as goal
-
-pub loop-text-init : goal.loop-text-init
-loop-text-init g c = record {
-  survives = survives_same (state g.S.Store c.args.self.now);
-  kept = kept_when_idle (state g.S.Store c.args.self.now);
-  known = λ rest clean is_open. none_understood (state g.S.Store c.args.self.now).committed c.args.texts.now;
-}
 
 pub loop-text-preserved : goal.loop-text-preserved
 loop-text-preserved g c =
@@ -30,18 +22,6 @@ loop-text-preserved g c =
           (c.loop-text.invariant.kept rest (earlier clean) opened).1 c.loop-text-test.true (c.loop-text.invariant.known rest (earlier clean) opened)
           (c.in-Ok.ensures.understood clean);
     }
-
-pub returns-in-Err-clause-kept : goal.returns-in-Err-clause-kept
-returns-in-Err-clause-kept g c rest =
-    let was = c.loop-text.self in
-    let now = c.prepare.new.self in
-    let earlier = λ (clean : HasCleanDisk (state g.S.Store now)). let e : HasCleanDisk (state g.S.Store was) =
-    omega (arith, c.prepare.ensures.survives.clean) in e in
-    kept_then (state g.S.Store c.args.self.now) (state g.S.Store was) (state g.S.Store now) earlier (c.loop-text.invariant.kept rest) c.prepare.ensures.kept
-
-pub returns-in-Err-clause-survives : goal.returns-in-Err-clause-survives
-returns-in-Err-clause-survives g c =
-    survives_none _ (state g.S.Store c.loop-text.self) (state g.S.Store c.prepare.new.self) c.loop-text.invariant.survives c.prepare.ensures.survives
 
 pub returns-clause-understood : goal.returns-clause-understood
 returns-clause-understood g c clean is_open rest =

@@ -1,7 +1,7 @@
 use Rattle.std.proofs.Common.{◌≡◌, ◌<◌, ◌^◌, take}
 use Rattle.std.specs.Prelude.{sum_by, All}
 use Rattle.club_tables.specs.Columns.{cost_in, IsCostRow}
-use Rattle.club_tables.proofs.sum.costs.Given as goal
+use Rattle.club_tables.proofs.sum.U64FromRows.from_rows.Given as goal
 
 abbrev pub invariant-loop-row : goal.invariant-loop-row
 invariant-loop-row l = record {
