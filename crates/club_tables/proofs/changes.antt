@@ -9,9 +9,6 @@ pub mod OlderLemmas
 pub mod UpsertLemmas
 pub mod StoredLemmas
 pub mod TotalsLemmas
-pub mod TrueLemmas
-pub mod PartLemmas
-pub mod MadeLemmas
-pub mod EnoughLemmas
+pub mod PlanLemmas
 pub mod WriteLemmas
 pub mod ChangedLemmas

@@ -1,5 +1,5 @@
 -- What the statements that insert a row make of the tables.
-use Rattle.std.proofs.Common.{◌≤◌, ℕ, pos, Ok, List, [], ◌∷◌, ◌++◌, refl, sym, subst}
+use Rattle.std.proofs.Common.{pos, List, [], ◌∷◌, ◌++◌, refl, sym, subst}
 use Rattle.sqlite_tied.specs.Compute.{everything}
 use Rattle.sqlite_value.specs.declared.value.Value.TheVariants.{Null, Int, Text}
 use Rattle.sqlite.specs.Table.{Table}
@@ -7,7 +7,6 @@ use Rattle.sqlite.specs.Term.{Term, lit, col}
 use Rattle.sqlite.specs.Source.TheVariants.{Values}
 use Rattle.sqlite.specs.Command.TheVariants.{Insert}
 use Rattle.sqlite.specs.Listing.{understood}
-use Rattle.sqlite.specs.State.{State, Executes}
 use Rattle.club_tables.proofs.statements.MeansLemmas.{Means}
 use Rattle.club_rows.specs.Columns.{truth}
 use Rattle.club_rows.specs.declared.member.Member.{Member}
@@ -19,8 +18,8 @@ use Rattle.club_tables.specs.declared.texts.TheConstants.{ADD_MEMBER, ADD_FACILI
 use Rattle.club_tables.specs.Schema.{members_table, facilities_table, keys_table, bookings_table, club_schema}
 use Rattle.club_tables.specs.Columns.{whole, member_values, facility_values, key_values, booking_values}
 use Rattle.club_tables.specs.Stored.{Rows}
-use Rattle.club_tables.specs.Tables.{HoldsRows, Holds, members_tree, facilities_tree, keys_tree, bookings_tree}
-use Rattle.club_tables.proofs.statements.HoldsRowsLemmas.{on_members, on_facilities, on_keys, on_bookings}
+use Rattle.club_tables.specs.Tables.{Holds, members_tree, facilities_tree, keys_tree, bookings_tree}
+use Rattle.club_tables.proofs.statements.HoldsRowsLemmas.{on_members, on_facilities, on_keys, on_bookings, Steps}
 use Rattle.club_tables.proofs.statements.InsertLemmas.{inserts, cast_null, cast_int}
 use Rattle.club_tables.proofs.lists.RowLemmas.{holds_more}
 
@@ -40,10 +39,9 @@ member_means = record { is = refl; plain = (refl, refl) }
 abbrev pub new_row : Member → MemberRow
 new_row member = record { member = member; used = 0 }
 
-pub member_put : (old new : State) (rows : Rows) → HoldsRows old.now rows → (member : Member) (count : ℕ)
-    → Executes ADD_MEMBER.now (Text member.name ∷ whole member.credited ∷ whole member.quota ∷ []) old new (Ok count)
-    → HoldsRows new.now (record rows { members = rows.members ++ (new_row member) ∷ [] }) × (1 ≤ count)
-member_put old new rows holds_rows member count ran =
+pub member_put : (rows : Rows) (member : Member) → Steps (ADD_MEMBER.now, Text member.name ∷ whole member.credited ∷ whole member.quota ∷ []) rows
+    (record rows { members = rows.members ++ new_row member ∷ [] })
+member_put rows member old new count holds_rows ran =
     let put = inserts member_means member_table refl refl refl (λ row. refl) old new holds_rows.schema
     (Text member.name ∷ whole member.credited ∷ whole member.quota ∷ []) (member_values (new_row member)) refl
     (rw (cast_null, cast_int (pos member.credited), cast_int (pos member.quota), cast_int (pos 0))) count ran in (
@@ -65,10 +63,9 @@ facility_means : Means club_schema ADD_FACILITY.now (Insert 2 (Values facility_t
 unfolding understood everything
 facility_means = record { is = refl; plain = (refl, refl) }
 
-pub facility_put : (old new : State) (rows : Rows) → HoldsRows old.now rows → (facility : Facility) (count : ℕ)
-    → Executes ADD_FACILITY.now (facility_values facility) old new (Ok count)
-    → HoldsRows new.now (record rows { facilities = rows.facilities ++ facility ∷ [] }) × (1 ≤ count)
-facility_put old new rows holds_rows facility count ran =
+pub facility_put : (rows : Rows) (facility : Facility) → Steps (ADD_FACILITY.now, facility_values facility) rows
+    (record rows { facilities = rows.facilities ++ facility ∷ [] })
+facility_put rows facility old new count holds_rows ran =
     let put = inserts facility_means facility_table refl refl refl (λ row. refl) old new holds_rows.schema (facility_values facility)
     (facility_values facility) refl
     (rw (cast_null, cast_int (pos facility.places), cast_int (pos facility.price), cast_int (pos facility.opens), cast_int (pos facility.shuts))) count ran in (
@@ -90,9 +87,8 @@ key_means : Means club_schema ADD_KEY.now (Insert 3 (Values key_terms 5))
 unfolding understood everything
 key_means = record { is = refl; plain = (refl, refl) }
 
-pub key_put : (old new : State) (rows : Rows) → HoldsRows old.now rows → (key : Key) (count : ℕ) → Executes ADD_KEY.now (key_values key) old new (Ok count)
-    → HoldsRows new.now (record rows { keys = rows.keys ++ key ∷ [] }) × (1 ≤ count)
-key_put old new rows holds_rows key count ran =
+pub key_put : (rows : Rows) (key : Key) → Steps (ADD_KEY.now, key_values key) rows (record rows { keys = rows.keys ++ key ∷ [] })
+key_put rows key old new count holds_rows ran =
     let put = inserts key_means key_table refl refl refl (λ row. refl) old new holds_rows.schema (key_values key) (key_values key) refl
     (rw (cast_null, cast_int (pos (truth key.revoked)))) count ran in (
       on_keys holds_rows put.0
@@ -112,10 +108,9 @@ booking_means : Means club_schema ADD_BOOKING.now (Insert 5 (Values booking_term
 unfolding understood everything
 booking_means = record { is = refl; plain = (refl, refl) }
 
-pub booking_put : (old new : State) (rows : Rows) → HoldsRows old.now rows → (booking : Booking) (count : ℕ)
-    → Executes ADD_BOOKING.now (booking_values booking) old new (Ok count)
-    → HoldsRows new.now (record rows { bookings = rows.bookings ++ booking ∷ [] }) × (1 ≤ count)
-booking_put old new rows holds_rows booking count ran =
+pub booking_put : (rows : Rows) (booking : Booking) → Steps (ADD_BOOKING.now, booking_values booking) rows
+    (record rows { bookings = rows.bookings ++ booking ∷ [] })
+booking_put rows booking old new count holds_rows ran =
     let put = inserts booking_means booking_table refl refl refl (λ row. refl) old new holds_rows.schema (booking_values booking) (booking_values booking) refl
     (simp (cast_null, cast_int)) count ran in (
       on_bookings holds_rows put.0

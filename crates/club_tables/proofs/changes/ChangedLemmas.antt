@@ -9,9 +9,8 @@ use Rattle.club_core.specs.declared.store.StoreFault.{StoreFault}
 use Rattle.club_tables.specs.ChangeStatements.{statements_of}
 use Rattle.club_tables.specs.Fault.{Commits}
 use Rattle.club_tables.specs.ReadsAndChanges.{ChangesClub, HasOlderRoot}
-use Rattle.club_tables.proofs.changes.EnoughLemmas.{less}
-use Rattle.club_tables.proofs.changes.MadeLemmas.{made}
-use Rattle.club_tables.proofs.changes.TrueLemmas.{is_true}
+use Rattle.club_tables.proofs.changes.PlanLemmas.{is_true, plan, made, less_in_turn}
+use Rattle.club_tables.specs.Transaction.{transaction_start}
 use Rattle.club_tables.proofs.changes.WriteLemmas.{makes}
 use Rattle.club_tables.proofs.opening.OpenLemmas.{IsSettled}
 
@@ -30,6 +29,7 @@ pub changes : {S : Type 0} {g : Ghosts S} (change : Change) → ¬ HasOlderRoot 
     → Commits g 1 (statements_of change) old new result → IsSettled (state g new) → ChangesClub g change old new result
 changes {g = g} change new_key {old = old} {new = new} {result = result} commits settled =
     makes g change (some_statements change) old new result commits settled
-    (λ db club tables ran. is_true g old db club tables change new_key ran)
-    (λ db club tables fits ran. made g old db club tables change fits ran)
-    (λ club fits tables mid fault failed. less g old mid fault club tables change fits failed)
+    (λ db club tables ran. is_true g old club tables db change new_key ran)
+    (λ db club tables fits ran. made g old club tables db change fits ran)
+    (λ club fits tables mid fault failed. less_in_turn g (statements_of change) (transaction_start old) mid fault (λ opened.
+    let it = plan g old club (tables opened) change fits in ((tables opened).rows, it.0, (tables opened).holds_rows, it.1)) failed)

@@ -1,5 +1,5 @@
 -- The rows of older roots, once one is put.
-use Rattle.std.proofs.Common.{◌≡◌, ◌≢◌, ◌≤◌, ℕ, ℤ, pos, Bool, true, false, if◌then◌else◌, Some, Option, Ok, List, [], ◌∷◌, refl}
+use Rattle.std.proofs.Common.{◌≡◌, ◌≢◌, ℕ, ℤ, pos, Bool, true, false, if◌then◌else◌, Some, Option, List, [], ◌∷◌, refl}
 use Rattle.std.proofs.Common.{sym}
 use Rattle.std.proofs.Common.{ap, ◌∙◌}
 use Rattle.std.specs.Prelude.{AllPairs, option_map}
@@ -16,16 +16,15 @@ use Rattle.sqlite.specs.Edit.{next_rowid}
 use Rattle.sqlite_schema.specs.declared.command.Upsert.{Upsert}
 use Rattle.sqlite_rules.specs.Keys.{conflicts}
 use Rattle.sqlite.specs.Listing.{understood}
-use Rattle.sqlite.specs.State.{State, Executes}
 use Rattle.sqlite.proofs.Callers.{command_of}
 use Rattle.club_rows.specs.declared.key.OlderRoot.{OlderRoot}
 use Rattle.club_tables.specs.declared.texts.TheConstants.{PUT_OLDER_ROOT}
 use Rattle.club_tables.specs.Schema.{old_roots_table, club_schema}
 use Rattle.club_tables.specs.Columns.{older_root_values, older_values}
 use Rattle.club_tables.specs.Stored.{Rows, OlderRow, older_by}
-use Rattle.club_tables.specs.Tables.{HoldsRows, olders_tree}
+use Rattle.club_tables.specs.Tables.{olders_tree}
 use Rattle.club_tables.proofs.statements.InsertLemmas.{cast_null, cast_int}
-use Rattle.club_tables.proofs.statements.HoldsRowsLemmas.{on_olders}
+use Rattle.club_tables.proofs.statements.HoldsRowsLemmas.{on_olders, Steps}
 use Rattle.club_tables.proofs.statements.UpdateLemmas.{each_of}
 use Rattle.club_tables.proofs.statements.PutLemmas.{PutsRow, first_clause, row_put}
 use Rattle.club_tables.proofs.lists.KeyedRows.{lone, by_put, put_once as once_put}
@@ -93,11 +92,9 @@ module _ (key : List ℕ) (older : OlderRoot) where
   casts : (id : ℤ) (row : OlderRow) → cast_row older_table (Int id ∷ older_values row) ≡ Int id ∷ older_values row
   casts id row = rw (cast_int id, cast_int (pos row.older.until)) refl
 
-pub older_represents : (old new : State) (rows : Rows) → HoldsRows old.now rows → AllPairs (λ (a : OlderRow) (b : OlderRow). a.key ≢ b.key) rows.olders
-    → (key : List ℕ) (older : OlderRoot) (count : ℕ)
-    → Executes PUT_OLDER_ROOT.now (Text key ∷ older_root_values older) old new (Ok count)
-    → HoldsRows new.now (record rows { olders = put_older key older rows.olders }) × (1 ≤ count)
-older_represents old new rows holds_rows once key older count executed =
+pub older_represents : (rows : Rows) → AllPairs (λ (a : OlderRow) (b : OlderRow). a.key ≢ b.key) rows.olders → (key : List ℕ) (older : OlderRoot)
+    → Steps (PUT_OLDER_ROOT.now, Text key ∷ older_root_values older) rows (record rows { olders = put_older key older rows.olders })
+older_represents rows once key older old new count holds_rows executed =
     let params = Text key ∷ older_root_values older in
     let t = old_roots_table in
     let put = row_put t.name t.columns t.uniques t.checks t.references olders_tree target 6 refl PUT_OLDER_ROOT.now put_terms put_sets 4 3 put_clause

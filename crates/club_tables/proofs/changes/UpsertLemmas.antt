@@ -31,7 +31,7 @@ use Rattle.club_tables.specs.Columns.{whole, flag, name_values, use_values, slot
 use Rattle.club_tables.specs.Stored.{Rows, SlotRow, no_slot_use}
 use Rattle.club_tables.specs.Tables.{HoldsRows, slots_tree}
 use Rattle.club_tables.proofs.statements.InsertLemmas.{cast_null, cast_int}
-use Rattle.club_tables.proofs.statements.HoldsRowsLemmas.{on_slots}
+use Rattle.club_tables.proofs.statements.HoldsRowsLemmas.{on_slots, Steps}
 use Rattle.club_tables.proofs.statements.SelectLemmas.{apart_from_pairs}
 use Rattle.club_tables.proofs.queries.BookingLemmas.{same_slots}
 use Rattle.club_tables.proofs.statements.UpdateLemmas.{each_of}
@@ -111,11 +111,9 @@ close_puts = record { is = refl; plain = (refl, refl); aims = refl; by = refl }
 abbrev pub close_use : SlotUse → SlotUse
 close_use held = record held { closed = true }
 
-pub slot_closed : (old new : State) (rows : Rows) → HoldsRows old.now rows → AllPairs (λ (a : SlotRow) (b : SlotRow). a.slot ≢ b.slot) rows.slots
-    → (slot : Slot) (count : ℕ)
-    → Executes CLOSE_SLOT.now (name_values slot) old new (Ok count) → HoldsRows new.now (record rows { slots = put_slot slot close_use rows.slots }) ×
-    (1 ≤ count)
-slot_closed old new rows holds_rows once slot count executed =
+pub slot_closed : (rows : Rows) → AllPairs (λ (a : SlotRow) (b : SlotRow). a.slot ≢ b.slot) rows.slots → (slot : Slot)
+    → Steps (CLOSE_SLOT.now, name_values slot) rows (record rows { slots = put_slot slot close_use rows.slots })
+slot_closed rows once slot old new count holds_rows executed =
     slot_put CLOSE_SLOT.now close_terms close_sets 3 close_clause close_puts old new rows holds_rows once slot
     (name_values slot)
     (whole 1) (whole 0) refl (cast_int (pos 1)) (cast_int (pos 0))
@@ -153,13 +151,10 @@ yields_there slot persons next row (x ∷ xs) h = (
   yields_there slot persons next row xs h.1,
 )
 
-pub slot_taken : (old new : State) (rows : Rows) → HoldsRows old.now rows → AllPairs (λ (a : SlotRow) (b : SlotRow). a.slot ≢ b.slot) rows.slots
-    → (slot : Slot) (persons : ℤ) (next : ℕ → ℕ)
+pub slot_taken : (rows : Rows) → AllPairs (λ (a : SlotRow) (b : SlotRow). a.slot ≢ b.slot) rows.slots → (slot : Slot) (persons : ℤ) (next : ℕ → ℕ)
     → AllByRecursion (Takes slot persons next) rows.slots → (list_any (λ (row : SlotRow). same_slot row.slot slot) rows.slots ≡ false → persons ≡ pos (next 0))
-    → (count : ℕ)
-    → Executes ADD_TAKEN.now (name_values slot ++ Int persons ∷ []) old new (Ok count)
-    → HoldsRows new.now (record rows { slots = put_slot slot (take_use next) rows.slots }) × (1 ≤ count)
-slot_taken old new rows holds_rows once slot persons next sums fresh count executed =
+    → Steps (ADD_TAKEN.now, name_values slot ++ Int persons ∷ []) rows (record rows { slots = put_slot slot (take_use next) rows.slots })
+slot_taken rows once slot persons next sums fresh old new count holds_rows executed =
     slot_put ADD_TAKEN.now taken_terms taken_sets 4 taken_clause taken_puts old new rows holds_rows once slot
     (name_values slot
     ++ Int persons ∷ []) (whole 0) (Int persons) refl (cast_int (pos 0)) (cast_int persons)

@@ -12,17 +12,14 @@ use Rattle.club_core.specs.After.{after}
 use Rattle.club_core.specs.Store.{FitsClub, IsTrueOf}
 use Rattle.club_core.specs.Club.{Club}
 use Rattle.club_core.specs.declared.store.StoreFault.{StoreFault}
-use Rattle.club_core.specs.declared.store.StoreFault.TheVariants.{Storage}
 use Rattle.club_tables.specs.Tables.{HoldsClub, IsLeftOf, Represents}
-use Rattle.club_tables.specs.ReadsAndChanges.{ChangesClub, HasOlderRoot, IsChangeFault, IsRunFault}
+use Rattle.club_tables.specs.ReadsAndChanges.{ChangesClub, IsChangeFault, IsRunFault}
 use Rattle.club_tables.specs.Transaction.{BoundStatement, Ran, IsKept, transaction_start}
 use Rattle.club_tables.specs.Fault.{Commits, FailsInTurn, FailsToRun}
-use Rattle.club_core.specs.declared.change.Change.TheVariants.{InsertKey}
 use Rattle.club_tables.specs.ChangeStatements.{AreStatementsOf, statements_of}
 use Rattle.club_tables.proofs.opening.OpenLemmas.{IsSettled, settles}
-use Rattle.club_tables.proofs.crashes.RepresentsLemmas.{survives_same}
 use Rattle.club_tables.proofs.queries.ReadLemmas.{at_once}
-use Rattle.club_tables.proofs.crashes.SurviveLemmas.{kept_when_idle, may_commit, commits_nothing}
+use Rattle.club_tables.proofs.crashes.SurviveLemmas.{may_commit}
 
 module _ {S : Type 0} (g : Ghosts S) (all : List BoundStatement) (some : 0 < length all) (old new : Held S)
     (survives : Survives (state g old) (state g new) (λ trees. (db : Database) × Ran g 1 all old db × (trees ≡ db.trees)))

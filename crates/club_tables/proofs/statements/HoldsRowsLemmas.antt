@@ -1,10 +1,11 @@
 -- The tables after a statement that wrote to one of them.
-use Rattle.std.proofs.Common.{◌≡◌, ◌≢◌, ℕ, Bool, true, false, ◌==◌, if◌then◌else◌, List, [], ◌∷◌, refl, sym, subst, ◌∙◌, true≢false}
+use Rattle.std.proofs.Common.{◌≡◌, ◌≢◌, ℕ, Bool, true, false, ◌==◌, if◌then◌else◌, List, [], ◌∷◌, refl, sym, subst, ◌∙◌, true≢false, ◌≤◌, Ok}
 use Rattle.std.specs.List.{AllByRecursion}
 use Rattle.std.specs.Cmp.{unsigned_Decides}
 use Rattle.sqlite.specs.Tree.{Trees}
 use Rattle.sqlite.specs.Table.{Table}
 use Rattle.sqlite.specs.Effect.{Database}
+use Rattle.sqlite.specs.State.{State, Executes}
 use Rattle.club_tables.specs.Schema.{club_schema}
 use Rattle.club_tables.specs.Columns.{version_values, member_values, facility_values, key_values, slot_values, booking_values, older_values}
 use Rattle.club_rows.specs.declared.facility.Facility.{Facility}
@@ -14,6 +15,12 @@ use Rattle.club_tables.specs.declared.row.MemberRow.{MemberRow}
 use Rattle.club_tables.specs.Stored.{Rows, SlotRow, OlderRow}
 use Rattle.club_tables.specs.Tables.{Holds, HoldsTrees, HoldsRows, desk_tree, members_tree, facilities_tree, keys_tree, slots_tree, bookings_tree, olders_tree}
 use Rattle.club_tables.proofs.statements.MeansLemmas.{Wrote}
+use Rattle.club_tables.specs.Transaction.{BoundStatement}
+
+-- over tables that hold these rows a statement writes a row, and then they hold the next ones
+abbrev pub Steps : BoundStatement → Rows → Rows → Type 1
+Steps statement rows next =
+    (old new : State) (count : ℕ) → HoldsRows old.now rows → Executes statement.0 statement.1 old new (Ok count) → HoldsRows new.now next × (1 ≤ count)
 
 -- rows stay where their trees do
 pub trees_kept : {number : ℕ} {old new : Trees} {rows : Rows} → AllByRecursion (λ (t : Table). new t.tree ≡ old t.tree) club_schema.tables
