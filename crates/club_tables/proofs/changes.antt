@@ -11,4 +11,3 @@ pub mod StoredLemmas
 pub mod TotalsLemmas
 pub mod PlanLemmas
 pub mod WriteLemmas
-pub mod ChangedLemmas

@@ -44,7 +44,7 @@ pub member_put : (rows : Rows) (member : Member) → Steps (ADD_MEMBER.now, Text
 member_put rows member old new count holds_rows ran =
     let put = inserts member_means member_table refl refl refl (λ row. refl) old new holds_rows.schema
     (Text member.name ∷ whole member.credited ∷ whole member.quota ∷ []) (member_values (new_row member)) refl
-    (rw (cast_null, cast_int (pos member.credited), cast_int (pos member.quota), cast_int (pos 0))) count ran in (
+    (simp (cast_null, cast_int)) count ran in (
       on_members holds_rows put.0
           (subst (λ rs. Holds member_values rs (rows.members ++ new_row member ∷ [])) (sym put.1)
           (holds_more member_values _ rows.members (new_row member) holds_rows.held.members)),
@@ -68,7 +68,7 @@ pub facility_put : (rows : Rows) (facility : Facility) → Steps (ADD_FACILITY.n
 facility_put rows facility old new count holds_rows ran =
     let put = inserts facility_means facility_table refl refl refl (λ row. refl) old new holds_rows.schema (facility_values facility)
     (facility_values facility) refl
-    (rw (cast_null, cast_int (pos facility.places), cast_int (pos facility.price), cast_int (pos facility.opens), cast_int (pos facility.shuts))) count ran in (
+    (simp (cast_null, cast_int)) count ran in (
       on_facilities holds_rows put.0
           (subst (λ rs. Holds facility_values rs (rows.facilities ++ facility ∷ [])) (sym put.1)
           (holds_more facility_values _ rows.facilities facility holds_rows.held.facilities)),
@@ -90,7 +90,7 @@ key_means = record { is = refl; plain = (refl, refl) }
 pub key_put : (rows : Rows) (key : Key) → Steps (ADD_KEY.now, key_values key) rows (record rows { keys = rows.keys ++ key ∷ [] })
 key_put rows key old new count holds_rows ran =
     let put = inserts key_means key_table refl refl refl (λ row. refl) old new holds_rows.schema (key_values key) (key_values key) refl
-    (rw (cast_null, cast_int (pos (truth key.revoked)))) count ran in (
+    (simp (cast_null, cast_int)) count ran in (
       on_keys holds_rows put.0
           (subst (λ rs. Holds key_values rs (rows.keys ++ key ∷ [])) (sym put.1) (holds_more key_values _ rows.keys key holds_rows.held.keys)),
       put.2,

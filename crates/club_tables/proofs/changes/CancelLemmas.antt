@@ -6,6 +6,7 @@ use Rattle.std.specs.Cmp.{unsigned_Decides}
 use Rattle.std.proofs.lemmas.Slice.Eq.{bytes_eq-Decides}
 use Rattle.std.proofs.lemmas.Bool.{and_parts}
 use Rattle.std.proofs.Math.Bool.{or-true, or-false}
+use Rattle.std.specs.List.{list_all, AllByRecursion}
 use Rattle.sqlite_tied.specs.Compute.{everything}
 use Rattle.sqlite_value.specs.declared.value.Value.{Value}
 use Rattle.sqlite_value.specs.declared.value.Value.TheVariants.{Int, Text}
@@ -14,7 +15,7 @@ use Rattle.sqlite_sql.specs.declared.ops.BinaryOp.TheVariants.{Compare}
 use Rattle.sqlite_sql.specs.declared.ops.CompareOp.TheVariants.{Eq}
 use Rattle.sqlite_sql.specs.Ops.{binary, is_true}
 use Rattle.sqlite.specs.Order.{Row}
-use Rattle.sqlite.specs.Term.{Term, lit, col}
+use Rattle.sqlite.specs.Term.{Term, lit, col, holds}
 use Rattle.sqlite.specs.Query.{inner, end}
 use Rattle.sqlite.specs.Command.TheVariants.{Update}
 use Rattle.sqlite.specs.Listing.{understood}
@@ -59,17 +60,15 @@ one_marked key number bookings unique =
     let one = one_numbered key number bookings unique in
     omega (arith, few, one)
 
-abbrev booking_of : List ℕ → ℕ → List ℕ → ℕ → ℕ → ℕ → ℕ → ℕ → Bool → ℕ → Booking
-booking_of key number facility day hour guests charge left cancelled refund = record {
-  key = key;
-  number = number;
-  slot = record { facility = facility; day = day; hour = hour };
-  guests = guests;
-  charge = charge;
-  left = left;
-  cancelled = cancelled;
-  refund = refund;
-}
+all_true : {X : Type 0} (p : X → Bool) (xs : List X) → list_all p xs ≡ true → AllByRecursion (λ x. p x ≡ true) xs
+all_true p [] h = tt
+all_true p (x ∷ xs) h = let two = and_parts _ _ h in (two.0, all_true p xs two.1)
+
+text_itself : (a : List ℕ) → is_true (binary (Compare Eq Binary) (Text a) (Text a)) ≡ true
+text_itself a = text_equal a a ∙ (bytes_eq-Decides a a).1 refl
+
+whole_itself : (n : ℕ) → is_true (binary (Compare Eq Binary) (Int (pos n)) (Int (pos n))) ≡ true
+whole_itself n = whole_equal n n ∙ (unsigned_Decides n n).1 refl
 
 module _ (old new : State) (rows : Rows) (holds_rows : HoldsRows old.now rows) (unique : AreBookingsOnce rows.bookings) (booking : Booking)
     (refund count : ℕ) (ran : Executes CANCEL_BOOKING.now (booking_values booking ++ whole refund ∷ []) old new (Ok count)) where
@@ -96,32 +95,29 @@ module _ (old new : State) (rows : Rows) (holds_rows : HoldsRows old.now rows) (
   -- a booking that passes is the one that was given, and isn't cancelled
   as_given : (b : Booking) → is_as_given b ≡ true → (b ≡ booking) × (b.cancelled ≡ false)
   as_given b h =
-      let t1 = and_parts _ _ h in
-      let t2 = and_parts _ _ t1.1 in
-      let t3 = and_parts _ _ t2.1 in
-      let t4 = and_parts _ _ t3.1 in
-      let t5 = and_parts _ _ t4.1 in
-      let t6 = and_parts _ _ t5.1 in
-      let t7 = and_parts _ _ t6.1 in
-      let t8 = and_parts _ _ t7.1 in
-      let t9 = and_parts _ _ t8.1 in
-      let t10 = and_parts _ _ t9.1 in
-      let t11 = and_parts _ _ t10.1 in
-      let key : b.key ≡ booking.key = text_same b.key booking.key t1.0 in
-      let number : b.number ≡ booking.number = whole_same b.number booking.number t2.0 in
-      let facility : b.slot.facility ≡ booking.slot.facility = text_same b.slot.facility booking.slot.facility t3.0 in
-      let day : b.slot.day ≡ booking.slot.day = whole_same b.slot.day booking.slot.day t4.0 in
-      let hour : b.slot.hour ≡ booking.slot.hour = whole_same b.slot.hour booking.slot.hour t5.0 in
-      let guests : b.guests ≡ booking.guests = whole_same b.guests booking.guests t6.0 in
-      let charge : b.charge ≡ booking.charge = whole_same b.charge booking.charge t7.0 in
-      let left : b.left ≡ booking.left = whole_same b.left booking.left t8.0 in
+      let t = all_true (holds (params ∷ (Int (pos 0) ∷ booking_values b) ∷ [])) cancel_tests h in
+      let key : b.key ≡ booking.key = text_same b.key booking.key t.0 in
+      let number : b.number ≡ booking.number = whole_same b.number booking.number t.1.0 in
+      let facility : b.slot.facility ≡ booking.slot.facility = text_same b.slot.facility booking.slot.facility t.1.1.0 in
+      let day : b.slot.day ≡ booking.slot.day = whole_same b.slot.day booking.slot.day t.1.1.1.0 in
+      let hour : b.slot.hour ≡ booking.slot.hour = whole_same b.slot.hour booking.slot.hour t.1.1.1.1.0 in
+      let guests : b.guests ≡ booking.guests = whole_same b.guests booking.guests t.1.1.1.1.1.0 in
+      let charge : b.charge ≡ booking.charge = whole_same b.charge booking.charge t.1.1.1.1.1.1.0 in
+      let left : b.left ≡ booking.left = whole_same b.left booking.left t.1.1.1.1.1.1.1.0 in
       let cancelled : b.cancelled ≡ booking.cancelled =
-      truths b.cancelled booking.cancelled (whole_same (truth b.cancelled) (truth booking.cancelled) t9.0) in
-      let refunded : b.refund ≡ booking.refund = whole_same b.refund booking.refund t10.0 in
-      let none : truth b.cancelled ≡ truth false = whole_same (truth b.cancelled) 0 t11.0 in
-      let same : booking_of b.key b.number b.slot.facility b.slot.day b.slot.hour b.guests b.charge b.left b.cancelled b.refund
-      ≡ booking_of booking.key booking.number booking.slot.facility booking.slot.day booking.slot.hour booking.guests booking.charge booking.left
-      booking.cancelled booking.refund = cc in
+      truths b.cancelled booking.cancelled (whole_same (truth b.cancelled) (truth booking.cancelled) t.1.1.1.1.1.1.1.1.0) in
+      let refunded : b.refund ≡ booking.refund = whole_same b.refund booking.refund t.1.1.1.1.1.1.1.1.1.0 in
+      let none : truth b.cancelled ≡ truth false = whole_same (truth b.cancelled) 0 t.1.1.1.1.1.1.1.1.1.1.0 in
+      let same : b ≡ booking = λ i. record {
+        key = key i;
+        number = number i;
+        slot = record { facility = facility i; day = day i; hour = hour i };
+        guests = guests i;
+        charge = charge i;
+        left = left i;
+        cancelled = cancelled i;
+        refund = refunded i;
+      } in
       (same, truths b.cancelled false none)
 
   named : Implies is_as_given (is_numbered booking.key booking.number)
@@ -135,25 +131,9 @@ module _ (old new : State) (rows : Rows) (holds_rows : HoldsRows old.now rows) (
   pub cancel_some : booking_under booking.key booking.number rows.bookings ≡ Some booking → booking.cancelled ≡ false → 1 ≤ count
   cancel_some on_record uncancelled =
       let it = found (is_numbered booking.key booking.number) rows.bookings booking on_record in
-      let text = λ (a : List ℕ). let e : is_true (binary (Compare Eq Binary) (Text a) (Text a)) ≡ true = text_equal a a ∙ (bytes_eq-Decides a a).1 refl in
-      e in
-      let number = λ (n : ℕ). let e : is_true (binary (Compare Eq Binary) (Int (pos n)) (Int (pos n))) ≡ true =
-      whole_equal n n ∙ (unsigned_Decides n n).1 refl in e in
       let none : is_true (binary (Compare Eq Binary) (Int (pos (truth booking.cancelled))) (Int (pos 0))) ≡ true =
-      ap (λ (b : Bool). is_true (binary (Compare Eq Binary) (Int (pos (truth b))) (Int (pos 0)))) uncancelled ∙ number 0 in
-      let passes : is_as_given booking ≡ true = rw (
-        text booking.key,
-        number booking.number,
-        text booking.slot.facility,
-        number booking.slot.day,
-        number booking.slot.hour,
-        number booking.guests,
-        number booking.charge,
-        number booking.left,
-        number (truth booking.cancelled),
-        number booking.refund,
-        none,
-      ) refl in
+      ap (λ (b : Bool). is_true (binary (Compare Eq Binary) (Int (pos (truth b))) (Int (pos 0)))) uncancelled ∙ whole_itself 0 in
+      let passes : is_as_given booking ≡ true = simp (text_itself, whole_itself, none) in
       writes_one cancel_finds (contains_counts is_as_given rows.bookings booking it.0 passes)
 
   module _ (some : 1 ≤ count) where
@@ -185,15 +165,5 @@ module _ (old new : State) (rows : Rows) (holds_rows : HoldsRows old.now rows) (
         (λ id b _ passes.
         ap (λ v. shown id b v (whole refund)) (sym (ap (λ c. flag (b.cancelled || c)) passes ∙ ap flag (or-true b.cancelled)))
         ∙ ap (λ w. shown id b (flag (change b).cancelled) w) (sym (ap (λ c. whole (cond c refund b.refund)) passes)))
-        (λ id b. rw (
-          cast_int id,
-          cast_int (pos b.number),
-          cast_int (pos b.slot.day),
-          cast_int (pos b.slot.hour),
-          cast_int (pos b.guests),
-          cast_int (pos b.charge),
-          cast_int (pos b.left),
-          cast_int (pos (truth b.cancelled)),
-          cast_int (pos b.refund),
-        )) low in
+        (λ id b. simp cast_int) low in
         on_bookings holds_rows cancel_finds.wrote bookings

@@ -12,14 +12,17 @@ use Rattle.club_core.specs.After.{after}
 use Rattle.club_core.specs.Store.{FitsClub, IsTrueOf}
 use Rattle.club_core.specs.Club.{Club}
 use Rattle.club_core.specs.declared.store.StoreFault.{StoreFault}
+use Rattle.club_core.specs.declared.change.Change.TheVariants.{InsertMember, AddCredit, InsertFacility, InsertKey, MarkRevoked, ReplaceRoot, MarkClosed}
+use Rattle.club_core.specs.declared.change.Change.TheVariants.{InsertBooking, MarkCancelled}
 use Rattle.club_tables.specs.Tables.{HoldsClub, IsLeftOf, Represents}
-use Rattle.club_tables.specs.ReadsAndChanges.{ChangesClub, IsChangeFault, IsRunFault}
+use Rattle.club_tables.specs.ReadsAndChanges.{ChangesClub, IsChangeFault, IsRunFault, HasOlderRoot}
 use Rattle.club_tables.specs.Transaction.{BoundStatement, Ran, IsKept, transaction_start}
 use Rattle.club_tables.specs.Fault.{Commits, FailsInTurn, FailsToRun}
 use Rattle.club_tables.specs.ChangeStatements.{AreStatementsOf, statements_of}
 use Rattle.club_tables.proofs.opening.OpenLemmas.{IsSettled, settles}
 use Rattle.club_tables.proofs.queries.ReadLemmas.{at_once}
 use Rattle.club_tables.proofs.crashes.SurviveLemmas.{may_commit}
+use Rattle.club_tables.proofs.changes.PlanLemmas.{is_true, plan, made, less_in_turn}
 
 module _ {S : Type 0} (g : Ghosts S) (all : List BoundStatement) (some : 0 < length all) (old new : Held S)
     (survives : Survives (state g old) (state g new) (λ trees. (db : Database) × Ran g 1 all old db × (trees ≡ db.trees)))
@@ -53,14 +56,14 @@ module _ {S : Type 0} (g : Ghosts S) (all : List BoundStatement) (some : 0 < len
 
   module _ (next : Club) (IsTrueOfIt : Type 0) (makes : (db : Database) → HoldsClub (state g old).now club → Ran g 1 all old db
       → IsTrueOfIt × HoldsClub db next) where
-    made : (db : Database) → Ran g 1 all old db → IsTrueOfIt × HoldsClub db next
-    made db ran = makes db (held db ran) ran
+    holds_next : (db : Database) → Ran g 1 all old db → IsTrueOfIt × HoldsClub db next
+    holds_next db ran = makes db (held db ran) ran
 
     written : IsSettled (state g new) → IsTrue (state g new).is_open → Ran g 1 all old (state g new).committed → (state g new).now ≡ (state g new).committed
         → IsTrueOfIt × Represents (state g new) next []
     written settled is_open ran same = (
-      (made (state g new).committed ran).0,
-      settles (state g new) next [] (λ _ _. (made (state g new).committed ran).1) (λ _. is_open) same settled,
+      (holds_next (state g new).committed ran).0,
+      settles (state g new) next [] (λ _ _. (holds_next (state g new).committed ran).1) (λ _. is_open) same settled,
     )
 
     pub wrote : {E : Type 0} (r : Result (Unit {0}) E) → OnOk r (IsTrue (state g new).is_open × Ran g 1 all old (state g new).committed
@@ -68,29 +71,33 @@ module _ {S : Type 0} (g : Ghosts S) (all : List BoundStatement) (some : 0 < len
         → IsSettled (state g new)
         → MatchResult r (λ _. IsTrueOfIt × Represents (state g new) next []) (λ _. Represents (state g new) club (next ∷ others))
     wrote (Ok done) ok err settled = written settled ok.0 ok.1 ok.2
-    wrote (Err e) ok err settled = kept_as (next ∷ others) (λ trees db ran is. inr (inl (db, sym is, inl (inl (made db ran).1)))) (λ trees left.
+    wrote (Err e) ok err settled = kept_as (next ∷ others) (λ trees db ran is. inr (inl (db, sym is, inl (inl (holds_next db ran).1)))) (λ trees left.
         elim left [ inl here ↦ inl here | inr there ↦ inr (inr there) ]) err
 
--- statements that were run in a transaction of their own make the change
-pub makes : {S : Type 0} (g : Ghosts S) (change : Change) → 0 < length (statements_of change) → (old new : Held S) (r : Result (Unit {0}) StoreFault)
-    → Commits g 1 (statements_of change) old new r
-    → IsSettled (state g new)
-    → ((db : Database) (club : Club) → HoldsClub (state g old).now club → Ran g 1 (statements_of change) old db → IsTrueOf change club)
-    → ((db : Database) (club : Club) → HoldsClub (state g old).now club → FitsClub change club → Ran g 1 (statements_of change) old db
-    → HoldsClub db (after change club))
-    → ((club : Club) → FitsClub change club → (IsTrue (state g old).is_open → HoldsClub (state g old).now club) → (mid : Held S) (fault : StoreFault)
-    → FailsInTurn g 1 (statements_of change) (transaction_start old) mid fault → FailsInTurn g 0 (statements_of change) (transaction_start old) mid fault)
-    → ChangesClub g change old new r
-makes g change some old new r commits settled truth made less =
+some_statements : (change : Change) → 0 < length (statements_of change)
+some_statements (InsertMember member) = omega arith
+some_statements (AddCredit name points) = omega arith
+some_statements (InsertFacility facility) = omega arith
+some_statements (InsertKey key) = omega arith
+some_statements (MarkRevoked name) = omega arith
+some_statements (ReplaceRoot name was root until) = omega arith
+some_statements (MarkClosed slot) = omega arith
+some_statements (InsertBooking booking member) = omega arith
+some_statements (MarkCancelled booking member refund) = omega arith
+
+-- statements that were committed make their change
+pub changes : {S : Type 0} {g : Ghosts S} (change : Change) → ¬ HasOlderRoot change → {old new : Held S} {result : Result (Unit {0}) StoreFault}
+    → Commits g 1 (statements_of change) old new result → IsSettled (state g new) → ChangesClub g change old new result
+changes {g = g} change new_key {old = old} {new = new} {result = r} commits settled =
     let all = statements_of change in
     let earlier = λ (clean : HasCleanDisk (state g new)). let e : HasCleanDisk (state g old) = omega (arith, commits.survives.clean) in e in
     record {
       was_clean = earlier;
-      effect = λ clean club others represents sound. wrote g all some old new commits.survives clean club others represents (after change club)
-          (IsTrueOf change club) (λ db tables ran. let carries = truth db club tables ran in
-          (carries, made db club tables (record { carries = carries; sound = sound }) ran)) r (commits.ran clean) commits.kept settled;
-      untrue = λ clean club others represents no. refused g all some old new commits.survives clean club others represents r (IsTrueOf change club)
-          (λ db tables ran. truth db club tables ran) (commits.ran clean) commits.kept no;
+      effect = λ clean club others represents sound. wrote g all (some_statements change) old new commits.survives clean club others represents (after change club)
+          (IsTrueOf change club) (λ db tables ran. let carries = is_true g old club tables db change new_key ran in
+          (carries, made g old club tables db change (record { carries = carries; sound = sound }) ran)) r (commits.ran clean) commits.kept settled;
+      untrue = λ clean club others represents no. refused g all (some_statements change) old new commits.survives clean club others represents r (IsTrueOf change club)
+          (λ db tables ran. is_true g old club tables db change new_key ran) (commits.ran clean) commits.kept no;
       no_change = on_err_weaker r (λ kept rest. kept) commits.kept;
       survives = may_commit g 1 all (AreStatementsOf change) refl old new commits.survives;
       fault = λ clean. IfErr-weaker r (FailsToRun g 1 all old new) (IsChangeFault g change old new) (λ fault failed.
@@ -101,8 +108,10 @@ makes g change some old new r commits settled truth made less =
             after = at_once g old (earlier clean);
             failure = record {
               mid = failed.mid;
-              failure = less club fits (λ is_open. subst (λ (d : Database). HoldsClub d club) (sym (represents.idle (earlier clean) is_open))
-                  (represents.held (earlier clean) is_open)) failed.mid fault failed.failure;
+              failure = less_in_turn g all (transaction_start old) failed.mid fault (λ is_open.
+                  let tables = subst (λ (d : Database). HoldsClub d club) (sym (represents.idle (earlier clean) is_open)) (represents.held (earlier clean) is_open) in
+                  let it = plan g old club tables change fits in
+                  (tables.rows, it.0, tables.holds_rows, it.1)) failed.failure;
               fault_count = failed.fault_count;
             };
           }) (commits.fault clean);

@@ -1,5 +1,5 @@
 use Rattle.club_core.specs.declared.change.Change.TheVariants.{AddCredit}
-use Rattle.club_tables.proofs.changes.ChangedLemmas.{changes}
+use Rattle.club_tables.proofs.changes.WriteLemmas.{changes}
 use Rattle.club_tables.proofs.tables.Tables.add_credit.Goals as goal
 
 pub returns-clause-makes : goal.returns-clause-makes

@@ -1,5 +1,5 @@
 use Rattle.club_core.specs.declared.change.Change.TheVariants.{InsertBooking}
-use Rattle.club_tables.proofs.changes.ChangedLemmas.{changes}
+use Rattle.club_tables.proofs.changes.WriteLemmas.{changes}
 use Rattle.club_tables.proofs.tables.Tables.insert_booking.Goals as goal
 
 pub returns-clause-commits : goal.returns-clause-commits

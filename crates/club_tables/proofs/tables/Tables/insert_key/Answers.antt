@@ -1,6 +1,6 @@
 use Rattle.std.proofs.Common.{true≢false, sym, ◌∙◌}
 use Rattle.club_core.specs.declared.change.Change.TheVariants.{InsertKey}
-use Rattle.club_tables.proofs.changes.ChangedLemmas.{changes}
+use Rattle.club_tables.proofs.changes.WriteLemmas.{changes}
 use Rattle.club_tables.proofs.tables.Tables.insert_key.Goals as goal
 
 pub returns-clause-makes : goal.returns-clause-makes

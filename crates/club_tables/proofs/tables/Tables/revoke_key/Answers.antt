@@ -1,5 +1,5 @@
 use Rattle.club_core.specs.declared.change.Change.TheVariants.{MarkRevoked}
-use Rattle.club_tables.proofs.changes.ChangedLemmas.{changes}
+use Rattle.club_tables.proofs.changes.WriteLemmas.{changes}
 use Rattle.club_tables.proofs.tables.Tables.revoke_key.Goals as goal
 
 pub returns-clause-makes : goal.returns-clause-makes
