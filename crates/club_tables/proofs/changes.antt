@@ -2,10 +2,8 @@
 
 pub mod AddLemmas
 pub mod ChangeLemmas
-pub mod KeyChangeLemmas
 pub mod CancelLemmas
 pub mod CancelStored
-pub mod OlderLemmas
 pub mod UpsertLemmas
 pub mod StoredLemmas
 pub mod TotalsLemmas

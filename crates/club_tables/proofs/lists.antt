@@ -9,4 +9,3 @@ pub mod KeyedRows
 pub mod SlotRows
 pub mod OwnerLemmas
 pub mod SumLemmas
-pub mod SlotUseLemmas

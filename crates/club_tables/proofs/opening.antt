@@ -7,6 +7,5 @@ pub mod VersionLemmas
 pub mod MigrateLemmas
 pub mod IndexLemmas
 pub mod OpenLemmas
-pub mod ReadyLemmas
 pub mod StepLemmas
 pub mod PrepareLemmas

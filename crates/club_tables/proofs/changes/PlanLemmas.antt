@@ -42,14 +42,12 @@ use Rattle.club_tables.proofs.changes.AddLemmas.{booking_put, member_put, facili
 use Rattle.club_tables.proofs.changes.CancelLemmas.{booking_cancelled, cancel_found, cancel_some}
 use Rattle.club_tables.proofs.changes.CancelStored.{there, used_back, taken_back, cancel_stored, cancel_rows}
 use Rattle.club_tables.proofs.changes.ChangeLemmas.{credit_found, owner_found, AreKeysOnce, StoresKey, name_of, member_used, AreNamedOnce, Uses, used_row}
-use Rattle.club_tables.proofs.changes.ChangeLemmas.{member_credited, Credits, credit_some, used_some, credited_row}
-use Rattle.club_tables.proofs.changes.KeyChangeLemmas.{revoke_found, root_found, key_revoked, root_set, revoke_some, root_some}
-use Rattle.club_tables.proofs.changes.OlderLemmas.{older_represents, put_older}
+use Rattle.club_tables.proofs.changes.ChangeLemmas.{member_credited, Credits, credit_some, used_some, credited_row, revoke_found, root_found, key_revoked}
 use Rattle.club_tables.proofs.changes.StoredLemmas.{taken_more, member_stored, credit_stored, facility_stored, key_stored, revoke_stored, rotate_stored}
 use Rattle.club_tables.proofs.changes.StoredLemmas.{close_stored, booking_stored, totals_rows, book_rows}
 use Rattle.club_tables.proofs.changes.TotalsLemmas.{one_turn, named_once, few_used, uses_more, minus, uses_less, held_is, takes_of, no_row, few_taken}
 use Rattle.club_tables.proofs.changes.TotalsLemmas.{all_mapped, credits_of}
-use Rattle.club_tables.proofs.changes.UpsertLemmas.{slot_taken, Takes, slot_closed}
+use Rattle.club_tables.proofs.changes.UpsertLemmas.{slot_taken, Takes, slot_closed, older_represents, put_older}
 use Rattle.club_tables.proofs.lists.FindLemmas.{found}
 use Rattle.club_tables.proofs.lists.OwnerLemmas.{all_last, owner_is}
 use Rattle.club_tables.proofs.lists.SlotRows.{same_itself}
@@ -59,6 +57,7 @@ use Rattle.club_tables.proofs.queries.MemberLemmas.{total}
 use Rattle.club_tables.proofs.statements.HoldsRowsLemmas.{Steps}
 use Rattle.club_tables.proofs.statements.PassLemmas.{contains_counts, find_some}
 use Rattle.club_tables.proofs.statements.SelectLemmas.{apart_from_pairs}
+use Rattle.club_tables.proofs.changes.ChangeLemmas.{root_set, revoke_some, root_some}
 
 -- ---- statements in turn
 

@@ -32,9 +32,8 @@ use Rattle.club_tables.proofs.changes.AddLemmas.{new_row}
 use Rattle.club_tables.proofs.changes.ChangeLemmas.{credited_row, used_row}
 use Rattle.club_tables.proofs.statements.SelectLemmas.{apart_from_pairs, none_pass, filter_same, none_of}
 use Rattle.club_tables.proofs.statements.UpdateLemmas.{each_of}
-use Rattle.club_tables.proofs.changes.OlderLemmas.{put_older, older_put, put_once as olders_once}
 use Rattle.club_tables.proofs.lists.SlotRows.{put_slot, use_put, put_once}
-use Rattle.club_tables.proofs.changes.UpsertLemmas.{close_use, take_use}
+use Rattle.club_tables.proofs.changes.UpsertLemmas.{close_use, take_use, put_older, older_put, put_once as olders_once}
 use Rattle.club_tables.proofs.lists.FindLemmas.{found}
 use Rattle.club_tables.proofs.lists.OwnerLemmas.{map_agree, apart_last, not_among, unequal, sum_more, owner_is}
 use Rattle.sqlite_trees.proofs.ListLemmas.{map-map}

@@ -1,5 +1,5 @@
--- Rows and the bookings that are read from them.
-use Rattle.std.proofs.Common.{◌≡◌, ℕ, zero, suc, ◌+◌, ◌<◌, Bool, true, false, List, [], ◌∷◌, ◌++◌, length, take, map, refl, sym, subst, ◌∙◌, arith}
+-- Rows, and the bookings and the use of a slot that are read from them.
+use Rattle.std.proofs.Common.{◌≡◌, ℕ, zero, suc, ◌+◌, ◌<◌, Bool, true, false, List, [], ◌∷◌, ◌++◌, length, take, map, refl, sym, subst, ◌∙◌, arith, inl, inr}
 use Rattle.std.specs.Prelude.{All, slice_index_or}
 use Rattle.std.specs.List.{AllByRecursion}
 use Rattle.std.proofs.lemmas.List.{take_more}
@@ -10,8 +10,13 @@ use Rattle.club_rows.specs.declared.booking.Booking.{Booking}
 use Rattle.club_core.specs.Club.{Club}
 use Rattle.club_rows.specs.Rows.{IsBooking}
 use Rattle.club_core.specs.Sheet.{AreRowsOf}
-use Rattle.club_tables.specs.Columns.{booking_values, HasValues}
+use Rattle.club_values.specs.declared.slot.Slot.{Slot}
+use Rattle.club_core.specs.declared.slot_use.SlotUse.{SlotUse}
+use Rattle.club_core.specs.Basis.{slot_use}
+use Rattle.club_tables.specs.Columns.{booking_values, HasValues, use_values}
 use Rattle.club_tables.specs.Sheet.{ShowsDay, AreBookings}
+use Rattle.club_tables.specs.Answers.{IsUse}
+use Rattle.club_tables.specs.Use.{ShowsUse}
 use Rattle.club_tables.proofs.lists.RowLemmas.{zip_more}
 
 pub truths : (a b : Bool) → truth a ≡ truth b → a ≡ b
@@ -91,3 +96,20 @@ pub no_bookings : (rows : List Row) (k : ℕ) (row : Row) → k < length rows �
 no_bookings rows k row low is none bookings are =
     let there = booking_at rows bookings k row are low in
     none there.0 (subst (λ r. IsOfRow r there.0) (sym is) there.1)
+
+-- a row holds one use
+one_use : (a b : SlotUse) → HasValues (use_values a) (use_values b) → b ≡ a
+one_use a b h =
+    let flags : truth b.closed ≡ truth a.closed = cc in
+    let taken : b.taken ≡ a.taken = cc in
+    let closed = truths b.closed a.closed flags in
+    λ i. record { taken = taken i; closed = closed i }
+
+-- by rows that show what is taken of a slot
+pub use_is : (club : Club) (slot : Slot) (rows : List Row) (found : SlotUse) → ShowsUse club slot rows → IsUse rows found → found ≡ slot_use club slot
+use_is club slot rows found (inl there) is =
+    let read : IsUse (use_values (slot_use club slot) ∷ []) found = subst (λ rs. IsUse rs found) there is in
+    one_use (slot_use club slot) found read.1
+use_is club slot rows found (inr absent) is =
+    let none : IsUse [] found = subst (λ rs. IsUse rs found) absent.0 is in
+    none ∙ sym absent.1

@@ -1,17 +1,20 @@
--- Steps of an opening that follow a read.
-use Rattle.std.proofs.Common.{List, Result, Err, inl, inr}
+-- Steps of an opening that follow a read, and tables that are ready for one.
+use Rattle.std.proofs.Common.{List, Result, Err, inl, inr, ◌≡◌, ℕ, [], ◌∷◌, IsTrue, All, sym, subst, ◌∙◌}
 use Rattle.std.proofs.lemmas.Result.{IfErr-weaker, on_ok_weaker, on_err_weaker}
 use Rattle.sqlite.specs.Store.{Ghosts}
 use Rattle.sqlite.specs.Effect.{Database}
-use Rattle.sqlite.specs.State.{HasCleanDisk, Survives}
+use Rattle.sqlite.specs.State.{HasCleanDisk, Survives, State}
 use Rattle.sqlite.specs.Held.{Held, state}
+use Rattle.sqlite.specs.Order.{Row}
 use Rattle.club_core.specs.Club.{Club}
 use Rattle.club_core.specs.declared.store.StoreFault.{StoreFault}
 use Rattle.club_tables.specs.Answers.{IsAfterReadings}
 use Rattle.club_tables.specs.Fault.{FailsToRun}
-use Rattle.club_tables.specs.Opening.{IsOpeningBatch, IsOpeningFault, Opens}
+use Rattle.club_tables.specs.Opening.{IsOpeningBatch, IsOpeningFault, Opens, YieldsRows, FoundReady}
 use Rattle.club_tables.specs.Tables.{RepresentsBy}
-use Rattle.club_tables.specs.Transaction.{BoundStatement, IsUntouched}
+use Rattle.club_tables.specs.Transaction.{BoundStatement, IsUntouched, IsKept, IsIdle, IsUnderstood}
+use Rattle.club_tables.specs.declared.texts.TheConstants.{VERSION}
+use Rattle.club_tables.specs.Columns.{HasValues, version_values}
 use Rattle.club_tables.proofs.crashes.RepresentsLemmas.{represents_on}
 use Rattle.club_tables.proofs.crashes.SurviveLemmas.{after_one, commits_after, commits_nothing, was_clean}
 
@@ -59,4 +62,25 @@ module _ {S : Type 0} (g : Ghosts S) (old mid : Held S) (untouched : IsUntouched
         fault = λ clean. IfErr-weaker result (Fails mid new) (IsOpeningFault g old new) (λ fault failed.
             fails fault (after_one g old mid (earlier clean) untouched quiet) failed) (step.fault clean);
         survives = commits_after g 0 IsOpeningBatch old mid new untouched quiet step.survives;
+      }
+
+module _ (old mid new : State) (earlier : HasCleanDisk mid) (clean : HasCleanDisk new) (is_open : IsTrue new.is_open) (rest : IsIdle old)
+    (read : IsKept old mid) (prepared : IsIdle mid → IsKept mid new) where
+  mid_is_idle : IsIdle mid
+  mid_is_idle opened = let k = read earlier opened in k.1 ∙ sym k.2
+
+  pub found_ready : (version : ℕ) (texts : List (List ℕ)) (rows : List Row) → (row : Row) × (rows ≡ row ∷ []) × HasValues row (version_values version)
+      → YieldsRows VERSION.now old.now rows
+      → (IsIdle mid → All (IsUnderstood new.committed.schema) texts) → FoundReady version texts old new
+  found_ready version texts rows one answered known =
+      let after = prepared mid_is_idle clean is_open in
+      let before = read earlier after.0 in
+      let same : new.committed ≡ old.committed = after.2 ∙ before.2 in
+      let here : old.now ≡ new.committed = rest before.0 ∙ sym same in
+      record {
+        ready = record {
+          version_row = (one.0, subst (λ db. YieldsRows VERSION.now db (one.0 ∷ [])) here (subst (YieldsRows VERSION.now old.now) one.1 answered), one.2);
+          by_key = known mid_is_idle;
+        };
+        same = same;
       }

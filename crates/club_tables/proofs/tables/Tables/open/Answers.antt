@@ -17,8 +17,7 @@ use Rattle.club_tables.specs.Tables.{HoldsClubAnyVersion, IsFound, RepresentsVer
 use Rattle.club_tables.proofs.crashes.SurviveLemmas.{opened_after, was_clean}
 use Rattle.club_tables.proofs.opening.MakingLemmas.{makes_free}
 use Rattle.club_tables.proofs.opening.OpenLemmas.{one_version, first_found, second_found}
-use Rattle.club_tables.proofs.opening.ReadyLemmas.{found_ready}
-use Rattle.club_tables.proofs.opening.StepLemmas.{batch_failed, keeps_after, opens_after, opens_not}
+use Rattle.club_tables.proofs.opening.StepLemmas.{batch_failed, keeps_after, opens_after, opens_not, found_ready}
 use Rattle.club_tables.proofs.queries.ReadLemmas.{at_once}
 use Rattle.club_tables.proofs.tables.Tables.open.Goals as goal
 
