@@ -2,10 +2,7 @@
 
 pub mod MakesLemmas
 pub mod MakingLemmas
-pub mod DeskLemmas
 pub mod VersionLemmas
-pub mod MigrateLemmas
-pub mod IndexLemmas
 pub mod OpenLemmas
 pub mod StepLemmas
 pub mod PrepareLemmas

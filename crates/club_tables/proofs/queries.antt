@@ -1,7 +1,6 @@
 -- What the club's queries return.
 
 pub mod KeyLemmas
-pub mod BookingLemmas
 pub mod MemberLemmas
 pub mod DayLemmas
 pub mod ReadLemmas

@@ -6,7 +6,6 @@ pub mod JoinLemmas
 pub mod OrderLemmas
 pub mod InsertLemmas
 pub mod PassLemmas
-pub mod CountedLemmas
 pub mod UpdateLemmas
 pub mod ReplaceLemmas
 pub mod PutLemmas

@@ -33,14 +33,13 @@ use Rattle.club_tables.specs.Stored.{Rows}
 use Rattle.club_tables.specs.Tables.{HoldsRows, bookings_tree}
 use Rattle.club_tables.proofs.statements.HoldsRowsLemmas.{on_bookings}
 use Rattle.club_tables.proofs.statements.InsertLemmas.{cast_int}
-use Rattle.club_tables.proofs.statements.PassLemmas.{contains_counts}
+use Rattle.club_tables.proofs.statements.PassLemmas.{contains_counts, found}
 use Rattle.club_tables.proofs.statements.PassLemmas.{Implies, agree, fewer, found_by_both}
 use Rattle.club_tables.proofs.statements.SelectLemmas.{text_equal, whole_equal, test, shows}
 use Rattle.club_tables.proofs.statements.UpdateLemmas.{updates, Finds, finds, passes_one, writes_one, changes_one, each_of}
 use Rattle.club_tables.proofs.changes.AddLemmas.{booking_table}
 use Rattle.club_tables.proofs.lists.BookingRows.{truths}
-use Rattle.club_tables.proofs.lists.FindLemmas.{found}
-use Rattle.club_tables.proofs.queries.BookingLemmas.{AreBookingsOnce, is_numbered, is_uncancelled, one_numbered}
+use Rattle.club_tables.proofs.queries.KeyLemmas.{AreBookingsOnce, is_numbered, is_uncancelled, one_numbered}
 
 abbrev cancel_tests : List Term
 cancel_tests =

@@ -19,12 +19,12 @@ use Rattle.club_tables.specs.declared.row.MemberRow.{MemberRow}
 use Rattle.club_tables.specs.Stored.{Rows, IsStoredAs, member_row, used_by}
 use Rattle.club_tables.proofs.changes.ChangeLemmas.{used_row}
 use Rattle.club_tables.proofs.statements.SelectLemmas.{Apart, apart_from_pairs}
-use Rattle.club_tables.proofs.lists.FindLemmas.{found}
 use Rattle.std.specs.Cmp.{unsigned_Decides}
 use Rattle.std.proofs.Math.Bool.{or-true, or-false}
 use Rattle.club_tables.proofs.lists.OwnerLemmas.{IsAlone, picked_changed, owner_is}
 use Rattle.club_tables.proofs.changes.StoredLemmas.{totals_rows, bookings_stored}
 use Rattle.club_tables.proofs.queries.KeyLemmas.{same_names}
+use Rattle.club_tables.proofs.statements.PassLemmas.{found}
 
 -- ---- cancellations
 

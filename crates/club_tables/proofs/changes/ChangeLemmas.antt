@@ -37,12 +37,11 @@ use Rattle.club_tables.proofs.statements.InsertLemmas.{cast_int}
 use Rattle.club_tables.proofs.queries.KeyLemmas.{both_tests, one_named}
 use Rattle.club_tables.proofs.changes.AddLemmas.{member_table, key_table}
 use Rattle.club_tables.proofs.statements.HoldsRowsLemmas.{on_members, on_keys}
-use Rattle.club_tables.proofs.statements.CountedLemmas.{is_counted, some_counted, counted_some, passes, shown, count_in, with_count, answered_counted}
-use Rattle.club_tables.proofs.statements.CountedLemmas.{counts_elements}
-use Rattle.club_tables.proofs.statements.PassLemmas.{contains_counts, found_counts, each_row, find_some, agree, found_by_both}
+use Rattle.club_tables.proofs.statements.PassLemmas.{contains_counts, found_counts, each_row, find_some, agree, found_by_both, found}
 use Rattle.club_tables.proofs.statements.SelectLemmas.{text_equal, shows, blob_equal}
 use Rattle.club_tables.proofs.statements.UpdateLemmas.{Updates, updates, Finds, finds, passes_one, writes_one, changes_one, each_of}
-use Rattle.club_tables.proofs.lists.FindLemmas.{found}
+use Rattle.club_tables.proofs.statements.JoinLemmas.{is_counted, some_counted, counted_some, passes, shown, count_in, with_count, answered_counted}
+use Rattle.club_tables.proofs.statements.JoinLemmas.{counts_elements}
 
 -- ---- keys by their names
 

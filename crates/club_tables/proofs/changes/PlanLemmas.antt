@@ -48,16 +48,14 @@ use Rattle.club_tables.proofs.changes.StoredLemmas.{close_stored, booking_stored
 use Rattle.club_tables.proofs.changes.TotalsLemmas.{one_turn, named_once, few_used, uses_more, minus, uses_less, held_is, takes_of, no_row, few_taken}
 use Rattle.club_tables.proofs.changes.TotalsLemmas.{all_mapped, credits_of}
 use Rattle.club_tables.proofs.changes.UpsertLemmas.{slot_taken, Takes, slot_closed, older_represents, put_older}
-use Rattle.club_tables.proofs.lists.FindLemmas.{found}
 use Rattle.club_tables.proofs.lists.OwnerLemmas.{all_last, owner_is}
-use Rattle.club_tables.proofs.lists.SlotRows.{same_itself}
-use Rattle.club_tables.proofs.queries.BookingLemmas.{AreBookingsOnce}
-use Rattle.club_tables.proofs.queries.KeyLemmas.{find_mapped}
+use Rattle.club_tables.proofs.queries.KeyLemmas.{find_mapped, AreBookingsOnce}
 use Rattle.club_tables.proofs.queries.MemberLemmas.{total}
 use Rattle.club_tables.proofs.statements.HoldsRowsLemmas.{Steps}
-use Rattle.club_tables.proofs.statements.PassLemmas.{contains_counts, find_some}
+use Rattle.club_tables.proofs.statements.PassLemmas.{contains_counts, find_some, found}
 use Rattle.club_tables.proofs.statements.SelectLemmas.{apart_from_pairs}
 use Rattle.club_tables.proofs.changes.ChangeLemmas.{root_set, revoke_some, root_some}
+use Rattle.club_tables.proofs.lists.KeyedRows.{same_itself}
 
 -- ---- statements in turn
 

@@ -32,10 +32,10 @@ use Rattle.club_tables.proofs.changes.AddLemmas.{new_row}
 use Rattle.club_tables.proofs.changes.ChangeLemmas.{credited_row, used_row}
 use Rattle.club_tables.proofs.statements.SelectLemmas.{apart_from_pairs, none_pass, filter_same, none_of}
 use Rattle.club_tables.proofs.statements.UpdateLemmas.{each_of}
-use Rattle.club_tables.proofs.lists.SlotRows.{put_slot, use_put, put_once}
 use Rattle.club_tables.proofs.changes.UpsertLemmas.{close_use, take_use, put_older, older_put, put_once as olders_once}
-use Rattle.club_tables.proofs.lists.FindLemmas.{found}
 use Rattle.club_tables.proofs.lists.OwnerLemmas.{map_agree, apart_last, not_among, unequal, sum_more, owner_is}
+use Rattle.club_tables.proofs.lists.KeyedRows.{put_slot, use_put, slot_once}
+use Rattle.club_tables.proofs.statements.PassLemmas.{found}
 use Rattle.sqlite_trees.proofs.ListLemmas.{map-map}
 
 -- ---- members
@@ -284,7 +284,7 @@ close_stored club rows stored slot = record {
       u) (sym (list_any-append (λ other. same_slot other s) club.closed (slot ∷ [])));
   olders = stored.olders;
   olders_once = stored.olders_once;
-  once = put_once slot close_use rows.slots stored.once;
+  once = slot_once slot close_use rows.slots stored.once;
 }
 
 -- ---- bookings
@@ -359,7 +359,7 @@ bookings_stored club rows stored change member used slot taken costs persons = r
       ∙ recounted_use club s taken (same_slot slot s) (taken_in s (change club.bookings)) (persons s);
   olders = stored.olders;
   olders_once = stored.olders_once;
-  once = put_once slot (take_use taken) rows.slots stored.once;
+  once = slot_once slot (take_use taken) rows.slots stored.once;
 }
 
 pub booking_stored : (club : Club) (rows : Rows) → IsStoredAs club rows → IsSound club → (member : List ℕ) (booking : Booking)

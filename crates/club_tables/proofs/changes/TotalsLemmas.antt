@@ -29,14 +29,13 @@ use Rattle.club_tables.specs.declared.row.MemberRow.{MemberRow}
 use Rattle.club_tables.specs.Columns.{whole}
 use Rattle.club_tables.specs.Stored.{SlotRow, member_row, used_by, no_slot_use, stored_slot_use}
 use Rattle.club_tables.specs.Transaction.{BoundStatement, Ran, transaction_start}
-use Rattle.club_tables.proofs.queries.BookingLemmas.{same_slots}
 use Rattle.club_tables.proofs.changes.ChangeLemmas.{AreNamedOnce, Credits, Uses, name_of}
 use Rattle.club_tables.proofs.queries.MemberLemmas.{total}
 use Rattle.club_tables.proofs.statements.OrderLemmas.{pairs_from_apart}
 use Rattle.club_tables.proofs.statements.SelectLemmas.{Apart, apart_from_pairs}
-use Rattle.club_tables.proofs.lists.KeyedRows.{absent}
-use Rattle.club_tables.proofs.lists.SlotRows.{AreApart, same_itself, not_same}
+use Rattle.club_tables.proofs.lists.KeyedRows.{absent, AreApart, same_itself, not_same}
 use Rattle.club_tables.proofs.changes.UpsertLemmas.{Takes}
+use Rattle.club_tables.proofs.queries.KeyLemmas.{same_slots}
 
 -- ---- turns
 

@@ -40,12 +40,12 @@ use Rattle.club_tables.specs.Tables.{HoldsRows, slots_tree, olders_tree}
 use Rattle.club_tables.proofs.statements.InsertLemmas.{cast_null, cast_int}
 use Rattle.club_tables.proofs.statements.HoldsRowsLemmas.{on_slots, Steps, on_olders}
 use Rattle.club_tables.proofs.statements.SelectLemmas.{apart_from_pairs, text_equal}
-use Rattle.club_tables.proofs.queries.BookingLemmas.{same_slots}
 use Rattle.club_tables.proofs.statements.UpdateLemmas.{each_of}
 use Rattle.club_tables.proofs.statements.PutLemmas.{PutsRow, first_clause, row_put}
-use Rattle.club_tables.proofs.lists.KeyedRows.{lone, by_put, put_once as once_put}
-use Rattle.club_tables.proofs.lists.SlotRows.{slots_conflict, slot_table, same_itself, changed, unchanged, put_slot, new_row as new_row_of}
+use Rattle.club_tables.proofs.lists.KeyedRows.{lone, by_put, put_once as once_put, slots_conflict, slot_table, same_itself, changed, same_row as unchanged}
 use Rattle.club_tables.proofs.lists.PutRows.{put_among}
+use Rattle.club_tables.proofs.queries.KeyLemmas.{same_slots}
+use Rattle.club_tables.proofs.lists.KeyedRows.{put_slot, new_row as new_row_of}
 
 abbrev target : Option (List ℕ)
 target = Some (1 ∷ 2 ∷ 3 ∷ [])

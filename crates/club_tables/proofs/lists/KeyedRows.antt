@@ -1,15 +1,31 @@
--- Rows that are found by their keys, once the row of one key is put.
-use Rattle.std.proofs.Common.{◌≡◌, ◌≢◌, Bool, true, false, ◌||◌, cond, if◌then◌else◌, Option, Some, None, List, [], ◌∷◌, ◌++◌, map, refl, sym, ap, subst}
-use Rattle.std.proofs.Common.{◌∙◌, true≢false}
-use Rattle.std.specs.Prelude.{find, option_map, AllPairs}
+-- Rows that are found by their keys, and those of slots, once the row of one key is put.
+use Rattle.std.proofs.Common.{◌≡◌, ◌≢◌, Bool, true, false, ◌||◌, cond, if◌then◌else◌, Option, Some, None, List, [], ◌∷◌, ◌++◌, map, refl, sym, ap, subst, ◌∙◌}
+use Rattle.std.proofs.Common.{true≢false, ℤ, ◌==◌}
+use Rattle.std.specs.Prelude.{find, option_map, AllPairs, unwrap_or}
 use Rattle.std.specs.Option.{option_or}
 use Rattle.std.specs.List.{AllByRecursion, list_any}
 use Rattle.std.proofs.lemmas.Bool.{false_from_ne_true}
 use Rattle.std.proofs.lemmas.List.Folds.{find-append}
-use Rattle.club_tables.proofs.lists.FindLemmas.{found}
+use Rattle.std.specs.Str.{bytes_eq}
+use Rattle.std.specs.Cmp.{unsigned_Decides}
+use Rattle.std.proofs.lemmas.Slice.Eq.{bytes_eq-Decides}
+use Rattle.std.proofs.Math.Bool.{or-false}
+use Rattle.sqlite_value.specs.declared.value.Value.{Value}
+use Rattle.sqlite_value.specs.declared.value.Value.TheVariants.{Int}
+use Rattle.sqlite_value.specs.Keys.{first_key}
+use Rattle.sqlite.specs.Table.{Table}
+use Rattle.sqlite_rules.specs.Keys.{conflicts}
+use Rattle.club_values.specs.declared.slot.Slot.{Slot}
+use Rattle.club_core.specs.declared.slot_use.SlotUse.{SlotUse}
+use Rattle.club_rows.specs.Booking.{same_slot}
+use Rattle.club_tables.specs.Schema.{slots_table, club_schema}
+use Rattle.club_tables.specs.Columns.{name_values, slot_values}
+use Rattle.club_tables.specs.Stored.{SlotRow, no_slot_use, stored_slot_use}
+use Rattle.club_tables.specs.Tables.{slots_tree}
 use Rattle.club_tables.proofs.statements.OrderLemmas.{pairs_from_apart}
-use Rattle.club_tables.proofs.statements.PassLemmas.{any_counts, find_some}
-use Rattle.club_tables.proofs.statements.SelectLemmas.{Apart, apart_from_pairs}
+use Rattle.club_tables.proofs.statements.PassLemmas.{any_counts, find_some, found}
+use Rattle.club_tables.proofs.statements.SelectLemmas.{Apart, apart_from_pairs, text_equal, whole_equal}
+use Rattle.club_tables.proofs.queries.KeyLemmas.{same_slots, three}
 
 pub absent : {X : Type 0} (p : X → Bool) (xs : List X) → list_any p xs ≡ false → find p xs ≡ None
 absent p [] none = refl
@@ -136,3 +152,58 @@ module _ {X K : Type 0} (key_of : X → K) (same : K → K → Bool) (same_keys 
               ≡ (if b then next (shown (named name rows)) else shown (named name rows))
           go true is = subst (λ n. shown (named n (put (list_any is_of rows) rows)) ≡ next (shown (named n rows))) (same_keys key name is) (by_key rows)
           go false other = by_other name other rows
+
+-- ---- rows of slots
+
+abbrev pub slot_table : Table
+slot_table = record slots_table { tree = slots_tree }
+
+abbrev pub AreApart : List SlotRow → Type 0
+AreApart = Apart (λ (a : SlotRow) (b : SlotRow). a.slot ≢ b.slot)
+
+-- a row conflicts with a new one where both are of one slot
+pub slots_conflict : (id id' : ℤ) (a : SlotRow) (b : Slot) (v w : Value) → conflicts (Some (1 ∷ 2 ∷ 3 ∷ [])) club_schema.indexes slot_table (Int id'
+    ∷ name_values b ++ v ∷ w ∷ []) (Int id ∷ slot_values a) ≡ same_slot a.slot b
+unfolding first_key
+slots_conflict id id' a b v w =
+    rw (text_equal a.slot.facility b.facility, whole_equal a.slot.day b.day, whole_equal a.slot.hour b.hour)
+    (or-false _ ∙ three (bytes_eq a.slot.facility b.facility) (a.slot.day == b.day) (a.slot.hour == b.hour))
+
+pub same_itself : (slot : Slot) → same_slot slot slot ≡ true
+same_itself slot =
+    let name = (bytes_eq-Decides slot.facility slot.facility).1 refl in
+    let day = (unsigned_Decides slot.day slot.day).1 refl in
+    let hour = (unsigned_Decides slot.hour slot.hour).1 refl in
+    rw (name, day, hour) refl
+
+pub not_same : (a b : Slot) → a ≢ b → same_slot a b ≡ false
+not_same a b apart = false_from_ne_true (same_slot a b) (λ same. apart (same_slots a b same))
+
+-- ---- one row for each slot
+
+module _ (slot : Slot) (change : SlotUse → SlotUse) where
+  abbrev pub changed : SlotRow → SlotRow
+  changed row = record row { held = if same_slot row.slot slot then change row.held else row.held }
+
+  abbrev pub new_row : SlotRow
+  new_row = record { slot = slot; held = change no_slot_use }
+
+  -- the row of the slot is changed, or made
+  abbrev pub put_slot : List SlotRow → List SlotRow
+  put_slot rows = if list_any (λ (row : SlotRow). same_slot row.slot slot) rows then map changed rows else rows ++ new_row ∷ []
+
+  pub same_row : (row : SlotRow) → same_slot row.slot slot ≡ false → changed row ≡ row
+  same_row row fails = ap (λ b. let r : SlotRow = record row { held = if b then change row.held else row.held } in r) fails
+
+  -- the use of each slot once the row is put
+  pub use_put : (s : Slot) (rows : List SlotRow)
+      → stored_slot_use s (put_slot rows) ≡ (if same_slot slot s then change (stored_slot_use s rows) else stored_slot_use s rows)
+  use_put s rows =
+      by_put (λ (row : SlotRow). row.slot) same_slot same_slots same_itself slot changed (λ row. refl) new_row refl
+      (λ found. unwrap_or (option_map (λ (row : SlotRow). row.held) found) no_slot_use) change
+      (λ row passes. ap (λ b. if b then change row.held else row.held) passes) same_row refl s rows
+
+  -- and no slot has two rows
+  pub slot_once : (rows : List SlotRow) → AllPairs (λ (a : SlotRow) (b : SlotRow). a.slot ≢ b.slot) rows
+      → AllPairs (λ (a : SlotRow) (b : SlotRow). a.slot ≢ b.slot) (put_slot rows)
+  slot_once = put_once (λ (row : SlotRow). row.slot) same_slot same_slots same_itself slot changed (λ row. refl) new_row refl

@@ -1,30 +1,37 @@
--- The batch that makes the tables.
-use Rattle.std.proofs.Common.{◌≡◌, pos, List, [], ◌∷◌, refl, sym, ap, subst, ◌∙◌, arith}
+-- The batches that make the tables, migrate those of version 1, and make the index of the bookings.
+use Rattle.std.proofs.Common.{◌≡◌, pos, List, [], ◌∷◌, refl, sym, ap, subst, ◌∙◌, arith, ℕ, true, inl, inr}
 use Rattle.std.specs.Prelude.{is_ok}
 use Rattle.sqlite_tied.specs.Compute.{everything}
 use Rattle.sqlite_value.specs.declared.value.Value.TheVariants.{Null, Int}
 use Rattle.sqlite.specs.Store.{Ghosts}
-use Rattle.sqlite.specs.Term.{Term, lit}
+use Rattle.sqlite.specs.Term.{Term, lit, col}
 use Rattle.sqlite.specs.Source.TheVariants.{Values}
-use Rattle.sqlite.specs.Command.TheVariants.{Insert}
+use Rattle.sqlite.specs.Command.TheVariants.{Insert, Update}
 use Rattle.sqlite.specs.Effect.{Database}
 use Rattle.sqlite.specs.Listing.{understood}
-use Rattle.sqlite.specs.State.{ExecutesIn}
+use Rattle.sqlite.specs.State.{ExecutesIn, HasCleanDisk, Survives}
 use Rattle.sqlite.specs.Held.{Held, state}
-use Rattle.club_tables.proofs.statements.MeansLemmas.{Means}
-use Rattle.club_core.specs.Club.{IsSound, empty_club}
-use Rattle.club_tables.specs.declared.texts.TheConstants.{ADD_VERSION}
-use Rattle.club_tables.specs.Schema.{no_schema, desk_table}
-use Rattle.club_tables.specs.Schema.{club_schema}
+use Rattle.sqlite.specs.Query.{inner, end}
+use Rattle.sqlite.specs.Table.{Table}
+use Rattle.club_core.specs.Club.{IsSound, empty_club, Club}
+use Rattle.club_tables.specs.declared.texts.TheConstants.{ADD_VERSION, SET_VERSION, DROP_BOOKINGS_BY_KEY}
+use Rattle.club_tables.specs.Schema.{no_schema, desk_table, club_schema, unindexed_schema}
 use Rattle.club_tables.specs.Columns.{whole, version_values}
-use Rattle.club_tables.specs.Opening.{table_batch, HasNoDesk}
+use Rattle.club_tables.specs.Opening.{table_batch, HasNoDesk, migration, index_batch}
 use Rattle.club_tables.specs.Stored.{Rows, IsStoredAs}
-use Rattle.club_tables.specs.Tables.{HoldsClub, HoldsRows, Holds}
-use Rattle.club_tables.specs.Transaction.{Ran, transaction_start}
-use Rattle.club_tables.proofs.opening.DeskLemmas.{desk_made}
+use Rattle.club_tables.specs.Tables.{HoldsClub, HoldsRows, Holds, HoldsClubVersion1, HoldsRowsVersion1, HoldsTrees, RepresentsVersion1, desk_tree}
+use Rattle.club_tables.specs.Tables.{HoldsClubUnindexed, HoldsRowsWith, Represents, RepresentsVersion2, HoldsClubVersion2}
+use Rattle.club_tables.specs.Transaction.{Ran, transaction_start, IsKept, IsUnderstood}
+use Rattle.club_tables.specs.Statements.{select}
+use Rattle.club_tables.proofs.statements.MeansLemmas.{Means}
 use Rattle.club_tables.proofs.statements.InsertLemmas.{creates, indexes, inserts, cast_null, cast_int}
 use Rattle.club_tables.proofs.lists.RowLemmas.{holds_more, holds_none}
-use Rattle.club_tables.proofs.opening.MakesLemmas.{makes_six, makes_keys_by_member, makes_old_roots, makes_bookings_by_key}
+use Rattle.club_tables.proofs.opening.MakesLemmas.{makes_six, makes_keys_by_member, makes_old_roots, makes_bookings_by_key, indexes_again, drops_none}
+use Rattle.club_tables.proofs.opening.MakesLemmas.{never_ran}
+use Rattle.club_tables.proofs.statements.HoldsRowsLemmas.{but, others_kept, trees_kept}
+use Rattle.club_tables.proofs.statements.UpdateLemmas.{updates, finds, changes_one}
+use Rattle.club_tables.proofs.crashes.RepresentsLemmas.{represents_on}
+use Rattle.club_tables.proofs.opening.VersionLemmas.{desk_made}
 
 abbrev version_terms : List Term
 version_terms = lit Null ∷ lit (Int (pos 2)) ∷ []
@@ -134,3 +141,104 @@ module _ {S : Type 0} (g : Ghosts S) (old : Held S) (db : Database) (ran : Ran g
   pub makes_free : HasNoDesk (state g old).now.schema
   unfolding ExecutesIn
   makes_free = desk_made _ (ap is_ok ran.turns.2.1.is)
+
+-- ---- the migration
+
+abbrev version_table : Table
+version_table = record desk_table { tree = desk_tree }
+
+abbrev second_terms : List Term
+second_terms = col 1 0 ∷ col 1 0 ∷ lit (Int (pos 2)) ∷ []
+
+second_means : Means club_schema SET_VERSION.now (Update 0 (record { lets = []; body = select (inner desk_tree end) [] second_terms }))
+unfolding understood everything
+second_means = record { is = refl; plain = (refl, refl) }
+
+module _ {S : Type 0} (g : Ghosts S) (old : Held S) (db : Database) (ran : Ran g 0 migration old db) where
+  -- every row stays, and no key has an older root
+  migrated_rows : (rows : Rows) → HoldsRowsVersion1 (state g old).now rows → HoldsRows db rows
+  migrated_rows rows holds_rows =
+      let t1 = ran.turns in
+      let t2 = t1.3 in
+      let t3 = t2.3 in
+      let mid = (state g t2.0).now in
+      let c1 = creates makes_old_roots (state g (transaction_start old)) (state g t1.0) holds_rows.schema t1.1 t1.2 in
+      let c2 = indexes makes_bookings_by_key (state g t1.0) (state g t2.0) c1.1 t2.1 t2.2 in
+      let put = updates second_means version_table refl {old = state g t2.0} {new = state g t3.0} c2.0 t3.2 in
+      let next = (state g t3.0).now in
+      let kept = c2.1 in
+      let is : db ≡ next = ran.is ∙ ap (λ h. (state g h).now) t3.3 in
+      let was : HoldsTrees 1 mid.trees rows = trees_kept (
+        kept.0 ∙ c1.3.0,
+        (
+          kept.1.0 ∙ c1.3.1.0,
+          (
+            kept.1.1.0 ∙ c1.3.1.1.0,
+            (kept.1.1.1.0 ∙ c1.3.1.1.1.0, (kept.1.1.1.1.0 ∙ c1.3.1.1.1.1.0, (kept.1.1.1.1.1.0 ∙ c1.3.1.1.1.1.1.0, (kept.1.1.1.1.1.1.0 ∙ c1.2, tt)))),
+          ),
+        ),
+      ) holds_rows.held in
+      let found = finds {X = ℕ} version_values (λ _. true) (1 ∷ []) put was.version (λ id n. refl) in
+      let two = changes_one found (λ _. true) (refl, tt) (λ _. 2) (λ n fails. absurd cc) (λ _. Unit {0}) (tt, tt) (λ id n _ passes. refl)
+      (λ id n. rw (cast_int id, cast_int (pos n)) refl) (omega arith) in
+      let k = trees_kept {new = but desk_tree mid.trees next.trees} (others_kept desk_tree mid.trees next.trees club_schema.tables put.wrote.others) was in
+      let held : HoldsTrees 2 next.trees rows =
+      record { version = two; members = k.members; facilities = k.facilities; keys = k.keys; slots = k.slots; bookings = k.bookings; olders = k.olders } in
+      let left : HoldsRows next rows = record { schema = put.wrote.schema; held = held; database = put.wrote.sound } in
+      subst (λ (d : Database). HoldsRows d rows) (sym is) left
+
+  pub migrated_tables : (club : Club) → HoldsClubVersion1 (state g old).now club → HoldsClub db club
+  migrated_tables club first =
+      record { rows = first.rows; holds_rows = migrated_rows first.rows first.holds_rows; storage = first.storage; sound = first.sound }
+
+-- the migrated tables hold the same club
+pub holds_first : {S : Type 0} (g : Ghosts S) (old : Held S) (db : Database) → Ran g 0 migration old db → HasCleanDisk (state g old)
+    → (club : Club) (others : List Club) → RepresentsVersion1 (state g old) club others → HoldsClub db club
+holds_first g old db ran clean club others first =
+    let is_open = ran.was_open (omega arith) in
+    migrated_tables g old db ran club (subst (λ (d : Database). HoldsClubVersion1 d club) (sym (first.idle clean is_open)) (first.held clean is_open))
+
+-- ---- the index of the bookings
+
+module _ {S : Type 0} (g : Ghosts S) (old : Held S) (db : Database) (ran : Ran g 0 index_batch old db) where
+  -- every row stays
+  indexed_rows : (rows : Rows) → HoldsRowsWith unindexed_schema (state g old).now rows → HoldsRows db rows
+  indexed_rows rows holds_rows =
+      let t1 = ran.turns in
+      let c1 = indexes makes_bookings_by_key (state g (transaction_start old)) (state g t1.0) holds_rows.schema t1.1 t1.2 in
+      let is : db ≡ (state g t1.0).now = ran.is ∙ ap (λ h. (state g h).now) t1.3 in
+      subst (λ (d : Database). HoldsRows d rows) (sym is) (record { schema = c1.0; held = trees_kept c1.1 holds_rows.held; database = c1.2 })
+
+  indexed_tables : (club : Club) → HoldsClubUnindexed (state g old).now club → HoldsClub db club
+  indexed_tables club it = record { rows = it.rows; holds_rows = indexed_rows it.rows it.holds_rows; storage = it.storage; sound = it.sound }
+
+-- the tables with the index hold the same club
+pub holds_second : {S : Type 0} (g : Ghosts S) (old : Held S) (db : Database) → Ran g 0 index_batch old db → HasCleanDisk (state g old)
+    → (club : Club) (others : List Club) → RepresentsVersion2 (state g old) club others → HoldsClub db club
+holds_second g old db ran clean club others second =
+    let is_open = ran.was_open (omega arith) in
+    let now = second.idle clean is_open in
+    elim (second.held clean is_open) [
+      | inl tables ↦ absurd (never_ran ran (ap (λ (d : Database). d.schema) now ∙ tables.holds_rows.schema) indexes_again)
+      | inr it ↦ indexed_tables g old db ran club (subst (λ (d : Database). HoldsClubUnindexed d club) (sym now) it)
+    ]
+
+-- the index is there where it can be named
+pub named_represents : {S : Type 0} (g : Ghosts S) (old new : Held S) → IsKept (state g old) (state g new) → Survives (state g old) (state g new) (λ _. ⊥)
+    → IsUnderstood (state g old).now.schema DROP_BOOKINGS_BY_KEY.now
+    → (club : Club) (others : List Club) → RepresentsVersion2 (state g old) club others → Represents (state g new) club others
+named_represents g old new kept quiet named club others second =
+    let next = represents_on HoldsClubVersion2 (state g old) (state g new) kept quiet club others second in
+    let earlier = λ (clean : HasCleanDisk (state g new)). let e : HasCleanDisk (state g old) = omega (arith, quiet.clean) in e in
+    record {
+      held = λ clean is_open. elim (next.held clean is_open) [
+        | inl tables ↦ tables
+        | inr it ↦
+            let k = kept clean is_open in
+            let same : (state g old).now.schema ≡ unindexed_schema =
+            ap (λ (d : Database). d.schema) (second.idle (earlier clean) k.0 ∙ sym k.2) ∙ it.holds_rows.schema in
+            absurd (let none = ap (λ s. is_ok (understood s DROP_BOOKINGS_BY_KEY.now)) same ∙ drops_none in cc)
+      ];
+      idle = next.idle;
+      left = next.left;
+    }

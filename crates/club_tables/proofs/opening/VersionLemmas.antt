@@ -1,20 +1,35 @@
--- What the text of the version is, over any tables.
-use Rattle.std.proofs.Common.{◌≡◌, ℕ, List, [], false, Option, None, Ok, Err, inl, inr, refl, sym, subst, ap, ◌∙◌, true≢false}
-use Rattle.std.specs.Prelude.{is_ok}
+-- What the texts of the version and of its table are, over any tables.
+use Rattle.std.proofs.Common.{◌≡◌, ℕ, List, [], false, Option, None, Ok, Err, inl, inr, refl, sym, subst, ap, ◌∙◌, true≢false, ◌∷◌, Bool, true, Some, codes}
+use Rattle.std.specs.Prelude.{is_ok, if◌then◌else◌}
 use Rattle.std.proofs.lemmas.Bool.{cases_Bool}
+use Rattle.std.specs.Option.{option_or}
 use Rattle.sqlite_tied.specs.Compute.{everything}
 use Rattle.sqlite_schema.specs.declared.command.Command.{Command}
 use Rattle.sqlite_schema.specs.declared.command.Returning.{Returning}
 use Rattle.sqlite_resolve.specs.declared.compiled.Compiled.{Compiled}
-use Rattle.sqlite_resolve.specs.Lowering.{Checked, and_then}
-use Rattle.sqlite_resolve.specs.Compile.{first, returning, command, timed, meaning, planned, with_command, compiled}
+use Rattle.sqlite_resolve.specs.Lowering.{Checked, and_then, fresh, max_budget, take_slot}
+use Rattle.sqlite_resolve.specs.Compile.{first, returning, command, timed, meaning, planned, with_command, compiled, is_reserved, creates, is_attached, read}
 use Rattle.sqlite.specs.Schema.{Schema}
 use Rattle.sqlite.specs.Order.{Row}
 use Rattle.sqlite.specs.Effect.{Reads}
 use Rattle.sqlite.specs.Listing.{understood, reads_listing, listing_schema, if_select, IsSourceOf}
 use Rattle.sqlite.specs.State.{State, Shown}
-use Rattle.club_tables.specs.declared.texts.TheConstants.{VERSION}
-use Rattle.club_tables.specs.Opening.{YieldsRows}
+use Rattle.sqlite_ast.specs.declared.Source.{Source, out-Source}
+use Rattle.sqlite_ast.specs.declared.Core.{Core, out-Core}
+use Rattle.sqlite_ast.specs.declared.Select.{Select, out-Select}
+use Rattle.sqlite_ast.specs.declared.Statement.{Statement}
+use Rattle.sqlite_syntax.specs.declared.statement.Parsed.{Parsed}
+use Rattle.sqlite_schema.specs.Names.{same_name, table_named, view_named, index_named}
+use Rattle.sqlite_schema.specs.declared.command.Command.TheVariants.{CreateTable, Nothing}
+use Rattle.sqlite_resolve.specs.declared.error.CompileError.{CompileError}
+use Rattle.sqlite_resolve.specs.declared.error.CompileError.TheVariants.{NoSuchTable, Unsupported}
+use Rattle.sqlite_resolve.specs.Body.{table_in, bound, bounds, body}
+use Rattle.sqlite_resolve.specs.Select.{constant_or, parts, named, paging}
+use Rattle.sqlite_resolve.specs.Program.{source, sources, viewing, single, alone, whole, with as with_tables, level, query_to, query}
+use Rattle.club_tables.specs.declared.texts.TheConstants.{VERSION, MAKE_DESK}
+use Rattle.club_tables.specs.Opening.{YieldsRows, HasNoDesk}
+use Rattle.sqlite_ast.specs.declared.Origin.TheVariants as origin
+use Rattle.sqlite_ast.specs.declared.Statement.TheVariants as written
 
 abbrev returned_by : Checked Compiled → Option Returning
 returned_by (Ok c) = c.returning
@@ -78,3 +93,145 @@ version_answered old new rows h =
     let it = rw (bare.1, bare.2) at h.2 in
     let db : it.0 ≡ old.now = subst (λ b. IsSourceOf b old.now it.0) bare.0 it.1 in
     (h.0, h.1.is, subst (λ d. Reads h.0.command d [] rows) db it.2)
+
+-- ---- the table of the version
+
+-- what a text that was parsed, or wasn't, comes to
+abbrev compiled_of : Schema → Checked Parsed → Checked Compiled
+compiled_of schema r = and_then r (λ p. and_then (planned schema p) (λ plan. Ok (with_command p plan)))
+
+stopped : (shown : Checked (Option Returning)) (e : CompileError) (p : Parsed) (formats : _)
+    → is_ok (and_then (and_then (and_then shown (λ s. and_then (Err e) (λ c. Ok (c, s)))) (λ found. Ok (formats, found))) (λ plan. Ok (with_command p plan)))
+    ≡ false
+stopped (Ok s) e p formats = refl
+stopped (Err other) e p formats = refl
+
+-- a text whose command is refused is refused
+unplanned : (schema : Schema) (p : Parsed) (e : CompileError) → ((base : ℕ) → command schema p.formats base p.statement ≡ Err e)
+    → is_ok (compiled_of schema (Ok p)) ≡ false
+unfolding planned meaning
+unplanned schema p e refused = rw (refused _) (stopped (returning schema _ p.statement) e p _)
+
+-- a query of the one table `desk`, with no WITH, UNION or LIMIT
+record AsksDesk (s : Select) : Type 0 where
+  source : Source
+  one : (out-Core (out-Select s).first).from ≡ source ∷ []
+  is : (out-Source source).origin ≡ origin.Table (codes "desk")
+  withs : (out-Select s).with ≡ []
+  others : (out-Select s).others ≡ []
+  limit : (out-Select s).limit ≡ None
+  offset : (out-Select s).offset ≡ None
+
+abbrev StatesDesk : Statement → Type 0
+StatesDesk (written.Select s) = AsksDesk s
+StatesDesk _ = ⊥
+
+abbrev ReadsDesk : Checked Parsed → Type 0
+ReadsDesk (Ok p) = StatesDesk p.statement
+ReadsDesk (Err e) = ⊥
+
+version_reads : ReadsDesk (first VERSION.now)
+unfolding everything
+version_reads = record { source = _; one = refl; is = refl; withs = refl; others = refl; limit = refl; offset = refl }
+
+module _ (schema : Schema) (tables : table_named schema (codes "desk") ≡ None) (views : view_named schema (codes "desk") ≡ None) where
+  no_table : (slot : ℕ) → table_in schema slot (origin.Table (codes "desk")) ≡ Err NoSuchTable
+  unfolding table_in
+  no_table slot = rw (tables, views) refl
+
+  module _ (core : Core) (from : Source) (one : (out-Core core).from ≡ from ∷ []) (is : (out-Source from).origin ≡ origin.Table (codes "desk")) where
+    no_bounds : bounds schema (out-Core core).from (fresh 1 max_budget) ≡ Err NoSuchTable
+    unfolding bounds bound take_slot
+    no_bounds = rw (one, is, no_table 1) refl
+
+    no_rows : (order page : _) → named schema core order page ≡ Err NoSuchTable
+    unfolding named parts body
+    no_rows order page = rw no_bounds refl
+
+    not_alone : (query : _) (order page : _) → alone query schema core order page [] ≡ Err NoSuchTable
+    unfolding alone single sources source viewing
+    not_alone query order page = rw (one, is, no_rows order page) refl
+
+  module _ (s : Select) (asks : AsksDesk s) where
+    not_whole : (query : _) → whole query schema s [] ≡ Err NoSuchTable
+    unfolding whole paging constant_or
+    not_whole query = rw (asks.limit, asks.offset, asks.others, not_alone (out-Select s).first asks.source asks.one asks.is query _ _) refl
+
+    not_level : (query : _) → level query schema s [] ≡ Err NoSuchTable
+    unfolding level with_tables
+    not_level query = rw (asks.withs, not_whole query) refl
+
+    no_query : query schema s ≡ Err NoSuchTable
+    unfolding query query_to
+    no_query = not_level (query_to 15)
+
+    not_read : read schema s ≡ Err NoSuchTable
+    unfolding read
+    not_read = rw no_query refl
+
+  not_stated : (formats : List (List ℕ)) (base : ℕ) (statement : Statement) → StatesDesk statement → command schema formats base statement ≡ Err NoSuchTable
+  unfolding command
+  not_stated formats base (written.Select s) asks = not_read s asks
+  not_stated formats base _ asks = absurd asks
+
+  not_compiled : (r : Checked Parsed) → ReadsDesk r → is_ok (compiled_of schema r) ≡ false
+  not_compiled (Ok p) reads = unplanned schema p NoSuchTable (λ base. not_stated p.formats base p.statement reads)
+  not_compiled (Err e) reads = refl
+
+  -- without the table the version can't be asked for
+  version_missing : is_ok (understood schema VERSION.now) ≡ false
+  unfolding understood compiled
+  version_missing = elim (cases_Bool (reads_listing schema VERSION.now)) [
+    | inl listed ↦ rw listed version_unlisted
+    | inr unlisted ↦ rw unlisted (not_compiled (first VERSION.now) version_reads)
+  ]
+
+-- what is made, of whether an object keeps the name, and of what has it
+abbrev makes_where : Bool → Option ℕ → Option ℕ → Checked Command
+makes_where kept same other =
+    if kept then Err Unsupported else and_then (creates false (codes "desk") same other) (λ is_new. if is_new then Ok CreateTable else Ok Nothing)
+
+-- the text makes the table where nothing has its name
+clubdesk_commands : (schema : Schema) (base : ℕ) → and_then (first MAKE_DESK.now) (λ p. command schema p.formats base p.statement)
+    ≡ makes_where (is_attached schema (codes "desk")) (option_or (table_named schema (codes "desk")) (view_named schema (codes "desk")))
+    (index_named schema (codes "desk"))
+unfolding everything
+clubdesk_commands schema base = refl
+
+made_free : (kept : Bool) (same other : Option ℕ) → is_ok (makes_where kept same other) ≡ true → (same ≡ None) × (other ≡ None)
+unfolding creates is_reserved same_name
+made_free false None None h = (refl, refl)
+made_free true same other h = absurd cc
+made_free false same (Some at) h = absurd cc
+made_free false (Some at) None h = absurd cc
+
+none_of : (a b : Option ℕ) → option_or a b ≡ None → (a ≡ None) × (b ≡ None)
+none_of None b h = (refl, h)
+none_of (Some at) b h = absurd cc
+
+desk_unlisted : is_ok (if_select (compiled listing_schema MAKE_DESK.now)) ≡ false
+unfolding listing_schema everything
+desk_unlisted = refl
+
+module _ (schema : Schema) where
+  desk_compiled : is_ok (understood schema MAKE_DESK.now) ≡ true → is_ok (compiled schema MAKE_DESK.now) ≡ true
+  unfolding understood
+  desk_compiled h = elim (cases_Bool (reads_listing schema MAKE_DESK.now)) [
+    | inl listed ↦ absurd (true≢false (sym (rw listed at h) ∙ desk_unlisted))
+    | inr unlisted ↦ rw unlisted at h
+  ]
+
+  is_commanded : (r : Checked Parsed) (c : Checked Command) → ((base : ℕ) → and_then r (λ p. command schema p.formats base p.statement) ≡ c)
+      → is_ok (compiled_of schema r) ≡ true → is_ok c ≡ true
+  is_commanded r (Ok c) is h = refl
+  is_commanded (Ok p) (Err e) is h = absurd (true≢false (sym h ∙ unplanned schema p e is))
+  is_commanded (Err e) (Err other) is h = absurd cc
+
+  -- where the table is made, nothing has its name, and so there is no version
+  pub desk_made : is_ok (understood schema MAKE_DESK.now) ≡ true → HasNoDesk schema
+  unfolding compiled
+  desk_made h =
+      let made = is_commanded (first MAKE_DESK.now) _ (clubdesk_commands schema) (desk_compiled h) in
+      let free = made_free _ _ _ made in
+      let none = none_of _ _ free.0 in
+      record { no_desk_name = rw (none.0, none.1, free.1) refl; no_version_query = λ asked. true≢false (sym asked ∙ version_missing schema none.0 none.1) }

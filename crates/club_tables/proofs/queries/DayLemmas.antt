@@ -31,8 +31,8 @@ use Rattle.club_tables.specs.Tables.{bookings_tree}
 use Rattle.club_tables.specs.Statements.{select, in_order, is_given}
 use Rattle.club_tables.proofs.statements.SelectLemmas.{whole_equal, apart_from_pairs}
 use Rattle.club_tables.proofs.crashes.RepresentsLemmas.{Asks, Shows, asked_tables, asked_reads, bookings_held}
-use Rattle.club_tables.proofs.queries.BookingLemmas.{booking_terms, booking_names, is_uncancelled, no_truth}
 use Rattle.club_tables.proofs.statements.OrderLemmas.{selected_in_order, none_less, apart-permutation, pairs_from_apart}
+use Rattle.club_tables.proofs.queries.KeyLemmas.{booking_terms, booking_names, is_uncancelled, no_truth}
 
 -- ---- the order of the sheet
 

@@ -44,7 +44,7 @@ use Rattle.club_tables.specs.Statements.{select, is_given}
 use Rattle.club_tables.proofs.statements.SelectLemmas.{apart_from_pairs, from_truth_is, text_equal, whole_equal, filter_same}
 use Rattle.club_tables.proofs.statements.JoinLemmas.{filter_filter, IsElsewhere, pairs_of, selected_both}
 use Rattle.club_tables.proofs.crashes.RepresentsLemmas.{Asks, Shows, asked_tables, asked_reads, keys_held, bookings_held}
-use Rattle.club_tables.proofs.queries.BookingLemmas.{no_truth}
+use Rattle.club_tables.proofs.queries.KeyLemmas.{no_truth}
 use Rattle.sqlite_trees.proofs.ListLemmas.{map-flat_map}
 
 -- the booking's key is the key

@@ -1,7 +1,7 @@
 -- What an UPDATE found that wrote a row.
-use Rattle.std.proofs.Common.{◌≡◌, ◌≤◌, ℤ, Contains, Bool, true, false, ◌||◌, cond, Some, List, [], ◌∷◌, length, map, refl, sym, ap, subst, ◌∙◌, not}
-use Rattle.std.proofs.Common.{arith, true≢false, slice_get}
-use Rattle.std.specs.Prelude.{filter, find, IsPermutation}
+use Rattle.std.proofs.Common.{◌≡◌, ◌≤◌, ℤ, Contains, Bool, true, false, ◌||◌, cond, Some, List, [], ◌∷◌, length, map, refl, sym, ap, subst, ◌∙◌, not, arith}
+use Rattle.std.proofs.Common.{true≢false, slice_get, suc}
+use Rattle.std.specs.Prelude.{filter, find, IsPermutation, Contains}
 use Rattle.std.specs.List.{AllByRecursion, AllZip, list_any}
 use Rattle.std.proofs.lemmas.List.{length-map}
 use Rattle.std.proofs.lemmas.List.Sorted.{length_permutation}
@@ -10,9 +10,9 @@ use Rattle.std.proofs.lemmas.List.Filters.{length-filter_both}
 use Rattle.std.proofs.lemmas.Option.{slice_get_within}
 use Rattle.sqlite_value.specs.declared.value.Value.TheVariants.{Int}
 use Rattle.sqlite.specs.Order.{Row}
+use Rattle.sqlite_trees.proofs.ListLemmas.{filter-filter}
 use Rattle.club_tables.specs.Tables.{IsRowOf}
 use Rattle.club_tables.proofs.statements.SelectLemmas.{find_first, filter_same}
-use Rattle.sqlite_trees.proofs.ListLemmas.{filter-filter}
 
 -- as many rows pass as elements
 pub as_many : {X : Type 0} (hit : Row → Bool) (p : X → Bool) (rows : List Row) (xs : List X) → AllZip (λ row x. hit row ≡ p x) rows xs
@@ -111,3 +111,12 @@ zip_agree hit p q [] [] same both = tt
 zip_agree hit p q [] (x ∷ xs) same both = absurd same
 zip_agree hit p q (r ∷ rows) [] same both = absurd same
 zip_agree hit p q (r ∷ rows) (x ∷ xs) same both = (same.0 ∙ both.0, zip_agree hit p q rows xs same.1 both.1)
+
+-- what is found is an element, and passes
+pub found : {X : Type 0} (p : X → Bool) (xs : List X) (x : X) → find p xs ≡ Some x → Contains xs x × (p x ≡ true)
+found p [] x h = absurd (cc)
+found {X} p (y ∷ xs) x h = go (p y) refl (λ e. found p xs x e) h
+  where
+    go : (b : Bool) → p y ≡ b → (find p xs ≡ Some x → Contains xs x × (p x ≡ true)) → cond b (Some y) (find p xs) ≡ Some x → Contains (y ∷ xs) x × (p x ≡ true)
+    go true passes more e = let same : y ≡ x = cc in ((0, omega arith, same), ap p (sym same) ∙ passes)
+    go false fails more e = let later = more e in ((suc later.0.0, omega (arith, later.0.1), later.0.2), later.1)

@@ -1,8 +1,8 @@
 use Rattle.std.proofs.Common.{inr, refl}
 use Rattle.club_tables.specs.Opening.{index_batch}
 use Rattle.club_tables.specs.Tables.{HoldsClubVersion2}
-use Rattle.club_tables.proofs.opening.IndexLemmas.{holds_second}
 use Rattle.club_tables.proofs.opening.OpenLemmas.{runs_batch}
+use Rattle.club_tables.proofs.opening.MakingLemmas.{holds_second}
 use Rattle.club_tables.proofs.tables.Tables.add_index.Goals as goal
 
 pub returns-clause-opens : goal.returns-clause-opens

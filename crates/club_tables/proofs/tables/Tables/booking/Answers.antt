@@ -8,9 +8,9 @@ use Rattle.club_core.specs.Sums.{booking_under}
 use Rattle.club_tables.specs.Answers.{Answers, OfBooking, FailsToRead, IsFirst, IsBookingIn, IsBookingNamed, reading_statement}
 use Rattle.club_tables.specs.ReadsAndChanges.{ReadsClub}
 use Rattle.club_tables.specs.Transaction.{BoundStatement, IsKept}
-use Rattle.club_tables.proofs.queries.BookingLemmas.{booking_shown}
 use Rattle.club_tables.proofs.lists.FirstLemmas.{booking_first, unnamed}
 use Rattle.club_tables.proofs.queries.ReadLemmas.{read_answer, fewer_read}
+use Rattle.club_tables.proofs.queries.KeyLemmas.{booking_shown}
 use Rattle.club_tables.proofs.tables.Tables.booking.Goals as goal
 
 -- rows that yield no booking yield none of this key and number

@@ -1,7 +1,7 @@
 use Rattle.club_tables.specs.Answers.{OfSlot}
-use Rattle.club_tables.proofs.queries.BookingLemmas.{slot_shown}
 use Rattle.club_tables.proofs.queries.ReadLemmas.{read_answer}
 use Rattle.club_tables.proofs.lists.BookingRows.{use_is}
+use Rattle.club_tables.proofs.queries.KeyLemmas.{slot_shown}
 use Rattle.club_tables.proofs.tables.Tables.slot.Goals as goal
 
 pub returns-clause-reads : goal.returns-clause-reads

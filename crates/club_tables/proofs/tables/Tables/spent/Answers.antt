@@ -1,8 +1,8 @@
 use Rattle.std.proofs.Common.{◌∙◌}
 use Rattle.club_tables.specs.Answers.{OfCosts}
 use Rattle.club_tables.proofs.lists.SumLemmas.{costs_are}
-use Rattle.club_tables.proofs.queries.BookingLemmas.{costs_shown}
 use Rattle.club_tables.proofs.queries.ReadLemmas.{read_answer}
+use Rattle.club_tables.proofs.queries.KeyLemmas.{costs_shown}
 use Rattle.club_tables.proofs.tables.Tables.spent.Goals as goal
 
 pub returns-clause-reads : goal.returns-clause-reads
