@@ -3,8 +3,6 @@
 pub mod AddLemmas
 pub mod ChangeLemmas
 pub mod CancelLemmas
-pub mod CancelStored
-pub mod UpsertLemmas
 pub mod StoredLemmas
 pub mod TotalsLemmas
 pub mod PlanLemmas

@@ -1,27 +1,61 @@
--- What the statements that insert a row make of the tables.
-use Rattle.std.proofs.Common.{pos, List, [], ◌∷◌, ◌++◌, refl, sym, subst}
+-- What the statements make of the tables that insert a row, or put the row of a slot or of an older root.
+use Rattle.std.proofs.Common.{pos, List, [], ◌∷◌, ◌++◌, refl, sym, subst, ◌≡◌, ◌≢◌, ◌≤◌, ℕ, ◌/◌, ℤ, true, false, if◌then◌else◌, Some, Option, Ok, length, ap}
+use Rattle.std.proofs.Common.{◌∙◌, Bool}
+use Rattle.std.specs.Prelude.{AllPairs, option_map}
+use Rattle.std.specs.List.{AllByRecursion, list_any}
+use Rattle.std.specs.Str.{bytes_eq}
+use Rattle.std.proofs.lemmas.Slice.Eq.{bytes_eq-Decides}
+use Rattle.std.proofs.Math.Bool.{and-true, or-false}
 use Rattle.sqlite_tied.specs.Compute.{everything}
 use Rattle.sqlite_value.specs.declared.value.Value.TheVariants.{Null, Int, Text}
 use Rattle.sqlite.specs.Table.{Table}
-use Rattle.sqlite.specs.Term.{Term, lit, col}
+use Rattle.sqlite.specs.Term.{Term, lit, col, op2, eval_all}
 use Rattle.sqlite.specs.Source.TheVariants.{Values}
 use Rattle.sqlite.specs.Command.TheVariants.{Insert}
 use Rattle.sqlite.specs.Listing.{understood}
-use Rattle.club_tables.proofs.statements.MeansLemmas.{Means}
+use Rattle.sqlite_value.specs.declared.value.Value.{Value}
+use Rattle.sqlite_sql.specs.declared.ops.BinaryOp.TheVariants.{Arith}
+use Rattle.sqlite_sql.specs.declared.ops.ArithOp.TheVariants.{Add}
+use Rattle.sqlite_sql.specs.Ops.{binary}
+use Rattle.sqlite.specs.Order.{Row, column}
+use Rattle.sqlite.specs.Tree.{rowid}
+use Rattle.sqlite_schema.specs.declared.command.Upsert.{Upsert}
+use Rattle.sqlite.specs.Kind.TheVariants.{Integer}
+use Rattle.sqlite.specs.Cast.{cast, cast_row}
+use Rattle.sqlite.specs.Edit.{next_rowid}
+use Rattle.sqlite.specs.Rows.{shown}
+use Rattle.sqlite.specs.Effect.{value_rows}
+use Rattle.sqlite.specs.State.{State, Executes}
+use Rattle.sqlite.proofs.Callers.{command_of}
+use Rattle.sqlite_value.specs.Keys.{first_key}
+use Rattle.sqlite_rules.specs.Keys.{conflicts}
 use Rattle.club_rows.specs.Columns.{truth}
 use Rattle.club_rows.specs.declared.member.Member.{Member}
-use Rattle.club_tables.specs.declared.row.MemberRow.{MemberRow}
 use Rattle.club_rows.specs.declared.facility.Facility.{Facility}
 use Rattle.club_rows.specs.declared.key.Key.{Key}
 use Rattle.club_rows.specs.declared.booking.Booking.{Booking}
-use Rattle.club_tables.specs.declared.texts.TheConstants.{ADD_MEMBER, ADD_FACILITY, ADD_KEY, ADD_BOOKING}
-use Rattle.club_tables.specs.Schema.{members_table, facilities_table, keys_table, bookings_table, club_schema}
-use Rattle.club_tables.specs.Columns.{whole, member_values, facility_values, key_values, booking_values}
-use Rattle.club_tables.specs.Stored.{Rows}
-use Rattle.club_tables.specs.Tables.{Holds, members_tree, facilities_tree, keys_tree, bookings_tree}
-use Rattle.club_tables.proofs.statements.HoldsRowsLemmas.{on_members, on_facilities, on_keys, on_bookings, Steps}
+use Rattle.club_values.specs.declared.slot.Slot.{Slot}
+use Rattle.club_rows.specs.Booking.{same_slot}
+use Rattle.club_core.specs.declared.slot_use.SlotUse.{SlotUse}
+use Rattle.club_rows.specs.declared.key.OlderRoot.{OlderRoot}
+use Rattle.club_tables.specs.declared.row.MemberRow.{MemberRow}
+use Rattle.club_tables.specs.declared.texts.TheConstants.{ADD_MEMBER, ADD_FACILITY, ADD_KEY, ADD_BOOKING, CLOSE_SLOT, ADD_TAKEN, PUT_OLDER_ROOT}
+use Rattle.club_tables.specs.Schema.{members_table, facilities_table, keys_table, bookings_table, club_schema, slots_table, old_roots_table}
+use Rattle.club_tables.specs.Columns.{whole, member_values, facility_values, key_values, booking_values, flag, name_values, use_values, slot_values}
+use Rattle.club_tables.specs.Columns.{older_root_values, older_values}
+use Rattle.club_tables.specs.Stored.{Rows, SlotRow, no_slot_use, OlderRow, older_by}
+use Rattle.club_tables.specs.Tables.{Holds, members_tree, facilities_tree, keys_tree, bookings_tree, HoldsRows, slots_tree, olders_tree}
+use Rattle.club_tables.proofs.statements.MeansLemmas.{Means}
+use Rattle.club_tables.proofs.statements.HoldsRowsLemmas.{on_members, on_facilities, on_keys, on_bookings, Steps, on_slots, on_olders}
 use Rattle.club_tables.proofs.statements.InsertLemmas.{inserts, cast_null, cast_int}
 use Rattle.club_tables.proofs.lists.RowLemmas.{holds_more}
+use Rattle.club_tables.proofs.statements.SelectLemmas.{apart_from_pairs, text_equal}
+use Rattle.club_tables.proofs.statements.UpdateLemmas.{each_of}
+use Rattle.club_tables.proofs.statements.PutLemmas.{PutsRow, first_clause, row_put}
+use Rattle.club_tables.proofs.lists.KeyedRows.{lone, by_put, put_once as once_put, slots_conflict, slot_table, same_itself, changed, same_row as unchanged}
+use Rattle.club_tables.proofs.lists.KeyedRows.{put_slot, new_row as new_row_of}
+use Rattle.club_tables.proofs.lists.PutRows.{put_among}
+use Rattle.club_tables.proofs.queries.KeyLemmas.{same_slots}
 
 -- ---- members
 
@@ -118,3 +152,207 @@ booking_put rows booking old new count holds_rows ran =
           (holds_more booking_values _ rows.bookings booking holds_rows.held.bookings)),
       put.2,
     )
+
+-- ---- rows that are put by their keys
+
+abbrev target : Option (List ℕ)
+target = Some (1 ∷ 2 ∷ 3 ∷ [])
+
+abbrev PutsSlot : List ℕ → List Term → List Term → ℕ → Upsert → Type 0
+PutsSlot text terms sets at clause =
+    PutsRow slots_table.name slots_table.columns slots_table.uniques slots_table.checks slots_table.references slots_tree target 4 text terms sets 6 at clause
+
+-- ---- a statement of this form
+
+module _ (text : List ℕ) (terms sets : List Term) (at : ℕ) (clause : Upsert) (puts : PutsSlot text terms sets at clause)
+    (old new : State) (rows : Rows) (holds_rows : HoldsRows old.now rows) (once : AllPairs (λ (a : SlotRow) (b : SlotRow). a.slot ≢ b.slot) rows.slots)
+    (slot : Slot)
+    (params : Row) (closed taken : Value)
+    (gives : value_rows params 6 (length terms / 6) terms ≡ (Null ∷ name_values slot ++ closed ∷ taken ∷ []) ∷ []) (casts_closed : cast Integer closed
+    ≡ closed) (casts_taken : cast Integer taken ≡ taken) (change : SlotUse → SlotUse) where
+  abbrev slot_row : Row
+  slot_row = Int (next_rowid (old.now.trees slots_tree)) ∷ name_values slot ++ closed ∷ taken ∷ []
+
+  -- what the clause yields for the slot's row
+  abbrev YieldsUse : SlotRow → Type 0
+  YieldsUse x = (id : ℤ) (there : Row) → same_slot x.slot slot ≡ true → eval_all sets ((params ++ rowid there ∷ shown slot_table slot_row)
+      ∷ (Int id ∷ slot_values x) ∷ []) ≡ Int id ∷ Int id ∷ name_values x.slot ++ use_values (change x.held)
+
+  abbrev YieldsRow : SlotRow → Type 0
+  YieldsRow x = (id : ℤ) (there : Row) → same_slot x.slot slot ≡ true → eval_all sets ((params ++ rowid there ∷ shown slot_table slot_row)
+      ∷ (Int id ∷ slot_values x) ∷ []) ≡ Int id ∷ Int id ∷ slot_values (changed slot change x)
+
+  each_yields : (xs : List SlotRow) → AllByRecursion YieldsUse xs → AllByRecursion YieldsRow xs
+  each_yields [] yields = tt
+  each_yields (x ∷ xs) yields = (
+    λ id there passes. yields.0 id there passes
+        ∙ ap (λ b. Int id ∷ Int id ∷ name_values x.slot ++ use_values (if b then change x.held else x.held)) (sym passes),
+    each_yields xs yields.1,
+  )
+
+  -- the slot's row is put, where there was one and where there was none
+  slot_put : (list_any (λ (row : SlotRow). same_slot row.slot slot) rows.slots ≡ false → closed ∷ taken ∷ [] ≡ use_values (change no_slot_use))
+      → ((there : Row) → column (params ++ rowid there ∷ shown slot_table slot_row) at ≡ rowid there)
+      → AllByRecursion YieldsUse rows.slots → (count : ℕ) → Executes text params old new (Ok count)
+      → HoldsRows new.now (record rows { slots = put_slot slot change rows.slots }) × (1 ≤ count)
+  slot_put values ids yields count executed =
+      let t = slots_table in
+      let left = row_put t.name t.columns t.uniques t.checks t.references slots_tree target 4 refl text terms sets 6 at clause puts old new
+      holds_rows.schema params (name_values slot ++ closed ∷ taken ∷ []) gives
+      (rw (cast_null, cast_int (pos slot.day), cast_int (pos slot.hour), casts_closed, casts_taken) refl) (λ id.
+      rw (cast_int id, cast_int (pos slot.day), cast_int (pos slot.hour), casts_closed, casts_taken) refl)
+      slot_values (λ (row : SlotRow). same_slot row.slot slot) (changed slot change) (unchanged slot change) (new_row_of slot change) (λ id x.
+      slots_conflict id (next_rowid (old.now.trees slots_tree)) x slot closed taken)
+      (λ id x. rw (cast_int id, cast_int (pos x.slot.day), cast_int (pos x.slot.hour), cast_int (pos (truth x.held.closed)), cast_int (pos x.held.taken)) refl)
+      rows.slots holds_rows.held.slots (lone (λ (row : SlotRow). row.slot) same_slot same_slots same_itself slot rows.slots
+      (apart_from_pairs (λ (a : SlotRow) (b : SlotRow). a.slot ≢ b.slot) rows.slots once))
+      (λ none. ap (λ vs. name_values slot ++ vs) (values none)) ids (each_yields rows.slots yields) count executed in
+      (on_slots holds_rows left.0 left.1, left.2)
+
+-- ---- a slot is closed
+
+abbrev close_terms : List Term
+close_terms = lit Null ∷ col 0 0 ∷ col 0 1 ∷ col 0 2 ∷ lit (Int (pos 1)) ∷ lit (Int (pos 0)) ∷ []
+
+abbrev close_sets : List Term
+close_sets = col 1 0 ∷ col 1 0 ∷ col 1 1 ∷ col 1 2 ∷ col 1 3 ∷ lit (Int (pos 1)) ∷ col 1 5 ∷ []
+
+abbrev close_clause : Upsert
+close_clause = first_clause (command_of (understood club_schema CLOSE_SLOT.now))
+
+close_puts : PutsSlot CLOSE_SLOT.now close_terms close_sets 3 close_clause
+unfolding understood everything
+close_puts = record { is = refl; plain = (refl, refl); aims = refl; by = refl }
+
+abbrev pub close_use : SlotUse → SlotUse
+close_use held = record held { closed = true }
+
+pub slot_closed : (rows : Rows) → AllPairs (λ (a : SlotRow) (b : SlotRow). a.slot ≢ b.slot) rows.slots → (slot : Slot)
+    → Steps (CLOSE_SLOT.now, name_values slot) rows (record rows { slots = put_slot slot close_use rows.slots })
+slot_closed rows once slot old new count holds_rows executed =
+    slot_put CLOSE_SLOT.now close_terms close_sets 3 close_clause close_puts old new rows holds_rows once slot
+    (name_values slot)
+    (whole 1) (whole 0) refl (cast_int (pos 1)) (cast_int (pos 0))
+    close_use (λ _. refl) (λ there. refl) (each_of _ (λ x id there same. refl) rows.slots) count executed
+
+-- ---- persons are added to a slot
+
+abbrev taken_terms : List Term
+taken_terms = lit Null ∷ col 0 0 ∷ col 0 1 ∷ col 0 2 ∷ lit (Int (pos 0)) ∷ col 0 3 ∷ []
+
+abbrev taken_sets : List Term
+taken_sets = col 1 0 ∷ col 1 0 ∷ col 1 1 ∷ col 1 2 ∷ col 1 3 ∷ col 1 4 ∷ op2 (Arith Add) (col 1 5) (col 0 3) ∷ []
+
+abbrev taken_clause : Upsert
+taken_clause = first_clause (command_of (understood club_schema ADD_TAKEN.now))
+
+taken_puts : PutsSlot ADD_TAKEN.now taken_terms taken_sets 4 taken_clause
+unfolding understood everything
+taken_puts = record { is = refl; plain = (refl, refl); aims = refl; by = refl }
+
+abbrev pub take_use : (ℕ → ℕ) → SlotUse → SlotUse
+take_use next held = record held { taken = next held.taken }
+
+-- what the sum is, of the slot's row
+abbrev pub Takes : Slot → ℤ → (ℕ → ℕ) → SlotRow → Type 0
+Takes slot persons next row = same_slot row.slot slot ≡ true → binary (Arith Add) (whole row.held.taken) (Int persons) ≡ whole (next row.held.taken)
+
+yields_there : (slot : Slot) (persons : ℤ) (next : ℕ → ℕ) (row : Row) (xs : List SlotRow) → AllByRecursion (Takes slot persons next) xs
+    → AllByRecursion (λ (x : SlotRow). (id : ℤ) (there : Row) → same_slot x.slot slot ≡ true
+    → eval_all taken_sets (((name_values slot ++ Int persons ∷ []) ++ rowid there ∷ shown slot_table row) ∷ (Int id ∷ slot_values x) ∷ [])
+    ≡ Int id ∷ Int id ∷ name_values x.slot ++ use_values (take_use next x.held)) xs
+yields_there slot persons next row [] h = tt
+yields_there slot persons next row (x ∷ xs) h = (
+  λ id there same. ap (λ v. Int id ∷ Int id ∷ name_values x.slot ++ flag x.held.closed ∷ v ∷ []) (h.0 same),
+  yields_there slot persons next row xs h.1,
+)
+
+pub slot_taken : (rows : Rows) → AllPairs (λ (a : SlotRow) (b : SlotRow). a.slot ≢ b.slot) rows.slots → (slot : Slot) (persons : ℤ) (next : ℕ → ℕ)
+    → AllByRecursion (Takes slot persons next) rows.slots → (list_any (λ (row : SlotRow). same_slot row.slot slot) rows.slots ≡ false → persons ≡ pos (next 0))
+    → Steps (ADD_TAKEN.now, name_values slot ++ Int persons ∷ []) rows (record rows { slots = put_slot slot (take_use next) rows.slots })
+slot_taken rows once slot persons next sums fresh old new count holds_rows executed =
+    slot_put ADD_TAKEN.now taken_terms taken_sets 4 taken_clause taken_puts old new rows holds_rows once slot
+    (name_values slot
+    ++ Int persons ∷ []) (whole 0) (Int persons) refl (cast_int (pos 0)) (cast_int persons)
+    (take_use next) (λ none. ap (λ n. whole 0 ∷ Int n ∷ []) (fresh none)) (λ there.
+    refl) (yields_there slot persons next (Int (next_rowid (old.now.trees slots_tree)) ∷ name_values slot ++ whole 0 ∷ Int persons ∷ []) rows.slots sums)
+    count executed
+
+-- ---- older roots
+
+abbrev older_table : Table
+older_table = record old_roots_table { tree = olders_tree }
+
+abbrev older_target : Option (List ℕ)
+older_target = Some (1 ∷ [])
+
+-- a row conflicts with a new one where both are of one key
+olders_conflict : (id id' : ℤ) (row : OlderRow) (key : List ℕ) (older : OlderRoot)
+    → conflicts older_target club_schema.indexes older_table (Int id' ∷ Text key ∷ older_root_values older) (Int id ∷ older_values row) ≡ bytes_eq row.key key
+unfolding first_key
+olders_conflict id id' row key older = rw (text_equal row.key key) (or-false _ ∙ and-true _)
+
+abbrev put_terms : List Term
+put_terms = lit Null ∷ col 0 0 ∷ col 0 1 ∷ col 0 2 ∷ []
+
+abbrev put_sets : List Term
+put_sets = col 1 0 ∷ col 1 0 ∷ col 1 1 ∷ col 0 1 ∷ col 0 2 ∷ []
+
+abbrev put_clause : Upsert
+put_clause = first_clause (command_of (understood club_schema PUT_OLDER_ROOT.now))
+
+put_puts : PutsRow old_roots_table.name old_roots_table.columns old_roots_table.uniques old_roots_table.checks old_roots_table.references olders_tree older_target 6
+    PUT_OLDER_ROOT.now put_terms put_sets 4 3 put_clause
+unfolding understood everything
+put_puts = record { is = refl; plain = (refl, refl); aims = refl; by = refl }
+
+same_names : (a b : List ℕ) → bytes_eq a b ≡ true → a ≡ b
+same_names a b same = (bytes_eq-Decides a b).0 same
+
+itself : (a : List ℕ) → bytes_eq a a ≡ true
+itself a = (bytes_eq-Decides a a).1 refl
+
+module _ (key : List ℕ) (older : OlderRoot) where
+  abbrev pub is_of : OlderRow → Bool
+  is_of row = bytes_eq row.key key
+
+  abbrev pub renewed : OlderRow → OlderRow
+  renewed row = record row { older = if bytes_eq row.key key then older else row.older }
+
+  -- the row of the key gets this older root, or is made
+  abbrev pub put_older : List OlderRow → List OlderRow
+  put_older rows = put_among older_values is_of renewed (record { key = key; older = older }) rows
+
+  same_older : (row : OlderRow) → is_of row ≡ false → renewed row ≡ row
+  same_older row fails = ap (λ b. let r : OlderRow = record row { older = if b then older else row.older } in r) fails
+
+  -- the older root of each key once the row is put
+  pub older_put : (name : List ℕ) (rows : List OlderRow) → older_by name (put_older rows) ≡ (if bytes_eq key name then Some older else older_by name rows)
+  older_put name rows =
+      by_put (λ (row : OlderRow). row.key) bytes_eq same_names itself key renewed (λ row. refl) (record { key = key; older = older }) refl
+      (λ found. option_map (λ (row : OlderRow). row.older) found) (λ _. Some older)
+      (λ row passes. ap (λ b. Some (if b then older else row.older)) passes) same_older refl name rows
+
+  -- and no key has two rows
+  pub put_once : (rows : List OlderRow) → AllPairs (λ (a : OlderRow) (b : OlderRow). a.key ≢ b.key) rows
+      → AllPairs (λ (a : OlderRow) (b : OlderRow). a.key ≢ b.key) (put_older rows)
+  put_once = once_put (λ (row : OlderRow). row.key) bytes_eq same_names itself key renewed (λ row. refl) (record { key = key; older = older }) refl
+
+  casts : (id : ℤ) (row : OlderRow) → cast_row older_table (Int id ∷ older_values row) ≡ Int id ∷ older_values row
+  casts id row = rw (cast_int id, cast_int (pos row.older.until)) refl
+
+pub older_represents : (rows : Rows) → AllPairs (λ (a : OlderRow) (b : OlderRow). a.key ≢ b.key) rows.olders → (key : List ℕ) (older : OlderRoot)
+    → Steps (PUT_OLDER_ROOT.now, Text key ∷ older_root_values older) rows (record rows { olders = put_older key older rows.olders })
+older_represents rows once key older old new count holds_rows executed =
+    let params = Text key ∷ older_root_values older in
+    let t = old_roots_table in
+    let put = row_put t.name t.columns t.uniques t.checks t.references olders_tree older_target 6 refl PUT_OLDER_ROOT.now put_terms put_sets 4 3 put_clause
+    put_puts old new holds_rows.schema params params refl
+    (rw (cast_null, cast_int (pos older.until)) refl) (λ id. rw (cast_int id, cast_int (pos older.until)) refl)
+    older_values (is_of key older) (renewed key older) (same_older key older) (record { key = key; older = older }) (λ id row.
+    olders_conflict id (next_rowid (old.now.trees olders_tree)) row key older) (casts key older) rows.olders holds_rows.held.olders
+    (lone (λ (row : OlderRow). row.key) bytes_eq same_names itself key rows.olders
+    (apart_from_pairs (λ (a : OlderRow) (b : OlderRow). a.key ≢ b.key) rows.olders once))
+    (λ _. refl) (λ there. refl) (each_of _ (λ x id there passes.
+    ap (λ b. Int id ∷ Int id ∷ Text x.key ∷ older_root_values (if b then older else x.older)) (sym passes)) rows.olders) count executed in
+    (on_olders holds_rows put.0 put.1, put.2)

@@ -38,16 +38,14 @@ use Rattle.club_tables.specs.Tables.{HoldsClub, HoldsRows}
 use Rattle.club_tables.specs.Transaction.{Ran, transaction_start, BoundStatement, RanInTurn}
 use Rattle.club_tables.specs.declared.row.MemberRow.{MemberRow}
 use Rattle.club_tables.specs.declared.texts.TheConstants.{ADD_USED, CANCEL_BOOKING, SET_ROOT, ADD_CREDIT, REVOKE_KEY}
-use Rattle.club_tables.proofs.changes.AddLemmas.{booking_put, member_put, facility_put, key_put}
-use Rattle.club_tables.proofs.changes.CancelLemmas.{booking_cancelled, cancel_found, cancel_some}
-use Rattle.club_tables.proofs.changes.CancelStored.{there, used_back, taken_back, cancel_stored, cancel_rows}
+use Rattle.club_tables.proofs.changes.AddLemmas.{booking_put, member_put, facility_put, key_put, slot_taken, Takes, slot_closed, older_represents, put_older}
+use Rattle.club_tables.proofs.changes.CancelLemmas.{booking_cancelled, cancel_found, cancel_some, there, used_back, taken_back, cancel_stored, cancel_rows}
 use Rattle.club_tables.proofs.changes.ChangeLemmas.{credit_found, owner_found, AreKeysOnce, StoresKey, name_of, member_used, AreNamedOnce, Uses, used_row}
 use Rattle.club_tables.proofs.changes.ChangeLemmas.{member_credited, Credits, credit_some, used_some, credited_row, revoke_found, root_found, key_revoked}
 use Rattle.club_tables.proofs.changes.StoredLemmas.{taken_more, member_stored, credit_stored, facility_stored, key_stored, revoke_stored, rotate_stored}
 use Rattle.club_tables.proofs.changes.StoredLemmas.{close_stored, booking_stored, totals_rows, book_rows}
 use Rattle.club_tables.proofs.changes.TotalsLemmas.{one_turn, named_once, few_used, uses_more, minus, uses_less, held_is, takes_of, no_row, few_taken}
 use Rattle.club_tables.proofs.changes.TotalsLemmas.{all_mapped, credits_of}
-use Rattle.club_tables.proofs.changes.UpsertLemmas.{slot_taken, Takes, slot_closed, older_represents, put_older}
 use Rattle.club_tables.proofs.lists.OwnerLemmas.{all_last, owner_is}
 use Rattle.club_tables.proofs.queries.KeyLemmas.{find_mapped, AreBookingsOnce}
 use Rattle.club_tables.proofs.queries.MemberLemmas.{total}

@@ -28,11 +28,10 @@ use Rattle.club_core.specs.Store.{IsOwnedBy, HasRoot}
 use Rattle.club_core.specs.Sums.{is_in, taken_in, cost_of}
 use Rattle.club_tables.specs.declared.row.MemberRow.{MemberRow}
 use Rattle.club_tables.specs.Stored.{Rows, OlderRow, IsStoredAs, older_by, member_row, used_by, persons_taken}
-use Rattle.club_tables.proofs.changes.AddLemmas.{new_row}
+use Rattle.club_tables.proofs.changes.AddLemmas.{new_row, close_use, take_use, put_older, older_put, put_once as olders_once}
 use Rattle.club_tables.proofs.changes.ChangeLemmas.{credited_row, used_row}
 use Rattle.club_tables.proofs.statements.SelectLemmas.{apart_from_pairs, none_pass, filter_same, none_of}
 use Rattle.club_tables.proofs.statements.UpdateLemmas.{each_of}
-use Rattle.club_tables.proofs.changes.UpsertLemmas.{close_use, take_use, put_older, older_put, put_once as olders_once}
 use Rattle.club_tables.proofs.lists.OwnerLemmas.{map_agree, apart_last, not_among, unequal, sum_more, owner_is}
 use Rattle.club_tables.proofs.lists.KeyedRows.{put_slot, use_put, slot_once}
 use Rattle.club_tables.proofs.statements.PassLemmas.{found}

@@ -34,8 +34,8 @@ use Rattle.club_tables.proofs.queries.MemberLemmas.{total}
 use Rattle.club_tables.proofs.statements.OrderLemmas.{pairs_from_apart}
 use Rattle.club_tables.proofs.statements.SelectLemmas.{Apart, apart_from_pairs}
 use Rattle.club_tables.proofs.lists.KeyedRows.{absent, AreApart, same_itself, not_same}
-use Rattle.club_tables.proofs.changes.UpsertLemmas.{Takes}
 use Rattle.club_tables.proofs.queries.KeyLemmas.{same_slots}
+use Rattle.club_tables.proofs.changes.AddLemmas.{Takes}
 
 -- ---- turns
 
