@@ -1,5 +1,7 @@
 -- What a server does to its store, the machine does to the club that this represents.
 use Rattle.std.proofs.Common.{◌≡◌, ◌≢◌, ◌⊎◌, ℕ, false, List, ◌∷◌, Option, Some, None, Result, Ok, Err, inl, inr, refl, ap}
+use Rattle.std.specs.Prelude.{String}
+use Rattle.std.specs.declared.alloc.Global.{Global}
 use Rattle.clap.specs.Words.{Text}
 use Rattle.club_core.specs.Answer.{verdict_in}
 use Rattle.club_core.specs.Club.{Club}
@@ -26,12 +28,10 @@ use Rattle.clubdesk_arguments.specs.declared.fault.Fault.TheVariants.{Memory, Cl
 use Rattle.clubdesk_arguments.specs.declared.task.Service.{Service}
 use Rattle.clubdesk_arguments.specs.declared.task.Task.{Task}
 use Rattle.clubdesk_arguments.specs.declared.task.Task.TheVariants.{Order, Key, Sheet, ShowAccount, ShowSlot}
-use Rattle.clubdesk_commands.specs.Does.{Does}
-use Rattle.clubdesk_commands.specs.Looks.{Looks, showing}
-use Rattle.clubdesk_commands.specs.Looks as looks
+use Rattle.clubdesk_commands.specs.Does.{Does, IsAnswered, Looks}
+use Rattle.clubdesk_commands.specs.Does as does
 use Rattle.clubdesk_commands.specs.Machine.{Always, IsItself, machine_answers, machine_orders}
-use Rattle.clubdesk_commands.specs.Office.{IsAnswered}
-use Rattle.clubdesk_commands.specs.Office as office
+use Rattle.clubdesk_commands.specs.Moments.{showing}
 use Rattle.clubdesk_commands.specs.OfficeDesk.{DoesWords, Orders}
 use Rattle.clubdesk_commands.specs.OfficeDesk as spec
 use Rattle.clubdesk_commands.specs.Run.{FollowsMachine, RunsServer, over_socket}
@@ -147,21 +147,21 @@ module _ {S : Type 0} (Clean : S → Type 0) (Represents : S → Club → List C
 
   -- ---- an order
 
-  answered : (old new : S) (order : Command) (IsText : List ℕ → Type 0) (answer : Result (List ℕ) Fault)
-      → IsAnswered Represents Clean old new order IsText answer → Simulates old new (λ club next. IsAnswered IsItself Always club next order IsText answer)
-  answered old new order IsText answer (office.out_of_memory memory) = same old new _ memory.1 (λ club. office.out_of_memory (memory.0, refl))
-  answered old new order IsText answer (office.order_given text is given) =
+  answered : (order : Command) (IsText : List ℕ → Type 0) (answer : Result (List ℕ) Fault) (old new : S)
+      → IsAnswered Clean Represents order IsText answer old new → Simulates old new (λ club next. IsAnswered Always IsItself order IsText answer club next)
+  answered order IsText answer old new (does.out_of_memory is kept) = same old new _ kept (λ club. does.out_of_memory is refl)
+  answered order IsText answer old new (does.order_given text is given) =
       so old new _ _ (stepped old new _ _ given.was_clean given.steps)
-      (λ club next steps. office.order_given text is (record {
+      (λ club next steps. does.order_given text is (record {
         reply = given.reply;
         was_clean = λ always. tt;
         steps = λ always. machine_steps club next _ _ steps;
         answers = given.answers;
       }))
 
-  looked : (old new : S) (Shows : Club → Result (List ℕ) DeskFault → Type 0) (Gives : Result (List ℕ) DeskFault → Type 0)
-      → Looks Clean Represents old new Shows Gives → Simulates old new (λ club next. Looks Always IsItself club next Shows Gives)
-  looked old new Shows Gives look = record {
+  looked : (Shows : Club → Result (String Global) DeskFault → Type 0) (answer : Result (List ℕ) Fault) (old new : S)
+      → Looks Clean Represents Shows answer old new → Simulates old new (λ club next. Looks Always IsItself Shows answer club next)
+  looked Shows answer old new look = record {
     was_clean = look.was_clean;
     follows = λ clean club others represents. (
       club,
@@ -170,39 +170,22 @@ module _ {S : Type 0} (Clean : S → Type 0) (Represents : S → Club → List C
       record {
         was_clean = λ always. tt;
         kept = λ always now rest is. is;
-        shown = look.shown;
-        is = λ always now rest is. rw (← is) (look.is clean club others represents);
-        gives = look.gives;
+        returned = look.returned;
+        shows = λ always now rest is. rw (← is) (look.shows clean club others represents);
+        is = look.is;
       },
     );
   }
 
   done : (task : Task) (answer : Result (List ℕ) Fault) (old new : S) → Does Clean Represents task answer old new
       → Simulates old new (λ club next. Does Always IsItself task answer club next)
-  done (Order given) answer old new does = answered old new given _ answer does
-  done (Key order root) answer old new does = answered old new _ _ answer does
-  done (Sheet day) answer old new (was, kept, sheet) = record {
-    was_clean = was;
-    follows = λ clean club others represents. (
-      club,
-      others,
-      kept clean club others represents,
-      (
-        λ always. tt,
-        λ always now rest is. is,
-        record {
-          read = sheet.read;
-          is = λ always now rest is. rw (← is) (sheet.is clean club others represents);
-          gives = sheet.gives;
-        },
-      ),
-    );
-  }
-  done (ShowAccount key clock) answer old new (looks.at_moment moment shows look) =
-      so old new _ _ (looked old new _ _ look) (λ club next shown. looks.at_moment moment shows shown)
-  done (ShowAccount key clock) answer old new (looks.at_none shows stopped) =
-      same old new _ stopped.same (λ club. looks.at_none shows (record { out_of_range = stopped.out_of_range; same = refl }))
-  done (ShowSlot slot) answer old new look = looked old new _ _ look
+  done (Order given) answer old new does = answered given _ answer old new does
+  done (Key order root) answer old new does = answered _ _ answer old new does
+  done (Sheet day) answer old new look = looked _ answer old new look
+  done (ShowAccount key clock) answer old new (None, shows, stopped) = same old new _ stopped.1 (λ club. (None, shows, (stopped.0, refl)))
+  done (ShowAccount key clock) answer old new (Some moment, shows, look) =
+      so old new _ _ (looked _ answer old new look) (λ club next look. (Some moment, shows, look))
+  done (ShowSlot slot) answer old new look = looked _ answer old new look
 
   worded : (root : Text) (words : List Text) (answer : Result (List ℕ) Fault) (old new : S) → DoesWords Clean Represents root words answer old new
       → Simulates old new (λ club next. DoesWords Always IsItself root words answer club next)

@@ -13,7 +13,7 @@ use Rattle.clubdesk_arguments.specs.declared.clock.Clock.{Clock as ClockOf}
 use Rattle.clubdesk_arguments.specs.declared.fault.Fault.{Fault}
 use Rattle.clubdesk_arguments.specs.declared.fault.Fault.TheVariants.{Memory, InputOutput}
 use Rattle.clubdesk_arguments.specs.declared.task.Service.{Service}
-use Rattle.clubdesk_commands.specs.Looks.{showing}
+use Rattle.clubdesk_commands.specs.Moments.{showing}
 use Rattle.clubdesk_commands.specs.Output.{Output}
 use Rattle.clubdesk_commands.specs.Run.{Announces, IfLogged, IsAnnounced, RunsServer, StopsBefore, outcome_of_server, over_socket}
 

@@ -1,28 +1,87 @@
 -- What a task of the office does at a desk (ours).
-use Rattle.std.specs.Prelude.{◌≡◌, ℕ, List, Result, codes}
+use Rattle.std.specs.Prelude.{◌≡◌, ℕ, List, [], ◌∷◌, ◌++◌, codes, Option, MatchOption, Result, Ok, Err, IfOk, String}
+use Rattle.std.specs.String.{string_bytes}
+use Rattle.std.specs.declared.alloc.Global.{Global}
 use Rattle.club_core.specs.declared.command.Command.{Command}
 use Rattle.club_core.specs.declared.command.Command.TheVariants as order
 use Rattle.club_core.specs.Club.{Club}
+use Rattle.club_core.specs.Run.{ToOffice}
+use Rattle.club_core.specs.Run as machine
+use Rattle.club_core.specs.Sheet.{IsSheet}
 use Rattle.club_core.specs.Store.{KeepsClub}
+use Rattle.club_gate.specs.Desk.{OfItsClub, Steps}
+use Rattle.club_gate.specs.Looks.{ReturnsLook, account_look, slot_look}
+use Rattle.club_gate.specs.Minted.{key_pass, minted_signature}
+use Rattle.club_gate.specs.declared.event.OfficeReply.{OfficeReply}
+use Rattle.club_gate.specs.declared.event.OfficeReply.TheVariants as replies
+use Rattle.club_gate.specs.declared.fault.Fault.{Fault as DeskFault}
+use Rattle.club_gate.specs.declared.fault.Fault.TheVariants as desk
+use Rattle.pass_forms.specs.declared.form.Form.{Form}
+use Rattle.pass_forms.specs.Writing.{IsWritableText}
+use Rattle.pass_json.specs.AnyForm.{IsTextIn}
+use Rattle.clubdesk_arguments.specs.Fault.{fault_of_opening}
 use Rattle.clubdesk_arguments.specs.declared.fault.Fault.{Fault}
+use Rattle.clubdesk_arguments.specs.declared.fault.Fault.TheVariants.{Refused, Memory, ClockOutOfRange}
 use Rattle.clubdesk_arguments.specs.declared.task.KeyChange.{KeyChange}
 use Rattle.clubdesk_arguments.specs.declared.task.KeyChange.TheVariants.{Add, Rotate}
 use Rattle.clubdesk_arguments.specs.declared.task.Task.{Task}
 use Rattle.clubdesk_arguments.specs.declared.task.Task.TheVariants.{Order, Key, Sheet, ShowAccount, ShowSlot}
-use Rattle.clubdesk_commands.specs.Looks.{IsAccountShown, Looks, ShowsSlot}
-use Rattle.clubdesk_commands.specs.Office.{GivesText, IsAnswered, IsPassLine, IsSheetRead}
+use Rattle.clubdesk_commands.specs.Moments.{IsMomentOf}
 
 -- the desk's order that gives a key this root
 abbrev pub key_command : List ℕ → KeyChange → List ℕ → Command
 key_command name (Add member) root = order.AddKey name member root
 key_command name (Rotate until) root = order.RotateKey name root until
 
--- What a task of the office answers, and how it changes a store, by the store's trait.
-abbrev pub Does : {S : Type 0} → (S → Type 0) → (S → Club → List Club → Type 0) → Task → Result (List ℕ) Fault → S → S → Type 0
-Does Clean Represents (Order given) answer old new = IsAnswered Represents Clean old new given (λ line. line ≡ codes "done\n") answer
-Does Clean Represents (Key given root) answer old new =
-    IsAnswered Represents Clean old new (key_command given.name given.change root) (IsPassLine given.name root given.form) answer
-Does Clean Represents (Sheet day) answer old new =
-    (Clean new → Clean old) × (Clean new → KeepsClub Represents old new) × IsSheetRead Represents (Clean new) old day (GivesText answer)
-Does Clean Represents (ShowAccount key clock) answer old new = IsAccountShown Clean Represents key clock answer old new
-Does Clean Represents (ShowSlot slot) answer old new = Looks Clean Represents old new (ShowsSlot slot) (GivesText answer)
+-- the line is the text of a key's pass under a root, in a form, with a line feed; there is none if the pass has no text within the limits
+pub record IsPassLine (name root : List ℕ) (form : Form) (line : List ℕ) : Type 0 where
+  pub text : List ℕ
+  pub is : IsWritableText (IsTextIn form) (key_pass name (minted_signature name root)) text
+  pub ends : line ≡ text ++ 10 ∷ []
+
+-- the program's fault for a fault of the desk
+abbrev pub fault_of_desk : DeskFault → Fault
+fault_of_desk (desk.Refused refusal) = Refused refusal
+fault_of_desk (desk.Store failure) = fault_of_opening failure
+
+-- the answer to an order: its fault if it was refused, otherwise the text
+abbrev pub GivesReply : List ℕ → Result (List ℕ) Fault → OfficeReply → Type 0
+GivesReply text answer (replies.Refused fault) = answer ≡ Err (fault_of_desk fault)
+GivesReply text answer reply = answer ≡ Ok text
+
+-- the answer to what the desk returned
+abbrev pub answer_to : {Z : Type 0} → Result (String Z) DeskFault → Result (List ℕ) Fault
+answer_to (Ok text) = Ok (string_bytes text)
+answer_to (Err fault) = Err (fault_of_desk fault)
+
+module _ {S : Type 0} (Clean : S → Type 0) (Represents : S → Club → List Club → Type 0) where
+  -- The desk got an order, and its reply was answered, with this text if it wasn't refused.
+  pub record IsGiven (order : Command) (text : List ℕ) (answer : Result (List ℕ) Fault) (old new : S) : Type 0 where
+    pub reply : OfficeReply
+    pub was_clean : Clean new → Clean old
+    pub steps : Clean new → Steps Represents old new (machine.Ordered order) (ToOffice reply)
+    pub answers : GivesReply text answer reply
+
+  -- The text was made before the order was given; if memory ran out for it, nothing was done.
+  pub data IsAnswered (order : Command) (IsText : List ℕ → Type 0) (answer : Result (List ℕ) Fault) (old new : S) : Type 0 where
+    out_of_memory : answer ≡ Err Memory → new ≡ old → IsAnswered order IsText answer old new
+    order_given : (text : List ℕ) → IsText text → IsGiven order text answer old new → IsAnswered order IsText answer old new
+
+  -- The desk was asked for a look at the club, which is unchanged, and what it returned was answered.
+  pub record Looks (Shows : Club → Result (String Global) DeskFault → Type 0) (answer : Result (List ℕ) Fault) (old new : S) : Type 0 where
+    pub was_clean : Clean new → Clean old
+    pub kept : Clean new → KeepsClub Represents old new
+    pub returned : Result (String Global) DeskFault
+    pub shows : OfItsClub Clean Represents old new (λ club. Shows club returned)
+    pub is : answer ≡ answer_to returned
+
+  -- What a task of the office answers, and how it changes a store, by the store's trait.
+  abbrev pub Does : Task → Result (List ℕ) Fault → S → S → Type 0
+  Does (Order given) answer old new = IsAnswered given (λ line. line ≡ codes "done\n") answer old new
+  Does (Key given root) answer old new =
+      IsAnswered (key_command given.name given.change root) (IsPassLine given.name root given.form) answer old new
+  Does (Sheet day) answer old new = Looks (λ club sheet. IfOk sheet (λ text. IsSheet club day (string_bytes text))) answer old new
+  Does (ShowAccount key clock) answer old new = (shown : Option ℕ) × IsMomentOf clock shown
+      × MatchOption shown ((answer ≡ Err ClockOutOfRange) × (new ≡ old))
+      (λ moment. Looks (λ club look. ReturnsLook (account_look club key moment) look) answer old new)
+  Does (ShowSlot slot) answer old new = Looks (λ club look. ReturnsLook (slot_look club slot) look) answer old new

@@ -1,6 +1,5 @@
 pub mod Output
-pub mod Office
-pub mod Looks
+pub mod Moments
 pub mod Does
 pub mod Order
 pub mod OfficeDesk

@@ -1,12 +1,12 @@
 -- What was written (ours).
-use Rattle.std.specs.Prelude.{◌≡◌, ℕ, List, Option, Result, Ok, Err, String}
+use Rattle.std.specs.Prelude.{◌≡◌, ◌⊎◌, ℕ, List, Option, Result, Ok, Err, IfErr, String}
 use Rattle.std.specs.String.{string_bytes}
 use Rattle.std.specs.Io.KnownBytes.{Appends}
 use Rattle.command_line.specs.Output.{AppendsFront}
 use Rattle.desk_server.specs.Served.{AreNoted, Turn}
 use Rattle.desk_server.specs.declared.log.Log.{Ghosts as LogWords}
 use Rattle.clubdesk_arguments.specs.declared.fault.Fault.{Fault}
-use Rattle.clubdesk_arguments.specs.declared.fault.Fault.TheVariants.{InputOutput}
+use Rattle.clubdesk_arguments.specs.declared.fault.Fault.TheVariants.{Words, BadValue, ClockOutOfRange, InputOutput}
 
 -- a writer before and after: the bytes that it holds, if they are known, and the statement that it is unchanged
 pub record Output : Type 1 where
@@ -51,3 +51,13 @@ text_of (Err fault) = Err fault
 abbrev pub Prints : Result (List ℕ) Fault → Output → Result Unit Fault → Type 0
 Prints (Ok text) written result = WritesText text written result
 Prints (Err fault) written result = (result ≡ Err fault) × written.no_change
+
+-- a fault that work may end with: none of the words
+abbrev pub IsWorkFault : Fault → Type 0
+IsWorkFault (Words error) = ⊥
+IsWorkFault BadValue = ⊥
+IsWorkFault fault = Unit {0}
+
+-- How work ends: by no fault of the words, and, but for these two, with nothing written before a fault.
+abbrev pub EndsWork : Type 0 → Result Unit Fault → Type 0
+EndsWork Unwritten result = IfErr result (λ fault. IsWorkFault fault × ((fault ≡ ClockOutOfRange) ⊎ (fault ≡ InputOutput) ⊎ Unwritten))

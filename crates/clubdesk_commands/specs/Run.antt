@@ -24,7 +24,7 @@ use Rattle.clubdesk_arguments.specs.Fault.{fault_of_opening, of_words}
 use Rattle.clubdesk_arguments.specs.Words.{AskFor, ReadsWords}
 use Rattle.clubdesk_arguments.specs.declared.clock.Clock.{Clock}
 use Rattle.clubdesk_arguments.specs.declared.fault.Fault.{Fault}
-use Rattle.clubdesk_arguments.specs.declared.fault.Fault.TheVariants.{Words, BadValue, Memory, ClockOutOfRange, InputOutput, NoAnswer, Answered}
+use Rattle.clubdesk_arguments.specs.declared.fault.Fault.TheVariants.{Memory, ClockOutOfRange, InputOutput, NoAnswer, Answered}
 use Rattle.clubdesk_arguments.specs.declared.task.KeyOrder.{KeyOrder}
 use Rattle.clubdesk_arguments.specs.declared.task.Service.{Service}
 use Rattle.clubdesk_arguments.specs.declared.task.Task.{Task}
@@ -32,11 +32,11 @@ use Rattle.clubdesk_arguments.specs.declared.task.Task.TheVariants.{Key}
 use Rattle.clubdesk_arguments.specs.declared.task.Work.TheVariants.{Office, Rootless, Serve}
 use Rattle.clubdesk_commands.specs.Does.{Does}
 use Rattle.clubdesk_commands.specs.Input.{TakesRoot}
-use Rattle.clubdesk_commands.specs.Looks.{showing}
+use Rattle.clubdesk_commands.specs.Moments.{showing}
 use Rattle.clubdesk_commands.specs.Machine.{machine_answers, machine_orders}
 use Rattle.clubdesk_commands.specs.OfficeDesk.{Orders}
 use Rattle.clubdesk_commands.specs.Order.{order_bytes}
-use Rattle.clubdesk_commands.specs.Output.{Input, LogChange, Output, Prints}
+use Rattle.clubdesk_commands.specs.Output.{EndsWork, Input, LogChange, Output, Prints}
 
 -- ---- the server
 
@@ -122,15 +122,6 @@ pub data IsHandedOver {Visit : Type 0} (Gives : Giving Visit) (visit : Visit) (r
       → IsHandedOver Gives visit root words answer
 
 -- ---- a run
-
--- How work ends: by no fault of the words, and, but for these two, with nothing written before a fault.
-abbrev pub EndsWork : {A : Type 0} → Type 0 → Result A Fault → Type 0
-EndsWork Unwritten (Ok done) = Unit {0}
-EndsWork Unwritten (Err (Words error)) = ⊥
-EndsWork Unwritten (Err BadValue) = ⊥
-EndsWork Unwritten (Err ClockOutOfRange) = Unit {0}
-EndsWork Unwritten (Err InputOutput) = Unit {0}
-EndsWork Unwritten (Err fault) = Unwritten
 
 module _ {D S R V : Type 0} (databases : DatabasesWords D S R V) (visits : VisitWords V) (stores : StoreWords S) where
   -- A task of the office over the database of a name. It was handed to the server of the database, in the words of the run and with the

@@ -3,7 +3,6 @@
 #![tactic(auto)]
 
 mod input;
-mod looks;
 mod moments;
 mod office;
 mod office_desk;
@@ -11,8 +10,6 @@ mod order;
 mod program;
 mod server;
 
-pub use looks::{show_account, show_slot};
-pub use office::{give_order, order_pass, show_sheet};
 pub use office_desk::OfficeDesk;
 pub use order::{Order, order_bytes, read_order};
 pub use program::run;

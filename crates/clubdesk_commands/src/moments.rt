@@ -22,7 +22,7 @@ impl<'z, 'c, C> Model for MomentsOf<'z, 'c, C> {
 }
 
 impl<'z, 'c, C: time::Clock> Moments for MomentsOf<'z, 'c, C> {
-    ghost use Rattle.clubdesk_commands.specs.Looks.{showing};
+    ghost use Rattle.clubdesk_commands.specs.Moments.{showing};
 
     ghost gives = { showing };
 

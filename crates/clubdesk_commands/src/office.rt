@@ -1,90 +1,70 @@
-//! The commands of the office, over a desk.
+//! The tasks of the office, over a desk.
 
-ghost use Rattle.std.specs.Prelude.{◌≡◌, ◌++◌, ◌∷◌, [], IfSome, Ok, Err, codes};
+ghost use Rattle.std.specs.Prelude.{◌≡◌, IfErr, IfSome};
 ghost use Rattle.std.specs.String.{string_bytes};
-ghost use Rattle.club_core.specs.Store.{KeepsClub};
-ghost use Rattle.clubdesk_commands.specs.Office as spec;
-ghost use Rattle.clubdesk_commands.specs.Output.{WritesText, output, text_of};
+ghost use Rattle.clubdesk_commands.specs.Does as spec;
+ghost use Rattle.clubdesk_commands.specs.Output.{IsWorkFault, text_of};
 
-use club_core::{ClubStore, Command};
+use crate::moments::MomentsOf;
+use club_clock::Moments;
+use club_core::{ClubStore, Command, StoreFault};
 use club_gate::{Desk, OfficeReply, key_signature, minted};
 use club_rows::Root;
-use club_values::{Day, Name};
-use clubdesk_arguments::Fault;
-use command_line::write_text;
+use club_values::Name;
+use clubdesk_arguments::{Fault, KeyChange, KeyOrder, Task};
 use pass_forms::Form;
 use pass_json::write_any;
 use std::alloc::Global;
-use std::io::Write;
+use std::time::Clock;
 
-/// The answer to an order that makes no pass.
-pub(crate) const DONE: &str = "done\n";
-
-/// Gives an order to the desk, and returns the line `done`.
+/// Does a task at a desk, and returns the answer.
 ///
 /// # Errors
 ///
-/// `Refused`, `Memory` and `Storage` if the desk returns them: then the club is unchanged. `Memory`
-/// also if there was none for the line, and then no order was given.
-pub fn give_order<S: ClubStore>(
+/// `Refused`, `Memory` and `Storage` if the desk returns them; `Memory` also if there was none for
+/// the text of an order's answer, and then no order was given; `ClockOutOfRange` if the clock shows
+/// no moment at which to look. The club is unchanged.
+pub(crate) fn carry_out<C: Clock, S: ClubStore>(
     alloc: Global,
+    machine: &C,
     desk: &mut Desk<S>,
-    order: &Command,
+    task: Task<'_>,
 ) -> Result<String, Fault>
-    ensures { spec.IsAnswered S.represents S.disk_is_clean desk.old desk.new order.now
-        (λ line. line ≡ codes "done\n") (text_of result) }
+    ensures does { spec.Does S.disk_is_clean S.represents task.entry (text_of result)
+        desk.old desk.new }
+    ensures worked { IfErr result IsWorkFault }
 {
-    match done_line(alloc) {
-        None => Err(Fault::Memory),
-        Some(line) => carry_out(desk, order, line),
+    match task {
+        Task::Order(order) => match format!(in alloc; "done\n") {
+            Ok(line) => give(desk, &order, line),
+            Err(_) => Err(Fault::Memory),
+        },
+        Task::Key(order, root) => {
+            let KeyOrder { name, change, form } = order;
+            match pass_line(alloc, &name, &root, form) {
+                Some(line) => give(desk, &key_command(name, change, root), line),
+                None => Err(Fault::Memory),
+            }
+        }
+        Task::Sheet(day) => answer_to(desk.sheet(day)),
+        Task::ShowAccount { key, clock } => match (MomentsOf { clock, machine }).now() {
+            Some(moment) => answer_to(desk.show_account(&key, moment)),
+            None => Err(Fault::ClockOutOfRange),
+        },
+        Task::ShowSlot(slot) => answer_to(desk.show_slot(&slot)),
     }
 }
 
-/// Makes the text of a key's pass under a root, then gives the order that adds the key or changes
-/// its root, and returns the text.
-///
-/// # Errors
-///
-/// As for an order; `Memory` also if there was none for the text, and then no order was given.
-pub fn order_pass<S: ClubStore>(
-    alloc: Global,
-    desk: &mut Desk<S>,
-    name: &Name,
-    root: &Root,
-    form: Form,
-    order: &Command,
-) -> Result<String, Fault>
-    ensures { spec.IsAnswered S.represents S.disk_is_clean desk.old desk.new order.now
-        (spec.IsPassLine name.now root.now form) (text_of result) }
+// Gives an order to the desk, and returns a text if it is carried out.
+fn give<S: ClubStore>(desk: &mut Desk<S>, order: &Command, text: String) -> Result<String, Fault>
+    ensures given { spec.IsGiven S.disk_is_clean S.represents order.now (string_bytes text)
+        (text_of result) desk.old desk.new }
+    ensures worked { IfErr result IsWorkFault }
 {
-    match pass_line(alloc, name, root, form) {
-        None => Err(Fault::Memory),
-        Some(line) => carry_out(desk, order, line),
+    match desk.office(order) {
+        OfficeReply::Refused(fault) => Err(fault_of_desk(fault)),
+        OfficeReply::Done | OfficeReply::Key { .. } => Ok(text),
     }
-}
-
-/// The sheet of a day.
-///
-/// # Errors
-///
-/// `Memory` and `Storage` if the desk returns them. The club is unchanged.
-pub fn show_sheet<S: ClubStore>(desk: &mut Desk<S>, day: Day) -> Result<String, Fault>
-    ensures was_clean { S.disk_is_clean desk.new → S.disk_is_clean desk.old }
-    ensures kept { S.disk_is_clean desk.new → KeepsClub S.represents desk.old desk.new }
-    ensures returned { spec.IsSheetRead S.represents (S.disk_is_clean desk.new) desk.old day
-        (spec.GivesText (text_of result)) }
-{
-    match desk.sheet(day) {
-        Ok(text) => Ok(text),
-        Err(fault) => Err(fault_of_desk(fault)),
-    }
-}
-
-// The line `done`; `None` if memory ran out.
-fn done_line(alloc: Global) -> Option<String>
-    ensures { IfSome result (λ line. string_bytes line ≡ codes "done\n") }
-{
-    format!(in alloc; "done\n").ok()
 }
 
 // The line of a key's pass under a root; `None` if memory ran out. A pass this short has a text in
@@ -103,36 +83,35 @@ fn pass_line(alloc: Global, name: &Name, root: &Root, form: Form) -> Option<Stri
     Some(line)
 }
 
-// Gives an order to the desk, and returns a text if it is carried out.
-fn carry_out<S: ClubStore>(
-    desk: &mut Desk<S>,
-    order: &Command,
-    text: String,
-) -> Result<String, Fault>
-    ensures { spec.IsOrdered S.represents S.disk_is_clean desk.old desk.new order.now
-        (spec.GivesReply (string_bytes text) (text_of result)) }
+// The desk's order that gives a key this root.
+fn key_command(name: Name, change: KeyChange, root: Root) -> Command
+    ensures { result ≡ spec.key_command name change root }
 {
-    match desk.office(order) {
-        OfficeReply::Refused(fault) => Err(fault_of_desk(fault)),
-        OfficeReply::Done | OfficeReply::Key { .. } => Ok(text),
+    match change {
+        KeyChange::Add { member } => Command::AddKey { name, member, root },
+        KeyChange::Rotate { until } => Command::RotateKey { name, root, until },
     }
 }
 
-pub(crate) fn written<W: Write>(writer: &mut W, text: &str) -> Result<(), Fault>
-    ensures { WritesText text.now (output W.contents writer.old writer.new) result }
+// The answer to what the desk returned.
+fn answer_to(returned: Result<String, club_gate::Fault>) -> Result<String, Fault>
+    ensures is { text_of result ≡ spec.answer_to returned }
+    ensures worked { IfErr result IsWorkFault }
 {
-    match write_text(writer, text) {
-        Ok(()) => Ok(()),
-        Err(_) => Err(Fault::InputOutput),
+    match returned {
+        Ok(text) => Ok(text),
+        Err(fault) => Err(fault_of_desk(fault)),
     }
 }
 
 // The program's fault for a fault of the desk.
-pub(crate) fn fault_of_desk(returned: club_gate::Fault) -> Fault
-    ensures { result ≡ spec.fault_of_desk returned }
+fn fault_of_desk(returned: club_gate::Fault) -> Fault
+    ensures is { result ≡ spec.fault_of_desk returned }
+    ensures worked { IsWorkFault result }
 {
     match returned {
         club_gate::Fault::Refused(refusal) => Fault::Refused(refusal),
-        club_gate::Fault::Store(failure) => Fault::from(failure),
+        club_gate::Fault::Store(StoreFault::Memory) => Fault::Memory,
+        club_gate::Fault::Store(StoreFault::Storage) => Fault::Storage,
     }
 }

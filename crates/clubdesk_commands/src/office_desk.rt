@@ -7,8 +7,8 @@ ghost use Rattle.clubdesk_commands.specs.OfficeDesk.{AnswersWith};
 ghost use Rattle.clubdesk_commands.specs.Output.{text_of};
 
 use crate::input::root_in;
+use crate::office::carry_out;
 use crate::order::{Order, read_order};
-use crate::program::carry_out;
 use club_core::{ClubStore, Reply};
 use club_gate::Desk;
 use club_http::{Responder, Words};

@@ -1,22 +1,18 @@
 //! A run of the program, over words, a reader and writers.
 
 ghost use Rattle.std.specs.Prelude.{◌≡◌, IfErr, IfOk, map};
-ghost use Rattle.clubdesk_commands.specs.Does.{Does, key_command};
 ghost use Rattle.clubdesk_commands.specs.Order.{order_bytes};
-ghost use Rattle.clubdesk_commands.specs.Output.{Prints, input, log_change, output, text_of};
+ghost use Rattle.clubdesk_commands.specs.Output.{EndsWork, IsWorkFault, Prints, input, log_change};
+ghost use Rattle.clubdesk_commands.specs.Output.{output, text_of};
 ghost use Rattle.clubdesk_commands.specs.Run as spec;
 
 use crate::input::read_root;
-use crate::looks::{show_account, show_slot};
-use crate::office::{give_order, order_pass, show_sheet, written};
+use crate::office::carry_out;
 use crate::order::order_bytes;
 use crate::server::serve_file;
-use club_core::{ClubStore, Command};
 use club_gate::Desk;
-use club_rows::Root;
-use club_values::Name;
-use clubdesk_arguments::{Fault, Job, KeyChange, KeyOrder, Task, Work};
-use command_line::{Asked, flush, read_job};
+use clubdesk_arguments::{Fault, Job, Task, Work};
+use command_line::{Asked, flush, read_job, write_text};
 use desk_server::{Databases, Log, Reached, Visit};
 use std::alloc::{AllocError, Global};
 use std::convert::AsStr;
@@ -82,9 +78,10 @@ fn perform<C: Clock, D: Databases, S: AsStr, W: Write>(
     task: Task<'_>,
     writer: &mut W,
 ) -> Result<(), Fault>
-    ensures { spec.Performs D.Databases D.Visit.Visit D.Store.ClubStore (map S.text words.now)
-        file.now task.entry databases.old databases.new
+    ensures performs { spec.Performs D.Databases D.Visit.Visit D.Store.ClubStore
+        (map S.text words.now) file.now task.entry databases.old databases.new
         (output W.contents writer.old writer.new) result }
+    ensures ends { EndsWork (writer.new ≡ writer.old) result }
 {
     match databases.reach(file) {
         Ok(Reached::Opened(store)) => {
@@ -105,8 +102,9 @@ fn hand_over<V: Visit + Drop, S: AsStr>(
     words: &[S],
     task: &Task<'_>,
 ) -> Result<String, Fault>
-    ensures { spec.IsHandedOver V.gives visit (spec.handed_root task.now) (map S.text words.now)
-        (text_of result) }
+    ensures handed { spec.IsHandedOver V.gives visit (spec.handed_root task.now)
+        (map S.text words.now) (text_of result) }
+    ensures worked { IfErr result IsWorkFault }
 {
     let order = match order_of(alloc, words, task) {
         Ok(order) => order,
@@ -136,50 +134,15 @@ fn order_of<S: AsStr>(alloc: Global, words: &[S], task: &Task<'_>) -> Result<Vec
 
 // Writes the answer to a task.
 fn print<W: Write>(answer: Result<String, Fault>, writer: &mut W) -> Result<(), Fault>
-    ensures { Prints (text_of answer) (output W.contents writer.old writer.new) result }
+    ensures prints { Prints (text_of answer) (output W.contents writer.old writer.new) result }
+    ensures ends { IfErr answer IsWorkFault → EndsWork (writer.new ≡ writer.old) result }
 {
     match answer {
-        Ok(text) => written(writer, text.as_str()),
+        Ok(text) => match write_text(writer, text.as_str()) {
+            Ok(()) => Ok(()),
+            Err(_) => Err(Fault::InputOutput),
+        },
         Err(fault) => Err(fault),
-    }
-}
-
-// Does a task of the office at a desk, and returns the answer.
-pub(crate) fn carry_out<C: Clock, S: ClubStore>(
-    alloc: Global,
-    machine: &C,
-    desk: &mut Desk<S>,
-    task: Task<'_>,
-) -> Result<String, Fault>
-    ensures { Does S.disk_is_clean S.represents task.entry (text_of result)
-        desk.old desk.new }
-{
-    match task {
-        Task::Order(order) => give_order(alloc, desk, &order),
-        Task::Key(order, root) => {
-            let KeyOrder { name, change, form } = order;
-            order_pass(
-                alloc,
-                desk,
-                &name,
-                &root,
-                form,
-                &key_command(name, change, root),
-            )
-        }
-        Task::Sheet(day) => show_sheet(desk, day),
-        Task::ShowAccount { key, clock } => show_account(machine, desk, &key, clock),
-        Task::ShowSlot(slot) => show_slot(desk, &slot),
-    }
-}
-
-// The desk's order that gives a key this root.
-fn key_command(name: Name, change: KeyChange, root: Root) -> Command
-    ensures { result ≡ key_command name change root }
-{
-    match change {
-        KeyChange::Add { member } => Command::AddKey { name, member, root },
-        KeyChange::Rotate { until } => Command::RotateKey { name, root, until },
     }
 }
 

@@ -1,6 +1,6 @@
 use Rattle.std.proofs.Common.{Err, ap, refl}
 use Rattle.clubdesk_commands.specs.Run as spec
-use Rattle.clubdesk_commands.proofs.RunLemmas.{asks_for, performs_well, serves_well}
+use Rattle.clubdesk_commands.proofs.RunLemmas.{asks_for, serves_well}
 use Rattle.clubdesk_commands.proofs.program.run.Goals as goal
 
 pub returns-in-Ok-ShowText : goal.returns-in-Ok-ShowText
@@ -14,13 +14,13 @@ pub returns-in-Office : goal.returns-in-Office
 returns-in-Office g c =
     spec.task_asked _ c.in-Office.task
     (asks_for _ _ _ _ _ _ refl c.in-Ok-Perform.ensures c.in-Ok-Perform.field-0-is c.job.view_is c.in-Office.is)
-    c.perform.ensures (performs_well _ _ _ _ _ _ _ _ _ _ c.perform.ensures) refl refl
+    c.perform.ensures.performs c.perform.ensures.ends refl refl
 
 pub returns-in-Ok : goal.returns-in-Ok
 returns-in-Ok g c =
     spec.key_asked _ c.in-Rootless.order c.in-Ok.root
     (asks_for _ _ _ _ _ _ refl c.in-Ok-Perform.ensures c.in-Ok-Perform.field-0-is c.job.view_is c.in-Rootless.is)
-    c.in-Ok.ensures c.perform-in-Ok.ensures (performs_well _ _ _ _ _ _ _ _ _ _ c.perform-in-Ok.ensures) refl
+    c.in-Ok.ensures c.perform-in-Ok.ensures.performs c.perform-in-Ok.ensures.ends refl
 
 pub returns-in-Err-read_root : goal.returns-in-Err-read_root
 returns-in-Err-read_root g c =
