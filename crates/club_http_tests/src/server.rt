@@ -20,7 +20,7 @@ use crate::rows::{expect_row, moment};
 use club_clock::{Fixed, Moments};
 use club_http::Face;
 use desk_server::{
-    Accepted, Arrival, Arrivals, ClientSocket, ClockOutOfRange, Listening, serve_on,
+    Accepted, Arrival, Arrivals, ClientSocket, ClockOutOfRange, Listening, Unlogged, serve_logged,
 };
 use doubles::{Countdown, Noting, Script, Wire};
 use std::alloc::Global;
@@ -58,7 +58,7 @@ fn serves_with<L: Arrivals, M: Moments>(
     desk: &mut Noting,
 ) -> Result<(), ClockOutOfRange> {
     let mut face = Face::new(rt.alloc()).expect(rt, "a face");
-    serve_on(arrivals, count, moments, &mut face, desk)
+    serve_logged(arrivals, count, moments, &mut face, desk, &mut Unlogged)
 }
 
 /// So many of these connections are served, and how many requests the desk is asked at noon.

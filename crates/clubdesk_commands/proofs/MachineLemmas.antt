@@ -35,6 +35,7 @@ use Rattle.clubdesk_commands.specs.Moments.{showing}
 use Rattle.clubdesk_commands.specs.OfficeDesk.{DoesWords, Orders}
 use Rattle.clubdesk_commands.specs.OfficeDesk as spec
 use Rattle.clubdesk_commands.specs.Run.{FollowsMachine, RunsServer, over_socket}
+use Rattle.clubdesk_commands.specs.Run as run
 use Rattle.desk_server.specs.Served.{AreOrdered, AreServed, IsAttended, IsCarriedOut, IsExchanged, ServesOne, Turn}
 use Rattle.desk_server.specs.Served as served
 use Rattle.desk_server.specs.declared.log.Fate.{Fate}
@@ -263,23 +264,14 @@ module _ {S : Type 0} (Clean : S → Type 0) (Represents : S → Club → List C
     -- a server over a store is one over the club that this represents
     pub follows_machine : (result : Result Unit Fault) → RunsServer (AnswersBy Clean Represents Fails) (Orders Clean Represents) service store left Noted result
         → FollowsMachine Clean Represents service store left Noted result
-    follows_machine (Ok done) (turns, last, failures, so_many, were, besides) =
-        (so store left _ _ (all showing Fails service.clock store 0 turns last left failures were)
-        (λ club next were. (turns, last, failures, so_many, were, besides))).follows
-    follows_machine (Err ClockOutOfRange) (last, failures, stop) =
-        (so store left _ _ (all showing Fails service.clock store 0 stop.turns stop.last left failures stop.before)
-        (λ club next before. (
-          last,
-          failures,
-          record {
-            turns = stop.turns;
-            last = stop.last;
-            fewer = stop.fewer;
-            before = before;
-            no_moment = stop.no_moment;
-            besides = stop.besides;
-          },
-        ))).follows
-    follows_machine (Err Memory) (kept, nothing) = (same store left _ kept (λ club. (refl, nothing))).follows
-    follows_machine (Err InputOutput) (kept, nothing) = (same store left _ kept (λ club. (refl, nothing))).follows
-    follows_machine (Err fault) never = absurd never
+    follows_machine result (run.listened outcome last failures is it) =
+        (so store left _ _ (all showing Fails service.clock store 0 it.turns it.last left failures it.before)
+        (λ club next before. run.listened outcome last failures is (record {
+          turns = it.turns;
+          last = it.last;
+          before = before;
+          all = it.all;
+          ends = it.ends;
+          besides = it.besides;
+        }))).follows
+    follows_machine result (run.not_listened fault kept nothing) = (same store left _ kept (λ club. run.not_listened fault refl nothing)).follows

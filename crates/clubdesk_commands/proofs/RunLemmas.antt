@@ -19,7 +19,7 @@ use Rattle.command_line.specs.declared.errors.WordsFault.{WordsFault}
 use Rattle.command_line.specs.declared.job.Asked.{Asked}
 use Rattle.command_line.specs.declared.job.Asked.TheVariants.{Perform}
 use Rattle.clubdesk_commands.specs.Order.{order_bytes}
-use Rattle.clubdesk_commands.specs.Output.{EndsWork, Output}
+use Rattle.clubdesk_commands.specs.Output.{EndsWork, Stream}
 use Rattle.clubdesk_commands.specs.Run.{Announces, IsHandedOver, IsReply, Serves}
 use Rattle.clubdesk_commands.specs.Run as spec
 
@@ -49,7 +49,7 @@ pub not_opened : (Unwritten : Type 0) (fault : StoreFault) (result : Result Unit
 not_opened Unwritten store.Memory result is kept = rw is (tt, inr (inr kept))
 not_opened Unwritten store.Storage result is kept = rw is (tt, inr (inr kept))
 
-announces_well : (port : ℕ) (written : Output) (result : Result Unit Fault) → Announces port written result → EndsWork written.no_change result
+announces_well : (port : ℕ) (written : Stream) (result : Result Unit Fault) → Announces port written result → EndsWork written.no_change result
 announces_well port written (Ok done) wrote = tt
 announces_well port written (Err InputOutput) wrote = (tt, inr (inl refl))
 announces_well port written (Err ClockOutOfRange) wrote = (tt, inl refl)
@@ -57,7 +57,7 @@ announces_well port written (Err Memory) wrote = (tt, inr (inr wrote))
 announces_well port written (Err fault) wrote = absurd wrote
 
 pub serves_well : {D S R V : Type 0} (databases : DatabasesWords D S R V) (visits : VisitWords V) (stores : StoreWords S) (file : Text) (old new : D)
-    (written : Output) (result : Result Unit Fault) (service : Service) (Noted : List Turn → Type 0)
+    (written : Stream) (result : Result Unit Fault) (service : Service) (Noted : List Turn → Type 0)
     → Serves databases visits stores file service old new written Noted result → EndsWork written.no_change result
 serves_well _ _ _ _ _ _ written result service Noted (spec.not_opened fault opens is kept nothing) = not_opened written.no_change fault result is kept
 serves_well _ _ _ _ _ _ written result service Noted (spec.no_door fault store between opens closes is kept nothing) =

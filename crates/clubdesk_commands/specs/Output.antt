@@ -8,25 +8,15 @@ use Rattle.desk_server.specs.declared.log.Log.{Ghosts as LogWords}
 use Rattle.clubdesk_arguments.specs.declared.fault.Fault.{Fault}
 use Rattle.clubdesk_arguments.specs.declared.fault.Fault.TheVariants.{Words, BadValue, ClockOutOfRange, InputOutput}
 
--- a writer before and after: the bytes that it holds, if they are known, and the statement that it is unchanged
-pub record Output : Type 1 where
+-- a reader or a writer before and after: the bytes that it has left or holds, if they are known, and the statement that it is unchanged
+pub record Stream : Type 1 where
   pub before : Option (List ℕ)
   pub after : Option (List ℕ)
   pub no_change : Type 0
 
--- the output of a writer whose trait knows its bytes
-abbrev pub output : {W : Type 0} → (W → Option (List ℕ)) → W → W → Output
-output contents old new = record { before = contents old; after = contents new; no_change = new ≡ old }
-
--- a reader before and after: the bytes that it has left, if they are known, and the statement that it is unchanged
-pub record Input : Type 1 where
-  pub before : Option (List ℕ)
-  pub after : Option (List ℕ)
-  pub no_change : Type 0
-
--- the input of a reader whose trait knows its bytes
-abbrev pub input : {R : Type 0} → (R → Option (List ℕ)) → R → R → Input
-input remaining old new = record { before = remaining old; after = remaining new; no_change = new ≡ old }
+-- one whose trait knows its bytes
+abbrev pub stream : {S : Type 0} → (S → Option (List ℕ)) → S → S → Stream
+stream bytes old new = record { before = bytes old; after = bytes new; no_change = new ≡ old }
 
 -- a log before and after: what it notes of connections, and the statement that it is unchanged
 pub record LogChange : Type 1 where
@@ -37,7 +27,7 @@ abbrev pub log_change : {L : Type 0} → LogWords L → L → L → LogChange
 log_change log old new = record { notes = λ turns. AreNoted log.begins log.notes old turns new; no_change = new ≡ old }
 
 -- the whole text was written, or, if the writer failed, a prefix of it
-abbrev pub WritesText : List ℕ → Output → Result Unit Fault → Type 0
+abbrev pub WritesText : List ℕ → Stream → Result Unit Fault → Type 0
 WritesText text written (Ok done) = Appends written.before written.after text
 WritesText text written (Err InputOutput) = AppendsFront written.before written.after text
 WritesText text written (Err fault) = ⊥
@@ -48,7 +38,7 @@ text_of (Ok text) = Ok (string_bytes text)
 text_of (Err fault) = Err fault
 
 -- the text of an answer was written; or it is a fault, which is the result, and nothing was written
-abbrev pub Prints : Result (List ℕ) Fault → Output → Result Unit Fault → Type 0
+abbrev pub Prints : Result (List ℕ) Fault → Stream → Result Unit Fault → Type 0
 Prints (Ok text) written result = WritesText text written result
 Prints (Err fault) written result = (result ≡ Err fault) × written.no_change
 

@@ -14,7 +14,7 @@ use Rattle.command_line.specs.Output.{AppendsFront}
 use Rattle.command_line.specs.declared.errors.WordsFault.{WordsFault}
 use Rattle.command_line.specs.declared.job.Asked.TheVariants.{ShowText}
 use Rattle.desk_server.specs.Databases.{Giving}
-use Rattle.desk_server.specs.Served.{AreServed, Ends, IsStopped, Turn, clients_in}
+use Rattle.desk_server.specs.Served.{Ends, Turn}
 use Rattle.desk_server.specs.Served as served
 use Rattle.desk_server.specs.declared.databases.Databases.{Ghosts as DatabasesWords}
 use Rattle.desk_server.specs.declared.databases.Reached.TheVariants.{Opened, Served}
@@ -36,36 +36,31 @@ use Rattle.clubdesk_commands.specs.Moments.{showing}
 use Rattle.clubdesk_commands.specs.Machine.{machine_answers, machine_orders}
 use Rattle.clubdesk_commands.specs.OfficeDesk.{Orders}
 use Rattle.clubdesk_commands.specs.Order.{order_bytes}
-use Rattle.clubdesk_commands.specs.Output.{EndsWork, Input, LogChange, Output, Prints}
+use Rattle.clubdesk_commands.specs.Output.{EndsWork, LogChange, Prints, Stream}
 
 -- ---- the server
 
 -- an exchange over a socket may have any outcome: no contract states which bytes a socket gives or takes
-abbrev pub over_socket : Ends (Unit {0})
-over_socket socket outcome = Unit {0}
+abbrev pub over_socket : Ends
+over_socket outcome = Unit {0}
 
 -- what arrived was noted, if a log is asked for
 abbrev pub IfLogged : Service → (List Turn → Type 0) → List Turn → Type 0
 IfLogged service Noted turns = service.log ≡ true → Noted turns
 
--- How a server ends: so many clients were served, at moments of its clock, and the orders that came before them and meanwhile; or the clock
--- gave no moment at one of them. Its log noted the turns of all. Or it couldn't listen or write its address, and served and noted nothing.
-abbrev pub RunsServer : {Desk : Type 0} → (ℕ → AnswerRelation Desk) → served.Orders Desk → Service → Desk → Desk → (List Turn → Type 0)
-    → Result Unit Fault → Type 0
-RunsServer Answers Carries service old new Noted (Ok done) =
-    (turns : List Turn) × (last : Clock) × (failures : ℕ) × (clients_in turns ≡ service.count)
-    × AreServed showing Answers Carries over_socket service.clock old 0 turns last new failures × IfLogged service Noted turns
-RunsServer Answers Carries service old new Noted (Err ClockOutOfRange) =
-    (last : Clock) × (failures : ℕ)
-    × IsStopped showing Answers Carries over_socket service.count service.clock old 0 last new failures (IfLogged service Noted)
-RunsServer Answers Carries service old new Noted (Err Memory) = (new ≡ old) × Noted []
-RunsServer Answers Carries service old new Noted (Err InputOutput) = (new ≡ old) × Noted []
-RunsServer Answers Carries service old new Noted (Err fault) = ⊥
-
 -- the outcome of a server that listened
 abbrev pub outcome_of_server : Result Unit ClockFault → Result Unit Fault
 outcome_of_server (Ok done) = Ok done
 outcome_of_server (Err stopped) = Err ClockOutOfRange
+
+-- How a server ends: so many clients were served, at moments of its clock, and the orders that came before them and meanwhile; or the clock
+-- gave no moment at one of them. Its log noted the turns of all. Or it couldn't listen or write its address, and served and noted nothing.
+pub data RunsServer {Desk : Type 0} (Answers : ℕ → AnswerRelation Desk) (Carries : served.Orders Desk) (service : Service) (old new : Desk)
+    (Noted : List Turn → Type 0) (result : Result Unit Fault) : Type 0 where
+  listened : (outcome : Result Unit ClockFault) (last : Clock) (failures : ℕ) → result ≡ outcome_of_server outcome
+      → served.Serves showing Answers Carries over_socket service.count service.clock old 0 outcome last new failures (IfLogged service Noted)
+      → RunsServer Answers Carries service old new Noted result
+  not_listened : (result ≡ Err Memory) ⊎ (result ≡ Err InputOutput) → new ≡ old → Noted [] → RunsServer Answers Carries service old new Noted result
 
 -- the line of a server that listens at a port of the loopback address
 abbrev pub listening_line : ℕ → List ℕ
@@ -76,18 +71,18 @@ abbrev pub IsPortFor : ℕ → ℕ → Type 0
 IsPortFor asked port = (port ≤ 65_535) × ((asked ≡ 0) ⊎ (port ≡ asked))
 
 -- a server that listens wrote its address, and nothing else
-abbrev pub IsAnnounced : ℕ → Output → Type 0
+abbrev pub IsAnnounced : ℕ → Stream → Type 0
 IsAnnounced asked written = (port : ℕ) × IsPortFor asked port × Appends written.before written.after (listening_line port)
 
 -- a server that doesn't listen wrote nothing, or, if the writer failed, a prefix of the line
-abbrev pub StopsBefore : ℕ → Output → Fault → Type 0
+abbrev pub StopsBefore : ℕ → Stream → Fault → Type 0
 StopsBefore asked written InputOutput =
     written.no_change ⊎ ((port : ℕ) × IsPortFor asked port × AppendsFront written.before written.after (listening_line port))
 StopsBefore asked written Memory = written.no_change
 StopsBefore asked written fault = ⊥
 
 -- what a server writes at its start
-abbrev pub Announces : ℕ → Output → Result Unit Fault → Type 0
+abbrev pub Announces : ℕ → Stream → Result Unit Fault → Type 0
 Announces asked written (Ok done) = IsAnnounced asked written
 Announces asked written (Err ClockOutOfRange) = IsAnnounced asked written
 Announces asked written (Err fault) = StopsBefore asked written fault
@@ -127,7 +122,7 @@ module _ {D S R V : Type 0} (databases : DatabasesWords D S R V) (visits : Visit
   -- A task of the office over the database of a name. It was handed to the server of the database, in the words of the run and with the
   -- task's root, and the reply was written; or the database was opened, the task was done, the database closed and the answer written. Or
   -- the database couldn't be reached.
-  pub data Performs (words : List Text) (file : Text) (task : Task) (old new : D) (written : Output) (result : Result Unit Fault) : Type 0 where
+  pub data Performs (words : List Text) (file : Text) (task : Task) (old new : D) (written : Stream) (result : Result Unit Fault) : Type 0 where
     not_reached : (fault : StoreFault) → databases.reaches old file (Err fault) new → result ≡ Err (fault_of_opening fault) → written.no_change
         → Performs words file task old new written result
     task_done : (answer : Result (List ℕ) Fault) (store left : S) (between : D) → databases.reaches old file (Ok (Opened store)) between
@@ -139,7 +134,7 @@ module _ {D S R V : Type 0} (databases : DatabasesWords D S R V) (visits : Visit
 
   -- A server over the database of a name, which it opened. It served clients and carried out orders at the one desk over that store, and
   -- closed it at the end; or the database has no door, and was closed; or it couldn't be opened.
-  pub data Serves (file : Text) (service : Service) (old new : D) (written : Output) (Noted : List Turn → Type 0) (result : Result Unit Fault) : Type 0 where
+  pub data Serves (file : Text) (service : Service) (old new : D) (written : Stream) (Noted : List Turn → Type 0) (result : Result Unit Fault) : Type 0 where
     not_opened : (fault : StoreFault) → databases.opens old file (Err fault) new → result ≡ Err (fault_of_opening fault) → written.no_change → Noted []
         → Serves file service old new written Noted result
     no_door : (fault : StoreFault) (store : S) (between : D) → databases.opens old file (Ok store) between → databases.closes between store new
@@ -151,7 +146,7 @@ module _ {D S R V : Type 0} (databases : DatabasesWords D S R V) (visits : Visit
         → databases.closes between left new → Serves file service old new written Noted result
 
   -- What a run on these words did.
-  pub data Runs (words : List Text) (given : Input) (old new : D) (written : Output) (log : LogChange) (result : Result Unit Fault) : Type 0 where
+  pub data Runs (words : List Text) (given : Stream) (old new : D) (written : Stream) (log : LogChange) (result : Result Unit Fault) : Type 0 where
     -- They have a fault, or memory was refused, and nothing was done.
     words_refused : (fault : WordsFault Unit) → ReadsWords words (Err fault) → result ≡ Err (of_words fault) → given.no_change → new ≡ old
         → written.no_change → log.no_change → Runs words given old new written log result

@@ -2,8 +2,8 @@
 
 ghost use Rattle.std.specs.Prelude.{◌≡◌, IfErr, IfOk, map};
 ghost use Rattle.clubdesk_commands.specs.Order.{order_bytes};
-ghost use Rattle.clubdesk_commands.specs.Output.{EndsWork, IsWorkFault, Prints, input, log_change};
-ghost use Rattle.clubdesk_commands.specs.Output.{output, text_of};
+ghost use Rattle.clubdesk_commands.specs.Output.{EndsWork, IsWorkFault, Prints, log_change};
+ghost use Rattle.clubdesk_commands.specs.Output.{stream, text_of};
 ghost use Rattle.clubdesk_commands.specs.Run as spec;
 
 use crate::input::read_root;
@@ -45,8 +45,8 @@ pub fn run<C: Clock, D: Databases, S: AsStr, R: Read, W: Write, G: Log>(
     log: &mut G,
 ) -> Result<(), Fault>
     ensures { spec.Runs D.Databases D.Visit.Visit D.Store.ClubStore (map S.text words.now)
-        (input R.remaining reader.old reader.new) databases.old databases.new
-        (output W.contents writer.old writer.new) (log_change G.Log log.old log.new) result }
+        (stream R.remaining reader.old reader.new) databases.old databases.new
+        (stream W.contents writer.old writer.new) (log_change G.Log log.old log.new) result }
 {
     let job: Job<'_> = match read_job(rt.alloc(), words) {
         Ok(Asked::Perform(job)) => job,
@@ -80,7 +80,7 @@ fn perform<C: Clock, D: Databases, S: AsStr, W: Write>(
 ) -> Result<(), Fault>
     ensures performs { spec.Performs D.Databases D.Visit.Visit D.Store.ClubStore
         (map S.text words.now) file.now task.entry databases.old databases.new
-        (output W.contents writer.old writer.new) result }
+        (stream W.contents writer.old writer.new) result }
     ensures ends { EndsWork (writer.new ≡ writer.old) result }
 {
     match databases.reach(file) {
@@ -134,7 +134,7 @@ fn order_of<S: AsStr>(alloc: Global, words: &[S], task: &Task<'_>) -> Result<Vec
 
 // Writes the answer to a task.
 fn print<W: Write>(answer: Result<String, Fault>, writer: &mut W) -> Result<(), Fault>
-    ensures prints { Prints (text_of answer) (output W.contents writer.old writer.new) result }
+    ensures prints { Prints (text_of answer) (stream W.contents writer.old writer.new) result }
     ensures ends { IfErr answer IsWorkFault → EndsWork (writer.new ≡ writer.old) result }
 {
     match answer {

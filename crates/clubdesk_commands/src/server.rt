@@ -2,7 +2,7 @@
 
 ghost use Rattle.std.specs.Prelude.{◌≡◌, IfOk, MatchResult, false};
 ghost use Rattle.desk_server.specs.Served.{AreNoted};
-ghost use Rattle.clubdesk_commands.specs.Output.{output};
+ghost use Rattle.clubdesk_commands.specs.Output.{stream};
 ghost use Rattle.clubdesk_commands.specs.Run as spec;
 
 use crate::moments::MomentsOf;
@@ -11,7 +11,7 @@ use club_http::Face;
 use clubdesk_arguments::{Fault, Service};
 use command_line::write_text;
 use desk_server::{
-    ClockOutOfRange, Databases, Door, Listening, Log, Office, serve_logged, serve_on,
+    ClockOutOfRange, Databases, Door, Listening, Log, Office, Unlogged, serve_logged,
 };
 use std::io::Write;
 use std::net::TcpListener;
@@ -39,7 +39,7 @@ pub fn serve_file<C: time::Clock, D: Databases, W: Write, G: Log>(
     log: &mut G,
 ) -> Result<(), Fault>
     ensures done { spec.Serves D.Databases D.Visit.Visit D.Store.ClubStore file.now service.entry
-        databases.old databases.new (output W.contents writer.old writer.new)
+        databases.old databases.new (stream W.contents writer.old writer.new)
         (λ turns. AreNoted G.begins G.notes log.old turns log.new) result }
     ensures unlogged { service.entry.log ≡ false → log.new ≡ log.old }
 {
@@ -90,7 +90,7 @@ pub fn serve<D: Office, C: time::Clock, W: Write, G: Log>(
     ensures served { spec.RunsServer D.answers D.orders service.entry
         desk.old desk.new (λ turns. AreNoted G.begins G.notes log.old turns log.new) result }
     ensures announced { spec.Announces service.entry.port
-        (output W.contents writer.old writer.new) result }
+        (stream W.contents writer.old writer.new) result }
     ensures unlogged { service.entry.log ≡ false → log.new ≡ log.old }
 {
     let (listener, mut face) = match listen(rt, service.port, writer) {
@@ -110,7 +110,8 @@ pub fn serve<D: Office, C: time::Clock, W: Write, G: Log>(
     if logs {
         outcome_of(serve_logged(&mut arrivals, count, &mut moments, &mut face, desk, log))
     } else {
-        outcome_of(serve_on(&mut arrivals, count, &mut moments, &mut face, desk))
+        let none = &mut Unlogged;
+        outcome_of(serve_logged(&mut arrivals, count, &mut moments, &mut face, desk, none))
     }
 }
 
@@ -121,8 +122,8 @@ fn listen<W: Write>(
     writer: &mut W,
 ) -> Result<(TcpListener, Face), Fault>
     ensures { MatchResult result
-        (λ _. spec.IsAnnounced port (output W.contents writer.old writer.new))
-        (spec.StopsBefore port (output W.contents writer.old writer.new)) }
+        (λ _. spec.IsAnnounced port (stream W.contents writer.old writer.new))
+        (spec.StopsBefore port (stream W.contents writer.old writer.new)) }
 {
     let alloc = rt.alloc();
     let Ok((listener, port)) = bind(rt, port) else {

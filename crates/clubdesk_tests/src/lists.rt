@@ -11,7 +11,7 @@ use club_rows::Root;
 use club_store::Store;
 use club_values::{Moment, Name, Slot};
 use clubdesk_commands::{OfficeDesk, order_bytes};
-use desk_server::serve_on;
+use desk_server::{Unlogged, serve_logged};
 use http_response::{MAX_REPLY_LEN, reply_bytes};
 use pass_forms::{Form, Pass, narrow};
 use pass_json::write_any;
@@ -335,7 +335,8 @@ fn serve_plan<S: ClubStore, C: Clock>(
     let mut queue = Queue::new(plan.arriving.as_slice(), &written);
     let mut moments = Given::new(plan.moments.as_slice());
     let mut face = Face::new(rt.alloc()).expect(rt, "a face");
-    let served = serve_on(&mut queue, plan.clients, &mut moments, &mut face, desk);
+    let clients = plan.clients;
+    let served = serve_logged(&mut queue, clients, &mut moments, &mut face, desk, &mut Unlogged);
     expect_eq(rt, &served.is_ok(), &true);
     let written = written.bytes(rt.alloc());
     let written = str::from_utf8(written.as_slice());

@@ -11,8 +11,8 @@ clients_more : (turns : List Turn) (turn : Turn) → clients_in (turns ++ turn �
 clients_more [] turn = omega arith
 clients_more (first ∷ turns) turn = omega (arith, clients_more turns turn)
 
-module _ {Clock Desk Connection Source Log : Type 0} (Gives : GivesMoment Clock) (Answers : ℕ → AnswerRelation Desk) (Carries : Orders Desk)
-    (Ended : Ends Connection) (waited failures : Source → ℕ) (Begins : Log → Log → Type 0) (Noted : Notes Log) where
+module _ {Clock Desk Source Log : Type 0} (Gives : GivesMoment Clock) (Answers : ℕ → AnswerRelation Desk) (Carries : Orders Desk)
+    (Ended : Ends) (waited failures : Source → ℕ) (Begins : Log → Log → Type 0) (Noted : Notes Log) where
   -- the turns so far: so many are clients', and at least so many are orders
   pub record SoFar (clients orders : ℕ) (s s' : Source) (c : Clock) (d : Desk) (l : Log) (c' : Clock) (d' : Desk) (l' : Log) : Type 0 where
     pub turns : List Turn
@@ -22,8 +22,8 @@ module _ {Clock Desk Connection Source Log : Type 0} (Gives : GivesMoment Clock)
     pub noted : AreNoted Begins Noted l turns l'
     pub called : CountsOn (waited s) (length turns) (waited s')
 
-module _ {Clock Desk Connection Source Log : Type 0} {Gives : GivesMoment Clock} {Answers : ℕ → AnswerRelation Desk} {Carries : Orders Desk}
-    {Ended : Ends Connection} {waited failures : Source → ℕ} {Begins : Log → Log → Type 0} {Noted : Notes Log} {clients orders : ℕ} {s s1 : Source}
+module _ {Clock Desk Source Log : Type 0} {Gives : GivesMoment Clock} {Answers : ℕ → AnswerRelation Desk} {Carries : Orders Desk}
+    {Ended : Ends} {waited failures : Source → ℕ} {Begins : Log → Log → Type 0} {Noted : Notes Log} {clients orders : ℕ} {s s1 : Source}
     {c c1 : Clock} {d d1 : Desk} {l l1 : Log} (first : SoFar Gives Answers Carries Ended waited failures Begins Noted clients orders s s1 c d l c1 d1 l1) where
   -- one turn more
   pub one_more : (turn : Turn) (clients' orders' : ℕ) (s' : Source) (c' : Clock) (d' : Desk) (l' : Log) → clients' ≡ clients + client_in turn.fate

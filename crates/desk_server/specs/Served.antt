@@ -1,6 +1,6 @@
 -- A server: it serves what arrives, clients and orders of the office, one after the other, and orders also while a client's request is awaited
 -- (ours).
-use Rattle.std.specs.Prelude.{◌≡◌, ℕ, suc, ◌+◌, ◌^◌, ◌<◌, ◌≤◌, length, List, [], ◌∷◌, ◌++◌, take, Option, Some, None, Result, Ok, Err}
+use Rattle.std.specs.Prelude.{◌≡◌, ℕ, suc, ◌+◌, ◌^◌, ◌<◌, ◌≤◌, length, List, [], ◌∷◌, ◌++◌, take, Option, Some, None, Result, MatchResult}
 use Rattle.std.specs.Io.KnownBytes.{Appends}
 use Rattle.std.specs.String.{string_bytes}
 use Rattle.club_clock.specs.Moments.{GivesMoment}
@@ -24,8 +24,8 @@ abbrev pub Orders : Type 0 → Type 1
 Orders Desk = List ℕ → Desk → Answer → Desk → Type 0
 
 -- the outcomes that an exchange with a connection may have
-abbrev pub Ends : Type 0 → Type 1
-Ends Connection = Connection → Result Reply AnswerFault → Type 0
+abbrev pub Ends : Type 1
+Ends = Result Reply AnswerFault → Type 0
 
 -- What an exchange with this outcome did to the desk: the reply, written or not, is the desk's to the bytes that were read. If the reader
 -- failed, the desk is unchanged.
@@ -90,8 +90,7 @@ module _ {Clock Desk : Type 0} (Gives : GivesMoment Clock) (Carries : Orders Des
         → AreOrdered clock desk fates c d → Gives c moment c' → IsCarriedOut Carries d carried d'
         → AreOrdered clock desk (fates ++ Ordered moment carried ∷ []) c' d'
 
-module _ {Clock Desk Connection : Type 0} (Gives : GivesMoment Clock) (Answers : ℕ → AnswerRelation Desk) (Carries : Orders Desk)
-    (Ended : Ends Connection) where
+module _ {Clock Desk : Type 0} (Gives : GivesMoment Clock) (Answers : ℕ → AnswerRelation Desk) (Carries : Orders Desk) (Ended : Ends) where
   -- What a client did to the clock and the desk: the clock gave its moment, orders were carried out meanwhile, each at a moment of its own, and
   -- then it had an exchange with the desk as these had left it, with an outcome that such a connection may have.
   pub record IsAttended (meanwhile : List Fate) (moment : ℕ) (line : List ℕ) (outcome : Result Reply AnswerFault) (clock : Clock) (desk : Desk)
@@ -101,7 +100,7 @@ module _ {Clock Desk Connection : Type 0} (Gives : GivesMoment Clock) (Answers :
     pub gives : Gives clock (Some moment) given
     pub ordered : AreOrdered Gives Carries given desk meanwhile clock' left
     pub exchanged : (bytes : List ℕ) × (line ≡ take 96 bytes) × IsExchanged (Answers moment) bytes left outcome desk'
-    pub ended : (connection : Connection) × Ended connection outcome
+    pub ended : Ended outcome
 
   -- What one arrival did to the clock, the desk and the count of failed calls. If waiting failed, only the count grew. An order is carried out,
   -- whether or not the clock gives a moment. Only a client has orders meanwhile. At an overrun one client counts that never came.
@@ -123,22 +122,18 @@ module _ {Clock Desk Connection : Type 0} (Gives : GivesMoment Clock) (Answers :
         → AreServed clock desk failures turns c d f → IsDue turns turn.fate → ServesOne c d f turn.meanwhile turn.fate c' d' f'
         → AreServed clock desk failures (turns ++ turn ∷ []) c' d' f'
 
-  -- The server stopped early, at a client for whom the clock gave no moment.
-  pub record IsStopped (count : ℕ) (clock : Clock) (desk : Desk) (failures : ℕ) (clock' : Clock) (desk' : Desk) (failures' : ℕ)
-      (Besides : List Turn → Type 0) : Type 0 where
+  -- How a server of so many clients ends: it served all; or it stopped at one for whom the clock gave no moment. `Besides` holds for the turns of
+  -- all that it waited for.
+  pub record Serves (count : ℕ) (clock : Clock) (desk : Desk) (failures : ℕ) (outcome : Result Unit ClockOutOfRange) (clock' : Clock) (desk' : Desk)
+      (failures' : ℕ) (Besides : List Turn → Type 0) : Type 0 where
     pub turns : List Turn
     pub last : Clock
-    pub fewer : clients_in turns < count
     pub before : AreServed clock desk failures turns last desk' failures'
-    pub no_moment : Gives last None clock'
-    pub besides : Besides (turns ++ alone Unanswered ∷ [])
-
-  -- How a server of so many clients ends; `Besides` holds for the turns of all that it waited for.
-  abbrev pub Serves : ℕ → Clock → Desk → ℕ → Result Unit ClockOutOfRange → Clock → Desk → ℕ → (List Turn → Type 0) → Type 0
-  Serves count clock desk failures (Ok done) clock' desk' failures' Besides =
-      (turns : List Turn) × (clients_in turns ≡ count) × AreServed clock desk failures turns clock' desk' failures' × Besides turns
-  Serves count clock desk failures (Err stopped) clock' desk' failures' Besides =
-      IsStopped count clock desk failures clock' desk' failures' Besides
+    pub all : List Turn
+    pub ends : MatchResult outcome
+        (λ done. (clients_in turns ≡ count) × (clock' ≡ last) × (all ≡ turns))
+        (λ stopped. (clients_in turns < count) × Gives last None clock' × (all ≡ turns ++ alone Unanswered ∷ []))
+    pub besides : Besides all
 
 -- ---- the log
 

@@ -16,8 +16,8 @@ use std::time::Duration;
 pub trait Connection {
     ghost use Rattle.desk_server.specs.Served.{Ends, ExchangesBetween};
 
-    // the outcomes that an exchange with it may have
-    ghost ends: { Ends Self };
+    // the outcomes that an exchange may have
+    ghost ends: { Ends };
 
     /// One exchange with the desk, at a moment. While the request is awaited, orders are carried
     /// out and logged, each at a moment of its own; then the desk changed as the returned outcome
@@ -36,7 +36,7 @@ pub trait Connection {
     ) -> Result<Reply, AnswerFault>
         ensures exchanged { ExchangesBetween M.gives D.orders G.begins G.notes (D.answers moment)
             face.new moments.old desk.old log.old result moments.new desk.new log.new }
-        ensures ended { ends self.old result };
+        ensures ended { ends result };
 }
 
 /// A connection that a listener accepted. The client has the patience for its request, the same
@@ -110,7 +110,7 @@ impl<S: ClientStream, C: MonotonicClock> Waits for Awaited<'_, '_, '_, S, C> {
 /// An exchange as `club_http::answer` makes it, over a socket, but that orders are carried out
 /// while the request is awaited. No contract states which bytes a socket gives or takes.
 impl<S: ClientStream, C: MonotonicClock> Connection for Accepted<'_, S, C> {
-    ghost ends = { λ _ _. Unit {0} };
+    ghost ends = { λ _. Unit {0} };
 
     fn exchange<M: Moments, D: Office, G: Log>(
         &mut self,

@@ -26,6 +26,6 @@ pub use listening::Listening;
 pub use log::{Fate, Log, LogLines, Unlogged};
 pub use office::{Answer, Carried, Office};
 pub use request_line::{MAX_KEPT, RequestLine};
-pub use serve::{ClockOutOfRange, serve_logged, serve_on};
+pub use serve::{ClockOutOfRange, serve_logged};
 pub use stream::{ClientSocket, ClientStream, Woken};
 pub use timed::{MAX_REST, TimedInlet, TimedOutlet, TimedStream, Waited};

@@ -1,10 +1,10 @@
 //! The server.
 
-ghost use Rattle.desk_server.specs.Server.{ServesLogged, ServesOn, calls};
+ghost use Rattle.desk_server.specs.Server.{ServesLogged};
 
 use crate::between::carry_out;
 use crate::connections::{Arrival, Arrivals, Connection};
-use crate::log::{Fate, Log, Unlogged};
+use crate::log::{Fate, Log};
 use crate::office::Office;
 use crate::request_line::RequestLine;
 use club_clock::Moments;
@@ -31,32 +31,13 @@ impl Error for ClockOutOfRange {}
 /// Serves this many clients, one after the other, and carries out each order of the office that
 /// comes before one of them, or while its request is awaited. A client gets the moment of the clock
 /// at its start. One that fails, on its way or in its exchange, counts like any other, and so does
-/// one whose request was refused. Orders don't count.
+/// one whose request was refused. Orders don't count. Each client and each order is logged, which
+/// changes nothing of what is served.
 ///
 /// # Errors
 ///
 /// `ClockOutOfRange` if the clock shows no moment of the club's. The client's connection is closed
 /// unanswered, and the server accepts no other.
-pub fn serve_on<L: Arrivals, M: Moments, D: Office>(
-    arrivals: &mut L,
-    count: u32,
-    moments: &mut M,
-    face: &mut Face,
-    desk: &mut D,
-) -> Result<(), ClockOutOfRange>
-    ensures { ServesOn M.gives D.answers D.orders L.Client.ends count
-        (calls L.waited L.failures arrivals.old arrivals.new)
-        moments.old desk.old result moments.new desk.new }
-{
-    serve_logged(arrivals, count, moments, face, desk, &mut Unlogged)
-}
-
-/// Serves as `serve_on`, and logs each client and each order. The log changes nothing of what is
-/// served.
-///
-/// # Errors
-///
-/// As `serve_on`.
 pub fn serve_logged<L: Arrivals, M: Moments, D: Office, G: Log>(
     arrivals: &mut L,
     count: u32,
@@ -65,9 +46,9 @@ pub fn serve_logged<L: Arrivals, M: Moments, D: Office, G: Log>(
     desk: &mut D,
     log: &mut G,
 ) -> Result<(), ClockOutOfRange>
-    ensures { ServesLogged M.gives G.begins G.notes D.answers D.orders L.Client.ends count
-        (calls L.waited L.failures arrivals.old arrivals.new)
-        moments.old desk.old log.old result moments.new desk.new log.new }
+    ensures { ServesLogged M.gives G.begins G.notes D.answers D.orders L.Client.ends
+        L.waited L.failures count arrivals.old moments.old desk.old log.old
+        result arrivals.new moments.new desk.new log.new }
 {
     let mut served = 0;
     let mut ordered = 0;

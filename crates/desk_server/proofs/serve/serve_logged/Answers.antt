@@ -1,4 +1,4 @@
-use Rattle.std.proofs.Common.{◌≤◌, ◌^◌, ◌∷◌, suc, [], length, length-append, arith, refl}
+use Rattle.std.proofs.Common.{◌≤◌, ◌^◌, ◌∷◌, ◌++◌, suc, [], length, length-append, arith, refl}
 use Rattle.desk_server.specs.Served as spec
 use Rattle.desk_server.specs.Served.{alone}
 use Rattle.desk_server.specs.declared.log.Fate.TheVariants.{Absent, Overrun, Unanswered, Exchanged, Ordered}
@@ -48,7 +48,7 @@ loop-served-preserved-in-Client g c =
           gives = c.in-Some.ensures;
           ordered = exchange.meanwhile.ordered;
           exchanged = (c.request.result.now, c.of-line.ensures, rw (← c.request.ensures) at exchange.exchanged);
-          ended = (c.in-Client.client, c.exchange-outcome.ensures.ended);
+          ended = c.exchange-outcome.ensures.ended;
         },
       )
           (record {
@@ -77,9 +77,9 @@ returns-in_default g c =
     record {
       turns = so_far.turns;
       last = c.loop-served.moments;
-      fewer = omega (arith, so_far.so_many);
       before = rw next.failure_count so_far.served;
-      no_moment = c.in_default.ensures;
+      all = so_far.turns ++ alone Unanswered ∷ [];
+      ends = (omega (arith, so_far.so_many), c.in_default.ensures, refl);
       besides = (
         rw (length-append so_far.turns (alone Unanswered ∷ [])) (one_call so_far _ next.waited),
         spec.one_noted so_far.turns (alone Unanswered) _ _ so_far.noted (noted_alone _ Unanswered c.begin.ensures c.note-in_default.ensures),
