@@ -76,24 +76,15 @@ module _ (names : ReadsNames) (days : ReadsDays) (texts : IsTextOfDay) (hours : 
   unfolding number_of_text
   number_found n h =
       let found : decimal_of_text (decimal n) ≡ Some n = (numbers (decimal n) n).1 (record { spelling = refl; within = h.1 }) in
-      ap (λ (o : Option ℕ). o >>= within_limits) found ∙ within n h
+      rw (found, within n h) refl
 
   slot_found : (slot : Slot) → IsSlot slot → slot_of_parts slot.facility (day_text slot.day) (two_digits slot.hour) ≡ Some slot
   unfolding slot_of_parts
-  slot_found slot h =
-      let at_hour : List ℕ → ℕ → Option ℕ → Option Slot =
-      λ facility day o. o >>= (λ (hour : ℕ). Some (record { facility = facility; day = day; hour = hour }))
-      in
-      let at_day : List ℕ → Option ℕ → Option Slot = λ facility o. o >>= (λ (day : ℕ). at_hour facility day (hour_of_text (two_digits slot.hour))) in
-      let at_name : Option (List ℕ) → Option Slot = λ o. o >>= (λ (facility : List ℕ). at_day facility (day_of_text (day_text slot.day))) in
-      ap at_name (name_found slot.facility h.facility)
-      ∙ (ap (at_day slot.facility) (day_found slot.day h.day) ∙ ap (at_hour slot.facility slot.day) (hour_found slot.hour h.hour))
+  slot_found slot h = rw (name_found slot.facility h.facility, day_found slot.day h.day, hour_found slot.hour h.hour) refl
 
   place_found : (place : Place) → HasRealValues place → under_root (place_parts place) ≡ Some place
-  place_found (SlotPlace slot) h = ap (λ (o : Option Slot). o >>= (λ (s : Slot). at_slot s [])) (slot_found slot h)
-  place_found (BookingPlace slot n) h =
-      ap (λ (o : Option Slot). o >>= (λ (s : Slot). at_slot s (codes "bookings" ∷ decimal n ∷ []))) (slot_found slot h.0)
-      ∙ ap (λ (o : Option ℕ). option_map (λ (k : ℕ). BookingPlace slot k) o) (number_found n h.1)
+  place_found (SlotPlace slot) h = rw (slot_found slot h) refl
+  place_found (BookingPlace slot n) h = rw (slot_found slot h.0, number_found n h.1) refl
   place_found AccountPlace h = refl
 
   -- ---- from what is computed to the values

@@ -1,5 +1,5 @@
 -- What is base64 of which bytes, and the engine that takes it off.
-use Rattle.std.proofs.Common.{◌≡◌, ℕ, ◌==◌, not, Bool, true, false, List, [], ◌∷◌, ◌++◌, drop, refl, sym, ap, ◌∙◌, inl, inr}
+use Rattle.std.proofs.Common.{◌≡◌, ℕ, ◌==◌, not, Bool, true, false, List, [], ◌∷◌, ◌++◌, drop, map, refl, sym, ◌∙◌, inl, inr}
 use Rattle.std.proofs.lemmas.Bool.Decides.{Decides-eqb}
 use Rattle.std.proofs.lemmas.Slice.Eq.{starts_is}
 use Rattle.std.specs.List.{list_all}
@@ -9,13 +9,16 @@ use Rattle.std.specs.declared.result.Result.{Result}
 use Rattle.std.specs.declared.result.Result.TheVariants.{Ok, Err}
 use Rattle.base64.specs.Engines.{standard, standard_no_pad, url_safe}
 use Rattle.base64.specs.GeneralPurpose.{IsBytes, IsConsistent, IsStrict, decode_of, decoded_of, encode_of, engine_symbols}
-use Rattle.base64.specs.Rfc4648.{encode_symbols}
+use Rattle.base64.specs.Rfc4648.{encode}
+use Rattle.base64.specs.Decode.{decoded_bytes}
+use Rattle.base64.specs.declared.engine.DecodePaddingMode.TheVariants.{Indifferent}
+use Rattle.base64.proofs.RoundTrip.{decode-encode}
 use Rattle.base64.specs.declared.decode.DecodeError.{DecodeError}
 use Rattle.base64.specs.declared.engine.general_purpose.GeneralPurpose.{GeneralPurpose}
 use Rattle.base64.proofs.EngineFacts.{decode_of-encode_of, decode_of_strict}
 use Rattle.pass_forms.specs.Envelope.{IsBase64, starts_with_brace}
 use Rattle.pass_forms.proofs.Base64Bytes.{decode_of_are_bytes}
-use Rattle.pass_forms.proofs.Base64Symbols.{bare, bare-encode, encode_passes}
+use Rattle.pass_forms.proofs.Base64Symbols.{encode_map, encode_passes, standard_symbol}
 
 -- the two alphabets
 abbrev standard_symbols : List ℕ
@@ -40,27 +43,25 @@ pub decoded-encode : (e : GeneralPurpose) (b : List ℕ) → IsConsistent e → 
 unfolding decoded_of
 decoded-encode e b consistent bytes = rw (decode_of-encode_of e b consistent bytes) refl
 
--- Base64 of bytes is their standard symbols, made bare.
-bare-spelling : (text b : List ℕ) → IsBase64 text b → bare text ≡ encode_symbols standard_symbols b
-bare-spelling text b is = elim is.spelling [
-  | inl e ↦ rw e (bare-encode url_safe_symbols standard_symbols b false refl)
+-- Base64 of bytes, in the standard alphabet, decodes to them.
+standard_decodes : (b : List ℕ) (padding : Bool) → IsBytes b → decoded_bytes standard.decode_table 61 (encode standard_symbols 61 padding b) ≡ b
+standard_decodes b padding are = (decode-encode standard.encode_table standard.decode_table b 61 false Indifferent padding standard.tables are tt).1
+
+spelled_decodes : (text b : List ℕ) → IsBase64 text b → decoded_bytes standard.decode_table 61 (map standard_symbol text) ≡ b
+spelled_decodes text b is = elim is.spelling [
+  | inl e ↦ rw (e, encode_map url_safe_symbols b false) (standard_decodes b false is.are_bytes)
   | inr other ↦ elim other [
-    | inl e ↦ rw e (bare-encode url_safe_symbols standard_symbols b true refl)
+    | inl e ↦ rw (e, encode_map url_safe_symbols b true) (standard_decodes b true is.are_bytes)
     | inr other ↦ elim other [
-      | inl e ↦ rw e (bare-encode standard_symbols standard_symbols b false refl)
-      | inr e ↦ rw e (bare-encode standard_symbols standard_symbols b true refl)
+      | inl e ↦ rw (e, encode_map standard_symbols b false) (standard_decodes b false is.are_bytes)
+      | inr e ↦ rw (e, encode_map standard_symbols b true) (standard_decodes b true is.are_bytes)
     ]
   ]
 ]
 
 -- A text is base64 of one list of bytes at most.
 pub spells_one : (text a b : List ℕ) → IsBase64 text a → IsBase64 text b → a ≡ b
-spells_one text a b left right =
-    let same : encode_symbols standard_symbols a ≡ encode_symbols standard_symbols b = sym (bare-spelling text a left) ∙ bare-spelling text b right in
-    let decoded : decoded_of standard_no_pad (encode_symbols standard_symbols a ++ []) ≡ decoded_of standard_no_pad (encode_symbols standard_symbols b ++ []) =
-    ap (λ (symbols : List ℕ). decoded_of standard_no_pad (symbols ++ [])) same in
-    let both : Some a ≡ Some b = sym (decoded-encode standard_no_pad a refl left.are_bytes) ∙ decoded ∙ decoded-encode standard_no_pad b refl right.are_bytes in
-    cc both
+spells_one text a b left right = sym (spelled_decodes text a left) ∙ spelled_decodes text b right
 
 -- base64 passes a test that both alphabets, 0 and the padding pass
 pub spelling_passes : (p : ℕ → Bool) (text b : List ℕ) → p 0 ≡ true → p 61 ≡ true → list_all p standard_symbols ≡ true → list_all p url_safe_symbols ≡ true

@@ -1,10 +1,9 @@
--- The symbols of an encoding: which bytes they are, and that both alphabets spell the same bytes.
+-- The symbols of an encoding: which bytes they are, and what they are in the standard alphabet.
 use Rattle.std.proofs.Common.{◌≡◌, ℕ, zero, suc, ◌+◌, ◌*◌, ◌/◌, ◌%◌, ◌==◌, ◌&&◌, not, if◌then◌else◌, Bool, true, false, List, [], ◌∷◌, ◌++◌, length, replicate}
-use Rattle.std.proofs.Common.{slice_index, refl, ◌∙◌}
+use Rattle.std.proofs.Common.{slice_index, map, refl, ap}
 use Rattle.std.specs.List.{list_all}
-use Rattle.std.specs.Cmp.Lexicographic.{pointwise}
-use Rattle.std.proofs.lemmas.Bool.{and_parts, not-true, eqb-true}
-use Rattle.std.proofs.lemmas.List.{append-nil}
+use Rattle.std.proofs.lemmas.Bool.{and_parts}
+use Rattle.std.proofs.lemmas.List.{append-nil, map-append}
 use Rattle.std.proofs.lemmas.List.Folds.{list_all-append}
 use Rattle.base64.specs.Rfc4648.{encode, encode_symbols, padding_len}
 
@@ -47,65 +46,26 @@ encode_passes p t m pad true past padded all =
 abbrev pub standard_symbol : ℕ → ℕ
 standard_symbol x = if x == 45 then 43 else if x == 95 then 47 else x
 
--- a text in the standard alphabet, without its padding
-unfoldable pub bare : List ℕ → List ℕ
-bare [] = []
-bare (x ∷ xs) = if x == 61 then bare xs else standard_symbol x ∷ bare xs
+index_map : (t : List ℕ) (i : ℕ) → standard_symbol (slice_index t i) ≡ slice_index (map standard_symbol t) i
+index_map [] zero = refl
+index_map [] (suc i) = refl
+index_map (x ∷ t) zero = refl
+index_map (x ∷ t) (suc i) = index_map t i
 
--- a symbol isn't padding, and encodes the same six bits as the standard one
-abbrev pub agrees : ℕ → ℕ → Bool
-agrees x y = not (x == 61) && (standard_symbol x == y)
-
--- a place of both tables, past their ends too
-agrees_at : (t s : List ℕ) (i : ℕ) → pointwise agrees t s ≡ true → agrees (slice_index t i) (slice_index s i) ≡ true
-agrees_at [] [] zero same = refl
-agrees_at [] [] (suc i) same = refl
-agrees_at [] (y ∷ ys) i same = cc same
-agrees_at (x ∷ xs) [] i same = cc same
-agrees_at (x ∷ xs) (y ∷ ys) zero same = (and_parts (agrees x y) (pointwise agrees xs ys) same).0
-agrees_at (x ∷ xs) (y ∷ ys) (suc i) same = agrees_at xs ys i (and_parts (agrees x y) (pointwise agrees xs ys) same).1
-
--- one symbol, made bare
-bare-symbol : (t s : List ℕ) (i : ℕ) (rest : List ℕ) → pointwise agrees t s ≡ true → bare (slice_index t i ∷ rest) ≡ slice_index s i ∷ bare rest
-unfolding bare
-bare-symbol t s i rest same =
-    let x : ℕ = slice_index t i in
-    let both = and_parts (not (x == 61)) (standard_symbol x == slice_index s i) (agrees_at t s i same) in
-    let symbol : (x == 61) ≡ false = not-true (x == 61) both.0 in
-    rw (symbol, eqb-true (standard_symbol x) (slice_index s i) both.1) refl
-
--- the symbols of a message
-pub bare-symbols : (t s m rest : List ℕ) → pointwise agrees t s ≡ true → bare (encode_symbols t m ++ rest) ≡ encode_symbols s m ++ bare rest
+-- the symbols of a message, in the standard alphabet
+symbols_map : (t m : List ℕ) → map standard_symbol (encode_symbols t m) ≡ encode_symbols (map standard_symbol t) m
 unfolding encode_symbols
-bare-symbols t s [] rest same = refl
-bare-symbols t s (a ∷ []) rest same =
-    rw (bare-symbol t s (a / 4) (slice_index t (a % 4 * 16) ∷ rest) same, bare-symbol t s (a % 4 * 16) rest same) refl
-bare-symbols t s (a ∷ b ∷ []) rest same =
-    rw (
-      bare-symbol t s (a / 4) (slice_index t (a % 4 * 16 + b / 16) ∷ slice_index t (b % 16 * 4) ∷ rest) same,
-      bare-symbol t s (a % 4 * 16 + b / 16) (slice_index t (b % 16 * 4) ∷ rest) same,
-      bare-symbol t s (b % 16 * 4) rest same,
-    ) refl
-bare-symbols t s (a ∷ b ∷ c ∷ m) rest same =
-    let last : List ℕ = encode_symbols t m ++ rest in
-    rw (
-      bare-symbol t s (a / 4) (slice_index t (a % 4 * 16 + b / 16) ∷ slice_index t (b % 16 * 4 + c / 64) ∷ slice_index t (c % 64) ∷ last) same,
-      bare-symbol t s (a % 4 * 16 + b / 16) (slice_index t (b % 16 * 4 + c / 64) ∷ slice_index t (c % 64) ∷ last) same,
-      bare-symbol t s (b % 16 * 4 + c / 64) (slice_index t (c % 64) ∷ last) same,
-      bare-symbol t s (c % 64) last same,
-      bare-symbols t s m rest same,
-    ) refl
+symbols_map t [] = refl
+symbols_map t (a ∷ []) = cc (index_map t (a / 4), index_map t (a % 4 * 16))
+symbols_map t (a ∷ b ∷ []) = cc (index_map t (a / 4), index_map t (a % 4 * 16 + b / 16), index_map t (b % 16 * 4))
+symbols_map t (a ∷ b ∷ c ∷ m) =
+    cc (index_map t (a / 4), index_map t (a % 4 * 16 + b / 16), index_map t (b % 16 * 4 + c / 64), index_map t (c % 64), symbols_map t m)
 
-bare-padding : (k : ℕ) → bare (replicate k 61) ≡ []
-unfolding bare
-bare-padding zero = refl
-bare-padding (suc k) = bare-padding k
+padding_map : (k : ℕ) → map standard_symbol (replicate k 61) ≡ replicate k 61
+padding_map zero = refl
+padding_map (suc k) = ap (λ (rest : List ℕ). 61 ∷ rest) (padding_map k)
 
-bare-nil : bare [] ≡ []
-unfolding bare
-bare-nil = refl
-
--- the encoding of a message is the standard one with no padding, made bare
-pub bare-encode : (t s m : List ℕ) (padding : Bool) → pointwise agrees t s ≡ true → bare (encode t 61 padding m) ≡ encode_symbols s m
-bare-encode t s m false same = bare-symbols t s m [] same ∙ rw (bare-nil, append-nil) refl
-bare-encode t s m true same = bare-symbols t s m (replicate (padding_len (length m)) 61) same ∙ rw (bare-padding (padding_len (length m)), append-nil) refl
+-- the encoding of a message
+pub encode_map : (t m : List ℕ) (padding : Bool) → map standard_symbol (encode t 61 padding m) ≡ encode (map standard_symbol t) 61 padding m
+encode_map t m false = rw (map-append, symbols_map t m) refl
+encode_map t m true = rw (map-append, symbols_map t m, padding_map (padding_len (length m))) refl

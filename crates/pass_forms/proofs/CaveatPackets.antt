@@ -56,10 +56,10 @@ optional_again key None rest fits none = rw none refl
 optional_again key (Some text) rest fits none = rw (packet_again key text rest fits) refl
 
 -- A location of a caveat is no verifier id.
-no_verifier_id : (location : Option (List ℕ)) (rest : List ℕ) → IfSome location (FitsPacket caveat_location_key) → EndsCaveat rest →
+no_verifier_id : (location : Option (List ℕ)) (rest : List ℕ) → EndsCaveat rest →
     packet_at verifier_id_key (optional_packet caveat_location_key location ++ rest) ≡ None
-no_verifier_id None rest fits ends = ends.verifier_id
-no_verifier_id (Some location) rest fits ends = packet_other verifier_id_key caveat_location_key location rest fits refl
+no_verifier_id None rest ends = ends.verifier_id
+no_verifier_id (Some location) rest ends = packet_other verifier_id_key caveat_location_key location rest (λ tail. refl)
 
 caveat_again : (caveat : WideCaveat) (rest : List ℕ) → FitsCaveat caveat → EndsCaveat rest → caveat_at (caveat_packets caveat ++ rest) ≡ Some (caveat, rest)
 unfolding caveat_at
@@ -67,7 +67,7 @@ caveat_again caveat rest fits ends =
     let v = optional_packet verifier_id_key caveat.verifier_id in
     let l = optional_packet caveat_location_key caveat.location in
     let last = optional_again caveat_location_key caveat.location rest fits.location ends.location in
-    let second = optional_again verifier_id_key caveat.verifier_id (l ++ rest) fits.verifier_id (no_verifier_id caveat.location rest fits.location ends) in
+    let second = optional_again verifier_id_key caveat.verifier_id (l ++ rest) fits.verifier_id (no_verifier_id caveat.location rest ends) in
     ap caveat_at (packets_assoc caveat rest) ∙ rw (packet_again caveat_key caveat.identifier (v ++ (l ++ rest)) fits.identifier, second, last) refl
 
 -- A caveat ends the caveat before it.
@@ -78,9 +78,8 @@ caveat_ends caveat rest fits =
     let regrouped = append_assoc i optional rest in
     record {
       verifier_id =
-          ap (packet_at verifier_id_key) regrouped ∙ packet_other verifier_id_key caveat_key caveat.identifier (optional ++ rest) fits.identifier refl;
-      location =
-          ap (packet_at caveat_location_key) regrouped ∙ packet_other caveat_location_key caveat_key caveat.identifier (optional ++ rest) fits.identifier refl;
+          ap (packet_at verifier_id_key) regrouped ∙ packet_other verifier_id_key caveat_key caveat.identifier (optional ++ rest) (λ tail. refl);
+      location = ap (packet_at caveat_location_key) regrouped ∙ packet_other caveat_location_key caveat_key caveat.identifier (optional ++ rest) (λ tail. refl);
     }
 
 pub exact_caveats : Exact caveat_at caveat_packets FitsCaveat EndsCaveat

@@ -1,14 +1,14 @@
 -- A packet that is read is the packet that was written, and what was written is read, whatever follows.
-use Rattle.std.proofs.Common.{◌≡◌, ℕ, ◌+◌, ◌-◌, ◌^◌, ◌<◌, ◌≤◌, true, leb, nat_eq, List, [], ◌∷◌, ◌++◌, length, take, drop, Option, Some}
+use Rattle.std.proofs.Common.{◌≡◌, ℕ, ◌+◌, ◌-◌, ◌^◌, ◌<◌, ◌≤◌, ◌&&◌, true, leb, nat_eq, List, [], ◌∷◌, ◌++◌, length, take, drop, Some}
 use Rattle.std.proofs.Common.{None, refl, sym, ap, ◌∙◌, append_assoc, arith}
 use Rattle.std.specs.Cmp.Lexicographic.{pointwise}
-use Rattle.std.proofs.lemmas.Bool.{leb-true, le-leb}
+use Rattle.std.proofs.lemmas.Bool.{and_parts, leb-true, le-leb}
 use Rattle.std.proofs.Math.Seq.{take-append-add}
-use Rattle.std.proofs.lemmas.Option.{cond_some, same_Some, some_pair_parts}
+use Rattle.std.proofs.lemmas.Option.{cond_some, some_pair_parts}
 use Rattle.std.proofs.lemmas.List.{drop-take, take-take, take_at, drop_at, take-append-drop, length-append, length-take, length-drop}
 use Rattle.std.proofs.lemmas.Slice.Eq.{bytes_eq-Decides}
 use Rattle.pass_forms.specs.V1.{four_hex_digits, packet_len, packet, FitsPacket}
-use Rattle.pass_forms.specs.computed.Parts.{◌>>=◌, after_prefix, before_suffix}
+use Rattle.pass_forms.specs.computed.Parts.{after_prefix, before_suffix}
 use Rattle.pass_forms.specs.computed.V1Reading.{len_at, packet_at}
 use Rattle.pass_forms.proofs.Digits.{bind_some, len_takes, len_again}
 
@@ -57,88 +57,65 @@ framed bytes more key text n fits begins within body =
 pub packet_takes : (key bytes text rest : List ℕ) → packet_at key bytes ≡ Some (text, rest) → (bytes ≡ packet key text ++ rest) × FitsPacket key text
 unfolding packet_at
 packet_takes key bytes text rest e =
-    let len = bind_some _ _ (text, rest) e in
+    let behind = bind_some _ _ (text, rest) e in
+    let body = bind_some _ _ (text, rest) behind.2 in
+    let len = bind_some _ _ (text, rest) body.2 in
     let n = len.0 in
-    let whole = bind_some _ _ (text, rest) len.2 in
-    let body = bind_some _ _ (text, rest) whole.2 in
-    let found = bind_some _ _ (text, rest) body.2 in
-    let digits = len_takes bytes n len.1 in
-    let within = cond_some (leb n (length bytes)) (take n bytes) whole.0 whole.1 in
+    let content = bind_some _ _ (text, rest) len.2 in
+    let found = bind_some _ _ (text, rest) content.2 in
     let same = some_pair_parts found.0 text (drop n bytes) rest found.2 in
+    let digits = len_takes bytes n len.1 in
+    let m = n - (4 + length key) in
+    let cut = cond_some (leb (4 + length key) n && leb n (length bytes)) (take m body.0) content.0 content.1 in
+    let tests = and_parts (leb (4 + length key) n) (leb n (length bytes)) cut.0 in
+    let is_len : n ≡ 4 + (length key + m) = omega (arith, leb-true (4 + length key) n tests.0) in
+    let leads : drop 4 bytes ≡ key ++ body.0 =
+    (cond_some (leb 4 (length bytes)) (drop 4 bytes) behind.0 behind.1).1 ∙ after_prefix_takes key behind.0 body.0 body.1 in
     let is_body : drop 4 (take n bytes) ≡ key ++ (text ++ 10 ∷ []) =
-    ap (drop 4) within.1 ∙ after_prefix_takes key (drop 4 whole.0) body.0 body.1
-    ∙ ap (λ (x : List ℕ). key ++ x) (before_suffix_takes (10 ∷ []) body.0 found.0 found.1 ∙ ap (λ (x : List ℕ). x ++ 10 ∷ []) same.0) in
-    let parts = framed bytes digits.1 key text n digits.0 digits.2 (leb-true n (length bytes) within.0) is_body in
+    ap (λ (x : ℕ). drop 4 (take x bytes)) is_len ∙ drop-take 4 (length key + m) bytes ∙ ap (take (length key + m)) leads ∙ take-append-add key body.0 m
+    ∙ ap (λ (x : List ℕ). key ++ x) (cut.1 ∙ before_suffix_takes (10 ∷ []) content.0 found.0 found.1 ∙ ap (λ (x : List ℕ). x ++ 10 ∷ []) same.0) in
+    let parts = framed bytes digits.1 key text n digits.0 digits.2 (leb-true n (length bytes) tests.1) is_body in
     (parts.0 ∙ ap (λ (x : List ℕ). packet key text ++ x) same.1, parts.1)
-
--- Where the key differs there is none.
-none_found : (key bytes : List ℕ) (found : Option (List ℕ × List ℕ)) → packet_at key bytes ≡ found → after_prefix key (drop 4 bytes) ≡ None → found ≡ None
-none_found key bytes None e differs = refl
-none_found key bytes (Some (text, rest)) e differs =
-    let parts = packet_takes key bytes text rest e in
-    let body = text ++ 10 ∷ [] in
-    let after : drop 4 bytes ≡ key ++ (body ++ rest) = ap (drop 4) parts.0 ∙ append_assoc key body rest in
-    let taken = ap (after_prefix key) after ∙ after_prefix_again key (body ++ rest) in
-    absurd (cc (differs, taken))
-
-pub key_differs : (key bytes : List ℕ) → after_prefix key (drop 4 bytes) ≡ None → packet_at key bytes ≡ None
-key_differs key bytes differs = none_found key bytes (packet_at key bytes) refl differs
-
-pub packet_again : (key text rest : List ℕ) → FitsPacket key text → packet_at key (packet key text ++ rest) ≡ Some (text, rest)
-unfolding packet_at
-packet_again key text rest fits =
-    let body = key ++ (text ++ 10 ∷ []) in
-    let n = packet_len key text in
-    let body_len : length body ≡ length key + (length text + 1) = omega (arith, length-append key (text ++ 10 ∷ []), length-append text (10 ∷ [])) in
-    let len : length (packet key text) ≡ n = omega (arith, length-append (four_hex_digits n) body) in
-    let read : len_at (packet key text ++ rest) ≡ Some n = ap len_at (append_assoc (four_hex_digits n) body rest) ∙ len_again n (body ++ rest) fits in
-    let within : leb n (length (packet key text ++ rest)) ≡ true = le-leb _ _ (omega (arith, length-append (packet key text) rest)) in
-    let front : take n (packet key text ++ rest) ≡ packet key text = take_at (packet key text) rest n len in
-    let back : drop n (packet key text ++ rest) ≡ rest = drop_at (packet key text) rest n len in
-    let inner : drop 4 (packet key text) ≡ body = drop_at (four_hex_digits n) body 4 refl in
-    rw (read, within, front, back, inner, after_prefix_again key (text ++ 10 ∷ []), before_suffix_again (10 ∷ []) text) refl
 
 pub length-packet : (key text : List ℕ) → length (packet key text) ≡ packet_len key text
 length-packet key text =
     let body = key ++ (text ++ 10 ∷ []) in
     omega (arith, length-append (four_hex_digits (packet_len key text)) body, length-append key (text ++ 10 ∷ []), length-append text (10 ∷ []))
 
--- A packet of one key is none of a key with which its body doesn't begin.
-pub packet_other : (key other text rest : List ℕ) → FitsPacket other text → after_prefix key (other ++ (text ++ 10 ∷ [])) ≡ None →
+-- what follows the digits of a packet
+behind_digits : (key text rest : List ℕ) → drop 4 (packet key text ++ rest) ≡ key ++ ((text ++ 10 ∷ []) ++ rest)
+behind_digits key text rest =
+    let digits = four_hex_digits (packet_len key text) in
+    let body = text ++ 10 ∷ [] in
+    ap (drop 4) (append_assoc digits (key ++ body) rest) ∙ drop_at digits ((key ++ body) ++ rest) 4 refl ∙ append_assoc key body rest
+
+-- bytes that begin with a packet's length, and then have its key and its text
+packet_by : (key text rest bytes : List ℕ) (n : ℕ) → n ≡ packet_len key text → n ≤ length bytes → len_at bytes ≡ Some n →
+    drop 4 bytes ≡ key ++ ((text ++ 10 ∷ []) ++ rest) → drop n bytes ≡ rest → packet_at key bytes ≡ Some (text, rest)
+unfolding packet_at
+packet_by key text rest bytes n is_len inside read behind back =
+    let body = text ++ 10 ∷ [] in
+    let digits : leb 4 (length bytes) ≡ true = le-leb _ _ (omega arith) in
+    let keyed : leb (4 + length key) n ≡ true = le-leb _ _ (omega arith) in
+    let within : leb n (length bytes) ≡ true = le-leb _ _ inside in
+    let content : n - (4 + length key) ≡ length body = omega (arith, length-append text (10 ∷ [])) in
+    let front : take (length body) (body ++ rest) ≡ body = take_at body rest (length body) refl in
+    rw (digits, behind, after_prefix_again key (body ++ rest), read, keyed, within, content, front, before_suffix_again (10 ∷ []) text, back) refl
+
+pub packet_again : (key text rest : List ℕ) → FitsPacket key text → packet_at key (packet key text ++ rest) ≡ Some (text, rest)
+packet_again key text rest fits =
+    let bytes = packet key text ++ rest in
+    let body = key ++ (text ++ 10 ∷ []) in
+    let n = packet_len key text in
+    let read : len_at bytes ≡ Some n = ap len_at (append_assoc (four_hex_digits n) body rest) ∙ len_again n (body ++ rest) fits in
+    packet_by key text rest bytes n refl (omega (arith, length-append (packet key text) rest, length-packet key text)) read (behind_digits key text rest)
+    (drop_at (packet key text) rest n (length-packet key text))
+
+-- A packet of one key is none of a key with which it doesn't begin.
+pub packet_other : (key other text rest : List ℕ) → ((tail : List ℕ) → after_prefix key (other ++ tail) ≡ None) →
     packet_at key (packet other text ++ rest) ≡ None
 unfolding packet_at
-packet_other key other text rest fits differs =
-    let body = other ++ (text ++ 10 ∷ []) in
-    let n = packet_len other text in
-    let len = length-packet other text in
-    let read : len_at (packet other text ++ rest) ≡ Some n = ap len_at (append_assoc (four_hex_digits n) body rest) ∙ len_again n (body ++ rest) fits in
-    let within : leb n (length (packet other text ++ rest)) ≡ true = le-leb _ _ (omega (arith, length-append (packet other text) rest)) in
-    let front : take n (packet other text ++ rest) ≡ packet other text = take_at (packet other text) rest n len in
-    let inner : drop 4 (packet other text) ≡ body = drop_at (four_hex_digits n) body 4 refl in
-    rw (read, within, front, inner, differs) refl
-
--- A length that the key doesn't fit into is no packet's.
-none_so_short : (key bytes : List ℕ) (n : ℕ) (found : Option (List ℕ × List ℕ)) → packet_at key bytes ≡ found → len_at bytes ≡ Some n → n < 4 + length key →
-    found ≡ None
-none_so_short key bytes n None e content short = refl
-none_so_short key bytes n (Some (text, rest)) e content short =
-    let parts = packet_takes key bytes text rest e in
-    let body = key ++ (text ++ 10 ∷ []) in
-    let again : len_at bytes ≡ Some (packet_len key text) =
-    ap len_at (parts.0 ∙ append_assoc (four_hex_digits (packet_len key text)) body rest) ∙ len_again (packet_len key text) (body ++ rest) parts.1 in
-    let same : n ≡ packet_len key text = same_Some n (packet_len key text) (sym content ∙ again) in
-    absurd (omega (arith, same, short))
-
-pub too_short : (key bytes : List ℕ) (n : ℕ) → len_at bytes ≡ Some n → n < 4 + length key → packet_at key bytes ≡ None
-too_short key bytes n content short = none_so_short key bytes n (packet_at key bytes) refl content short
-
--- What the length cuts of the bytes behind the key is the packet's data, with its end.
-pub packet_of_body : (key bytes body : List ℕ) (n m : ℕ) → after_prefix key (drop 4 bytes) ≡ Some body → len_at bytes ≡ Some n → n ≡ 4 + (length key + m) →
-    n ≤ length bytes →
-    packet_at key bytes ≡ (before_suffix (10 ∷ []) (take m body) >>= λ text. Some (text, drop n bytes))
-unfolding packet_at
-packet_of_body key bytes body n m begins content is_len within =
-    let leads : drop 4 bytes ≡ key ++ body = after_prefix_takes key (drop 4 bytes) body begins in
-    let cut : drop 4 (take n bytes) ≡ key ++ take m body =
-    ap (λ (x : ℕ). drop 4 (take x bytes)) is_len ∙ drop-take 4 (length key + m) bytes ∙ ap (take (length key + m)) leads ∙ take-append-add key body m in
-    rw (content, le-leb n (length bytes) within, cut, after_prefix_again key (take m body)) refl
+packet_other key other text rest differs =
+    let bytes = packet other text ++ rest in
+    let digits : leb 4 (length bytes) ≡ true = le-leb _ _ (omega (arith, length-append (packet other text) rest, length-packet other text)) in
+    rw (digits, behind_digits other text rest, differs ((text ++ 10 ∷ []) ++ rest)) refl

@@ -34,20 +34,20 @@ signature_again signature len =
     ap (packet_at signature_key) (sym (append-nil (packet signature_key signature))) ∙ packet_again signature_key signature [] (signature_fits signature len) in
     rw (read, len) refl
 
-signature_ends : (signature : List ℕ) → length signature ≡ 32 → EndsCaveat (packet signature_key signature)
-signature_ends signature len =
+signature_ends : (signature : List ℕ) → EndsCaveat (packet signature_key signature)
+signature_ends signature =
     let more = sym (append-nil (packet signature_key signature)) in
     record {
-      verifier_id = ap (packet_at verifier_id_key) more ∙ packet_other verifier_id_key signature_key signature [] (signature_fits signature len) refl;
-      location = ap (packet_at caveat_location_key) more ∙ packet_other caveat_location_key signature_key signature [] (signature_fits signature len) refl;
+      verifier_id = ap (packet_at verifier_id_key) more ∙ packet_other verifier_id_key signature_key signature [] (λ tail. refl);
+      location = ap (packet_at caveat_location_key) more ∙ packet_other caveat_location_key signature_key signature [] (λ tail. refl);
     }
 
-signature_is_no_caveat : (signature : List ℕ) → length signature ≡ 32 → caveat_at (packet signature_key signature) ≡ None
+signature_is_no_caveat : (signature : List ℕ) → caveat_at (packet signature_key signature) ≡ None
 unfolding caveat_at
-signature_is_no_caveat signature len =
+signature_is_no_caveat signature =
     let none : packet_at caveat_key (packet signature_key signature) ≡ None =
     ap (packet_at caveat_key) (sym (append-nil (packet signature_key signature))) ∙ packet_other caveat_key signature_key signature []
-    (signature_fits signature len) refl in
+    (λ tail. refl) in
     rw none refl
 
 header_takes : (bytes : List ℕ) (header : List ℕ × List ℕ × List ℕ) → header_at bytes ≡ Some header →
@@ -92,7 +92,7 @@ wide_again bytes wide spelling =
     let h = ap header_at spelling.packets ∙ header_again wide.location wide.identifier caveats fits.location fits.identifier in
     let c =
     caveats_again caveat_at caveat_packets FitsCaveat EndsCaveat exact_caveats (length caveats) wide.caveats last fuel fits.caveats
-    (signature_ends wide.signature fits.signature) (signature_is_no_caveat wide.signature fits.signature) in
+    (signature_ends wide.signature) (signature_is_no_caveat wide.signature) in
     whole_again header_at caveat_at signature_at bytes (wide.location, wide.identifier, caveats) wide.caveats last wide.signature h c
     (signature_again wide.signature fits.signature)
 

@@ -61,15 +61,18 @@ fn first_packet<'a>(key: &[u8], bytes: &'a [u8]) -> Option<(&'a [u8], &'a [u8])>
     if bytes.len() < LEN_DIGITS {
         return None;
     }
+    let (_, rest) = bytes.split_at(LEN_DIGITS);
     // Most packets have another key. This test comes before the length is parsed.
-    let body = after_prefix(key, &bytes[LEN_DIGITS..])?;
+    let body = after_prefix(key, rest)?;
     let len = packet_len(bytes)?;
     let body_len = len.checked_sub(LEN_DIGITS)?.checked_sub(key.len())?;
     if len > bytes.len() {
         return None;
     }
-    let text = before_suffix(b"\n", &body[..body_len])?;
-    Some((text, &bytes[len..]))
+    let (data, _) = body.split_at(body_len);
+    let text = before_suffix(b"\n", data)?;
+    let (_, rest) = bytes.split_at(len);
+    Some((text, rest))
 }
 
 // The same for an optional packet: without it, the bytes are returned unchanged.

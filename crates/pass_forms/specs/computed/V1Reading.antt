@@ -24,10 +24,11 @@ len_at _ = None
 -- the data of the packet of this key, and the bytes after it
 unfoldable pub packet_at : List ℕ → List ℕ → Option (List ℕ × List ℕ)
 packet_at key bytes = do
+  rest ← if nat_le 4 (length bytes) then Some (drop 4 bytes) else None
+  body ← after_prefix key rest
   len ← len_at bytes
-  whole ← if nat_le len (length bytes) then Some (take len bytes) else None
-  body ← after_prefix key (drop 4 whole)
-  text ← before_suffix (10 ∷ []) body
+  content ← if nat_le (4 + length key) len && nat_le len (length bytes) then Some (take (len - (4 + length key)) body) else None
+  text ← before_suffix (10 ∷ []) content
   Some (text, drop len bytes)
 
 -- the same for a packet that may be left out
