@@ -1,6 +1,6 @@
 -- From one wide pass at most for each text to the one reading of it.
 use Rattle.std.proofs.Common.{◌≡◌, ◌↔◌, ℕ, ◌<◌, ◌≤◌, Bool, true, false, cond, ltb, ◌||◌, List, [], ◌∷◌, length, map, Option, Some, None, Result}
-use Rattle.std.proofs.Common.{Ok, Err, refl, sym, ap, subst, ◌∙◌, arith, ◌⊎◌, inl, inr}
+use Rattle.std.proofs.Common.{Ok, Err, refl, sym, ap, subst, ◌∙◌, arith}
 use Rattle.std.specs.Prelude.{is_some}
 use Rattle.std.specs.List.{list_any}
 use Rattle.std.proofs.lemmas.List.{length-map}
@@ -18,33 +18,23 @@ use Rattle.pass_forms.specs.computed.Reading.{checked_if_any, reading_of}
 is_first_party : (identifier : List ℕ) (verifier_id location : Option (List ℕ)) → (is_some verifier_id || is_some location) ≡ false → ◌≡◌ {A = WideCaveat}
     (widened_caveat identifier) (record { identifier = identifier; verifier_id = verifier_id; location = location })
 is_first_party identifier None None e = refl
-is_first_party identifier None (Some location) e = absurd cc
-is_first_party identifier (Some verifier_id) location e = absurd cc
+is_first_party identifier verifier_id location e = absurd cc
 
 all_first_party : (caveats : List WideCaveat) → list_any is_third_party caveats ≡ false → map widened_caveat (map first_party_caveat caveats) ≡ caveats
 all_first_party [] e = refl
 all_first_party (caveat ∷ caveats) e =
     let both = or_parts (is_third_party caveat) (list_any is_third_party caveats) e in
-    let one : widened_caveat (first_party_caveat caveat) ≡ caveat = is_first_party caveat.identifier caveat.verifier_id caveat.location both.0 in
-    ap (λ (c : WideCaveat). c ∷ map widened_caveat (map first_party_caveat caveats)) one ∙ ap (λ (cs : List WideCaveat). caveat ∷ cs)
-    (all_first_party caveats both.1)
+    cc (is_first_party caveat.identifier caveat.verifier_id caveat.location both.0, all_first_party caveats both.1)
 
 widened-first_party : (wide : WidePass) → has_third_party wide ≡ false → as_wide_pass (first_party wide) ≡ wide
-widened-first_party wide e =
-    ap (λ (caveats : List WideCaveat).
-    let w : WidePass =
-    record { location = wide.location; identifier = wide.identifier; caveats = caveats; signature = wide.signature } in w) (all_first_party wide.caveats e)
+widened-first_party wide e = rw (all_first_party wide.caveats e) refl
 
 first_party_caveats : (caveats : List (List ℕ)) → map first_party_caveat (map widened_caveat caveats) ≡ caveats
 first_party_caveats [] = refl
 first_party_caveats (caveat ∷ caveats) = ap (λ (cs : List (List ℕ)). caveat ∷ cs) (first_party_caveats caveats)
 
 first_party-widened : (pass : Plain) → first_party (as_wide_pass pass) ≡ pass
-first_party-widened pass =
-    ap (λ (caveats : List (List ℕ)).
-    let p : Plain =
-    record { location = pass.location; identifier = pass.identifier; caveats = caveats; signature = pass.signature } in p)
-    (first_party_caveats pass.caveats)
+first_party-widened pass = rw (first_party_caveats pass.caveats) refl
 
 no_third_party : (caveats : List (List ℕ)) → list_any is_third_party (map widened_caveat caveats) ≡ false
 no_third_party [] = refl
@@ -56,68 +46,50 @@ no_third_party (caveat ∷ caveats) = no_third_party caveats
 abbrev pub Computes : (WidePass → Type 0) → Option WidePass → Type 0
 Computes Spelled computed = (wide : WidePass) → Spelled wide ↔ (computed ≡ Some wide)
 
-checked_by : (len : ℕ) (Spelled : WidePass → Type 0) (wide : WidePass) (third many : Bool) → has_third_party wide ≡ third →
-    ltb max_caveats (length wide.caveats) ≡ many → len ≤ max_text_len → Spelled wide →
-    IsReadAs len Spelled (cond third (Err ThirdParty) (cond many (Err TooMany) (Ok (first_party wide))))
-checked_by len Spelled wide true many et em within spelling = (within, wide, spelling, et)
-checked_by len Spelled wide false true et em within spelling = (within, wide, spelling, et, ltb-true _ _ em)
-checked_by len Spelled wide false false et em within spelling =
-    (within, subst Spelled (sym (widened-first_party wide et)) spelling, omega (arith, ltb-false _ _ em, length-map wide.caveats first_party_caveat))
-
-pub checked_if_any_is : (len : ℕ) (Spelled : WidePass → Type 0) (computed : Option WidePass) → Computes Spelled computed → len ≤ max_text_len →
-    IsReadAs len Spelled (checked_if_any computed)
-checked_if_any_is len Spelled None exact within = (within, λ wide spelling. let e = (exact wide).0 spelling in absurd cc)
-checked_if_any_is len Spelled (Some wide) exact within =
-    checked_by len Spelled wide (has_third_party wide) (ltb max_caveats (length wide.caveats)) refl refl within ((exact wide).1 refl)
-
-reading_by : (len : ℕ) (Spelled : WidePass → Type 0) (computed : Option WidePass) (long : Bool) → ltb max_text_len len ≡ long → Computes Spelled computed →
-    IsReadAs len Spelled (cond long (Err TooLong) (checked_if_any computed))
-reading_by len Spelled computed true e exact = ltb-true _ _ e
-reading_by len Spelled computed false e exact = checked_if_any_is len Spelled computed exact (ltb-false _ _ e)
-
-reading_is : (len : ℕ) (Spelled : WidePass → Type 0) (computed : Option WidePass) → Computes Spelled computed →
-    IsReadAs len Spelled (reading_of len computed)
-reading_is len Spelled computed exact = reading_by len Spelled computed (ltb max_text_len len) refl exact
-
 nothing_computed : (computed : Option WidePass) → ((wide : WidePass) → computed ≡ Some wide → ⊥) → computed ≡ None
 nothing_computed None none = refl
 nothing_computed (Some wide) none = absurd (none wide refl)
 
-pub checked_determined : (len : ℕ) (Spelled : WidePass → Type 0) (computed : Option WidePass) (answer : Result Plain FormFault) → Computes Spelled computed →
-    len ≤ max_text_len → IsReadAs len Spelled answer → checked_if_any computed ≡ answer
-checked_determined len Spelled computed (Err TooLong) exact within h = absurd (omega arith)
-checked_determined len Spelled computed (Err Malformed) exact within h =
-    let none : computed ≡ None = nothing_computed computed (λ wide e. h.1 wide ((exact wide).1 e)) in
-    rw none refl
-checked_determined len Spelled computed (Err ThirdParty) exact within h = rw ((exact h.1).0 h.2, h.3) refl
-checked_determined len Spelled computed (Err TooMany) exact within h = rw ((exact h.1).0 h.2, h.3, lt-ltb _ _ h.4) refl
-checked_determined len Spelled computed (Ok pass) exact within h =
-    let few : ltb max_caveats (length (map widened_caveat pass.caveats)) ≡ false = le-ltb _ _ (omega (arith, h.2, length-map pass.caveats widened_caveat)) in
-    rw ((exact (as_wide_pass pass)).0 h.1, no_third_party pass.caveats, few) (ap (λ (p : Plain). Ok p) (first_party-widened pass))
-checked_determined len Spelled computed (Err Memory) exact within h = absurd h
+module _ (len : ℕ) (Spelled : WidePass → Type 0) where
+  checked_by : (wide : WidePass) (third many : Bool) → has_third_party wide ≡ third → ltb max_caveats (length wide.caveats) ≡ many → len ≤ max_text_len →
+      Spelled wide → IsReadAs len Spelled (cond third (Err ThirdParty) (cond many (Err TooMany) (Ok (first_party wide))))
+  checked_by wide true many et em within spelling = (within, wide, spelling, et)
+  checked_by wide false true et em within spelling = (within, wide, spelling, et, ltb-true _ _ em)
+  checked_by wide false false et em within spelling =
+      (within, subst Spelled (sym (widened-first_party wide et)) spelling, omega (arith, ltb-false _ _ em, length-map wide.caveats first_party_caveat))
 
--- Where an answer isn't too long, the text is within the limit.
-within_limit : (len : ℕ) (Spelled : WidePass → Type 0) (answer : Result Plain FormFault) → IsReadAs len Spelled answer →
-    (answer ≡ Err TooLong) ⊎ (len ≤ max_text_len)
-within_limit len Spelled (Err TooLong) h = inl refl
-within_limit len Spelled (Err Memory) h = absurd h
-within_limit len Spelled answer h = inr h.0
+  pub checked_if_any_is : (computed : Option WidePass) → Computes Spelled computed → len ≤ max_text_len → IsReadAs len Spelled (checked_if_any computed)
+  checked_if_any_is None exact within = (within, λ wide spelling. let e = (exact wide).0 spelling in absurd cc)
+  checked_if_any_is (Some wide) exact within =
+      checked_by wide (has_third_party wide) (ltb max_caveats (length wide.caveats)) refl refl within ((exact wide).1 refl)
 
-reading_determined : (len : ℕ) (Spelled : WidePass → Type 0) (computed : Option WidePass) (answer : Result Plain FormFault) → Computes Spelled computed →
-    IsReadAs len Spelled answer → reading_of len computed ≡ answer
-reading_determined len Spelled computed answer exact h =
-    elim (within_limit len Spelled answer h) [
-      | inl long ↦
-          let too_long : max_text_len < len = subst (IsReadAs len Spelled) long h in
-          rw (lt-ltb _ _ too_long) (sym long)
-      | inr within ↦ rw (le-ltb _ _ within) (checked_determined len Spelled computed answer exact within h)
-    ]
+  reading_by : (computed : Option WidePass) (long : Bool) → ltb max_text_len len ≡ long → Computes Spelled computed →
+      IsReadAs len Spelled (cond long (Err TooLong) (checked_if_any computed))
+  reading_by computed true e exact = ltb-true _ _ e
+  reading_by computed false e exact = checked_if_any_is computed exact (ltb-false _ _ e)
 
--- The relation allows exactly one result.
-pub exactly : (len : ℕ) (Spelled : WidePass → Type 0) (computed : Option WidePass) → Computes Spelled computed → (answer : Result Plain FormFault) →
-    IsReadAs len Spelled answer ↔ (reading_of len computed ≡ answer)
-exactly len Spelled computed exact answer =
-    (reading_determined len Spelled computed answer exact, λ e. subst (IsReadAs len Spelled) e (reading_is len Spelled computed exact))
+  pub checked_determined : (computed : Option WidePass) (answer : Result Plain FormFault) → Computes Spelled computed → len ≤ max_text_len →
+      IsReadAs len Spelled answer → checked_if_any computed ≡ answer
+  checked_determined computed (Err TooLong) exact within h = absurd (omega arith)
+  checked_determined computed (Err Malformed) exact within h = rw (nothing_computed computed (λ wide e. h.1 wide ((exact wide).1 e))) refl
+  checked_determined computed (Err ThirdParty) exact within h = rw ((exact h.1).0 h.2, h.3) refl
+  checked_determined computed (Err TooMany) exact within h = rw ((exact h.1).0 h.2, h.3, lt-ltb _ _ h.4) refl
+  checked_determined computed (Ok pass) exact within h =
+      let few : ltb max_caveats (length (map widened_caveat pass.caveats)) ≡ false = le-ltb _ _ (omega (arith, h.2, length-map pass.caveats widened_caveat)) in
+      rw ((exact (as_wide_pass pass)).0 h.1, no_third_party pass.caveats, few) (ap (λ (p : Plain). Ok p) (first_party-widened pass))
+  checked_determined computed (Err Memory) exact within h = absurd h
+
+  reading_determined : (computed : Option WidePass) (answer : Result Plain FormFault) → Computes Spelled computed → IsReadAs len Spelled answer →
+      reading_of len computed ≡ answer
+  reading_determined computed (Err TooLong) exact h = rw (lt-ltb max_text_len len h) refl
+  reading_determined computed (Err Memory) exact h = absurd h
+  reading_determined computed answer exact h = rw (le-ltb max_text_len len h.0) (checked_determined computed answer exact h.0 h)
+
+  -- The relation allows exactly one result.
+  pub exactly : (computed : Option WidePass) → Computes Spelled computed → (answer : Result Plain FormFault) →
+      IsReadAs len Spelled answer ↔ (reading_of len computed ≡ answer)
+  exactly computed exact answer =
+      (reading_determined computed answer exact, λ e. subst (IsReadAs len Spelled) e (reading_by computed (ltb max_text_len len) refl exact))
 
 -- ---- of a form whose computed wide pass is the one that bytes spell
 
