@@ -1,8 +1,9 @@
 -- Each step keeps a club's numbers within their widths.
 use Rattle.std.proofs.Common.{◌≡◌, ℕ, ◌+◌, ◌≤◌, Bool, true, false, cond, List, [], ◌∷◌, ◌++◌, refl, arith, sym, ap, subst}
+use Rattle.std.proofs.lemmas.Option.{same_Some}
 use Rattle.std.specs.Prelude.{Option, Some, None, Result, Ok, Err, sum_by, option_map, option_and_then, nat_lt, nat_le, ◌&&◌, ◌==◌, not}
 use Rattle.std.specs.Str.{bytes_eq}
-use Rattle.std.proofs.lemmas.Bool.{ltb-false}
+use Rattle.std.proofs.lemmas.Bool.{ltb-false, cond_both}
 use Rattle.club_values.specs.declared.slot.Slot.{Slot}
 use Rattle.club_values.specs.Slot.{start_of}
 use Rattle.pass_caveats.specs.declared.fault.CaveatFault.{CaveatFault}
@@ -50,16 +51,10 @@ keeps_reply_only : (club : Club) (reply : Reply) → Keeps club (reply_only repl
 keeps_reply_only club reply = record { kept = λ change e. cc }
 
 keep : (club : Club) (fits : Bool) (x y : Verdict) → Keeps club x → (fits ≡ false → Keeps club y) → Keeps club (cond fits x y)
-keep club true x y h k = h
-keep club false x y h k = k refl
+keep club fits x y h k = cond_both fits x y (Keeps club) (λ _. h) k
 
 keeps_change : (club : Club) (reply : Reply) (change : Change) → FitsWidths (after change club) → Keeps club (record { reply = reply; change = Some change })
-keeps_change club reply change h = record { kept = λ other e. let same : change ≡ other = cc in subst (λ (c : Change). FitsWidths (after c club)) same h }
-
--- a key has spent no more than its member
-part_le : (a b : Bool) (n : ℕ) → (a ≡ true → b ≡ true) → cond a n 0 ≤ cond b n 0
-part_le true b n h = rw (h refl) (omega arith)
-part_le false b n h = omega arith
+keeps_change club reply change h = record { kept = λ other e. subst (λ (c : Change). FitsWidths (after c club)) (same_Some change other e) h }
 
 spent_le : (club : Club) (name : List ℕ) (key : Key) (member : Member) → key_named name club ≡ Some key → member_named key.member club ≡ Some member
     → spent_under key.name club.bookings ≤ sum_by cost_of (bookings_of member.name club)
@@ -69,11 +64,12 @@ spent_le club name key member found owner =
     let held : is_key_of member.name club key.name ≡ true =
     found_kept (λ (k : Key). bytes_eq k.name name) (λ (k : Key). bytes_eq k.member member.name) (λ (k : Key).
     bytes_eq k.name key.name) club.keys key found (rw same (bytes_eq_refl key.member)) (bytes_eq_refl key.name) in
-    let le : total cost_of (is_under key.name) club.bookings ≤ total cost_of (λ (b : Booking). is_key_of member.name club b.key) club.bookings =
-    total_le cost_of (is_under key.name) (λ (b : Booking). is_key_of member.name club b.key) club.bookings (λ b.
-    part_le (is_under key.name b) (is_key_of member.name club b.key) (cost_of b) (λ e.
-    subst (λ k. is_key_of member.name club k ≡ true) (sym (bytes_eq_true b.key key.name e)) held)) in
-    rw (total_is cost_of (is_under key.name) club.bookings, total_is cost_of (λ (b : Booking). is_key_of member.name club b.key) club.bookings) le
+    let own = λ (b : Booking). is_key_of member.name club b.key in
+    let le : total cost_of (is_under key.name) club.bookings ≤ total cost_of own club.bookings =
+    total_le cost_of (is_under key.name) own club.bookings (λ b.
+    let mine : is_under key.name b ≡ true → own b ≡ true = λ e. rw (bytes_eq_true b.key key.name e) held in
+    grind arith) in
+    rw (total_is cost_of (is_under key.name) club.bookings, total_is cost_of own club.bookings) le
 
 -- a booking that has place and points
 fits_booked : (club : Club) (name : List ℕ) (key : Key) (member : Member) (facility : Facility) (booking : Booking) → FitsWidths club
@@ -183,80 +179,76 @@ answer_text text request moment basis = answer_to text request moment (option_ma
 abbrev answer_by : Pass → Request → ℕ → Option Basis → Verdict
 answer_by pass request moment basis = answer_text (Ok pass) request moment basis
 
-keeps_accepted : (club : Club) (name : List ℕ) (pass : Pass) (request : Request) (moment : ℕ) (key : Key) (member : Member) (state : SlotState)
-    → FitsWidths club → key_named name club ≡ Some key → member_named key.member club ≡ Some member → IsState club request state
-    → Keeps club (answer_by pass request moment (Some (basis_with club key member state)))
-keeps_accepted club name pass request moment key member state h found owner at =
-    let view = view_of (basis_with club key member state) request moment in
-    keep club (not (is_signed_under pass key moment)) (refusal_verdict refusals.NotVerified) _ (keeps_reply_only club _) (λ signed.
-    keep club key.revoked (refusal_verdict refusals.KeyRevoked) _ (keeps_reply_only club _) (λ valid.
+-- what a basis takes from the club: the key's row and its member's, whose bookings it has, and a state that has all persons of the slot
+record IsBasisIn (club : Club) (request : Request) (basis : Basis) : Type 0 where
+  name : List ℕ
+  found : key_named name club ≡ Some basis.key
+  owner : member_named basis.key.member club ≡ Some basis.member
+  whole : basis ≡ basis_with club basis.key basis.member basis.state
+  at : IsState club request basis.state
+
+keeps_accepted : (club : Club) (pass : Pass) (request : Request) (moment : ℕ) (basis : Basis) → FitsWidths club → IsBasisIn club request basis
+    → Keeps club (answer_by pass request moment (Some basis))
+keeps_accepted club pass request moment basis h is =
+    let state = basis.state in
+    let view = view_of (basis_with club basis.key basis.member state) request moment in
+    subst (λ (b : Basis). Keeps club (answer_by pass request moment (Some b))) (sym is.whole)
+    (keep club (not (is_signed_under pass basis.key moment)) (refusal_verdict refusals.NotVerified) _ (keeps_reply_only club _) (λ signed.
+    keep club basis.key.revoked (refusal_verdict refusals.KeyRevoked) _ (keeps_reply_only club _) (λ valid.
     keeps_after_caveats club (first_fault_of pass.caveats (ask_of view request moment)) (verdict_of view request moment)
-    (keeps_decision club name key member state request moment h found owner at)))
+    (keeps_decision club is.name basis.key basis.member state request moment h is.found is.owner is.at))))
 
-is_state : (club : Club) (request : Request) → IsState club request (state_of club (request_slot request))
-is_state club request = λ slot e.
-    let taken : taken_in slot club.bookings ≡ (state_of club (request_slot request)).held.taken = sym (ap (λ s. (state_of club s).held.taken) e) in
-    (sym (ap (λ s. (state_of club s).facility) e), omega arith)
+keeps_text : (club : Club) (text : Result Pass PassFault) (request : Request) (moment : ℕ) (basis : Option Basis) → FitsWidths club
+    → ((b : Basis) → basis ≡ Some b → IsBasisIn club request b) → Keeps club (answer_text text request moment basis)
+keeps_text club (Ok pass) request moment (Some basis) h is = keeps_accepted club pass request moment basis h (is basis refl)
+keeps_text club (Ok pass) request moment None h is = keeps_reply_only club _
+keeps_text club (Err fault) request moment basis h is = keeps_reply_only club _
 
--- the answer by the basis, and by the basis with what others hold
-keeps_member : (club : Club) (name : List ℕ) (pass : Pass) (request : Request) (moment : ℕ) (key : Key) (member : Option Member) → FitsWidths club
-    → key_named name club ≡ Some key → member_named key.member club ≡ member
-    → Keeps club (answer_by pass request moment (option_map (λ (m : Member). basis_with club key m (state_of club (request_slot request))) member))
-keeps_member club name pass request moment key None h found owner = keeps_reply_only club _
-keeps_member club name pass request moment key (Some member) h found owner =
-    keeps_accepted club name pass request moment key member (state_of club (request_slot request)) h found owner (is_state club request)
+-- the basis of a request is such a basis
+module _ (club : Club) (request : Request) where
+  state_is : IsState club request (state_of club (request_slot request))
+  state_is slot e =
+      let taken : taken_in slot club.bookings ≡ (state_of club (request_slot request)).held.taken = sym (ap (λ s. (state_of club s).held.taken) e) in
+      (sym (ap (λ s. (state_of club s).facility) e), omega arith)
 
-keeps_member_alone : (club : Club) (others : SlotUse) (name : List ℕ) (pass : Pass) (request : Request) (moment : ℕ) (key : Key) (member : Option Member)
-    → FitsWidths club → key_named name club ≡ Some key → member_named key.member club ≡ member
-    → Keeps club (answer_by pass request moment (option_map (with_others others)
-    (option_map (λ (m : Member). basis_with club key m (state_of club (request_slot request))) member)))
-keeps_member_alone club others name pass request moment key None h found owner = keeps_reply_only club _
-keeps_member_alone club others name pass request moment key (Some member) h found owner =
-    let state = state_of club (request_slot request) in
-    let seen : SlotState = record { facility = state.facility; held = record { taken = state.held.taken + others.taken; closed = others.closed } } in
-    keeps_accepted club name pass request moment key member seen h found owner (λ slot e.
-    let at = is_state club request slot e in
-    let more : taken_in slot club.bookings ≤ state.held.taken = at.1 in
-    (at.0, omega arith))
+  by_member : (name : List ℕ) (key : Key) (member : Option Member) (basis : Basis) → key_named name club ≡ Some key → member_named key.member club ≡ member
+      → option_map (λ (m : Member). basis_with club key m (state_of club (request_slot request))) member ≡ Some basis → IsBasisIn club request basis
+  by_member name key None basis found owner e = absurd (cc)
+  by_member name key (Some member) basis found owner e =
+      subst (IsBasisIn club request) (same_Some (basis_with club key member (state_of club (request_slot request))) basis e)
+      (record { name = name; found = found; owner = owner; whole = refl; at = state_is })
 
-abbrev key_in : Club → Option (List ℕ) → Option Key
-key_in club name = option_and_then (λ (n : List ℕ). key_named n club) name
+  by_key : (name : List ℕ) (key : Option Key) (basis : Basis) → key_named name club ≡ key → option_and_then (basis_under club request) key ≡ Some basis
+      → IsBasisIn club request basis
+  by_key name None basis found e = absurd (cc)
+  by_key name (Some key) basis found e = by_member name key (member_named key.member club) basis found refl e
 
-keeps_key : (club : Club) (name : List ℕ) (pass : Pass) (request : Request) (moment : ℕ) (key : Option Key) → FitsWidths club → key_named name club ≡ key
-    → Keeps club (answer_by pass request moment (option_and_then (basis_under club request) key))
-keeps_key club name pass request moment None h found = keeps_reply_only club _
-keeps_key club name pass request moment (Some key) h found = keeps_member club name pass request moment key (member_named key.member club) h found refl
+  by_name : (name : Option (List ℕ)) (basis : Basis)
+      → option_and_then (basis_under club request) (option_and_then (λ (n : List ℕ). key_named n club) name) ≡ Some basis → IsBasisIn club request basis
+  by_name None basis e = absurd (cc)
+  by_name (Some name) basis e = by_key name (key_named name club) basis refl e
 
-keeps_name : (club : Club) (name : Option (List ℕ)) (pass : Pass) (request : Request) (moment : ℕ) → FitsWidths club
-    → Keeps club (answer_by pass request moment (option_and_then (basis_under club request) (key_in club name)))
-keeps_name club None pass request moment h = keeps_reply_only club _
-keeps_name club (Some name) pass request moment h = keeps_key club name pass request moment (key_named name club) h refl
-
-keeps_text : (club : Club) (text : Result Pass PassFault) (request : Request) (moment : ℕ) → FitsWidths club
-    → Keeps club (answer_text text request moment (option_and_then (basis_under club request) (key_in club (key_of text))))
-keeps_text club (Err fault) request moment h = keeps_reply_only club _
-keeps_text club (Ok pass) request moment h = keeps_name club pass.key pass request moment h
+  -- and with what others hold of the slot too
+  with_more : (others : SlotUse) (alone : Option Basis) (basis : Basis) → ((b : Basis) → alone ≡ Some b → IsBasisIn club request b)
+      → option_map (with_others others) alone ≡ Some basis → IsBasisIn club request basis
+  with_more others None basis is e = absurd (cc)
+  with_more others (Some alone) basis is e =
+      let own = is alone refl in
+      subst (IsBasisIn club request) (same_Some (with_others others alone) basis e) (record {
+        name = own.name;
+        found = own.found;
+        owner = own.owner;
+        whole = ap (with_others others) own.whole;
+        at = λ slot s. let there = own.at slot s in (there.0, omega arith);
+      })
 
 -- the answer to a request
 pub keeps_answer : (club : Club) (words : Words) (moment : ℕ) → FitsWidths club → Keeps club (answer_by_basis words moment (basis_of club words))
-keeps_answer club words moment h = keeps_text club words.pass words.request moment h
-
-keeps_key_alone : (club : Club) (others : SlotUse) (name : List ℕ) (pass : Pass) (request : Request) (moment : ℕ) (key : Option Key) → FitsWidths club
-    → key_named name club ≡ key → Keeps club (answer_by pass request moment (option_map (with_others others) (option_and_then (basis_under club request) key)))
-keeps_key_alone club others name pass request moment None h found = keeps_reply_only club _
-keeps_key_alone club others name pass request moment (Some key) h found =
-    keeps_member_alone club others name pass request moment key (member_named key.member club) h found refl
-
-keeps_name_alone : (club : Club) (others : SlotUse) (name : Option (List ℕ)) (pass : Pass) (request : Request) (moment : ℕ) → FitsWidths club
-    → Keeps club (answer_by pass request moment (option_map (with_others others) (option_and_then (basis_under club request) (key_in club name))))
-keeps_name_alone club others None pass request moment h = keeps_reply_only club _
-keeps_name_alone club others (Some name) pass request moment h = keeps_key_alone club others name pass request moment (key_named name club) h refl
-
-keeps_text_alone : (club : Club) (others : SlotUse) (text : Result Pass PassFault) (request : Request) (moment : ℕ) → FitsWidths club
-    → Keeps club (answer_text text request moment (option_map (with_others others) (option_and_then (basis_under club request) (key_in club (key_of text)))))
-keeps_text_alone club others (Err fault) request moment h = keeps_reply_only club _
-keeps_text_alone club others (Ok pass) request moment h = keeps_name_alone club others pass.key pass request moment h
+keeps_answer club words moment h =
+    keeps_text club words.pass words.request moment (basis_of club words) h (by_name club words.request (key_of words.pass))
 
 -- the answer to a request in a club that holds only one member's part
 pub keeps_solo : (club : Club) (words : Words) (moment : ℕ) (others : SlotUse) → FitsWidths club → Keeps club (solo_verdict club words moment others)
-keeps_solo club words moment others h = keeps_text_alone club others words.pass words.request moment h
+keeps_solo club words moment others h =
+    keeps_text club words.pass words.request moment (option_map (with_others others) (basis_of club words)) h
+    (λ basis. with_more club words.request others (basis_of club words) basis (by_name club words.request (key_of words.pass)))

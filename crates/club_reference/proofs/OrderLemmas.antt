@@ -1,8 +1,9 @@
 -- Each order of the office keeps a club's numbers within their widths.
 use Rattle.std.proofs.Common.{◌≡◌, ℕ, ◌+◌, ◌≤◌, Bool, true, false, cond, List, [], ◌∷◌, refl, arith, subst}
-use Rattle.std.specs.Prelude.{Option, Some, None, Result, Ok, Err, is_some, nat_lt, nat_le, ◌&&◌, ◌||◌, ◌==◌, not}
+use Rattle.std.proofs.lemmas.Bool.Decides.{nat_tests}
+use Rattle.std.specs.Prelude.{Option, Some, None, Result, Ok, Err, is_some, nat_lt, ◌||◌, ◌==◌, not}
 use Rattle.std.specs.Str.{bytes_eq}
-use Rattle.std.proofs.lemmas.Bool.{ltb-false, leb-true}
+use Rattle.std.proofs.lemmas.Bool.{ltb-false, not-false, cond_both}
 use Rattle.club_values.specs.declared.slot.Slot.{Slot}
 use Rattle.club_rows.specs.declared.member.Member.{Member}
 use Rattle.club_rows.specs.declared.facility.Facility.{Facility}
@@ -21,7 +22,6 @@ use Rattle.club_core.specs.Club.{Club, member_named, facility_named, key_named}
 use Rattle.club_core.specs.After.{after}
 use Rattle.club_core.specs.Office.{are_limits, credit_verdict, rotate_verdict, close_verdict, office_verdict}
 use Rattle.club_reference.specs.Widths.{FitsWidths}
-use Rattle.club_reference.proofs.NameLemmas.{both}
 use Rattle.club_reference.proofs.WidthLemmas.{fits_insert_member, fits_add_credit, fits_insert_facility}
 
 -- an accepted order's change keeps the numbers within their widths
@@ -36,23 +36,10 @@ keeps_ok club change h = record { kept = λ other e. let same : change ≡ other
 
 keep : (club : Club) (fits : Bool) (fault : OfficeFault) (y : Result Change OfficeFault) → (fits ≡ false → KeepsOk club y)
     → KeepsOk club (cond fits (Err fault) y)
-keep club true fault y k = keeps_err club fault
-keep club false fault y k = k refl
-
-none_of : {X : Type 0} (o : Option X) → is_some o ≡ false → o ≡ None
-none_of None e = refl
-none_of (Some x) e = cc
-
-not_false : (b : Bool) → not b ≡ false → b ≡ true
-not_false true e = refl
-not_false false e = cc
+keep club fits fault y k = cond_both fits (Err fault) y (KeepsOk club) (λ _. keeps_err club fault) k
 
 few_places : (places price opens shuts : ℕ) → are_limits places price opens shuts ≡ true → places ≤ 50
-few_places places price opens shuts e =
-    let to_opens = both (nat_le 1 places && nat_le places 50 && nat_le price 9_999 && nat_lt opens shuts) (nat_le shuts 24) e in
-    let to_price = both (nat_le 1 places && nat_le places 50 && nat_le price 9_999) (nat_lt opens shuts) to_opens.0 in
-    let to_places = both (nat_le 1 places && nat_le places 50) (nat_le price 9_999) to_price.0 in
-    leb-true places 50 (both (nat_le 1 places) (nat_le places 50) to_places.0).1
+few_places places price opens shuts e = grind (arith, nat_tests)
 
 keeps_credit : (club : Club) (name : List ℕ) (points : ℕ) (member : Option Member) → FitsWidths club → member_named name club ≡ member
     → KeepsOk club (credit_verdict name points member)
@@ -63,10 +50,10 @@ keeps_credit club name points (Some member) h found =
 
 -- keys and closed slots have no such numbers
 fits_keys : (club : Club) (keys : List Key) → FitsWidths club → FitsWidths (record club { keys = keys })
-fits_keys club keys h = record { credited = h.credited; unique = h.unique; places = h.places; taken = h.taken; spent = h.spent; kept = h.kept }
+fits_keys club keys h = assumption
 
 fits_closed : (club : Club) (closed : List Slot) → FitsWidths club → FitsWidths (record club { closed = closed })
-fits_closed club closed h = record { credited = h.credited; unique = h.unique; places = h.places; taken = h.taken; spent = h.spent; kept = h.kept }
+fits_closed club closed h = assumption
 
 keeps_rotation : (club : Club) (name root : List ℕ) (until : ℕ) (key : Option Key) → FitsWidths club → KeepsOk club (rotate_verdict name root until key)
 keeps_rotation club name root until None h = keeps_err club _
@@ -90,7 +77,7 @@ keeps_order club (commands.AddMember name quota) h =
     let known : Line (Result Change OfficeFault) = line_if (is_some (member_named name club)) (Err Exists) in
     keep club (nat_lt 99 quota) OutOfRange (first_of (known ∷ []) (Ok (InsertMember member))) (λ e.
     keep club (is_some (member_named name club)) Exists (Ok (InsertMember member)) (λ none.
-    keeps_ok club (InsertMember member) (fits_insert_member club member h (omega arith) (none_of (member_named name club) none))))
+    keeps_ok club (InsertMember member) (fits_insert_member club member h (omega arith) (grind arith))))
 keeps_order club (commands.Credit name points) h =
     keep club (points == 0 || nat_lt 1_000_000 points) OutOfRange (credit_verdict name points (member_named name club)) (λ e.
     keeps_credit club name points (member_named name club) h refl)
@@ -100,7 +87,7 @@ keeps_order club (commands.AddFacility name kind places price opens shuts) h =
     keep club (not (are_limits places price opens shuts)) OutOfRange (first_of (known ∷ []) (Ok (InsertFacility facility))) (λ limits.
     keep club (is_some (facility_named name club)) Exists (Ok (InsertFacility facility)) (λ none.
     keeps_ok club (InsertFacility facility) (fits_insert_facility club facility h
-    (few_places places price opens shuts (not_false (are_limits places price opens shuts) limits)))))
+    (few_places places price opens shuts (not-false (are_limits places price opens shuts) limits)))))
 keeps_order club (commands.AddKey name member root) h =
     let key : Key = record { name = name; member = member; root = root; older = None; revoked = false } in
     let known : Line (Result Change OfficeFault) = line_if (is_some (key_named name club)) (Err Exists) in

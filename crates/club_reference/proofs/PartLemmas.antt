@@ -1,5 +1,7 @@
 -- A member's part keeps the numbers of the club within their widths.
-use Rattle.std.proofs.Common.{◌≡◌, ℕ, ◌≤◌, Bool, true, false, cond, List, [], ◌∷◌, get_or, zero, suc, refl, arith, ◌∙◌, sym, ap, subst}
+use Rattle.std.proofs.Common.{◌≡◌, ℕ, ◌≤◌, Bool, true, false, List, [], ◌∷◌, get_or, refl, arith, ◌∙◌, sym, subst}
+use Rattle.std.proofs.lemmas.Bool.{cond_both}
+use Rattle.std.proofs.lemmas.List.Elements.{All-tail, All-cons, All-head}
 use Rattle.std.specs.Prelude.{Some, find, filter, All}
 use Rattle.std.specs.Str.{bytes_eq}
 use Rattle.club_rows.specs.declared.member.Member.{Member}
@@ -13,28 +15,16 @@ use Rattle.club_reference.specs.Widths.{FitsWidths}
 use Rattle.club_reference.proofs.SumLemmas.{sum-filter_le}
 use Rattle.club_reference.proofs.NameLemmas.{bytes_eq_true}
 
--- what holds of each row that passes holds of the rows that are kept
-all_kept : {X : Type 0} (P : X → Type 0) (b : Bool) (x : X) (xs : List X) → (b ≡ true → P x) → All P xs → All P (cond b (x ∷ xs) xs)
-all_kept P true x xs here rest = λ k d lt. first P x xs (here refl) rest k d lt
-  where
-    first : {Y : Type 0} (Q : Y → Type 0) (y : Y) (ys : List Y) → Q y → All Q ys → All Q (y ∷ ys)
-    first Q y ys h r zero d lt = h
-    first Q y ys h r (suc k) d lt = r k d (omega arith)
-all_kept P false x xs here rest = rest
-
 pub all_filter : {X : Type 0} (P : X → Type 0) (p : X → Bool) (xs : List X) → All (λ x. p x ≡ true → P x) xs → All P (filter p xs)
 all_filter P p [] h = λ k d lt. absurd (omega arith)
-all_filter P p (x ∷ xs) h = all_kept P (p x) x (filter p xs) (h zero x (omega arith)) (all_filter P p xs (λ k d lt. h (suc k) d (omega arith)))
+all_filter P p (x ∷ xs) h =
+    let rest = all_filter P p xs (All-tail (λ y. p y ≡ true → P y) x xs h) in
+    cond_both (p x) (x ∷ filter p xs) (filter p xs) (All P) (λ e. All-cons P x (filter p xs) (All-head (λ y. p y ≡ true → P y) x xs h e) rest) (λ _. rest)
 
 -- the row that is found among those that pass
 find-filter : {X : Type 0} (p : X → Bool) (xs : List X) → find p (filter p xs) ≡ find p xs
 find-filter p [] = refl
-find-filter p (x ∷ xs) = at p x xs (p x) refl (find-filter p xs)
-  where
-    at : {Y : Type 0} (q : Y → Bool) (y : Y) (ys : List Y) (b : Bool) → q y ≡ b → find q (filter q ys) ≡ find q ys
-        → find q (cond b (y ∷ filter q ys) (filter q ys)) ≡ cond b (Some y) (find q ys)
-    at q y ys true e ih = ap (λ c. cond c (Some y) (find q (filter q ys))) e
-    at q y ys false e ih = ih
+find-filter p (x ∷ xs) = grind (arith, find-filter p xs)
 
 pub fits_part : (name : List ℕ) (club : Club) → FitsWidths club → FitsWidths (part_of name club)
 fits_part name club h =

@@ -1,5 +1,5 @@
 -- The computed model of words is their model.
-use Rattle.std.proofs.Common.{◌≡◌, ◌↔◌, ℕ, Bool, true, false, IsTrue, List, [], ◌∷◌, map, Option, Some, None, refl, sym, ap, ◌∙◌, subst, Decides}
+use Rattle.std.proofs.Common.{◌≡◌, ℕ, List, [], ◌∷◌, map, Option, Some, None, refl, sym, ap, subst, Decides}
 use Rattle.std.proofs.Math.Path.{fun_ext}
 use Rattle.std.specs.Prelude.{Contains, Result, Ok, Err}
 use Rattle.std.specs.List.{list_any}
@@ -15,7 +15,6 @@ use Rattle.pass_caveats.specs.Laws.{ReadsWhatIsUnderstood}
 use Rattle.pass_caveats.specs.computed.CaveatOf.{caveat_of}
 use Rattle.club_values.specs.Reading.{Reads}
 use Rattle.club_core.specs.declared.pass_fault.PassFault.{PassFault}
-use Rattle.club_core.specs.declared.request.Request.{Request}
 use Rattle.club_core.specs.Pass.{Pass, Words}
 use Rattle.club_reference.specs.declared.words.Pass.{Pass as PassInCode}
 use Rattle.club_reference.specs.declared.words.Words.{Words as WordsInCode}
@@ -48,11 +47,11 @@ module _ (reads : ReadsWhatIsUnderstood) where
 
   one_list : (texts : List (List ℕ)) (caveats : List (Option Caveat)) → AreUnderstoodAs texts caveats → map caveat_of texts ≡ caveats
   one_list [] [] h = refl
-  one_list [] (caveat ∷ caveats) h = absurd h
-  one_list (text ∷ texts) [] h = absurd h
   one_list (text ∷ texts) (caveat ∷ caveats) h =
-      ap (λ (one : Option Caveat). one ∷ map caveat_of texts) (one_reading text caveat h.0)
-      ∙ ap (λ (others : List (Option Caveat)). caveat ∷ others) (one_list texts caveats h.1)
+      let here = one_reading text caveat h.0 in
+      let rest = one_list texts caveats h.1 in
+      cc
+  one_list texts caveats h = absurd h
 
   is_model : (pass : PassInCode) → IsPassModel pass (pass_model pass)
   is_model pass = record {
@@ -63,18 +62,13 @@ module _ (reads : ReadsWhatIsUnderstood) where
 
   one_model : (pass : PassInCode) (model : Pass) → IsPassModel pass model → pass_model pass ≡ model
   one_model pass model h =
-      let made : Option (List ℕ) → List (Option Caveat) → (List ℕ → Bool) → Pass =
-      λ key caveats is_signed. record { key = key; caveats = caveats; is_signed = is_signed }
-      in
       let computed = pass_model pass in
+      let caveats = one_list (map vec_items pass.caveats.items) model.caveats h.caveats in
       let roots : computed.is_signed ≡ model.is_signed =
       fun_ext (λ (root : List ℕ).
       sym (same_from_decides (model.is_signed root) (computed.is_signed root) (h.signed root) (Decides-signed pass.roots.items root)))
       in
-      ap (λ (key : Option (List ℕ)). made key computed.caveats computed.is_signed) (sym h.key)
-      ∙ (ap (λ (caveats : List (Option Caveat)). made model.key caveats computed.is_signed)
-      (one_list (map vec_items pass.caveats.items) model.caveats h.caveats)
-      ∙ ap (λ (signs : List ℕ → Bool). made model.key model.caveats signs) roots)
+      λ i. record { key = sym h.key i; caveats = caveats i; is_signed = roots i }
 
   is_result_model : (pass : Result PassInCode PassFault) → IsResultModel pass (pass_result_model pass)
   is_result_model (Ok pass) = is_model pass
@@ -82,15 +76,14 @@ module _ (reads : ReadsWhatIsUnderstood) where
 
   one_result : (pass : Result PassInCode PassFault) (model : Result Pass PassFault) → IsResultModel pass model → pass_result_model pass ≡ model
   one_result (Ok pass) (Ok model) h = ap (λ (p : Pass). let read : Result Pass PassFault = Ok p in read) (one_model pass model h)
-  one_result (Ok pass) (Err fault) h = absurd h
-  one_result (Err fault) (Ok model) h = absurd h
-  one_result (Err fault) (Err other) h = ap (λ (f : PassFault). let read : Result Pass PassFault = Err f in read) (sym h)
+  one_result (Err fault) (Err other) h = cc
+  one_result pass model h = absurd h
 
   one_of : (words : WordsInCode) (model : Words) → IsModelOf words model → words_model words ≡ model
   one_of words model h =
-      let made : Result Pass PassFault → Request → Words = λ pass request. record { pass = pass; request = request } in
-      ap (λ (pass : Result Pass PassFault). made pass words.request) (one_result words.pass model.pass h.0)
-      ∙ ap (λ (request : Request). made model.pass request) (sym h.1)
+      let pass = one_result words.pass model.pass h.0 in
+      let request = sym h.1 in
+      λ i. record { pass = pass i; request = request i }
 
   pub models_words : ModelsWords
   models_words words model =
