@@ -67,7 +67,7 @@ no_day text never n s =
 of_civil : (y m d : ℕ) → IsCivilDate (pos y) m d → IsDate (pos y) (pos m) (pos d)
 of_civil y m d h = (h.0, (omega (arith, signed_arith), omega (arith, signed_arith)), (omega (arith, signed_arith), omega (arith, signed_arith)))
 
-from_pos : (a b : ℕ) → pos a ≡ pos b → a ≡ b
+pub from_pos : (a b : ℕ) → pos a ≡ pos b → a ≡ b
 from_pos a b e = cc
 
 -- a date by its parts, where the constructor says whether there is one

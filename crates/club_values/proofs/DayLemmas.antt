@@ -1,19 +1,17 @@
 -- The date of a day by arithmetic is the calendar's.
 use Rattle.std.proofs.Common.{◌≡◌, ℕ, ◌+◌, ◌-◌, ◌*◌, ◌/◌, ◌%◌, ◌<◌, ◌≤◌, ◌≢◌, cond, Bool, true, false, nat_lt, refl, suc, ◌∙◌, ltb-true, ltb-false, sym, List}
-use Rattle.std.proofs.Common.{◌++◌, drop, ap, arith, ◌^◌, ℤ, to_z, of_z, w16, pos, ◌+ℤ◌}
+use Rattle.std.proofs.Common.{◌++◌, drop, ap, arith, to_z, of_z, w16, pos, ◌+ℤ◌}
 use Rattle.std.proofs.lemmas.Bool.Decides.{nat_tests}
 use Rattle.jiff_core.specs.Calendar.{IsCivilDate, days_from_civil, day_count}
 use Rattle.jiff_core.specs.Date.{epoch_day}
 use Rattle.jiff_core.specs.March.{march_days}
 use Rattle.jiff_core.proofs.SignedLemmas.{signed_arith, back_small}
-use Rattle.std.specs.Int.{Width}
-use mir.Val.{hbits}
 use Rattle.jiff_core.proofs.MarchLemmas.{day_count-late, day_count-early, month_and_day, day_in_month, day_in_early_month, leap_day}
 use Rattle.jiff_core.proofs.CalendarLemmas.{days_from_civil-day_count, days_in_month_bounds}
 use Rattle.club_values.specs.Day.{IsDay, IsDateOf, march_year, day_of_march_year, year_of, month_of, day_of_month, date_text, day_text, SpellsDay}
 use Rattle.jiff_core.specs.declared.civil.date.Date.{Date}
 use Rattle.jiff_core.proofs.DateLemmas.{epoch_day_injective}
-use Rattle.club_values.proofs.DateTextLemmas.{date_record}
+use Rattle.club_values.proofs.DateTextLemmas.{date_record, from_pos}
 use Rattle.club_values.proofs.DigitLemmas.{two_digits_injective, four_digits_injective}
 
 -- a day's place in its year from March
@@ -94,12 +92,7 @@ date_of_day n d h e =
 
 year_bounds : (q r n : ℕ) (b : Bool) → nat_lt 12 ((5 * r + 461) / 153) ≡ b → 3 ≤ q → q ≤ 103 → r < 366 → IsDay n → n ≡ 9556 + 365 * q + q / 4 + r →
     (2000 ≤ 1996 + q + cond b 1 0) × (1996 + q + cond b 1 0 ≤ 2099)
-year_bounds q r n true test low high small h e =
-    let early : 12 < (5 * r + 461) / 153 = ltb-true _ _ test in
-    (omega arith, omega arith)
-year_bounds q r n false test low high small h e =
-    let late : (5 * r + 461) / 153 ≤ 12 = ltb-false _ _ test in
-    (omega arith, omega arith)
+year_bounds q r n b test low high small h e = grind arith
 
 pub date_bounds : (n : ℕ) → IsDay n → (2000 ≤ year_of n) × (year_of n ≤ 2099) × (month_of n ≤ 12) × (day_of_month n ≤ 31)
 date_bounds n h =
@@ -109,15 +102,11 @@ date_bounds n h =
     let long = days_in_month_bounds (pos (year_of n)) (month_of n) in
     (years.0, years.1, is.1.1, omega (arith, is.2.1))
 
--- a number comes back from a signed type
-cast_back : (w : Width) (z : ℤ) (n : ℕ) → z ≡ pos n → n < 2 ^ hbits w → to_z w (of_z w z) ≡ pos n
-cast_back w z n e h = rw e (back_small w (pos n) h)
-
 -- the year of a day's date, as the code gets it
 pub year_after_cast : (n : ℕ) (d : Date) → IsDay n → epoch_day d ≡ pos n → to_z w16 (of_z w16 d.year) ≡ pos (year_of n)
 year_after_cast n d h e =
     let b = date_bounds n h in
-    cast_back w16 d.year (year_of n) (date_of_day n d h e).0 (omega arith)
+    rw (date_of_day n d h e).0 (back_small w16 (pos (year_of n)) (omega arith))
 
 -- the text of a real date is that of its day
 pub date_text-day_text : (n y m d : ℕ) → IsDay n → IsDateOf y m d n → date_text y m d ≡ day_text n
@@ -142,12 +131,6 @@ day_text-spells n h =
       within = h;
     }
 
-same_number : (y m d y₂ m₂ d₂ : ℕ) → y ≡ y₂ → m ≡ m₂ → d ≡ d₂ → days_from_civil (pos y) m d ≡ days_from_civil (pos y₂) m₂ d₂
-same_number y m d y₂ m₂ d₂ year month day = rw (year, month, day)
-
-from_pos : (a b : ℕ) → pos a ≡ pos b → a ≡ b
-from_pos a b e = cc
-
 -- different days have different texts, whatever follows them
 pub day_text_injective : (a b : ℕ) (xs ys : List ℕ) → IsDay a → IsDay b → day_text a ++ xs ≡ day_text b ++ ys → a ≡ b
 unfolding day_text
@@ -155,5 +138,4 @@ day_text_injective a b xs ys h k e =
     let year = four_digits_injective (year_of a) (year_of b) _ _ e in
     let month = two_digits_injective (month_of a) (month_of b) _ _ (ap (drop 5) e) in
     let day = two_digits_injective (day_of_month a) (day_of_month b) xs ys (ap (drop 8) e) in
-    let number = sym (civil_date a h).1 ∙ (same_number _ _ _ _ _ _ year month day ∙ (civil_date b k).1) in
-    from_pos a b number
+    from_pos a b (sym (civil_date a h).1 ∙ rw (year, month, day) (civil_date b k).1)

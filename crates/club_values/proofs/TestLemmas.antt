@@ -1,5 +1,5 @@
 -- The tests decide what they test.
-use Rattle.std.proofs.Common.{◌≡◌, ℕ, ◌≤◌, true, nat_le, List, length, inl, inr, refl, arith, Decides}
+use Rattle.std.proofs.Common.{◌≡◌, ℕ, ◌≤◌, true, nat_le, List, length, refl, arith, Decides}
 use Rattle.std.specs.Int.{IsInRange, is_in_range}
 use Rattle.std.specs.List.{list_all}
 use Rattle.std.proofs.lemmas.Bool.Decides.{Decides-like, Decides-and, Decides-not, Decides-ltb, Decides-eqb, Decides-by_and, leb_tells}
@@ -7,7 +7,7 @@ use Rattle.club_values.specs.Name.{is_name_byte, IsName}
 use Rattle.club_values.specs.computed.TextOf.{is_name}
 
 pub Decides-leb : (a b : ℕ) → Decides (nat_le a b) (a ≤ b)
-Decides-leb a b = elim (leb_tells a b) [ inl t ↦ ((λ e. t.1), (λ h. t.0)) | inr t ↦ ((λ e. absurd (cc)), (λ h. absurd (omega arith))) ]
+Decides-leb a b = grind (arith, leb_tells a b)
 
 pub Decides-range : (low high n : ℕ) → Decides (is_in_range low high n) (IsInRange low high n)
 Decides-range low high n = Decides-and _ _ (Decides-leb low n) (Decides-leb n high)

@@ -1,5 +1,5 @@
 -- The functions `.._of_text` return exactly what the text spells.
-use Rattle.std.proofs.Common.{◌≡◌, ◌↔◌, ℕ, Bool, true, false, cond, List, [], Option, Some, None, refl, sym, ap, subst, ◌∙◌, Decides}
+use Rattle.std.proofs.Common.{◌≡◌, ◌↔◌, ℕ, Bool, true, false, cond, List, [], Option, Some, None, refl, sym, ap, subst, ◌∙◌, Decides, arith}
 use Rattle.std.specs.Prelude.{◌&&◌, not}
 use Rattle.std.specs.Str.{bytes_eq}
 use Rattle.std.specs.Str.Parse.{digits_value}
@@ -7,9 +7,7 @@ use Rattle.std.proofs.lemmas.Bool.Decides.{Decides-like, Decides-and, Decides-lt
 use Rattle.std.proofs.lemmas.Slice.Eq.{bytes_eq-Decides}
 use Rattle.club_values.specs.Reading.{Reads}
 use Rattle.club_values.specs.declared.kind.Kind.{Kind}
-use Rattle.club_values.specs.declared.kind.Kind.TheVariants.{Court, Boat, Room}
 use Rattle.club_values.specs.declared.action.Action.{Action}
-use Rattle.club_values.specs.declared.action.Action.TheVariants.{View, Book, Cancel, Account}
 use Rattle.club_values.specs.Name.{IsName}
 use Rattle.club_values.specs.Number.{are_few_digits, SpellsNumber}
 use Rattle.club_values.specs.Digits.{two_digits}
@@ -86,9 +84,7 @@ always : {A : Type 0} (x : A) → Decides true (Unit {0})
 always x = ((λ e. tt), (λ u. refl))
 
 kind_again : (kind : Kind) → Unit {0} → candidate_kind (kind_text kind) ≡ kind
-kind_again Court u = refl
-kind_again Boat u = refl
-kind_again Room u = refl
+kind_again kind u = grind arith
 
 pub reads_kinds : ReadsKinds
 unfolding kind_of_text
@@ -96,10 +92,7 @@ reads_kinds text =
     found_where text (λ kind. text ≡ kind_text kind) (λ _. Unit {0}) candidate_kind kind_text (λ _. true) always (λ kind e. (tt, e)) (λ kind u e. e) kind_again
 
 action_again : (action : Action) → Unit {0} → candidate_action (action_text action) ≡ action
-action_again View u = refl
-action_again Book u = refl
-action_again Cancel u = refl
-action_again Account u = refl
+action_again action u = grind arith
 
 pub reads_actions : ReadsActions
 unfolding action_of_text
@@ -113,14 +106,10 @@ reads_names text =
     found (λ name. IsName text × (name ≡ text)) text (is_name text)
     (Decides-like _ (λ is. (is, refl)) (λ both. both.0) (Decides-is_name text)) (λ name both. sym both.1)
 
-in_turn : (digits zero : Bool) (n : ℕ) → cond zero None (cond digits (Some n) None) ≡ cond (digits && not zero) (Some n) None
-in_turn true true n = refl
-in_turn true false n = refl
-in_turn false true n = refl
-in_turn false false n = refl
-
 pub reads_numbers : ReadsNumbers
 unfolding decimal_of_text
 reads_numbers text n =
-    rw (in_turn (are_few_digits text) (leads_with_zero text) (digits_value 10 text))
-    (found (SpellsNumber text) (digits_value 10 text) (are_few_digits text && not (leads_with_zero text)) (Decides-number text) (value_of-number text) n)
+    let zero = leads_with_zero text in
+    let digits = are_few_digits text in
+    let in_turn : cond zero None (cond digits (Some (digits_value 10 text)) None) ≡ cond (digits && not zero) (Some (digits_value 10 text)) None = grind arith in
+    rw in_turn (found (SpellsNumber text) (digits_value 10 text) (digits && not zero) (Decides-number text) (value_of-number text) n)

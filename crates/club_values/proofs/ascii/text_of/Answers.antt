@@ -1,11 +1,10 @@
-use Rattle.std.proofs.Common.{Result, Ok, Err, MatchResult, refl}
+use Rattle.std.proofs.Common.{Result, MatchResult, arith}
 use Rattle.std.specs.Prelude.{IsOk}
 use Rattle.std.proofs.lemmas.Str.{IsUtf8-from_ascii}
 use Rattle.club_values.proofs.ascii.text_of.Goals as goal
 
 no_error : {T E : Type 0} (r : Result T E) (P : T → Type 0) (Q : E → Type 0) → MatchResult r P Q → ((e : E) → Q e → ⊥) → IsOk r
-no_error (Ok x) P Q h never = refl
-no_error (Err e) P Q h never = absurd (never e h)
+no_error r P Q h never = grind arith
 
 pub unwrap-requires : goal.unwrap-requires
 unwrap-requires c = no_error _ _ _ c.from_utf8.ensures.cases (λ e h. h.0 (IsUtf8-from_ascii _ c.requires))

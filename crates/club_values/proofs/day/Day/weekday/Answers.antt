@@ -1,19 +1,13 @@
-use Rattle.std.proofs.Common.{◌≡◌, ℕ, get_or, refl, ap, ◌∙◌}
+use Rattle.std.proofs.Common.{◌≡◌, ℕ, get_or, ap, ◌∙◌, arith}
 use Rattle.jiff_core.specs.Calendar.{weekday_number}
 use Rattle.jiff_core.specs.Weekday.{monday_zero}
 use Rattle.jiff_core.specs.declared.civil.weekday.Weekday.{Weekday}
-use Rattle.jiff_core.specs.declared.civil.weekday.Weekday.TheVariants.{Monday, Tuesday, Wednesday, Thursday, Friday, Saturday, Sunday}
+use Rattle.jiff_core.specs.declared.civil.weekday.Weekday.TheVariants.{Monday}
 use Rattle.club_values.specs.Weekday.{weekdays}
 use Rattle.club_values.proofs.day.Day.weekday.Goals as goal
 
 by_number : (weekday : Weekday) → weekday ≡ get_or weekdays (monday_zero weekday) Monday
-by_number Monday = refl
-by_number Tuesday = refl
-by_number Wednesday = refl
-by_number Thursday = refl
-by_number Friday = refl
-by_number Saturday = refl
-by_number Sunday = refl
+by_number weekday = grind arith
 
 pub returns : goal.returns
 unfolding weekday_number
