@@ -204,8 +204,7 @@ module _ (text : List ℕ) (terms sets : List Term) (at : ℕ) (clause : Upsert)
       slot_values (λ (row : SlotRow). same_slot row.slot slot) (changed slot change) (unchanged slot change) (new_row_of slot change) (λ id x.
       slots_conflict id (next_rowid (old.now.trees slots_tree)) x slot closed taken)
       (λ id x. rw (cast_int id, cast_int (pos x.slot.day), cast_int (pos x.slot.hour), cast_int (pos (truth x.held.closed)), cast_int (pos x.held.taken)) refl)
-      rows.slots holds_rows.held.slots (lone (λ (row : SlotRow). row.slot) same_slot same_slots same_itself slot rows.slots
-      (apart_from_pairs (λ (a : SlotRow) (b : SlotRow). a.slot ≢ b.slot) rows.slots once))
+      rows.slots holds_rows.held.slots (lone (λ (row : SlotRow). row.slot) same_slot same_slots same_itself slot rows.slots once)
       (λ none. ap (λ vs. name_values slot ++ vs) (values none)) ids (each_yields rows.slots yields) count executed in
       (on_slots holds_rows left.0 left.1, left.2)
 
@@ -351,8 +350,7 @@ older_represents rows once key older old new count holds_rows executed =
     (rw (cast_null, cast_int (pos older.until)) refl) (λ id. rw (cast_int id, cast_int (pos older.until)) refl)
     older_values (is_of key older) (renewed key older) (same_older key older) (record { key = key; older = older }) (λ id row.
     olders_conflict id (next_rowid (old.now.trees olders_tree)) row key older) (casts key older) rows.olders holds_rows.held.olders
-    (lone (λ (row : OlderRow). row.key) bytes_eq same_names itself key rows.olders
-    (apart_from_pairs (λ (a : OlderRow) (b : OlderRow). a.key ≢ b.key) rows.olders once))
+    (lone (λ (row : OlderRow). row.key) bytes_eq same_names itself key rows.olders once)
     (λ _. refl) (λ there. refl) (each_of _ (λ x id there passes.
     ap (λ b. Int id ∷ Int id ∷ Text x.key ∷ older_root_values (if b then older else x.older)) (sym passes)) rows.olders) count executed in
     (on_olders holds_rows put.0 put.1, put.2)

@@ -193,27 +193,6 @@ unmarked key number refund booking fails =
 unnamed : (key : List ℕ) (number refund : ℕ) (booking : Booking) → is_named key number booking ≡ false → cancelled_booking key number refund booking ≡ booking
 unnamed key number refund booking fails = unmarked key number refund booking (rw fails refl)
 
-named_alone : (key : List ℕ) (number refund : ℕ) (bookings : List Booking)
-    → Apart (λ (a : Booking) (b : Booking). ¬ ((a.key ≡ b.key) × (a.number ≡ b.number))) bookings
-    → Apart (IsAlone (is_named key number) (cancelled_booking key number refund) (unnamed key number refund)) bookings
-named_alone key number refund [] apart = tt
-named_alone key number refund (b ∷ bookings) apart = (each bookings apart.0, named_alone key number refund bookings apart.1)
-  where
-    each : (others : List Booking) → AllByRecursion (λ (other : Booking). ¬ ((b.key ≡ other.key) × (b.number ≡ other.number))) others
-        → AllByRecursion (λ (other : Booking). ¬ ((is_named key number b ≡ true) × (is_named key number other ≡ true))) others
-    each [] apart = tt
-    each (other ∷ others) apart = (two, each others apart.1)
-      where
-        two : ¬ ((is_named key number b ≡ true) × (is_named key number other ≡ true))
-        two both =
-            let mine = and_parts _ _ both.0 in
-            let its = and_parts _ _ both.1 in
-            apart.0 (
-              same_names key b.key other.key mine.0 its.0,
-              (unsigned_Decides b.number number).0 mine.1
-                  ∙ sym ((unsigned_Decides other.number number).0 its.1),
-            )
-
 module _ (club : Club) (sound : IsSound club) (booking : Booking) (cancels : IsToCancel booking club) (refund : ℕ)
     (fits : IsSound (record club { bookings = map (cancelled_booking booking.key booking.number refund) club.bookings })) where
   abbrev key : List ℕ
@@ -228,11 +207,14 @@ module _ (club : Club) (sound : IsSound club) (booking : Booking) (cancels : IsT
   abbrev next : Club
   next = record club { bookings = map change club.bookings }
 
-  abbrev R : Booking → Booking → Type 0
-  R a b = ¬ ((a.key ≡ b.key) × (a.number ≡ b.number))
-
   alone : Apart (IsAlone (is_named key number) change (unnamed key number refund)) club.bookings
-  alone = named_alone key number refund club.bookings (apart_from_pairs R club.bookings sound.unique.bookings)
+  alone = apart_from_pairs _ club.bookings (λ i j d less low both.
+      let mine = and_parts _ _ both.0 in
+      let its = and_parts _ _ both.1 in
+      sound.unique.bookings i j d less low (
+        same_names key _ _ mine.0 its.0,
+        (unsigned_Decides _ number).0 mine.1 ∙ sym ((unsigned_Decides _ number).0 its.1),
+      ))
 
   pub there : Contains club.bookings booking × (is_named key number booking ≡ true)
   there = found (is_named key number) club.bookings booking cancels.0

@@ -45,7 +45,7 @@ use Rattle.club_tables.proofs.changes.ChangeLemmas.{member_credited, Credits, cr
 use Rattle.club_tables.proofs.changes.StoredLemmas.{taken_more, member_stored, credit_stored, facility_stored, key_stored, revoke_stored, rotate_stored}
 use Rattle.club_tables.proofs.changes.StoredLemmas.{close_stored, booking_stored, totals_rows, book_rows}
 use Rattle.club_tables.proofs.changes.TotalsLemmas.{one_turn, named_once, few_used, uses_more, minus, uses_less, held_is, takes_of, no_row, few_taken}
-use Rattle.club_tables.proofs.changes.TotalsLemmas.{all_mapped, credits_of}
+use Rattle.club_tables.proofs.changes.TotalsLemmas.{credits_of}
 use Rattle.club_tables.proofs.lists.OwnerLemmas.{all_last, owner_is}
 use Rattle.club_tables.proofs.queries.KeyLemmas.{find_mapped, AreBookingsOnce}
 use Rattle.club_tables.proofs.queries.MemberLemmas.{total}
@@ -278,9 +278,7 @@ module _ {S : Type 0} (g : Ghosts S) (old : Held S) (club : Club) (tables : Hold
     key_stored club tables.rows tables.storage tables.sound key fits.carries fits.sound,
   )
   plan (AddCredit name points) fits =
-      let within = all_mapped IsMember (credited_member name points) club.members
-      (recursion_from_All IsMember (map (credited_member name points) club.members) fits.sound.rows.members) in
-      let sums = subst (AllByRecursion (Credits name points)) (sym tables.storage.members) (credits_of club name points club.members within) in
+      let sums = subst (AllByRecursion (Credits name points)) (sym tables.storage.members) (credits_of club name points fits.sound.rows.members) in
       let step : Steps (ADD_CREDIT.now, Text name ∷ whole points ∷ []) tables.rows (record tables.rows {
         members = map (credited_row name points) tables.rows.members;
       }) = λ before after count holds ran. (

@@ -1,7 +1,7 @@
 -- The rows of the club after each change, as they are stored.
 use Rattle.std.proofs.Common.{◌≡◌, ◌≢◌, ℕ, ◌+◌, Bool, true, false, not, ◌&&◌, ◌||◌, cond, if◌then◌else◌, List, [], ◌∷◌, ◌++◌, map, Option, Some, None, Contains}
 use Rattle.std.proofs.Common.{refl, sym, ap, subst, ◌∙◌, arith, true≢false}
-use Rattle.std.specs.Prelude.{filter, find, sum_by, IfSome, option_and_then, AllPairs}
+use Rattle.std.specs.Prelude.{filter, find, sum_by, IfSome, option_and_then, AllPairs, option_map}
 use Rattle.std.specs.List.{AllByRecursion, list_any}
 use Rattle.std.specs.Str.{bytes_eq}
 use Rattle.std.proofs.lemmas.Bool.{false_from_ne_true}
@@ -35,6 +35,7 @@ use Rattle.club_tables.proofs.statements.UpdateLemmas.{each_of}
 use Rattle.club_tables.proofs.lists.OwnerLemmas.{map_agree, apart_last, not_among, unequal, sum_more, owner_is}
 use Rattle.club_tables.proofs.lists.KeyedRows.{put_slot, use_put, slot_once}
 use Rattle.club_tables.proofs.statements.PassLemmas.{found}
+use Rattle.club_tables.proofs.queries.KeyLemmas.{find_mapped}
 use Rattle.sqlite_trees.proofs.ListLemmas.{map-map}
 
 -- ---- members
@@ -133,7 +134,7 @@ owned_more names owns (k ∷ keys) key other =
     ≡ list_any names (cond b (k ∷ filter owns keys) (filter owns keys)))
     [ true ↦ ap (λ b. names k || b) (owned_more names owns keys key other) | false ↦ owned_more names owns keys key other ]
 
--- a key without an older root, and rows that keep their names and their older roots, change none
+-- a key without an older root changes none, and of rows that keep their names it is that of the changed row
 older_pushed : (name : List ℕ) (keys : List Key) (key : Key) → key.older ≡ None
     → option_and_then (λ (k : Key). k.older) (find (λ (k : Key). bytes_eq k.name name) (keys ++ key ∷ []))
     ≡ option_and_then (λ (k : Key). k.older) (find (λ (k : Key). bytes_eq k.name name) keys)
@@ -147,16 +148,16 @@ older_pushed name (k ∷ keys) key new =
     ≡ option_and_then (λ (j : Key). j.older) (cond b (Some k) (find (λ (j : Key). bytes_eq j.name name) keys)))
     [ true ↦ refl | false ↦ older_pushed name keys key new ]
 
-older_mapped : (f : Key → Key) → ((key : Key) → (f key).name ≡ key.name) → ((key : Key) → (f key).older ≡ key.older) → (name : List ℕ) (keys : List Key)
+older_mapped : (f : Key → Key) → ((key : Key) → (f key).name ≡ key.name) → (name : List ℕ) (keys : List Key)
     → option_and_then (λ (k : Key). k.older) (find (λ (k : Key). bytes_eq k.name name) (map f keys))
-    ≡ option_and_then (λ (k : Key). k.older) (find (λ (k : Key). bytes_eq k.name name) keys)
-older_mapped f named same name [] = refl
-older_mapped f named same name (k ∷ keys) =
-    let more = older_mapped f named same name keys in
-    ap (λ n. option_and_then (λ (j : Key). j.older) (cond (bytes_eq n name) (Some (f k)) (find (λ (j : Key). bytes_eq j.name name) (map f keys)))) (named k)
-    ∙ (elim (bytes_eq k.name name) as (λ b. option_and_then (λ (j : Key). j.older) (cond b (Some (f k)) (find (λ (j : Key). bytes_eq j.name name) (map f keys)))
-    ≡ option_and_then (λ (j : Key). j.older) (cond b (Some k) (find (λ (j : Key). bytes_eq j.name name) keys)))
-    [ true ↦ same k | false ↦ more ])
+    ≡ option_and_then (λ (k : Key). (f k).older) (find (λ (k : Key). bytes_eq k.name name) keys)
+older_mapped f named name keys =
+    ap (option_and_then (λ (k : Key). k.older)) (find_mapped (λ (k : Key). bytes_eq k.name name) f keys
+    ∙ ap (λ p. option_map f (find p keys)) (λ i k. bytes_eq (named k i) name)) ∙ of_changed (find (λ (k : Key). bytes_eq k.name name) keys)
+  where
+    of_changed : (o : Option Key) → option_and_then (λ (k : Key). k.older) (option_map f o) ≡ option_and_then (λ (k : Key). (f k).older) o
+    of_changed None = refl
+    of_changed (Some k) = refl
 
 pub key_stored : (club : Club) (rows : Rows) → IsStoredAs club rows → IsSound club → (key : Key) → key.older ≡ None → IsSound (after (InsertKey key) club)
     → IsStoredAs (after (InsertKey key) club) (record rows { keys = rows.keys ++ key ∷ [] })
@@ -197,19 +198,7 @@ pub revoke_stored : (club : Club) (rows : Rows) → IsStoredAs club rows → (na
     → IsStoredAs (after (MarkRevoked name) club) (record rows { keys = map (revoked_key name) rows.keys })
 revoke_stored club rows stored name =
     keys_stored club rows stored (map (revoked_key name)) rows.olders (owned_still club (revoked_key name) (λ k. refl) (λ k. refl))
-    (λ n. stored.olders n ∙ sym (older_mapped (revoked_key name) (λ k. refl) (λ k. refl) n club.keys)) stored.olders_once
-
--- the older roots after a rotation
-older_rotated : (name root : List ℕ) (until : ℕ) (n : List ℕ) (keys : List Key)
-    → option_and_then (λ (k : Key). k.older) (find (λ (k : Key). bytes_eq k.name n) (map (rotated_key name root until) keys))
-    ≡ option_and_then (λ (k : Key). if bytes_eq k.name name then Some (good_until until k.root) else k.older) (find (λ (k : Key). bytes_eq k.name n) keys)
-older_rotated name root until n [] = refl
-older_rotated name root until n (k ∷ keys) =
-    let older : Key → Option OlderRoot = λ key. if bytes_eq key.name name then Some (good_until until key.root) else key.older in
-    elim (bytes_eq k.name n) as (λ b. option_and_then (λ (j : Key). j.older)
-    (cond b (Some (rotated_key name root until k)) (find (λ (j : Key). bytes_eq j.name n) (map (rotated_key name root until) keys)))
-    ≡ option_and_then older (cond b (Some k) (find (λ (j : Key). bytes_eq j.name n) keys)))
-    [ true ↦ refl | false ↦ older_rotated name root until n keys ]
+    (λ n. stored.olders n ∙ sym (older_mapped (revoked_key name) (λ k. refl) n club.keys)) stored.olders_once
 
 -- of a key that was found under a name
 named_so : (name root n : List ℕ) (until : ℕ) (found : Option Key) → IfSome found (λ (k : Key). bytes_eq k.name n ≡ true)
@@ -249,7 +238,7 @@ rotate_stored club rows stored name root was until has =
     older_put name (good_until until was) n rows.olders
     ∙ ap (λ o. let returned : Option OlderRoot = if bytes_eq name n then Some (good_until until was) else o in
     returned) (stored.olders n)
-    ∙ sym (named_so name was n until (key_named n club) (found_named n) (of_name n)) ∙ sym (older_rotated name root until n club.keys))
+    ∙ sym (named_so name was n until (key_named n club) (found_named n) (of_name n)) ∙ sym (older_mapped (rotated_key name root until) (λ k. refl) n club.keys))
     (olders_once name (good_until until was) rows.olders stored.olders_once)
   where
     found_named : (n : List ℕ) → IfSome (key_named n club) (λ (k : Key). bytes_eq k.name n ≡ true)

@@ -1,7 +1,7 @@
 -- Turns of one statement, and the stored totals of a club: what is added to them, and taken away.
 use Rattle.std.proofs.Common.{◌≡◌, ◌≢◌, ℕ, zero, suc, ◌+◌, ◌-◌, ◌<◌, ◌≤◌, ◌^◌, ℤ, pos, neg_ℤ, ◌+ℤ◌, true, false, cond, Ok}
 use Rattle.std.proofs.Common.{List, [], ◌∷◌, map, Contains, refl, sym, ap, subst, ◌∙◌, arith}
-use Rattle.std.specs.Prelude.{AllPairs, option_map, unwrap_or}
+use Rattle.std.specs.Prelude.{AllPairs, option_map, unwrap_or, All}
 use Rattle.std.specs.List.{AllByRecursion, list_any}
 use Rattle.std.specs.Str.{bytes_eq}
 use Rattle.std.proofs.lemmas.Bool.{lt-ltb}
@@ -32,7 +32,7 @@ use Rattle.club_tables.specs.Transaction.{BoundStatement, Ran, transaction_start
 use Rattle.club_tables.proofs.changes.ChangeLemmas.{AreNamedOnce, Credits, Uses, name_of}
 use Rattle.club_tables.proofs.queries.MemberLemmas.{total}
 use Rattle.club_tables.proofs.statements.OrderLemmas.{pairs_from_apart}
-use Rattle.club_tables.proofs.statements.SelectLemmas.{Apart, apart_from_pairs}
+use Rattle.club_tables.proofs.statements.SelectLemmas.{Apart, apart_from_pairs, pairs_mapped}
 use Rattle.club_tables.proofs.lists.KeyedRows.{absent, AreApart, same_itself, not_same}
 use Rattle.club_tables.proofs.queries.KeyLemmas.{same_slots}
 use Rattle.club_tables.proofs.changes.AddLemmas.{Takes}
@@ -53,36 +53,23 @@ module _ {S : Type 0} (g : Ghosts S) (old : Held S) (db : Database) where
 
 -- ---- rows of members
 
-pub all_named : (club : Club) (name : List ℕ) (ms : List Member) → AllByRecursion (λ (m : Member). name ≢ m.name) ms
-    → AllByRecursion (λ (row : MemberRow). name ≢ name_of row) (map (member_row club) ms)
-all_named club name [] h = tt
-all_named club name (m ∷ ms) h = (h.0, all_named club name ms h.1)
-
-pub named_apart : (club : Club) (ms : List Member) → Apart (λ (a : Member) (b : Member). a.name ≢ b.name) ms
-    → Apart (λ (a : MemberRow) (b : MemberRow). name_of a ≢ name_of b) (map (member_row club) ms)
-named_apart club [] apart = tt
-named_apart club (m ∷ ms) apart = (all_named club m.name ms apart.0, named_apart club ms apart.1)
-
 pub named_once : (club : Club) (rows : List MemberRow) → rows ≡ map (member_row club) club.members → IsSound club → AreNamedOnce rows
 named_once club rows is sound =
     let R : MemberRow → MemberRow → Type 0 = λ a b. name_of a ≢ name_of b in
-    let Q : Member → Member → Type 0 = λ a b. a.name ≢ b.name in
-    subst (AllPairs R) (sym is) (pairs_from_apart R (map (member_row club) club.members)
-    (named_apart club club.members (apart_from_pairs Q club.members sound.unique.members)))
+    subst (AllPairs R) (sym is) (pairs_mapped R (member_row club) (λ row. row.member) club.members sound.unique.members)
 
-pub all_mapped : {X Y : Type 0} (P : Y → Type 0) (f : X → Y) (xs : List X) → AllByRecursion P (map f xs) → AllByRecursion (λ x. P (f x)) xs
-all_mapped P f [] h = tt
-all_mapped P f (x ∷ xs) h = (h.0, all_mapped P f xs h.1)
-
-pub credits_of : (club : Club) (name : List ℕ) (points : ℕ) (ms : List Member) → AllByRecursion (λ (m : Member). IsMember (credited_member name points m)) ms
-    → AllByRecursion (Credits name points) (map (member_row club) ms)
-credits_of club name points [] h = tt
-credits_of club name points (m ∷ ms) h = (first, credits_of club name points ms h.1)
+pub credits_of : (club : Club) (name : List ℕ) (points : ℕ) → All IsMember (map (credited_member name points) club.members)
+    → AllByRecursion (Credits name points) (map (member_row club) club.members)
+credits_of club name points h = each club.members (recursion_from_All IsMember _ h)
   where
-    first : Credits name points (member_row club m)
-    first passes =
-        let low : m.credited + points ≤ credited_limit = subst (λ b. cond b (m.credited + points) m.credited ≤ credited_limit) passes h.0.credited in
-        total m.credited points (omega (arith, low))
+    each : (ms : List Member) → AllByRecursion IsMember (map (credited_member name points) ms) → AllByRecursion (Credits name points) (map (member_row club) ms)
+    each [] h = tt
+    each (m ∷ ms) h = (
+      λ passes.
+          let low : m.credited + points ≤ credited_limit = subst (λ b. cond b (m.credited + points) m.credited ≤ credited_limit) passes h.0.credited in
+          total m.credited points (omega (arith, low)),
+      each ms h.1,
+    )
 
 -- each member's bookings have cost no more than a member is ever credited
 pub few_used : (club : Club) → IsSound club → AllByRecursion (λ (m : Member). used_by club m.name ≤ credited_limit) club.members

@@ -5,11 +5,12 @@ use Rattle.std.specs.Prelude.{find, option_map, AllPairs, unwrap_or}
 use Rattle.std.specs.Option.{option_or}
 use Rattle.std.specs.List.{AllByRecursion, list_any}
 use Rattle.std.proofs.lemmas.Bool.{false_from_ne_true}
-use Rattle.std.proofs.lemmas.List.Folds.{find-append}
+use Rattle.std.proofs.lemmas.List.Folds.{find-append, list_any_at}
 use Rattle.std.specs.Str.{bytes_eq}
 use Rattle.std.specs.Cmp.{unsigned_Decides}
 use Rattle.std.proofs.lemmas.Slice.Eq.{bytes_eq-Decides}
 use Rattle.std.proofs.Math.Bool.{or-false}
+use Rattle.std.proofs.lemmas.List.Quantifiers.{all_pairs_push}
 use Rattle.sqlite_value.specs.declared.value.Value.{Value}
 use Rattle.sqlite_value.specs.declared.value.Value.TheVariants.{Int}
 use Rattle.sqlite_value.specs.Keys.{first_key}
@@ -24,7 +25,7 @@ use Rattle.club_tables.specs.Stored.{SlotRow, no_slot_use, stored_slot_use}
 use Rattle.club_tables.specs.Tables.{slots_tree}
 use Rattle.club_tables.proofs.statements.OrderLemmas.{pairs_from_apart}
 use Rattle.club_tables.proofs.statements.PassLemmas.{any_counts, find_some, found}
-use Rattle.club_tables.proofs.statements.SelectLemmas.{Apart, apart_from_pairs, text_equal, whole_equal}
+use Rattle.club_tables.proofs.statements.SelectLemmas.{Apart, apart_from_pairs, text_equal, whole_equal, pairs_mapped}
 use Rattle.club_tables.proofs.queries.KeyLemmas.{same_slots, three}
 
 pub absent : {X : Type 0} (p : X → Bool) (xs : List X) → list_any p xs ≡ false → find p xs ≡ None
@@ -54,54 +55,23 @@ module _ {X K : Type 0} (key_of : X → K) (same : K → K → Bool) (same_keys 
   abbrev IsLone : X → X → Type 0
   IsLone a b = ¬ ((is_of a ≡ true) × (is_of b ≡ true))
 
-  each_lone : (x : X) (rows : List X) → AllByRecursion (Differ x) rows → AllByRecursion (IsLone x) rows
-  each_lone x [] apart = tt
-  each_lone x (y ∷ rows) apart = (
-    λ both. apart.0 (same_keys (key_of x) key both.0 ∙ sym (same_keys (key_of y) key both.1)),
-    each_lone x rows apart.1,
-  )
-
-  pub lone : (rows : List X) → Apart Differ rows → Apart IsLone rows
-  lone [] apart = tt
-  lone (x ∷ rows) apart = (each_lone x rows apart.0, lone rows apart.1)
+  pub lone : (rows : List X) → AllPairs Differ rows → Apart IsLone rows
+  lone rows once = apart_from_pairs IsLone rows (λ i j d less low both.
+      once i j d less low (same_keys _ key both.0 ∙ sym (same_keys _ key both.1)))
 
   -- its row is changed, or else this one is put behind the others
   module _ (changed : X → X) (kept : (x : X) → key_of (changed x) ≡ key_of x) (first : X) (of_key : key_of first ≡ key) where
     abbrev put : Bool → List X → List X
     put any rows = if any then map changed rows else rows ++ first ∷ []
 
-    all_changed : (k : K) (rows : List X) → AllByRecursion (λ (x : X). k ≢ key_of x) rows → AllByRecursion (λ (x : X). k ≢ key_of x) (map changed rows)
-    all_changed k [] apart = tt
-    all_changed k (x ∷ rows) apart = (λ e. apart.0 (e ∙ kept x), all_changed k rows apart.1)
-
-    apart_changed : (rows : List X) → Apart Differ rows → Apart Differ (map changed rows)
-    apart_changed [] apart = tt
-    apart_changed (x ∷ rows) apart = (
-      subst (λ k. AllByRecursion (λ (y : X). k ≢ key_of y) (map changed rows)) (sym (kept x)) (all_changed (key_of x) rows apart.0),
-      apart_changed rows apart.1,
-    )
-
-    all_added : (k : K) (rows : List X) → AllByRecursion (λ (x : X). k ≢ key_of x) rows → k ≢ key
-        → AllByRecursion (λ (x : X). k ≢ key_of x) (rows ++ first ∷ [])
-    all_added k [] apart other = (λ e. other (e ∙ of_key), tt)
-    all_added k (x ∷ rows) apart other = (apart.0, all_added k rows apart.1 other)
-
-    apart_added : (rows : List X) → list_any is_of rows ≡ false → Apart Differ rows → Apart Differ (rows ++ first ∷ [])
-    apart_added [] none apart = (tt, tt)
-    apart_added (x ∷ rows) none apart = go (is_of x) refl none (λ none. apart_added rows none apart.1)
-      where
-        go : (b : Bool) → is_of x ≡ b → (b || list_any is_of rows) ≡ false → (list_any is_of rows ≡ false → Apart Differ (rows ++ first ∷ []))
-            → Apart Differ (x ∷ (rows ++ first ∷ []))
-        go true is none more = absurd cc
-        go false is none more = (all_added (key_of x) rows apart.0 (λ e. true≢false (sym (ap (λ k. same k key) e ∙ itself key) ∙ is)), more none)
-
     -- no key has two rows
     pub put_once : (rows : List X) → AllPairs Differ rows → AllPairs Differ (put (list_any is_of rows) rows)
     put_once rows once = go (list_any is_of rows) refl
       where
         go : (any : Bool) → list_any is_of rows ≡ any → AllPairs Differ (put any rows)
-        go true any = pairs_from_apart Differ (map changed rows) (apart_changed rows (apart_from_pairs Differ rows once))
-        go false none = pairs_from_apart Differ (rows ++ first ∷ []) (apart_added rows none (apart_from_pairs Differ rows once))
+        go true any = pairs_mapped Differ changed (λ x. x) rows (λ i j d less low e. once i j d less low (sym (kept _) ∙ e ∙ kept _))
+        go false none = all_pairs_push Differ rows first once (λ k d low e.
+            true≢false (sym (list_any_at is_of rows k d low (ap (λ n. same n key) (e ∙ of_key) ∙ itself key)) ∙ none))
 
     found_changed : (name : K) (rows : List X) → named name (map changed rows) ≡ option_map changed (named name rows)
     found_changed name [] = refl

@@ -9,6 +9,7 @@ use Rattle.std.proofs.lemmas.Bool.Decides.{nat_tests}
 use Rattle.std.proofs.lemmas.Map.Text.{is_eq-slice_cmp}
 use Rattle.std.proofs.lemmas.List.Sorted.{IsPermutation-map, length_permutation}
 use Rattle.std.proofs.lemmas.List.Elements.{recursion_from_All}
+use Rattle.std.proofs.lemmas.List.{length-map, get_or-map}
 use Rattle.sqlite_value.specs.declared.value.Value.TheVariants.{Int, Text, Blob, Null}
 use Rattle.sqlite_value.specs.declared.keys.Collation.TheVariants.{Binary}
 use Rattle.sqlite_value.proofs.OrderLemmas.{value_cmp-Int, value_cmp-Text, value_cmp-Blob}
@@ -146,6 +147,13 @@ apart_from_pairs R (x ∷ xs) h = (
   recursion_from_All (R x) xs (λ j d low. h 0 (suc j) d (omega arith) (omega arith)),
   apart_from_pairs R xs (λ i j d less low. h (suc i) (suc j) d (omega arith) (omega arith)),
 )
+
+-- R holds of what is made of each element and each later one
+pub pairs_mapped : {X Y : Type 0} (R : Y → Y → Type 0) (f : X → Y) (back : Y → X) (xs : List X) → AllPairs (λ a b. R (f a) (f b)) xs → AllPairs R (map f xs)
+pairs_mapped R f back xs pairs i j d less low =
+    let as_long = length-map xs f in
+    rw (get_or-map f xs i (back d) d (omega (arith, as_long)), get_or-map f xs j (back d) d (omega (arith, as_long)))
+    (pairs i j (back d) less (omega (arith, as_long)))
 
 pub none_pass : {X : Type 0} (p : X → Bool) (xs : List X) → AllByRecursion (λ x. p x ≡ false) xs → filter p xs ≡ []
 none_pass p [] h = refl
