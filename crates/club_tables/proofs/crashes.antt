@@ -2,5 +2,4 @@
 
 pub mod RepresentsLemmas
 pub mod SurviveLemmas
-pub mod TransactionLemmas
 pub mod TurnLemmas

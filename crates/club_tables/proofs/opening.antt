@@ -5,4 +5,3 @@ pub mod MakingLemmas
 pub mod VersionLemmas
 pub mod OpenLemmas
 pub mod StepLemmas
-pub mod PrepareLemmas

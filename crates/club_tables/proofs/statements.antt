@@ -9,4 +9,3 @@ pub mod PassLemmas
 pub mod UpdateLemmas
 pub mod ReplaceLemmas
 pub mod PutLemmas
-pub mod HoldsRowsLemmas

@@ -45,8 +45,7 @@ use Rattle.club_tables.specs.Columns.{whole, member_values, facility_values, key
 use Rattle.club_tables.specs.Columns.{older_root_values, older_values}
 use Rattle.club_tables.specs.Stored.{Rows, SlotRow, no_slot_use, OlderRow, older_by}
 use Rattle.club_tables.specs.Tables.{Holds, members_tree, facilities_tree, keys_tree, bookings_tree, HoldsRows, slots_tree, olders_tree}
-use Rattle.club_tables.proofs.statements.MeansLemmas.{Means}
-use Rattle.club_tables.proofs.statements.HoldsRowsLemmas.{on_members, on_facilities, on_keys, on_bookings, Steps, on_slots, on_olders}
+use Rattle.club_tables.proofs.statements.MeansLemmas.{Means, on_members, on_facilities, on_keys, on_bookings, Steps, on_slots, on_olders}
 use Rattle.club_tables.proofs.statements.InsertLemmas.{inserts, cast_null, cast_int}
 use Rattle.club_tables.proofs.lists.RowLemmas.{holds_more}
 use Rattle.club_tables.proofs.statements.SelectLemmas.{apart_from_pairs, text_equal}

@@ -39,8 +39,7 @@ use Rattle.club_tables.specs.Statements.{select, is_given}
 use Rattle.club_tables.specs.Stored.{Rows, IsStoredAs, member_row, used_by}
 use Rattle.club_tables.specs.Tables.{HoldsRows, bookings_tree}
 use Rattle.club_tables.specs.declared.row.MemberRow.{MemberRow}
-use Rattle.club_tables.proofs.statements.MeansLemmas.{Means}
-use Rattle.club_tables.proofs.statements.HoldsRowsLemmas.{on_bookings}
+use Rattle.club_tables.proofs.statements.MeansLemmas.{Means, on_bookings}
 use Rattle.club_tables.proofs.statements.InsertLemmas.{cast_int}
 use Rattle.club_tables.proofs.statements.PassLemmas.{contains_counts, found, Implies, agree, fewer, found_by_both}
 use Rattle.club_tables.proofs.statements.SelectLemmas.{text_equal, whole_equal, test, shows, Apart, apart_from_pairs}

@@ -32,11 +32,10 @@ use Rattle.club_tables.specs.Columns.{whole, member_values, key_values, flag}
 use Rattle.club_tables.specs.Statements.{select, is_given}
 use Rattle.club_tables.specs.Stored.{Rows}
 use Rattle.club_tables.specs.Tables.{HoldsRows, members_tree, keys_tree}
-use Rattle.club_tables.proofs.statements.MeansLemmas.{Means}
+use Rattle.club_tables.proofs.statements.MeansLemmas.{Means, on_members, on_keys}
 use Rattle.club_tables.proofs.statements.InsertLemmas.{cast_int}
 use Rattle.club_tables.proofs.queries.KeyLemmas.{both_tests, one_named}
 use Rattle.club_tables.proofs.changes.AddLemmas.{member_table, key_table}
-use Rattle.club_tables.proofs.statements.HoldsRowsLemmas.{on_members, on_keys}
 use Rattle.club_tables.proofs.statements.PassLemmas.{contains_counts, found_counts, each_row, find_some, agree, found_by_both, found}
 use Rattle.club_tables.proofs.statements.SelectLemmas.{text_equal, shows, blob_equal}
 use Rattle.club_tables.proofs.statements.UpdateLemmas.{Updates, updates, Finds, finds, passes_one, writes_one, changes_one, each_of}

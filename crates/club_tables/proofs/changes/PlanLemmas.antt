@@ -49,11 +49,11 @@ use Rattle.club_tables.proofs.changes.TotalsLemmas.{credits_of}
 use Rattle.club_tables.proofs.lists.OwnerLemmas.{all_last, owner_is}
 use Rattle.club_tables.proofs.queries.KeyLemmas.{find_mapped, AreBookingsOnce}
 use Rattle.club_tables.proofs.queries.MemberLemmas.{total}
-use Rattle.club_tables.proofs.statements.HoldsRowsLemmas.{Steps}
 use Rattle.club_tables.proofs.statements.PassLemmas.{contains_counts, find_some, found}
 use Rattle.club_tables.proofs.statements.SelectLemmas.{apart_from_pairs}
 use Rattle.club_tables.proofs.changes.ChangeLemmas.{root_set, revoke_some, root_some}
 use Rattle.club_tables.proofs.lists.KeyedRows.{same_itself}
+use Rattle.club_tables.proofs.statements.MeansLemmas.{Steps}
 
 -- ---- statements in turn
 

@@ -23,12 +23,11 @@ use Rattle.club_tables.specs.Tables.{HoldsClub, HoldsRows, Holds, HoldsClubVersi
 use Rattle.club_tables.specs.Tables.{HoldsClubUnindexed, HoldsRowsWith, Represents, RepresentsVersion2, HoldsClubVersion2}
 use Rattle.club_tables.specs.Transaction.{Ran, transaction_start, IsKept, IsUnderstood}
 use Rattle.club_tables.specs.Statements.{select}
-use Rattle.club_tables.proofs.statements.MeansLemmas.{Means}
+use Rattle.club_tables.proofs.statements.MeansLemmas.{Means, but, others_kept, trees_kept}
 use Rattle.club_tables.proofs.statements.InsertLemmas.{creates, indexes, inserts, cast_null, cast_int}
 use Rattle.club_tables.proofs.lists.RowLemmas.{holds_more, holds_none}
 use Rattle.club_tables.proofs.opening.MakesLemmas.{makes_six, makes_keys_by_member, makes_old_roots, makes_bookings_by_key, indexes_again, drops_none}
 use Rattle.club_tables.proofs.opening.MakesLemmas.{never_ran}
-use Rattle.club_tables.proofs.statements.HoldsRowsLemmas.{but, others_kept, trees_kept}
 use Rattle.club_tables.proofs.statements.UpdateLemmas.{updates, finds, changes_one}
 use Rattle.club_tables.proofs.crashes.RepresentsLemmas.{represents_on}
 use Rattle.club_tables.proofs.opening.VersionLemmas.{desk_made}

@@ -17,7 +17,7 @@ use Rattle.sqlite_trees.proofs.ListLemmas.{map-map, map-flat_map, flat_map_same_
 use Rattle.sqlite_sql.specs.Ops.{is_true}
 use Rattle.club_tables.specs.Tables.{IsRowOf, Holds}
 use Rattle.club_tables.specs.Statements.{select}
-use Rattle.club_tables.proofs.statements.SelectLemmas.{Apart, pick_by_if, no_overlay, picked, none_of}
+use Rattle.club_tables.proofs.statements.SelectLemmas.{Apart, pick_by_if, no_overlay, picked, none_of, shown_of}
 use Rattle.club_tables.proofs.statements.PassLemmas.{as_many, each_row}
 
 -- ---- lists
@@ -92,15 +92,12 @@ module _ (params : Row) (tests : List Term) (project : List Term) where
       a.grouped ∙ ap (λ xs. flat_map (ways (overlay db.trees [] inside)) xs) (no_overlay db.trees outer)
       ∙ ap (λ ys. flat_map (ways ys) (db.trees outer)) (no_overlay db.trees inside)
       ∙ flat_map_same_on (ways (db.trees inside)) below (λ x. pick_by_if (joins x) (pair x) (db.trees inside)) (db.trees outer) in
-      let kept : a.kept ≡ map (output query) (flat_map below (db.trees outer)) = a.distinct ∙ ap (map (output query)) staged in
-      let same = IsPermutation-map (λ (o : Output). o.1) a.kept a.ordered a.same in
       let shown : Env → Row = λ env. (output query env).1 in
-      let all : map (λ (o : Output). o.1) a.kept ≡ flat_map (λ x. map (shows_both x) (filter (joins x) (db.trees inside))) (db.trees outer) =
-      ap (map (λ (o : Output). o.1)) kept ∙ map-map (λ (o : Output). o.1) (output query) (flat_map below (db.trees outer))
-      ∙ map-flat_map shown below (db.trees outer)
+      let all : map shown (flat_map below (db.trees outer)) ≡ flat_map (λ x. map (shows_both x) (filter (joins x) (db.trees inside))) (db.trees outer) =
+      map-flat_map shown below (db.trees outer)
       ∙ flat_map_same_on (λ x. map shown (below x)) (λ x. map (shows_both x) (filter (joins x) (db.trees inside))) (λ x.
       map-map shown (pair x) (filter (joins x) (db.trees inside))) (db.trees outer) in
-      subst (λ ys. IsPermutation ys rows) all (subst (IsPermutation (map (λ (o : Output). o.1) a.kept)) (sym a.shown) same)
+      subst (λ ys. IsPermutation ys rows) all (shown_of a (flat_map below (db.trees outer)) staged a.distinct a.shown)
 
 module _ {X Y : Type 0} (outer_values : X → Row) (values : Y → Row) (params : Row) (tests : List Term) (project : List Term) (p : X → Y → Bool) (show : Y → Row)
     (tested : (i j : ℤ) (x : X) (y : Y) → list_all (holds (params ∷ (Int i ∷ outer_values x) ∷ (Int j ∷ values y) ∷ [])) tests ≡ p x y)
@@ -160,12 +157,6 @@ module _ (params : Row) (inside_tests tests project : List Term) where
   abbrev pub shown : List Row → Row → Row
   shown others row = eval_all project (with_count (count_in others row) row)
 
-  merge_maps : (outer inside : ℕ) (others rows : List Row) → map (λ (o : Output). o.1)
-      (map (output (select (inner outer (counted 1 (inner inside end) inside_tests end)) tests project))
-      (map (λ (row : Row). with_count (count_in others row) row) rows)) ≡ map (shown others) rows
-  merge_maps outer inside others [] = refl
-  merge_maps outer inside others (r ∷ rows) = ap (λ ys. shown others r ∷ ys) (merge_maps outer inside others rows)
-
   -- the answer has what is shown of each row that passes, in some order
   pub answered_counted : (outer inside : ℕ) (db : Database) (rows : List Row)
       → Answers db (record { lets = []; body = select (inner outer (counted 1 (inner inside end) inside_tests end)) tests project }) params rows
@@ -186,11 +177,8 @@ module _ (params : Row) (inside_tests tests project : List Term) where
       ∙ ap (λ ys. flat_map (ways ys) (db.trees outer)) (no_overlay db.trees inside)
       ∙ flat_map_same_on (ways others) (λ row. one (count_in others row) row) (λ row. ap (λ n. one n row) (counts row)) (db.trees outer)
       ∙ pick_by_if (passes others) each (db.trees outer) in
-      let kept : a.kept ≡ map (output query) (map each (filter (passes others) (db.trees outer))) = a.distinct ∙ ap (map (output query)) staged in
-      let same = IsPermutation-map (λ (o : Output). o.1) a.kept a.ordered a.same in
-      let all : map (λ (o : Output). o.1) a.kept ≡ map (shown others) (filter (passes others) (db.trees outer)) = ap (map (λ (o : Output). o.1)) kept
-      ∙ merge_maps outer inside others (filter (passes others) (db.trees outer)) in
-      subst (λ ys. IsPermutation ys rows) all (subst (IsPermutation (map (λ (o : Output). o.1) a.kept)) (sym a.shown) same)
+      subst (λ ys. IsPermutation ys rows) (map-map (λ env. (output query env).1) each (filter (passes others) (db.trees outer)))
+      (shown_of a (map each (filter (passes others) (db.trees outer))) staged a.distinct a.shown)
 
   -- where the other table holds a list, and its test doesn't read the outer row, the count is that of the elements that pass
   pub counts_elements : {X : Type 0} (values : X → Row) (p : X → Bool) → ((id : ℤ) (row : Row) (x : X) → passes_inside row (Int id ∷ values x) ≡ p x)

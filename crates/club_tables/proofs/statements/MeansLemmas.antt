@@ -1,6 +1,7 @@
--- What a text is, as sqlite understands it, and what a statement leaves of the tables to which it doesn't write.
-use Rattle.std.proofs.Common.{◌≡◌, ◌≢◌, ℕ, List, Ok, Some, slice_get, false}
+-- What a text is, as sqlite understands it, and the tables after a statement that wrote to one of them.
+use Rattle.std.proofs.Common.{◌≡◌, ◌≢◌, ℕ, List, Ok, Some, slice_get, false, Bool, true, ◌==◌, if◌then◌else◌, [], ◌∷◌, refl, sym, subst, ◌∙◌, true≢false, ◌≤◌}
 use Rattle.std.specs.List.{AllByRecursion}
+use Rattle.std.specs.Cmp.{unsigned_Decides}
 use Rattle.sqlite.specs.Table.{Table}
 use Rattle.sqlite.specs.Effect.{Database, IsDatabase}
 use Rattle.sqlite.specs.Schema.{Schema}
@@ -13,6 +14,18 @@ use Rattle.sqlite.specs.Change.{created}
 use Rattle.sqlite.specs.Does.{lacks_sequence}
 use Rattle.sqlite.specs.Listing.{understood}
 use Rattle.sqlite.proofs.Callers.{IsPlain, command_of, statement_of}
+use Rattle.sqlite.specs.Tree.{Trees}
+use Rattle.sqlite.specs.State.{State, Executes}
+use Rattle.club_rows.specs.declared.facility.Facility.{Facility}
+use Rattle.club_rows.specs.declared.key.Key.{Key}
+use Rattle.club_rows.specs.declared.booking.Booking.{Booking}
+use Rattle.club_tables.specs.Schema.{club_schema}
+use Rattle.club_tables.specs.Columns.{version_values, member_values, facility_values, key_values, slot_values, booking_values, older_values}
+use Rattle.club_tables.specs.declared.row.MemberRow.{MemberRow}
+use Rattle.club_tables.specs.Stored.{Rows, SlotRow, OlderRow}
+use Rattle.club_tables.specs.Tables.{Holds, HoldsTrees, HoldsRows, desk_tree, members_tree, facilities_tree, keys_tree, slots_tree, bookings_tree}
+use Rattle.club_tables.specs.Tables.{olders_tree}
+use Rattle.club_tables.specs.Transaction.{BoundStatement}
 
 -- over these tables the text is this command
 pub record Means (schema : Schema) (text : List ℕ) (command : Command) : Type 0 where
@@ -40,3 +53,79 @@ pub record Wrote (tables : Schema) (old new : Database) (tree : ℕ) : Type 0 wh
   pub schema : new.schema ≡ tables
   pub others : AllByRecursion (λ (t : Table). t.tree ≢ tree → new.trees t.tree ≡ old.trees t.tree) tables.tables
   pub sound : IsDatabase new
+
+-- over tables that hold these rows a statement writes a row, and then they hold the next ones
+abbrev pub Steps : BoundStatement → Rows → Rows → Type 1
+Steps statement rows next =
+    (old new : State) (count : ℕ) → HoldsRows old.now rows → Executes statement.0 statement.1 old new (Ok count) → HoldsRows new.now next × (1 ≤ count)
+
+-- rows stay where their trees do
+pub trees_kept : {number : ℕ} {old new : Trees} {rows : Rows} → AllByRecursion (λ (t : Table). new t.tree ≡ old t.tree) club_schema.tables
+    → HoldsTrees number old rows → HoldsTrees number new rows
+trees_kept {number = number} {rows = rows} kept held = record {
+  version = subst (λ rs. Holds version_values rs (number ∷ [])) (sym kept.0) held.version;
+  members = subst (λ rs. Holds member_values rs rows.members) (sym kept.1.0) held.members;
+  facilities = subst (λ rs. Holds facility_values rs rows.facilities) (sym kept.1.1.0) held.facilities;
+  keys = subst (λ rs. Holds key_values rs rows.keys) (sym kept.1.1.1.0) held.keys;
+  slots = subst (λ rs. Holds slot_values rs rows.slots) (sym kept.1.1.1.1.0) held.slots;
+  bookings = subst (λ rs. Holds booking_values rs rows.bookings) (sym kept.1.1.1.1.1.0) held.bookings;
+  olders = subst (λ rs. Holds older_values rs rows.olders) (sym kept.1.1.1.1.1.1.0) held.olders;
+}
+
+-- the trees, with that of one table as it was
+abbrev pub but : ℕ → Trees → Trees → Trees
+but tree old new at = if at == tree then old at else new at
+
+pub others_kept : (tree : ℕ) (old new : Trees) (ts : List Table) → AllByRecursion (λ (t : Table). t.tree ≢ tree → new t.tree ≡ old t.tree) ts
+    → AllByRecursion (λ (t : Table). but tree old new t.tree ≡ old t.tree) ts
+others_kept tree old new [] others = tt
+others_kept tree old new (t ∷ ts) others = (one (t.tree == tree) refl, others_kept tree old new ts others.1)
+  where
+    one : (b : Bool) → (t.tree == tree) ≡ b → (if b then old t.tree else new t.tree) ≡ old t.tree
+    one true is = refl
+    one false is = others.0 (λ same. true≢false (sym ((unsigned_Decides t.tree tree).1 same) ∙ is))
+
+module _ {old new : Database} {rows : Rows} (holds_rows : HoldsRows old rows) where
+  kept : {tree : ℕ} → Wrote club_schema old new tree → HoldsTrees 2 (but tree old.trees new.trees) rows
+  kept {tree = tree} wrote = trees_kept (others_kept tree old.trees new.trees club_schema.tables wrote.others) holds_rows.held
+
+  whole : {tree : ℕ} {next : Rows} → Wrote club_schema old new tree → Holds version_values (new.trees desk_tree) (2 ∷ [])
+      → Holds member_values (new.trees members_tree) next.members → Holds facility_values (new.trees facilities_tree) next.facilities
+      → Holds key_values (new.trees keys_tree) next.keys → Holds slot_values (new.trees slots_tree) next.slots
+      → Holds booking_values (new.trees bookings_tree) next.bookings → Holds older_values (new.trees olders_tree) next.olders → HoldsRows new next
+  whole wrote version members facilities keys slots bookings olders = record {
+    schema = wrote.schema;
+    held = record { version = version; members = members; facilities = facilities; keys = keys; slots = slots; bookings = bookings; olders = olders };
+    database = wrote.sound;
+  }
+
+  -- the rows of one table are others
+  pub on_members : Wrote club_schema old new members_tree → {members : List MemberRow} → Holds member_values (new.trees members_tree) members
+      → HoldsRows new (record rows { members = members })
+  on_members wrote held =
+      let k = kept wrote in whole wrote k.version held k.facilities k.keys k.slots k.bookings k.olders
+
+  pub on_facilities : Wrote club_schema old new facilities_tree → {facilities : List Facility} → Holds facility_values (new.trees facilities_tree) facilities
+      → HoldsRows new (record rows { facilities = facilities })
+  on_facilities wrote held =
+      let k = kept wrote in whole wrote k.version k.members held k.keys k.slots k.bookings k.olders
+
+  pub on_keys : Wrote club_schema old new keys_tree → {keys : List Key} → Holds key_values (new.trees keys_tree) keys
+      → HoldsRows new (record rows { keys = keys })
+  on_keys wrote held =
+      let k = kept wrote in whole wrote k.version k.members k.facilities held k.slots k.bookings k.olders
+
+  pub on_slots : Wrote club_schema old new slots_tree → {slots : List SlotRow} → Holds slot_values (new.trees slots_tree) slots
+      → HoldsRows new (record rows { slots = slots })
+  on_slots wrote held =
+      let k = kept wrote in whole wrote k.version k.members k.facilities k.keys held k.bookings k.olders
+
+  pub on_bookings : Wrote club_schema old new bookings_tree → {bookings : List Booking} → Holds booking_values (new.trees bookings_tree) bookings
+      → HoldsRows new (record rows { bookings = bookings })
+  on_bookings wrote held =
+      let k = kept wrote in whole wrote k.version k.members k.facilities k.keys k.slots held k.olders
+
+  pub on_olders : Wrote club_schema old new olders_tree → {olders : List OlderRow} → Holds older_values (new.trees olders_tree) olders
+      → HoldsRows new (record rows { olders = olders })
+  on_olders wrote held =
+      let k = kept wrote in whole wrote k.version k.members k.facilities k.keys k.slots k.bookings held

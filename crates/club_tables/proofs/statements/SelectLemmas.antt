@@ -19,13 +19,14 @@ use Rattle.sqlite_sql.specs.Ops.{binary, is_true, from_truth}
 use Rattle.sqlite.specs.Order.{Row}
 use Rattle.sqlite.specs.Tree.{Trees}
 use Rattle.sqlite.specs.Term.{Term, Env, holds, eval_all}
-use Rattle.sqlite.specs.Query.{inner, end, IsAnswer, Output, output}
+use Rattle.sqlite.specs.Query.{inner, end, IsAnswer, Output, output, Query}
 use Rattle.sqlite.specs.Program.{overlay}
 use Rattle.sqlite.specs.Command.TheVariants.{Select}
 use Rattle.sqlite.specs.Effect.{Database, Reads, Answers}
 use Rattle.sqlite.proofs.Callers.{one_permutation}
 use Rattle.club_tables.specs.Tables.{IsRowOf, Holds}
 use Rattle.club_tables.specs.Statements.{select}
+use Rattle.sqlite_trees.proofs.ListLemmas.{map-map}
 
 -- ---- tests
 
@@ -79,17 +80,20 @@ pub no_overlay : (db : Trees) (tree : ℕ) → overlay db [] tree ≡ db tree
 no_overlay db tree = elim (nat_le (2 ^ 31) tree) as (λ b. unwrap_or (cond b (slice_get (let none : List (List Row) = [] in none) (tree - 2 ^ 31)) None)
     (db tree) ≡ db tree) [ true ↦ refl | false ↦ refl ]
 
+-- what an answer has of the environments that passed, in some order
+pub shown_of : {query : Query} {trees : Trees} {params : Row} {rows : List Row} (a : IsAnswer query trees params rows) (staged : List Env) → a.staged ≡ staged
+    → a.kept ≡ map (output query) a.staged → rows ≡ map (λ (o : Output). o.1) a.ordered → IsPermutation (map (λ env. (output query env).1) staged) rows
+shown_of {query = query} {rows = rows} a staged is kept shown =
+    let all = ap (map (λ (o : Output). o.1)) (kept ∙ ap (map (output query)) is) ∙ map-map (λ (o : Output). o.1) (output query) staged in
+    subst (λ ys. IsPermutation ys rows) all
+    (subst (IsPermutation (map (λ (o : Output). o.1) a.kept)) (sym shown) (IsPermutation-map (λ (o : Output). o.1) a.kept a.ordered a.same))
+
 module _ (params : Row) (tests : List Term) (project : List Term) where
   abbrev pub test : Row → Bool
   test row = list_all (holds (params ∷ row ∷ [])) tests
 
   abbrev pub shows : Row → Row
   shows row = eval_all project (params ∷ row ∷ [])
-
-  merge_maps : (tree : ℕ) (rows : List Row) → map (λ (o : Output). o.1) (map (output (select (inner tree end) tests project)) (map (λ (row : Row). let e : Env =
-      params ∷ row ∷ [] in e) rows)) ≡ map shows rows
-  merge_maps tree [] = refl
-  merge_maps tree (r ∷ rows) = ap (λ ys. shows r ∷ ys) (merge_maps tree rows)
 
   -- the answer has what is shown of each row that passes, in some order
   pub answered : (tree : ℕ) (db : Database) (rows : List Row) → Answers db (record { lets = []; body = select (inner tree end) tests project }) params rows
@@ -100,11 +104,8 @@ module _ (params : Row) (tests : List Term) (project : List Term) where
       let each : Row → Env = λ row. params ∷ row ∷ [] in
       let staged : a.staged ≡ map each (filter test (db.trees tree)) =
       a.grouped ∙ ap (flat_map (λ row. cond (test row) (each row ∷ []) [])) (no_overlay db.trees tree) ∙ pick_by_if test each (db.trees tree) in
-      let kept : a.kept ≡ map (output query) (map each (filter test (db.trees tree))) = a.distinct ∙ ap (map (output query)) staged in
-      let same = IsPermutation-map (λ (o : Output). o.1) a.kept a.ordered a.same in
-      let all : map (λ (o : Output). o.1) a.kept ≡ map shows (filter test (db.trees tree)) = ap (map (λ (o : Output). o.1)) kept
-      ∙ merge_maps tree (filter test (db.trees tree)) in
-      subst (λ ys. IsPermutation ys rows) all (subst (IsPermutation (map (λ (o : Output). o.1) a.kept)) (sym a.shown) same)
+      subst (λ ys. IsPermutation ys rows) (map-map (λ env. (output query env).1) each (filter test (db.trees tree)))
+      (shown_of a (map each (filter test (db.trees tree))) staged a.distinct a.shown)
 
 module _ {X B : Type 0} (values : X → Row) (p : X → Bool) (show : X → B) where
   -- what is shown of the rows that pass is what is shown of the elements that do

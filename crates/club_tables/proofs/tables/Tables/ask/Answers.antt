@@ -4,7 +4,7 @@ use Rattle.sqlite.specs.Values.{bound}
 use Rattle.sqlite.specs.Held.{state}
 use Rattle.sqlite.specs.State.{FailsToQuery}
 use Rattle.club_tables.specs.Transaction.{transaction_start}
-use Rattle.club_tables.proofs.crashes.TransactionLemmas.{Keeps, shown_keeps, fails_keeps, too_late_keeps, then_rolled}
+use Rattle.club_tables.proofs.crashes.SurviveLemmas.{Keeps, shown_keeps, fails_keeps, too_late_keeps, then_rolled}
 use Rattle.club_tables.proofs.tables.Tables.ask.Goals as goal
 
 pub returns-in-Err-clause-kept : goal.returns-in-Err-clause-kept

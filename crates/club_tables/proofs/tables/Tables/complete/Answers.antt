@@ -8,8 +8,7 @@ use Rattle.club_tables.specs.Opening.{IsOpeningFault, HasOrGetsIndex, EnsuresInd
 use Rattle.club_tables.specs.ReadsAndChanges.{version_2_in}
 use Rattle.club_tables.specs.Tables.{HoldsClubVersion2}
 use Rattle.club_tables.specs.Transaction.{IsKept, IsUnderstood}
-use Rattle.club_tables.proofs.opening.PrepareLemmas.{kept_then}
-use Rattle.club_tables.proofs.opening.StepLemmas.{keeps_after, opens_after, opens_not}
+use Rattle.club_tables.proofs.opening.StepLemmas.{keeps_after, opens_after, opens_not, kept_then}
 use Rattle.club_tables.proofs.crashes.SurviveLemmas.{opened_after}
 use Rattle.club_tables.proofs.tables.Tables.complete.Goals as goal
 

@@ -7,8 +7,7 @@ use Rattle.club_tables.specs.Opening.{HasMigrated, IsOpeningFault, first_texts, 
 use Rattle.club_tables.specs.ReadsAndChanges.{version_1_in}
 use Rattle.club_tables.specs.Tables.{HoldsClubVersion1}
 use Rattle.club_tables.specs.Transaction.{IsIdle, IsUnderstood, Ran}
-use Rattle.club_tables.proofs.opening.PrepareLemmas.{one_more}
-use Rattle.club_tables.proofs.opening.StepLemmas.{batch_failed, keeps_after, opens_after, opens_not}
+use Rattle.club_tables.proofs.opening.StepLemmas.{batch_failed, keeps_after, opens_after, opens_not, one_more}
 use Rattle.club_tables.proofs.tables.Tables.migrate.Goals as goal
 
 pub returns-in-Ok-clause-opens : goal.returns-in-Ok-clause-opens

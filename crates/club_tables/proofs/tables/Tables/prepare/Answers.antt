@@ -2,7 +2,7 @@ use Rattle.std.proofs.Common.{arith, []}
 use Rattle.sqlite.specs.State.{HasCleanDisk}
 use Rattle.sqlite.specs.Held.{state}
 use Rattle.club_tables.specs.Transaction.{transaction_start}
-use Rattle.club_tables.proofs.crashes.TransactionLemmas.{Keeps, not_run_keeps, then_rolled}
+use Rattle.club_tables.proofs.crashes.SurviveLemmas.{Keeps, not_run_keeps, then_rolled}
 use Rattle.club_tables.proofs.tables.Tables.prepare.Goals as goal
 
 pub returns-in-Err-clause-kept : goal.returns-in-Err-clause-kept

@@ -7,8 +7,7 @@ use Rattle.sqlite.proofs.Callers.{survives_begin}
 use Rattle.club_tables.specs.Transaction.{RanInTurn, transaction_start, bound_statement}
 use Rattle.club_tables.specs.Fault.{FailsInTurn}
 use Rattle.club_tables.proofs.crashes.RepresentsLemmas.{survives_none}
-use Rattle.club_tables.proofs.crashes.SurviveLemmas.{survives_as}
-use Rattle.club_tables.proofs.crashes.TransactionLemmas.{Keeps, commit_keeps, execute_keeps, then_rolled}
+use Rattle.club_tables.proofs.crashes.SurviveLemmas.{survives_as, Keeps, commit_keeps, execute_keeps, then_rolled}
 use Rattle.club_tables.proofs.crashes.TurnLemmas.{turn_at, turn_all, fails_at, fails_last, commit_survives}
 use Rattle.club_tables.proofs.tables.Tables.run_on_rows.Goals as goal
 
