@@ -49,48 +49,25 @@ const VERSION: u8 = 2;
 /// The version that has no older roots.
 const FIRST_VERSION: u8 = 1;
 
+/// Statements without parameters, of these texts.
+macro_rules! statements {
+    ($($text:expr),* $(,)?) => {
+        [$(Statement { text: $text, params: &[] }),*]
+    };
+}
+
 /// The statements that make the tables of an empty club.
-const TABLE_STATEMENTS: [Statement<'static>; 10] = [
-    Statement {
-        text: texts::MAKE_DESK,
-        params: &[],
-    },
-    Statement {
-        text: texts::MAKE_MEMBERS,
-        params: &[],
-    },
-    Statement {
-        text: texts::MAKE_FACILITIES,
-        params: &[],
-    },
-    Statement {
-        text: texts::MAKE_KEYS,
-        params: &[],
-    },
-    Statement {
-        text: texts::MAKE_SLOTS,
-        params: &[],
-    },
-    Statement {
-        text: texts::MAKE_BOOKINGS,
-        params: &[],
-    },
-    Statement {
-        text: texts::MAKE_KEYS_BY_MEMBER,
-        params: &[],
-    },
-    Statement {
-        text: texts::MAKE_OLD_ROOTS,
-        params: &[],
-    },
-    Statement {
-        text: texts::MAKE_BOOKINGS_BY_KEY,
-        params: &[],
-    },
-    Statement {
-        text: texts::ADD_VERSION,
-        params: &[],
-    },
+const TABLE_STATEMENTS: [Statement<'static>; 10] = statements![
+    texts::MAKE_DESK,
+    texts::MAKE_MEMBERS,
+    texts::MAKE_FACILITIES,
+    texts::MAKE_KEYS,
+    texts::MAKE_SLOTS,
+    texts::MAKE_BOOKINGS,
+    texts::MAKE_KEYS_BY_MEMBER,
+    texts::MAKE_OLD_ROOTS,
+    texts::MAKE_BOOKINGS_BY_KEY,
+    texts::ADD_VERSION,
 ];
 
 /// Whether the rows hold this version, and nothing else.
@@ -156,19 +133,10 @@ impl<S: Alter> Tables<S> {
         ensures untouched { OnErr result
             (IsKept (state S.Store self.old) (state S.Store self.new)) }
     {
-        self.run(&[
-            Statement {
-                text: texts::MAKE_OLD_ROOTS,
-                params: &[],
-            },
-            Statement {
-                text: texts::MAKE_BOOKINGS_BY_KEY,
-                params: &[],
-            },
-            Statement {
-                text: texts::SET_VERSION,
-                params: &[],
-            },
+        self.run(&statements![
+            texts::MAKE_OLD_ROOTS,
+            texts::MAKE_BOOKINGS_BY_KEY,
+            texts::SET_VERSION,
         ])
     }
 
@@ -195,10 +163,7 @@ impl<S: Alter> Tables<S> {
         ensures untouched { OnErr result
             (IsKept (state S.Store self.old) (state S.Store self.new)) }
     {
-        self.run(&[Statement {
-            text: texts::MAKE_BOOKINGS_BY_KEY,
-            params: &[],
-        }])
+        self.run(&statements![texts::MAKE_BOOKINGS_BY_KEY])
     }
 
     /// Finds the index of the bookings, or makes it if there is none.

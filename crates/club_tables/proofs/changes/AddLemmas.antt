@@ -48,7 +48,7 @@ use Rattle.club_tables.specs.Tables.{Holds, members_tree, facilities_tree, keys_
 use Rattle.club_tables.proofs.statements.MeansLemmas.{Means, on_members, on_facilities, on_keys, on_bookings, Steps, on_slots, on_olders}
 use Rattle.club_tables.proofs.statements.InsertLemmas.{inserts, cast_null, cast_int}
 use Rattle.club_tables.proofs.lists.RowLemmas.{holds_more}
-use Rattle.club_tables.proofs.statements.SelectLemmas.{apart_from_pairs, text_equal}
+use Rattle.club_tables.proofs.statements.SelectLemmas.{text_equal}
 use Rattle.club_tables.proofs.statements.UpdateLemmas.{each_of}
 use Rattle.club_tables.proofs.statements.PutLemmas.{PutsRow, first_clause, row_put}
 use Rattle.club_tables.proofs.lists.KeyedRows.{lone, by_put, put_once as once_put, slots_conflict, slot_table, same_itself, changed, same_row as unchanged}

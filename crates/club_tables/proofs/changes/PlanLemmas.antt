@@ -12,7 +12,7 @@ use Rattle.sqlite.specs.Order.{Row}
 use Rattle.sqlite.specs.State.{Executes, State}
 use Rattle.sqlite.specs.Store.{Ghosts}
 use Rattle.sqlite_value.specs.declared.value.Value.TheVariants.{Int, Text, Blob}
-use Rattle.club_core.specs.After.{good_until, after, cancelled_booking, credited_member, rotated_key, revoked_key}
+use Rattle.club_core.specs.After.{good_until, after, cancelled_booking, rotated_key, revoked_key}
 use Rattle.club_core.specs.Club.{Club, member_named, is_key_of, key_named}
 use Rattle.club_core.specs.Store.{IsOwnedBy, IsTrueOf, FitsClub}
 use Rattle.club_core.specs.Sums.{booking_under, cost_of, taken_in}
@@ -22,7 +22,7 @@ use Rattle.club_core.specs.declared.change.Change.TheVariants.{InsertBooking, Ma
 use Rattle.club_core.specs.declared.store.StoreFault.{StoreFault}
 use Rattle.club_rows.specs.Booking.{same_slot, persons_of}
 use Rattle.club_rows.specs.Limits.{charge_limit}
-use Rattle.club_rows.specs.Rows.{IsBooking, IsMember}
+use Rattle.club_rows.specs.Rows.{IsBooking}
 use Rattle.club_rows.specs.declared.booking.Booking.{Booking}
 use Rattle.club_rows.specs.declared.facility.Facility.{Facility}
 use Rattle.club_rows.specs.declared.key.Key.{Key}

@@ -31,8 +31,7 @@ use Rattle.club_tables.specs.Stored.{SlotRow, member_row, used_by, no_slot_use, 
 use Rattle.club_tables.specs.Transaction.{BoundStatement, Ran, transaction_start}
 use Rattle.club_tables.proofs.changes.ChangeLemmas.{AreNamedOnce, Credits, Uses, name_of}
 use Rattle.club_tables.proofs.queries.MemberLemmas.{total}
-use Rattle.club_tables.proofs.statements.OrderLemmas.{pairs_from_apart}
-use Rattle.club_tables.proofs.statements.SelectLemmas.{Apart, apart_from_pairs, pairs_mapped}
+use Rattle.club_tables.proofs.statements.SelectLemmas.{pairs_mapped}
 use Rattle.club_tables.proofs.lists.KeyedRows.{absent, AreApart, same_itself, not_same}
 use Rattle.club_tables.proofs.queries.KeyLemmas.{same_slots}
 use Rattle.club_tables.proofs.changes.AddLemmas.{Takes}

@@ -9,7 +9,7 @@ use Rattle.sqlite.specs.State.{HasCleanDisk, Survives}
 use Rattle.sqlite.specs.Held.{Held, state}
 use Rattle.club_core.specs.declared.change.Change.{Change}
 use Rattle.club_core.specs.After.{after}
-use Rattle.club_core.specs.Store.{FitsClub, IsTrueOf}
+use Rattle.club_core.specs.Store.{IsTrueOf}
 use Rattle.club_core.specs.Club.{Club}
 use Rattle.club_core.specs.declared.store.StoreFault.{StoreFault}
 use Rattle.club_core.specs.declared.change.Change.TheVariants.{InsertMember, AddCredit, InsertFacility, InsertKey, MarkRevoked, ReplaceRoot, MarkClosed}
@@ -17,7 +17,7 @@ use Rattle.club_core.specs.declared.change.Change.TheVariants.{InsertBooking, Ma
 use Rattle.club_tables.specs.Tables.{HoldsClub, IsLeftOf, Represents}
 use Rattle.club_tables.specs.ReadsAndChanges.{ChangesClub, IsChangeFault, IsRunFault, HasOlderRoot}
 use Rattle.club_tables.specs.Transaction.{BoundStatement, Ran, IsKept, transaction_start}
-use Rattle.club_tables.specs.Fault.{Commits, FailsInTurn, FailsToRun}
+use Rattle.club_tables.specs.Fault.{Commits, FailsToRun}
 use Rattle.club_tables.specs.ChangeStatements.{AreStatementsOf, statements_of}
 use Rattle.club_tables.proofs.opening.OpenLemmas.{IsSettled, settles}
 use Rattle.club_tables.proofs.queries.ReadLemmas.{at_once}

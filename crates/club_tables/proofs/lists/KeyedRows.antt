@@ -3,7 +3,7 @@ use Rattle.std.proofs.Common.{◌≡◌, ◌≢◌, Bool, true, false, ◌||◌,
 use Rattle.std.proofs.Common.{true≢false, ℤ, ◌==◌}
 use Rattle.std.specs.Prelude.{find, option_map, AllPairs, unwrap_or}
 use Rattle.std.specs.Option.{option_or}
-use Rattle.std.specs.List.{AllByRecursion, list_any}
+use Rattle.std.specs.List.{list_any}
 use Rattle.std.proofs.lemmas.Bool.{false_from_ne_true}
 use Rattle.std.proofs.lemmas.List.Folds.{find-append, list_any_at}
 use Rattle.std.specs.Str.{bytes_eq}
@@ -23,7 +23,6 @@ use Rattle.club_tables.specs.Schema.{slots_table, club_schema}
 use Rattle.club_tables.specs.Columns.{name_values, slot_values}
 use Rattle.club_tables.specs.Stored.{SlotRow, no_slot_use, stored_slot_use}
 use Rattle.club_tables.specs.Tables.{slots_tree}
-use Rattle.club_tables.proofs.statements.OrderLemmas.{pairs_from_apart}
 use Rattle.club_tables.proofs.statements.PassLemmas.{any_counts, find_some, found}
 use Rattle.club_tables.proofs.statements.SelectLemmas.{Apart, apart_from_pairs, text_equal, whole_equal, pairs_mapped}
 use Rattle.club_tables.proofs.queries.KeyLemmas.{same_slots, three}

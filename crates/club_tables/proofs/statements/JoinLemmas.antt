@@ -1,15 +1,15 @@
 -- What a query over two tables gives: both joined, or one with EXISTS over the other.
-use Rattle.std.proofs.Common.{◌≡◌, ℕ, ℤ, Bool, true, false, cond, ◌||◌, ◌&&◌, List, [], ◌∷◌, ◌++◌, map, refl, sym, ap, subst, ◌∙◌, ◌≤◌, pos, min, length}
+use Rattle.std.proofs.Common.{◌≡◌, ℕ, ℤ, Bool, true, false, cond, ◌||◌, ◌&&◌, List, [], ◌∷◌, ◌++◌, map, refl, ap, subst, ◌∙◌, ◌≤◌, pos, min, length}
 use Rattle.std.proofs.Common.{arith}
 use Rattle.std.specs.Prelude.{filter, flat_map, IsPermutation}
 use Rattle.std.specs.List.{AllByRecursion, AllZip, list_all, list_any}
-use Rattle.std.proofs.lemmas.List.Sorted.{IsPermutation-map, IsPermutation-refl, IsPermutation-sym, IsPermutation-cons, IsPermutation-trans}
+use Rattle.std.proofs.lemmas.List.Sorted.{IsPermutation-refl, IsPermutation-sym, IsPermutation-cons, IsPermutation-trans}
 use Rattle.std.proofs.lemmas.List.Sorted.{IsPermutation-middle, IsPermutation-append_right}
 use Rattle.std.proofs.lemmas.List.{length-map}
 use Rattle.sqlite_value.specs.declared.value.Value.TheVariants.{Int, Null}
 use Rattle.sqlite.specs.Order.{Row}
 use Rattle.sqlite.specs.Term.{Term, Env, holds, eval_all}
-use Rattle.sqlite.specs.Query.{inner, end, IsAnswer, Output, output, counted}
+use Rattle.sqlite.specs.Query.{inner, end, IsAnswer, output, counted}
 use Rattle.sqlite.specs.Program.{overlay}
 use Rattle.sqlite.specs.Command.TheVariants.{Select}
 use Rattle.sqlite.specs.Effect.{Database, Reads, Answers}
