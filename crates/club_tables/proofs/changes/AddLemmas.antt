@@ -299,8 +299,8 @@ put_sets = col 1 0 ∷ col 1 0 ∷ col 1 1 ∷ col 0 1 ∷ col 0 2 ∷ []
 abbrev put_clause : Upsert
 put_clause = first_clause (command_of (understood club_schema PUT_OLDER_ROOT.now))
 
-put_puts : PutsRow old_roots_table.name old_roots_table.columns old_roots_table.uniques old_roots_table.checks old_roots_table.references olders_tree older_target 6
-    PUT_OLDER_ROOT.now put_terms put_sets 4 3 put_clause
+put_puts : PutsRow old_roots_table.name old_roots_table.columns old_roots_table.uniques old_roots_table.checks old_roots_table.references olders_tree
+    older_target 6 PUT_OLDER_ROOT.now put_terms put_sets 4 3 put_clause
 unfolding understood everything
 put_puts = record { is = refl; plain = (refl, refl); aims = refl; by = refl }
 

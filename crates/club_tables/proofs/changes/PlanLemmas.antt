@@ -206,7 +206,8 @@ module _ {S : Type 0} (g : Ghosts S) (old : Held S) (club : Club) (tables : Hold
       let second : Steps (ADD_USED.now, used_values member points key) booked charged = λ before after count holds ran.
       let some = owned_some (change tables.rows.bookings) member key points owned before after count holds ran in
       (member_used before after booked holds member points key count ran some members_once used uses, some) in
-      (booked, λ a b. first (state g a) (state g b), (charged, λ a b. second (state g a) (state g b), (_, λ a b. slot_taken charged tables.storage.once slot persons taken takes fresh (state g a) (state g b), refl)))
+      let third = λ (a b : Held S). slot_taken charged tables.storage.once slot persons taken takes fresh (state g a) (state g b) in
+      (booked, λ a b. first (state g a) (state g b), (charged, λ a b. second (state g a) (state g b), (_, third, refl)))
 
   all_held : AllByRecursion (λ (x : SlotRow). stored_slot_use x.slot tables.rows.slots ≡ x.held) tables.rows.slots
   all_held = held_is tables.rows.slots (apart_from_pairs (λ (a : SlotRow) (b : SlotRow). a.slot ≢ b.slot) tables.rows.slots tables.storage.once)

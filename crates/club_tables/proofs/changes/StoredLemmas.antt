@@ -162,7 +162,8 @@ older_mapped f named name keys =
 pub key_stored : (club : Club) (rows : Rows) → IsStoredAs club rows → IsSound club → (key : Key) → key.older ≡ None → IsSound (after (InsertKey key) club)
     → IsStoredAs (after (InsertKey key) club) (record rows { keys = rows.keys ++ key ∷ [] })
 key_stored club rows stored sound key new fits =
-    keys_stored club rows stored (λ ks. ks ++ key ∷ []) rows.olders (λ name. each name club.bookings (recursion_from_All _ club.bookings sound.references.bookings))
+    keys_stored club rows stored (λ ks. ks ++ key ∷ []) rows.olders (λ name.
+    each name club.bookings (recursion_from_All _ club.bookings sound.references.bookings))
     (λ name. stored.olders name ∙ sym (older_pushed name club.keys key new)) stored.olders_once
   where
     apart : AllByRecursion (λ (k : Key). k.name ≢ key.name) club.keys

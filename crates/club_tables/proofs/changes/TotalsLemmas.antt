@@ -135,7 +135,8 @@ no_row slot rows none = ap (λ found. unwrap_or (option_map (λ (row : SlotRow).
 -- no slot of a facility has more persons than a facility has places
 pub few_taken : (club : Club) → IsSound club → (slot : Slot) → Contains (map (λ (f : Facility). f.name) club.facilities) slot.facility
     → taken_in slot club.bookings ≤ places_limit
-few_taken club sound slot has = each club.facilities (recursion_from_All _ club.facilities sound.places) (recursion_from_All _ club.facilities sound.rows.facilities) has
+few_taken club sound slot has =
+    each club.facilities (recursion_from_All _ club.facilities sound.places) (recursion_from_All _ club.facilities sound.rows.facilities) has
   where
     each : (fs : List Facility) → AllByRecursion (λ (f : Facility). (s : Slot) → s.facility ≡ f.name → taken_in s club.bookings ≤ f.places) fs
         → AllByRecursion IsFacility fs

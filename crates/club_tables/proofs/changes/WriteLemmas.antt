@@ -93,10 +93,12 @@ changes {g = g} change new_key {old = old} {new = new} {result = r} commits sett
     let earlier = λ (clean : HasCleanDisk (state g new)). let e : HasCleanDisk (state g old) = omega (arith, commits.survives.clean) in e in
     record {
       was_clean = earlier;
-      effect = λ clean club others represents sound. wrote g all (some_statements change) old new commits.survives clean club others represents (after change club)
+      effect = λ clean club others represents sound. wrote g all (some_statements change) old new commits.survives clean club others represents
+          (after change club)
           (IsTrueOf change club) (λ db tables ran. let carries = is_true g old club tables db change new_key ran in
           (carries, made g old club tables db change (record { carries = carries; sound = sound }) ran)) r (commits.ran clean) commits.kept settled;
-      untrue = λ clean club others represents no. refused g all (some_statements change) old new commits.survives clean club others represents r (IsTrueOf change club)
+      untrue = λ clean club others represents no. refused g all (some_statements change) old new commits.survives clean club others represents r
+          (IsTrueOf change club)
           (λ db tables ran. is_true g old club tables db change new_key ran) (commits.ran clean) commits.kept no;
       no_change = on_err_weaker r (λ kept rest. kept) commits.kept;
       survives = may_commit g 1 all (AreStatementsOf change) refl old new commits.survives;
@@ -109,7 +111,8 @@ changes {g = g} change new_key {old = old} {new = new} {result = r} commits sett
             failure = record {
               mid = failed.mid;
               failure = less_in_turn g all (transaction_start old) failed.mid fault (λ is_open.
-                  let tables = subst (λ (d : Database). HoldsClub d club) (sym (represents.idle (earlier clean) is_open)) (represents.held (earlier clean) is_open) in
+                  let tables = subst (λ (d : Database). HoldsClub d club) (sym (represents.idle (earlier clean) is_open))
+                  (represents.held (earlier clean) is_open) in
                   let it = plan g old club tables change fits in
                   (tables.rows, it.0, tables.holds_rows, it.1)) failed.failure;
               fault_count = failed.fault_count;

@@ -18,7 +18,13 @@ returns-clause-ok g c clean =
       query = asked clean;
       version_rows = version_answered _ _ rows.items (asked clean).shown;
       version_of_club = λ club others found. elim (version_returned g.S.Store old rows.items earlier (asked clean) club others found) [
-        | inl now ↦ inl (represents_on HoldsClubVersion2 (state g.S.Store old) (state g.S.Store new) c.ask.ensures.kept c.ask.ensures.survives club others now.0, now.1)
-        | inr first ↦ inr (represents_on HoldsClubVersion1 (state g.S.Store old) (state g.S.Store new) c.ask.ensures.kept c.ask.ensures.survives club others first.0, first.1)
+        | inl now ↦ inl (
+          represents_on HoldsClubVersion2 (state g.S.Store old) (state g.S.Store new) c.ask.ensures.kept c.ask.ensures.survives club others now.0,
+          now.1,
+        )
+        | inr first ↦ inr (
+          represents_on HoldsClubVersion1 (state g.S.Store old) (state g.S.Store new) c.ask.ensures.kept c.ask.ensures.survives club others first.0,
+          first.1,
+        )
       ];
     }) c.ask.ensures.asked
