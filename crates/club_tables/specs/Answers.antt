@@ -137,14 +137,7 @@ CanRead (OfOpen member moment) rows = (count : ℕ) × IsCount rows count
 -- the query for a day returned its rows, and there was no memory for their bookings
 abbrev pub LacksMemory : {S : Type 0} → Ghosts S → Reading → Held S → StoreFault → Type 0
 LacksMemory g (OfDay day) old fault = (fault ≡ Memory) × (rows : List Row) × Asked g DAY.now (whole day ∷ []) old rows
-LacksMemory g (OfKey name) old fault = ⊥
-LacksMemory g (OfOlderRoot key) old fault = ⊥
-LacksMemory g (OfMember name) old fault = ⊥
-LacksMemory g (OfFacility name) old fault = ⊥
-LacksMemory g (OfSlot slot) old fault = ⊥
-LacksMemory g (OfBooking key number) old fault = ⊥
-LacksMemory g (OfCosts key) old fault = ⊥
-LacksMemory g (OfOpen member moment) old fault = ⊥
+LacksMemory g _ old fault = ⊥
 
 abbrev pub FailsAtReading : {S : Type 0} → Ghosts S → Reading → Held S → Held S → StoreFault → Type 0
 FailsAtReading g reading old new fault = FailsToRead g (reading_statement reading) (CanRead reading) old new fault ⊎ LacksMemory g reading old fault

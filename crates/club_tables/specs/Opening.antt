@@ -40,24 +40,18 @@ index_text = DROP_BOOKINGS_BY_KEY.now
 abbrev pub indexed_texts : List (List ℕ)
 indexed_texts = texts_by_key ++ index_text ∷ []
 
--- the batch that makes the tables, the one that makes version 2 of version 1, and the one that makes the index of the bookings
-abbrev pub table_texts : List (List ℕ)
-table_texts =
-    MAKE_DESK.now ∷ MAKE_MEMBERS.now ∷ MAKE_FACILITIES.now ∷ MAKE_KEYS.now ∷ MAKE_SLOTS.now ∷ MAKE_BOOKINGS.now
-    ∷ MAKE_KEYS_BY_MEMBER.now ∷ MAKE_OLD_ROOTS.now ∷ MAKE_BOOKINGS_BY_KEY.now ∷ ADD_VERSION.now ∷ []
-
-abbrev pub migration_texts : List (List ℕ)
-migration_texts = MAKE_OLD_ROOTS.now ∷ MAKE_BOOKINGS_BY_KEY.now ∷ SET_VERSION.now ∷ []
-
 -- texts without parameters
 abbrev pub batch : List (List ℕ) → List BoundStatement
 batch texts = map (λ (text : List ℕ). (text, [])) texts
 
+-- the batch that makes the tables, the one that makes version 2 of version 1, and the one that makes the index of the bookings
 abbrev pub table_batch : List BoundStatement
-table_batch = batch table_texts
+table_batch =
+    batch (MAKE_DESK.now ∷ MAKE_MEMBERS.now ∷ MAKE_FACILITIES.now ∷ MAKE_KEYS.now ∷ MAKE_SLOTS.now ∷ MAKE_BOOKINGS.now
+    ∷ MAKE_KEYS_BY_MEMBER.now ∷ MAKE_OLD_ROOTS.now ∷ MAKE_BOOKINGS_BY_KEY.now ∷ ADD_VERSION.now ∷ [])
 
 abbrev pub migration : List BoundStatement
-migration = batch migration_texts
+migration = batch (MAKE_OLD_ROOTS.now ∷ MAKE_BOOKINGS_BY_KEY.now ∷ SET_VERSION.now ∷ [])
 
 abbrev pub index_batch : List BoundStatement
 index_batch = batch (MAKE_BOOKINGS_BY_KEY.now ∷ [])
