@@ -1,10 +1,7 @@
-use Rattle.std.proofs.Common.{◌≡◌, ◌≤◌, ◌-◌, [], ◌++◌, length, take, arith, refl, length-append}
+use Rattle.std.proofs.Common.{◌≡◌, ◌≤◌, ◌-◌, ◌++◌, length, take, arith, length-append}
 use Rattle.std.proofs.lemmas.Grind.{common_steps}
-use Rattle.std.proofs.KnownBytes.{Consumes-nil, Consumes-trans}
+use Rattle.std.proofs.KnownBytes.{Consumes-trans}
 use Rattle.desk_server.proofs.timed.TimedInlet.take_rest.Goals as goal
-
-pub loop-taken-init : goal.loop-taken-init
-loop-taken-init g c = record { bytes = []; so_many = refl; within = omega arith; came = Consumes-nil _ }
 
 pub loop-taken-preserved : goal.loop-taken-preserved
 loop-taken-preserved g c =
