@@ -1,11 +1,9 @@
 -- The pieces of an order, one after the other, and split again.
-use Rattle.std.proofs.Common.{rules, arith, ◌≡◌, ◌≢◌, ℕ, zero, suc, ◌+◌, ◌%◌, ◌^◌, ◌<◌, ◌≤◌, List, [], ◌∷◌, ◌++◌, length, take, map, get_or}
+use Rattle.std.proofs.Common.{rules, arith, ◌≡◌, ◌≢◌, ℕ, zero, suc, ◌+◌, ◌%◌, ◌^◌, ◌<◌, ◌≤◌, List, [], ◌∷◌, ◌++◌, length, take, map, get_or, slice_index_or, remove}
 use Rattle.std.proofs.Common.{refl, sym, ap, subst, ◌∙◌, append_assoc, append-nil, Option, Some, None, MatchOption, decimal}
-use denote.Ref.{Bor}
 use Rattle.std.proofs.lemmas.List.{length-append, take_more}
 use Rattle.std.proofs.lemmas.Fmt.{decimal_by_steps, IsAscii-decimal}
 use Rattle.std.proofs.lemmas.Str.{IsUtf8-append, IsUtf8-from_ascii, IsUtf8-nil}
-use Rattle.std.proofs.lemmas.Str.Pattern.{IsSplitOnceResult, split_after, split_parts}
 use Rattle.std.specs.List.{AllByRecursion}
 use Rattle.std.specs.Str.{IsUtf8}
 use Rattle.std.specs.Str.Iter.{LacksByte}
@@ -40,56 +38,48 @@ module _ {X : Type 0} (text : X → Text) where
 
 -- ---- words that are split again
 
--- what is left of bytes is made up of pieces, so many with those before
-pub record AreLeft (bytes : List ℕ) (before all : ℕ) : Type 0 where
-  pub more : List Text
-  pub words : AllByRecursion IsWord more
-  pub spelled : bytes ≡ pieces more
-  pub so_many : before + length more ≡ all
+-- what lacks a zero byte doesn't go on with one
+no_zero : (word more rest : List ℕ) → LacksByte 0 rest → rest ≡ word ++ (0 ∷ more) → ⊥
+no_zero [] more rest lacks is = let lack : LacksByte 0 (0 ∷ more) = rw is at lacks in lack 0 (omega arith) refl
+no_zero (byte ∷ word) more rest lacks is =
+    let lack : LacksByte 0 (byte ∷ (word ++ (0 ∷ more))) = rw is at lacks in
+    no_zero word more (word ++ (0 ∷ more)) (λ k below. lack (suc k) (omega arith)) refl
 
-pub first_piece : (bytes : List ℕ) (result : Option (Bor (List ℕ) × Bor (List ℕ))) → IsSplitOnceResult 0 bytes result → (word : Text) (more : List ℕ)
-    → LacksByte 0 word → bytes ≡ piece word ++ more → MatchOption result ⊥ (λ parts. (parts.0.now ≡ word) × (parts.1.now ≡ more))
-first_piece bytes result is word more lacks e = split_after 0 bytes word more result is (omega arith) (e ∙ append_assoc word (0 ∷ []) more) lacks
+same_word : (a b m n : List ℕ) → LacksByte 0 a → LacksByte 0 b → a ++ (0 ∷ m) ≡ b ++ (0 ∷ n) → (a ≡ b) × (m ≡ n)
+same_word [] [] m n la lb e = (refl, cc)
+same_word [] (y ∷ b) m n la lb e = absurd (lb 0 (omega arith) (cc))
+same_word (x ∷ a) [] m n la lb e = absurd (la 0 (omega arith) (cc))
+same_word (x ∷ a) (y ∷ b) m n la lb e =
+    let more : a ++ (0 ∷ m) ≡ b ++ (0 ∷ n) = cc in
+    let same = same_word a b m n (λ k below. la (suc k) (omega arith)) (λ k below. lb (suc k) (omega arith)) more in
+    let tails : a ≡ b = same.0 in (cc, same.1)
 
-length_piece : (word : Text) (more : List ℕ) → length (piece word ++ more) ≡ length word + suc (length more)
-length_piece word more = ap length (append_assoc word (0 ∷ []) more) ∙ length-append word (0 ∷ more)
+-- bytes are those of one list of words, and of no others that no zero byte ends
+same_pieces : (xs ys : List Text) (rest : List ℕ) → AllByRecursion (LacksByte 0) xs → AllByRecursion (LacksByte 0) ys → LacksByte 0 rest
+    → pieces xs ++ rest ≡ pieces ys → (xs ≡ ys) × (rest ≡ [])
+same_pieces [] [] rest lx ly lacks e = (refl, e)
+same_pieces [] (y ∷ ys) rest lx ly lacks e = absurd (no_zero y (pieces ys) rest lacks (e ∙ append_assoc y (0 ∷ []) (pieces ys)))
+same_pieces (x ∷ xs) [] rest lx ly lacks e =
+    absurd (no_zero x (pieces xs ++ rest) [] (λ k none. omega arith)
+    (sym e ∙ append_assoc (piece x) (pieces xs) rest ∙ append_assoc x (0 ∷ []) (pieces xs ++ rest)))
+same_pieces (x ∷ xs) (y ∷ ys) rest lx ly lacks e =
+    let first = same_word x y (pieces xs ++ rest) (pieces ys) lx.0 ly.0 (sym (append_assoc x (0 ∷ []) (pieces xs ++ rest))
+    ∙ sym (append_assoc (piece x) (pieces xs) rest) ∙ e ∙ append_assoc y (0 ∷ []) (pieces ys)) in
+    let more = same_pieces xs ys rest lx.1 ly.1 lacks first.1 in
+    let heads : x ≡ y = first.0 in let tails : xs ≡ ys = more.0 in (cc, more.1)
 
-pub left_of : (bytes : List ℕ) (many before : ℕ) (left : AreLeft bytes before many) (parts : Bor (List ℕ) × Bor (List ℕ))
-    → IsSplitOnceResult 0 bytes (Some parts) → AreLeft parts.1.now (before + 1) many
-left_of bytes many before left parts is = pick left.more left.words left.spelled left.so_many
-  where
-    pick : (more : List Text) → AllByRecursion IsWord more → bytes ≡ pieces more → before + length more ≡ many → AreLeft parts.1.now (before + 1) many
-    pick [] all e n =
-        absurd (let h : length bytes ≡ length parts.0.now + suc (length parts.1.now) =
-        ap length (split_parts 0 bytes (Some parts) is (omega arith)).0 ∙ length-append parts.0.now (0 ∷ parts.1.now) in
-        let z : length bytes ≡ 0 = ap length e in omega arith)
-    pick (word ∷ more) all e n = record {
-      more = more;
-      words = all.1;
-      spelled = (first_piece bytes (Some parts) is word (pieces more) all.0.1 e).1;
-      so_many = omega arith;
-    }
-
-pub none_left : (bytes : List ℕ) (many before : ℕ) (left : AreLeft bytes before many) → IsSplitOnceResult 0 bytes None → length bytes ≡ 0
-none_left bytes many before left is = pick left.more left.words left.spelled
-  where
-    pick : (more : List Text) → AllByRecursion IsWord more → bytes ≡ pieces more → length bytes ≡ 0
-    pick [] all e = ap length e
-    pick (word ∷ more) all e = absurd (first_piece bytes None is word (pieces more) all.0.1 e)
-
-pub empty_left : (bytes : List ℕ) (many before : ℕ) (left : AreLeft bytes before many) → length bytes ≡ 0 → many ≡ before
-empty_left bytes many before left z = pick left.more left.spelled left.so_many
-  where
-    pick : (more : List Text) → bytes ≡ pieces more → before + length more ≡ many → many ≡ before
-    pick [] e n = omega arith
-    pick (word ∷ more) e n =
-        absurd (let h : length bytes ≡ length word + suc (length (pieces more)) = ap length e ∙ length_piece word (pieces more) in omega arith)
+lack_zeros : (words : List Text) → AllByRecursion IsWord words → AllByRecursion (LacksByte 0) words
+lack_zeros [] all = tt
+lack_zeros (word ∷ words) all = (all.0.1, lack_zeros words all.1)
 
 pub empty : (bytes : List ℕ) → length bytes ≡ 0 → bytes ≡ []
 empty [] e = refl
 empty (byte ∷ bytes) e = absurd (omega arith)
 
 -- ---- the bytes of an order
+
+length_piece : (word : Text) (more : List ℕ) → length (piece word ++ more) ≡ length word + suc (length more)
+length_piece word more = ap length (append_assoc word (0 ∷ []) more) ∙ length-append word (0 ∷ more)
 
 many_pieces : (words : List Text) → length words ≤ length (pieces words)
 many_pieces [] = omega arith
@@ -137,23 +127,20 @@ module _ (bytes : List ℕ) (root : Text) (words : List Text) (order : IsOrder b
       (piece_utf8 (decimal (length words)) (IsUtf8-from_ascii (decimal (length words)) (IsAscii-decimal (length words) so_many)))
       (IsUtf8-append (piece root) (pieces words) (piece_utf8 root order.root_word.0) (pieces_utf8 words order.all_words)))
 
-  pub first_of : (text : List ℕ) (result : Option (Bor (List ℕ) × Bor (List ℕ))) → text ≡ bytes → IsSplitOnceResult 0 text result
-      → MatchOption result ⊥ (λ parts. (parts.0.now ≡ decimal (length words)) × (parts.1.now ≡ piece root ++ pieces words))
-  first_of text result same is =
-      first_piece text result is (decimal (length words)) (piece root ++ pieces words) (decimal_lacks (length words) so_many) (same ∙ order.spelled)
+  -- no other words have the bytes of the order, and nothing is behind its own
+  pub same_order : (xs : List Text) (rest : List ℕ) → AllByRecursion IsWord xs → LacksByte 0 rest → bytes ≡ pieces xs ++ rest
+      → (xs ≡ decimal (length words) ∷ root ∷ words) × (rest ≡ [])
+  same_order xs rest all lacks is =
+      same_pieces xs (decimal (length words) ∷ root ∷ words) rest (lack_zeros xs all)
+      (decimal_lacks (length words) so_many, (order.root_word.1, lack_zeros words order.all_words)) lacks (sym is ∙ order.spelled)
 
-  pub second_of : (rest : List ℕ) (result : Option (Bor (List ℕ) × Bor (List ℕ))) → rest ≡ piece root ++ pieces words → IsSplitOnceResult 0 rest result
-      → MatchOption result ⊥ (λ parts. (parts.0.now ≡ root) × (parts.1.now ≡ pieces words))
-  second_of rest result same is = first_piece rest result is root (pieces words) order.root_word.1 same
+  pub same_words : (xs : List Text) → AllByRecursion IsWord xs → bytes ≡ pieces xs → xs ≡ decimal (length words) ∷ root ∷ words
+  same_words xs all is = (same_order xs [] all (λ k none. omega arith) (is ∙ sym (append-nil (pieces xs)))).0
 
-  pub behind_root : (text : List ℕ) (count first other second : Bor (List ℕ)) → text ≡ bytes → IsSplitOnceResult 0 text (Some (count, first))
-      → IsSplitOnceResult 0 first.now (Some (other, second)) → (count.now ≡ decimal (length words)) × (second.now ≡ pieces words)
-  behind_root text count first other second same is more =
-      let head = first_of text (Some (count, first)) same is in (head.0, (second_of first.now (Some (other, second)) head.1 more).1)
-
-pub order_made : (bytes text count root first second : List ℕ) (words : List Text) → text ≡ bytes → text ≡ count ++ (0 ∷ first) → first ≡ root ++ (0 ∷ second)
-    → second ≡ pieces words → count ≡ decimal (length words) → bytes ≡ order_bytes root words
-order_made bytes text count root first second words same e1 e2 e3 e4 =
-    sym same ∙ e1 ∙ sym (append_assoc count (0 ∷ []) first)
-    ∙ ap (λ (l : List ℕ). piece count ++ l) (e2 ∙ sym (append_assoc root (0 ∷ []) second) ∙ ap (λ (l : List ℕ). piece root ++ l) e3)
-    ∙ ap (λ (l : List ℕ). piece l ++ (piece root ++ pieces words)) e4
+-- what was taken off the front, twice
+pub taken_off : {X : Type 0} (xs xs1 xs2 : List X) (x y : X) → 1 < length xs → x ≡ slice_index_or xs 0 x → xs1 ≡ remove xs 0
+    → y ≡ slice_index_or xs1 0 y → xs2 ≡ remove xs1 0 → xs ≡ x ∷ y ∷ xs2
+taken_off [] xs1 xs2 x y some first rest second more = absurd (omega arith)
+taken_off (z ∷ []) xs1 xs2 x y some first rest second more = absurd (omega arith)
+taken_off (z ∷ w ∷ zs) xs1 xs2 x y some first rest second more =
+    let seconds : y ≡ w = rw rest at second in let rests : xs2 ≡ zs = rw rest at more in cc

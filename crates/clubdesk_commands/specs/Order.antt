@@ -33,13 +33,10 @@ pub record IsOrder (bytes : List ℕ) (root : Text) (words : List Text) : Type 0
 abbrev pub SpellsNoOrder : List ℕ → Type 0
 SpellsNoOrder bytes = (root : Text) (words : List Text) → IsOrder bytes root words → ⊥
 
--- the bytes are those of no words
-abbrev pub SpellsNoWords : List ℕ → Type 0
-SpellsNoWords bytes = (words : List Text) → AllByRecursion IsWord words → bytes ≢ pieces words
-
--- words with these bytes are so many
-abbrev pub AreSoMany : List ℕ → ℕ → Type 0
-AreSoMany bytes many = (words : List Text) → AllByRecursion IsWord words → bytes ≡ pieces words → length words ≡ many
+-- the bytes are pieces, and then some that no zero byte ends
+abbrev pub EndsWithoutZero : List ℕ → Type 0
+EndsWithoutZero bytes =
+    (words : List Text) × (rest : List ℕ) × AllByRecursion IsWord words × LacksByte 0 rest × (rest ≢ []) × (bytes ≡ pieces words ++ rest)
 
 -- the bytes are those of the order; or of none
 abbrev pub IsOrderOf : List ℕ → Option Order → Type 0

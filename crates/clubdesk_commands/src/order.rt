@@ -1,6 +1,6 @@
 //! The bytes of an order, as its command hands them to a server.
 
-ghost use Rattle.std.specs.Prelude.{◌≡◌, ◌++◌, ◌∷◌, [], IfOk, MatchOption, OnOk, length, map};
+ghost use Rattle.std.specs.Prelude.{◌≡◌, ◌++◌, ◌∷◌, [], IfOk, MatchOption, OnOk, map};
 ghost use Rattle.std.specs.List.{AllByRecursion};
 ghost use Rattle.std.specs.String.{string_bytes};
 ghost use Rattle.clubdesk_commands.specs.Order as spec;
@@ -65,19 +65,17 @@ pub fn read_order(alloc: Global, bytes: &[u8]) -> Result<Option<Order>, AllocErr
     let Ok(text) = str::from_utf8(bytes) else {
         return Ok(None);
     };
-    let Some((count, rest)) = text.split_once('\0') else {
+    let Some(mut words) = split_words(alloc, text)? else {
         return Ok(None);
     };
-    let Some((root, rest)) = rest.split_once('\0') else {
+    if words.len() < 2 {
         return Ok(None);
-    };
-    let Some(words) = split_words(alloc, rest)? else {
-        return Ok(None);
-    };
+    }
+    let count = words.remove(0);
+    let root = words.remove(0);
     let many = words.len();
     let spelled = format!(in alloc; "{many}")?;
-    if spelled.as_str() == count {
-        let root = format!(in alloc; "{root}")?;
+    if spelled.as_str() == count.as_str() {
         Ok(Some(Order { root, words }))
     } else {
         Ok(None)
@@ -86,9 +84,8 @@ pub fn read_order(alloc: Global, bytes: &[u8]) -> Result<Option<Order>, AllocErr
 
 // The words of which a text has the pieces; `None` if it has something behind the last piece.
 fn split_words(alloc: Global, text: &str) -> Result<Option<Vec<String>>, AllocError>
-    ensures { IfOk result (λ words. MatchOption words (spec.SpellsNoWords text.now)
+    ensures { IfOk result (λ words. MatchOption words (spec.EndsWithoutZero text.now)
         (λ words. (text.now ≡ spec.pieces (map string_bytes words.items))
-        × spec.AreSoMany text.now (length words.items)
         × AllByRecursion spec.IsWord (map string_bytes words.items))) }
 {
     let mut words = Vec::new(alloc);
