@@ -24,7 +24,6 @@ use Rattle.club_http.specs.declared.fault.AnswerFault.{AnswerFault}
 use Rattle.club_http.specs.declared.fault.AnswerFault.TheVariants.{Read, Write}
 use Rattle.club_laws.specs.Failed.{IsStep, is_unavailable}
 use Rattle.clubdesk_arguments.specs.declared.fault.Fault.{Fault}
-use Rattle.clubdesk_arguments.specs.declared.fault.Fault.TheVariants.{Memory, ClockOutOfRange, InputOutput}
 use Rattle.clubdesk_arguments.specs.declared.task.Service.{Service}
 use Rattle.clubdesk_arguments.specs.declared.task.Task.{Task}
 use Rattle.clubdesk_arguments.specs.declared.task.Task.TheVariants.{Order, Key, Sheet, ShowAccount, ShowSlot}

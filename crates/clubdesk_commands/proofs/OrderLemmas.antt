@@ -1,6 +1,6 @@
 -- The pieces of an order, one after the other, and split again.
-use Rattle.std.proofs.Common.{rules, arith, ◌≡◌, ◌≢◌, ℕ, zero, suc, ◌+◌, ◌%◌, ◌^◌, ◌<◌, ◌≤◌, List, [], ◌∷◌, ◌++◌, length, take, map, get_or, slice_index_or, remove}
-use Rattle.std.proofs.Common.{refl, sym, ap, subst, ◌∙◌, append_assoc, append-nil, Option, Some, None, MatchOption, decimal}
+use Rattle.std.proofs.Common.{rules, arith, ◌≡◌, ◌≢◌, ℕ, zero, suc, ◌+◌, ◌%◌, ◌^◌, ◌<◌, ◌≤◌, List, [], ◌∷◌, ◌++◌, length, take, map}
+use Rattle.std.proofs.Common.{refl, sym, ap, subst, ◌∙◌, append_assoc, append-nil, decimal, get_or, slice_index_or, remove}
 use Rattle.std.proofs.lemmas.List.{length-append, take_more}
 use Rattle.std.proofs.lemmas.Fmt.{decimal_by_steps, IsAscii-decimal}
 use Rattle.std.proofs.lemmas.Str.{IsUtf8-append, IsUtf8-from_ascii, IsUtf8-nil}
@@ -8,7 +8,7 @@ use Rattle.std.specs.List.{AllByRecursion}
 use Rattle.std.specs.Str.{IsUtf8}
 use Rattle.std.specs.Str.Iter.{LacksByte}
 use Rattle.clap.specs.Words.{Text}
-use Rattle.clubdesk_commands.specs.Order.{IsOrder, IsWord, order_bytes, piece, pieces}
+use Rattle.clubdesk_commands.specs.Order.{IsOrder, IsWord, piece, pieces}
 
 module _ {X : Type 0} (text : X → Text) where
   pieces_append : (xs ys : List X) → pieces (map text (xs ++ ys)) ≡ pieces (map text xs) ++ pieces (map text ys)

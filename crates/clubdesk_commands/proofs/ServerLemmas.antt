@@ -1,5 +1,5 @@
 -- What a server serves, by how it ends.
-use Rattle.std.proofs.Common.{◌≡◌, ◌⊎◌, ℕ, List, [], Result, Err, inl, inr, refl}
+use Rattle.std.proofs.Common.{◌≡◌, ℕ, List, [], Result, Err, inl, inr, refl}
 use Rattle.club_http.specs.Replied.{AnswerRelation}
 use Rattle.desk_server.specs.Served.{Orders, Turn}
 use Rattle.desk_server.specs.Served as served

@@ -50,9 +50,9 @@ GivesReply text answer (replies.Refused fault) = answer ≡ Err (fault_of_desk f
 GivesReply text answer reply = answer ≡ Ok text
 
 -- the answer to what the desk returned
-abbrev pub answer_to : {Z : Type 0} → Result (String Z) DeskFault → Result (List ℕ) Fault
-answer_to (Ok text) = Ok (string_bytes text)
-answer_to (Err fault) = Err (fault_of_desk fault)
+abbrev pub answer_of_desk : {Z : Type 0} → Result (String Z) DeskFault → Result (List ℕ) Fault
+answer_of_desk (Ok text) = Ok (string_bytes text)
+answer_of_desk (Err fault) = Err (fault_of_desk fault)
 
 module _ {S : Type 0} (Clean : S → Type 0) (Represents : S → Club → List Club → Type 0) where
   -- The desk got an order, and its reply was answered, with this text if it wasn't refused.
@@ -73,7 +73,7 @@ module _ {S : Type 0} (Clean : S → Type 0) (Represents : S → Club → List C
     pub kept : Clean new → KeepsClub Represents old new
     pub returned : Result (String Global) DeskFault
     pub shows : OfItsClub Clean Represents old new (λ club. Shows club returned)
-    pub is : answer ≡ answer_to returned
+    pub is : answer ≡ answer_of_desk returned
 
   -- What a task of the office answers, and how it changes a store, by the store's trait.
   abbrev pub Does : Task → Result (List ℕ) Fault → S → S → Type 0

@@ -46,12 +46,12 @@ pub(crate) fn carry_out<C: Clock, S: ClubStore>(
                 None => Err(Fault::Memory),
             }
         }
-        Task::Sheet(day) => answer_to(desk.sheet(day)),
+        Task::Sheet(day) => answer_of_desk(desk.sheet(day)),
         Task::ShowAccount { key, clock } => match (MomentsOf { clock, machine }).now() {
-            Some(moment) => answer_to(desk.show_account(&key, moment)),
+            Some(moment) => answer_of_desk(desk.show_account(&key, moment)),
             None => Err(Fault::ClockOutOfRange),
         },
-        Task::ShowSlot(slot) => answer_to(desk.show_slot(&slot)),
+        Task::ShowSlot(slot) => answer_of_desk(desk.show_slot(&slot)),
     }
 }
 
@@ -94,8 +94,8 @@ fn key_command(name: Name, change: KeyChange, root: Root) -> Command
 }
 
 // The answer to what the desk returned.
-fn answer_to(returned: Result<String, club_gate::Fault>) -> Result<String, Fault>
-    ensures is { text_of result ≡ spec.answer_to returned }
+fn answer_of_desk(returned: Result<String, club_gate::Fault>) -> Result<String, Fault>
+    ensures is { text_of result ≡ spec.answer_of_desk returned }
     ensures worked { IfErr result IsWorkFault }
 {
     match returned {

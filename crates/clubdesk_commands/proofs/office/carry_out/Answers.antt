@@ -1,4 +1,3 @@
-use Rattle.std.proofs.Common.{Some, None, refl}
 use Rattle.std.specs.String.{string_bytes}
 use Rattle.clubdesk_commands.specs.Does as spec
 use Rattle.clubdesk_commands.proofs.office.carry_out.Goals as goal
@@ -12,7 +11,7 @@ returns-in-Sheet-clause-does g c = rw c.in-Sheet.is (record {
   kept = c.sheet.ensures.kept;
   returned = c.sheet.result;
   shows = c.sheet.ensures.returned;
-  is = c.answer_to.ensures.is;
+  is = c.answer_of_desk.ensures.is;
 })
 
 pub returns-in-Some-clause-does : goal.returns-in-Some-clause-does

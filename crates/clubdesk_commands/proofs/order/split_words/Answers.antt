@@ -1,8 +1,7 @@
-use Rattle.std.proofs.Common.{rules, arith, ◌≡◌, ◌++◌, ◌∷◌, [], ◌∙◌, ap, map, ℕ, length, List, Some, None}
+use Rattle.std.proofs.Common.{rules, arith, ◌≡◌, ◌++◌, ◌∙◌, ap, map, ℕ, length, List, Some, None}
 use Rattle.std.proofs.lemmas.Grind.{common_steps}
 use Rattle.std.proofs.lemmas.Str.{IsUtf8-string_bytes}
 use Rattle.std.proofs.lemmas.Str.Pattern.{split_parts}
-use Rattle.std.proofs.lemmas.List.{length-append}
 use Rattle.std.proofs.Common.{append-nil}
 use Rattle.std.specs.String.{string_bytes}
 use Rattle.clubdesk_commands.specs.Order.{pieces}

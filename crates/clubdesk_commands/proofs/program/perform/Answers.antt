@@ -11,7 +11,8 @@ returns-in-Ok-Opened-clause-performs g c =
 
 pub returns-in-Ok-Served-clause-performs : goal.returns-in-Ok-Served-clause-performs
 returns-in-Ok-Served-clause-performs g c =
-    spec.handed_over _ c.in-Ok-Served.visit (rw c.in-Ok-Served.field-0-is at c.in-Ok-Served.ensures) c.hand_over.ensures.handed c.print-in-Ok-Served.ensures.prints
+    spec.handed_over _ c.in-Ok-Served.visit (rw c.in-Ok-Served.field-0-is at c.in-Ok-Served.ensures)
+    c.hand_over.ensures.handed c.print-in-Ok-Served.ensures.prints
 
 pub returns-in-Err-clause-performs : goal.returns-in-Err-clause-performs
 returns-in-Err-clause-performs g c = spec.not_reached c.in-Err.fault c.in-Err.ensures (ap Err c.from.ensures) refl
