@@ -67,11 +67,11 @@ WRITTEN = {
     "club.Club.taken": "club_core.Sums: is_in taken_in; club_rows.Booking: persons_of; club_core.Basis: slot_use_by slot_use",
     "club.Club.good_roots": "club_rows.Key: older_root_at; club_core.Pass: IsGoodRoot IsSignedUnder is_signed_under",
     "club.Club.ask_of": "club_core.Answer: owed_at ask_of; club_core.Request: request_action request_guests request_slot request_number",
-    "club.Club.ask": "club_core.Answer: form_refusal after_caveats acceptance_lines answer_by_view answer_to answer_by_basis verdict_in; "
+    "club.Club.ask": "club_core.Answer: form_refusal after_caveats answer_by_view answer_to answer_by_basis verdict_in; "
                      "club_core.Acceptance: IsServed IsAllowedBy IsAcceptedPass IsAcceptedIn; club_core.Basis: SlotState state_of Basis key_of "
-                     "basis_under basis_of view_of; club_core.Club: key_named member_named facility_named; club_core.Pass: Pass Words; "
-                     "club_core.Verdict: verdict_of reply_only refusal_verdict; club_gate.Identifier: key_name_in; "
-                     "club_gate.DecodedPass: IsSeenAs fault_of IsDecoded AreWordsOf",
+                     "basis_under basis_of view_of; club_rows.Key: row_of_key; club_core.Club: key_named member_named facility_named; "
+                     "club_core.Pass: Pass Words; club_core.Verdict: verdict_of reply_only refusal_verdict; "
+                     "club_gate.Identifier: key_name_in; club_gate.DecodedPass: IsSeenAs fault_of IsDecoded AreWordsOf",
     "club.Club.decide_view": "club_core.Verdict: shown_at; club_core.Club: is_closed",
     "club.Club.decide_account": "club_core.Verdict: account_verdict",
     "club.Club.booked": "club_core.Verdict: booked_before",

@@ -1,6 +1,6 @@
 -- A refusal changes nothing: no line of a decision that refuses has a change.
 use Rattle.std.proofs.Common.{ℕ, Bool, true, false, cond, List, [], ◌∷◌, Option, Some, None, Ok, Err, refl}
-use Rattle.std.specs.Prelude.{Result, ◌&&◌, ◌==◌}
+use Rattle.std.specs.Prelude.{Result, ◌&&◌, ◌==◌, not}
 use Rattle.pass_caveats.specs.declared.fault.CaveatFault.{CaveatFault}
 use Rattle.pass_caveats.specs.declared.fault.CaveatFault.TheVariants.{NotUnderstood, Denied}
 use Rattle.club_values.specs.declared.slot.Slot.{Slot}
@@ -11,15 +11,16 @@ use Rattle.club_core.specs.declared.verdict.Verdict.{Verdict}
 use Rattle.club_core.specs.declared.request.Request.{Request}
 use Rattle.club_core.specs.declared.request.Request.TheVariants as asked
 use Rattle.pass_caveats.specs.Fault.{first_fault_of}
-use Rattle.club_core.specs.declared.refusal.Refusal.TheVariants.{NumberUsed}
+use Rattle.club_core.specs.declared.refusal.Refusal.TheVariants.{KeyRevoked, NotVerified, NumberUsed}
 use Rattle.club_rows.specs.Booking.{same_slot, refund_at}
-use Rattle.club_core.specs.Lines.{Line, first_of}
+use Rattle.club_core.specs.Lines.{Line, line_if, first_of}
 use Rattle.club_core.specs.declared.pass_fault.PassFault.{PassFault}
 use Rattle.club_core.specs.Pass.{Pass, is_signed_under}
 use Rattle.club_core.specs.Verdict.{refusal_verdict, booked_now, booked_before, cancelled_now, new_booking, book_lines, cancel_lines, new_verdict}
 use Rattle.club_core.specs.Verdict.{repeat_booking_verdict}
 use Rattle.club_core.specs.Verdict.{cancel_recorded_verdict, shown_at, unknown_verdict, recorded_or, verdict_of}
-use Rattle.club_core.specs.Answer.{answer_to, acceptance_lines, ask_of, after_caveats}
+use Rattle.club_core.specs.Answer.{answer_to, ask_of, after_caveats}
+use Rattle.club_core.specs.Basis.{Basis, view_of}
 use Rattle.club_core.specs.Laws.{KeepsWhereRefused}
 
 abbrev EachLine : List (Line Verdict) → Type 0
@@ -85,11 +86,15 @@ keeps_after_caveats None verdict h = h
 keeps_after_caveats (Some (NotUnderstood n)) verdict h = record { kept = λ r e. refl }
 keeps_after_caveats (Some (Denied n)) verdict h = record { kept = λ r e. refl }
 
-pub keeps_answer : (pass : Result Pass PassFault) (request : Request) (moment : ℕ) (view : Option View) → KeepsWhereRefused (answer_to pass request moment view)
-keeps_answer (Err fault) request moment view = record { kept = λ r e. refl }
+pub keeps_answer : (pass : Result Pass PassFault) (request : Request) (moment : ℕ) (basis : Option Basis)
+    → KeepsWhereRefused (answer_to pass request moment basis)
+keeps_answer (Err fault) request moment basis = record { kept = λ r e. refl }
 keeps_answer (Ok pass) request moment None = record { kept = λ r e. refl }
-keeps_answer (Ok pass) request moment (Some view) =
+keeps_answer (Ok pass) request moment (Some basis) =
+    let view = view_of basis request moment in
     let fault = first_fault_of pass.caveats (ask_of view request moment) in
-    keeps_first (acceptance_lines view.key (is_signed_under pass view.key moment)) (after_caveats fault (verdict_of view request moment))
+    keeps_first
+    (line_if (not (is_signed_under pass basis.key moment)) (refusal_verdict NotVerified) ∷ line_if basis.key.revoked (refusal_verdict KeyRevoked) ∷ [])
+    (after_caveats fault (verdict_of view request moment))
     (record { kept = λ r e. refl }, (record { kept = λ r e. refl }, tt))
     (keeps_after_caveats fault (verdict_of view request moment) (keeps_verdict view request moment))

@@ -1,40 +1,15 @@
--- The view of a key: what is decided by it, and where its sums come from.
-use Rattle.std.proofs.Common.{◌≡◌, ℕ, zero, suc, ◌<◌, Bool, true, false, List, [], ◌∷◌, length, get_or, Option, Some, None, Ok, Err, refl, sym, ap, subst}
+-- Where the sums of a key's view come from.
+use Rattle.std.proofs.Common.{◌≡◌, ℕ, zero, suc, ◌<◌, Bool, true, false, List, [], ◌∷◌, length, get_or, refl, sym, ap, subst}
 use Rattle.std.proofs.Common.{arith}
-use Rattle.std.specs.Prelude.{Result, ◌&&◌, ◌==◌, ◌||◌, filter, find, sum_by, Contains, option_map, option_and_then}
+use Rattle.std.specs.Prelude.{◌&&◌, ◌==◌, ◌||◌, filter, find, sum_by, Contains}
 use Rattle.std.specs.List.{list_any}
 use Rattle.std.specs.Str.{bytes_eq}
 use Rattle.std.proofs.lemmas.Slice.Eq.{bytes_eq-Decides}
 use Rattle.club_rows.specs.declared.booking.Booking.{Booking}
 use Rattle.club_rows.specs.declared.key.Key.{Key}
-use Rattle.club_core.specs.declared.pass_fault.PassFault.{PassFault}
-use Rattle.club_core.specs.declared.request.Request.{Request}
-use Rattle.club_core.specs.Answer.{answer_to}
-use Rattle.club_core.specs.Basis.{Basis, basis_under, key_of, view_in, view_of}
-use Rattle.club_core.specs.Club.{Club, is_key_of, key_named}
+use Rattle.club_core.specs.Club.{Club, is_key_of}
 use Rattle.club_core.specs.Laws.{HasOwnBookings}
-use Rattle.club_core.specs.Pass.{Pass}
 use Rattle.club_core.specs.Sums.{cost_of, is_under}
-
--- ---- decisions
-
-by_name : (club : Club) (pass : Pass) (request : Request) (moment : ℕ) (name : Option (List ℕ))
-    → answer_to (Ok pass) request moment
-    (option_map (λ (b : Basis). view_of b request moment)
-    (option_and_then (basis_under club request) (option_and_then (λ (n : List ℕ). key_named n club) name)))
-    ≡ answer_to (Ok pass) request moment (option_and_then (λ (n : List ℕ). view_in club n request moment) name)
-by_name club pass request moment None = refl
-by_name club pass request moment (Some name) = refl
-
-pub views_decide : (club : Club) (pass : Result Pass PassFault) (request : Request) (moment : ℕ)
-    → answer_to pass request moment
-    (option_map (λ (b : Basis). view_of b request moment)
-    (option_and_then (basis_under club request) (option_and_then (λ (n : List ℕ). key_named n club) (key_of pass))))
-    ≡ answer_to pass request moment (option_and_then (λ (n : List ℕ). view_in club n request moment) (key_of pass))
-views_decide club (Err fault) request moment = refl
-views_decide club (Ok pass) request moment = by_name club pass request moment pass.key
-
--- ---- sums
 
 same : (a b : List ℕ) → bytes_eq a b ≡ true → a ≡ b
 same a b h = (bytes_eq-Decides a b).0 h

@@ -7,7 +7,6 @@ use Rattle.club_core.specs.declared.refusal.Refusal.{Refusal}
 use Rattle.club_core.specs.declared.reply.Reply.{Reply}
 use Rattle.club_core.specs.declared.reply.Reply.TheVariants.{Refused}
 use Rattle.club_core.specs.declared.request.Request.{Request}
-use Rattle.club_core.specs.declared.view.View.{View}
 use Rattle.club_core.specs.Answer.{ask_of}
 use Rattle.club_core.specs.Basis.{Basis, basis_of, view_of}
 use Rattle.club_core.specs.Club.{Club, key_named}
@@ -22,12 +21,12 @@ abbrev pub IsAllowedBy : Ask → Option Caveat → Type 0
 IsAllowedBy ask None = ⊥
 IsAllowedBy ask (Some caveat) = Permits caveat ask
 
--- the pass is accepted for the request: it is signed under a root of the view's key that is good at the moment, the key isn't revoked, and each
+-- the pass is accepted for the request: it is signed under a root of the basis's key that is good at the moment, the key isn't revoked, and each
 -- of its caveats allows the request
-pub record IsAcceptedPass (pass : Pass) (request : Request) (moment : ℕ) (view : View) : Type 0 where
-  pub signed : IsSignedUnder pass view.key moment
-  pub not_revoked : view.key.revoked ≡ false
-  pub permission : All (IsAllowedBy (ask_of view request moment)) pass.caveats
+pub record IsAcceptedPass (pass : Pass) (request : Request) (moment : ℕ) (basis : Basis) : Type 0 where
+  pub signed : IsSignedUnder pass basis.key moment
+  pub not_revoked : basis.key.revoked ≡ false
+  pub permission : All (IsAllowedBy (ask_of (view_of basis request moment) request moment)) pass.caveats
 
 -- the text is a pass, it names a key of the club, and it is accepted
 pub record IsAcceptedIn (club : Club) (words : Words) (moment : ℕ) : Type 0 where
@@ -35,7 +34,7 @@ pub record IsAcceptedIn (club : Club) (words : Words) (moment : ℕ) : Type 0 wh
   pub basis : Basis
   pub read : words.pass ≡ Ok pass
   pub known : basis_of club words ≡ Some basis
-  pub acceptance : IsAcceptedPass pass words.request moment (view_of basis words.request moment)
+  pub acceptance : IsAcceptedPass pass words.request moment basis
 
 -- the text is a pass that allows the request: it names a key of the club that isn't revoked, it is signed under a root of that key
 -- that is good at the moment, and each of its caveats allows the request

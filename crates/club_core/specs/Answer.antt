@@ -1,12 +1,11 @@
 -- The answer to a request (ours): first the pass is accepted or refused, then the request is decided. The answer depends only on the
 -- words, the moment and the view, and so on the basis of the view.
-use Rattle.std.specs.Prelude.{ℕ, not, Bool, false, List, [], ◌∷◌, Option, Some, None, Result, Ok, Err, is_some, option_map}
+use Rattle.std.specs.Prelude.{ℕ, not, Bool, false, [], ◌∷◌, Option, Some, None, Result, Ok, Err, is_some, option_map}
 use Rattle.pass_caveats.specs.declared.ask.Ask.{Ask}
 use Rattle.pass_caveats.specs.declared.fault.CaveatFault.{CaveatFault}
 use Rattle.pass_caveats.specs.declared.fault.CaveatFault.TheVariants.{NotUnderstood, Denied}
 use Rattle.pass_caveats.specs.Fault.{first_fault_of}
 use Rattle.club_rows.specs.declared.facility.Facility.{Facility}
-use Rattle.club_rows.specs.declared.key.Key.{Key}
 use Rattle.club_rows.specs.Facility.{charge_of}
 use Rattle.club_core.specs.declared.pass_fault.PassFault.{PassFault}
 use Rattle.club_core.specs.declared.pass_fault.PassFault.TheVariants.{TooLong, Malformed, ThirdParty, TooMany}
@@ -17,7 +16,7 @@ use Rattle.club_core.specs.declared.refusal.Refusal.TheVariants.{PassTooLong, Pa
 use Rattle.club_core.specs.declared.refusal.Refusal.TheVariants.{CaveatNotUnderstood, CaveatDenies}
 use Rattle.club_core.specs.declared.request.Request.{Request}
 use Rattle.club_core.specs.declared.request.Request.TheVariants as asked
-use Rattle.club_core.specs.Lines.{Line, line_if, first_of}
+use Rattle.club_core.specs.Lines.{line_if, first_of}
 use Rattle.club_core.specs.Club.{Club}
 use Rattle.club_core.specs.Pass.{Pass, Words, is_signed_under}
 use Rattle.club_core.specs.Verdict.{refusal_verdict, verdict_of}
@@ -54,29 +53,24 @@ after_caveats None verdict = verdict
 after_caveats (Some (NotUnderstood n)) verdict = refusal_verdict (CaveatNotUnderstood n)
 after_caveats (Some (Denied n)) verdict = refusal_verdict (CaveatDenies n)
 
--- refusals of a known key's pass that come before its caveats
-abbrev pub acceptance_lines : Key → Bool → List (Line Verdict)
-acceptance_lines key is_signed = line_if (not is_signed) (refusal_verdict NotVerified) ∷ line_if key.revoked (refusal_verdict KeyRevoked) ∷ []
-
 -- the answer to a parsed pass, by its key's view, whether that key signed it, and its first caveat at fault
 abbrev pub answer_by_view : Option View → Bool → Option CaveatFault → Request → ℕ → Verdict
 answer_by_view None is_signed fault request moment = refusal_verdict NotVerified
 answer_by_view (Some view) is_signed fault request moment =
-    first_of (acceptance_lines view.key is_signed) (after_caveats fault (verdict_of view request moment))
+    first_of (line_if (not is_signed) (refusal_verdict NotVerified) ∷ line_if view.key.revoked (refusal_verdict KeyRevoked) ∷ [])
+    (after_caveats fault (verdict_of view request moment))
 
--- the answer to a text, by the view of the key that it names
-abbrev pub answer_to : Result Pass PassFault → Request → ℕ → Option View → Verdict
-answer_to (Err fault) request moment view = refusal_verdict (form_refusal fault)
+-- the answer to a text, by the rows that it names, if there are any
+abbrev pub answer_to : Result Pass PassFault → Request → ℕ → Option Basis → Verdict
+answer_to (Err fault) request moment basis = refusal_verdict (form_refusal fault)
 answer_to (Ok pass) request moment None = refusal_verdict NotVerified
-answer_to (Ok pass) request moment (Some view) =
-    answer_by_view (Some view) (is_signed_under pass view.key moment)
-    (first_fault_of pass.caveats (ask_of view request moment))
-    request moment
+answer_to (Ok pass) request moment (Some basis) =
+    let view = view_of basis request moment in
+    answer_by_view (Some view) (is_signed_under pass basis.key moment) (first_fault_of pass.caveats (ask_of view request moment)) request moment
 
--- the same, by the rows that the words name, if there are any
+-- the same for the words of a request
 abbrev pub answer_by_basis : Words → ℕ → Option Basis → Verdict
-answer_by_basis words moment basis =
-    answer_to words.pass words.request moment (option_map (λ (b : Basis). view_of b words.request moment) basis)
+answer_by_basis words moment basis = answer_to words.pass words.request moment basis
 
 -- a club's answer to a request at a moment: the reply and the change
 abbrev pub verdict_in : Club → Words → ℕ → Verdict

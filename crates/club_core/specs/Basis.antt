@@ -5,6 +5,7 @@ use Rattle.club_rows.specs.declared.member.Member.{Member}
 use Rattle.club_rows.specs.declared.facility.Facility.{Facility}
 use Rattle.club_rows.specs.declared.key.Key.{Key}
 use Rattle.club_rows.specs.declared.booking.Booking.{Booking}
+use Rattle.club_rows.specs.Key.{row_of_key}
 use Rattle.club_core.specs.declared.account.MemberAccount.{MemberAccount}
 use Rattle.club_core.specs.declared.pass_fault.PassFault.{PassFault}
 use Rattle.club_core.specs.declared.request.Request.{Request}
@@ -42,7 +43,7 @@ state_of club slot = record {
   held = slot_use_by club.bookings club slot;
 }
 
--- the key's row, its member's row, the bookings of all keys of that member, and the state of the slot
+-- the key, its member's row, the bookings of all keys of that member, and the state of the slot
 pub record Basis : Type 0 where
   pub key : Key
   pub member : Member
@@ -74,7 +75,7 @@ basis_of club words =
 -- the rows and sums that a decision reads
 abbrev pub view_of : Basis → Request → ℕ → View
 view_of basis request moment = record {
-  key = basis.key;
+  key = row_of_key basis.key;
   spent = spent_under basis.key.name basis.bookings;
   member = basis.member;
   balance = balance_of basis.member basis.bookings;
@@ -90,7 +91,3 @@ abbrev pub view_in : Club → List ℕ → Request → ℕ → Option View
 view_in club key request moment =
     option_map (λ (basis : Basis). view_of basis request moment)
     (option_and_then (basis_under club request) (key_named key club))
-
--- the view of the key that the words name
-abbrev pub view_for : Club → Words → ℕ → Option View
-view_for club words moment = option_and_then (λ (name : List ℕ). view_in club name words.request moment) (key_of words.pass)

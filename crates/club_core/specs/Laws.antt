@@ -1,11 +1,11 @@
 -- Laws of the definitions.
-use Rattle.std.specs.Prelude.{◌≡◌, ◌↔◌, ℕ, IsTrue, List, Contains, Option, None}
+use Rattle.std.specs.Prelude.{◌≡◌, ◌↔◌, ℕ, IsTrue, List, Contains, Option, Some, None, option_map}
 use Rattle.club_rows.specs.declared.key.Key.{Key}
 use Rattle.club_core.specs.declared.refusal.Refusal.{Refusal}
 use Rattle.club_core.specs.declared.reply.Reply.TheVariants.{Refused}
 use Rattle.club_core.specs.declared.verdict.Verdict.{Verdict}
-use Rattle.club_core.specs.Answer.{answer_by_basis, answer_to, verdict_in}
-use Rattle.club_core.specs.Basis.{Basis, view_for}
+use Rattle.club_core.specs.Answer.{answer_by_basis}
+use Rattle.club_core.specs.Basis.{Basis, basis_of, key_of, view_in, view_of}
 use Rattle.club_core.specs.Club.{Club, IsSound, bookings_of}
 use Rattle.club_core.specs.Pass.{Pass, IsSignedUnder, Words, is_signed_under}
 use Rattle.club_core.specs.Sheet.{IsSheet}
@@ -22,10 +22,10 @@ RefusalsChangeNothing = (words : Words) (moment : ℕ) (basis : Option Basis) �
 abbrev pub OneSheet : Type 0
 OneSheet = (club : Club) (day : ℕ) (text other : List ℕ) → IsSheet club day text → IsSheet club day other → text ≡ other
 
--- deciding by the sums of a view gives the same answer as deciding by the bookings
+-- the view of the key that the words name is the one by which they are answered
 abbrev pub ViewsDecide : Type 0
-ViewsDecide = (club : Club) (words : Words) (moment : ℕ) →
-    verdict_in club words moment ≡ answer_to words.pass words.request moment (view_for club words moment)
+ViewsDecide = (club : Club) (words : Words) (moment : ℕ) (name : List ℕ) → key_of words.pass ≡ Some name →
+    view_in club name words.request moment ≡ option_map (λ (basis : Basis). view_of basis words.request moment) (basis_of club words)
 
 -- `is_signed_under` is true exactly if the pass is signed under a good root of the key
 abbrev pub TestsTheSignature : Type 0

@@ -2,15 +2,15 @@
 -- its own part.
 use Rattle.std.specs.Prelude.{◌≡◌, ℕ, ◌&&◌, not, Bool, false, None, is_some, if◌then◌else◌}
 use Rattle.pass_caveats.specs.Spending.{after_spending}
-use Rattle.club_rows.specs.declared.key.Key.{Key}
+use Rattle.club_rows.specs.declared.key.KeyRow.{KeyRow}
 use Rattle.club_core.specs.declared.request.Request.{Request}
 use Rattle.club_core.specs.declared.request.Request.TheVariants as asked
 use Rattle.club_core.specs.declared.view.View.{View}
 use Rattle.club_core.specs.Answer.{ask_of}
 use Rattle.club_core.specs.Verdict.{verdict_of}
 
--- a view with the key alone: no record, no facility, all sums 0
-abbrev pub bare_view : Key → View
+-- a view with the key's row alone: no record, no facility, all sums 0
+abbrev pub bare_view : KeyRow → View
 bare_view key = record {
   key = key;
   spent = 0;

@@ -41,7 +41,7 @@ pub fn refusals_change_nothing()
     ensures { RefusalsChangeNothing }
 {}
 
-/// Deciding by the sums of a view gives the same answer as deciding by the bookings.
+/// The view of the key that a pass names is the one by which the request is answered.
 pub fn views_decide()
     ensures { ViewsDecide }
 {}

@@ -25,9 +25,9 @@ pub use acceptance::answer;
 pub use account::MemberAccount;
 pub use change::Change;
 pub use club_rows::{
-    Booking, BookingColumns, BookingNumber, Facility, FacilityColumns, Guests, Key, LAST_HOUR,
-    MAX_BOOKING_NUMBER, MAX_CHARGE, MAX_CREDITED, MAX_GUESTS, MAX_PLACES, MAX_PRICE, MAX_QUOTA,
-    MAX_ROOT_LEN, MIN_ROOT_LEN, Member, OlderRoot, Root, slot_from_columns,
+    Booking, BookingColumns, BookingNumber, Facility, FacilityColumns, Guests, Key, KeyRow,
+    LAST_HOUR, MAX_BOOKING_NUMBER, MAX_CHARGE, MAX_CREDITED, MAX_GUESTS, MAX_PLACES, MAX_PRICE,
+    MAX_QUOTA, MAX_ROOT_LEN, MIN_ROOT_LEN, Member, OlderRoot, Root, slot_from_columns,
 };
 pub use command::{Command, MAX_POINTS, OfficeAnswer, OfficeFault};
 pub use decisions::{decide, decide_account, decide_book, decide_cancel, decide_view};

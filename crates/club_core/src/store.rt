@@ -3,7 +3,7 @@
 use crate::account::MemberAccount;
 use crate::change::Change;
 use crate::slot_use::SlotUse;
-use club_rows::{Booking, BookingNumber, Facility, Key, OlderRoot};
+use club_rows::{Booking, BookingNumber, Facility, KeyRow, OlderRoot};
 use club_values::{Day, Moment, Name, Slot};
 use std::error::Error;
 use std::fmt;
@@ -46,7 +46,8 @@ pub trait ClubStore {
     ghost use Rattle.club_core.specs.Sheet.{AreRowsOf};
     ghost use Rattle.club_core.specs.Basis.{account_named, slot_use};
     ghost use Rattle.club_core.specs.Sums.{booking_under, count_to_come, spent_under};
-    ghost use Rattle.club_core.specs.KeyParts.{older_root_of, row_alone};
+    ghost use Rattle.club_core.specs.KeyParts.{older_root_of};
+    ghost use Rattle.club_rows.specs.Key.{row_of_key};
     ghost use Rattle.club_core.specs.Store.{IsTrueOf, ReadsStore};
 
     // the current club, and the other possible crash states: the clubs that the store may recover
@@ -59,10 +60,10 @@ pub trait ClubStore {
     // between the first state and the second a read (`None`) or this change failed with this fault
     ghost fails: { Option Change → Self → StoreFault → Self → Type 0 };
 
-    /// The key of this name without its older root; `None` if there is none.
-    fn key_row(&mut self, name: &Name) -> Result<Option<Key>, StoreFault>
+    /// The row of the key of this name; `None` if there is none.
+    fn key_row(&mut self, name: &Name) -> Result<Option<KeyRow>, StoreFault>
         ensures { ReadsStore disk_is_clean represents fails self.old self.new result
-            (λ club key. key ≡ option_map row_alone (key_named name.now club)) };
+            (λ club row. row ≡ option_map row_of_key (key_named name.now club)) };
 
     /// The older root of the key of this name; `None` if it was never rotated.
     fn older_root(&mut self, name: &Name) -> Result<Option<OlderRoot>, StoreFault>

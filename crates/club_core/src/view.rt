@@ -4,7 +4,7 @@ ghost use Rattle.std.specs.Prelude.{◌≡◌, is_some};
 ghost use Rattle.club_core.specs.Looks.{bare_view, books_anew as is_new};
 
 use crate::request::Request;
-use club_rows::{Booking, Facility, Key, Member};
+use club_rows::{Booking, Facility, KeyRow, Member};
 use club_values::Moment;
 use pass_caveats::Ask;
 
@@ -12,7 +12,7 @@ use pass_caveats::Ask;
 /// the slot that it names.
 #[derive(Clone, Copy, Debug, PartialEq, Eq)]
 pub struct View {
-    pub key: Key,
+    pub key: KeyRow,
     /// The points that the key has spent.
     pub spent: u64,
     pub member: Member,
@@ -33,8 +33,8 @@ pub struct View {
 impl View {
     ghost use Rattle.club_core.specs.Answer.{ask_of, owed_at};
 
-    /// A view with the key alone: no record, no facility, all sums 0.
-    pub fn of_key(key: &Key) -> View
+    /// A view with the key's row alone: no record, no facility, all sums 0.
+    pub fn of_key(key: &KeyRow) -> View
         ensures { result ≡ bare_view key.now }
     {
         View {

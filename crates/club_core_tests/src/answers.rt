@@ -24,7 +24,7 @@ struct Row(Shown, Option<Seen>, PlainRequest, &'static str, Expected);
 /// The answer to words by their key's view.
 fn verdict(rt: &impl Abort, words: &Words, seen: &Option<Seen>, at: Moment) -> Verdict {
     match seen {
-        Some(seen) => words.answer(Some(&seen.view(rt)), at),
+        Some(seen) => words.answer(Some(&seen.with_key(rt)), at),
         None => words.answer(None, at),
     }
 }

@@ -54,10 +54,10 @@ fn is_decided(
 }
 
 /// Ends the test unless the request gets this answer under a pass.
-fn is_answered(rt: &(impl Abort + Alloc<A = Global>), number: usize, row: &Row, view: &View) {
-    let Row(_, asked, at, outcome) = row;
+fn is_answered(rt: &(impl Abort + Alloc<A = Global>), number: usize, row: &Row) {
+    let Row(seen, asked, at, outcome) = row;
     let words = Shown::Pass(ROOT, &[]).words(rt, asked);
-    let verdict = words.answer(Some(view), moment(rt, at));
+    let verdict = words.answer(Some(&seen.with_key(rt)), moment(rt, at));
     expect_row(rt, number, &verdict, &outcome.verdict(rt));
 }
 
@@ -69,7 +69,7 @@ pub(crate) fn check_rows(rt: &(impl Abort + Alloc<A = Global>), rows: &[Row]) {
         let want = outcome.verdict(rt);
         let request = asked.request().expect(rt, "a request");
         is_decided(rt, number, &view, &request, moment(rt, at), &want);
-        is_answered(rt, number, row, &view);
+        is_answered(rt, number, row);
     }
 }
 
@@ -254,7 +254,7 @@ const BARE: Seen = Seen {
 fn a_bare_view(rt: HostRuntime) {
     let mut want = BARE.view(&rt);
     want.member.credited = 0;
-    expect_row(&rt, 0, &View::of_key(&key(&rt, false)), &want);
+    expect_row(&rt, 0, &View::of_key(&key(&rt, false).row()), &want);
 }
 
 /// A view, and whether a booking would be a new one at a known facility.

@@ -3,6 +3,7 @@
 
 use crate::values::{name, root};
 use club_core::View;
+use club_reference::KeyView;
 use club_rows::{Booking, Facility, Key};
 use std::process::Abort;
 use test_kit::roots::ROOT;
@@ -72,7 +73,7 @@ pub(crate) fn booking(rt: &impl Abort, booking: &Option<PlainBooking>) -> Option
 impl Seen {
     pub fn view(&self, rt: &impl Abort) -> View {
         View {
-            key: key(rt, self.revoked),
+            key: key(rt, self.revoked).row(),
             spent: self.spent,
             member: amy(10_000, self.quota).expect(rt, "a member"),
             balance: self.balance,
@@ -81,6 +82,13 @@ impl Seen {
             taken: self.taken,
             closed: self.closed,
             booking: booking(rt, &self.booking),
+        }
+    }
+
+    pub fn with_key(&self, rt: &impl Abort) -> KeyView {
+        KeyView {
+            key: key(rt, self.revoked),
+            view: self.view(rt),
         }
     }
 }

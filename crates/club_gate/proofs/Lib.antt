@@ -13,4 +13,3 @@ pub mod LookTexts
 pub mod Spending
 pub mod KindScans
 pub mod ShortViews
-pub mod RowsAlone

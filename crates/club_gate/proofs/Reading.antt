@@ -15,6 +15,8 @@ use Rattle.club_values.specs.declared.slot.Slot.{Slot}
 use Rattle.club_rows.specs.declared.booking.Booking.{Booking}
 use Rattle.club_rows.specs.declared.facility.Facility.{Facility}
 use Rattle.club_rows.specs.declared.key.Key.{Key}
+use Rattle.club_rows.specs.declared.key.KeyRow.{KeyRow}
+use Rattle.club_rows.specs.Key.{row_of_key}
 use Rattle.club_rows.specs.declared.member.Member.{Member}
 use Rattle.club_core.specs.declared.account.MemberAccount.{MemberAccount}
 use Rattle.club_core.specs.declared.request.Request.{Request}
@@ -35,12 +37,12 @@ use Rattle.club_laws.specs.SingleRequest.{words_with}
 use Rattle.club_gate.specs.Identifier.{key_name_in}
 use Rattle.club_gate.specs.Reading.{AgreesOnRecord, IsBlindPass}
 use Rattle.club_gate.specs.computed.DecodedPass.{machine_pass}
-use Rattle.club_gate.proofs.Signers.{IsSigner, found, owned}
+use Rattle.club_gate.proofs.Signers.{IsSigner, basis_with, found, owned}
 
 -- ---- what is read for a signed pass
 
 -- the view of a key, with the facility and the booking that has the number that is asked for
-abbrev pub first_view : Club → Key → Request → View
+abbrev pub first_view : Club → KeyRow → Request → View
 first_view club key request = record (bare_view key) {
   facility = (state_of club (request_slot request)).facility;
   booking = option_and_then (λ (number : ℕ). booking_under key.name number club.bookings) (request_number request);
@@ -52,13 +54,13 @@ Suffices pass whole view =
     (view ≡ whole) ⊎ (IsBlindPass pass × IsTrue (is_some whole.booking) × (view ≡ (let part : View = record whole { facility = None } in part)))
 
 -- what was read agrees with the club on the record if it suffices
-pub suffices : (club : Club) (key : Key) (pass : Plain) (request : Request) (view : View) → AgreesOnRecord club key pass request view
+pub suffices : (club : Club) (key : KeyRow) (pass : Plain) (request : Request) (view : View) → AgreesOnRecord club key pass request view
     → Suffices pass (first_view club key request) view
 suffices club key pass request view agrees =
-    let shown : Key → Option Facility → Option Booking → View = λ k f b. record (bare_view k) { facility = f; booking = b } in
+    let shown : KeyRow → Option Facility → Option Booking → View = λ k f b. record (bare_view k) { facility = f; booking = b } in
     let of_key : view ≡ shown key view.facility (first_view club key request).booking =
     agrees.no_more
-    ∙ (ap (λ (k : Key). shown k view.facility view.booking) agrees.key_is
+    ∙ (ap (λ (k : KeyRow). shown k view.facility view.booking) agrees.key_is
     ∙ ap (λ (b : Option Booking). shown key view.facility b) agrees.booking_is)
     in
     let with_facility : (f : Option Facility) → view.facility ≡ f → view ≡ shown key f (first_view club key request).booking =
@@ -73,7 +75,7 @@ suffices club key pass request view agrees =
       )
     ]
 
-pub agrees_whole : (club : Club) (key : Key) (pass : Plain) (request : Request) → AgreesOnRecord club key pass request (first_view club key request)
+pub agrees_whole : (club : Club) (key : KeyRow) (pass : Plain) (request : Request) → AgreesOnRecord club key pass request (first_view club key request)
 agrees_whole club key pass request = record { key_is = refl; booking_is = refl; facility_is = inl refl; no_more = refl }
 
 -- with the state of a slot
@@ -123,7 +125,7 @@ abbrev pub fault_after : Plain → ℕ → Ask → Option CaveatFault
 fault_after pass spent ask = first_fault_of (map caveat_of pass.caveats) (after_spending spent ask)
 
 -- that caveat, for what the key has spent
-abbrev pub fault_read : Club → Key → Plain → Request → ℕ → Option CaveatFault
+abbrev pub fault_read : Club → KeyRow → Plain → Request → ℕ → Option CaveatFault
 fault_read club key pass request moment =
     fault_after pass (spent_under key.name club.bookings) (ask_of (first_view club key request) request moment)
 
@@ -132,22 +134,19 @@ abbrev pub answer_from : Club → View → Request → ℕ → Option CaveatFaul
 answer_from club view request moment None = answer_by_view (last_view club request moment view) true None request moment
 answer_from club view request moment (Some fault) = answer_by_view (Some view) true (Some fault) request moment
 
-abbrev pub answer_read : Club → Key → Request → ℕ → Option CaveatFault → Verdict
+abbrev pub answer_read : Club → KeyRow → Request → ℕ → Option CaveatFault → Verdict
 answer_read club key request moment fault = answer_from club (first_view club key request) request moment fault
 
 -- the verdict on a pass that is signed under the key of a row
-abbrev pub verdict_read : Club → Key → Plain → Request → ℕ → Verdict
+abbrev pub verdict_read : Club → KeyRow → Plain → Request → ℕ → Verdict
 verdict_read club key pass request moment =
     answer_read club key request moment (fault_read club key pass request moment)
 
 -- ---- the parts of the whole view
 
 module _ (club : Club) (key : Key) (member : Member) (request : Request) (moment : ℕ) where
-  abbrev pub whole_basis : Basis
-  whole_basis = record { key = key; member = member; bookings = bookings_of member.name club; state = state_of club (request_slot request) }
-
   abbrev pub whole : View
-  whole = view_of whole_basis request moment
+  whole = view_of (basis_with club request key member) request moment
 
 -- a key's own bookings are among those of its member
 own_member : (club : Club) (key : Key) (name : List ℕ) → key.member ≡ name → HasOwnBookings club key
@@ -166,10 +165,10 @@ at_number key some all same (Some number) = sym (same number)
 
 first_part : (club : Club) (key : Key) (member : Member) (request : Request) (moment : ℕ)
     → ((number : ℕ) → booking_under key.name number (bookings_of member.name club) ≡ booking_under key.name number club.bookings)
-    → first_view club key request ≡ seen_by_caveats (whole club key member request moment)
+    → first_view club (row_of_key key) request ≡ seen_by_caveats (whole club key member request moment)
 first_part club key member request moment same =
     ap (λ (b : Option Booking).
-    let view : View = record (bare_view key) { facility = (state_of club (request_slot request)).facility; booking = b } in view)
+    let view : View = record (bare_view (row_of_key key)) { facility = (state_of club (request_slot request)).facility; booking = b } in view)
     (at_number key.name (bookings_of member.name club) club.bookings same (request_number request))
 
 -- what is added of the member, if the club has it
@@ -239,14 +238,14 @@ refused_by_fault view (NotUnderstood n) request moment = refl
 refused_by_fault view (Denied n) request moment = refl
 
 -- the line of a revoked key, and then the decision
-by_key : Key → Verdict → Verdict
+by_key : KeyRow → Verdict → Verdict
 by_key key verdict = first_of (line_if false (refusal_verdict NotVerified) ∷ line_if key.revoked (refusal_verdict KeyRevoked) ∷ []) verdict
 
 decided_by_part : (view : View) (request : Request) (moment : ℕ) → RestsOnItsParts view request moment
     → answer_by_view (Some (seen_by_decision request view)) true None request moment ≡ answer_by_view (Some view) true None request moment
 unfolding by_key
 decided_by_part view request moment law =
-    ap (λ (k : Key). by_key k (verdict_of (seen_by_decision request view) request moment)) (same_key request view)
+    ap (λ (k : KeyRow). by_key k (verdict_of (seen_by_decision request view) request moment)) (same_key request view)
     ∙ ap (λ (v : Verdict). by_key view.key v) law.decision
 
 -- ---- the whole view of a key of the club
@@ -275,17 +274,20 @@ module _ (club : Club) (key : Key) (request : Request) (moment : ℕ) (its : IsO
   abbrev its_view : View
   its_view = whole club key its.member request moment
 
-  shown : (name : List ℕ) → key_named name club ≡ Some key → view_in club name request moment ≡ Some its_view
-  shown name row =
-      ap (λ (k : Option Key). option_map (λ (b : Basis). view_of b request moment) (option_and_then (basis_under club request) k)) row
-      ∙ ap (λ (m : Option Member). option_map (λ (b : Basis). view_of b request moment)
-      (option_map (λ (it : Member). whole_basis club key it request moment) m)) its.is
+  known : (name : List ℕ) → key_named name club ≡ Some key
+      → option_and_then (basis_under club request) (key_named name club) ≡ Some (basis_with club request key its.member)
+  known name row =
+      ap (λ (k : Option Key). option_and_then (basis_under club request) k) row
+      ∙ ap (λ (m : Option Member). option_map (λ (it : Member). basis_with club request key it) m) its.is
 
-  first : first_view club key request ≡ seen_by_caveats its_view
+  shown : (name : List ℕ) → key_named name club ≡ Some key → view_in club name request moment ≡ Some its_view
+  shown name row = ap (λ (b : Option Basis). option_map (λ (it : Basis). view_of it request moment) b) (known name row)
+
+  first : first_view club (row_of_key key) request ≡ seen_by_caveats its_view
   first = first_part club key its.member request moment its.booking
 
   same_answer : LooksNoFurther → (fault : Option CaveatFault)
-      → answer_read club key request moment fault ≡ answer_by_view (Some its_view) true fault request moment
+      → answer_read club (row_of_key key) request moment fault ≡ answer_by_view (Some its_view) true fault request moment
   same_answer law None =
       ap (λ (v : View). answer_by_view (last_view club request moment v) true None request moment) first
       ∙ (ap (λ (v : Option View). answer_by_view v true None request moment) (last_part club key its.member request moment its.is its.spent)
@@ -296,7 +298,7 @@ module _ (club : Club) (key : Key) (request : Request) (moment : ℕ) (its : IsO
   abbrev its_fault : Plain → Option CaveatFault
   its_fault pass = first_fault_of (map caveat_of pass.caveats) (ask_of its_view request moment)
 
-  same_fault : LooksNoFurther → (pass : Plain) → fault_read club key pass request moment ≡ its_fault pass
+  same_fault : LooksNoFurther → (pass : Plain) → fault_read club (row_of_key key) pass request moment ≡ its_fault pass
   same_fault law pass =
       ap (λ (v : View). fault_after pass (spent_under key.name club.bookings) (ask_of v request moment)) first
       ∙ (ap (λ (a : Ask). fault_after pass (spent_under key.name club.bookings) a) (law its_view request moment).caveats
@@ -306,15 +308,14 @@ module _ (club : Club) (key : Key) (request : Request) (moment : ℕ) (its : IsO
       → verdict_in club (words_with (machine_pass pass) request) moment ≡ answer_by_view (Some its_view) true (its_fault pass) request moment
   whole_answer pass is =
       ap (λ (n : Option (List ℕ)). answer_to (Ok (machine_pass pass)) request moment
-      (option_map (λ (b : Basis). view_of b request moment)
-      (option_and_then (basis_under club request) (option_and_then (λ (m : List ℕ). key_named m club) n)))) is.names
-      ∙ (ap (λ (v : Option View). answer_to (Ok (machine_pass pass)) request moment v) (shown is.named is.row)
+      (option_and_then (basis_under club request) (option_and_then (λ (m : List ℕ). key_named m club) n))) is.names
+      ∙ (ap (λ (b : Option Basis). answer_to (Ok (machine_pass pass)) request moment b) (known is.named is.row)
       ∙ ap (λ (b : Bool). answer_by_view (Some its_view) b (its_fault pass) request moment) is.signed)
 
 -- where no caveat refuses, what is read gives the answer by the key's whole view
 pub decides_whole : OwnBookings → LooksNoFurther → (club : Club) (key : Key) (request : Request) (moment : ℕ) → IsSound club
     → key_named key.name club ≡ Some key
-    → answer_read club key request moment None ≡ answer_by_view (view_in club key.name request moment) true None request moment
+    → answer_read club (row_of_key key) request moment None ≡ answer_by_view (view_in club key.name request moment) true None request moment
 decides_whole own law club key request moment sound row =
     let its = owner own club key.name key sound row in
     same_answer club key request moment its law None
@@ -323,15 +324,15 @@ decides_whole own law club key request moment sound row =
 -- what is read for a signed pass gives the machine's verdict
 pub read_alike : OwnBookings → LooksNoFurther → (club : Club) (key : Key) (pass : Plain) (request : Request) (moment : ℕ) → IsSound club
     → IsSigner club pass request moment (key_name_in pass.identifier) key
-    → verdict_read club key pass request moment ≡ verdict_in club (words_with (machine_pass pass) request) moment
+    → verdict_read club (row_of_key key) pass request moment ≡ verdict_in club (words_with (machine_pass pass) request) moment
 read_alike own law club key pass request moment sound is =
     let its = owner own club is.named key sound is.row in
-    ap (λ (f : Option CaveatFault). answer_read club key request moment f) (same_fault club key request moment its law pass)
+    ap (λ (f : Option CaveatFault). answer_read club (row_of_key key) request moment f) (same_fault club key request moment its law pass)
     ∙ (same_answer club key request moment its law (its_fault club key request moment its pass) ∙ sym (whole_answer club key request moment its pass is))
 
 -- a key's sums are what it sees for its account
 pub account_seen : OwnBookings → (club : Club) (name : List ℕ) (key : Key) (moment : ℕ) → IsSound club → key_named name club ≡ Some key
-    → with_sums club moment (bare_view key) ≡ view_in club name asked.Account moment
+    → with_sums club moment (bare_view (row_of_key key)) ≡ view_in club name asked.Account moment
 account_seen own club name key moment sound row =
     let its = owner own club name key sound row in
     last_part club key its.member asked.Account moment its.is its.spent ∙ sym (shown club key asked.Account moment its name row)

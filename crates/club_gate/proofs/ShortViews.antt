@@ -1,5 +1,6 @@
--- A view without the facility gives the same verdict, where there is a booking and no caveat looks at the kind.
-use Rattle.std.proofs.Common.{◌≡◌, inl, inr, ℕ, Bool, true, false, map, Option, Some, None, is_some, refl, sym, ap, ◌∙◌}
+-- A view without the facility gives the same verdict, where there is a booking and no caveat looks at the kind; and so what is read for the signer of
+-- a pass gives the machine's verdict.
+use Rattle.std.proofs.Common.{◌≡◌, inl, inr, ℕ, Bool, true, false, map, Option, Some, None, Ok, is_some, refl, sym, ap, ◌∙◌}
 use Rattle.pass_caveats.specs.declared.ask.Ask.{Ask}
 use Rattle.pass_caveats.specs.declared.fault.CaveatFault.{CaveatFault}
 use Rattle.pass_caveats.specs.declared.fault.CaveatFault.TheVariants.{Denied, NotUnderstood}
@@ -10,19 +11,26 @@ use Rattle.pass_caveats.specs.Spending.{after_spending}
 use Rattle.pass_forms.specs.Pass.{Plain}
 use Rattle.club_rows.specs.declared.booking.Booking.{Booking}
 use Rattle.club_rows.specs.declared.facility.Facility.{Facility}
-use Rattle.club_rows.specs.declared.key.Key.{Key}
+use Rattle.club_rows.specs.declared.key.KeyRow.{KeyRow}
 use Rattle.club_core.specs.declared.request.Request.{Request}
 use Rattle.club_core.specs.declared.request.Request.TheVariants as asked
 use Rattle.club_core.specs.declared.verdict.Verdict.{Verdict}
 use Rattle.club_core.specs.declared.view.View.{View}
-use Rattle.club_core.specs.Answer.{answer_by_view, ask_of, owed_at}
-use Rattle.club_core.specs.Basis.{state_of}
-use Rattle.club_core.specs.Club.{Club}
-use Rattle.club_core.specs.Looks.{bare_view}
+use Rattle.club_core.specs.Answer.{answer_by_view, ask_of, owed_at, verdict_in}
+use Rattle.club_core.specs.Basis.{state_of, view_in}
+use Rattle.club_core.specs.Club.{Club, IsSound}
+use Rattle.club_core.specs.Laws.{OwnBookings}
+use Rattle.club_core.specs.Looks.{LooksNoFurther, bare_view}
 use Rattle.club_core.specs.Request.{request_action, request_guests, request_slot}
 use Rattle.club_core.specs.Sums.{booking_under, spent_under}
-use Rattle.club_gate.specs.Reading.{AgreesOnRecord}
-use Rattle.club_gate.proofs.Reading.{Suffices, answer_from, answer_read, fault_after, fault_read, first_view, suffices, verdict_read}
+use Rattle.club_laws.specs.SingleRequest.{words_with}
+use Rattle.club_gate.specs.Identifier.{key_in}
+use Rattle.club_gate.specs.Reading.{AgreesOnRecord, IsOnRecord}
+use Rattle.club_gate.specs.Verify.{signer_of}
+use Rattle.club_gate.specs.computed.DecodedPass.{machine_pass}
+use Rattle.club_gate.proofs.Reading.{Suffices, agrees_whole, answer_from, answer_read, decides_whole, fault_after, fault_read, first_view, last_view}
+use Rattle.club_gate.proofs.Reading.{read_alike, suffices, verdict_read}
+use Rattle.club_gate.proofs.Signers.{is_signer}
 
 -- nothing is owed under a number that has a booking
 nothing_owed : (request : Request) (recorded : Bool) (facility : Option Facility) → recorded ≡ true → owed_at request recorded facility ≡ 0
@@ -50,7 +58,7 @@ asks_alike view request moment spent e =
     } in
     ap owing (nothing_owed request (is_some view.booking) None e ∙ sym (nothing_owed request (is_some view.booking) view.facility e))
 
-module _ (club : Club) (key : Key) (moment : ℕ) where
+module _ (club : Club) (key : KeyRow) (moment : ℕ) where
   abbrev recorded : Option Facility → Option Booking → View
   recorded facility booking = record (bare_view key) { facility = facility; booking = booking }
 
@@ -101,7 +109,7 @@ module _ (club : Club) (key : Key) (moment : ℕ) where
       ∙ part.0 (after_spending spent (ask_of whole request moment)) None)
 
 -- so it gives the verdict, where a caveat refuses, and where none does
-module _ (club : Club) (key : Key) (moment : ℕ) (pass : Plain) (request : Request) (view : View) (ask : Ask) (fault : Option CaveatFault)
+module _ (club : Club) (key : KeyRow) (moment : ℕ) (pass : Plain) (request : Request) (view : View) (ask : Ask) (fault : Option CaveatFault)
     (agrees : AgreesOnRecord club key pass request view) (asks : ask ≡ ask_of view request moment)
     (found : fault ≡ fault_after pass (spent_under key.name club.bookings) ask) where
   seen : Suffices pass (first_view club key request) view
@@ -130,3 +138,35 @@ module _ (club : Club) (key : Key) (moment : ℕ) (pass : Plain) (request : Requ
       go : (f : Option CaveatFault) → is_some f ≡ false → None ≡ f
       go None h = refl
       go (Some f) h = absurd (cc)
+
+-- ---- the verdict
+
+-- the answer by the last view is that by the key's whole view
+pub last_reads : OwnBookings → LooksNoFurther → (club : Club) (request : Request) (moment : ℕ) (view : View) (found : Option View) → IsSound club
+    → found ≡ last_view club request moment view → (pass : Plain) (row : KeyRow) → IsOnRecord club row
+    → AgreesOnRecord club row pass request view → answer_by_view found true None request moment
+    ≡ answer_by_view (view_in club row.name request moment) true None request moment
+last_reads own law club request moment view found sound e pass row on seen =
+    ap (λ (v : Option View). answer_by_view v true None request moment) e
+    ∙ (seen_alike club row moment pass request view (suffices club row pass request view seen) None
+    ∙ (ap (λ (r : KeyRow). answer_read club r request moment None) on.2
+    ∙ (decides_whole own law club on.0 request moment sound on.1
+    ∙ ap (λ (r : KeyRow). answer_by_view (view_in club r.name request moment) true None request moment) (sym on.2))))
+
+pub decided : OwnBookings → LooksNoFurther → (club : Club) (row : KeyRow) (moment : ℕ) (pass : Plain) (request : Request) (view : View) (ask : Ask)
+    (fault : Option CaveatFault) (shown last : Option View) → IsSound club → IsOnRecord club row → AgreesOnRecord club row pass request view
+    → ask ≡ ask_of view request moment → fault ≡ fault_after pass (spent_under row.name club.bookings) ask → is_some fault ≡ false → shown ≡ last
+    → answer_by_view last true None request moment ≡ answer_by_view (view_in club row.name request moment) true None request moment
+    → answer_by_view shown true None request moment ≡ verdict_read club row pass request moment
+decided own law club row moment pass request view ask fault shown last sound on seen asks found none is whole =
+    ap (λ (v : Option View). answer_by_view v true None request moment) is
+    ∙ (whole ∙ (sym (last_reads own law club request moment (first_view club row request) _ sound refl pass row on (agrees_whole club row pass request))
+    ∙ unrefused club row moment pass request view ask fault seen asks found none))
+
+-- what is read for the signer of a pass gives the machine's verdict
+pub signer_reads : OwnBookings → LooksNoFurther → (club : Club) (row : KeyRow) (pass : Plain) (request : Request) (moment : ℕ) → IsSound club
+    → signer_of pass moment (key_in club pass.identifier) ≡ Ok row
+    → verdict_read club row pass request moment ≡ verdict_in club (words_with (machine_pass pass) request) moment
+signer_reads own law club row pass request moment sound e =
+    let its = is_signer club pass request moment row e in
+    ap (λ (r : KeyRow). verdict_read club r pass request moment) (sym its.2) ∙ read_alike own law club its.0 pass request moment sound its.1

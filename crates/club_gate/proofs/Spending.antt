@@ -4,6 +4,7 @@ use Rattle.std.specs.Prelude.{sum_by}
 use Rattle.std.specs.Str.{bytes_eq}
 use Rattle.pass_forms.specs.Pass.{Plain}
 use Rattle.club_rows.specs.declared.key.Key.{Key}
+use Rattle.club_rows.specs.declared.key.KeyRow.{KeyRow}
 use Rattle.club_core.specs.declared.account.MemberAccount.{MemberAccount}
 use Rattle.club_core.specs.declared.request.Request.{Request}
 use Rattle.club_core.specs.Basis.{account_named}
@@ -15,20 +16,20 @@ use Rattle.club_gate.specs.Reading.{IsOnRecord}
 use Rattle.club_gate.specs.Verify.{signer_of}
 use Rattle.club_gate.proofs.Signers.{found, is_signer, named}
 
--- the row by which a pass is signed is one of the club's
-pub on_record : (club : Club) (pass : Plain) (request : Request) (moment : ℕ) (key : Key) → signer_of pass moment (key_in club pass.identifier) ≡ Ok key
-    → IsOnRecord club key
-on_record club pass request moment key e =
-    let its = is_signer club pass request moment key e in
+-- the row by which a pass is signed is that of a key of the club
+pub on_record : (club : Club) (pass : Plain) (request : Request) (moment : ℕ) (row : KeyRow) → signer_of pass moment (key_in club pass.identifier) ≡ Ok row
+    → IsOnRecord club row
+on_record club pass request moment row e =
+    let its = is_signer club pass request moment row e in
     (its.0, ap (λ (n : List ℕ). key_named n club) (named club its.1.named its.0 its.1.row) ∙ its.1.row, sym its.2)
 
-pub spent_within : SpendsWithinItsMember → AccountsShowWhatIsUsed → (club : Club) (key : Key) (account : MemberAccount) (used most : ℕ) → IsSound club
-    → IsOnRecord club key → account_named key.member club ≡ Some account → used ≡ account.member.credited - account.balance → used ≤ most
-    → spent_under key.name club.bookings ≤ most
-spent_within spends shows club key account used most sound on e u less =
-    let row = on.0 in
-    let there = (found (λ (k : Key). bytes_eq k.name row.name) club.keys row on.1).0 in
-    let P : Key → Type 0 = λ k. spent_under k.name club.bookings ≤ sum_by cost_of (bookings_of k.member club) in
-    let some : P key = subst P (sym on.2) (spends club row there) in
-    let all = shows club key.member account sound e in
+pub spent_within : SpendsWithinItsMember → AccountsShowWhatIsUsed → (club : Club) (row : KeyRow) (account : MemberAccount) (used most : ℕ) → IsSound club
+    → IsOnRecord club row → account_named row.member club ≡ Some account → used ≡ account.member.credited - account.balance → used ≤ most
+    → spent_under row.name club.bookings ≤ most
+spent_within spends shows club row account used most sound on e u less =
+    let key = on.0 in
+    let there = (found (λ (k : Key). bytes_eq k.name key.name) club.keys key on.1).0 in
+    let P : KeyRow → Type 0 = λ r. spent_under r.name club.bookings ≤ sum_by cost_of (bookings_of r.member club) in
+    let some : P row = subst P (sym on.2) (spends club key there) in
+    let all = shows club row.member account sound e in
     omega (arith, some, all, u, less)

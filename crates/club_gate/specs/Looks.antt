@@ -1,5 +1,6 @@
 -- What a look at an account or at a slot shows (ours): a line for each value, its name before it.
-use Rattle.std.specs.Prelude.{◌≡◌, ◌⊎◌, ℕ, Bool, true, false, List, [], ◌∷◌, ◌++◌, codes, IfErr, Option, Some, None, option_map, Result, Ok, Err, String}
+use Rattle.std.specs.Prelude.{◌≡◌, ◌⊎◌, ℕ, Bool, true, false, List, [], ◌∷◌, ◌++◌, codes, IfErr, Option, Some, None, option_and_then, option_map}
+use Rattle.std.specs.Prelude.{Result, Ok, Err, String}
 use Rattle.std.specs.Fmt.{decimal}
 use Rattle.std.specs.String.{string_bytes}
 use Rattle.club_values.specs.Day.{day_text}
@@ -19,7 +20,7 @@ use Rattle.club_core.specs.declared.store.StoreFault.{StoreFault}
 use Rattle.club_core.specs.declared.store.StoreFault.TheVariants.{Memory}
 use Rattle.club_core.specs.declared.view.View.{View}
 use Rattle.club_core.specs.Basis.{slot_use, view_in}
-use Rattle.club_core.specs.Club.{Club, facility_named}
+use Rattle.club_core.specs.Club.{Club, facility_named, key_named}
 use Rattle.club_core.specs.Store.{IsRead, KeepsClub}
 use Rattle.club_core.specs.Verdict.{account_verdict, verdict_of}
 use Rattle.club_gate.specs.Desk.{OfItsClub}
@@ -67,17 +68,22 @@ abbrev pub older_text : Option OlderRoot → List ℕ
 older_text None = codes "none"
 older_text (Some older) = codes "until " ++ moment_text older.until
 
--- the values of a key's row, without its roots
+-- the values of a key, without its roots
 abbrev pub values_of_key : Key → List (List ℕ × List ℕ)
 values_of_key key = (codes "revoked", yes_or_no key.revoked) ∷ (codes "older root", older_text key.older) ∷ []
 
--- what a key's view shows of its account: the values of the reply to a request for the account, and those of the key's row
-abbrev pub account_look_text : View → List ℕ
-account_look_text view = lines (named_values (account_verdict view).reply ++ values_of_key view.key)
+-- what a key and its view show of its account: the values of the reply to a request for the account, and those of the key
+abbrev pub account_look_text : Key → View → List ℕ
+account_look_text key view = lines (named_values (account_verdict view).reply ++ values_of_key key)
+
+-- the key of this name, with what it sees of its account at a moment
+abbrev pub account_with_key : Club → List ℕ → ℕ → Option (Key × View)
+account_with_key club name moment =
+    option_and_then (λ (key : Key). option_map (λ (view : View). (key, view)) (view_in club name asked.Account moment)) (key_named name club)
 
 -- what a look at the account of the key of this name shows at a moment; nothing where the club has no such key
 abbrev pub account_look : Club → List ℕ → ℕ → Option (List ℕ)
-account_look club key moment = option_map account_look_text (view_in club key asked.Account moment)
+account_look club name moment = option_map (λ (seen : Key × View). account_look_text seen.0 seen.1) (account_with_key club name moment)
 
 -- a slot with its facility, and what is taken of it; none where the facility is unknown
 abbrev pub slot_reply : Club → Slot → Option Reply

@@ -7,13 +7,14 @@ use Rattle.pass_caveats.specs.Kinds.{at_kind}
 use Rattle.pass_forms.specs.Pass.{Plain}
 use Rattle.club_values.specs.declared.kind.Kind.{Kind}
 use Rattle.club_rows.specs.declared.key.Key.{Key}
+use Rattle.club_rows.specs.declared.key.KeyRow.{KeyRow}
+use Rattle.club_rows.specs.Key.{row_of_key}
 use Rattle.club_core.specs.declared.request.Request.{Request}
 use Rattle.club_core.specs.declared.view.View.{View}
 use Rattle.club_core.specs.Basis.{state_of}
 use Rattle.club_core.specs.Club.{Club, key_named}
 use Rattle.club_core.specs.Looks.{seen_by_caveats}
 use Rattle.club_core.specs.Request.{request_number, request_slot}
-use Rattle.club_core.specs.KeyParts.{row_alone}
 use Rattle.club_core.specs.Sums.{booking_under}
 
 -- no caveat of the pass depends on the kind of the slot's facility
@@ -24,13 +25,13 @@ IsBlindPass pass =
 
 -- What was read of the club for a key agrees with it on what caveats and the decision look at first: the booking under the number that is asked
 -- for, and the facility. The facility may be missing if the booking is there and no caveat looks at the kind. There is nothing else in the view.
-pub record AgreesOnRecord (club : Club) (key : Key) (pass : Plain) (request : Request) (view : View) : Type 0 where
+pub record AgreesOnRecord (club : Club) (key : KeyRow) (pass : Plain) (request : Request) (view : View) : Type 0 where
   pub key_is : view.key ≡ key
   pub booking_is : view.booking ≡ option_and_then (λ (number : ℕ). booking_under key.name number club.bookings) (request_number request)
   pub facility_is :
       (view.facility ≡ (state_of club (request_slot request)).facility) ⊎ (IsBlindPass pass × IsTrue (is_some view.booking) × (view.facility ≡ None))
   pub no_more : view ≡ seen_by_caveats view
 
--- the key is one of the club's, without its older root
-abbrev pub IsOnRecord : Club → Key → Type 0
-IsOnRecord club key = (row : Key) × (key_named row.name club ≡ Some row) × (key ≡ row_alone row)
+-- the row is that of a key of the club
+abbrev pub IsOnRecord : Club → KeyRow → Type 0
+IsOnRecord club row = (key : Key) × (key_named key.name club ≡ Some key) × (row ≡ row_of_key key)

@@ -1,11 +1,12 @@
 -- What the row of its key says of a pass, and what a call of the verifier leaves of the store (ours).
 use Rattle.std.specs.Prelude.{◌≡◌, ◌⊎◌, ℕ, ◌≤◌, not, List, [], ◌∷◌, length, IfOk, Option, Some, None, Result, Ok, Err}
-use Rattle.std.specs.Option.{option_map_or}
 use Rattle.pass_forms.specs.declared.fault.FormFault.{FormFault}
 use Rattle.pass_forms.specs.FieldSource.{PassField, pass_fields}
 use Rattle.pass_forms.specs.Pass.{Plain}
 use Rattle.pass_forms.specs.Reading.{max_caveats}
 use Rattle.club_rows.specs.declared.key.Key.{Key}
+use Rattle.club_rows.specs.declared.key.KeyRow.{KeyRow}
+use Rattle.club_rows.specs.Key.{row_of_key}
 use Rattle.club_core.specs.declared.change.Change.{Change}
 use Rattle.club_core.specs.declared.refusal.Refusal.{Refusal}
 use Rattle.club_core.specs.declared.refusal.Refusal.TheVariants.{KeyRevoked, NotVerified}
@@ -14,7 +15,6 @@ use Rattle.club_core.specs.declared.verdict.Verdict.{Verdict}
 use Rattle.club_core.specs.Answer.{form_refusal}
 use Rattle.club_core.specs.Lines.{line_if, first_of}
 use Rattle.club_core.specs.Pass.{is_signed_under}
-use Rattle.club_core.specs.KeyParts.{row_alone}
 use Rattle.club_core.specs.Store.{IsRead}
 use Rattle.club_core.specs.Verdict.{refusal_verdict}
 use Rattle.club_gate.specs.DecodedPass.{fault_of}
@@ -24,15 +24,12 @@ use Rattle.club_gate.specs.computed.DecodedPass.{machine_pass}
 abbrev pub OfItsPass : List PassField → (Plain → Type 0) → Type 0
 OfItsPass fields IsSo = (pass : Plain) → fields ≡ pass_fields pass → length pass.caveats ≤ max_caveats → IsSo pass
 
--- why the row of its key refuses a pass; none if the pass is signed and the key isn't revoked
-abbrev pub refusal_by_row : Plain → Key → ℕ → Option Refusal
-refusal_by_row pass key moment =
-    first_of (line_if (not (is_signed_under (machine_pass pass) key moment)) (Some NotVerified) ∷ line_if key.revoked (Some KeyRevoked) ∷ []) None
-
--- the signer of a pass, by the row that it names, if there is one: the row without its older root, or why it refuses the pass
-abbrev pub signer_of : Plain → ℕ → Option Key → Result Key Refusal
+-- the row of the key that a pass names, if the pass is signed under that key and the key isn't revoked; or why the pass is refused
+abbrev pub signer_of : Plain → ℕ → Option Key → Result KeyRow Refusal
 signer_of pass moment None = Err NotVerified
-signer_of pass moment (Some row) = option_map_or Err (refusal_by_row pass row moment) (Ok (row_alone row))
+signer_of pass moment (Some key) =
+    first_of (line_if (not (is_signed_under (machine_pass pass) key moment)) (Err NotVerified) ∷ line_if key.revoked (Err KeyRevoked) ∷ [])
+    (Ok (row_of_key key))
 
 -- The verdict was read, or the store failed with this fault at a read; or the text is JSON, and the store wasn't called.
 abbrev pub ReadsOrLacksMemory : {S : Type 0} → (Option Change → S → StoreFault → S → Type 0) → Type 0 → S → S → Result Verdict StoreFault → Type 0

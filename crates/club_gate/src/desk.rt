@@ -173,17 +173,11 @@ impl<S: ClubStore> Desk<S> {
         ensures { ReadsStore S.disk_is_clean S.represents S.fails self.old self.new result
             (λ club key. key ≡ key_named name.now club) }
     {
-        let Some(key) = self.store.key_row(name)? else {
+        let Some(row) = self.store.key_row(name)? else {
             return Ok(None);
         };
         let older = self.store.older_root(name)?;
-        Ok(Some(Key {
-            name: key.name,
-            member: key.member,
-            root: key.root,
-            older,
-            revoked: key.revoked,
-        }))
+        Ok(Some(Key::new(row, older)))
     }
 
     /// Reads the rows that a command of the office depends on.

@@ -2,8 +2,6 @@
 
 ghost use Rattle.std.specs.Prelude.{◌≡◌, ◌++◌, IfOk, OnOk};
 ghost use Rattle.std.specs.String.{string_bytes};
-ghost use Rattle.club_core.specs.declared.request.Request.TheVariants as asked;
-ghost use Rattle.club_core.specs.Basis.{view_in};
 ghost use Rattle.club_core.specs.Store.{ReadsStore};
 ghost use Rattle.club_gate.specs.Looks as spec;
 
@@ -26,10 +24,10 @@ impl<S: ClubStore> Desk<S> {
         ensures { spec.LooksAtClub S.disk_is_clean S.represents S.fails self.old self.new result
             (λ club. spec.ReturnsLook (spec.account_look club key.now moment) result) }
     {
-        let Some(view) = self.account_view(key, moment)? else {
+        let Some((key, view)) = self.account_view(key, moment)? else {
             return Err(Fault::Refused(OfficeFault::Unknown));
         };
-        Ok(account_text(self.alloc, &view)?)
+        Ok(account_text(self.alloc, &key, &view)?)
     }
 
     /// What every key is shown of a slot: a line a value. The rows stay as they are.
@@ -48,16 +46,23 @@ impl<S: ClubStore> Desk<S> {
         Ok(reply_text(self.alloc, &reply)?)
     }
 
-    // What a key sees of its account; `None` where there is no key of the name.
-    fn account_view(&mut self, key: &Name, moment: Moment) -> Result<Option<View>, StoreFault>
+    // A key, and what it sees of its account; `None` where there is no key of the name.
+    fn account_view(
+        &mut self,
+        key: &Name,
+        moment: Moment,
+    ) -> Result<Option<(Key, View)>, StoreFault>
         ensures { ReadsStore S.disk_is_clean S.represents S.fails self.old self.new result
-            (λ club view. view ≡ view_in club key.now asked.Account moment) }
+            (λ club seen. seen ≡ spec.account_with_key club key.now moment) }
     {
         own_bookings_suffice();
         let Some(key) = self.key(key)? else {
             return Ok(None);
         };
-        self.with_sums(View::of_key(&key), moment)
+        match self.with_sums(View::of_key(&key.row()), moment)? {
+            Some(view) => Ok(Some((key, view))),
+            None => Ok(None),
+        }
     }
 
     // The reply to a view of a slot, whoever asks; `None` where the facility is unknown.
@@ -81,11 +86,11 @@ impl<S: ClubStore> Desk<S> {
 }
 
 // The lines of an account, and of the key that asks for it.
-fn account_text(alloc: Global, view: &View) -> Result<String, AllocError>
-    ensures { IfOk result (λ text. string_bytes text ≡ spec.account_look_text view.now) }
+fn account_text(alloc: Global, key: &Key, view: &View) -> Result<String, AllocError>
+    ensures { IfOk result (λ text. string_bytes text ≡ spec.account_look_text key.now view.now) }
 {
     let mut text = reply_text(alloc, &decide_account(view).reply)?;
-    push_key(&mut text, &view.key)?;
+    push_key(&mut text, key)?;
     Ok(text)
 }
 
@@ -150,7 +155,7 @@ fn push_state(
     )
 }
 
-// The lines of a key's row, without its roots.
+// The lines of a key, without its roots.
 fn push_key(text: &mut String, key: &Key) -> Result<(), AllocError>
     ensures { OnOk result
         (string_bytes text.new ≡ string_bytes text.old ++ spec.lines (spec.values_of_key key.now)) }

@@ -6,7 +6,7 @@ ghost use Rattle.pass_caveats.specs.computed.CaveatOf.{caveat_of};
 ghost use Rattle.pass_caveats.specs.Fault.{first_fault_of};
 ghost use Rattle.pass_caveats.specs.Spending.{after_spending};
 ghost use Rattle.pass_forms.specs.Pass.{Plain};
-ghost use Rattle.club_rows.specs.declared.key.Key.{Key as KeyRow};
+ghost use Rattle.club_rows.specs.declared.key.KeyRow.{KeyRow as RowOfKey};
 ghost use Rattle.club_core.specs.Answer.{answer_by_view};
 ghost use Rattle.club_core.specs.Basis.{account_named, slot_use, view_in};
 ghost use Rattle.club_core.specs.Club.{bookings_of};
@@ -20,7 +20,7 @@ use crate::walk::{fault_after, has_kind, unspent_fault};
 use club_core::laws::{looks_no_further, own_bookings_suffice};
 use club_core::{ClubStore, Request, SlotUse, StoreFault, View};
 use club_laws::spending::{accounts_show_what_is_used, spends_within_its_member};
-use club_rows::Key;
+use club_rows::KeyRow;
 use club_values::{Moment, Slot};
 use pass_caveats::{Ask, CaveatFault, Unspent};
 use pass_forms::FieldSource;
@@ -32,7 +32,7 @@ impl<S: ClubStore> Desk<S> {
     pub(crate) fn first_view<'a, F: FieldSource<'a> + Drop>(
         &mut self,
         source: &F,
-        key: &Key,
+        key: &KeyRow,
         request: &Request,
     ) -> Result<View, StoreFault>
         ensures { ReadsStore S.disk_is_clean S.represents S.fails self.old self.new result
@@ -59,7 +59,7 @@ impl<S: ClubStore> Desk<S> {
     pub(crate) fn caveat_fault<'a, F: FieldSource<'a> + Drop>(
         &mut self,
         source: &F,
-        key: &Key,
+        key: &KeyRow,
         ask: &Ask,
     ) -> Result<Option<CaveatFault>, StoreFault>
         ensures { ReadsStore S.disk_is_clean S.represents S.fails self.old self.new result
@@ -79,7 +79,7 @@ impl<S: ClubStore> Desk<S> {
     }
 
     /// Whether the member of a key has used no more than this, and so the key has spent no more.
-    fn has_spent_within(&mut self, key: &Key, most: u64) -> Result<bool, StoreFault>
+    fn has_spent_within(&mut self, key: &KeyRow, most: u64) -> Result<bool, StoreFault>
         ensures { ReadsStore S.disk_is_clean S.represents S.fails self.old self.new result
             (λ club within. within ≡ true → IsOnRecord club key.now
             → spent_under key.now.name club.bookings ≤ most) }
@@ -160,7 +160,7 @@ impl<S: ClubStore> Desk<S> {
         moment: Moment,
     ) -> Result<Option<View>, StoreFault>
         ensures { ReadsStore S.disk_is_clean S.represents S.fails self.old self.new result
-            (λ club found. (pass : Plain) (key : KeyRow) → IsOnRecord club key
+            (λ club found. (pass : Plain) (key : RowOfKey) → IsOnRecord club key
             → AgreesOnRecord club key pass request.now view
             → answer_by_view found true None request.now moment
             ≡ answer_by_view (view_in club key.name request.now moment) true None request.now

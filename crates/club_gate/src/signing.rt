@@ -1,39 +1,50 @@
 //! Whether a pass is signed under a root of its key that is good at the moment.
 
-ghost use Rattle.std.specs.Prelude.{◌≡◌, drop};
+ghost use Rattle.std.specs.Prelude.{◌≡◌, Some, drop};
 ghost use Rattle.pass_forms.specs.FieldSource.{pass_fields};
 ghost use Rattle.pass_forms.specs.Pass.{Plain};
+ghost use Rattle.club_rows.specs.declared.key.Key.{Key as KeyOfClub};
+ghost use Rattle.club_rows.specs.Key.{row_of_key};
+ghost use Rattle.club_core.specs.Club.{key_named};
 ghost use Rattle.club_core.specs.Pass.{is_signed_under};
+ghost use Rattle.club_core.specs.Store.{ReadsStore};
 ghost use Rattle.club_gate.specs.computed.DecodedPass.{machine_pass};
 
-use club_rows::Key;
+use crate::desk::Desk;
+use club_core::{ClubStore, StoreFault};
+use club_rows::{Key, KeyRow};
 use club_values::Moment;
-use key_cache::KeptKeys;
 use pass_forms::{FieldSource, is_signed_by};
 use pass_mac::Chain;
 
-/// Whether a pass is signed under a root of the key that is good at the moment. The source has
-/// already yielded the identifier.
-pub(crate) fn is_signed<'a, F: FieldSource<'a> + Drop>(
-    kept: &mut KeptKeys,
-    source: &F,
-    identifier: &[u8],
-    key: &Key,
-    moment: Moment,
-) -> bool
-    ensures { (pass : Plain) → identifier.now ≡ pass.identifier
-        → F.left source.now ≡ drop 2 (pass_fields pass)
-        → result ≡ is_signed_under (machine_pass pass) key.now moment }
-{
-    let mut fields = source.again();
-    let current = kept.derived(&key.name, &key.root);
-    if is_signed_by(Chain::from_key(&current, identifier), &mut fields) {
-        return true;
+impl<S: ClubStore> Desk<S> {
+    /// Whether a pass is signed under a root of the key of this row that is good at the moment. It
+    /// reads the older root only for a pass that isn't signed under the current one. The source has
+    /// already yielded the identifier.
+    pub(crate) fn is_signed<'a, F: FieldSource<'a> + Drop>(
+        &mut self,
+        source: &F,
+        identifier: &[u8],
+        row: &KeyRow,
+        moment: Moment,
+    ) -> Result<bool, StoreFault>
+        ensures { ReadsStore S.disk_is_clean S.represents S.fails self.old self.new result
+            (λ club signed. (pass : Plain) (key : KeyOfClub) → identifier.now ≡ pass.identifier
+            → F.left source.now ≡ drop 2 (pass_fields pass)
+            → key_named key.name club ≡ Some key → row.now ≡ row_of_key key
+            → signed ≡ is_signed_under (machine_pass pass) key moment) }
+    {
+        let mut fields = source.again();
+        let current = self.kept.derived(&row.name, &row.root);
+        if is_signed_by(Chain::from_key(&current, identifier), &mut fields) {
+            return Ok(true);
+        }
+        let key = Key::new(*row, self.store.older_root(&row.name)?);
+        let Some(root) = key.older_root_at(moment) else {
+            return Ok(false);
+        };
+        let mut once_more = source.again();
+        let older = self.kept.derived_before(&row.name, root);
+        Ok(is_signed_by(Chain::from_key(&older, identifier), &mut once_more))
     }
-    let Some(root) = key.older_root_at(moment) else {
-        return false;
-    };
-    let mut once_more = source.again();
-    let older = kept.derived_before(&key.name, root);
-    is_signed_by(Chain::from_key(&older, identifier), &mut once_more)
 }

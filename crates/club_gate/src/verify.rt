@@ -28,11 +28,9 @@ ghost use Rattle.pass_forms.specs.Pass.{Plain};
 ghost use Rattle.pass_forms.specs.Reading.{max_text_len};
 ghost use Rattle.pass_forms.specs.computed.Text.{in_form};
 ghost use Rattle.pass_json.specs.computed.AnyForm.{reading, reading_in_form};
-ghost use Rattle.club_core.specs.declared.refusal.Refusal.TheVariants.{NotVerified};
+ghost use Rattle.club_rows.specs.Key.{row_of_key};
 ghost use Rattle.club_core.specs.declared.store.StoreFault.TheVariants as store;
 ghost use Rattle.club_core.specs.Answer.{form_refusal, verdict_in};
-ghost use Rattle.club_core.specs.Club.{key_named};
-ghost use Rattle.club_core.specs.KeyParts.{row_alone};
 ghost use Rattle.club_core.specs.Store.{KeepsClub, ReadsStore, Returns};
 ghost use Rattle.club_core.specs.Verdict.{refusal_verdict};
 ghost use Rattle.club_laws.specs.SingleRequest.{words_with};
@@ -44,18 +42,15 @@ ghost use Rattle.club_gate.specs.Verify.{
   OfItsPass,
   ReadsOrLacksMemory,
   RefusesText,
-  refusal_by_row,
   signer_of,
 };
 
 use crate::desk::{Desk, are_bytes};
 use crate::identifier::key_name_in;
-use crate::signing::is_signed;
-use club_core::laws::{looks_no_further, own_bookings_suffice, views_decide};
+use club_core::laws::{looks_no_further, own_bookings_suffice};
 use club_core::{ClubStore, PassFault, Refusal, Request, SentWords, StoreFault, Verdict, answer};
-use club_rows::Key;
+use club_rows::KeyRow;
 use club_values::Moment;
-use key_cache::KeptKeys;
 use pass_forms::laws::{reads_v1_exactly, reads_v2_exactly};
 use pass_forms::{Field, FieldSource, Form, FormFault, MAX_BYTES, V1Fields, V2Fields, unwrap_text};
 use pass_json::laws::{
@@ -95,28 +90,6 @@ fn identifier_from<'a, F: FieldSource<'a>>(source: &mut F) -> Option<&'a [u8]>
     }
 }
 
-/// Why the row of its key refuses a pass: the pass isn't signed under a root that is good at the
-/// moment, or the key is revoked. The source has already yielded the identifier.
-fn row_refusal<'a, F: FieldSource<'a> + Drop>(
-    kept: &mut KeptKeys,
-    source: &F,
-    identifier: &[u8],
-    key: &Key,
-    moment: Moment,
-) -> Option<Refusal>
-    ensures { (pass : Plain) → identifier.now ≡ pass.identifier
-        → F.left source.now ≡ drop 2 (pass_fields pass)
-        → result ≡ refusal_by_row pass key.now moment }
-{
-    if !is_signed(kept, source, identifier, key, moment) {
-        return Some(Refusal::NotVerified);
-    }
-    if key.revoked {
-        return Some(Refusal::KeyRevoked);
-    }
-    None
-}
-
 /// The verdict on a text that isn't a pass. Fails if the reader ran out of memory.
 fn verdict_of_fault(fault: FormFault) -> Result<Verdict, StoreFault>
     ensures memory { fault ≡ Memory → result ≡ Err store.Memory }
@@ -135,11 +108,10 @@ fn verdict_of_fault(fault: FormFault) -> Result<Verdict, StoreFault>
 }
 
 impl<S: ClubStore> Desk<S> {
-    /// Reads the row of the key that an identifier names, without its older root; `None` if it
-    /// names no key of the club.
-    fn key_row(&mut self, identifier: &[u8]) -> Result<Option<Key>, StoreFault>
+    /// Reads the row of the key that an identifier names; `None` if it names no key of the club.
+    fn key_row(&mut self, identifier: &[u8]) -> Result<Option<KeyRow>, StoreFault>
         ensures { ReadsStore S.disk_is_clean S.represents S.fails self.old self.new result
-            (λ club key. key ≡ option_map row_alone (key_in club identifier.now)) }
+            (λ club row. row ≡ option_map row_of_key (key_in club identifier.now)) }
     {
         match key_name_in(identifier) {
             Some(name) => self.store.key_row(&name),
@@ -147,47 +119,14 @@ impl<S: ClubStore> Desk<S> {
         }
     }
 
-    /// As `signer`, for a pass that isn't signed under the current root of the key that it names.
-    /// The source has already yielded the identifier.
-    fn older_signer<'a, F: FieldSource<'a> + Drop>(
-        &mut self,
-        source: &F,
-        identifier: &[u8],
-        key: &Key,
-        moment: Moment,
-    ) -> Result<Result<Key, Refusal>, StoreFault>
-        ensures { ReadsStore S.disk_is_clean S.represents S.fails self.old self.new result
-            (λ club signer. (pass : Plain) (row : Key) → identifier.now ≡ pass.identifier
-            → F.left source.now ≡ drop 2 (pass_fields pass)
-            → key_named row.name club ≡ Some row → key.now ≡ row_alone row
-            → refusal_by_row pass key.now moment ≡ Some NotVerified
-            → signer ≡ signer_of pass moment (Some row)) }
-    {
-        let Some(older) = self.store.older_root(&key.name)? else {
-            return Ok(Err(Refusal::NotVerified));
-        };
-        let row = Key {
-            name: key.name,
-            member: key.member,
-            root: key.root,
-            older: Some(older),
-            revoked: key.revoked,
-        };
-        match row_refusal(&mut self.kept, source, identifier, &row, moment) {
-            Some(refusal) => Ok(Err(refusal)),
-            None => Ok(Ok(*key)),
-        }
-    }
-
-    /// Returns the row of the key that a pass names and is signed under, without its older root, or
-    /// the refusal. It reads nothing of the club but that row, and the older root only for a pass
-    /// that isn't signed under the current one. An unknown key and a wrong signature get the same
-    /// refusal.
+    /// Returns the row of the key that a pass names and is signed under, or the refusal. It reads
+    /// nothing of the club but that row, and the older root only for a pass that isn't signed under
+    /// the current one. An unknown key and a wrong signature get the same refusal.
     fn signer<'a, F: FieldSource<'a> + Drop>(
         &mut self,
         source: &F,
         moment: Moment,
-    ) -> Result<Result<Key, Refusal>, StoreFault>
+    ) -> Result<Result<KeyRow, Refusal>, StoreFault>
         ensures { ReadsStore S.disk_is_clean S.represents S.fails self.old self.new result
             (λ club signer. (pass : Plain) → F.left source.now ≡ pass_fields pass
             → signer ≡ signer_of pass moment (key_in club pass.identifier)) }
@@ -196,17 +135,16 @@ impl<S: ClubStore> Desk<S> {
         let Some(identifier) = identifier_from(&mut fields) else {
             return Ok(Err(Refusal::NotVerified));
         };
-        let Some(key) = self.key_row(identifier)? else {
+        let Some(row) = self.key_row(identifier)? else {
             return Ok(Err(Refusal::NotVerified));
         };
-        let refusal = row_refusal(&mut self.kept, &fields, identifier, &key, moment);
-        let Some(refusal) = refusal else {
-            return Ok(Ok(key));
-        };
-        match refusal {
-            Refusal::NotVerified => self.older_signer(&fields, identifier, &key, moment),
-            _ => Ok(Err(refusal)),
+        if !self.is_signed(&fields, identifier, &row, moment)? {
+            return Ok(Err(Refusal::NotVerified));
         }
+        if row.revoked {
+            return Ok(Err(Refusal::KeyRevoked));
+        }
+        Ok(Ok(row))
     }
 
     /// The verdict on a request with a pass whose signer is this key. If a caveat refuses the
@@ -214,7 +152,7 @@ impl<S: ClubStore> Desk<S> {
     /// only if a caveat depends on them.
     fn verdict_under<'a, F: FieldSource<'a> + Drop>(
         &mut self,
-        key: &Key,
+        key: &KeyRow,
         source: &F,
         request: &Request,
         moment: Moment,
@@ -247,7 +185,6 @@ impl<S: ClubStore> Desk<S> {
             (λ club verdict. OfItsPass (F.left source.now) (λ pass.
             verdict ≡ verdict_in club (words_with (machine_pass pass) request.now) moment)) }
     {
-        views_decide();
         match self.signer(source, moment)? {
             Ok(key) => self.verdict_under(&key, source, request, moment),
             Err(refusal) => Ok(Verdict::refuse(refusal)),

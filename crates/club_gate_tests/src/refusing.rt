@@ -2,7 +2,7 @@
 //! contracts promise nothing.
 
 use club_core::{Change, ClubStore, MemberAccount, SlotUse, StoreFault};
-use club_rows::{Booking, BookingNumber, Facility, Key, OlderRoot};
+use club_rows::{Booking, BookingNumber, Facility, KeyRow, OlderRoot};
 use club_values::{Day, Moment, Name, Slot};
 
 /// How often each thing was asked of a store: a key's row, its older root, a record under a
@@ -90,7 +90,7 @@ impl<S: ClubStore> ClubStore for Refusing<S> {
 
     ghost sound = { λ store club others represents. absurd represents };
 
-    fn key_row(&mut self, name: &Name) -> Result<Option<Key>, StoreFault> {
+    fn key_row(&mut self, name: &Name) -> Result<Option<KeyRow>, StoreFault> {
         count(&mut self.asked.keys);
         self.count_call()?;
         self.store.key_row(name)

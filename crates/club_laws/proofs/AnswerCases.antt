@@ -2,7 +2,7 @@
 use Rattle.std.proofs.Common.{◌≡◌, ℕ, ◌+◌, ◌-◌, true, false, cond, List, [], ◌∷◌, Option, Some, None, Ok, Err, refl, sym, ◌∙◌, subst, arith}
 use Rattle.std.proofs.lemmas.Slice.Eq.{bytes_eq-Decides}
 use Rattle.club_laws.proofs.NamedRows.{is_numbered, numbered}
-use Rattle.std.specs.Prelude.{Result, ◌&&◌, ◌==◌, not, nat_lt, nat_le, option_map}
+use Rattle.std.specs.Prelude.{Result, ◌&&◌, ◌==◌, not, nat_lt, nat_le}
 use Rattle.std.specs.Str.{bytes_eq}
 use Rattle.std.proofs.lemmas.Bool.{cond_both, not-false}
 use Rattle.pass_caveats.specs.declared.fault.CaveatFault.{CaveatFault}
@@ -23,7 +23,7 @@ use Rattle.club_core.specs.declared.request.Request.{Request}
 use Rattle.club_core.specs.declared.request.Request.TheVariants as asked
 use Rattle.club_rows.specs.Booking.{same_slot, refund_at}
 use Rattle.club_rows.specs.Facility.{charge_of}
-use Rattle.club_core.specs.Lines.{Line, first_of}
+use Rattle.club_core.specs.Lines.{Line, line_if, first_of}
 use Rattle.club_core.specs.declared.pass_fault.PassFault.{PassFault}
 use Rattle.club_core.specs.declared.pass_fault.PassFault.TheVariants.{TooLong, Malformed, ThirdParty, TooMany}
 use Rattle.club_core.specs.Pass.{Pass, Words, is_signed_under}
@@ -31,7 +31,7 @@ use Rattle.club_core.specs.Club.{Club, facility_named, is_key_of, bookings_of, i
 use Rattle.club_core.specs.Sums.{taken_in, balance_of, booking_under}
 use Rattle.club_core.specs.Basis.{Basis, basis_of, view_of}
 use Rattle.club_core.specs.Verdict as verdicts
-use Rattle.club_core.specs.Answer.{answer_to, acceptance_lines, ask_of, after_caveats, form_refusal, verdict_in}
+use Rattle.club_core.specs.Answer.{answer_to, ask_of, after_caveats, form_refusal, verdict_in}
 use Rattle.club_laws.proofs.BasisRows.{Knows, basis_with, rests_on_name, known_rows}
 use Rattle.club_laws.proofs.FoundRows.{found_passes, found_is_there, find-filter, any_passes, any-filter}
 
@@ -208,21 +208,23 @@ module _ (P : Verdict → Type 0) (club : Club) (words : Words) (moment : ℕ) (
     caveat_cases (Some (NotUnderstood n)) verdict h = w.silent (Refused (refusals.CaveatNotUnderstood n)) tt
     caveat_cases (Some (Denied n)) verdict h = w.silent (Refused (refusals.CaveatDenies n)) tt
 
-    known_cases : (pass : Pass) → P (answer_to (Ok pass) words.request moment (Some (view_at club words.request moment key member)))
+    known_cases : (pass : Pass) → P (answer_to (Ok pass) words.request moment (Some (basis_with club words.request key member)))
     known_cases pass =
         let view = view_at club words.request moment key member in
         let fault = first_fault_of pass.caveats (ask_of view words.request moment) in
         let verdict = verdicts.verdict_of view words.request moment in
-        first_of_cases P (acceptance_lines key (is_signed_under pass key moment)) (after_caveats fault verdict)
+        let lines : List (Line Verdict) = line_if (not (is_signed_under pass key moment)) (verdicts.refusal_verdict refusals.NotVerified)
+        ∷ line_if key.revoked (verdicts.refusal_verdict refusals.KeyRevoked) ∷ [] in
+        first_of_cases P lines (after_caveats fault verdict)
         (w.silent (Refused refusals.NotVerified) tt, (w.silent (Refused refusals.KeyRevoked) tt, tt))
         (λ none. caveat_cases fault verdict (verdict_cases words.request refl))
 
   text_cases : (pass : Result Pass PassFault) (basis : Option Basis) → basis_of club words ≡ basis
-      → P (answer_to pass words.request moment (option_map (λ (b : Basis). view_of b words.request moment) basis))
+      → P (answer_to pass words.request moment basis)
   text_cases (Err fault) basis e = form_cases fault
   text_cases (Ok pass) None e = w.silent (Refused refusals.NotVerified) tt
   text_cases (Ok pass) (Some basis) e =
-      subst (λ (b : Basis). P (answer_to (Ok pass) words.request moment (Some (view_of b words.request moment)))) (sym (rests_on_name club words basis e).whole)
+      subst (λ (b : Basis). P (answer_to (Ok pass) words.request moment (Some b))) (sym (rests_on_name club words basis e).whole)
       (known_cases basis.key basis.member (known_rows club words basis e) pass)
 
   pub answer_cases : P (verdict_in club words moment)

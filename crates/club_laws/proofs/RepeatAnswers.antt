@@ -60,7 +60,7 @@ decides_by_record bookings key request reply view moment h e = absurd h
 accepted_answer : TestsTheSet → TestsTheSignature → (club : Club) (words : Words) (moment : ℕ) (a : IsAcceptedIn club words moment)
     → verdict_in club words moment ≡ verdicts.verdict_of (view_of a.basis words.request moment) words.request moment
 accepted_answer set signature club words moment a =
-    rw (a.known, a.read) (accepted_under set signature a.pass words.request moment (view_of a.basis words.request moment) a.acceptance)
+    rw (a.known, a.read) (accepted_under set signature a.pass words.request moment a.basis a.acceptance)
 
 step_by_record : TestsTheSet → TestsTheSignature → (club : Club) (words : Words) (moment : ℕ) (reply : Reply) → IsRecorded club.bookings words reply
     → IsAcceptedIn club words moment

@@ -1,5 +1,5 @@
 -- What a served request shows of its pass.
-use Rattle.std.proofs.Common.{◌≡◌, ℕ, ◌+◌, true, false, List, [], ◌∷◌, ◌++◌, Option, Some, None, Result, Ok, Err, option_map, option_and_then, arith}
+use Rattle.std.proofs.Common.{◌≡◌, ℕ, ◌+◌, true, false, List, [], ◌∷◌, ◌++◌, Option, Some, None, Result, Ok, Err, option_and_then, arith}
 use Rattle.std.proofs.Common.{All, refl, sym, ap, ◌∙◌, subst}
 use Rattle.std.proofs.lemmas.Bool.{false_from_ne_true}
 use Rattle.std.proofs.lemmas.Option.{same_Some}
@@ -9,7 +9,6 @@ use Rattle.pass_caveats.specs.declared.caveat.Caveat.{Caveat}
 use Rattle.pass_caveats.specs.Fault.{first_fault_from, first_fault_of}
 use Rattle.pass_caveats.specs.Laws.{TestsTheSet}
 use Rattle.club_core.specs.Laws.{TestsTheSignature}
-use Rattle.club_core.specs.declared.view.View.{View}
 use Rattle.club_rows.specs.declared.key.Key.{Key}
 use Rattle.club_core.specs.declared.refusal.Refusal.TheVariants.{NotVerified, KeyRevoked, CaveatNotUnderstood, CaveatDenies}
 use Rattle.club_core.specs.declared.request.Request.{Request}
@@ -24,15 +23,15 @@ use Rattle.club_laws.specs.SingleRequest.{blind_refusal, words_with}
 use Rattle.club_laws.proofs.BasisRows.{rests_on_name}
 
 -- the pass passes the tests of the answer
-pub record PassesTests (pass : Pass) (request : Request) (moment : ℕ) (view : View) : Type 0 where
-  pub signed : is_signed_under pass view.key moment ≡ true
-  pub not_revoked : view.key.revoked ≡ false
-  pub faultless : first_fault_of pass.caveats (ask_of view request moment) ≡ None
+pub record PassesTests (pass : Pass) (request : Request) (moment : ℕ) (basis : Basis) : Type 0 where
+  pub signed : is_signed_under pass basis.key moment ≡ true
+  pub not_revoked : basis.key.revoked ≡ false
+  pub faultless : first_fault_of pass.caveats (ask_of (view_of basis request moment) request moment) ≡ None
 
 -- what is served passes the tests
-served_under : (pass : Pass) (request : Request) (moment : ℕ) (view : View) → IsServed (answer_to (Ok pass) request moment (Some view)).reply
-    → PassesTests pass request moment view
-served_under pass request moment view h =
+served_under : (pass : Pass) (request : Request) (moment : ℕ) (basis : Basis) → IsServed (answer_to (Ok pass) request moment (Some basis)).reply
+    → PassesTests pass request moment basis
+served_under pass request moment basis h =
     let verified = h NotVerified in
     let current = h KeyRevoked in
     let understood = λ (n : ℕ). h (CaveatNotUnderstood n) in
@@ -40,9 +39,9 @@ served_under pass request moment view h =
     grind arith
 
 -- and what passes them, the decision answers
-passing_under : (pass : Pass) (request : Request) (moment : ℕ) (view : View) → PassesTests pass request moment view
-    → answer_to (Ok pass) request moment (Some view) ≡ verdict_of view request moment
-passing_under pass request moment view h = grind arith
+passing_under : (pass : Pass) (request : Request) (moment : ℕ) (basis : Basis) → PassesTests pass request moment basis
+    → answer_to (Ok pass) request moment (Some basis) ≡ verdict_of (view_of basis request moment) request moment
+passing_under pass request moment basis h = grind arith
 
 pub all_allowed : TestsTheSet → (n : ℕ) (caveats : List (Option Caveat)) (ask : Ask) → first_fault_from n caveats ask ≡ None → All (IsAllowedBy ask) caveats
 all_allowed tests n [] ask e = All-nil (IsAllowedBy ask)
@@ -59,13 +58,13 @@ none_at_fault tests n (Some caveat ∷ caveats) ask h =
     rw permitted (none_at_fault tests (n + 1) caveats ask (All-tail (IsAllowedBy ask) (Some caveat) caveats h))
 
 -- what is accepted, the decision answers
-pub accepted_under : TestsTheSet → TestsTheSignature → (pass : Pass) (request : Request) (moment : ℕ) (view : View)
-    → IsAcceptedPass pass request moment view → answer_to (Ok pass) request moment (Some view) ≡ verdict_of view request moment
-accepted_under set signature pass request moment view h =
-    passing_under pass request moment view (record {
-      signed = (signature pass view.key moment).1 h.signed;
+pub accepted_under : TestsTheSet → TestsTheSignature → (pass : Pass) (request : Request) (moment : ℕ) (basis : Basis)
+    → IsAcceptedPass pass request moment basis → answer_to (Ok pass) request moment (Some basis) ≡ verdict_of (view_of basis request moment) request moment
+accepted_under set signature pass request moment basis h =
+    passing_under pass request moment basis (record {
+      signed = (signature pass basis.key moment).1 h.signed;
       not_revoked = h.not_revoked;
-      faultless = none_at_fault set 1 pass.caveats (ask_of view request moment) h.permission;
+      faultless = none_at_fault set 1 pass.caveats (ask_of (view_of basis request moment) request moment) h.permission;
     })
 
 -- a list without a fault has none with its end cut off
@@ -77,12 +76,11 @@ faultless_front n (Some caveat ∷ caveats) more ask e = grind (arith, faultless
 
 -- so what is served is entitled
 pub served_entitled : TestsTheSet → TestsTheSignature → (words : Words) (moment : ℕ) (club : Club) (pass : Result Pass PassFault) (basis : Option Basis)
-    → words.pass ≡ pass → basis_of club words ≡ basis → IsServed (answer_to pass words.request moment
-    (option_map (λ (b : Basis). view_of b words.request moment) basis)).reply → IsEntitled club words moment
+    → words.pass ≡ pass → basis_of club words ≡ basis → IsServed (answer_to pass words.request moment basis).reply → IsEntitled club words moment
 served_entitled set signature words moment club (Err fault) basis e f h = absurd (h (form_refusal fault) refl)
 served_entitled set signature words moment club (Ok pass) None e f h = absurd (h NotVerified refl)
 served_entitled set signature words moment club (Ok pass) (Some basis) e f h =
-    let accepted = served_under pass words.request moment (view_of basis words.request moment) h in
+    let accepted = served_under pass words.request moment basis h in
     let rests = rests_on_name club words basis f in
     record {
       pass = pass;
@@ -102,62 +100,55 @@ refused_blind (Err fault) request moment = refl
 refused_blind (Ok pass) request moment = refl
 
 -- under a key without a signature, whether its member is known or not
-refused_unsigned : (pass : Pass) (request : Request) (moment : ℕ) (view : Option View)
-    → ((v : View) → view ≡ Some v → is_signed_under pass v.key moment ≡ false) → answer_to (Ok pass) request moment view ≡ refusal_verdict NotVerified
+refused_unsigned : (pass : Pass) (request : Request) (moment : ℕ) (basis : Option Basis)
+    → ((b : Basis) → basis ≡ Some b → is_signed_under pass b.key moment ≡ false) → answer_to (Ok pass) request moment basis ≡ refusal_verdict NotVerified
 refused_unsigned pass request moment None unsigned = refl
-refused_unsigned pass request moment (Some view) unsigned = let e = unsigned view refl in grind arith
+refused_unsigned pass request moment (Some basis) unsigned = let e = unsigned basis refl in grind arith
 
--- the key of the view is the one that the pass names
-seen_key : (club : Club) (words : Words) (moment : ℕ) (key : Key) → key_of words.pass ≡ Some key.name → key_named key.name club ≡ Some key
-    → (basis : Option Basis) → basis_of club words ≡ basis → (view : View) → option_map (λ (b : Basis). view_of b words.request moment) basis ≡ Some view
-    → key ≡ view.key
-seen_key club words moment key n row None e view is = absurd (cc)
-seen_key club words moment key n row (Some basis) e view is =
+-- the key of the basis is the one that the pass names
+seen_key : (club : Club) (words : Words) (key : Key) → key_of words.pass ≡ Some key.name → key_named key.name club ≡ Some key
+    → (basis : Basis) → basis_of club words ≡ Some basis → key ≡ basis.key
+seen_key club words key n row basis e =
     let rests = rests_on_name club words basis e in
     let named = same_Some key.name basis.key.name (sym n ∙ rests.key_name) in
-    same_Some key basis.key (sym row ∙ rw named rests.row) ∙ ap (λ (v : View). v.key) (same_Some (view_of basis words.request moment) view is)
+    same_Some key basis.key (sym row ∙ rw named rests.row)
 
 pub unsigned_in : TestsTheSignature → (words : Words) (moment : ℕ) (club : Club) (pass : Pass) (key : Key) → words.pass ≡ Ok pass → pass.key ≡ Some key.name
     → key_named key.name club ≡ Some key → ¬ IsSignedUnder pass key moment → verdict_in club words moment ≡ refusal_verdict NotVerified
 unsigned_in signature words moment club pass key e n row unsigned =
-    let view = option_map (λ (b : Basis). view_of b words.request moment) (basis_of club words) in
     let is_false : is_signed_under pass key moment ≡ false =
     false_from_ne_true (is_signed_under pass key moment) (λ signed. unsigned ((signature pass key moment).0 signed))
     in
-    ap (λ (p : Result Pass PassFault). answer_to p words.request moment view) e
-    ∙ refused_unsigned pass words.request moment view
-    (λ v is. subst (λ (k : Key). is_signed_under pass k moment ≡ false) (seen_key club words moment key (ap key_of e ∙ n) row (basis_of club words) refl v is)
-    is_false)
+    ap (λ (p : Result Pass PassFault). answer_to p words.request moment (basis_of club words)) e
+    ∙ refused_unsigned pass words.request moment (basis_of club words)
+    (λ b is. subst (λ (k : Key). is_signed_under pass k moment ≡ false) (seen_key club words key (ap key_of e ∙ n) row b is) is_false)
 
--- a pass with more caveats, under one view
-wide_under : (wide narrow : Pass) (more : List (Option Caveat)) (request : Request) (moment : ℕ) (view : Option View) → narrow.caveats ≡ wide.caveats ++ more
-    → ((v : View) → view ≡ Some v → is_signed_under wide v.key moment ≡ true) → IsServed (answer_to (Ok narrow) request moment view).reply
-    → answer_to (Ok wide) request moment view ≡ answer_to (Ok narrow) request moment view
+-- a pass with more caveats, under one basis
+wide_under : (wide narrow : Pass) (more : List (Option Caveat)) (request : Request) (moment : ℕ) (basis : Option Basis)
+    → narrow.caveats ≡ wide.caveats ++ more → ((b : Basis) → basis ≡ Some b → is_signed_under wide b.key moment ≡ true)
+    → IsServed (answer_to (Ok narrow) request moment basis).reply → answer_to (Ok wide) request moment basis ≡ answer_to (Ok narrow) request moment basis
 wide_under wide narrow more request moment None e signed h = absurd (h NotVerified refl)
-wide_under wide narrow more request moment (Some view) e signed h =
-    let accepted = served_under narrow request moment view h in
-    let ask = ask_of view request moment in
+wide_under wide narrow more request moment (Some basis) e signed h =
+    let accepted = served_under narrow request moment basis h in
+    let ask = ask_of (view_of basis request moment) request moment in
     let faultless = subst (λ (caveats : List (Option Caveat)). first_fault_from 1 caveats ask ≡ None) e accepted.faultless in
-    let wider : PassesTests wide request moment view =
-    record { signed = signed view refl; not_revoked = accepted.not_revoked; faultless = faultless_front 1 wide.caveats more ask faultless }
+    let wider : PassesTests wide request moment basis =
+    record { signed = signed basis refl; not_revoked = accepted.not_revoked; faultless = faultless_front 1 wide.caveats more ask faultless }
     in
-    passing_under wide request moment view wider ∙ sym (passing_under narrow request moment view accepted)
+    passing_under wide request moment basis wider ∙ sym (passing_under narrow request moment basis accepted)
 
--- the same in a club: both passes have one view, which rests on the row of their key
+-- the same in a club: both passes have one basis, which rests on the row of their key
 pub wide_in : TestsTheSignature → (wide narrow : Pass) (more : List (Option Caveat)) (key : Key) (request : Request) (moment : ℕ) (club : Club)
     → wide.key ≡ Some key.name → narrow.key ≡ Some key.name → narrow.caveats ≡ wide.caveats ++ more → key_named key.name club ≡ Some key
     → IsSignedUnder wide key moment → IsServed (verdict_in club (words_with narrow request) moment).reply
     → verdict_in club (words_with wide request) moment ≡ verdict_in club (words_with narrow request) moment
 wide_in signature wide narrow more key request moment club w n e row signed h =
     let words = words_with narrow request in
-    let seen : Option Basis → Option View = λ basis. option_map (λ (b : Basis). view_of b request moment) basis in
     let same : basis_of club (words_with wide request) ≡ basis_of club words =
     ap (λ (name : Option (List ℕ)). option_and_then (basis_under club request) (option_and_then (λ (x : List ℕ). key_named x club) name)) (w ∙ sym n)
     in
-    let of_row : (v : View) → seen (basis_of club words) ≡ Some v → is_signed_under wide v.key moment ≡ true =
-    λ v is.
-    subst (λ (k : Key). is_signed_under wide k moment ≡ true) (seen_key club words moment key n row (basis_of club words) refl v is)
-    ((signature wide key moment).1 signed)
+    let of_row : (b : Basis) → basis_of club words ≡ Some b → is_signed_under wide b.key moment ≡ true =
+    λ b is. subst (λ (k : Key). is_signed_under wide k moment ≡ true) (seen_key club words key n row b is) ((signature wide key moment).1 signed)
     in
-    ap (λ (b : Option Basis). answer_to (Ok wide) request moment (seen b)) same
-    ∙ wide_under wide narrow more request moment (seen (basis_of club words)) e of_row h
+    ap (λ (b : Option Basis). answer_to (Ok wide) request moment b) same
+    ∙ wide_under wide narrow more request moment (basis_of club words) e of_row h

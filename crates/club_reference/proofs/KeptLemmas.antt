@@ -12,6 +12,8 @@ use Rattle.pass_caveats.specs.Fault.{first_fault_of}
 use Rattle.club_rows.specs.declared.member.Member.{Member}
 use Rattle.club_rows.specs.declared.facility.Facility.{Facility}
 use Rattle.club_rows.specs.declared.key.Key.{Key}
+use Rattle.club_rows.specs.declared.key.KeyRow.{KeyRow}
+use Rattle.club_rows.specs.Key.{row_of_key}
 use Rattle.club_rows.specs.declared.booking.Booking.{Booking}
 use Rattle.club_core.specs.declared.view.View.{View}
 use Rattle.club_core.specs.declared.reply.Reply.{Reply}
@@ -88,7 +90,7 @@ fits_booked club name key member facility booking h found owner place under none
 -- a new booking
 keeps_new : (club : Club) (name : List ℕ) (key : Key) (member : Member) (view : View) (slot : Slot) (number guests moment : ℕ) (facility : Option Facility)
     → FitsWidths club → key_named name club ≡ Some key → member_named key.member club ≡ Some member → facility_named slot.facility club ≡ facility
-    → view.key ≡ key → taken_in slot club.bookings ≤ view.taken → view.balance ≡ balance_of member (bookings_of member.name club)
+    → view.key ≡ row_of_key key → taken_in slot club.bookings ≤ view.taken → view.balance ≡ balance_of member (bookings_of member.name club)
     → Keeps club (new_verdict view slot number guests moment facility)
 keeps_new club name key member view slot number guests moment None h found owner place same taken balance = keeps_reply_only club _
 keeps_new club name key member view slot number guests moment (Some facility) h found owner place same taken balance =
@@ -103,7 +105,7 @@ keeps_new club name key member view slot number guests moment (Some facility) h 
     let room : taken_in slot club.bookings + guests + 1 ≤ facility.places = omega arith in
     let points : charge_of facility guests ≤ balance_of member (bookings_of member.name club) =
     rw (← balance) (ltb-false view.balance (charge_of facility guests) has_points) in
-    let under : booking.key ≡ key.name = ap (λ (k : Key). k.name) same in
+    let under : booking.key ≡ key.name = ap (λ (k : KeyRow). k.name) same in
     keeps_change club _ (InsertBooking booking view.key.member)
     (fits_booked club name key member facility booking h found owner place under refl room points))))))
 
@@ -172,12 +174,8 @@ keeps_after_caveats club None verdict h = h
 keeps_after_caveats club (Some (NotUnderstood n)) verdict h = keeps_reply_only club _
 keeps_after_caveats club (Some (Denied n)) verdict h = keeps_reply_only club _
 
--- the answer by the view of a basis
-abbrev answer_text : Result Pass PassFault → Request → ℕ → Option Basis → Verdict
-answer_text text request moment basis = answer_to text request moment (option_map (λ (b : Basis). view_of b request moment) basis)
-
 abbrev answer_by : Pass → Request → ℕ → Option Basis → Verdict
-answer_by pass request moment basis = answer_text (Ok pass) request moment basis
+answer_by pass request moment basis = answer_to (Ok pass) request moment basis
 
 -- what a basis takes from the club: the key's row and its member's, whose bookings it has, and a state that has all persons of the slot
 record IsBasisIn (club : Club) (request : Request) (basis : Basis) : Type 0 where
@@ -199,7 +197,7 @@ keeps_accepted club pass request moment basis h is =
     (keeps_decision club is.name basis.key basis.member state request moment h is.found is.owner is.at))))
 
 keeps_text : (club : Club) (text : Result Pass PassFault) (request : Request) (moment : ℕ) (basis : Option Basis) → FitsWidths club
-    → ((b : Basis) → basis ≡ Some b → IsBasisIn club request b) → Keeps club (answer_text text request moment basis)
+    → ((b : Basis) → basis ≡ Some b → IsBasisIn club request b) → Keeps club (answer_to text request moment basis)
 keeps_text club (Ok pass) request moment (Some basis) h is = keeps_accepted club pass request moment basis h (is basis refl)
 keeps_text club (Ok pass) request moment None h is = keeps_reply_only club _
 keeps_text club (Err fault) request moment basis h is = keeps_reply_only club _

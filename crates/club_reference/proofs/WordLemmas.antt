@@ -1,7 +1,7 @@
--- The computed model of words is their model.
+-- The computed model of words is their model; and what is answered by a key's view is answered by its basis.
 use Rattle.std.proofs.Common.{◌≡◌, ℕ, List, [], ◌∷◌, map, Option, Some, None, refl, sym, ap, subst, Decides}
 use Rattle.std.proofs.Math.Path.{fun_ext}
-use Rattle.std.specs.Prelude.{Contains, Result, Ok, Err}
+use Rattle.std.specs.Prelude.{Contains, Result, Ok, Err, option_map}
 use Rattle.std.specs.List.{list_any}
 use Rattle.std.specs.Str.{bytes_eq}
 use Rattle.std.specs.Vec.{vec_items}
@@ -15,11 +15,17 @@ use Rattle.pass_caveats.specs.Laws.{ReadsWhatIsUnderstood}
 use Rattle.pass_caveats.specs.computed.CaveatOf.{caveat_of}
 use Rattle.club_values.specs.Reading.{Reads}
 use Rattle.club_core.specs.declared.pass_fault.PassFault.{PassFault}
+use Rattle.club_core.specs.declared.request.Request.{Request}
+use Rattle.club_core.specs.declared.slot_use.SlotUse.{SlotUse}
+use Rattle.club_core.specs.Answer.{answer_to}
+use Rattle.club_core.specs.Basis.{Basis}
 use Rattle.club_core.specs.Pass.{Pass, Words}
+use Rattle.club_core.specs.Solo.{with_others}
 use Rattle.club_reference.specs.declared.words.Pass.{Pass as PassInCode}
 use Rattle.club_reference.specs.declared.words.Words.{Words as WordsInCode}
 use Rattle.club_reference.specs.Laws.{ModelsWords}
-use Rattle.club_reference.specs.Words.{IsModelOf, IsPassModel, IsResultModel}
+use Rattle.club_reference.specs.Solo.{with_outside}
+use Rattle.club_reference.specs.Words.{IsModelOf, IsPassModel, IsResultModel, answer_seen, seen_of}
 use Rattle.club_reference.specs.computed.Words.{pass_model, pass_result_model, words_model}
 
 Decides-signed : (roots : List (List ℕ)) (root : List ℕ) → Decides (list_any (λ other. bytes_eq other root) roots) (Contains roots root)
@@ -91,3 +97,16 @@ module _ (reads : ReadsWhatIsUnderstood) where
 
 pub their_model : ModelsWords → (words : WordsInCode) → IsModelOf words (words_model words)
 their_model law words = (law words (words_model words)).1 refl
+
+-- a key's view answers as its basis does
+pub answers_seen : (pass : Result Pass PassFault) (request : Request) (moment : ℕ) (basis : Option Basis)
+    → answer_seen pass request moment (option_map (seen_of request moment) basis) ≡ answer_to pass request moment basis
+answers_seen (Err fault) request moment basis = refl
+answers_seen (Ok pass) request moment None = refl
+answers_seen (Ok pass) request moment (Some basis) = refl
+
+-- a view with what others hold is that of the basis with it
+pub seen_with_others : (request : Request) (moment : ℕ) (others : SlotUse) (basis : Option Basis)
+    → option_map (with_outside others) (option_map (seen_of request moment) basis) ≡ option_map (seen_of request moment) (option_map (with_others others) basis)
+seen_with_others request moment others None = refl
+seen_with_others request moment others (Some basis) = refl

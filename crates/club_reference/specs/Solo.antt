@@ -1,8 +1,8 @@
 -- What the solo machine sees (ours).
 use Rattle.std.specs.Prelude.{◌+◌}
 use Rattle.club_core.specs.declared.slot_use.SlotUse.{SlotUse}
-use Rattle.club_core.specs.declared.view.View.{View}
+use Rattle.club_reference.specs.declared.words.KeyView.{KeyView}
 
 -- a view with what others hold of the slot
-abbrev pub with_outside : SlotUse → View → View
-with_outside others view = record view { taken = view.taken + others.taken; closed = others.closed }
+abbrev pub with_outside : SlotUse → KeyView → KeyView
+with_outside others seen = record seen { view = record seen.view { taken = seen.view.taken + others.taken; closed = others.closed } }

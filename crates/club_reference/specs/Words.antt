@@ -1,11 +1,18 @@
--- The models of the code's words: the words of the rules that they are (ours).
-use Rattle.std.specs.Prelude.{◌≡◌, ◌↔◌, ℕ, List, map, Contains, IsTrue, Result, Ok, Err}
+-- The models of the code's words: the words of the rules that they are, and their answers (ours).
+use Rattle.std.specs.Prelude.{◌≡◌, ◌↔◌, ℕ, List, map, Contains, IsTrue, Option, Some, None, Result, Ok, Err}
 use Rattle.std.specs.Vec.{vec_items}
-use Rattle.pass_caveats.specs.Fault.{AreUnderstoodAs}
+use Rattle.pass_caveats.specs.Fault.{AreUnderstoodAs, first_fault_of}
 use Rattle.club_core.specs.declared.pass_fault.PassFault.{PassFault}
+use Rattle.club_core.specs.declared.refusal.Refusal.TheVariants.{NotVerified}
+use Rattle.club_core.specs.declared.request.Request.{Request}
+use Rattle.club_core.specs.declared.verdict.Verdict.{Verdict}
+use Rattle.club_reference.specs.declared.words.KeyView.{KeyView}
 use Rattle.club_reference.specs.declared.words.Pass.{Pass as PassInCode}
 use Rattle.club_reference.specs.declared.words.Words.{Words as WordsInCode}
-use Rattle.club_core.specs.Pass.{Pass, Words}
+use Rattle.club_core.specs.Answer.{answer_by_view, ask_of, form_refusal}
+use Rattle.club_core.specs.Basis.{Basis, view_of}
+use Rattle.club_core.specs.Pass.{Pass, Words, is_signed_under}
+use Rattle.club_core.specs.Verdict.{refusal_verdict}
 
 -- the same key, each caveat as its text is understood, and signed under the listed roots
 pub record IsPassModel (pass : PassInCode) (model : Pass) : Type 0 where
@@ -22,3 +29,14 @@ IsResultModel pass model = ⊥
 -- the same request, and the model of the pass
 abbrev pub IsModelOf : WordsInCode → Words → Type 0
 IsModelOf words model = IsResultModel words.pass model.pass × (model.request ≡ words.request)
+
+-- the key of a basis, with its view
+abbrev pub seen_of : Request → ℕ → Basis → KeyView
+seen_of request moment basis = record { key = basis.key; view = view_of basis request moment }
+
+-- the answer to a text, by the key that it names and the key's view
+abbrev pub answer_seen : Result Pass PassFault → Request → ℕ → Option KeyView → Verdict
+answer_seen (Err fault) request moment seen = refusal_verdict (form_refusal fault)
+answer_seen (Ok pass) request moment None = refusal_verdict NotVerified
+answer_seen (Ok pass) request moment (Some seen) =
+    answer_by_view (Some seen.view) (is_signed_under pass seen.key moment) (first_fault_of pass.caveats (ask_of seen.view request moment)) request moment

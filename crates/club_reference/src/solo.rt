@@ -16,8 +16,8 @@ ghost use Rattle.club_reference.specs.computed.Words.{words_model};
 use crate::club::{Club, copy_rows};
 use crate::laws::models_words;
 use crate::sums::{is_held, persons};
-use crate::words::Words;
-use club_core::{Reply, SlotUse, Verdict, View};
+use crate::words::{KeyView, Words};
+use club_core::{Reply, SlotUse, Verdict};
 use club_rows::{Booking, Key, Member};
 use club_values::{Moment, Name, Slot};
 use std::alloc::{AllocError, Global};
@@ -72,14 +72,14 @@ fn taken_by_others(keys: &[Key], bookings: &[Booking], member: &Name, slot: &Slo
 }
 
 /// A view with what others hold of its slot.
-fn with_outside(view: Option<View>, others: SlotUse) -> Option<View>
-    requires { IfSome view (λ v. v.taken ≤ 50) }
-    ensures { result ≡ option_map (with_outside others) view }
+fn with_outside(seen: Option<KeyView>, others: SlotUse) -> Option<KeyView>
+    requires { IfSome seen (λ s. s.view.taken ≤ 50) }
+    ensures { result ≡ option_map (with_outside others) seen }
 {
-    let mut view = view?;
-    view.taken += u64::from(others.taken);
-    view.closed = others.closed;
-    Some(view)
+    let mut seen = seen?;
+    seen.view.taken += u64::from(others.taken);
+    seen.view.closed = others.closed;
+    Some(seen)
 }
 
 impl Club {
@@ -125,13 +125,14 @@ impl Club {
     }
 
     /// The answer to a request on a member's part, with what others hold of its slot.
+    #[tactic(auto, using(crate::proofs::WordLemmas::answers_seen, crate::proofs::WordLemmas::seen_with_others))]
     fn answer_alone(&self, words: &Words, moment: Moment, others: SlotUse) -> Verdict
         ensures value { result ≡ solo.solo_verdict self.now (words_model words.now) moment others }
         ensures fits { FitsWidths self.now }
     {
         let _members = &self.members;
-        let view = with_outside(self.view_for(words, moment), others);
-        words.verdict(view.as_ref(), moment)
+        let seen = with_outside(self.view_for(words, moment), others);
+        words.verdict(seen.as_ref(), moment)
     }
 
     /// Answers a request on a member's part, with what others hold of its slot, and makes the

@@ -13,7 +13,6 @@ ghost use Rattle.club_reference.specs.computed.Words.{words_model};
 use crate::club::Club;
 use crate::laws::models_words;
 use crate::words::Words;
-use club_core::laws::views_decide;
 use club_core::{Change, Command, OfficeAnswer, OfficeFault, Reply, Verdict, decide_order};
 use club_values::Moment;
 use std::alloc::AllocError;
@@ -22,11 +21,11 @@ impl Club {
     ghost use Rattle.club_reference.specs.Widths.{FitsWidths};
 
     /// The reply to a request at a moment, and its change.
+    #[tactic(auto, using(crate::proofs::WordLemmas::answers_seen))]
     fn answer(&self, words: &Words, moment: Moment) -> Verdict
         ensures value { result ≡ verdict_in self.now (words_model words.now) moment }
         ensures fits { FitsWidths self.now }
     {
-        views_decide();
         let _members = &self.members;
         words.verdict(self.view_for(words, moment).as_ref(), moment)
     }

@@ -5,7 +5,7 @@ ghost use Rattle.club_core.specs.Office.{rows_seen};
 
 use crate::club::Club;
 use crate::sums::{balance, open_count, persons_in, recorded_booking, spent};
-use crate::words::Words;
+use crate::words::{KeyView, Words};
 use club_core::{Command, OrderView, Request, SlotUse, View};
 use club_rows::{Facility, Key, Member};
 use club_values::{Moment, Slot};
@@ -25,8 +25,9 @@ fn rows_seen(member: Option<Member>, key: Option<Key>, facility: Option<Facility
 }
 
 impl Club {
-    ghost use Rattle.club_core.specs.Basis.{Basis, basis_under, slot_use_by, view_for, view_of};
+    ghost use Rattle.club_core.specs.Basis.{basis_of, basis_under, slot_use_by};
     ghost use Rattle.club_core.specs.Office.{order_view};
+    ghost use Rattle.club_reference.specs.Words.{seen_of};
     ghost use Rattle.club_reference.specs.computed.Words.{words_model};
 
     /// The use of a slot: its persons, and whether it is closed; none without a slot.
@@ -47,11 +48,10 @@ impl Club {
     }
 
     /// The view of a request under a key; `None` if the key's member is unknown.
-    fn view_of(&self, key: &Key, request: &Request, moment: Moment) -> Option<View>
-        ensures few { IfSome result (λ view. view.taken ≤ 50) }
+    fn view_of(&self, key: &Key, request: &Request, moment: Moment) -> Option<KeyView>
+        ensures few { IfSome result (λ seen. seen.view.taken ≤ 50) }
         ensures value { result
-            ≡ option_map (λ (basis : Basis). view_of basis request.now moment)
-            (basis_under self.now request.now key.now) }
+            ≡ option_map (seen_of request.now moment) (basis_under self.now request.now key.now) }
     {
         let member = self.member_named(&key.member)?;
         let (keys, bookings) = (&self.keys, &self.bookings);
@@ -64,8 +64,8 @@ impl Club {
             Some(number) => recorded_booking(keys, bookings, &member.name, &key.name, number),
             None => None,
         };
-        Some(View {
-            key: *key,
+        let view = View {
+            key: key.row(),
             spent: spent(keys, bookings, &member.name, &key.name),
             member,
             balance: balance(keys, bookings, &member),
@@ -74,13 +74,16 @@ impl Club {
             taken: u64::from(taken),
             closed,
             booking,
-        })
+        };
+        Some(KeyView { key: *key, view })
     }
 
     /// The view of a request under the key that its pass names; `None` if the key is unknown.
-    pub(crate) fn view_for(&self, words: &Words, moment: Moment) -> Option<View>
-        ensures value { result ≡ view_for self.now (words_model words.now) moment }
-        ensures few { IfSome result (λ view. view.taken ≤ 50) }
+    pub(crate) fn view_for(&self, words: &Words, moment: Moment) -> Option<KeyView>
+        ensures value { result
+            ≡ option_map (seen_of words.now.request moment)
+            (basis_of self.now (words_model words.now)) }
+        ensures few { IfSome result (λ seen. seen.view.taken ≤ 50) }
     {
         let name = words.key()?;
         match self.key_named(&name) {

@@ -29,6 +29,13 @@ pub struct Words {
     pub request: Request,
 }
 
+/// A key with its view of a request.
+#[derive(Clone, Copy, Debug, PartialEq, Eq)]
+pub struct KeyView {
+    pub key: Key,
+    pub view: View,
+}
+
 impl Pass {
     ghost use Rattle.pass_caveats.specs.Fault.{first_fault_of};
     ghost use Rattle.club_core.specs.Pass.{is_signed_under};
@@ -63,9 +70,8 @@ impl Pass {
 }
 
 impl Words {
-    ghost use Rattle.club_core.specs.Answer.{answer_to};
     ghost use Rattle.club_core.specs.Basis.{key_of};
-    ghost use Rattle.club_reference.specs.Words.{IsModelOf};
+    ghost use Rattle.club_reference.specs.Words.{IsModelOf, answer_seen};
     ghost use Rattle.club_reference.specs.computed.Words.{words_model};
 
     /// The key that the pass names; `None` if the text isn't a pass, or its identifier names no
@@ -79,28 +85,28 @@ impl Words {
         }
     }
 
-    /// The answer by that key's view of the request, with its change; `view` is `None` if the club
-    /// has no such key.
-    pub fn answer(&self, view: Option<&View>, moment: Moment) -> Verdict
+    /// The answer by that key and its view of the request, with its change; `seen` is `None` if the
+    /// club has no such key.
+    pub fn answer(&self, seen: Option<&KeyView>, moment: Moment) -> Verdict
         ensures { (model : rules.Words) × IsModelOf self.now model
-            × (result ≡ answer_to model.pass model.request moment (option_copied view.entry)) }
+            × (result ≡ answer_seen model.pass model.request moment (option_copied seen.entry)) }
     {
         models_words();
-        self.verdict(view, moment)
+        self.verdict(seen, moment)
     }
 
     /// The answer, by the model that is computed from the words.
-    pub(crate) fn verdict(&self, view: Option<&View>, moment: Moment) -> Verdict
+    pub(crate) fn verdict(&self, seen: Option<&KeyView>, moment: Moment) -> Verdict
         ensures { result
-            ≡ answer_to (words_model self.now).pass self.now.request moment
-            (option_copied view.entry) }
+            ≡ answer_seen (words_model self.now).pass self.now.request moment
+            (option_copied seen.entry) }
     {
         match &self.pass {
             Err(fault) => Verdict::refuse(fault.refusal()),
-            Ok(pass) => match view {
+            Ok(pass) => match seen {
                 None => answer(None, false, None, &self.request, moment),
-                Some(view) => {
-                    let is_signed = pass.is_signed_under(&view.key, moment);
+                Some(KeyView { key, view }) => {
+                    let is_signed = pass.is_signed_under(key, moment);
                     let fault = pass.first_fault(&view.ask(&self.request, moment));
                     answer(Some(view), is_signed, fault, &self.request, moment)
                 }

@@ -1,15 +1,15 @@
 -- The rows that the values of columns represent (ours).
-use Rattle.std.specs.Prelude.{◌≡◌, ℕ, ◌≤◌, ℤ, pos, Bool, true, false, List, None}
+use Rattle.std.specs.Prelude.{◌≡◌, ℕ, ◌≤◌, ℤ, pos, Bool, true, false, List}
 use Rattle.club_values.specs.declared.slot.Slot.{Slot}
 use Rattle.club_values.specs.Kind.{kind_text}
 use Rattle.club_rows.specs.declared.booking.Booking.{Booking}
 use Rattle.club_rows.specs.declared.booking.BookingColumns.{BookingColumns}
 use Rattle.club_rows.specs.declared.facility.Facility.{Facility}
 use Rattle.club_rows.specs.declared.facility.FacilityColumns.{FacilityColumns}
-use Rattle.club_rows.specs.declared.key.Key.{Key}
+use Rattle.club_rows.specs.declared.key.KeyRow.{KeyRow}
 use Rattle.club_rows.specs.declared.member.Member.{Member}
 use Rattle.club_rows.specs.Limits.{charge_limit}
-use Rattle.club_rows.specs.Rows.{IsMember, IsFacility, IsKey, IsSlot, IsBooking}
+use Rattle.club_rows.specs.Rows.{IsMember, IsFacility, IsKeyRow, IsSlot, IsBooking}
 
 abbrev pub truth : Bool → ℕ
 truth false = 0
@@ -33,13 +33,11 @@ pub record IsFacilityOf (columns : FacilityColumns) (facility : Facility) : Type
   pub same_opens : columns.opens ≡ pos facility.opens
   pub same_shuts : columns.shuts ≡ pos facility.shuts
 
--- without an older root, which these columns don't hold
-pub record IsKeyOf (name member root : List ℕ) (revoked : ℤ) (key : Key) : Type 0 where
-  pub row : IsKey key
+pub record IsKeyOf (name member root : List ℕ) (revoked : ℤ) (key : KeyRow) : Type 0 where
+  pub row : IsKeyRow key
   pub same_name : name ≡ key.name
   pub same_member : member ≡ key.member
   pub same_root : root ≡ key.root
-  pub no_older : key.older ≡ None
   pub same_revoked : IsTruth revoked key.revoked
 
 pub record IsSlotOf (facility : List ℕ) (day hour : ℤ) (slot : Slot) : Type 0 where

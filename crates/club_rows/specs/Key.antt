@@ -1,8 +1,18 @@
--- The older root of a key (ours).
+-- The two parts of a key: its row, and its older root (ours).
 use Rattle.std.specs.Prelude.{ℕ, nat_lt, List, Option, Some, None, if◌then◌else◌}
+use Rattle.club_rows.specs.declared.key.Key.{Key}
+use Rattle.club_rows.specs.declared.key.KeyRow.{KeyRow}
 use Rattle.club_rows.specs.declared.key.OlderRoot.{OlderRoot}
 
 -- the older root, if the moment is strictly earlier than its end
 abbrev pub older_root_at : Option OlderRoot → ℕ → Option (List ℕ)
 older_root_at None moment = None
 older_root_at (Some older) moment = if nat_lt moment older.until then Some older.root else None
+
+-- a key's row, without its older root
+abbrev pub row_of_key : Key → KeyRow
+row_of_key key = record { name = key.name; member = key.member; root = key.root; revoked = key.revoked }
+
+-- the key of a row and its older root
+abbrev pub key_of_row : KeyRow → Option OlderRoot → Key
+key_of_row row older = record { name = row.name; member = row.member; root = row.root; older = older; revoked = row.revoked }

@@ -8,6 +8,7 @@ use Rattle.club_values.specs.Moment.{IsMoment}
 use Rattle.club_rows.specs.declared.member.Member.{Member}
 use Rattle.club_rows.specs.declared.facility.Facility.{Facility}
 use Rattle.club_rows.specs.declared.key.Key.{Key}
+use Rattle.club_rows.specs.declared.key.KeyRow.{KeyRow}
 use Rattle.club_rows.specs.declared.key.OlderRoot.{OlderRoot}
 use Rattle.club_rows.specs.declared.booking.Booking.{Booking}
 use Rattle.club_rows.specs.Limits.{credited_limit, quota_limit, places_limit, price_limit, shutting_limit, charge_limit, left_limit, IsBookingNumber, IsGuests}
@@ -29,6 +30,11 @@ pub record IsFacility (facility : Facility) : Type 0 where
 pub record IsOlderRoot (older : OlderRoot) : Type 0 where
   pub root : IsRoot older.root
   pub until : IsMoment older.until
+
+pub record IsKeyRow (row : KeyRow) : Type 0 where
+  pub name : IsName row.name
+  pub member : IsName row.member
+  pub root : IsRoot row.root
 
 pub record IsKey (key : Key) : Type 0 where
   pub name : IsName key.name

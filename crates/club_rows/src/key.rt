@@ -16,6 +16,36 @@ pub struct OlderRoot {
     pub until: Moment,
 }
 
+/// A key's row in the table of keys, without its older root.
+#[derive(Clone, Copy, Debug, PartialEq, Eq)]
+pub struct KeyRow {
+    pub name: Name,
+    pub member: Name,
+    pub root: Root,
+    pub revoked: bool,
+}
+
+impl KeyRow {
+    ghost use Rattle.club_rows.specs.Columns.{IsKeyOf};
+
+    /// The row of the columns `name`, `member`, `root` and `revoked`; `None` if a value is outside
+    /// its limits.
+    pub fn from_columns(name: &[u8], member: &[u8], root: &[u8], revoked: i64) -> Option<KeyRow>
+        ensures { Reads (IsKeyOf name.now member.now root.now revoked) result }
+    {
+        let name = Name::read(name)?;
+        let member = Name::read(member)?;
+        let root = Root::new(root)?;
+        let revoked = truth_of(revoked)?;
+        Some(KeyRow {
+            name,
+            member,
+            root,
+            revoked,
+        })
+    }
+}
+
 /// A key of a member, which its passes name.
 #[derive(Clone, Copy, Debug, PartialEq, Eq)]
 pub struct Key {
@@ -28,8 +58,32 @@ pub struct Key {
 }
 
 impl Key {
-    ghost use Rattle.club_rows.specs.Columns.{IsKeyOf};
-    ghost use Rattle.club_rows.specs.Key.{older_root_at};
+    ghost use Rattle.club_rows.specs.Key.{key_of_row, older_root_at, row_of_key};
+
+    /// The key of a row and its older root; `None` if the key was never rotated.
+    pub fn new(row: KeyRow, older: Option<OlderRoot>) -> Key
+        ensures { result ≡ key_of_row row older }
+    {
+        Key {
+            name: row.name,
+            member: row.member,
+            root: row.root,
+            older,
+            revoked: row.revoked,
+        }
+    }
+
+    /// Its row, without the older root.
+    pub fn row(&self) -> KeyRow
+        ensures { result ≡ row_of_key self.now }
+    {
+        KeyRow {
+            name: self.name,
+            member: self.member,
+            root: self.root,
+            revoked: self.revoked,
+        }
+    }
 
     /// The older root, if it is good at the moment: if the moment is strictly earlier than its end.
     /// The key's own root is always good.
@@ -40,23 +94,5 @@ impl Key {
             Some(older) if moment.number() < older.until.number() => Some(&older.root),
             _ => None,
         }
-    }
-
-    /// The key of the columns `name`, `member`, `root` and `revoked`, without an older root; `None`
-    /// if a value is outside its limits.
-    pub fn from_columns(name: &[u8], member: &[u8], root: &[u8], revoked: i64) -> Option<Key>
-        ensures { Reads (IsKeyOf name.now member.now root.now revoked) result }
-    {
-        let name = Name::read(name)?;
-        let member = Name::read(member)?;
-        let root = Root::new(root)?;
-        let revoked = truth_of(revoked)?;
-        Some(Key {
-            name,
-            member,
-            root,
-            older: None,
-            revoked,
-        })
     }
 }

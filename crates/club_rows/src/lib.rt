@@ -17,6 +17,6 @@ pub use club_values::MAX_GUESTS;
 pub use columns::slot_from_columns;
 pub use facility::{Facility, FacilityColumns, LAST_HOUR, MAX_PLACES, MAX_PRICE};
 pub use guests::Guests;
-pub use key::{Key, OlderRoot};
+pub use key::{Key, KeyRow, OlderRoot};
 pub use member::{MAX_CREDITED, MAX_QUOTA, Member};
 pub use root::{MAX_ROOT_LEN, MIN_ROOT_LEN, Root};

@@ -4,6 +4,7 @@ use Rattle.std.specs.Prelude.{find, Contains, option_map, option_and_then}
 use Rattle.std.specs.Str.{bytes_eq}
 use Rattle.std.proofs.lemmas.Slice.Eq.{bytes_eq-Decides}
 use Rattle.club_rows.specs.declared.key.Key.{Key}
+use Rattle.club_rows.specs.declared.key.KeyRow.{KeyRow}
 use Rattle.club_rows.specs.declared.key.OlderRoot.{OlderRoot}
 use Rattle.club_rows.specs.declared.member.Member.{Member}
 use Rattle.club_core.specs.declared.request.Request.{Request}
@@ -13,7 +14,7 @@ use Rattle.club_core.specs.declared.account.MemberAccount.{MemberAccount}
 use Rattle.club_core.specs.Request.{request_number, request_slot}
 use Rattle.club_core.specs.Basis.{account_named, club_account, state_of, view_in}
 use Rattle.club_core.specs.Sums.{balance_of, booking_under, count_to_come, spent_under}
-use Rattle.club_core.specs.KeyParts.{row_alone}
+use Rattle.club_rows.specs.Key.{key_of_row, row_of_key}
 
 -- what is found is an element, and passes
 pub found : {X : Type 0} (p : X → Bool) (xs : List X) (x : X) → find p xs ≡ Some x → Contains xs x × (p x ≡ true)
@@ -41,7 +42,7 @@ accounted club (Some member) account h =
 -- the view by all bookings of a key is that by the bookings of its member
 pub seen_is : OwnBookings → (club : Club) (name : List ℕ) (key : Key) (account : MemberAccount) (request : Request) (moment : ℕ)
     → key_named name club ≡ Some key → Some account ≡ account_named key.member club → view_in club name request moment ≡ Some (record {
-      key = key;
+      key = row_of_key key;
       spent = spent_under key.name club.bookings;
       member = account.member;
       balance = account.balance;
@@ -65,14 +66,10 @@ seen_is law club name key account request moment named owned =
     let balance = member.1 in
     rw (named, found_member) (cc)
 
--- a key's row that was found without its older root is that of the key
-pub of_row_alone : (found : Option Key) (key : Key) → Some key ≡ option_map row_alone found → (row : Key) × (found ≡ Some row) × (key ≡ row_alone row)
-of_row_alone None key h = absurd cc
-of_row_alone (Some row) key h = let e : key ≡ row_alone row = cc in (row, refl, e)
-
--- with its older root it is the key
-pub with_older : (row key : Key) (older : Option OlderRoot) → key ≡ row_alone row → older ≡ row.older
-    → ◌≡◌ {A = Key} (record { name = key.name; member = key.member; root = key.root; older = older; revoked = key.revoked }) row
-with_older row key older is same =
-    ap (λ (k : Key). let r : Key = record { name = k.name; member = k.member; root = k.root; older = older; revoked = k.revoked } in r) is
-    ∙ ap (λ o. let r : Key = record { name = row.name; member = row.member; root = row.root; older = o; revoked = row.revoked } in r) same
+-- the row that was found, with the older root that was found, is the key
+pub with_older : (found : Option Key) (row : KeyRow) (older : Option OlderRoot) → Some row ≡ option_map row_of_key found
+    → older ≡ option_and_then (λ (k : Key). k.older) found → Some (key_of_row row older) ≡ found
+with_older None row older h e = absurd cc
+with_older (Some key) row older h e =
+    let is : row ≡ row_of_key key = cc in
+    ap (λ (r : KeyRow). Some (key_of_row r older)) is ∙ ap (λ (o : Option OlderRoot). Some (key_of_row (row_of_key key) o)) e

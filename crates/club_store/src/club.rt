@@ -2,7 +2,7 @@
 
 use crate::store::Store;
 use club_core::{Change, ClubStore, MemberAccount, SlotUse, StoreFault};
-use club_rows::{Booking, BookingNumber, Facility, Key, OlderRoot};
+use club_rows::{Booking, BookingNumber, Facility, KeyRow, OlderRoot};
 use club_values::{Day, Moment, Name, Slot};
 use sqlite::Alter;
 
@@ -18,7 +18,7 @@ impl<S: Alter> ClubStore for Store<S> {
 
     ghost fails = { Fails S.Store };
 
-    fn key_row(&mut self, name: &Name) -> Result<Option<Key>, StoreFault> {
+    fn key_row(&mut self, name: &Name) -> Result<Option<KeyRow>, StoreFault> {
         self.tables.key(name)
     }
 

@@ -203,17 +203,11 @@ impl<S: Alter> Store<S> {
             (λ club key. key ≡ key_named name.now club) }
         ensures limits { IfOk result (λ key. IfSome key IsKey) }
     {
-        let Some(key) = self.tables.key(name)? else {
+        let Some(row) = self.tables.key(name)? else {
             return Ok(None);
         };
         let older = self.tables.older_root(name)?;
-        Ok(Some(Key {
-            name: key.name,
-            member: key.member,
-            root: key.root,
-            older,
-            revoked: key.revoked,
-        }))
+        Ok(Some(Key::new(row, older)))
     }
 
     /// The member of this name; `None` if there is none. A row out of its limits is a fault of
@@ -357,7 +351,7 @@ impl<S: Alter> Store<S> {
         let SlotUse { taken, closed } = self.use_for(request)?;
         let booking = self.booking_for(&key.name, request)?;
         Ok(Some(View {
-            key,
+            key: key.row(),
             spent,
             member: account.member,
             balance: account.balance,

@@ -1,7 +1,7 @@
 //! The rows of a small club, from plain values: amy with quota 5, her keys, two facilities, and
 //! bookings under `amy-1`.
 
-use club_rows::{Booking, BookingNumber, Facility, Key, Member, OlderRoot, Root};
+use club_rows::{Booking, BookingNumber, Facility, Key, KeyRow, Member, OlderRoot, Root};
 use club_values::{Day, Moment, Name, Slot};
 use std::process::Abort;
 use test_kit::roots::ROOT;
@@ -114,9 +114,9 @@ pub(crate) fn key(rt: &impl Abort, kept: &Kept) -> Key {
     }
 }
 
-pub(crate) fn key_of(rt: &impl Abort, kept: &Option<Kept>) -> Option<Key> {
+pub(crate) fn key_row_of(rt: &impl Abort, kept: &Option<Kept>) -> Option<KeyRow> {
     match kept {
-        Some(kept) => Some(key(rt, kept)),
+        Some(kept) => Some(key(rt, kept).row()),
         None => None,
     }
 }

@@ -7,7 +7,6 @@ use crate::rows::{
 };
 use crate::write::{Write, change};
 use club_core::{Change, ClubStore, MemberAccount, Request, SlotUse, StoreFault, View, sheet_text};
-use club_rows::Key;
 use club_store::Store;
 use sqlite::{Alter, Connection, MemStore};
 use std::alloc::Global;
@@ -83,11 +82,7 @@ fn shows_member<C: ClubStore>(rt: &impl Abort, store: &mut C, credited: Option<u
 
 pub(crate) fn shows_key<C: ClubStore>(rt: &impl Abort, store: &mut C, kept: &Kept) {
     let want = key(rt, kept);
-    let row = Key {
-        older: None,
-        ..want
-    };
-    expect_eq(rt, &store.key_row(&want.name), &Ok(Some(row)));
+    expect_eq(rt, &store.key_row(&want.name), &Ok(Some(want.row())));
     expect_eq(rt, &store.older_root(&want.name), &Ok(want.older));
 }
 

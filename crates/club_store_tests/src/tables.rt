@@ -2,7 +2,7 @@
 
 use crate::expect::expect_eq;
 use crate::rows::{
-    AMY_1, Kept, Older, booking_of, day, facility_of, key_of, member_of, moment, name, number,
+    AMY_1, Kept, Older, booking_of, day, facility_of, key_row_of, member_of, moment, name, number,
     older_root_of, slot,
 };
 use crate::write::{Write, change};
@@ -166,7 +166,7 @@ impl Played {
 
     fn expects_key(&mut self, rt: &impl Abort, key: &str, kept: &Option<Kept>) {
         let found = self.tables.key(&name(rt, key));
-        expect_eq(rt, &found, &Ok(key_of(rt, kept)));
+        expect_eq(rt, &found, &Ok(key_row_of(rt, kept)));
     }
 
     fn expects_older_root(&mut self, rt: &impl Abort, key: &str, older: &Option<Older>) {

@@ -9,11 +9,12 @@ use Rattle.sqlite.specs.Held.{Held, state}
 use Rattle.club_values.specs.Moment.{minutes_a_day}
 use Rattle.club_values.specs.declared.slot.Slot.{Slot}
 use Rattle.club_rows.specs.declared.facility.Facility.{Facility}
-use Rattle.club_rows.specs.declared.key.Key.{Key}
+use Rattle.club_rows.specs.declared.key.KeyRow.{KeyRow}
 use Rattle.club_rows.specs.declared.key.OlderRoot.{OlderRoot}
 use Rattle.club_rows.specs.declared.booking.Booking.{Booking}
+use Rattle.club_rows.specs.Key.{key_of_row}
 use Rattle.club_rows.specs.Limits.{places_limit}
-use Rattle.club_rows.specs.Rows.{IsFacility, IsKey, IsOlderRoot, IsBooking}
+use Rattle.club_rows.specs.Rows.{IsFacility, IsKeyRow, IsOlderRoot, IsBooking}
 use Rattle.club_core.specs.declared.slot_use.SlotUse.{SlotUse}
 use Rattle.club_core.specs.declared.store.StoreFault.{StoreFault}
 use Rattle.club_core.specs.declared.store.StoreFault.TheVariants.{Memory, Storage}
@@ -38,8 +39,8 @@ use Rattle.club_tables.specs.Transaction.{BoundStatement, Asked, IsUntouched}
 use Rattle.club_tables.specs.Fault.{FailsToAsk}
 
 -- the row decodes to a value: the value is within its limits, and the row has its columns
-abbrev pub IsKeyIn : Row → Key → Type 0
-IsKeyIn row key = IsKey key × (key.older ≡ None) × HasValues row (key_values key)
+abbrev pub IsKeyIn : Row → KeyRow → Type 0
+IsKeyIn row key = IsKeyRow key × HasValues row (key_values (key_of_row key None))
 
 abbrev pub IsOlderRootIn : Row → OlderRoot → Type 0
 IsOlderRootIn row older = IsOlderRoot older × HasValues row (older_root_values older)
@@ -124,7 +125,7 @@ reading_statement (OfOpen member moment) = (OPEN.now, Text member ∷ whole mome
 
 -- which rows it can decode
 abbrev pub CanRead : Reading → List Row → Type 0
-CanRead (OfKey name) rows = (found : Option Key) × IsFirst IsKeyIn rows found
+CanRead (OfKey name) rows = (found : Option KeyRow) × IsFirst IsKeyIn rows found
 CanRead (OfOlderRoot key) rows = (found : Option OlderRoot) × IsFirst IsOlderRootIn rows found
 CanRead (OfMember name) rows = (found : Option MemberRow) × IsFirst IsMemberIn rows found
 CanRead (OfFacility name) rows = (found : Option Facility) × IsFirst IsFacilityIn rows found

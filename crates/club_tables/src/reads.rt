@@ -7,10 +7,11 @@ ghost use Rattle.sqlite_value.specs.Order.{Row as Values};
 ghost use Rattle.sqlite.specs.Values.{bound};
 ghost use Rattle.sqlite.specs.State.{HasCleanDisk, Survives};
 ghost use Rattle.sqlite.specs.Held.{state};
-ghost use Rattle.club_rows.specs.Rows.{IsFacility, IsKey, IsOlderRoot, IsBooking};
+ghost use Rattle.club_rows.specs.Key.{row_of_key};
+ghost use Rattle.club_rows.specs.Rows.{IsFacility, IsKeyRow, IsOlderRoot, IsBooking};
 ghost use Rattle.club_core.specs.Club.{bookings_of, key_named, member_named, facility_named};
 ghost use Rattle.club_core.specs.Basis.{slot_use};
-ghost use Rattle.club_core.specs.KeyParts.{older_root_of, row_alone};
+ghost use Rattle.club_core.specs.KeyParts.{older_root_of};
 ghost use Rattle.club_core.specs.Sheet.{AreRowsOf};
 ghost use Rattle.club_core.specs.Sums.{booking_under, count_to_come, spent_under};
 ghost use Rattle.club_tables.specs.ReadsAndChanges.{ReadsClub};
@@ -49,7 +50,7 @@ use crate::row::{FromRows, MemberRow, bookings_in};
 use crate::tables::Tables;
 use crate::texts;
 use club_core::{SlotUse, StoreFault};
-use club_rows::{Booking, BookingNumber, Facility, Key, OlderRoot};
+use club_rows::{Booking, BookingNumber, Facility, KeyRow, OlderRoot};
 use club_values::{Day, Moment, Name, Slot};
 use sqlite::types::ValueRef;
 use sqlite::{Alter, params};
@@ -85,13 +86,13 @@ impl<S: Alter> Tables<S> {
         }
     }
 
-    /// The key of this name, without its older root; `None` if there is none.
-    pub fn key(&mut self, name: &Name) -> Result<Option<Key>, StoreFault>
+    /// The row of the key of this name; `None` if there is none.
+    pub fn key(&mut self, name: &Name) -> Result<Option<KeyRow>, StoreFault>
         ensures reads { ReadsClub S.Store self.old self.new result
-            (λ club key. key ≡ option_map row_alone (key_named name.now club)) }
+            (λ club key. key ≡ option_map row_of_key (key_named name.now club)) }
         ensures gives { Answers S.Store (reading_statement (OfKey name.now)) (IsFirst IsKeyIn)
             self.old self.new result }
-        ensures limits { IfOk result (λ key. IfSome key IsKey) }
+        ensures limits { IfOk result (λ key. IfSome key IsKeyRow) }
     {
         self.answer(texts::KEY, &[ValueRef::Text(name.as_bytes())])
     }

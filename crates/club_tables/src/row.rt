@@ -23,7 +23,7 @@ ghost use Rattle.club_tables.specs.Columns.{whole, text_in, bytes_in, integer_in
 
 use club_core::{SlotUse, StoreFault};
 use club_rows::{
-    Booking, BookingColumns, Facility, FacilityColumns, Key, MAX_CREDITED, MAX_PLACES, Member,
+    Booking, BookingColumns, Facility, FacilityColumns, KeyRow, MAX_CREDITED, MAX_PLACES, Member,
     OlderRoot, Root,
 };
 use club_values::Moment;
@@ -166,14 +166,13 @@ impl FromRow for MemberRow {
     }
 }
 
-impl FromRow for Key {
+impl FromRow for KeyRow {
     ghost use Rattle.club_tables.specs.Answers.{IsKeyIn};
 
     ghost yields = { IsKeyIn };
 
-    /// A key's row, without its older root.
-    fn from_row(row: &Row) -> Option<Key> {
-        Key::from_columns(
+    fn from_row(row: &Row) -> Option<KeyRow> {
+        KeyRow::from_columns(
             text_at(row, 0)?,
             text_at(row, 1)?,
             bytes_at(row, 2)?,

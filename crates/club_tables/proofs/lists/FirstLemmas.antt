@@ -9,12 +9,13 @@ use Rattle.club_values.specs.Kind.{kind_text}
 use Rattle.club_rows.specs.Columns.{truth}
 use Rattle.club_rows.specs.declared.facility.Facility.{Facility}
 use Rattle.club_rows.specs.declared.key.Key.{Key}
+use Rattle.club_rows.specs.declared.key.KeyRow.{KeyRow}
 use Rattle.club_rows.specs.declared.key.OlderRoot.{OlderRoot}
 use Rattle.club_rows.specs.declared.booking.Booking.{Booking}
 use Rattle.club_tables.specs.declared.row.MemberRow.{MemberRow}
 use Rattle.club_tables.specs.Answers.{IsFirst, IsKeyIn, IsOlderRootIn, IsMemberIn, IsFacilityIn, IsBookingIn, IsBookingNamed}
 use Rattle.club_tables.specs.Columns.{HasValues, key_values, older_root_values, member_values, facility_values, booking_values}
-use Rattle.club_core.specs.KeyParts.{row_alone}
+use Rattle.club_rows.specs.Key.{key_of_row, row_of_key}
 use Rattle.club_tables.proofs.lists.BookingRows.{truths, one_booking}
 
 -- a property of each value that a row yields holds of the result
@@ -43,18 +44,18 @@ same_option : {X : Type 0} (o : Option X) → option_map (λ (x : X). x) o ≡ o
 same_option None = refl
 same_option (Some x) = refl
 
-key_values_are : (a b : Key) → b.older ≡ None → HasValues (key_values a) (key_values b) → b ≡ row_alone a
-key_values_are a b older h =
+key_values_are : (a : Key) (b : KeyRow) → HasValues (key_values a) (key_values (key_of_row b None)) → b ≡ row_of_key a
+key_values_are a b h =
     let flags : truth b.revoked ≡ truth a.revoked = cc in
     let name : b.name ≡ a.name = cc in
     let member : b.member ≡ a.member = cc in
     let root : b.root ≡ a.root = cc in
     let revoked = truths b.revoked a.revoked flags in
-    λ i. record { name = name i; member = member i; root = root i; older = older i; revoked = revoked i }
+    λ i. record { name = name i; member = member i; root = root i; revoked = revoked i }
 
-pub key_first : (held : Option Key) (rows : List Row) (found : Option Key) → rows ≡ map key_values (option_to_list held) → IsFirst IsKeyIn rows found
-    → found ≡ option_map row_alone held
-key_first held rows found is first = first_of key_values row_alone IsKeyIn (λ a b yielded. key_values_are a b yielded.1 yielded.2) held rows found is first
+pub key_first : (held : Option Key) (rows : List Row) (found : Option KeyRow) → rows ≡ map key_values (option_to_list held) → IsFirst IsKeyIn rows found
+    → found ≡ option_map row_of_key held
+key_first held rows found is first = first_of key_values row_of_key IsKeyIn (λ a b yielded. key_values_are a b yielded.1) held rows found is first
 
 older_values_are : (a b : OlderRoot) → HasValues (older_root_values a) (older_root_values b) → b ≡ a
 older_values_are a b h =

@@ -5,7 +5,7 @@ use Rattle.club_core.specs.declared.request.Request.{Request}
 use Rattle.club_core.specs.declared.view.View.{View}
 use Rattle.club_core.specs.Club.{IsSound}
 use Rattle.club_gate.proofs.Reading.{last_view, of_new_booking, of_repeat, with_member}
-use Rattle.club_gate.proofs.RowsAlone.{last_reads}
+use Rattle.club_gate.proofs.ShortViews.{last_reads}
 use Rattle.club_gate.proofs.desk.Desk.last_view.Goals as goal
 
 pub returns-in_ok-view-in-View : goal.returns-in_ok-view-in-View

@@ -26,5 +26,5 @@ returns-in-Err g c = record {
       let found = c.in_ok-key.ensures.returned was_clean club others represents pass fields in
       let sound = All-head IsSound club others (g.met.S.ClubStore.sound c.args.self.now club others represents) in
       c.refuse.ensures
-      ∙ refused_by_row club pass c.args.request.now c.args.moment c.views_decide.ensures sound c.in-Err.refusal (sym found ∙ c.in-Err.is);
+      ∙ refused_by_row club pass c.args.request.now c.args.moment sound c.in-Err.refusal (sym found ∙ c.in-Err.is);
 }

@@ -2,8 +2,7 @@ use Rattle.std.proofs.Common.{◌∙◌, rules}
 use Rattle.std.proofs.lemmas.List.Elements.{All-head}
 use Rattle.std.specs.Option.{option_copied}
 use Rattle.club_core.specs.Club.{IsSound}
-use Rattle.club_gate.proofs.RowsAlone.{decided, signer_reads}
-use Rattle.club_gate.proofs.ShortViews.{refused}
+use Rattle.club_gate.proofs.ShortViews.{decided, refused, signer_reads}
 use Rattle.club_gate.proofs.Spending.{on_record}
 use Rattle.club_gate.proofs.desk.Desk.verdict_under.Goals as goal
 
