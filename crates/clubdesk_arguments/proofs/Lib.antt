@@ -1,4 +1,3 @@
 pub mod ValueLemmas
 pub mod WordsLemmas
-pub mod WordLaws
 pub mod ReaderLemmas

@@ -1,7 +1,6 @@
 -- The values that words spell, beside those of the club's own texts (ours).
-use Rattle.std.specs.Prelude.{ℕ, ◌&&◌, List, length, nat_le, if◌then◌else◌, Option, Some, None, Result, Ok, Err}
-use Rattle.hex.specs.Hex.{decode_of}
-use Rattle.hex.specs.declared.error.FromHexError.{FromHexError}
+use Rattle.std.specs.Prelude.{ℕ, ◌&&◌, List, length, nat_le, if◌then◌else◌, Option, Some, None, option_and_then}
+use Rattle.command_line.specs.Root.{root_of}
 use Rattle.club_values.specs.Number.{number_of_digits}
 use Rattle.club_rows.specs.Limits.{max_root_len, min_root_len}
 
@@ -28,10 +27,6 @@ patience_of text = where_between 1 3_600 (parse_number text)
 abbrev pub has_key_root_length : List ℕ → Option (List ℕ)
 has_key_root_length bytes = if nat_le min_root_len (length bytes) && nat_le (length bytes) max_root_len then Some bytes else None
 
-abbrev pub key_root_among : Result (List ℕ) FromHexError → Option (List ℕ)
-key_root_among (Ok bytes) = has_key_root_length bytes
-key_root_among (Err e) = None
-
 -- the root of 16 to 64 bytes that the text spells in hexadecimal, in either case of letters
 unfoldable pub key_root_of : List ℕ → Option (List ℕ)
-key_root_of text = key_root_among (decode_of text)
+key_root_of text = option_and_then has_key_root_length (root_of text)

@@ -33,12 +33,9 @@ abbrev pub ◌>>=◌ : {A B : Type 0} → Option A → (A → Option B) → Opti
 Some x >>= f = f x
 None >>= f = None
 
--- the word or the value of this name: as a text, and as a number
-abbrev pub word_in : Text → List Row → Text
-word_in id rows = value_in id rows
-
+-- the word or the value of this name, as a number
 abbrev pub number_value : Text → List Row → Option ℕ
-number_value id rows = parse_number (word_in id rows)
+number_value id rows = parse_number (value_in id rows)
 
 -- a key's order with the root of its word, or without the word as it waits for one
 abbrev pub key_work : KeyOrder → Option Text → Option Work
@@ -49,7 +46,7 @@ key_work order (Some word) = do
 
 -- the last word of a rotation, which is the moment, and the word before it, which is the root's, where there are two
 abbrev pub moment_word_in : List Row → Text
-moment_word_in rows = unwrap_or (first_of (codes "MOMENT") rows) (word_in (codes "ROOT") rows)
+moment_word_in rows = unwrap_or (first_of (codes "MOMENT") rows) (value_in (codes "ROOT") rows)
 
 abbrev pub rotation_word_in : List Row → Option Text
 rotation_word_in rows = option_and_then (λ (moment : Text). first_of (codes "ROOT") rows) (first_of (codes "MOMENT") rows)
@@ -84,7 +81,7 @@ over_file file (Ok work) = Ok (record { file = file; work = work })
 module _ (read : Readers) where
   -- the word of this name, as a name
   abbrev pub name_value : Text → List Row → Option Text
-  name_value id rows = read.name (word_in id rows)
+  name_value id rows = read.name (value_in id rows)
 
   abbrev pub add_member_of : List Row → Option Work
   add_member_of rows = do
@@ -101,7 +98,7 @@ module _ (read : Readers) where
   abbrev pub add_facility_of : List Row → Option Work
   add_facility_of rows = do
     name ← name_value (codes "NAME") rows
-    of_kind ← read.kind (word_in (codes "KIND") rows)
+    of_kind ← read.kind (value_in (codes "KIND") rows)
     places ← number_value (codes "PLACES") rows
     price ← number_value (codes "PRICE") rows
     opens ← number_value (codes "OPENS") rows
@@ -128,8 +125,8 @@ module _ (read : Readers) where
   abbrev pub slot_in : List Row → Option Slot
   slot_in rows = do
     facility ← name_value (codes "FACILITY") rows
-    day ← read.day (word_in (codes "DAY") rows)
-    hour ← read.hour (word_in (codes "HOUR") rows)
+    day ← read.day (value_in (codes "DAY") rows)
+    hour ← read.hour (value_in (codes "HOUR") rows)
     Some (record { facility = facility; day = day; hour = hour })
 
   abbrev pub close_slot_of : List Row → Option Work
@@ -139,7 +136,7 @@ module _ (read : Readers) where
 
   abbrev pub sheet_of : List Row → Option Work
   sheet_of rows = do
-    day ← read.day (word_in (codes "DAY") rows)
+    day ← read.day (value_in (codes "DAY") rows)
     Some (Office (Sheet day))
 
   -- the moment that `--at` fixes, else the clock in the zone
@@ -151,17 +148,17 @@ module _ (read : Readers) where
 
   abbrev pub serve_of : List Row → Option Work
   serve_of rows = do
-    port ← port_of (word_in (codes "port") rows)
-    count ← count_of (word_in (codes "count") rows)
-    zone ← zone_of (word_in (codes "zone") rows)
+    port ← port_of (value_in (codes "port") rows)
+    count ← count_of (value_in (codes "count") rows)
+    zone ← zone_of (value_in (codes "zone") rows)
     clock ← clock_of zone (first_of (codes "at") rows)
-    patience ← patience_of (word_in (codes "patience") rows)
+    patience ← patience_of (value_in (codes "patience") rows)
     Some (Serve (record { port = port; count = count; clock = clock; patience = patience; log = is_set (codes "log") rows }))
 
   abbrev pub show_account_of : List Row → Option Work
   show_account_of rows = do
     key ← name_value (codes "KEY") rows
-    zone ← zone_of (word_in (codes "zone") rows)
+    zone ← zone_of (value_in (codes "zone") rows)
     clock ← clock_of zone (first_of (codes "at") rows)
     Some (Office (ShowAccount key clock))
 
@@ -186,7 +183,7 @@ module _ (read : Readers) where
 
   -- the job of a command
   abbrev pub job_of : JobOf CommandName JobModel Unit
-  job_of name rows = over_file (word_in (codes "FILE") rows) (work_named name rows)
+  job_of name rows = over_file (value_in (codes "FILE") rows) (work_named name rows)
 
 -- The results of reading the words of a row, whose values are exactly those that they spell.
 pub record ReadsValues (name : CommandName) (rows : List Row) (result : Result JobModel (WordsFault Unit)) : Type 0 where

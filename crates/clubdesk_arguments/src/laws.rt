@@ -1,20 +1,12 @@
 //! Laws of the definitions. Each law is the contract of a function that does nothing.
 
-ghost use Rattle.clubdesk_arguments.specs.Laws.{AskForOneJob, CommandsTakeTheirWords};
+ghost use Rattle.clubdesk_arguments.specs.Laws.{AskForOneJob};
 ghost use Rattle.clubdesk_arguments.specs.Readers.{ReadExactly};
 ghost use Rattle.clubdesk_arguments.specs.computed.TextReaders.{text_readers};
 
 use crate::task::Job;
 use club_values::laws::{reads_days, reads_hours, reads_kinds, reads_moments, reads_names};
 use command_line::laws::{arguments_ask_once, rows_answer_once};
-
-/// Each command asks for the task of the values that its words and options spell, over its file. A
-/// form that is left out is V2, a zone UTC, a patience ten seconds; there is no log unasked.
-pub fn commands_take_their_words()
-    ensures { CommandsTakeTheirWords }
-{
-    readers_are_exact();
-}
 
 /// Words that ask for a job ask for no other, and have no fault.
 pub fn ask_for_one_job()

@@ -241,5 +241,5 @@ fn sheets(rt: HostRuntime) {
 
 #[test]
 fn laws_hold() {
-    laws::commands_take_their_words();
+    laws::ask_for_one_job();
 }

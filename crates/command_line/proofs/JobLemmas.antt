@@ -1,10 +1,10 @@
 -- Lemmas on the job that arguments ask for.
-use Rattle.std.proofs.Common.{◌≡◌, List, [], Option, Some, None, Result, Ok, Err, inl, inr, refl, ap, subst}
+use Rattle.std.proofs.Common.{◌≡◌, List, [], Option, Some, None, IsSome, Result, Ok, Err, inl, inr, refl, ap, subst}
 use Rattle.clap.specs.Words.{IsAmong, Kinds, Row, Text, fault_of, subcommand_of}
 use Rattle.clap.specs.declared.error.kind.ErrorKind.{ErrorKind}
-use Rattle.command_line.specs.JobLaws.{RowsAnswerOnce, AskOnce, IsOrLacksMemory, ReadsOnce}
+use Rattle.command_line.specs.JobLaws.{RowsAnswerOnce, AskOnce, IsOrLacksMemory, ReadsOnce, WordsNameARow}
 use Rattle.command_line.specs.Job.{ReadsAccepted, ReadsFound, ReadsJob, ReadsRow}
-use Rattle.command_line.specs.Table.{Table, app_of_table, asked, asked_in, refusals}
+use Rattle.command_line.specs.Table.{IsGood, Table, app_of_table, asked, asked_in, refusals}
 use Rattle.command_line.specs.declared.errors.WordsFault.{WordsFault}
 use Rattle.command_line.specs.declared.errors.WordsFault.TheVariants.{Refused, BadValue, Memory}
 use Rattle.command_line.specs.declared.job.Asked.{Asked}
@@ -22,6 +22,9 @@ module _ {C J V : Type 0} (table : Table C) (Reads : ReadsRow C J V) (words : Li
   reads_fault (Refused error) reads = inr (reads_accepted _ reads)
   reads_fault (BadValue value) reads = reads_accepted _ reads
   reads_fault Memory reads = tt
+
+pub row_named : {C : Type 0} (table : Table C) → WordsNameARow C → IsGood table → (words : List Text) → refusals table words ≡ [] → IsSome (asked table words)
+row_named table law good words clear = law table words clear
 
 -- ---- one job
 

@@ -6,4 +6,7 @@ pub mod OptionLemmas
 pub mod WordsLemmas
 pub mod NamedLemmas
 pub mod TableLemmas
+pub mod FoundLemmas
+pub mod GivenLemmas
+pub mod RowLemmas
 pub mod JobLemmas

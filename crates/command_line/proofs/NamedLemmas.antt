@@ -1,12 +1,11 @@
 -- Words that clap reads enter one of a program's commands.
-use Rattle.std.proofs.Common.{◌≡◌, ◌⊎◌, ◌∙◌, inl, inr, ℕ, Bool, true, false, List, [], ◌∷◌, Option, Some, None, is_some, refl, sym, ap, codes, cond, find, fold}
-use Rattle.std.proofs.Common.{not, option_map, ◌&&◌, ◌||◌, ◌++◌}
+use Rattle.std.proofs.Common.{◌≡◌, ℕ, Bool, true, false, List, [], ◌∷◌, Option, Some, None, is_some, refl, codes, cond, fold}
+use Rattle.std.proofs.Common.{not, ◌&&◌}
 use Rattle.std.specs.Str.{bytes_eq}
-use Rattle.std.proofs.lemmas.Slice.Eq.{bytes_eq-Decides}
-use Rattle.clap.specs.Words.{App, Kinds, Row, Rule, Shape, Text, built}
+use Rattle.clap.specs.Words.{App, Kinds, Row, Rule, Shape, Text}
 use Rattle.clap.specs.Kinds.{check_kinds, or_else}
-use Rattle.clap.specs.Simple.{argument_words, entered, label_of, names_of, rows_at}
-use Rattle.clap.specs.Walk.{Held, Names, Outcome, Step, Waiting, Walk, after_flag, after_step, answers_to, done, idle, long_or_other, next, nothing_held}
+use Rattle.clap.specs.Simple.{entered, names_of}
+use Rattle.clap.specs.Walk.{Held, Names, Outcome, Step, Waiting, Walk, after_flag, after_step, done, idle, long_or_other, next, nothing_held}
 use Rattle.clap.specs.Walk.{option, plain, plain_word, positional, refused, short_or_plain, stop_after, subcommand_met, subcommand_or_other, to_positional}
 use Rattle.clap.specs.Walk.{trailing, value, waits, walk, walk_from, walked, word_met}
 use Rattle.clap.specs.Walk.{subcommand as enters}
@@ -17,7 +16,6 @@ use Rattle.clap.specs.Takes.{is_given}
 use Rattle.std.specs.List.{list_any}
 use Rattle.clap.specs.declared.error.kind.ErrorKind.TheVariants.{DisplayHelp, InvalidSubcommand}
 use Rattle.clap.specs.Faults.{built_fault, defaults_fault, entered_fault, settle_fault, check_fault, other_fault, turn_fault, walk_fault, word_fault}
-use Rattle.command_line.specs.Laws.{HasCommands, IsNameAmong, WordsEnterACommand}
 
 -- of two lists of kinds in turn, both are empty where the whole is
 or_else_nil : (a b : Kinds) → or_else a b ≡ [] → (a ≡ []) × (b ≡ [])
@@ -25,7 +23,7 @@ or_else_nil [] b h = (refl, h)
 or_else_nil (k ∷ ks) b h = cc
 
 -- no subcommand was met, or one that isn't `help`
-abbrev StopsNotAtHelp : Option (Text × List Text) → Type 0
+abbrev pub StopsNotAtHelp : Option (Text × List Text) → Type 0
 StopsNotAtHelp None = Unit {0}
 StopsNotAtHelp (Some p) = bytes_eq p.0 (codes "help") ≡ false
 
@@ -108,14 +106,6 @@ module _ (s : Shape) (helps : s.disable_help_subcommand ≡ false) (names : Name
 
 -- ---- after the walk
 
--- of five lists of kinds in turn, the first and the last are empty where the whole is
-ends_nil : (a b c d e : Kinds) → or_else a (or_else b (or_else c (or_else d e))) ≡ [] → (a ≡ []) × (e ≡ [])
-ends_nil [] [] [] [] e h = (refl, h)
-ends_nil [] [] [] (k ∷ d) e h = cc
-ends_nil [] [] (k ∷ c) d e h = cc
-ends_nil [] (k ∷ b) c d e h = cc
-ends_nil (k ∷ a) b c d e h = cc
-
 check_no_subcommand : (help sub arg : Bool) → check_kinds help sub arg ≡ [] → sub ≡ false
 check_no_subcommand true sub arg h = cc
 check_no_subcommand false true arg h = cc
@@ -128,79 +118,16 @@ check_needs s rows false needs clear =
     (not (s.subcommand_negates_reqs && false) && list_any (λ a. a.required && not (is_given a.id rows)) s.rules) clear in
     cc
 
--- a command that needs a subcommand has entered one, which isn't `help`
-enters_command : (a : App) (words : List Text) → a.top.disable_help_subcommand ≡ false → a.top.subcommand_required ≡ true
-    → built_fault a nothing_held words ≡ []
-    → let stop = stop_after a.top.rules (names_of a) words in (is_some (entered a stop) ≡ true) × StopsNotAtHelp stop
-enters_command a words helps needs clear =
+-- a command that needs a subcommand has entered one, and one with `help` among them another than that
+pub enters_command : (a : App) (words : List Text) → a.top.subcommand_required ≡ true → built_fault a nothing_held words ≡ []
+    → let stop = stop_after a.top.rules (names_of a) words in
+    (is_some (entered a stop) ≡ true) × (a.top.disable_help_subcommand ≡ false → StopsNotAtHelp stop)
+enters_command a words needs clear =
     let stop = stop_after a.top.rules (names_of a) words in
     let end = (walk a.top.rules (names_of a) nothing_held words).held in
-    let nil = ends_nil (walk_fault a.top (names_of a) (walk_from nothing_held) words) (entered_fault a stop)
-    (settle_fault a.top.rules a.top.args_override_self end) (defaults_fault (settled a.top.rules end).rows a.top.rules)
-    (check_fault a.top (finished a.top.rules end) (is_some (entered a stop))) clear in
-    (check_needs a.top (finished a.top.rules end) _ needs nil.1, walk_stops a.top helps (names_of a) words (walk_from nothing_held) nil.0 tt)
-
--- the subcommand `help` isn't the one that another name means
-found_among : (name : Text) (help : Shape) (xs : List Shape) → help.name ≡ codes "help" → help.aliases ≡ [] → bytes_eq name (codes "help") ≡ false
-    → find (λ s. answers_to name (label_of s)) (xs ++ help ∷ []) ≡ find (λ s. answers_to name (label_of s)) xs
-found_among name help [] named bare other = go (answers_to name (label_of help)) refl
-  where
-    or_false : (b : Bool) → (b || false) ≡ true → b ≡ true
-    or_false true e = refl
-    or_false false e = e
-
-    go : (b : Bool) → answers_to name (label_of help) ≡ b → cond b (Some help) None ≡ None
-    go false e = refl
-    go true e =
-        let same : codes "help" ≡ name = (bytes_eq-Decides (codes "help") name).0 (or_false _ (rw (named, bare) at e)) in
-        let is : bytes_eq name (codes "help") ≡ true = (bytes_eq-Decides name (codes "help")).1 (sym same) in
-        cc
-found_among name help (x ∷ xs) named bare other = go (answers_to name (label_of x)) (found_among name help xs named bare other)
-  where
-    go : (b : Bool) → find (λ s. answers_to name (label_of s)) (xs ++ help ∷ []) ≡ find (λ s. answers_to name (label_of s)) xs
-        → cond b (Some x) (find (λ s. answers_to name (label_of s)) (xs ++ help ∷ [])) ≡ cond b (Some x) (find (λ s. answers_to name (label_of s)) xs)
-    go true e = refl
-    go false e = e
-
--- ---- the commands of an application
-
-IsOneOf : Shape → List Shape → Type 0
-IsOneOf s [] = ⊥
-IsOneOf s (x ∷ xs) = (s ≡ x) ⊎ IsOneOf s xs
-
--- a command that is found is one of those searched
-found_one : (test : Shape → Bool) (xs : List Shape) → is_some (find test xs) ≡ true → (s : Shape) × (find test xs ≡ Some s) × IsOneOf s xs
-unfolding IsOneOf
-found_one test [] met = cc
-found_one test (x ∷ xs) met = go (test x) (found_one test xs) met
-  where
-    go : (b : Bool) → (is_some (find test xs) ≡ true → (s : Shape) × (find test xs ≡ Some s) × IsOneOf s xs)
-        → is_some (cond b (Some x) (find test xs)) ≡ true → (s : Shape) × (cond b (Some x) (find test xs) ≡ Some s) × IsOneOf s (x ∷ xs)
-    go true others e = (x, refl, inl refl)
-    go false others e = let found = others e in (found.0, found.1, inr found.2)
-
-some_of : {A B : Type 0} (f : A → B) (o : Option A) → is_some (option_map f o) ≡ true → is_some o ≡ true
-some_of f None e = cc
-some_of f (Some x) e = refl
-
-name_of_one : (s : Shape) (commands : List Shape) → IsOneOf s commands → IsNameAmong commands s.name
-unfolding IsOneOf
-name_of_one s [] one = absurd one
-name_of_one s (x ∷ xs) (inl same) = inl (ap (λ (x : Shape). x.name) same)
-name_of_one s (x ∷ xs) (inr other) = inr (name_of_one s xs other)
-
--- what a stop that isn't at `help` enters is a command
-built_names : (app : App) (commands : List Shape) (help : Shape) → HasCommands app commands help
-    → (stop : Option (Text × List Text)) → StopsNotAtHelp stop → is_some (entered (built app) stop) ≡ true
-    → (s : Shape) × (rows : List Row) × (entered (built app) stop ≡ Some (s.name, rows)) × IsNameAmong commands s.name
-built_names app commands help has None other met = cc
-built_names app commands help has (Some p) other met =
-    let among = ap (find (λ s. answers_to p.0 (label_of s))) has.all ∙ found_among p.0 help commands has.help_name has.bare other in
-    let found = found_one (λ s. answers_to p.0 (label_of s)) commands (ap is_some (sym among) ∙ some_of (λ s. rows_at s p.1) _ met) in
-    (found.0, (rows_at found.0 p.1).1, ap (option_map (λ s. rows_at s p.1)) (among ∙ found.1), name_of_one found.0 commands found.2)
-
-pub words_enter_a_command : WordsEnterACommand
-words_enter_a_command app commands help has words clear =
-    let met = enters_command (built app) (argument_words app words) has.helps has.needs clear in
-    let named = built_names app commands help has _ met.1 met.0 in
-    rw named.2 named.3
+    let nil = or_else_nil _ _ clear in
+    let checked = or_else_nil (defaults_fault (settled a.top.rules end).rows a.top.rules) _
+    (or_else_nil (settle_fault a.top.rules a.top.args_override_self end) _ (or_else_nil (entered_fault a stop) _ nil.1).1).1 in (
+      check_needs a.top (finished a.top.rules end) _ needs checked.1,
+      λ helps. walk_stops a.top helps (names_of a) words (walk_from nothing_held) nil.0 tt,
+    )

@@ -7,9 +7,9 @@ use Rattle.clap.specs.declared.error.kind.ErrorKind.{ErrorKind}
 use Rattle.clap.specs.declared.error.kind.ErrorKind.TheVariants as kind
 use Rattle.clap.specs.declared.parser.matches.ArgMatches.{ArgMatches}
 
-first_holds : (a b : Bool) → (a && b) ≡ true → a ≡ true
-first_holds true b both = refl
-first_holds false b both = both
+pub both : (a b : Bool) → (a && b) ≡ true → (a ≡ true) × (b ≡ true)
+both true b hold = (refl, hold)
+both false b hold = cc
 
 module _ (made app : App) (words : List Text) (is : made ≡ app) (free : is_simple_and_free app ≡ true) where
   -- clap accepts the arguments
@@ -17,7 +17,7 @@ module _ (made app : App) (words : List Text) (is : made ≡ app) (free : is_sim
       → (fault_of app words ≡ []) × (subcommand_rows_of m ≡ subcommand_of app words)
   accepted m found clear = (
     subst (λ a. is_simple_and_free a ≡ true → fault_of a words ≡ []) is clear free,
-    (subst (λ a. HasMatchesOf a words m) is found (first_holds (is_simple app) _ free)).1,
+    (subst (λ a. HasMatchesOf a words m) is found (both (is_simple app) _ free).0).1,
   )
 
   -- its error has a kind among those that it may return, but for out of memory

@@ -1,12 +1,24 @@
--- Laws of what arguments ask for: one job at most.
-use Rattle.std.specs.Prelude.{◌≡◌, ◌⊎◌, List, Result, Ok, Err}
+-- Laws of what arguments ask for: the row that they are given to, and one job at most.
+use Rattle.std.specs.Prelude.{◌≡◌, ◌⊎◌, List, [], ◌∷◌, Some, IsSome, Result, Ok, Err, map, true}
 use Rattle.clap.specs.Words.{Row, Text}
+use Rattle.command_line.specs.Given.{AreSpelled, Given, can_be_given, found_given, rule_given}
 use Rattle.command_line.specs.Job.{Answers, ReadsJob, ReadsRow, Refusal}
-use Rattle.command_line.specs.Table.{Table}
+use Rattle.command_line.specs.Table.{Entry, Table, asked, entry_named, refusals}
 use Rattle.command_line.specs.declared.errors.WordsFault.{WordsFault}
 use Rattle.command_line.specs.declared.errors.WordsFault.TheVariants.{Memory}
 use Rattle.command_line.specs.declared.job.Asked.{Asked}
 use Rattle.command_line.specs.declared.job.Asked.TheVariants.{Perform}
+
+-- Arguments that clap accepts name a row.
+abbrev pub WordsNameARow : Type 0 → Type 0
+WordsNameARow C = (table : Table C) (words : List Text) → refusals table words ≡ [] → IsSome (asked table words)
+
+-- Clap refuses nothing of what a row is given, and finds exactly that, with the defaults of what is left out.
+abbrev pub RowsTakeWhatTheyAreGiven : Type 0 → Type 0
+RowsTakeWhatTheyAreGiven C = (table : Table C) (entry : Entry C) (given : List Given) (program : Text) (words : List Text)
+    → entry_named entry.name table.entries ≡ Some entry → map rule_given given ≡ entry.rules → can_be_given entry.name given ≡ true → AreSpelled given words
+    → (refusals table (program ∷ entry.name ∷ words) ≡ [])
+    × (asked table (program ∷ entry.name ∷ words) ≡ Some (entry.command, found_given entry.name given))
 
 -- a result is this value, or out of memory
 abbrev pub IsOrLacksMemory : {A V : Type 0} → A → Result A (WordsFault V) → Type 0

@@ -4,7 +4,7 @@ pub mod FormName
 pub mod Input
 pub mod Output
 pub mod Words
-pub mod Laws
+pub mod Given
 pub mod Table
 pub mod Job
 pub mod JobLaws

@@ -1,10 +1,11 @@
 -- A program's commands as the rows of a table, and the row that arguments ask for (ours).
 use Rattle.std.specs.Prelude.{◌≡◌, List, Option, fold, map, find, option_map, option_and_then, true}
+use Rattle.std.specs.List.{list_all}
 use Rattle.std.specs.Str.{bytes_eq}
-use Rattle.clap.specs.Words.{App, Kinds, Row as Found, Rule, Shape, Text, fault_of, is_simple_and_free, new_app}
+use Rattle.clap.specs.Words.{App, Kinds, Row as Found, Rule, Text, fault_of, is_simple_and_free, new_app}
 use Rattle.clap.specs.Words.{subcommand_of, with_rule, with_subcommand}
 use Rattle.command_line.specs.Application.{as_required, flag_named, option_named, program_named, with_default, word_named, words_named}
-use Rattle.command_line.specs.Laws.{HasCommands}
+use Rattle.command_line.specs.Given.{can_be_given, given_by, rule_given}
 use Rattle.command_line.specs.declared.table.Argument.{Argument}
 use Rattle.command_line.specs.declared.table.Argument.TheVariants.{Value, Needed, Or, Flag, Word, NeededWord, Words, NeededWords}
 use Rattle.command_line.specs.declared.table.Program.{Program}
@@ -62,10 +63,8 @@ unfoldable pub asked : {C : Type 0} → Table C → List Text → Option (C × L
 asked table words = asked_in table (subcommand_of (app_of_table table) words)
 
 -- What clap has to make of a table, which each program's table computes to: it reads the arguments of any row by rules that
--- don't speak of one another, and has the rows as its commands.
+-- don't speak of one another, and each row can be given all of its arguments, whatever their values.
 pub record IsGood {C : Type 0} (table : Table C) : Type 0 where
   pub free : is_simple_and_free (app_of_table table) ≡ true
-  pub shapes : List Shape
-  pub help : Shape
-  pub has : HasCommands (app_of_table table) shapes help
-  pub names : map (λ shape. shape.name) shapes ≡ map (λ entry. entry.name) table.entries
+  pub rules : (value : Text → Text) → map (λ entry. map rule_given (map (given_by value) entry.rules)) table.entries ≡ map (λ entry. entry.rules) table.entries
+  pub takes : (value : Text → Text) → list_all (λ entry. can_be_given entry.name (map (given_by value) entry.rules)) table.entries ≡ true

@@ -1,28 +1,26 @@
 //! Laws of the definitions. Each law is the contract of a function with an empty body.
 
-ghost use Rattle.std.specs.Prelude.{◌≡◌, List, [], IsSome};
-ghost use Rattle.clap.specs.Words.{Text};
-ghost use Rattle.command_line.specs.JobLaws.{RowsAnswerOnce, AskOnce, ReadsOnce};
-ghost use Rattle.command_line.specs.Laws.{WordsEnterACommand};
-ghost use Rattle.command_line.specs.Table.{IsGood, Table, asked, refusals};
+ghost use Rattle.command_line.specs.JobLaws.{AskOnce, ReadsOnce, RowsAnswerOnce};
+ghost use Rattle.command_line.specs.JobLaws.{RowsTakeWhatTheyAreGiven, WordsNameARow};
 
 use crate::job::Job;
 
-/// Arguments that `clap` accepts for an application that needs a command name one of its commands.
-pub fn words_enter_a_command()
-    ensures { WordsEnterACommand }
+/// Arguments that `clap` accepts for a program of a table name one of its rows.
+#[tactic(auto, using(crate::proofs::RowLemmas::words_name_a_row))]
+pub fn words_name_a_row<C: Copy>()
+    ensures { WordsNameARow C }
 {}
 
-/// Arguments that `clap` accepts for a program of a table name one of its rows.
-pub fn words_name_a_row<C: Copy>()
-    ensures { (table : Table C) → IsGood table → (words : List Text)
-        → refusals table words ≡ [] → IsSome (asked table words) }
-{
-    words_enter_a_command();
-}
+/// Arguments that give a row of a table what it needs are accepted, and are found as they were
+/// given: `--NAME=VALUE` or `--NAME VALUE` for an option, `--NAME` for a flag, in the row's order,
+/// and behind `--` the words.
+pub fn rows_take_what_they_are_given<C: Copy>()
+    ensures { RowsTakeWhatTheyAreGiven C }
+{}
 
 /// A row that is read as a function says has one job at most, and a fault only without one; memory
 /// aside.
+#[tactic(auto, using(crate::proofs::JobLemmas::answers_once))]
 pub fn rows_answer_once<J, V>()
     ensures { RowsAnswerOnce J V }
 {}

@@ -10,7 +10,7 @@ use Rattle.pass_forms.specs.declared.fault.FormFault.{FormFault}
 use Rattle.pass_forms.specs.declared.fault.FormFault.TheVariants.{TooMany}
 use Rattle.pass_forms.specs.declared.form.Form.{Form}
 use Rattle.pass_json.specs.Laws.{OneReadingEachText, OneWritingEachForm}
-use Rattle.passtool_commands.specs.Answer.{IsVerdict, OutcomeText, ReadsPass, WritesPass, done_with, narrowing, new_pass, with_caveats}
+use Rattle.passtool_commands.specs.Answer.{IsVerdict, OutcomeText, ReadsPass, WritesPass, narrowing, new_pass, with_caveats}
 use Rattle.passtool_commands.specs.Laws.{AnswersOnce, MintSigns, NarrowingKeepsSigned, VerifyDecidesSigned}
 use Rattle.passtool_commands.specs.Shown.{shown_text, with_line_feed}
 use Rattle.passtool_commands.specs.declared.answer.Outcome.TheVariants.{Done, NotSigned}
@@ -51,7 +51,7 @@ module _ (readings : OneReadingEachText) where
 
   module _ (writings : OneWritingEachForm) where
     one_pass_written : (form : Form) (pass : Plain) → HasOne (WritesPass form pass)
-    one_pass_written form pass = one_then _ _ (writings form pass) (λ text. one_only (done_with text))
+    one_pass_written form pass = one_then _ _ (writings form pass) (λ text one other p q. sym p.0 ∙ q.0)
 
     pub answers_once : AnswersOnce
     answers_once (Mint minting) bytes =

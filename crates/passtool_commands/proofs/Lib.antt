@@ -7,7 +7,3 @@ pub mod StepLemmas
 pub mod OutputLemmas
 pub mod RunLemmas
 pub mod AnswerLaws
-pub mod MadeLemmas
-pub mod WordLaws
-pub mod CaveatWalk
-pub mod NarrowLaws

@@ -1,8 +1,8 @@
 -- Lemmas on caveats that are added in turn.
 use Rattle.std.proofs.Common.{◌≡◌, ◌∙◌, ℕ, ◌+◌, ◌<◌, ◌≤◌, List, [], ◌∷◌, length, map, drop, Result, Ok, Err, IsOk, inl, inr, ap, sym, refl, append_assoc}
-use Rattle.std.proofs.Common.{add-one, drop-cons, arith}
+use Rattle.std.proofs.Common.{arith}
 use Rattle.std.proofs.lemmas.Bool.{cases_lt, le-ltb, lt-ltb}
-use Rattle.std.proofs.lemmas.List.{append-nil, length-append, length-map}
+use Rattle.std.proofs.lemmas.List.{append-nil, drop_more, length-append, length-map}
 use Rattle.std.proofs.Math.Seq.{drop-length}
 use Rattle.std.specs.Borrow.{Bor}
 use Rattle.std.specs.List.{slice_index_or}
@@ -18,10 +18,6 @@ first_added : (caveat : List ℕ) (caveats : List (List ℕ)) (pass : Plain) →
 first_added caveat caveats pass = ap (λ (all : List (List ℕ)). record (with_caveats (caveat ∷ caveats) pass) { caveats = all })
     (append_assoc pass.caveats (caveat ∷ []) caveats)
 
--- the rest of a list from an index begins with the element at that index
-pub left_from : {A : Type 0} (xs : List A) (i : ℕ) (d : A) → i < length xs → drop i xs ≡ slice_index_or xs i d ∷ drop (i + 1) xs
-left_from xs i d within = rw (add-one i) (drop-cons xs i d within)
-
 abbrev pub texts : List (Bor (List ℕ)) → List (List ℕ)
 texts = map (λ text. text.now)
 
@@ -31,7 +27,7 @@ pub one_added : (xs : List (Bor (List ℕ))) (i : ℕ) (d : Bor (List ℕ)) (cav
     → with_caveats (texts (drop (i + 1) xs)) now ≡ with_caveats (texts (drop i xs)) pass
 one_added xs i d caveat pass now within is added =
     rw (added, is) (first_added (slice_index_or xs i d).now (texts (drop (i + 1) xs)) pass
-    ∙ ap (λ (left : List (Bor (List ℕ))). with_caveats (texts left) pass) (sym (left_from xs i d within)))
+    ∙ ap (λ (left : List (Bor (List ℕ))). with_caveats (texts left) pass) (sym (drop_more xs i d within)))
 
 -- no caveat changes nothing
 none_added : (pass : Plain) → with_caveats [] pass ≡ pass

@@ -11,7 +11,7 @@ use Rattle.pass_forms.specs.declared.form.Form.{Form}
 use Rattle.pass_forms.specs.declared.form.Form.TheVariants.{V1, V2, Json}
 use Rattle.pass_json.specs.AnyForm.{IsAnyReading, IsRefusedIn, IsTextIn}
 use Rattle.pass_json.specs.JsonWriting.{IsJsonText}
-use Rattle.passtool_commands.specs.Answer.{IsOnly, OutcomeText, ReadsPass, WritesPass, done_with}
+use Rattle.passtool_commands.specs.Answer.{AnswersText, OutcomeText, WritesPass}
 use Rattle.passtool_commands.specs.Shown.{with_line_feed}
 use Rattle.passtool_commands.specs.declared.answer.Outcome.TheVariants.{Done}
 use Rattle.passtool_commands.proofs.StepLemmas.{fails}
@@ -31,18 +31,14 @@ refused_writing Json pass Memory is = tt
 refused_writing Json pass fault is = fault_of_writing IsJsonText pass fault is
 
 pub refused : (form : Form) (pass : Plain) (fault : FormFault) → IsRefusedIn form pass fault → UnlessMemory (WritesPass form pass) (Err fault)
-refused form pass fault is = fails {B = OutcomeText} _ (λ text. IsOnly (done_with text)) fault (refused_writing form pass fault is)
-
-pub written_text : (form : Form) (pass : Plain) (text : List ℕ) (ending : OutcomeText) → IsWritableText (IsTextIn form) pass text
-    → ending ≡ (Done, with_line_feed text) → WritesPass form pass (Ok ending)
-written_text form pass text ending is ending_is = (Ok text, is, ap Ok (sym ending_is))
+refused form pass fault is = fails _ (AnswersText form pass) fault (refused_writing form pass fault is)
 
 -- the line feed is taken off again
 line_feed_off : (text : List ℕ) → strip_last 10 (with_line_feed text) ≡ text
 line_feed_off text = grind (arith, common_steps)
 
-pub read_back : (form : Form) (pass : Plain) (text : List ℕ) (ending : OutcomeText) → IsAnyReading text (Ok (form, pass))
-    → ending ≡ (Done, with_line_feed text) → ReadsPass ending.1 (Ok (form, pass))
-read_back form pass text ending reads ending_is =
+pub written_text : (form : Form) (pass : Plain) (text : List ℕ) (ending : OutcomeText) → IsWritableText (IsTextIn form) pass text
+    → IsAnyReading text (Ok (form, pass)) → ending ≡ (Done, with_line_feed text) → WritesPass form pass (Ok ending)
+written_text form pass text ending is reads ending_is =
     let Reads : List ℕ → Type 0 = λ bytes. IsAnyReading bytes (Ok (form, pass)) in
-    rw ending_is (subst Reads (sym (line_feed_off text)) reads)
+    (Ok text, is, (ap Ok (sym ending_is), subst Reads (sym (line_feed_off text)) reads))

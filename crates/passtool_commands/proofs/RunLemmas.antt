@@ -9,7 +9,7 @@ use Rattle.command_line.specs.declared.job.Asked.TheVariants.{Perform}
 use Rattle.pass_forms.specs.Reading.{UnlessMemory}
 use Rattle.pass_forms.specs.declared.fault.FormFault.{FormFault}
 use Rattle.pass_forms.specs.declared.fault.FormFault.TheVariants.{Memory}
-use Rattle.passtool_commands.specs.Answer.{IsAnswer, OutcomeText, ReadsBack, reads_input}
+use Rattle.passtool_commands.specs.Answer.{IsAnswer, OutcomeText, reads_input}
 use Rattle.passtool_commands.specs.Fault.{of_words}
 use Rattle.passtool_commands.specs.Run.{AnswersWords, Performs, ReadsInput, Writes, WritesFront}
 use Rattle.passtool_commands.specs.Words.{AskForCommand, ReadsWords}
@@ -23,7 +23,7 @@ use Rattle.passtool_commands.specs.declared.command.Command.{Command}
 use Rattle.passtool_commands.specs.Laws.{AskForOneCommand}
 
 module _ (command : Command) (left left' held held' : Option (List ℕ)) (bytes : List ℕ) (reads : ReadsInput (reads_input command) left left' bytes) where
-  module _ (ending : OutcomeText) (is : IsAnswer command bytes (Ok ending)) (reads_back : ReadsBack command bytes ending.1) where
+  module _ (ending : OutcomeText) (is : IsAnswer command bytes (Ok ending)) where
     written : (outcome : Outcome) (text front : List ℕ) → outcome ≡ ending.0 → text ≡ ending.1 → Appends held held' front
         → Writes command left left' held held' (outcome, text) front
     written outcome text front outcome_is text_is appends =
@@ -32,7 +32,6 @@ module _ (command : Command) (left left' held held' : Option (List ℕ)) (bytes 
           bytes = bytes;
           reads = reads;
           answers = subst (λ (e : OutcomeText). IsAnswer command bytes (Ok e)) pair is;
-          reads_back = subst (ReadsBack command bytes) (sym text_is) reads_back;
           appends = appends;
         }
 
@@ -42,12 +41,7 @@ module _ (command : Command) (left left' held held' : Option (List ℕ)) (bytes 
 
     -- the writer failed
     pub begun : (text : List ℕ) → text ≡ ending.1 → AppendsFront held held' text → WritesFront command left left' held held'
-    begun text text_is appends = record {
-      ending = (ending.0, text);
-      front = appends.0;
-      begins = appends.1;
-      writes = written ending.0 text appends.0 refl text_is appends.2;
-    }
+    begun text text_is appends = ((ending.0, text), appends.0, appends.1, written ending.0 text appends.0 refl text_is appends.2)
 
   pub failed : (fault : FormFault) → UnlessMemory (IsAnswer command bytes) (Err fault)
       → Performs command left left' held held' (Err (Pass fault))

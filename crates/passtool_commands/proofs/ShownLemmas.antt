@@ -1,20 +1,19 @@
 -- Lemmas on what `show` writes.
 use Rattle.std.proofs.Common.{◌≡◌, ◌∙◌, ℕ, ◌+◌, ◌<◌, ◌≤◌, List, [], ◌∷◌, ◌++◌, length, map, drop, ap, ap₂, sym, append_assoc, arith}
-use Rattle.std.proofs.lemmas.List.{append-nil}
+use Rattle.std.proofs.lemmas.List.{append-nil, drop_more}
 use Rattle.std.proofs.Math.Seq.{drop-length}
 use Rattle.std.specs.Prelude.{Vec, codes}
 use Rattle.std.proofs.Common.{Global}
 use Rattle.std.specs.Fmt.{decimal}
 use Rattle.passtool_commands.specs.Shown.{caveat_lines, escaped_text, escaped_byte, value_line}
 use Rattle.std.specs.List.{slice_index_or}
-use Rattle.passtool_commands.proofs.NarrowLemmas.{left_from}
 
 -- one byte more was written, of those that are left
 pub byte_written : (bytes : List ℕ) (i d : ℕ) (old new whole : List ℕ) → i < length bytes → new ≡ old ++ escaped_byte (slice_index_or bytes i d)
     → old ++ escaped_text (drop i bytes) ≡ whole → new ++ escaped_text (drop (i + 1) bytes) ≡ whole
 byte_written bytes i d old new whole within is before =
     rw is (append_assoc old (escaped_byte (slice_index_or bytes i d)) (escaped_text (drop (i + 1) bytes))
-    ∙ ap (λ (left : List ℕ). old ++ escaped_text left) (sym (left_from bytes i d within)) ∙ before)
+    ∙ ap (λ (left : List ℕ). old ++ escaped_text left) (sym (drop_more bytes i d within)) ∙ before)
 
 pub none_left : (bytes : List ℕ) (i : ℕ) (old whole : List ℕ) → length bytes ≤ i → i ≤ length bytes → old ++ escaped_text (drop i bytes) ≡ whole → old ≡ whole
 none_left bytes i old whole most least same =
@@ -35,7 +34,7 @@ unfolding caveat_lines
 caveat_written caveats i item value name old new whole within is value_is name_is added before =
     let line = value_line (codes "caveat " ++ decimal (i + 1)) item.items in
     let rest = caveat_lines (i + 1 + 1) (items (drop (i + 1) caveats)) in
-    let left : drop i caveats ≡ item ∷ drop (i + 1) caveats = left_from caveats i item within ∙ ap (λ x. x ∷ drop (i + 1) caveats) (sym is) in
+    let left : drop i caveats ≡ item ∷ drop (i + 1) caveats = drop_more caveats i item within ∙ ap (λ x. x ∷ drop (i + 1) caveats) (sym is) in
     let new_is : new ≡ old ++ line = added ∙ ap₂ (λ (n v : List ℕ). old ++ value_line n v) name_is value_is in
     rw new_is (append_assoc old line rest ∙ ap (λ (xs : List (Vec ℕ Global)). old ++ caveat_lines (i + 1) (items xs)) (sym left) ∙ before)
 

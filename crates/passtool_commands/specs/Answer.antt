@@ -42,10 +42,14 @@ ReadsPass bytes = IsAnyReading (strip_last 10 bytes)
 abbrev pub done_with : List ℕ → Result OutcomeText FormFault
 done_with text = Ok (Done, with_line_feed text)
 
+-- that text, which reads as the pass in its form
+abbrev pub AnswersText : Form → Plain → List ℕ → Results OutcomeText
+AnswersText form pass text result = (done_with text ≡ result) × ReadsPass (with_line_feed text) (Ok (form, pass))
+
 abbrev pub WritesPass : Form → Plain → Results OutcomeText
 WritesPass form pass = do
   text ← IsWriting (IsTextIn form) pass
-  IsOnly (done_with text)
+  AnswersText form pass text
 
 -- the pass with more caveats, each signed under the signature before it
 abbrev pub with_caveats : List (List ℕ) → Plain → Plain
@@ -107,44 +111,7 @@ IsAnswer (Narrow caveats) bytes = NarrowsPass caveats bytes
 IsAnswer (Convert form) bytes = ConvertsPass form bytes
 IsAnswer (Verify root) bytes = VerifiesPass root bytes
 
--- ---- a written pass, read back
-
--- The text reads as the new pass in the form that was asked for, and that pass is signed under its root.
-pub record IsMinted (minting : Minting) (text : List ℕ) : Type 0 where
-  pub pass : Plain
-  pub made : narrowing minting.caveats (new_pass minting) ≡ Ok pass
-  pub reads : ReadsPass text (Ok (minting.form, pass))
-  pub signed : IsSigned minting.root pass
-
--- The text reads as the pass of the input with the caveats added, in its form. If the one was signed, so is the other.
-pub record IsNarrowedOutput (caveats : List (List ℕ)) (bytes text : List ℕ) : Type 0 where
-  pub form : Form
-  pub before : Plain
-  pub after : Plain
-  pub read : ReadsPass bytes (Ok (form, before))
-  pub made : narrowing caveats before ≡ Ok after
-  pub reads : ReadsPass text (Ok (form, after))
-  pub signed : (root : List ℕ) → IsSigned root before → IsSigned root after
-
--- The text reads as the pass of the input, in the form that was asked for.
-pub record IsConverted (form : Form) (bytes text : List ℕ) : Type 0 where
-  pub before : Form
-  pub pass : Plain
-  pub read : ReadsPass bytes (Ok (before, pass))
-  pub reads : ReadsPass text (Ok (form, pass))
-
--- how the text of a command's answer is read, if it is a pass
-abbrev pub ReadsBack : Command → List ℕ → List ℕ → Type 0
-ReadsBack (Mint minting) bytes text = IsMinted minting text
-ReadsBack Show bytes text = Unit {0}
-ReadsBack (Narrow caveats) bytes text = IsNarrowedOutput caveats bytes text
-ReadsBack (Convert form) bytes text = IsConverted form bytes text
-ReadsBack (Verify root) bytes text = Unit {0}
-
 -- `mint` alone reads no input
 abbrev pub reads_input : Command → Bool
 reads_input (Mint minting) = false
-reads_input Show = true
-reads_input (Narrow caveats) = true
-reads_input (Convert form) = true
-reads_input (Verify root) = true
+reads_input _ = true

@@ -4,7 +4,7 @@ use Rattle.std.specs.Io.{StartsWith}
 use Rattle.std.specs.Io.KnownBytes.{Appends, Keeps}
 use Rattle.clap.specs.Words.{Text}
 use Rattle.pass_forms.specs.declared.fault.FormFault.TheVariants.{Memory}
-use Rattle.passtool_commands.specs.Answer.{IsAnswer, OutcomeText, ReadsBack, reads_input}
+use Rattle.passtool_commands.specs.Answer.{IsAnswer, OutcomeText, reads_input}
 use Rattle.command_line.specs.Input.{ReadsAtMost}
 use Rattle.command_line.specs.Table.{refusals}
 use Rattle.command_line.specs.Words.{HasText}
@@ -28,15 +28,12 @@ pub record Writes (command : Command) (left left' held held' : Option (List ℕ)
   pub bytes : List ℕ
   pub reads : ReadsInput (reads_input command) left left' bytes
   pub answers : IsAnswer command bytes (Ok ending)
-  pub reads_back : ReadsBack command bytes ending.1
   pub appends : Appends held held' written
 
 -- A beginning of that answer was written, or all of it.
-pub record WritesFront (command : Command) (left left' held held' : Option (List ℕ)) : Type 0 where
-  pub ending : OutcomeText
-  pub front : List ℕ
-  pub begins : StartsWith ending.1 front
-  pub writes : Writes command left left' held held' ending front
+abbrev pub WritesFront : Command → Option (List ℕ) → Option (List ℕ) → Option (List ℕ) → Option (List ℕ) → Type 0
+WritesFront command left left' held held' =
+    (ending : OutcomeText) × (front : List ℕ) × StartsWith ending.1 front × Writes command left left' held held' ending front
 
 -- A command reads its input and writes its answer to that and nothing else. It may run out of memory. If the reader or the
 -- writer fails, nothing was written, or a beginning of the answer to the whole input.

@@ -136,8 +136,7 @@ impl<'a> Command<'a> {
 
     // The answer to the bytes that were read.
     fn answer(&self, alloc: Global, bytes: &[u8]) -> Result<Answer, FormFault>
-        ensures answer { UnlessMemory (spec.IsAnswer self.now bytes.now) result }
-        ensures reads_back { IfOk result (λ answer. spec.ReadsBack self.now bytes.now answer.1) }
+        ensures { UnlessMemory (spec.IsAnswer self.now bytes.now) result }
     {
         match self {
             Command::Mint(mint) => mint.answer(alloc),

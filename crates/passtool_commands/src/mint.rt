@@ -65,8 +65,7 @@ impl<'a> Mint<'a> {
 
     /// Makes the pass and its text.
     pub fn answer(&self, alloc: Global) -> Result<Answer, FormFault>
-        ensures answer { UnlessMemory (spec.MintsPass self.now) result }
-        ensures pass { IfOk result (λ answer. spec.IsMinted self.now answer.1) }
+        ensures { UnlessMemory (spec.MintsPass self.now) result }
     {
         let pass = self.new_pass(alloc)?;
         let pass = narrowed_pass(alloc, pass, self.caveats.as_slice())?;

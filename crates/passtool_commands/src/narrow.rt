@@ -1,6 +1,6 @@
 //! `narrow`: a pass with more caveats.
 
-ghost use Rattle.std.specs.Prelude.{◌≡◌, ◌≤◌, IfOk, length, map};
+ghost use Rattle.std.specs.Prelude.{◌≡◌, ◌≤◌, length, map};
 ghost use Rattle.pass_forms.specs.Reading.{UnlessMemory, max_caveats};
 ghost use Rattle.passtool_commands.specs.Answer as spec;
 
@@ -13,8 +13,7 @@ use std::alloc::Global;
 
 /// The pass of the input with the caveats added in their order, in the form it came in.
 pub fn narrow(alloc: Global, caveats: &Caveats<'_>, bytes: &[u8]) -> Result<Answer, FormFault>
-    ensures answer { UnlessMemory (spec.NarrowsPass caveats.now bytes.now) result }
-    ensures pass { IfOk result (λ answer. spec.IsNarrowedOutput caveats.now bytes.now answer.1) }
+    ensures { UnlessMemory (spec.NarrowsPass caveats.now bytes.now) result }
 {
     let (form, pass) = read_pass(alloc, bytes)?;
     let pass = narrowed_pass(alloc, pass, caveats.as_slice())?;

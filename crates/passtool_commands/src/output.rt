@@ -1,6 +1,5 @@
 //! Writing the answer.
 
-ghost use Rattle.std.specs.Prelude.{◌≡◌, IfOk, Ok};
 ghost use Rattle.pass_forms.specs.Reading.{UnlessMemory};
 ghost use Rattle.passtool_commands.specs.Answer as spec;
 
@@ -11,8 +10,7 @@ use std::alloc::Global;
 
 /// A pass in a form, with a line feed at the end.
 pub fn written(alloc: Global, form: Form, pass: &Pass) -> Result<Answer, FormFault>
-    ensures text { UnlessMemory (spec.WritesPass form pass.now) result }
-    ensures reads { IfOk result (λ answer. spec.ReadsPass answer.1 (Ok (form, pass.now))) }
+    ensures { UnlessMemory (spec.WritesPass form pass.now) result }
 {
     let mut text = write_any(alloc, form, pass)?;
     text.push('\n')?;

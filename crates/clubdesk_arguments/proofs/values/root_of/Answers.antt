@@ -1,11 +1,14 @@
-use Rattle.std.proofs.Common.{◌∙◌, sym}
-use Rattle.clubdesk_arguments.proofs.ValueLemmas.{root_made, root_read}
+use Rattle.std.proofs.Common.{◌∙◌, ap, option_and_then, sym}
+use Rattle.clubdesk_arguments.specs.Values.{has_key_root_length, key_root_of}
+use Rattle.clubdesk_arguments.proofs.ValueLemmas.{root_made}
 use Rattle.clubdesk_arguments.proofs.values.root_of.Goals as goal
 
 pub returns-in_err-root : goal.returns-in_err-root
-returns-in_err-root c = c.from_residual.ensures ∙ sym (rw c.in_err-root.was at (root_read c.args.text.now c.from_hex.result c.from_hex.ensures))
+unfolding key_root_of
+returns-in_err-root c = c.from_residual.ensures ∙ ap (option_and_then has_key_root_length) (sym c.in_err-root.was ∙ c.from_hex.ensures)
 
 pub returns : goal.returns
+unfolding key_root_of
 returns c =
-    let read = rw c.in_ok-root.was at (root_read c.args.text.now c.from_hex.result c.from_hex.ensures) in
-    root_made c.in_ok-root.root c.new.result (rw c.as_slice.ensures at c.new.ensures.within) (rw c.as_slice.ensures at c.new.ensures.value) ∙ read
+    root_made c.in_ok-root.root c.new.result (rw c.as_slice.ensures at c.new.ensures.within) (rw c.as_slice.ensures at c.new.ensures.value)
+    ∙ ap (option_and_then has_key_root_length) (sym c.in_ok-root.was ∙ c.from_hex.ensures)

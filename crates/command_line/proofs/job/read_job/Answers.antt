@@ -2,7 +2,7 @@ use Rattle.std.proofs.Common.{◌∙◌, inl, inr, refl}
 use Rattle.clap.specs.Words.{kind_of}
 use Rattle.clap.specs.declared.error.kind.ErrorKind.TheVariants as kind
 use Rattle.command_line.specs.Table.{asked, refusals}
-use Rattle.command_line.proofs.JobLemmas.{reads_accepted, reads_fault}
+use Rattle.command_line.proofs.JobLemmas.{reads_accepted, reads_fault, row_named}
 use Rattle.command_line.proofs.WordsLemmas.{accepted, refused}
 use Rattle.command_line.proofs.job.read_job.Goals as goal
 
@@ -10,9 +10,8 @@ pub job_found-requires : goal.job_found-requires
 unfolding refusals asked
 job_found-requires g c κs =
     let parse = c.in-Ok-try_get_matches_from.ensures in
-    let good = c.application.ensures.good in
-    let parsed = accepted _ _ _ c.in-Ok.ensures.made good.free _ parse.matches parse.kinds in
-    ((refl, tt), rw parsed.1 (c.words_name_a_row.ensures _ good _ parsed.0))
+    let parsed = accepted _ _ _ c.in-Ok.ensures.made c.application.ensures.good.free _ parse.matches parse.kinds in
+    ((refl, tt), rw parsed.1 (row_named _ c.words_name_a_row.ensures c.application.ensures.good _ parsed.0))
 
 pub returns-in-Ok-job_found : goal.returns-in-Ok-job_found
 returns-in-Ok-job_found g c =

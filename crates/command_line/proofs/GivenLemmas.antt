@@ -1,0 +1,353 @@
+-- How clap walks over what a row is given.
+use Rattle.std.proofs.Common.{◌≡◌, ◌∙◌, ℕ, ◌+◌, ◌==◌, ◌&&◌, Bool, true, false, not, List, [], ◌∷◌, ◌++◌, Option, Some, None, is_some, append_assoc, fold}
+use Rattle.std.proofs.Common.{refl}
+use Rattle.std.proofs.Common.{sym, ap, ap₂, inl, inr, codes, cond, map, subst, min, arith}
+use Rattle.std.proofs.lemmas.Bool.Decides.{nat_tests}
+use Rattle.std.proofs.lemmas.List.{append-nil}
+use Rattle.std.proofs.lemmas.List.Folds.{list_any_at}
+use Rattle.std.specs.List.{list_any}
+use Rattle.clap.specs.Faults.{check_fault, defaults_fault, flag_word_fault, level_fault, settle_fault, step_fault, turn_fault, walk_fault}
+use Rattle.clap.specs.Kinds.{Kinds, or_else}
+use Rattle.clap.specs.Lexer.{long_of, strip_byte, usize_max}
+use Rattle.clap.specs.Simple.{filled, filled_from, index_after, wants_index, with_index}
+use Rattle.clap.specs.Walk.{Held, Waiting, Walk, after_step, arg_by_index, at_row, finished, has_row, idle, is_multiple, is_pending, long_or_other}
+use Rattle.clap.specs.Walk.{more_values, next_position, nothing_held, option, positional, positional_held, pushed, rows_after, settled, takes_several}
+use Rattle.clap.specs.Walk.{walk_from, walked, with_default, without}
+use Rattle.clap.specs.Words.{Row as Found, Rule, Shape, Text}
+use Rattle.clap.specs.declared.parser.matches.ValueSource.TheVariants.{CommandLine}
+use Rattle.clap.proofs.CutLemmas.{Lacks}
+use Rattle.clap.proofs.SimpleLemmas.{is_false}
+use Rattle.clap.proofs.LexerLemmas.{name_and_value-at, name_and_value-without}
+use Rattle.command_line.specs.Application.{words_named}
+use Rattle.command_line.specs.Given.{Given, option_given, flag_given, word_given, words_given, left_out, rule_given, options_spelled, words_spelled}
+use Rattle.command_line.specs.Given.{AreSpelled}
+use Rattle.command_line.specs.Given.{row_given, option_rows, word_rows, rows_given, are_apart, are_new, are_options_named, has_no_words, is_in_order}
+use Rattle.command_line.specs.Given.{end_fault}
+use Rattle.command_line.proofs.WordsLemmas.{both}
+use Rattle.command_line.proofs.FoundLemmas.{same_text, added, set_row, grown, AreFound, all_found, IsFound}
+
+lacks : (name : Text) → not (list_any (λ byte. byte == 61) name) ≡ true → Lacks 61 name
+lacks name without i within is =
+    let bad : list_any (λ byte. byte == 61) name ≡ true = list_any_at (λ byte. byte == 61) name i 0 within (grind (arith, nat_tests)) in
+    let none = is_false _ without in cc
+
+long_with : (first : ℕ) (name value : Text) → not (list_any (λ byte. byte == 61) (first ∷ name)) ≡ true
+    → long_of (codes "--" ++ (first ∷ name ++ 61 ∷ value)) ≡ Some (first ∷ name, Some value)
+long_with first name value named = ap (λ parts. Some parts) (name_and_value-at (first ∷ name) value (lacks (first ∷ name) named))
+
+long_alone : (first : ℕ) (name : Text) → not (list_any (λ byte. byte == 61) (first ∷ name)) ≡ true
+    → long_of (codes "--" ++ (first ∷ name)) ≡ Some (first ∷ name, None)
+long_alone first name named = ap (λ parts. Some parts) (name_and_value-without (first ∷ name) (lacks (first ∷ name) named))
+
+-- what is held, with these rows and what waits
+abbrev held_with : List Found → Option (Text × List Text) → Held
+held_with rows pending = record { rows = rows; pending = pending; skip = 0 }
+
+-- between options
+abbrev at_option : List Found → Option (Text × List Text) → Walk
+at_option rows pending = record (walk_from nothing_held) { held = held_with rows pending }
+
+-- behind `--`, where the word at this place comes next
+abbrev at_place : List Found → Option (Text × List Text) → Waiting → ℕ → Walk
+at_place rows pending waiting place = record {
+  held = held_with rows pending;
+  waiting = waiting;
+  position = place;
+  is_trailing = true;
+  stopped = None;
+}
+
+alone_held : (rules : List Rule) (rule : Rule) (word : Text) (h : Held) → takes_several rule ≡ false
+    → positional_held rules rule word h ≡ pushed rule.id word (settled rules h)
+alone_held rules rule word h one = rw one (go (is_pending rule h.pending))
+  where
+    go : (b : Bool) → pushed rule.id word (cond (b && false) h (settled rules h)) ≡ pushed rule.id word (settled rules h)
+    go true = refl
+    go false = refl
+
+none_spelled : (given : List Given) → has_no_words given ≡ true → (words_spelled given ≡ []) × (word_rows given ≡ [])
+none_spelled [] none = (refl, refl)
+none_spelled (option_given joined required defaults name value ∷ given) none = none_spelled given none
+none_spelled (flag_given name ∷ given) none = none_spelled given none
+none_spelled (word_given required name value ∷ given) none = cc
+none_spelled (words_given required name first more ∷ given) none = cc
+none_spelled (left_out rule ∷ given) none = none_spelled given none
+
+module _ (s : Shape) where
+  abbrev again : Bool
+  again = s.args_override_self
+
+  IsStep : Walk → Text → Walk → Type 0
+  IsStep w word next = (walked s.rules [] w word ≡ next) × (turn_fault s [] w word ≡ [])
+
+  -- these rows, once what waits is used, and using it doesn't fail
+  abbrev Holds : Held → List Found → Type 0
+  Holds held now = ((settled s.rules held).rows ≡ now) × (settle_fault s.rules again held ≡ [])
+
+  -- the walk over the words ends with these rows, and nothing fails
+  Settles : Walk → List Text → List Found → Type 0
+  Settles w words now = (end : Walk) × (fold (walked s.rules []) w words ≡ end) × (walk_fault s [] w words ≡ []) × Holds end.held now
+
+  step_on : (w next : Walk) (word : Text) (words : List Text) (rows : List Found) → IsStep w word next → Settles next words rows → Settles w (word ∷ words) rows
+  unfolding IsStep Settles walk_fault
+  step_on w next word words rows is on = (
+    on.0,
+    ap (λ (w : Walk). fold (walked s.rules []) w words) is.0 ∙ on.1,
+    ap₂ or_else is.1 (ap (λ (w : Walk). walk_fault s [] w words) is.0 ∙ on.2),
+    on.3,
+  )
+
+  -- the walk ends here
+  stands : (w : Walk) (words : List Text) (now : List Found) → words ≡ [] → Holds w.held now → Settles w words now
+  unfolding Settles walk_fault
+  stands w words now none holds = rw none (w, refl, refl, holds)
+
+  -- ---- options
+
+  -- what becomes of a word that reads so, and why it fails
+  abbrev after_long : Text → Held → Option (Text × Option Text) → Walk
+  after_long word held long =
+      let met = long_or_other s.rules idle word long held in after_step s.rules word (record (walk_from nothing_held) { held = held }) met.0 met.1
+
+  abbrev long_fails : Text → Held → Option (Text × Option Text) → Kinds
+  long_fails word held long =
+      let met = long_or_other s.rules idle word long held in
+      or_else (flag_word_fault s.rules again long word held) (step_fault s 1 met.0 met.1)
+
+  -- the rows with one use more of this argument
+  abbrev with_use : Text → List Text → List Found → List Found
+  with_use name values rows = at_row name (more_values CommandLine values) (row_given name values ∷ []) (without name rows)
+
+  module _ (first : ℕ) (name : Text) (rows now : List Found) (pending : Option (Text × List Text)) (holds : Holds (held_with rows pending) now)
+      (named : not (list_any (λ byte. byte == 61) (first ∷ name)) ≡ true) (new : has_row (first ∷ name) now ≡ false) where
+    option_step : (required : Bool) (defaults : List Text) (value : Text)
+        → IsFound s.rules (filled (rule_given (option_given true required defaults (first ∷ name) value)))
+        → IsStep (at_option rows pending) (codes "--" ++ (first ∷ name ++ 61 ∷ value)) (at_option (now ++ row_given (first ∷ name) (value ∷ []) ∷ []) None)
+    unfolding IsStep walked
+    option_step required defaults value found =
+        let word = codes "--" ++ (first ∷ name ++ 61 ∷ value) in
+        let long = long_with first name value named in
+        let by_name = found.by_name (rw (same_text (first ∷ name)) refl) in (
+          ap (after_long word (held_with rows pending)) long
+              ∙ rw by_name (ap (λ (rows : List Found). at_option (with_use (first ∷ name) (value ∷ []) rows) None) holds.0
+              ∙ ap (λ (rows : List Found). at_option rows None) (set_row (first ∷ name) (value ∷ []) now new)),
+          ap (long_fails word (held_with rows pending)) long ∙ rw (by_name, holds.1, holds.0, new) refl,
+        )
+
+    flag_step : IsFound s.rules (filled (rule_given (flag_given (first ∷ name))))
+        → IsStep (at_option rows pending) (codes "--" ++ (first ∷ name)) (at_option (now ++ row_given (first ∷ name) (codes "true" ∷ []) ∷ []) None)
+    unfolding IsStep walked
+    flag_step found =
+        let word = codes "--" ++ (first ∷ name) in
+        let long = long_alone first name named in
+        let by_name = found.by_name (rw (same_text (first ∷ name)) refl) in (
+          ap (after_long word (held_with rows pending)) long
+              ∙ rw by_name (ap (λ (rows : List Found). at_option (with_use (first ∷ name) (codes "true" ∷ []) rows) None) holds.0
+              ∙ ap (λ (rows : List Found). at_option rows None) (set_row (first ∷ name) (codes "true" ∷ []) now new)),
+          ap (long_fails word (held_with rows pending)) long ∙ rw (by_name, holds.1, holds.0, new) refl,
+        )
+
+    -- an option whose value is the next word, which doesn't begin with a dash
+    abbrev waits : Walk
+    waits = record (at_option now (Some (first ∷ name, []))) { waiting = option (first ∷ name) }
+
+    name_step : (required : Bool) (defaults : List Text) (value : Text)
+        → IsFound s.rules (filled (rule_given (option_given false required defaults (first ∷ name) value)))
+        → IsStep (at_option rows pending) (codes "--" ++ (first ∷ name)) waits
+    unfolding IsStep walked
+    name_step required defaults value found =
+        let word = codes "--" ++ (first ∷ name) in
+        let long = long_alone first name named in
+        let by_name = found.by_name (rw (same_text (first ∷ name)) refl) in (
+          ap (after_long word (held_with rows pending)) long
+              ∙ rw by_name (ap (λ (rows : List Found). record (at_option rows (Some (first ∷ name, []))) { waiting = option (first ∷ name) }) holds.0),
+          ap (long_fails word (held_with rows pending)) long ∙ rw (by_name, holds.1) refl,
+        )
+
+    value_step : (required : Bool) (defaults : List Text) (value : Text) → not (is_some (strip_byte 45 value)) ≡ true
+        → IsFound s.rules (filled (rule_given (option_given false required defaults (first ∷ name) value)))
+        → IsStep waits value (at_option now (Some (first ∷ name, value ∷ [])))
+    unfolding IsStep walked
+    value_step required defaults [] dashless found = (rw (found.by_id, same_text (first ∷ name)) refl, refl)
+    value_step required defaults (byte ∷ value) dashless found = go (byte == 45) refl dashless
+      where
+        go : (dash : Bool) → (byte == 45) ≡ dash → not (is_some (cond dash (Some value) None)) ≡ true
+            → IsStep waits (byte ∷ value) (at_option now (Some (first ∷ name, (byte ∷ value) ∷ [])))
+        go true is bad = cc
+        go false is none = (rw (is, is, found.by_id, same_text (first ∷ name)) refl, rw (is, is) refl)
+
+    value_holds : (required : Bool) (defaults : List Text) (value : Text)
+        → IsFound s.rules (filled (rule_given (option_given false required defaults (first ∷ name) value)))
+        → Holds (held_with now (Some (first ∷ name, value ∷ []))) (now ++ row_given (first ∷ name) (value ∷ []) ∷ [])
+    value_holds required defaults value found = (rw found.by_id (set_row (first ∷ name) (value ∷ []) now new), rw (found.by_id, new) refl)
+
+  dashes_step : (rows : List Found) (pending : Option (Text × List Text)) → IsStep (at_option rows pending) (codes "--") (at_place rows pending idle 1)
+  unfolding IsStep walked
+  dashes_step rows pending = (refl, refl)
+
+  -- ---- words
+
+  -- a word that stands for itself: what waited is used, and the word waits
+  word_step : (rule : Rule) (place : ℕ) (rows now : List Found) (pending : Option (Text × List Text)) (waiting : Waiting) (word : Text)
+      → arg_by_index s.rules place ≡ Some rule → takes_several rule ≡ false → Holds (held_with rows pending) now
+      → IsStep (at_place rows pending waiting place) word
+      (at_place now (Some (rule.id, word ∷ [])) (cond (is_multiple rule) positional idle) (next_position rule place))
+  unfolding IsStep walked
+  word_step rule place rows now pending waiting word by_place one holds = (
+    rw by_place (ap (λ (h : Held). record (at_place rows pending waiting place) {
+      held = h;
+      waiting = cond (is_multiple rule) positional idle;
+      position = next_position rule place;
+    }) (alone_held s.rules rule word (held_with rows pending) one ∙ ap (λ (rows : List Found). held_with rows (Some (rule.id, word ∷ []))) holds.0)),
+    rw by_place (clear_alone (is_pending rule pending && takes_several rule) holds.1),
+  )
+    where
+      clear_alone : (b : Bool) → settle_fault s.rules again (held_with rows pending) ≡ [] → cond b [] (settle_fault s.rules again (held_with rows pending)) ≡ []
+      clear_alone true none = refl
+      clear_alone false none = none
+
+  -- more words of the argument that takes several
+  more_walked : (required : Bool) (name : Text) (place : ℕ) (rows before : List Found) (some : List Text) (last : Text) (more : List Text)
+      → IsFound s.rules (with_index place (filled (record (words_named name) { required = required }))) → has_row name before ≡ false
+      → Holds (held_with rows (Some (name, last ∷ []))) (before ++ row_given name some ∷ [])
+      → Settles (at_place rows (Some (name, last ∷ [])) positional place) more (before ++ row_given name (some ++ more) ∷ [])
+  more_walked required name place rows before some last [] found new holds =
+      stands (at_place rows (Some (name, last ∷ [])) positional place) [] _ refl
+      (holds.0 ∙ ap (λ (values : List Text). before ++ row_given name values ∷ []) (sym (append-nil some)), holds.1)
+  more_walked required name place rows before some last (word ∷ more) found new holds =
+      let rule = with_index place (filled (record (words_named name) { required = required })) in
+      let by_place = found.by_place (grind (arith, nat_tests)) in
+      let now = before ++ row_given name some ∷ [] in
+      step_on _ _ word more _ (word_step rule place rows now (Some (name, last ∷ [])) positional word by_place refl holds)
+      (subst (λ (values : List Text). Settles (at_place now (Some (name, word ∷ [])) positional place) more (before ++ row_given name values ∷ []))
+      (append_assoc some (word ∷ []) more) (more_walked required name place now before (some ++ word ∷ []) word more found new
+      (rw found.by_id (grown name some (word ∷ []) before new), rw found.by_id refl)))
+
+  words_walked : (i : ℕ) (given : List Given) (rows now : List Found) (pending : Option (Text × List Text)) (waiting : Waiting) → AreFound s.rules i given
+      → are_new now (word_rows given) ≡ true → is_in_order given ≡ true → Holds (held_with rows pending) now
+      → Settles (at_place rows pending waiting i) (words_spelled given) (now ++ word_rows given)
+  unfolding AreFound
+  words_walked i [] rows now pending waiting found new ordered holds =
+      stands (at_place rows pending waiting i) [] _ refl (holds.0 ∙ sym (append-nil now), holds.1)
+  words_walked i (option_given joined required defaults name value ∷ given) rows now pending waiting found new ordered holds =
+      words_walked i given rows now pending waiting found.1 new ordered holds
+  words_walked i (flag_given name ∷ given) rows now pending waiting found new ordered holds =
+      words_walked i given rows now pending waiting found.1 new ordered holds
+  words_walked i (word_given required name value ∷ given) rows now pending waiting found new ordered holds =
+      let rule = with_index i (filled (rule_given (word_given required name value))) in
+      let parts = both (not (has_row name now)) _ new in
+      let fresh = is_false _ parts.0 in
+      let row = row_given name (value ∷ []) in
+      step_on _ _ value (words_spelled given) _ (word_step rule i rows now pending waiting value (found.0.by_place (grind (arith, nat_tests))) refl holds)
+      (subst (Settles (at_place now (Some (name, value ∷ [])) idle (next_position rule i)) (words_spelled given))
+      (append_assoc now (row ∷ []) (word_rows given))
+      (words_walked (next_position rule i) given now (now ++ row ∷ []) (Some (name, value ∷ [])) idle found.1 parts.1 ordered
+      (rw found.0.by_id (set_row name (value ∷ []) now fresh), rw (found.0.by_id, fresh) refl)))
+  words_walked i (words_given required name first more ∷ given) rows now pending waiting found new ordered holds =
+      let rule = with_index i (filled (rule_given (words_given required name first more))) in
+      let parts = both (not (has_row name now)) _ new in
+      let fresh = is_false _ parts.0 in
+      rw (none_spelled given ordered).1 (step_on _ _ first more _
+      (word_step rule i rows now pending waiting first (found.0.by_place (grind (arith, nat_tests))) refl holds)
+      (more_walked required name i now now (first ∷ []) first more found.0 fresh (rw found.0.by_id (added name (first ∷ []) now fresh), rw found.0.by_id refl)))
+  words_walked i (left_out rule ∷ given) rows now pending waiting found new ordered holds =
+      go (wants_index rule) refl ordered
+      (λ same ordered. words_walked i given rows now pending waiting (subst (λ (i : ℕ). AreFound s.rules i given) same found.1) new ordered holds)
+    where
+      go : (wants : Bool) → wants_index rule ≡ wants → cond wants (has_no_words given) (is_in_order given) ≡ true
+          → (index_after i rule ≡ i → is_in_order given ≡ true → Settles (at_place rows pending waiting i) (words_spelled given) (now ++ word_rows given))
+          → Settles (at_place rows pending waiting i) (words_spelled given) (now ++ word_rows given)
+      go true wants none rest =
+          let nothing = none_spelled given none in
+          stands (at_place rows pending waiting i) (words_spelled given) _ nothing.0
+          (holds.0 ∙ (sym (append-nil now) ∙ ap (λ (more : List Found). now ++ more) (sym nothing.1)), holds.1)
+      go false wants ordered rest = rest (ap (λ (b : Bool). cond b (min (i + 1) usize_max) i) wants) ordered
+
+  -- ---- the options, and then the words
+
+  -- the walk goes on from these rows
+  GoesOn : List Text → List Found → List Found → Type 0
+  GoesOn tail last now = (rows : List Found) (pending : Option (Text × List Text)) → Holds (held_with rows pending) now → are_new now last ≡ true
+      → Settles (at_option rows pending) tail (now ++ last)
+
+  module _ (tail : List Text) (last : List Found) where
+    -- it goes on from these rows with those of what is given
+    OptionsGoOn : List Given → List Found → Type 0
+    OptionsGoOn given now = (rows : List Found) (pending : Option (Text × List Text)) → Holds (held_with rows pending) now
+        → are_new now (option_rows given ++ last) ≡ true → Settles (at_option rows pending) (options_spelled given ++ tail) (now ++ (option_rows given ++ last))
+
+    one_more : (given : List Given) (now : List Found) (row : Found) → GoesOn tail last (now ++ row ∷ option_rows given)
+        → (GoesOn tail last ((now ++ row ∷ []) ++ option_rows given) → OptionsGoOn given (now ++ row ∷ []))
+        → (rows : List Found) (pending : Option (Text × List Text)) → Holds (held_with rows pending) (now ++ row ∷ [])
+        → are_new (now ++ row ∷ []) (option_rows given ++ last) ≡ true
+        → Settles (at_option rows pending) (options_spelled given ++ tail) (now ++ (row ∷ option_rows given ++ last))
+    unfolding OptionsGoOn
+    one_more given now row then rest rows pending holds new =
+        subst (Settles (at_option rows pending) (options_spelled given ++ tail)) (append_assoc now (row ∷ []) (option_rows given ++ last))
+        (rest (subst (GoesOn tail last) (sym (append_assoc now (row ∷ []) (option_rows given))) then) rows pending holds new)
+
+    options_walked : (i : ℕ) (given : List Given) (now : List Found) → AreFound s.rules i given → are_options_named given ≡ true
+        → GoesOn tail last (now ++ option_rows given) → OptionsGoOn given now
+    unfolding AreFound GoesOn OptionsGoOn
+    options_walked i [] now found named then rows pending holds new = subst (GoesOn tail last) (append-nil now) then rows pending holds new
+    options_walked i (word_given required name value ∷ given) now found named then rows pending holds new =
+        options_walked (index_after i (rule_given (word_given required name value))) given now found.1 named then rows pending holds new
+    options_walked i (words_given required name first more ∷ given) now found named then rows pending holds new =
+        options_walked (index_after i (rule_given (words_given required name first more))) given now found.1 named then rows pending holds new
+    options_walked i (left_out rule ∷ given) now found named then rows pending holds new =
+        options_walked (index_after i rule) given now found.1 named then rows pending holds new
+    options_walked i (flag_given [] ∷ given) now found named then rows pending holds new = cc
+    options_walked i (flag_given (first ∷ name) ∷ given) now found named then rows pending holds new =
+        let own = both _ _ named in
+        let parts = both (not (has_row (first ∷ name) now)) _ new in
+        let row = row_given (first ∷ name) (codes "true" ∷ []) in
+        step_on _ _ _ _ _ (flag_step first name rows now pending holds own.0 (is_false _ parts.0) found.0)
+        (one_more given now row then (options_walked i given (now ++ row ∷ []) found.1 own.1) (now ++ row ∷ []) None (refl, refl) parts.1)
+    options_walked i (option_given joined required defaults [] value ∷ given) now found named then rows pending holds new = cc
+    options_walked i (option_given true required defaults (first ∷ name) value ∷ given) now found named then rows pending holds new =
+        let own = both _ _ named in
+        let parts = both (not (has_row (first ∷ name) now)) _ new in
+        let row = row_given (first ∷ name) (value ∷ []) in
+        step_on _ _ _ _ _ (option_step first name rows now pending holds own.0 (is_false _ parts.0) required defaults value found.0)
+        (one_more given now row then (options_walked i given (now ++ row ∷ []) found.1 own.1) (now ++ row ∷ []) None (refl, refl) parts.1)
+    options_walked i (option_given false required defaults (first ∷ name) value ∷ given) now found named then rows pending holds new =
+        let own = both _ _ named in
+        let value_is = both _ _ own.1 in
+        let parts = both (not (has_row (first ∷ name) now)) _ new in
+        let fresh = is_false _ parts.0 in
+        let row = row_given (first ∷ name) (value ∷ []) in
+        step_on _ _ _ _ _ (name_step first name rows now pending holds own.0 fresh required defaults value found.0)
+        (step_on _ _ _ _ _ (value_step first name rows now pending holds own.0 fresh required defaults value value_is.0 found.0)
+        (one_more given now row then (options_walked i given (now ++ row ∷ []) found.1 value_is.1) now (Some (first ∷ name, value ∷ []))
+        (value_holds first name rows now pending holds own.0 fresh required defaults value found.0) parts.1))
+
+  -- no word follows the options
+  ends_with_options : (given : List Given) → has_no_words given ≡ true → GoesOn [] (word_rows given) (option_rows given)
+  unfolding GoesOn
+  ends_with_options given none rows pending holds new = stands (at_option rows pending) [] _ refl
+      (holds.0 ∙ (sym (append-nil (option_rows given)) ∙ ap (λ (more : List Found). option_rows given ++ more) (sym (none_spelled given none).1)), holds.1)
+
+  words_after_options : (given : List Given) → AreFound s.rules 1 given → is_in_order given ≡ true
+      → GoesOn (codes "--" ∷ words_spelled given) (word_rows given) (option_rows given)
+  unfolding GoesOn
+  words_after_options given found ordered rows pending holds new = step_on _ _ (codes "--") (words_spelled given) _ (dashes_step rows pending)
+      (words_walked 1 given rows (option_rows given) pending idle found new ordered holds)
+
+  -- nothing fails, and the rows of what is given are found
+  pub given_taken : (given : List Given) (others : List Rule) (words : List Text) → s.rules ≡ filled_from 1 (map rule_given given ++ others)
+      → are_apart [] s.rules ≡ true → are_options_named given ≡ true → are_new [] (rows_given given) ≡ true → is_in_order given ≡ true
+      → end_fault s (rows_given given) ≡ [] → AreSpelled given words
+      → (level_fault s [] nothing_held words false [] ≡ []) × (rows_after s.rules [] words ≡ fold with_default (rows_given given) s.rules)
+  unfolding Settles OptionsGoOn
+  given_taken given others words same apart named new ordered ends spells =
+      let found = all_found s.rules [] 1 given others same (rw same at apart) in
+      let walked : Settles (walk_from nothing_held) words (rows_given given) = elim spells [
+        | inl are ↦ rw are (options_walked _ (word_rows given) 1 given [] found named (words_after_options given found ordered) [] None (refl, refl) new)
+        | inr alone ↦ rw alone.0 (subst (λ (words : List Text). Settles (walk_from nothing_held) words (rows_given given)) (append-nil (options_spelled given))
+            (options_walked [] (word_rows given) 1 given [] found named (ends_with_options given alone.1) [] None (refl, refl) new))
+      ] in
+      let Fails : Held → Kinds = λ held. or_else (settle_fault s.rules again held) (or_else (defaults_fault (settled s.rules held).rows s.rules)
+      (check_fault s (finished s.rules held) false)) in (
+        ap₂ or_else walked.2 (ap (λ (w : Walk). Fails w.held) walked.1 ∙ ap₂ or_else walked.3.1 (ap (end_fault s) walked.3.0 ∙ ends)),
+        ap (λ (w : Walk). finished s.rules w.held) walked.1 ∙ ap (λ (rows : List Found). fold with_default rows s.rules) walked.3.0,
+      )

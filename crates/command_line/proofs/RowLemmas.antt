@@ -1,0 +1,235 @@
+-- The row of a table that a name enters takes what it is given.
+use Rattle.std.proofs.Common.{◌≡◌, ◌∙◌, Bool, true, false, List, [], ◌∷◌, ◌++◌, ◌||◌, Option, Some, None, append_assoc, fold, refl, sym, ap, ap₂, codes, cond}
+use Rattle.std.proofs.Common.{map, find, drop, is_some, IsSome, option_map, subst}
+use Rattle.std.proofs.lemmas.List.{append-nil}
+use Rattle.std.specs.Str.{bytes_eq}
+use Rattle.std.proofs.lemmas.Slice.Eq.{bytes_eq-Decides}
+use Rattle.clap.specs.Faults.{built_fault, check_fault, defaults_fault, entered_fault, level_fault, other_fault, settle_fault, step_fault, turn_fault}
+use Rattle.clap.specs.Faults.{walk_fault}
+use Rattle.clap.specs.Kinds.{Kinds, or_else}
+use Rattle.clap.specs.Simple.{built, built_leaf, entered, help_shape, inherited, label_of, marked_built, names_of, help_rule, new_shape, on_top, rows_at}
+use Rattle.clap.specs.Simple.{with_leaf_noted}
+use Rattle.clap.specs.Walk.{Names, Walk, after_step, answers_to, finished, idle, nothing_held, rows_after, settled, stop_after, subcommand_met}
+use Rattle.clap.specs.Walk.{subcommand_or_other, walk, walk_from, walked}
+use Rattle.clap.specs.Words.{App, Row as Found, Rule, Shape, Text, fault_of, new_app, subcommand_of, with_rule, with_subcommand}
+use Rattle.clap.proofs.SimpleLemmas.{is_false, is_nil}
+use Rattle.clap.proofs.WalkLemmas.{find-map}
+use Rattle.command_line.specs.Application.{program_named}
+use Rattle.command_line.specs.Given.{AreSpelled, Given, can_be_given, found_given, rule_given, shape_given}
+use Rattle.command_line.specs.JobLaws.{RowsTakeWhatTheyAreGiven, WordsNameARow}
+use Rattle.command_line.specs.Table.{Entry, Table, asked, asked_in, entry_app, entry_named, refusals, with_entries}
+use Rattle.command_line.proofs.GivenLemmas.{given_taken}
+use Rattle.command_line.proofs.WordsLemmas.{both}
+use Rattle.command_line.proofs.NamedLemmas.{StopsNotAtHelp, enters_command}
+
+-- ---- what clap builds of a table
+
+rules_added : (app : App) (rules : List Rule) → fold with_rule app rules ≡ on_top (λ s. record s { rules = s.rules ++ rules }) app
+rules_added app [] = ap (λ (rules : List Rule). on_top (λ s. record s { rules = rules }) app) (sym (append-nil app.top.rules))
+rules_added app (rule ∷ rules) = rules_added (with_rule app rule) rules
+    ∙ ap (λ (rules : List Rule). on_top (λ s. record s { rules = rules }) app) (append_assoc app.top.rules (rule ∷ []) rules)
+
+abbrev shape_of_entry : {C : Type 0} → Entry C → Shape
+shape_of_entry entry = record (new_shape entry.name) { rules = entry.rules }
+
+top_is : {C : Type 0} (entry : Entry C) → (entry_app entry).top ≡ shape_of_entry entry
+top_is entry = ap (λ (app : App). app.top) (rules_added (new_app entry.name) entry.rules)
+
+abbrev with_more : App → List Shape → App
+with_more app shapes = record { top = record app.top { is_leaf = false }; subs = app.subs ++ shapes }
+
+entries_added : {C : Type 0} (app : App) (entry : Entry C) (entries : List (Entry C))
+    → with_entries app (entry ∷ entries) ≡ with_more app (map shape_of_entry (entry ∷ entries))
+entries_added app entry [] = ap (λ (s : Shape). with_subcommand app s) (top_is entry)
+entries_added app entry (next ∷ entries) =
+    entries_added (with_subcommand app (entry_app entry).top) next entries
+    ∙ (ap (λ (s : Shape). with_more (with_subcommand app s) (map shape_of_entry (next ∷ entries))) (top_is entry)
+    ∙ ap (λ (subs : List Shape). record (with_more app []) { subs = subs })
+    (append_assoc app.subs (shape_of_entry entry ∷ []) (map shape_of_entry (next ∷ entries))))
+
+no_other_name : (name : Text) → bytes_eq name (codes "help") ≡ false → bytes_eq (codes "help") name ≡ false
+no_other_name name other = go (bytes_eq (codes "help") name) refl
+  where
+    go : (b : Bool) → bytes_eq (codes "help") name ≡ b → b ≡ false
+    go false is = refl
+    go true is =
+        let same : codes "help" ≡ name = (bytes_eq-Decides (codes "help") name).0 is in
+        let bad : bytes_eq name (codes "help") ≡ true = (bytes_eq-Decides name (codes "help")).1 (sym same) in
+        cc
+
+-- the row of a name other than `help`, as clap builds it under the program
+shape_found : {C : Type 0} (above : Shape) (entries : List (Entry C)) (name : Text) → bytes_eq name (codes "help") ≡ false
+    → find (λ s. answers_to name (label_of s)) (map built_leaf (map (inherited above) (map shape_of_entry entries) ++ help_shape ∷ []))
+    ≡ option_map (λ entry. built_leaf (inherited above (shape_of_entry entry))) (entry_named name entries)
+shape_found above [] name other = rw (no_other_name name other) refl
+shape_found {C} above (next ∷ entries) name other = go (bytes_eq next.name name) (shape_found above entries name other)
+  where
+    built_of : Entry C → Shape
+    built_of entry = built_leaf (inherited above (shape_of_entry entry))
+
+    rest : List Shape
+    rest = map built_leaf (map (inherited above) (map shape_of_entry entries) ++ help_shape ∷ [])
+
+    go : (b : Bool) → find (λ s. answers_to name (label_of s)) rest ≡ option_map built_of (entry_named name entries)
+        → cond (b || false) (Some (built_of next)) (find (λ s. answers_to name (label_of s)) rest)
+        ≡ option_map built_of (cond b (Some next) (entry_named name entries))
+    go true others = refl
+    go false others = others
+
+-- ---- the words behind a command's name
+
+-- the walk has met the command of this name, and these words behind it
+abbrev at_command : Text → List Text → Walk
+at_command name words = record (walk_from nothing_held) { stopped = Some (name, words) }
+
+words_kept : (c : List Rule) (names : Names) (name : Text) (some words : List Text)
+    → fold (walked c names) (at_command name some) words ≡ at_command name (some ++ words)
+unfolding walked
+words_kept c names name some [] = ap (at_command name) (sym (append-nil some))
+words_kept c names name some (word ∷ words) =
+    words_kept c names name (some ++ word ∷ []) words ∙ ap (at_command name) (append_assoc some (word ∷ []) words)
+
+words_pass : (s : Shape) (names : Names) (name : Text) (some words : List Text) → walk_fault s names (at_command name some) words ≡ []
+unfolding walk_fault walked
+words_pass s names name some [] = refl
+words_pass s names name some (word ∷ words) = words_pass s names name (some ++ word ∷ []) words
+
+module _ {C : Type 0} (title : Text) (first : Entry C) (others : List (Entry C)) where
+  abbrev app : App
+  app = built (with_more (program_named title) (map shape_of_entry (first ∷ others)))
+
+  -- what the commands inherit from
+  abbrev above : Shape
+  above = with_leaf_noted (marked_built (with_more (program_named title) []).top)
+
+  module _ (entry : Entry C) (is : entry_named entry.name (first ∷ others) ≡ Some entry)
+      (no_help : bytes_eq entry.name (codes "help") ≡ false) (words : List Text) where
+    abbrev shape : Shape
+    shape = built_leaf (shape_of_entry entry)
+
+    shape_is : find (λ s. answers_to entry.name (label_of s)) app.subs ≡ Some shape
+    shape_is = shape_found above (first ∷ others) entry.name no_help ∙ ap (option_map (λ (e : Entry C). built_leaf (inherited above (shape_of_entry e)))) is
+
+    abbrev after_name : Option Text → Walk
+    after_name met =
+        let step = subcommand_or_other app.top.rules met idle 1 entry.name nothing_held in
+        after_step app.top.rules entry.name (walk_from nothing_held) step.0 step.1
+
+    abbrev name_fails : Option Text → Kinds
+    name_fails met =
+        let step = subcommand_or_other app.top.rules met idle 1 entry.name nothing_held in
+        or_else (other_fault app.top met entry.name nothing_held) (step_fault app.top 1 step.0 step.1)
+
+    met : subcommand_met (names_of app) idle entry.name ≡ Some entry.name
+    met = ap (option_map (λ (label : Text × List Text). label.0)) (sym (find-map (answers_to entry.name) label_of app.subs) ∙ ap (option_map label_of) shape_is)
+
+    meets : walked app.top.rules (names_of app) (walk_from nothing_held) entry.name ≡ at_command entry.name []
+    unfolding walked
+    meets = ap after_name met
+
+    passes : turn_fault app.top (names_of app) (walk_from nothing_held) entry.name ≡ []
+    passes = ap name_fails met ∙ rw no_help refl
+
+    walks : walk app.top.rules (names_of app) nothing_held (entry.name ∷ words) ≡ at_command entry.name words
+    walks = ap (λ (w : Walk). fold (walked app.top.rules (names_of app)) w words) meets ∙ words_kept app.top.rules (names_of app) entry.name [] words
+
+    walks_clear : walk_fault app.top (names_of app) (walk_from nothing_held) (entry.name ∷ words) ≡ []
+    unfolding walk_fault
+    walks_clear =
+        ap₂ or_else passes (ap (λ (w : Walk). walk_fault app.top (names_of app) w words) meets ∙ words_pass app.top (names_of app) entry.name [] words)
+
+    finds : entered app (walk app.top.rules (names_of app) nothing_held (entry.name ∷ words)).stopped ≡ Some (entry.name, rows_after shape.rules [] words)
+    finds = ap (λ (w : Walk). entered app w.stopped) walks ∙ ap (option_map (λ (s : Shape). rows_at s words)) shape_is
+
+    clear : level_fault shape [] nothing_held words false [] ≡ [] → built_fault app nothing_held (entry.name ∷ words) ≡ []
+    unfolding defaults_fault
+    clear below =
+        let Fails : Walk → Kinds = λ w. or_else (entered_fault app w.stopped) (or_else (settle_fault app.top.rules false w.held)
+        (or_else (defaults_fault (settled app.top.rules w.held).rows app.top.rules)
+        (check_fault app.top (finished app.top.rules w.held) (is_some (entered app w.stopped))))) in
+        ap₂ or_else walks_clear (ap Fails walks ∙ rw (shape_is, below) refl)
+
+-- ---- words that clap accepts
+
+name_found : {C : Type 0} (name : Text) (entries : List (Entry C)) (entry : Entry C) → entry_named name entries ≡ Some entry → entry.name ≡ name
+name_found name [] entry is = cc
+name_found {C} name (next ∷ entries) entry is = go (bytes_eq next.name name) refl is (name_found name entries entry)
+  where
+    go : (b : Bool) → bytes_eq next.name name ≡ b → cond b (Some next) (entry_named name entries) ≡ Some entry
+        → (entry_named name entries ≡ Some entry → entry.name ≡ name) → entry.name ≡ name
+    go true is found others = let same : next ≡ entry = cc in ap (λ (e : Entry C). e.name) (sym same) ∙ (bytes_eq-Decides next.name name).0 is
+    go false is found others = others found
+
+asked_where_entered : {C : Type 0} (title : Text) (first : Entry C) (others : List (Entry C)) (stop : Option (Text × List Text))
+    → is_some (entered (app title first others) stop) ≡ true → StopsNotAtHelp stop
+    → IsSome (asked_in (record { title = title; entries = first ∷ others }) (entered (app title first others) stop))
+asked_where_entered title first others None met other = cc
+asked_where_entered {C} title first others (Some p) met other =
+    let found = shape_found (above title first others) (first ∷ others) p.0 other in
+    rw found (go (entry_named p.0 (first ∷ others)) refl (rw found at met))
+  where
+    enter : Option (Entry C) → Option (Text × List Found)
+    enter named = option_map (λ s. rows_at s p.1) (option_map (λ entry. built_leaf (inherited (above title first others) (shape_of_entry entry))) named)
+
+    go : (named : Option (Entry C)) → entry_named p.0 (first ∷ others) ≡ named → is_some (enter named) ≡ true
+        → IsSome (asked_in (record { title = title; entries = first ∷ others }) (enter named))
+    go None is met = cc
+    go (Some entry) is met =
+        let rows = (rows_at (built_leaf (inherited (above title first others) (shape_of_entry entry))) p.1).1 in
+        let Asks : Option (Entry C) → Type 0 = λ named. IsSome {T = C × List Found} (option_map (λ (e : Entry C). (e.command, rows)) named) in
+        subst Asks (sym (ap (λ (name : Text). entry_named name (first ∷ others)) (name_found p.0 (first ∷ others) entry is) ∙ is)) refl
+
+named : {C : Type 0} (title : Text) (entries : List (Entry C)) (words : List Text)
+    → let table : Table C = record { title = title; entries = entries } in refusals table words ≡ [] → IsSome (asked table words)
+unfolding refusals asked
+named {C} title [] words clear =
+    let none = built (program_named title) in
+    go (stop_after none.top.rules (names_of none) (drop 1 words)) (enters_command none (drop 1 words) refl clear).0
+  where
+    go : (stop : Option (Text × List Text)) → is_some (entered (built (program_named title)) stop) ≡ true
+        → let table : Table C = record { title = title; entries = [] } in IsSome (asked_in table (entered (built (program_named title)) stop))
+    go None met = cc
+    go (Some p) met = cc
+named {C} title (first ∷ others) words clear =
+    let table : Table C = record { title = title; entries = first ∷ others } in
+    let made = entries_added (program_named title) first others in
+    let met = enters_command (app title first others) (drop 1 words) refl (ap (λ (app : App). fault_of app words) (sym made) ∙ clear) in
+    subst (λ (app : App). IsSome (asked_in table (subcommand_of app words))) (sym made)
+    (asked_where_entered title first others (stop_after (app title first others).top.rules (names_of (app title first others)) (drop 1 words))
+    met.0 (met.1 refl))
+
+pub words_name_a_row : {C : Type 0} → WordsNameARow C
+words_name_a_row table = named table.title table.entries
+
+-- ---- the law
+
+taken : {C : Type 0} (title : Text) (entries : List (Entry C)) (entry : Entry C) (given : List Given) (program : Text) (words : List Text)
+    → entry_named entry.name entries ≡ Some entry → map rule_given given ≡ entry.rules → can_be_given entry.name given ≡ true → AreSpelled given words
+    → let table : Table C = record { title = title; entries = entries } in
+    (refusals table (program ∷ entry.name ∷ words) ≡ [])
+    × (asked table (program ∷ entry.name ∷ words) ≡ Some (entry.command, found_given entry.name given))
+unfolding refusals asked
+taken title [] entry given program words is rules can spells = cc
+taken {C} title (first ∷ others) entry given program words is rules can spells =
+    let table : Table C = record { title = title; entries = first ∷ others } in
+    let shape = shape_given entry.name given in
+    let made = entries_added (program_named title) first others in
+    let helps = both _ _ can in
+    let apart = both _ _ helps.1 in
+    let new = both _ _ apart.1 in
+    let named = both _ _ new.1 in
+    let ordered = both _ _ named.1 in
+    let leaf = given_taken shape given (help_rule ∷ []) words refl apart.0 named.0 new.0 ordered.0 (is_nil _ ordered.1) spells in
+    let same : shape ≡ built_leaf (shape_of_entry entry) =
+    ap (λ (rules : List Rule). built_leaf (record (new_shape entry.name) { rules = rules })) rules in
+    let no_help = is_false _ helps.0 in (
+      ap (λ (app : App). fault_of app (program ∷ entry.name ∷ words)) made
+          ∙ clear title first others entry is no_help words (ap (λ (s : Shape). level_fault s [] nothing_held words false []) (sym same) ∙ leaf.0),
+      ap (λ (app : App). asked_in table (subcommand_of app (program ∷ entry.name ∷ words))) made
+          ∙ (ap (asked_in table) (finds title first others entry is no_help words
+          ∙ ap (λ (rows : List Found). Some (entry.name, rows)) (ap (λ (s : Shape). rows_after s.rules [] words) (sym same) ∙ leaf.1))
+          ∙ ap (option_map (λ (e : Entry C). (e.command, found_given entry.name given))) is),
+    )
+
+pub rows_take_what_they_are_given : {C : Type 0} → RowsTakeWhatTheyAreGiven C
+rows_take_what_they_are_given table = taken table.title table.entries

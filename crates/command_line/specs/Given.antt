@@ -1,0 +1,140 @@
+-- What the arguments of a row are given, how that is spelled, and what clap finds of it (ours).
+use Rattle.std.specs.Prelude.{◌≡◌, ◌⊎◌, ◌==◌, ◌&&◌, ◌||◌, Bool, true, false, not, List, [], ◌∷◌, ◌++◌}
+use Rattle.std.specs.Prelude.{Some, None, codes, fold, is_some, map, unwrap_or, if◌then◌else◌}
+use Rattle.std.specs.List.{list_any}
+use Rattle.std.specs.Option.{option_map_or}
+use Rattle.std.specs.Str.{bytes_eq}
+use Rattle.clap.specs.Faults.{check_fault, defaults_fault}
+use Rattle.clap.specs.Kinds.{Kinds, or_else}
+use Rattle.clap.specs.Lexer.{strip_byte}
+use Rattle.clap.specs.Simple.{built_leaf, new_shape, wants_index}
+use Rattle.clap.specs.Walk.{has_long, has_row, is_empty, reading_by, with_default}
+use Rattle.clap.specs.Words.{Row as Found, Rule, Shape, Text}
+use Rattle.clap.specs.declared.parser.matches.ValueSource.TheVariants.{CommandLine}
+use Rattle.command_line.specs.Application.{flag_named, option_named, word_named, words_named}
+
+-- An argument of a row with what it is given: an option with its value in one word or two, whether it is required, its
+-- defaults, its name and the value; a flag; a word; some words, the first apart; or nothing.
+pub data Given : Type 0 where
+  option_given : Bool → Bool → List Text → Text → Text → Given
+  flag_given : Text → Given
+  word_given : Bool → Text → Text → Given
+  words_given : Bool → Text → Text → List Text → Given
+  left_out : Rule → Given
+
+abbrev pub rule_given : Given → Rule
+rule_given (option_given joined required defaults name value) = record (option_named name) { required = required; defaults = defaults }
+rule_given (flag_given name) = flag_named name
+rule_given (word_given required name value) = record (word_named name) { required = required }
+rule_given (words_given required name first more) = record (words_named name) { required = required }
+rule_given (left_out rule) = rule
+
+-- `--NAME=VALUE` or `--NAME VALUE` for each option, and `--NAME` for each flag
+abbrev pub options_spelled : List Given → List Text
+options_spelled [] = []
+options_spelled (option_given true required defaults name value ∷ given) = (codes "--" ++ (name ++ 61 ∷ value)) ∷ options_spelled given
+options_spelled (option_given false required defaults name value ∷ given) = (codes "--" ++ name) ∷ value ∷ options_spelled given
+options_spelled (flag_given name ∷ given) = (codes "--" ++ name) ∷ options_spelled given
+options_spelled (_ ∷ given) = options_spelled given
+
+-- no word follows several
+abbrev pub words_spelled : List Given → List Text
+words_spelled [] = []
+words_spelled (word_given required name value ∷ given) = value ∷ words_spelled given
+words_spelled (words_given required name first more ∷ given) = first ∷ more
+words_spelled (_ ∷ given) = words_spelled given
+
+-- what clap finds of an argument with these values
+abbrev pub row_given : Text → List Text → Found
+row_given name values = record { id = name; values = values; count = None; source = Some CommandLine; reading = reading_by (word_named name) }
+
+abbrev pub option_rows : List Given → List Found
+option_rows [] = []
+option_rows (option_given joined required defaults name value ∷ given) = row_given name (value ∷ []) ∷ option_rows given
+option_rows (flag_given name ∷ given) = row_given name (codes "true" ∷ []) ∷ option_rows given
+option_rows (_ ∷ given) = option_rows given
+
+abbrev pub word_rows : List Given → List Found
+word_rows [] = []
+word_rows (word_given required name value ∷ given) = row_given name (value ∷ []) ∷ word_rows given
+word_rows (words_given required name first more ∷ given) = row_given name (first ∷ more) ∷ word_rows given
+word_rows (_ ∷ given) = word_rows given
+
+abbrev pub rows_given : List Given → List Found
+rows_given given = option_rows given ++ word_rows given
+
+-- the row's command as clap builds it
+abbrev pub shape_given : Text → List Given → Shape
+shape_given name given = built_leaf (record (new_shape name) { rules = map rule_given given })
+
+-- the values that are given, and the defaults of what is left out
+abbrev pub found_given : Text → List Given → List Found
+found_given name given = fold with_default (rows_given given) (shape_given name given).rules
+
+-- ---- what is computed of a row that is written out
+
+-- no argument before this one has its name or its place
+abbrev is_apart : List Rule → Rule → Bool
+is_apart before rule =
+    not (list_any (λ other. bytes_eq other.id rule.id) before)
+    && (not (list_any (λ other. not (is_some other.index) && has_long other rule.id) before)
+    && not (list_any (λ other. option_map_or (λ place. place == unwrap_or rule.index 0) other.index false) before))
+
+abbrev pub are_apart : List Rule → List Rule → Bool
+are_apart before [] = true
+are_apart before (rule ∷ rules) = is_apart before rule && are_apart (before ++ rule ∷ []) rules
+
+-- no two rows are of one argument
+abbrev pub are_new : List Found → List Found → Bool
+are_new before [] = true
+are_new before (row ∷ rows) = not (has_row row.id before) && are_new (before ++ row ∷ []) rows
+
+-- the name of an option, without `=`
+abbrev is_option_name : Text → Bool
+is_option_name [] = false
+is_option_name (first ∷ rest) = not (list_any (λ byte. byte == 61) (first ∷ rest))
+
+-- the options have such names, and no value that is a word of its own begins with a dash
+abbrev pub are_options_named : List Given → Bool
+are_options_named [] = true
+are_options_named (option_given joined required defaults name value ∷ given) =
+    is_option_name name && ((joined || not (is_some (strip_byte 45 value))) && are_options_named given)
+are_options_named (flag_given name ∷ given) = is_option_name name && are_options_named given
+are_options_named (_ ∷ given) = are_options_named given
+
+abbrev pub has_no_words : List Given → Bool
+has_no_words [] = true
+has_no_words (word_given required name value ∷ given) = false
+has_no_words (words_given required name first more ∷ given) = false
+has_no_words (_ ∷ given) = has_no_words given
+
+-- no word is given behind several ones, nor behind one that is left out
+abbrev pub is_in_order : List Given → Bool
+is_in_order [] = true
+is_in_order (words_given required name first more ∷ given) = has_no_words given
+is_in_order (left_out rule ∷ given) = if wants_index rule then has_no_words given else is_in_order given
+is_in_order (_ ∷ given) = is_in_order given
+
+-- clap's last checks of what was found: its defaults, and what is required
+abbrev pub end_fault : Shape → List Found → Kinds
+end_fault shape rows = or_else (defaults_fault rows shape.rules) (check_fault shape (fold with_default rows shape.rules) false)
+
+-- A row may be given this: its arguments differ and are in order, each that is required is there, and its name isn't `help`.
+abbrev pub can_be_given : Text → List Given → Bool
+can_be_given name given =
+    let shape = shape_given name given in
+    not (bytes_eq name (codes "help"))
+    && (are_apart [] shape.rules
+    && (are_new [] (rows_given given)
+    && (are_options_named given && (is_in_order given && is_empty (end_fault shape (rows_given given))))))
+
+-- the options, and behind `--` the words; the dashes may be left out where there are no words
+abbrev pub AreSpelled : List Given → List Text → Type 0
+AreSpelled given words = (words ≡ options_spelled given ++ codes "--" ∷ words_spelled given) ⊎ ((words ≡ options_spelled given) × (has_no_words given ≡ true))
+
+-- an argument that is given the value of its name
+abbrev pub given_by : (Text → Text) → Rule → Given
+given_by value rule =
+    if is_some rule.long
+    then (if rule.value_names == 0 then flag_given rule.id else option_given true rule.required rule.defaults rule.id (value rule.id))
+    else (if is_some rule.action then words_given rule.required rule.id (value rule.id) [] else word_given rule.required rule.id (value rule.id))

@@ -1,5 +1,0 @@
-use Rattle.passtool_commands.proofs.NarrowLaws as laws
-use Rattle.passtool_commands.proofs.laws.mint_takes_defaults.Goals as goal
-
-pub returns : goal.returns
-returns c = laws.mint_takes_defaults c.reads_what_is_understood.ensures
