@@ -138,7 +138,8 @@ module _ (P : Verdict → Type 0) (club : Club) (words : Words) (moment : ℕ) (
     new_cases slot number guests r new None at = w.silent (Refused refusals.NoSuchFacility) tt
     new_cases slot number guests r new (Some facility) at =
         let view = view_at club (asked.Book slot number guests) moment key member in
-        first_of_cases P (verdicts.book_lines view slot guests moment facility) (verdicts.booked_now (written club key slot number guests facility) key.member) (
+        let now = verdicts.booked_now (written club key slot number guests facility) key.member in
+        first_of_cases P (verdicts.book_lines view slot guests moment facility) now (
           w.silent (Refused refusals.NotBookable) tt,
           (
             w.silent (Refused refusals.SlotClosed) tt,

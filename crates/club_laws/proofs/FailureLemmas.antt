@@ -5,15 +5,14 @@ use Rattle.pass_caveats.specs.Laws.{TestsTheSet}
 use Rattle.club_values.specs.declared.slot.Slot.{Slot}
 use Rattle.club_rows.specs.declared.member.Member.{Member}
 use Rattle.club_core.specs.declared.reply.Reply.{Reply}
-use Rattle.club_core.specs.declared.reply.Reply.TheVariants.{Refused}
 use Rattle.club_core.specs.Club.{Club, empty_club, member_named, IsSound}
 use Rattle.club_core.specs.Laws.{TestsTheSignature}
 use Rattle.club_core.specs.Pass.{Words}
-use Rattle.club_core.specs.Run.{Event, Asked, Outcome, step, replies_of, club_after, ToMember, Response}
+use Rattle.club_core.specs.Run.{Event, Asked, step, replies_of, club_after, ToMember, Response}
 use Rattle.club_laws.specs.RunsWithFailures.{WasReturned, RepeatsServedReplies}
 use Rattle.club_laws.specs.Conservation.{IsConserved, HasPlaces}
 use Rattle.club_core.specs.Events.{IsEvent}
-use Rattle.club_laws.specs.Failed.{Presentation, present_reply, is_unavailable, has_failed, IsStep, IsRun, answered_events}
+use Rattle.club_laws.specs.Failed.{Presentation, is_unavailable, has_failed, IsStep, IsRun, answered_events}
 use Rattle.club_core.specs.Acceptance.{IsAcceptedIn}
 use Rattle.club_laws.specs.Repeats.{IsBookedOrCancelled, WasServed}
 use Rattle.club_laws.proofs.FailedEvents.{run_of_answered, events_left, cut, join}
@@ -51,8 +50,7 @@ module _ {O : Type 0} (presentation : Presentation O) where
 
   -- a booking or a cancellation that was served didn't fail
   not_unavailable : (reply : Reply) → IsBookedOrCancelled reply → is_unavailable reply ≡ false
-  not_unavailable (Refused refusal) h = absurd h
-  not_unavailable reply h = refl
+  not_unavailable reply h = grind arith
 
   served_by_machine : (club next : Club) (words : Words) (moment : ℕ) (reply : Reply) → is_unavailable reply ≡ false
       → IsStep presentation club (Asked words moment) (ToMember reply) next → (step club (Asked words moment)).reply ≡ ToMember reply
@@ -94,8 +92,7 @@ module _ {O : Type 0} (presentation : Presentation O) where
   repeat_of_step : (club next : Club) (words : Words) (moment : ℕ) (returned : Response O) (reply : Reply)
       → step club (Asked words moment) ≡ record { reply = ToMember reply; club = club } → IsStep presentation club (Asked words moment) returned next
       → (has_failed presentation (Asked words moment) returned ≡ false → returned ≡ ToMember reply) × (next ≡ club)
-  repeat_of_step club next words moment returned reply again (inl a) =
-      (λ _. a.reply ∙ ap (λ (o : Outcome). present_reply presentation o.reply) again, a.steps_club ∙ ap (λ (o : Outcome). o.club) again)
+  repeat_of_step club next words moment returned reply again (inl a) = let same = a.reply in let kept = a.steps_club in (λ _. grind arith, grind arith)
   repeat_of_step club next words moment returned reply again (inr f) =
       (λ e. absurd (both_ways (has_failed presentation (Asked words moment) returned) e f.failure), f.kept)
 

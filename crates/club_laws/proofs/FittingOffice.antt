@@ -1,8 +1,9 @@
 -- The changes that orders of the office make fit a sound club.
-use Rattle.std.proofs.Common.{◌≡◌, ◌≢◌, ℕ, ◌+◌, ◌≤◌, true, false, Ok, Err, sym, ap, subst, arith}
-use Rattle.std.specs.Prelude.{Result, ◌&&◌, nat_lt, nat_le}
+use Rattle.std.proofs.Common.{◌≡◌, ◌≢◌, ◌+◌, ◌≤◌, true, false, Ok, Err, arith}
+use Rattle.std.proofs.lemmas.Bool.Decides.{nat_tests}
+use Rattle.std.specs.Prelude.{Result}
 use Rattle.std.specs.Str.{bytes_eq}
-use Rattle.std.proofs.lemmas.Bool.{both_ways, and_parts, ltb-true, leb-true}
+use Rattle.std.proofs.lemmas.Bool.{both_ways}
 use Rattle.club_values.specs.declared.slot.Slot.{Slot}
 use Rattle.club_rows.specs.declared.member.Member.{Member}
 use Rattle.club_rows.specs.declared.facility.Facility.{Facility}
@@ -32,26 +33,12 @@ fits club s (AddMember name quota) c r = record {
 fits club s (Credit name points) c r = record {
   small =
       All-each (λ (m : Member). bytes_eq m.name name ≡ true → m ≡ r.0) (λ (m : Member). bytes_eq m.name name ≡ true
-      → m.credited + points ≤ 999_999_999) club.members
-      (λ m is h. subst (λ (n : ℕ). n + points ≤ 999_999_999) (sym (ap (λ (x : Member). x.credited) (is h))) r.2)
+      → m.credited + points ≤ 999_999_999) club.members (λ m is h. rw (is h) r.2)
       (only_named (λ (m : Member). m.name) name club.members r.0 s.unique.members r.1);
 }
 fits club s (AddFacility name kind places price opens shuts) c r =
-    let a = and_parts (nat_le 1 places && nat_le places 50 && nat_le price 9_999 && nat_lt opens shuts) (nat_le shuts 24) r.0 in
-    let b = and_parts (nat_le 1 places && nat_le places 50 && nat_le price 9_999) (nat_lt opens shuts) a.0 in
-    let d = and_parts (nat_le 1 places && nat_le places 50) (nat_le price 9_999) b.0 in
-    let e = and_parts (nat_le 1 places) (nat_le places 50) d.0 in
-    record {
-      row = record {
-        name = c;
-        some_places = leb-true 1 places e.0;
-        few_places = leb-true places 50 e.1;
-        price = leb-true price 9_999 d.1;
-        opens = ltb-true opens shuts b.1;
-        shuts = leb-true shuts 24 a.1;
-      };
-      fresh = none_named (λ (f : Facility). f.name) name club.facilities r.1;
-    }
+    let limits = r.0 in
+    record { row = grind (arith, nat_tests); fresh = none_named (λ (f : Facility). f.name) name club.facilities r.1 }
 fits club s (AddKey name member root) c r = record {
   row = record { name = c.0; member = c.1; root = c.2; older = tt };
   fresh = none_named (λ (k : Key). k.name) name club.keys r.2;
@@ -63,7 +50,7 @@ fits club s (CloseSlot slot) c r = record {
   row = c;
   fresh =
       All-each (λ (other : Slot). same_slot other slot ≡ false) (λ (other : Slot). other ≢ slot) club.closed
-      (λ other f h. both_ways (same_slot other slot) f (subst (λ (x : Slot). same_slot other x ≡ true) h (same_slots other)))
+      (λ other f h. both_ways (same_slot other slot) f (rw h (same_slots slot)))
       (none_passes (λ (other : Slot). same_slot other slot) club.closed r.2);
   located = named_there (λ (f : Facility). f.name) slot.facility club.facilities r.0 r.1;
 }

@@ -40,24 +40,19 @@ keyed_edited root older is_revoked club keyed = record {
 
 pub keyed_after : (club : Club) (change : Change) → IsFresh club change → IsKnown club change → IsKeyed club → IsKeyed (after change club)
 keyed_after club (InsertKey key) fresh known keyed = record {
-  unique =
-      all_pairs_push (λ (a : Key) (b : Key). a.name ≢ b.name) club.keys key keyed.unique
-      (none_named (λ (k : Key). k.name) key.name club.keys fresh);
+  unique = all_pairs_push (λ (a : Key) (b : Key). a.name ≢ b.name) club.keys key keyed.unique (none_named (λ (k : Key). k.name) key.name club.keys fresh);
   known = λ k d short. still_there (λ (other : Key). other.name) club.keys key _ (keyed.known k d short);
 }
 keyed_after club (MarkRevoked name) fresh known keyed = keyed_edited (λ key. key.root) (λ key. key.older) (λ key. (revoked_key name key).revoked) club keyed
 keyed_after club (ReplaceRoot name former root until) fresh known keyed =
     keyed_edited (λ key. (rotated_key name root until key).root) (λ key. (rotated_key name root until key).older) (λ key. key.revoked) club keyed
-keyed_after club (InsertBooking booking member) fresh known keyed = record {
-  unique = keyed.unique;
-  known = All-push (λ (b : Booking). Contains (map (λ (k : Key). k.name) club.keys) b.key) club.bookings booking keyed.known known;
-}
-keyed_after club (MarkCancelled booking member refund) fresh known keyed = record {
-  unique = keyed.unique;
-  known = All-map (λ (b : Booking). Contains (map (λ (k : Key). k.name) club.keys) b.key) (cancelled_booking booking.key booking.number refund) club.bookings
-      keyed.known;
-}
-keyed_after club change fresh known keyed = record { unique = keyed.unique; known = keyed.known }
+keyed_after club (InsertBooking booking member) fresh known keyed =
+    let more = All-push (λ (b : Booking). Contains (map (λ (k : Key). k.name) club.keys) b.key) club.bookings booking keyed.known known in assumption
+keyed_after club (MarkCancelled booking member refund) fresh known keyed =
+    let marked = All-map (λ (b : Booking). Contains (map (λ (k : Key). k.name) club.keys) b.key) (cancelled_booking booking.key booking.number refund)
+    club.bookings keyed.known in
+    assumption
+keyed_after club change fresh known keyed = assumption
 
 -- a key that was added to a club with unique names had a new name
 pub pushed_fresh : (keys : List Key) (new : Key) → AllPairs (λ (a : Key) (b : Key). a.name ≢ b.name) (keys ++ new ∷ []) → find (has_name new.name) keys ≡ None
@@ -71,9 +66,6 @@ pushed_fresh (key ∷ keys) new unique =
     in
     rw (other_bytes key.name new.name differs) (pushed_fresh keys new (λ i j d h k. unique (suc i) (suc j) d (omega arith) (omega arith)))
 
-fresh_from_keyed : (club : Club) (change : Change) → AllPairs (λ (a : Key) (b : Key). a.name ≢ b.name) (after change club).keys → IsFresh club change
-fresh_from_keyed club (InsertKey key) unique = pushed_fresh club.keys key unique
-fresh_from_keyed club change unique = tt
-
 pub fresh_from_sound : (club : Club) (change : Change) → IsSound (after change club) → IsFresh club change
-fresh_from_sound club change sound = fresh_from_keyed club change sound.unique.keys
+fresh_from_sound club (InsertKey key) sound = pushed_fresh club.keys key sound.unique.keys
+fresh_from_sound club change sound = tt

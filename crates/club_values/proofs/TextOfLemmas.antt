@@ -111,5 +111,6 @@ unfolding decimal_of_text
 reads_numbers text n =
     let zero = leads_with_zero text in
     let digits = are_few_digits text in
-    let in_turn : cond zero None (cond digits (Some (digits_value 10 text)) None) ≡ cond (digits && not zero) (Some (digits_value 10 text)) None = grind arith in
-    rw in_turn (found (SpellsNumber text) (digits_value 10 text) (digits && not zero) (Decides-number text) (value_of-number text) n)
+    let value = digits_value 10 text in
+    let in_turn : cond zero None (cond digits (Some value) None) ≡ cond (digits && not zero) (Some value) None = grind arith in
+    rw in_turn (found (SpellsNumber text) value (digits && not zero) (Decides-number text) (value_of-number text) n)
