@@ -2,7 +2,7 @@
 
 use crate::attempts::Attempts;
 use crate::beside::make_private;
-use crate::visit::{FileVisit, Found, look};
+use crate::visit::{FileVisit, look};
 use club_core::StoreFault;
 use club_store::{Remains, Store};
 use desk_server::Reached;
@@ -54,9 +54,9 @@ impl<'a> Attempts for OfficeOpenings<'a, '_> {
 
     fn attempt(&mut self) -> Option<Result<Reached<FileClub, FileVisit<'a>>, StoreFault>> {
         match look(self.rt, self.name) {
-            Found::Greeted(visit) => Some(Ok(Reached::Served(visit))),
-            Found::Failed(fault) => Some(Err(fault)),
-            Found::Nobody => match try_open(self.rt, self.name)? {
+            Some(Ok(visit)) => Some(Ok(Reached::Served(visit))),
+            Some(Err(fault)) => Some(Err(fault)),
+            None => match try_open(self.rt, self.name)? {
                 Ok(store) => Some(Ok(Reached::Opened(store))),
                 Err(fault) => Some(Err(fault)),
             },

@@ -23,28 +23,21 @@ pub struct FileVisit<'a> {
     stream: UnixStream,
 }
 
-/// What comes of looking for a server.
-pub(crate) enum Found<'a> {
-    /// It has greeted.
-    Greeted(FileVisit<'a>),
-    /// Nobody listens; or the database's name is too long for a door.
-    Nobody,
-    /// One listens, but doesn't greet in time; or the door can't be used, also for want of memory.
-    Failed(StoreFault),
-}
-
-/// Looks for the server of a database.
-pub(crate) fn look<'a>(rt: &'a HostRuntime, file: &str) -> Found<'a> {
+/// Looks for the server of a database. It has greeted; or one listens, but doesn't greet in time,
+/// or the door can't be used, also for want of memory. `None` if nobody listens, or the database's
+/// name is too long for a door.
+pub(crate) fn look<'a>(
+    rt: &'a HostRuntime,
+    file: &str,
+) -> Option<Result<FileVisit<'a>, StoreFault>> {
     match connect(rt, file) {
         Ok(stream) => match greeted(&stream) {
-            Ok(()) => Found::Greeted(FileVisit { rt, stream }),
-            Err(error) => Found::Failed(fault_of(&error)),
+            Ok(()) => Some(Ok(FileVisit { rt, stream })),
+            Err(error) => Some(Err(fault_of(&error))),
         },
         Err(error) => match error.kind() {
-            ErrorKind::NotFound | ErrorKind::ConnectionRefused | ErrorKind::InvalidInput => {
-                Found::Nobody
-            }
-            _ => Found::Failed(fault_of(&error)),
+            ErrorKind::NotFound | ErrorKind::ConnectionRefused | ErrorKind::InvalidInput => None,
+            _ => Some(Err(fault_of(&error))),
         },
     }
 }
