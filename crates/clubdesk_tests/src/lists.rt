@@ -335,8 +335,8 @@ fn serve_plan<S: ClubStore, C: Clock>(
     let mut queue = Queue::new(plan.arriving.as_slice(), &written);
     let mut moments = Given::new(plan.moments.as_slice());
     let mut face = Face::new(rt.alloc()).expect(rt, "a face");
-    let clients = plan.clients;
-    let served = serve_logged(&mut queue, clients, &mut moments, &mut face, desk, &mut Unlogged);
+    let log = &mut Unlogged;
+    let served = serve_logged(&mut queue, plan.clients, &mut moments, &mut face, desk, log);
     expect_eq(rt, &served.is_ok(), &true);
     let written = written.bytes(rt.alloc());
     let written = str::from_utf8(written.as_slice());
