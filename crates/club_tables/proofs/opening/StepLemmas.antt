@@ -36,10 +36,10 @@ module _ {S : Type 0} (g : Ghosts S) (old mid : Held S) (untouched : IsUntouched
       represents_on IsHeld (state g old) (state g mid) (untouched (before.idle (was_clean (state g old) (state g mid) _ quiet clean))) quiet club others before
 
   -- the read fails
-  pub opens_not : (IsHeld : Database → Club → Type 0) (Done : Held S → Held S → Type 0) (Fails : Held S → Held S → StoreFault → Type 0) (fault : StoreFault)
+  pub opens_not : (IsHeld : Database → Club → Type 0) {Done : Held S → Held S → Type 0} {Fails : Held S → Held S → StoreFault → Type 0} {fault : StoreFault}
       → (HasCleanDisk (state g mid) → Fails old mid fault)
       → Opens g (λ held. RepresentsBy IsHeld (state g held)) Done Fails old mid (Err fault)
-  opens_not IsHeld Done Fails fault failed = record {
+  opens_not IsHeld failed = record {
     represents = λ clean. tt;
     done = λ clean. tt;
     keeps_club = λ clean club others before. keeps_after IsHeld clean club others before;
@@ -48,14 +48,14 @@ module _ {S : Type 0} (g : Ghosts S) (old mid : Held S) (untouched : IsUntouched
   }
 
   -- a step follows the read
-  pub opens_after : (Before Between : Held S → Club → List Club → Type 0) (Done Next : Held S → Held S → Type 0)
-      (Fails : Held S → Held S → StoreFault → Type 0) (new : Held S) (result : Result (Unit {0}) StoreFault) → Opens g Between Next Fails mid new result
+  pub opens_after : {Before Between : Held S → Club → List Club → Type 0} {Done Next : Held S → Held S → Type 0}
+      {Fails : Held S → Held S → StoreFault → Type 0} {new : Held S} {result : Result (Unit {0}) StoreFault} → Opens g Between Next Fails mid new result
       → (HasCleanDisk (state g mid) → (club : Club) (others : List Club) → Before old club others → Between mid club others)
       → ((club : Club) (others : List Club) → Between new club others → Before new club others)
       → (HasCleanDisk (state g mid) → HasCleanDisk (state g new) → Next mid new → Done old new)
       → ((fault : StoreFault) → IsAfterReadings g old mid → Fails mid new fault → IsOpeningFault g old new fault)
       → Opens g Before Done (IsOpeningFault g) old new result
-  opens_after Before Between Done Next Fails new result step into back done fails =
+  opens_after {Fails = Fails} {new = new} {result = result} step into back done fails =
       let earlier = was_clean (state g mid) (state g new) _ step.survives in
       record {
         represents = λ clean. on_ok_weaker result (λ represents club others before.

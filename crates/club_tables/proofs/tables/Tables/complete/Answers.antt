@@ -4,8 +4,7 @@ use Rattle.sqlite.specs.Store.{Ghosts}
 use Rattle.sqlite.specs.Effect.{Database}
 use Rattle.sqlite.specs.State.{HasCleanDisk}
 use Rattle.sqlite.specs.Held.{Held, state}
-use Rattle.club_tables.specs.Opening.{IsOpeningFault, HasOrGetsIndex, EnsuresIndex, Understands, WhenIdle, texts_by_key, index_text}
-use Rattle.club_tables.specs.ReadsAndChanges.{version_2_in}
+use Rattle.club_tables.specs.Opening.{HasOrGetsIndex, EnsuresIndex, Understands, texts_by_key, index_text}
 use Rattle.club_tables.specs.Tables.{HoldsClubVersion2}
 use Rattle.club_tables.specs.Transaction.{IsKept, IsUnderstood}
 use Rattle.club_tables.proofs.opening.StepLemmas.{keeps_after, opens_after, opens_not, kept_then}
@@ -41,8 +40,7 @@ returns-in-Ok-clause-opens g c =
     let new = c.ensure_index.new.self in
     let kept = c.prepare_all.ensures.kept in
     let quiet = c.prepare_all.ensures.survives in
-    opens_after g.S.Store old mid kept quiet (version_2_in g.S.Store) (version_2_in g.S.Store) (WhenIdle g.S.Store (EnsuresIndex g.S.Store))
-    (HasOrGetsIndex g.S.Store) (IsOpeningFault g.S.Store) new c.ensure_index.result c.ensure_index.ensures.opens
+    opens_after g.S.Store old mid kept quiet c.ensure_index.ensures.opens
     (keeps_after g.S.Store old mid kept quiet HoldsClubVersion2) (λ club others second. second)
     (λ earlier clean ensured is_open rest. ensured_after g.S.Store old mid new earlier clean is_open (kept rest) (λ opened.
     c.in-Ok.ensures.understood earlier opened rest) ensured)
@@ -50,7 +48,6 @@ returns-in-Ok-clause-opens g c =
 
 pub returns-in-Err-clause-opens : goal.returns-in-Err-clause-opens
 returns-in-Err-clause-opens g c =
-    opens_not g.S.Store c.args.self.now c.prepare_all.new.self c.prepare_all.ensures.kept c.prepare_all.ensures.survives HoldsClubVersion2
-    (WhenIdle g.S.Store (EnsuresIndex g.S.Store)) (IsOpeningFault g.S.Store) c.in-Err.fault (λ clean.
+    opens_not g.S.Store c.args.self.now c.prepare_all.new.self c.prepare_all.ensures.kept c.prepare_all.ensures.survives HoldsClubVersion2 (λ clean.
     let it = c.in-Err.ensures.fault clean in
     record { from = it.from; after = it.after; failure = inr (inr (inl it.failure)) })

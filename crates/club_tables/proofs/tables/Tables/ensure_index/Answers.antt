@@ -1,11 +1,7 @@
 use Rattle.std.proofs.Common.{inl, inr, refl}
 use Rattle.sqlite.specs.Held.{state}
-use Rattle.club_core.specs.declared.store.StoreFault.TheVariants.{Memory}
-use Rattle.club_tables.specs.Fault.{FailsToRun}
-use Rattle.club_tables.specs.Opening.{HasOrGetsIndex, IsOpeningBatch, IsOpeningFault, index_batch}
-use Rattle.club_tables.specs.ReadsAndChanges.{version_2_in}
+use Rattle.club_tables.specs.Opening.{IsOpeningBatch, index_batch}
 use Rattle.club_tables.specs.Tables.{HoldsClubVersion2}
-use Rattle.club_tables.specs.Transaction.{Ran}
 use Rattle.club_tables.proofs.opening.StepLemmas.{batch_failed, keeps_after, opens_after, opens_not}
 use Rattle.club_tables.proofs.queries.ReadLemmas.{at_once}
 use Rattle.club_tables.proofs.crashes.SurviveLemmas.{commits_nothing, was_clean}
@@ -28,8 +24,7 @@ pub returns-in-Err-Memory-clause-opens : goal.returns-in-Err-Memory-clause-opens
 returns-in-Err-Memory-clause-opens g c =
     let old = c.args.self.now in
     let mid = c.prepare.new.self in
-    opens_not g.S.Store old mid (λ rest. c.prepare.ensures.kept) c.prepare.ensures.survives HoldsClubVersion2 (HasOrGetsIndex g.S.Store)
-    (IsOpeningFault g.S.Store) Memory (λ clean. record {
+    opens_not g.S.Store old mid (λ rest. c.prepare.ensures.kept) c.prepare.ensures.survives HoldsClubVersion2 (λ clean. record {
       from = old;
       after = at_once g.S.Store old (was_clean (state g.S.Store old) (state g.S.Store mid) _ c.prepare.ensures.survives clean);
       failure = inl (refl, inr (rw c.in-Err-Memory.field-0-is at (c.in-Err-Memory.ensures.fault clean)));
@@ -39,8 +34,6 @@ pub returns-in-Err-Storage-clause-opens : goal.returns-in-Err-Storage-clause-ope
 returns-in-Err-Storage-clause-opens g c =
     let old = c.args.self.now in
     let mid = c.prepare.new.self in
-    opens_after g.S.Store old mid (λ rest. c.prepare.ensures.kept) c.prepare.ensures.survives (version_2_in g.S.Store) (version_2_in g.S.Store)
-    (HasOrGetsIndex g.S.Store) (λ from to. Ran g.S.Store 0 index_batch from (state g.S.Store to).committed) (FailsToRun g.S.Store 0 index_batch)
-    c.add_index.new.self c.add_index.result c.add_index.ensures.opens
+    opens_after g.S.Store old mid (λ rest. c.prepare.ensures.kept) c.prepare.ensures.survives c.add_index.ensures.opens
     (keeps_after g.S.Store old mid (λ rest. c.prepare.ensures.kept) c.prepare.ensures.survives HoldsClubVersion2) (λ club others second. second)
     (λ earlier clean ran. inr (mid, earlier, c.prepare.ensures.kept, ran)) (batch_failed g.S.Store index_batch (inr (inr refl)) old mid c.add_index.new.self)

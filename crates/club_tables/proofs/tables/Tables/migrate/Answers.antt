@@ -1,12 +1,10 @@
 use Rattle.std.proofs.Common.{[], ◌∷◌, All, inl, inr, refl, subst, arith}
 use Rattle.sqlite.specs.Effect.{Database}
-use Rattle.sqlite.specs.Held.{Held, state}
 use Rattle.club_tables.specs.declared.texts.TheConstants.{OLDER_ROOT}
-use Rattle.club_tables.specs.Fault.{FailsToPrepare, FailsToRun}
-use Rattle.club_tables.specs.Opening.{HasMigrated, IsOpeningFault, first_texts, migration}
-use Rattle.club_tables.specs.ReadsAndChanges.{version_1_in}
+use Rattle.club_tables.specs.Fault.{FailsToPrepare}
+use Rattle.club_tables.specs.Opening.{first_texts, migration}
 use Rattle.club_tables.specs.Tables.{HoldsClubVersion1}
-use Rattle.club_tables.specs.Transaction.{IsIdle, IsUnderstood, Ran}
+use Rattle.club_tables.specs.Transaction.{IsUnderstood}
 use Rattle.club_tables.proofs.opening.StepLemmas.{batch_failed, keeps_after, opens_after, opens_not, one_more}
 use Rattle.club_tables.proofs.tables.Tables.migrate.Goals as goal
 
@@ -16,10 +14,7 @@ returns-in-Ok-clause-opens g c =
     let mid = c.prepare_all.new.self in
     let kept = c.prepare_all.ensures.kept in
     let quiet = c.prepare_all.ensures.survives in
-    opens_after g.S.Store old mid kept quiet (version_1_in g.S.Store) (version_1_in g.S.Store)
-    (λ (from to : Held _). IsIdle (state g.S.Store from) → HasMigrated g.S.Store from to)
-    (λ from to. Ran g.S.Store 0 migration from (state g.S.Store to).committed) (FailsToRun g.S.Store 0 migration)
-    c.add_old_roots.new.self c.add_old_roots.result c.add_old_roots.ensures.opens
+    opens_after g.S.Store old mid kept quiet c.add_old_roots.ensures.opens
     (keeps_after g.S.Store old mid kept quiet HoldsClubVersion1) (λ club others first. first)
     (λ earlier clean ran rest.
     let is_open = ran.was_open (omega arith) in
@@ -30,8 +25,7 @@ returns-in-Ok-clause-opens g c =
 
 pub returns-in-Err-clause-opens : goal.returns-in-Err-clause-opens
 returns-in-Err-clause-opens g c =
-    opens_not g.S.Store c.args.self.now c.prepare_all.new.self c.prepare_all.ensures.kept c.prepare_all.ensures.survives HoldsClubVersion1
-    (λ (from to : Held _). IsIdle (state g.S.Store from) → HasMigrated g.S.Store from to) (IsOpeningFault g.S.Store) c.in-Err.fault (λ clean.
+    opens_not g.S.Store c.args.self.now c.prepare_all.new.self c.prepare_all.ensures.kept c.prepare_all.ensures.survives HoldsClubVersion1 (λ clean.
     let it = c.in-Err.ensures.fault clean in
     record {
       from = it.from;

@@ -5,14 +5,11 @@ use Rattle.sqlite.specs.Effect.{Database}
 use Rattle.sqlite.specs.State.{HasCleanDisk}
 use Rattle.sqlite.specs.Held.{Held, state}
 use Rattle.club_core.specs.Club.{Club}
-use Rattle.club_core.specs.declared.store.StoreFault.TheVariants.{Memory, Storage}
-use Rattle.club_tables.specs.Fault.{FailsToRun}
-use Rattle.club_tables.specs.Transaction.{BoundStatement, IsIdle, IsKept, IsUnderstood, Ran}
+use Rattle.club_tables.specs.Transaction.{BoundStatement, IsIdle, IsKept, IsUnderstood}
 use Rattle.club_tables.specs.declared.texts.TheConstants.{VERSION}
 use Rattle.club_tables.specs.Columns.{HasValues, version_values}
-use Rattle.club_tables.specs.Opening.{HasNoDesk, AcceptsTables, YieldsRows, YieldsVersion, IsOpeningFault, HasRunOver, Upgrade, EnsuresIndex, HasMigrated}
-use Rattle.club_tables.specs.Opening.{WhenIdle, first_texts, texts_by_key, indexed_texts, table_batch, migration, index_batch}
-use Rattle.club_tables.specs.ReadsAndChanges.{found_in, version_1_in, version_2_in}
+use Rattle.club_tables.specs.Opening.{HasNoDesk, AcceptsTables, YieldsRows, YieldsVersion, HasRunOver, Upgrade, EnsuresIndex}
+use Rattle.club_tables.specs.Opening.{first_texts, texts_by_key, indexed_texts, table_batch, migration, index_batch}
 use Rattle.club_tables.specs.Tables.{HoldsClubAnyVersion, IsFound, RepresentsVersion1, RepresentsVersion2}
 use Rattle.club_tables.proofs.crashes.SurviveLemmas.{opened_after, was_clean}
 use Rattle.club_tables.proofs.opening.MakingLemmas.{makes_free}
@@ -76,8 +73,7 @@ pub returns-in-Err-Memory-clause-opens : goal.returns-in-Err-Memory-clause-opens
 returns-in-Err-Memory-clause-opens g c =
     let old = c.args.self.now in
     let mid = c.version.new.self in
-    opens_not g.S.Store old mid (λ rest. c.version.ensures.kept) c.version.ensures.survives HoldsClubAnyVersion
-    (WhenIdle g.S.Store (AcceptsTables g.S.Store)) (IsOpeningFault g.S.Store) Memory (λ clean. record {
+    opens_not g.S.Store old mid (λ rest. c.version.ensures.kept) c.version.ensures.survives HoldsClubAnyVersion (λ clean. record {
       from = old;
       after = at_once g.S.Store old (was_clean (state g.S.Store old) (state g.S.Store mid) _ c.version.ensures.survives clean);
       failure = inl (refl, inl (rw c.in-Err-Memory.field-0-is at (c.in-Err-Memory.ensures.fault clean)));
@@ -88,9 +84,7 @@ returns-in-Err-Storage-clause-opens g c =
     let old = c.args.self.now in
     let mid = c.version.new.self in
     let new = c.make_tables.new.self in
-    opens_after g.S.Store old mid (λ rest. c.version.ensures.kept) c.version.ensures.survives (found_in g.S.Store) (found_in g.S.Store)
-    (WhenIdle g.S.Store (AcceptsTables g.S.Store)) (λ from to. Ran g.S.Store 0 table_batch from (state g.S.Store to).committed)
-    (FailsToRun g.S.Store 0 table_batch) new c.make_tables.result c.make_tables.ensures.opens
+    opens_after g.S.Store old mid (λ rest. c.version.ensures.kept) c.version.ensures.survives c.make_tables.ensures.opens
     (keeps_after g.S.Store old mid (λ rest. c.version.ensures.kept) c.version.ensures.survives HoldsClubAnyVersion) (λ club others found. found)
     (λ earlier clean ran is_open rest.
     let same = (c.version.ensures.kept earlier (ran.was_open (omega arith))).1 in
@@ -106,9 +100,7 @@ returns-then-is_version-clause-opens g c =
     let rows = c.in-Ok.found.items in
     let read = c.in-Ok.ensures.ok in
     let one = rw c.as_slice-rows.ensures.value at (c.is_version.ensures.only c.if-is_version.true) in
-    opens_after g.S.Store old mid (λ rest. c.version.ensures.kept) c.version.ensures.survives (found_in g.S.Store) (version_2_in g.S.Store)
-    (WhenIdle g.S.Store (AcceptsTables g.S.Store)) (WhenIdle g.S.Store (EnsuresIndex g.S.Store)) (IsOpeningFault g.S.Store)
-    new c.complete.result c.complete.ensures.opens
+    opens_after g.S.Store old mid (λ rest. c.version.ensures.kept) c.version.ensures.survives c.complete.ensures.opens
     (λ earlier. is_second g.S.Store old mid rows (read earlier) one) (second_found (state g.S.Store new))
     (λ earlier clean it is_open rest. ensured g.S.Store old mid new rows earlier clean is_open rest c.version.ensures.kept one
     (read earlier).version_rows (it is_open (rests g.S.Store old mid earlier c.version.ensures.kept)))
@@ -122,9 +114,7 @@ returns-then-is_version-2-clause-opens g c =
     let rows = c.in-Ok.found.items in
     let read = c.in-Ok.ensures.ok in
     let one = rw c.as_slice-rows.ensures.value at (c.is_version-2.ensures.only c.if-is_version-2.true) in
-    opens_after g.S.Store old mid (λ rest. c.version.ensures.kept) c.version.ensures.survives (found_in g.S.Store) (version_1_in g.S.Store)
-    (WhenIdle g.S.Store (AcceptsTables g.S.Store)) (λ (from to : Held _). IsIdle (state g.S.Store from) → HasMigrated g.S.Store from to)
-    (IsOpeningFault g.S.Store) new c.migrate.result c.migrate.ensures.opens
+    opens_after g.S.Store old mid (λ rest. c.version.ensures.kept) c.version.ensures.survives c.migrate.ensures.opens
     (λ earlier. is_first g.S.Store old mid rows (read earlier) one) (first_found (state g.S.Store new))
     (λ earlier clean it is_open rest. inr (inr (inl (upgraded g.S.Store old mid new 1 first_texts migration rows earlier rest c.version.ensures.kept one
     (read earlier).version_rows (it (rests g.S.Store old mid earlier c.version.ensures.kept))))))
@@ -138,8 +128,7 @@ returns-clause-opens g c =
     let one = rw c.as_slice-rows.ensures.value at c.is_version-2.ensures.one in
     let not_two : c.in-Ok.found.items ≢ version_values 2 ∷ [] = λ is. absurd (let yes = two is in let no = c.if-is_version.false in cc) in
     let not_one : c.in-Ok.found.items ≢ version_values 1 ∷ [] = λ is. absurd (let yes = one is in let no = c.if-is_version-2.false in cc) in
-    opens_not g.S.Store old mid (λ rest. c.version.ensures.kept) c.version.ensures.survives HoldsClubAnyVersion
-    (WhenIdle g.S.Store (AcceptsTables g.S.Store)) (IsOpeningFault g.S.Store) Storage (λ clean. record {
+    opens_not g.S.Store old mid (λ rest. c.version.ensures.kept) c.version.ensures.survives HoldsClubAnyVersion (λ clean. record {
       from = old;
       after = at_once g.S.Store old (was_clean (state g.S.Store old) (state g.S.Store mid) _ c.version.ensures.survives clean);
       failure = inr (inr (inr (refl, c.in-Ok.found.items, (c.in-Ok.ensures.ok clean).query, not_two, not_one)));
