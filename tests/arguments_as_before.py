@@ -4,9 +4,9 @@
     tests/arguments_as_before.py BEFORE NOW
 
 For a change of how arguments are read that is to change nothing. Plays some 400 command lines of the program, whose name the paths end in:
-help, versions, each argument given well, badly, twice or not at all, faults in twos and threes, words behind `--`, bytes that are no text.
+help, versions, each argument given well, badly, twice or not at all, faults in twos and threes, words after `--`, bytes that are no text.
 A `clubdesk` has a folder of its own for each line; a line that serves names a folder as its database, so that it ends. Compares status,
-standard output and standard error byte for byte, prints each line that differs, and its last line has the counts. The status is 1 where one
+standard output and standard error byte for byte, prints each line that differs, and its last line has the counts. The status is 1 if one
 differs. No run of `tests/run` has a program of before, so none plays it."""
 
 import subprocess

@@ -8,7 +8,7 @@ It reads the promises of docs/PROMISES.md, the clauses that carry them, and the 
 
     tests/audit.py                  writes docs/AUDIT.md
     tests/audit.py --check          says whether it is current
-    tests/audit.py --strict         the same, and fails where any clause of a promise's function, or any other contract that docs/PROMISES.md
+    tests/audit.py --strict         the same, and fails if any clause of a promise's function, or any other contract that docs/PROMISES.md
                                     cites, or what stands for a ghost, reaches a name of specs/computed/
     tests/audit.py --below NAME     what there is to read below one definition, or below all clauses of a function (Desk::ask), in reading
                                     order
@@ -137,7 +137,7 @@ def source_of(comments):
 
 
 def in_reading_order(book, files):
-    """Files from the standards up: crates in the order of crates.txt, and within one each behind those that it imports."""
+    """Files from the standards up: crates in the order of crates.txt, and within one each after those that it imports."""
     done = []
 
     def visit(file):

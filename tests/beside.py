@@ -67,7 +67,7 @@ class Asker:
         self.forged = {key: it[:-2] + ("A" if it[-2] != "A" else "B") + it[-1] for key, it in self.passes.items()}
 
     def refused(self):
-        """Requests that are refused behind the rounds, each for another reason."""
+        """Requests that are refused after the rounds, each for another reason."""
         key, slot = self.keys[0], slot_path(self.slot)
         whole, passed, book = key_pass(key, ROOT.hex()), self.passes[key], f"/bookings/{self.first_number + 900_000}"
         return [it.data for it in (

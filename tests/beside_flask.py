@@ -68,7 +68,7 @@ def spent_by(key):
 
 
 def has_spent_above(key, member, most):
-    """A key's costs are summed only where what its member has used leaves the answer open."""
+    """A key's costs are summed only if what its member has used leaves the answer open."""
     return most < 0 or (row_of(MEMBER, member)[3] > most and spent_by(key) > most)
 
 

@@ -37,8 +37,8 @@ class Desk(Both):
         super().__init__(program, file)
         self.give(("add-facility", "court-1", "court", 4, 7, 8, 22))
         for key in range(1, 5):
-            for order in (("add-member", f"m{key}", 99), ("credit", f"m{key}", 10_000), ("add-key", f"k{key}", f"m{key}", bytes.fromhex(ROOT))):
-                self.give(order)
+            for command in (("add-member", f"m{key}", 99), ("credit", f"m{key}", 10_000), ("add-key", f"k{key}", f"m{key}", bytes.fromhex(ROOT))):
+                self.give(command)
 
     def server(self, count=None):
         return desk.Server(self.desk, self.file, count, "--at", NOON)

@@ -3,7 +3,7 @@
 import desk as programs
 from reference import caveats, club as rules, passes, wire
 
-# The kinds of the values of an order that aren't words or numbers as they are.
+# The kinds of the values of a command that aren't words or numbers as they are.
 KINDS_OF_VALUES = {"add-key": ("word", "word", "root"), "rotate-key": ("word", "root", "moment"), "close-slot": ("word", "day", "hour")}
 
 
@@ -44,18 +44,18 @@ class Both:
         self.club = rules.Club(plant)
         self.roots = {}  # of each key, all that it had
 
-    def words_of(self, order):
-        """The words of the command that gives an order."""
-        name, *values = order
+    def words_of(self, command):
+        """The words that give a command."""
+        name, *values = command
         kinds = KINDS_OF_VALUES.get(name, ("word",) * len(values))
         return [name, self.file, *(SPELLINGS[kind](value) for kind, value in zip(kinds, values))]
 
-    def answer_of(self, order):
-        """The status, the output and the fault of an order, which the reference does."""
-        name, *values = order
+    def answer_of(self, command):
+        """The status, the output and the fault of a command, which the reference does."""
+        name, *values = command
         try:
-            self.club.order(order)
-        except rules.OrderRefused as refusal:
+            self.club.command(command)
+        except rules.CommandRefused as refusal:
             return 1, "", f"refused: {refusal}\n"
         if name not in ("add-key", "rotate-key"):
             return 0, "done\n", ""
@@ -63,10 +63,10 @@ class Both:
         self.roots.setdefault(key, []).append(root)
         return 0, passes.text_of(passes.minted(root, b"key:" + key.encode()), "v2").decode() + "\n", ""
 
-    def give(self, order):
-        """An order to both, which answer alike."""
-        found = programs.order(self.desk, *self.words_of(order))
-        expect(f"order {order}", found, self.answer_of(order))
+    def give(self, command):
+        """A command to both, which answer alike."""
+        found = programs.command(self.desk, *self.words_of(command))
+        expect(f"order {command}", found, self.answer_of(command))
 
     def ask(self, server, data, moment):
         """The bytes of a request to both, which reply alike; the reply."""
@@ -98,4 +98,4 @@ class Both:
                  for facility, hour, key, number, persons, charge in rows]
         total = f"Total bookings {len(rows)}, persons {sum(it[4] for it in rows)}, charge {sum(it[5] for it in rows)}"
         text = "\n".join([f"Day sheet {spelled_day(day)}", *lines, total if rows else "No bookings.", ""])
-        expect(f"sheet {day}", programs.order(self.desk, "sheet", self.file, spelled_day(day)), (0, text, ""))
+        expect(f"sheet {day}", programs.command(self.desk, "sheet", self.file, spelled_day(day)), (0, text, ""))

@@ -1,4 +1,4 @@
-# Read by the scripts beside it that hold what a machine does against what is wanted, behind serving.sh. `checks` counts.
+# Read by the scripts beside it that hold what a machine does against what is wanted, after serving.sh. `checks` counts.
 checks=0
 trap 'exit 1' INT TERM HUP
 

@@ -2,7 +2,7 @@
 
 The second cell of a row has groups that end at `;`, each `NAME`, .. `:` `CLAUSE`, .. `by` `DEFINITION`, ..: functions of the section's crate,
 implementations of a trait (`Log for LogLines`), or types and traits; the labels of their clauses, or all of them; and the definitions of the
-crate, or of the one before `::`, that these cite. The first name's module or type is that of the names behind it, unless they have one."""
+crate, or of the one before `::`, that these cite. The first name's module or type is that of the names after it, unless they have one."""
 
 import re
 from dataclasses import dataclass
@@ -124,7 +124,7 @@ class Contracts:
 
     @staticmethod
     def clauses(file, start):
-        """(label, text) of the clauses behind a function's head."""
+        """(label, text) of the clauses after a function's head."""
         inner = file.block_around(start)[0]
         body = file.text.find("\n    {\n" if inner else "\n{\n", start)
         following = re.compile(f"{FUNCTION}\\w", re.MULTILINE).search(file.text, file.text.find("(", start))

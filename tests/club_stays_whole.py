@@ -1,11 +1,11 @@
 #!/usr/bin/env -S /usr/bin/python3 -B -m pytest -q -p no:cacheprovider
-"""Orders of `clubdesk`, and passes that it prints, with each allocation refused, with little storage, and killed: a fault wrote nothing
+"""Commands of `clubdesk`, and passes that it prints, with each allocation refused, with little storage, and killed: a fault wrote nothing
 and left the club as it was, and a kill left it as it was or done.
 
 Then sqlite3 finds the file sound, and clubdesk reads it.
-- Each allocation is refused in turn: the order ends with status 4, or 2 where clap met the refusal, or as with ample memory.
-- The file may grow to so many blocks alone: the order ends with status 5, or as with ample storage.
-- The order is killed after so many milliseconds.
+- Each allocation is refused in turn: the command ends with status 4, or 2 if clap met the refusal, or as with ample memory.
+- The file may grow to so many blocks alone: the command ends with status 5, or as with ample storage.
+- The command is killed after so many milliseconds.
 Not part of the gate. STEP=N refuses each Nth allocation alone, which is faster.
 """
 # groups: faults
@@ -26,8 +26,8 @@ import desk
 
 STEP = int(os.environ.get("STEP", "1"))
 ROOT, OTHER = "30313233343536373839616263646566", "ffeeddccbbaa99887766554433221100"
-# Each order, with what it is to sqlite3.
-ORDERS = {
+# Each command, with what it is to sqlite3.
+COMMANDS = {
     "add-member amy 5": "INSERT INTO members VALUES ('amy', 0, 5, 0)",
     "credit amy 10000": "UPDATE members SET credited = credited + 10000",
     "add-facility court-1 court 4 200 8 22": "INSERT INTO facilities VALUES ('court-1', 'court', 4, 200, 8, 22)",
@@ -42,7 +42,7 @@ TABLES = ("desk", "members", "facilities", "keys", "old_roots", "slots", "bookin
 
 
 def rows(club):
-    """All rows; none where the making of the tables was cut short, which clubdesk then goes on with."""
+    """All rows; none if the making of the tables was cut short, which clubdesk then goes on with."""
     try:
         assert club.sql("PRAGMA integrity_check") == [("ok",)] and not club.sql("PRAGMA foreign_key_check")
         return [sorted(club.sql(f"SELECT * FROM {table}")) for table in TABLES]
@@ -51,22 +51,22 @@ def rows(club):
         return [[(2,)], [], [], [], [], [], []]
 
 
-class Order:
-    """An order that is given again and again, each time to a copy of a club, and what it leaves."""
+class Command:
+    """A command that is given again and again, each time to a copy of a club, and what it leaves."""
 
     def __init__(self, before, words):
         self.before, self.words, self.found = before, words.split(), {}
         model = before.copied_to(before.file.with_name("model"))
         model.does("sheet 2026-05-01")
         with desk.opened(model.file) as database:
-            database.executescript(f"PRAGMA foreign_keys = ON; {ORDERS[words]}")
+            database.executescript(f"PRAGMA foreign_keys = ON; {COMMANDS[words]}")
         self.rows, self.after = rows(before), rows(model)
         self.whole = self.given()
         assert self.whole[0] == 0
 
     @contextlib.contextmanager
     def copy(self):
-        """A copy of the club, and the words that give it the order."""
+        """A copy of the club, and the words that give it the command."""
         with tempfile.TemporaryDirectory(dir=self.before.file.parent) as folder:
             club = self.before.copied_to(Path(folder, "club"))
             yield club, [club.program, self.words[0], club.file, *self.words[1:]]
@@ -84,7 +84,7 @@ class Order:
     def given(self, limits=None, **variables):
         """How it ends; a fault wrote nothing."""
         with self.copy() as (club, words):
-            ended = desk.order(*words, env={**os.environ, **variables}, preexec_fn=limits, restore_signals=False)
+            ended = desk.command(*words, env={**os.environ, **variables}, preexec_fn=limits, restore_signals=False)
             self.keeps_a_club(club, self.rows if ended[0] else self.after)
         return ended
 
@@ -95,20 +95,20 @@ class Order:
 
     def kill(self, milliseconds):
         with self.copy() as (club, words):
-            with subprocess.Popen(words, stdout=subprocess.DEVNULL, stderr=subprocess.DEVNULL) as order:
+            with subprocess.Popen(words, stdout=subprocess.DEVNULL, stderr=subprocess.DEVNULL) as command:
                 time.sleep(milliseconds / 1000)
-                order.kill()
-            assert order.returncode in (0, -9)
-            self.keeps_a_club(club, self.after, *([self.rows] if order.returncode else []))
+                command.kill()
+            assert command.returncode in (0, -9)
+            self.keeps_a_club(club, self.after, *([self.rows] if command.returncode else []))
 
 
-@pytest.mark.parametrize("words", ORDERS)
-def test_order(new_club, tmp_path, words):
+@pytest.mark.parametrize("words", COMMANDS)
+def test_command(new_club, tmp_path, words):
     before = new_club()
     before.file.touch()
-    before.does(*list(ORDERS)[:list(ORDERS).index(words)])
-    order = Order(before, words)
-    assert any([order.fails(it, "out of memory\n", 4, 2) for it in desk.refused_in_turn(order.given, tmp_path, STEP)])
-    assert any([order.fails(order.given(lambda: desk.limit_files(512 * blocks)), "storage failed\n", 5) for blocks in range(0, 2001, 50)])
+    before.does(*list(COMMANDS)[:list(COMMANDS).index(words)])
+    command = Command(before, words)
+    assert any([command.fails(it, "out of memory\n", 4, 2) for it in desk.refused_in_turn(command.given, tmp_path, STEP)])
+    assert any([command.fails(command.given(lambda: desk.limit_files(512 * blocks)), "storage failed\n", 5) for blocks in range(0, 2001, 50)])
     for milliseconds in range(1, 31):
-        order.kill(milliseconds)
+        command.kill(milliseconds)

@@ -25,7 +25,7 @@ CLUBS = {"rowing", "tennis"}
 
 
 class Shell:
-    """What a shell offers behind words, by the file of completions that it has read."""
+    """What a shell offers after words, by the file of completions that it has read."""
 
     def __init__(self, name, folder):
         self.name, self.folder = name, folder
@@ -97,7 +97,7 @@ def names(found):
 
 
 def hold_command(shell, before, text, files):
-    """What is offered behind these words is what the help of their command shows."""
+    """What is offered after these words is what the help of their command shows."""
     options, words = options_of(text), words_of(text)
     assert longs(shell.offers(*before, "--")) == {f"--{it}" for it in options}, before
     for option, value in options.items():

@@ -33,16 +33,16 @@ class Club:
     def __init__(self, program, file):
         self.program, self.file = program, file
 
-    def order(self, *words):
+    def command(self, *words):
         """The status of a command of `clubdesk` with the club as its file, and what it prints on both outputs."""
         command, *rest = words
-        return desk.order(self.program, command, self.file, *rest)
+        return desk.command(self.program, command, self.file, *rest)
 
     def does(self, *commands):
         """Commands that have to end well; what the last one prints."""
         printed = ""
         for words in commands:
-            status, printed, fault = self.order(*words.split())
+            status, printed, fault = self.command(*words.split())
             assert status == 0, f"clubdesk {words}: status {status}, {fault}"
         return printed.rstrip("\n")
 
@@ -69,9 +69,9 @@ class Club:
         for step in steps:
             if isinstance(step, kinds.Sql):
                 self.sql(step.statement)
-            elif isinstance(step, kinds.Order):
+            elif isinstance(step, kinds.Command):
                 wanted = (int(bool(step.refusal)), step.printed, step.refusal and step.refusal + "\n")
-                assert self.order(*step.words) == wanted, step
+                assert self.command(*step.words) == wanted, step
             else:
                 replies.append(self.ask(step.data, step.moment, file_limit=step.file_limit))
                 assert replies[-1].whole == step.wanted, step
@@ -93,7 +93,7 @@ def passtool():
     program = desk.program("passtool")
 
     def run(*words, given=""):
-        status, printed, fault = desk.order(program, *words, text=given)
+        status, printed, fault = desk.command(program, *words, text=given)
         return status, printed + fault
 
     return run
@@ -121,7 +121,7 @@ def new_club(clubdesk, tmp_path_factory):
 def made(new_club):
     """The club of which each test has a copy. A file of tests may have another."""
     club = new_club()
-    club.play(kinds.ORDERS)
+    club.play(kinds.COMMANDS)
     return club
 
 

@@ -98,7 +98,7 @@ class Scope:
                 self.names.setdefault(sign, (module, name))
 
     def find(self, word):
-        """The definition of a word, which may have an alias before it or fields behind it."""
+        """The definition of a word, which may have an alias before it or fields after it."""
         head, _, rest = word.partition(".")
         if word in self.names:
             return self.book.look(*self.names[word])
@@ -397,7 +397,7 @@ class CodeFile:
         return self.text.count("\n", 0, at) + 1
 
     def block_end(self, start):
-        """Behind the block, or the semicolon, that begins there."""
+        """After the block, or the semicolon, that begins there."""
         depth = 0
         for at in range(start, len(self.text)):
             sign = self.text[at]

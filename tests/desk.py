@@ -1,4 +1,4 @@
-"""The built programs, for tests that talk to a server: where they are, a server that ends with its block, one exchange, an order.
+"""The built programs, for tests that talk to a server: where they are, a server that ends with its block, one exchange, a command.
 
 The programs are those of the variables CLUBDESK and PASSTOOL. One without a variable is proved and built first, if that isn't done."""
 
@@ -18,7 +18,7 @@ from pathlib import Path
 
 TESTS = Path(__file__).resolve().parent
 ROOT = TESTS.parent
-# Where files lie in memory, so that a sync costs nothing; None where there is no such folder.
+# Where files lie in memory, so that a sync costs nothing; None if there is no such folder.
 IN_MEMORY = "/dev/shm" if os.access("/dev/shm", os.W_OK) else None
 ANOTHER = 65_534  # the user `nobody`
 AS_ANOTHER = ("setpriv", f"--reuid={ANOTHER}", f"--regid={ANOTHER}", "--clear-groups")
@@ -42,7 +42,7 @@ def library(name, folder):
 
 
 def refused_in_turn(run, folder, step=1):
-    """What `run` gives where one allocation of its program is refused, each in turn, or each so many. It runs the program with variables, first
+    """What `run` gives if one allocation of its program is refused, each in turn, or each so many. It runs the program with variables, first
     to count them."""
     counted, preload = Path(folder, "counted"), {"LD_PRELOAD": library("refused_memory", folder)}
     run(ALLOCATIONS_COUNTED=str(counted), **preload)
@@ -61,7 +61,7 @@ class Server:
 
     `words` are further options; `by` is a command that runs it; `variables` further variables of its environment; `given` a file that it
     reads; `file_limit` the bytes that a file of it may have. At the end of a block without an exception its status has to be `status`, unless it
-    was killed; one without a `count` is killed there. `log` has what it wrote on standard error, which is printed where the block ends with an
+    was killed; one without a `count` is killed there. `log` has what it wrote on standard error, which is printed if the block ends with an
     exception."""
 
     killed_by = signal.SIGKILL
@@ -142,7 +142,7 @@ def read(client):
 
 
 def exchange(port, data, seconds=30):
-    """The bytes of the reply to bytes, behind which the client says that no more come. None where the connection was lost."""
+    """The bytes of the reply to bytes, after which the client says that no more come. None if the connection was lost."""
     try:
         with socket.create_connection(("127.0.0.1", port), seconds) as client:
             client.sendall(data)
@@ -154,7 +154,7 @@ def exchange(port, data, seconds=30):
         raise
 
 
-def order(desk, *words, text=None, **more):
+def command(desk, *words, text=None, **more):
     """The status and the output of a command of `clubdesk`, and its line on standard error; `text` is its input."""
     done = subprocess.run([desk, *map(str, words)], capture_output=True, input=text, text=True, check=False, **more)
     return done.returncode, done.stdout, done.stderr

@@ -3,10 +3,10 @@
 
 Holds README.md, CONTRIBUTING.md, docs/, and the README.md of each crate against the repository.
 - Each ```console block is run, the blocks of a page one after the other in a folder of its own, with bin/ on the path: a line
-  that begins with `$ ` is a command, the lines behind it are what it prints, on standard output or standard error. Empty lines
+  that begins with `$ ` is a command, the lines after it are what it prints, on standard output or standard error. Empty lines
   and spaces at the end of a line don't count, and another port may stand for 8080.
 - What else holds stands at each test below.
-Programs are proved and built by bin/proved where they have to be. Not part of the gate.
+Programs are proved and built by bin/proved if they have to be. Not part of the gate.
   tests/docs_hold.py                    every page
   tests/docs_hold.py -k DESK            the pages whose names have this word
   tests/docs_hold.py --no-commands ..   what wants no program of ours
@@ -182,7 +182,7 @@ def test_layers():
 
 
 def test_tour():
-    """Under each heading that asks, three to six steps, each `PATH`: `NAME`, .., where that file defines NAME, or has it as a word where it is
+    """Under each heading that asks, three to six steps, each `PATH`: `NAME`, .., where that file defines NAME, or has it as a word if it is
     no file of code."""
     questions = re.split(r"^## ", TEXTS["docs/TOUR.md"], flags=re.MULTILINE)[1:]
     assert len(questions) == 24
@@ -201,7 +201,7 @@ def test_audit_is_made_of_the_sources():
 
 
 def test_table_of_scripts():
-    """It says of each what `tests/run --list` says, where a page of docs/ is no link."""
+    """It says of each what `tests/run --list` says, if a page of docs/ is no link."""
     listed = subprocess.run(["tests/run", "--list"], check=True, capture_output=True, text=True).stdout
     listed = re.sub(r"docs/([A-Z_]+)\.md", r"[\1](\1.md)", re.sub(r"docs/(vectors\.json|openapi\.yaml)", r"[\1](\1)", listed))
     rows = [f"| `{name}` | {shown} |" for name, shown in re.findall(r"^(\S+) \([^)]*\): (.*)$", listed, re.MULTILINE)]
@@ -267,7 +267,7 @@ def test_commands(page, tmp_path):
     # A page's commands may be those of the repository's top.
     for folder in ("bin", "deploy"):
         (room / folder).symlink_to(desk.ROOT / folder)
-    # Bodies of replies end without a line feed, which a terminal shows as a prompt behind them.
+    # Bodies of replies end without a line feed, which a terminal shows as a prompt after them.
     (tmp_path / ".curlrc").write_text('silent\nshow-error\nnoproxy = "*"\nwrite-out = "\\n"\n')
     for program in ("passtool", "clubdesk"):
         # It is built first, so that what its build prints isn't taken for what it prints.

@@ -1,11 +1,11 @@
 #!/usr/bin/env python3
-"""Random requests, most of them wrong somewhere, and orders of the office: each reply is byte for byte that of the rules in Python
+"""Random requests, most of them wrong somewhere, and commands of the office: each reply is byte for byte that of the rules in Python
 (`tests/reference`, written from the pages on the desk, passes and caveats alone), and so are the rows and totals after each server. With
 `--self-test` each of eight planted faults of those rules is found.
 
 Requests are drawn by a seed: passes in three forms under current, older and other roots, narrowed by caveats at their limits, cut,
 changed in a byte, or a third party's; heads and bodies with other letters, line ends, lengths, fields and paths. Servers follow one
-another, each at a moment of its own, and the office gives its orders between them.
+another, each at a moment of its own, and the office gives its commands between them.
 
     tests/hostile.py [--seed N] [--count M] [--plant FAULT | --self-test]
 """
@@ -26,7 +26,7 @@ from reference import caveats, club as rules, passes
 
 AT_ONE_SERVER = 500  # requests
 AT_ONE_CLUB = 10_000
-ORDERS_BETWEEN = 12
+COMMANDS_BETWEEN = 12
 NOON = caveats.moment_of("2026-04-20T12:00")
 MEMBERS = ("amy", "b", "c-2", "d" * 24, "eve", "0")
 KEYS = ("amy-1", "k", "z" * 24, "b-2", "c--", "9", "amy-son", "eve-1")
@@ -42,7 +42,7 @@ class World(Both):
         self.draw = random.Random(seed)
         self.moment = NOON
 
-    # ---- orders
+    # ---- commands
 
     def root(self):
         return self.draw.randbytes(self.draw.choice((16, 16, 32, 63, 64)))
@@ -55,7 +55,7 @@ class World(Both):
         return draw.choice(FACILITIES), min(max(self.moment // 1440 + ahead, caveats.FIRST_DAY), caveats.LAST_DAY), hour
 
     def booked(self):
-        """A key, a number and its booking, which may be cancelled; None where there is none yet."""
+        """A key, a number and its booking, which may be cancelled; None if there is none yet."""
         key = self.draw.choice(KEYS)
         rows = self.club.bookings.get(key)
         if not rows:
@@ -63,7 +63,7 @@ class World(Both):
         number = self.draw.choice(list(rows)[-40:])
         return key, number, rows[number]
 
-    def words_of_order(self):
+    def words_of_command(self):
         draw = self.draw
         kind = draw.choice(("add-member", "credit", "credit", "add-facility", "add-key", "add-key", "revoke-key", "rotate-key", "close-slot"))
         if kind == "add-member":
@@ -238,10 +238,10 @@ class World(Both):
     # ---- rounds
 
     def round(self, count):
-        """Orders, a server at a moment of its own, so many requests, and a look into the file."""
+        """Commands, a server at a moment of its own, so many requests, and a look into the file."""
         self.moment = NOON + self.draw.choice((0, 0, 1, 360, 361, 1440, 11 * 1440, 30_000)) + self.draw.randrange(3)
-        for _ in range(ORDERS_BETWEEN):
-            self.give(self.words_of_order())
+        for _ in range(COMMANDS_BETWEEN):
+            self.give(self.words_of_command())
         with programs.Server(self.desk, self.file, count, "--at", spelled_moment(self.moment)) as server:
             for _ in range(count):
                 self.ask(server, self.request(), self.moment)

@@ -1,6 +1,6 @@
 """The table of all kinds of reply: what a club is asked, under which pass and when, and the bytes that it answers.
 
-A scene is a list of steps over the club that ORDERS make: a Row is a request to a server of its own, an Order a command of the office, Sql
+A scene is a list of steps over the club that COMMANDS make: a Row is a request to a server of its own, a Command one of the office, Sql
 what sqlite3 does to the file. Passes are those of tests/reference, which also spells the replies."""
 
 import itertools
@@ -29,7 +29,7 @@ AMY, BOB, CY, DI = (key_pass(f"{name}-1") for name in ("amy", "bob", "cy", "di")
 
 @dataclass(frozen=True)
 class Row:
-    """A request and its reply. It has the bytes of `raw` where there are any; under no pass there is no field for one."""
+    """A request and its reply. It has the bytes of `raw` if there are any; under no pass there is no field for one."""
 
     method: str = ""
     path: str = ""
@@ -69,7 +69,7 @@ class Row:
 
 
 @dataclass(frozen=True)
-class Order:
+class Command:
     """A command of clubdesk, what it prints, and its line on standard error if it is refused."""
 
     words: tuple
@@ -82,17 +82,17 @@ class Sql:
     statement: str
 
 
-def order(words, **ended):
-    return Order(tuple(words.split()), **ended)
+def command(words, **ended):
+    return Command(tuple(words.split()), **ended)
 
 
 def join(member, quota, points):
     """A member with points, and its key with the pass that is printed."""
-    credit = [order(f"credit {member} {points}")] if points else []
-    return [order(f"add-member {member} {quota}"), *credit, order(f"add-key {member}-1 {member} {ROOT}", printed=text(key_pass(f"{member}-1")) + "\n")]
+    credit = [command(f"credit {member} {points}")] if points else []
+    return [command(f"add-member {member} {quota}"), *credit, command(f"add-key {member}-1 {member} {ROOT}", printed=text(key_pass(f"{member}-1")) + "\n")]
 
 
-ORDERS = [order("add-facility court-1 court 4 200 8 22"), order("add-facility room-1 room 1 601 8 22"), *join("amy", 5, 10_000), *join("bob", 5, 10_000)]
+COMMANDS = [command("add-facility court-1 court 4 200 8 22"), command("add-facility room-1 room 1 601 8 22"), *join("amy", 5, 10_000), *join("bob", 5, 10_000)]
 
 
 def slot(hour="18", day="01", facility="court-1"):
@@ -149,22 +149,22 @@ CHANGED = text(AMY)[:-1] + "g"
 SCENES["what is not verified"] = [
     *(ACCOUNT.under(it).gets(9) for it in (
         text(key_pass("zed-1")), CHANGED, text(passes.minted(bytes.fromhex(ROOT), b"amy-1")), text(key_pass("amy-1", ROOT + "00")))),
-    order("revoke-key amy-1"), ACCOUNT.gets(10), ACCOUNT.under(CHANGED).gets(9)]
+    command("revoke-key amy-1"), ACCOUNT.gets(10), ACCOUNT.under(CHANGED).gets(9)]
 
 # What amy is told in a club without others, in one where others do much, and in one where bob has a place in her slot.
 TOLD = [account(9400, 1), CANCEL]
 SCENES["others are absent"] = [BOOK, *TOLD]
 SCENES["others are busy"] = [
-    *join("cy", 99, 100_000), order("credit bob 5"), order(f"add-key bob-2 bob {ROOT}", printed=text(key_pass("bob-2")) + "\n"),
-    order("revoke-key bob-2"), *(booked(book(day, ONE, slot(day=f"{1 + day:02}"), text(CY)), 200, 3, "cy-1") for day in range(1, 21)), BOOK, *TOLD]
+    *join("cy", 99, 100_000), command("credit bob 5"), command(f"add-key bob-2 bob {ROOT}", printed=text(key_pass("bob-2")) + "\n"),
+    command("revoke-key bob-2"), *(booked(book(day, ONE, slot(day=f"{1 + day:02}"), text(CY)), 200, 3, "cy-1") for day in range(1, 21)), BOOK, *TOLD]
 SCENES["others are there"] = [booked(book(1, ONE, passed=text(BOB)), 200, 3, "bob-1"), booked(book(7, THREE), 600, 0), *TOLD]
 
 SCENES["the day sheet"] = [
-    BOOK, booked(book(2, ONE, passed=text(BOB)), 200, 0, "bob-1"), order("sheet 2026-05-01", printed="""Day sheet 2026-05-01
+    BOOK, booked(book(2, ONE, passed=text(BOB)), 200, 0, "bob-1"), command("sheet 2026-05-01", printed="""Day sheet 2026-05-01
 court-1                  18:00 amy-1                            7  3    600
 court-1                  18:00 bob-1                            2  1    200
 Total bookings 2, persons 4, charge 800
-"""), order("sheet 2026-05-02", printed="Day sheet 2026-05-02\nNo bookings.\n")]
+"""), command("sheet 2026-05-02", printed="Day sheet 2026-05-02\nNo bookings.\n")]
 for moment, hour, is_booked in (("2026-03-02T18:00", "18", True), ("2026-03-02T17:59", "18", False), ("2026-05-01T17:59", "18", True),
                                 ("2026-05-01T18:00", "18", False), (NOON, "21", True), (NOON, "22", False), (NOON, "08", True), (NOON, "07", False)):
     row = book(7, THREE, slot(hour)).at(moment)
@@ -173,8 +173,8 @@ SCENES["places, points and quota"] = [
     BOOK, book(1, TWO, passed=text(BOB)).gets(18), *join("cy", 1, 100), book(1, ONE, passed=text(CY)).gets(20),
     *join("di", 0, 0), book(1, ONE, passed=text(DI)).gets(19)]
 SCENES["a closed slot"] = [
-    BOOK, order("close-slot court-1 2026-05-01 18", printed="", refusal="refused: slot in use"), CANCEL, order("close-slot court-1 2026-05-01 18"),
-    order("close-slot court-1 2026-05-01 18", printed="", refusal="refused: exists"), book(8, ONE).gets(17), shown(0, closed=True)]
+    BOOK, command("close-slot court-1 2026-05-01 18", printed="", refusal="refused: slot in use"), CANCEL, command("close-slot court-1 2026-05-01 18"),
+    command("close-slot court-1 2026-05-01 18", printed="", refusal="refused: exists"), book(8, ONE).gets(17), shown(0, closed=True)]
 DOUBTED = text(AMY, "guests <= 0", "shoe = red")
 SCENES["two caveats"] = [book(7, THREE, passed=DOUBTED).gets(12, 1), book(7, ONE, passed=DOUBTED).gets(11, 2)]
 SCENES["a caveat"] = [ACCOUNT.under(text(AMY, "facility = court-1")).gets(12, 1)]
@@ -237,7 +237,7 @@ for name, row in ACTIONS.items():
         *(row.under(passed).gets(fault) for passed, fault in (
             (None, 4), ("A" * 8193, 5), ("x", 6), (unsigned_v2(FOREIGN), 7), (unsigned_v2(guests(65)), 8), (unsigned_v2(), 9))),
         *(row.under(text(AMY, caveat)).gets(fault, 1) for caveat, fault in (("shoe = red", 11), (f"until < {NOON}", 12))),
-        order("revoke-key amy-1"), row.gets(10), Sql("UPDATE keys SET revoked = 0, root = x'00'"), row.gets(22)]
+        command("revoke-key amy-1"), row.gets(10), Sql("UPDATE keys SET revoked = 0, root = x'00'"), row.gets(22)]
 
 # A file may have 512 bytes, enough to open the log and not for a booking. Nothing is booked, and the same request is served afterwards.
 SCENES["no storage"] = [BOOK.but(file_limit=512).gets(22), account(), BOOK]

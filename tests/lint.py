@@ -2,12 +2,12 @@
 """Names defined twice, long lines, functions, files and crates past their limits, numbers without units, other versions, files that
 nothing uses.
 
-Prints each, with its place; the status is 1 where there is one.
+Prints each, with its place; the status is 1 if there is one.
 - one name that two specs modules define, of one crate or of two, but for those of one meaning that TWINS has;
 - lines that are too long: code, comments and clauses past 100 columns, imports, specs and proofs past 160;
 - limits of CONTRIBUTING: a function's body of 40 lines or more, a file of code of 800 or more, a proof of 400 or more, a crate that is
   none of tests with more than 100 functions;
-- a number in a public docstring without a unit (a guess: it looks for a word behind the number, or a unit's word in the text);
+- a number in a public docstring without a unit (a guess: it looks for a word after the number, or a unit's word in the text);
 - another version than that of VERSION: in the code, as both programs print it, or in the newest heading of CHANGELOG.md;
 - files that nothing uses: modules of specs and proofs that no file imports, files of code that no `mod` names, scripts that no
   page names, and edits of must-fail/ and more-edits/ whose old text doesn't stand once in its file.
@@ -32,7 +32,7 @@ TWINS = {
     "Entry table_of": "points in a reply and tables of SQL, and a row of a program's table of commands",
     "header_at caveat_at optional_at wide_at": "the readings of V1 and V2 say the same of two layouts",
     "Answers": "what rows of tables answer, and what a call returns for what arguments ask",
-    "ReadsWords of_words": "what both programs make of their arguments",
+    "ReadsArguments of_arguments": "what both programs make of their arguments",
     "fault_line fault_status": "the faults of both programs, their lines and statuses",
 }
 UNITS = re.compile("byte|bit|character|letter|digit|column|line|caveat|pass|place|person|guest|booking|point|day|hour|minute|second|moment|year|name|fault"
@@ -56,7 +56,7 @@ def of_crate(crate, part, ending):
 
 
 def twice_defined(crates):
-    """Names at the top level of a specs module: what stands before its colon, or behind `record` and `data`."""
+    """Names at the top level of a specs module: what stands before its colon, or after `record` and `data`."""
     homes = defaultdict(list)
     for file, text in FILES.items():
         if file.parts[2] == "specs":

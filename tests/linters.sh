@@ -2,7 +2,7 @@
 # Pyflakes, shellcheck, gofmt and go vet have nothing to say of the scripts and the Go, or the reason is noted in place.
 #
 # The shell scripts and bats files of tests/, bin/ and deploy/ are read by shellcheck, the Python there and in examples/ by pyflakes.
-# The Go of tests/ and examples/ is read where Debian's Go is there. Not part of the gate.
+# The Go of tests/ and examples/ is read if Debian's Go is there. Not part of the gate.
 # groups: quick
 # wants: shellcheck pyflakes3
 set -eu

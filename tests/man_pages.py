@@ -29,7 +29,7 @@ def by_help(program):
 
 
 def listed(page, heading, item):
-    """What the items of a list of the page have behind its first words."""
+    """What the items of a list of the page have after its first words."""
     return re.findall(rf"^\.It {item}(.*)", re.search(rf"^{heading}\n(.*?)^\.El", page, re.MULTILINE | re.DOTALL)[1], re.MULTILINE)
 
 

@@ -280,7 +280,7 @@ def take_libraries(copy, names):
 
 
 def try_crate(crate, wanted, counts):
-    """Tries the edits of a crate of the copy; where some are wanted, these alone."""
+    """Tries the edits of a crate of the copy; if some are wanted, these alone."""
     if not check(crate)[1]:
         sys.exit(f"{crate.name}: not proved as it is")
     trial = Trial(crate)

@@ -3,7 +3,7 @@
 # misses a name that the edit took away.
 #
 # Those of crates/NAME/must-fail/ and crates/NAME/more-edits/, by `rt check` in a scratch copy of the tree as it is. Run it for each crate
-# whose code or contracts change. The status is 1 where one is proved, or can't be tried.
+# whose code or contracts change. The status is 1 if one is proved, or can't be tried.
 #   tests/more_edits.sh                             every crate that has such edits
 #   tests/more_edits.sh club_core club_reference    these crates
 #   tests/more_edits.sh club_core/charges_a_repeat  this edit
@@ -11,7 +11,7 @@
 # The first word of a line:
 # - false: the check found values for which a goal is false, so no proof of this body ends well.
 # - goal: a goal stays open, and each name that its proof cites is there. The proof, which closes the goal of the right body, fails at
-#   what this one computes. So do the tactics, where no answer is written by hand.
+#   what this one computes. So do the tactics, if no answer is written by hand.
 # - names: all that fails are answers that are written by hand and cite what the edit took away: a goal is named after a condition, an
 #   arm or a call of the code. Without these answers their goals stay open. That may be the contract's doing or the shape's: the same
 #   body in other words may be proved. Such an edit counts for little. Write it again so that it changes a value and keeps the names.

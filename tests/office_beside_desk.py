@@ -1,9 +1,9 @@
 #!/usr/bin/env -S /usr/bin/python3 -B -m pytest -q -x -s -p no:cacheprovider
-"""The office beside the desk, with real processes: 500 orders of two offices, by the server's door, while four clients make 5,000
-requests of it, each order and each reply as it has to be, and the totals are the sums, by sqlite3 once the server is stopped. Then
-20 kills of servers and of orders, clients of which one is silent and one sends a byte a second, a door that is stale or taken, a
+"""The office beside the desk, with real processes: 500 commands of two offices, by the server's door, while four clients make 5,000
+requests of it, each command and each reply as it has to be, and the totals are the sums, by sqlite3 once the server is stopped. Then
+20 kills of servers and of commands, clients of which one is silent and one sends a byte a second, a door that is stale or taken, a
 second server, links to the file and its folder, a file that is moved, replaced or removed, another user, the modes of the files, and
-the lines of orders. Prints how long orders and requests took, in one run with a server without orders, also at 300,000 bookings. Not
+the lines of commands. Prints how long commands and requests took, in one run with a server without commands, also at 300,000 bookings. Not
 part of the gate.
 """
 # groups: programs faults
@@ -86,7 +86,7 @@ def asked_by(place):
 
 
 def given_by(place):
-    """250 orders: members, credits, closed slots, revoked keys, and looks at a slot."""
+    """250 commands: members, credits, closed slots, revoked keys, and slots that are shown."""
     for n in range(1, 51):
         day = f"2026-{6 + n // 29:02}-{1 + n % 28:02}"
         for words in (f"add-member o{place}-{n} 5", f"credit o{place}-{n} {100 * n}", f"close-slot room-{place} {day} 10", f"revoke-key old-{place}"):
@@ -95,8 +95,8 @@ def given_by(place):
 
 
 def beside(club, server, count):
-    """Four clients, and two offices where there are orders: each reply and each answer is as it is reckoned."""
-    bookings, others, orders = Times(), Times(), Times()
+    """Four clients, and two offices if there are commands: each reply and each answer is as it is reckoned."""
+    bookings, others, commands = Times(), Times(), Times()
 
     def client(place):
         last = None
@@ -107,27 +107,27 @@ def beside(club, server, count):
 
     def office(place):
         for words, printed in given_by(place):
-            assert orders.of(club.order, *words.split()) == (0, printed, "")
+            assert commands.of(club.command, *words.split()) == (0, printed, "")
 
     with ThreadPoolExecutor(6) as pool:
         for begun in [pool.submit(client, place) for place in PASSES] + [pool.submit(office, place) for place in (1, 2) if count]:
             begun.result()
     requests = Times(bookings + others)
-    assert (len(requests), len(bookings), len(orders)) == (5000, 360, count)
+    assert (len(requests), len(bookings), len(commands)) == (5000, 360, count)
     print(f"{club.file.name}, with {count} orders")
-    for what, found in (("orders", orders), ("bookings", bookings), ("requests", requests)):
+    for what, found in (("orders", commands), ("bookings", bookings), ("requests", requests)):
         if found:
             found.show(what)
 
 
-def test_door_has_a_mode_and_orders_have_lines(club):
-    """500 orders beside 5,000 requests. Then three with a root, one of which is refused, and one of which reads it: none is in the log."""
+def test_door_has_a_mode_and_commands_have_lines(club):
+    """500 commands beside 5,000 requests. Then three with a root, one of which is refused, and one of which reads it: none is in the log."""
     with club.served("--log") as server:
         assert stat.filemode(os.stat(f"{club.file}-office").st_mode) == "srw-------"
         beside(club, server, 500)
-        assert club.order("add-key", "given", "m1", ROOT) == (0, text(key_pass("given")) + "\n", "")
-        assert club.order("rotate-key", "nobody", ROOT, "2030-01-01T00:00") == (1, "", "refused: unknown\n")
-        assert desk.order(club.program, "add-key", club.file, "read", "m1", "--root-stdin", text=ROOT) == (0, text(key_pass("read")) + "\n", "")
+        assert club.command("add-key", "given", "m1", ROOT) == (0, text(key_pass("given")) + "\n", "")
+        assert club.command("rotate-key", "nobody", ROOT, "2030-01-01T00:00") == (1, "", "refused: unknown\n")
+        assert desk.command(club.program, "add-key", club.file, "read", "m1", "--root-stdin", text=ROOT) == (0, text(key_pass("read")) + "\n", "")
         # A client is served once the line before it is written.
         assert server.exchange(b"GET /account HTTP/1.1\r\n\r\n")
         log = server.log.read_text()
@@ -139,12 +139,12 @@ def test_door_has_a_mode_and_orders_have_lines(club):
 def ends(wanted, most, *words):
     """A command ends with a status and what it prints, within so many seconds."""
     begun = time.monotonic()
-    assert desk.order(*words) == wanted
+    assert desk.command(*words) == wanted
     assert time.monotonic() - begun < most
 
 
 def test_what_others_meet_beside_a_server(club):
-    """A second server, orders by a link to the file and to its folder and at a file that is moved, and another user, where the file's mode lets it in."""
+    """A second server, commands by a link to the file and to its folder and at a file that is moved, and another user, where the file's mode lets it in."""
     folder, moved = club.file.parent, club.file.with_name("moved")
     with club.served():
         ends(FAILED, 15, club.program, "serve", club.file, "--port", "0", "--count", "1")
@@ -216,9 +216,9 @@ def test_something_else_than_a_door_stays(club):
     door.rmdir()
 
 
-def test_orders_beside_four_clients_of_which_two_dawdle(club):
-    """One is silent, one sends a byte a second. Each order is carried out within a fraction of a second, and the other two have their replies."""
-    orders = Times()
+def test_commands_beside_four_clients_of_which_two_dawdle(club):
+    """One is silent, one sends a byte a second. Each command is carried out within a fraction of a second, and the other two have their replies."""
+    commands = Times()
 
     def dawdles(server, act):
         with socket.create_connection(("127.0.0.1", server.port), 60) as client, contextlib.suppress(ConnectionResetError):
@@ -232,41 +232,41 @@ def test_orders_beside_four_clients_of_which_two_dawdle(club):
     with club.served("--patience", "2") as server, ThreadPoolExecutor(4) as pool:
         begun = [pool.submit(dawdles, server, act) for act in (lambda _: None, DRIP)] + [pool.submit(asks, server, place) for place in (1, 2)]
         while not all(it.done() for it in begun):
-            assert orders.of(club.order, "credit", "m4", 1) == DONE
+            assert commands.of(club.command, "credit", "m4", 1) == DONE
         for it in begun:
             it.result()
-    assert max(orders) <= 0.9
-    orders.show("orders beside four clients, of which one is silent and one sends a byte a second")
+    assert max(commands) <= 0.9
+    commands.show("orders beside four clients, of which one is silent and one sends a byte a second")
 
 
 @pytest.mark.parametrize("dawdle", [lambda _: None, DRIP], ids=["silent", "a byte a second"])
-def test_client_that_dawdles_keeps_no_order(club, dawdle):
+def test_client_that_dawdles_keeps_no_command(club, dawdle):
     """Each is carried out within a fraction of a second, while the client is still awaited; it is cut off by the server's patience of four seconds."""
-    orders = Times()
+    commands = Times()
     with club.served("--patience", "4") as server, socket.create_connection(("127.0.0.1", server.port), 60) as client:
         begun, dawdling = time.monotonic(), threading.Thread(target=dawdle, args=[client])
         dawdling.start()
         for wait in (0.2, 1.1):
             time.sleep(wait)
-            assert orders.of(club.order, "credit", "m4", 1) == DONE
+            assert commands.of(club.command, "credit", "m4", 1) == DONE
         with contextlib.suppress(ConnectionResetError):
             assert client.recv(1) == b""
         assert 3.9 < time.monotonic() - begun < 6
         dawdling.join()
-    assert max(orders) <= 0.9
-    orders.show("orders beside a slow client")
+    assert max(commands) <= 0.9
+    commands.show("orders beside a slow client")
 
 
 @pytest.mark.parametrize("number", range(1, 21))
-def test_killed_order_or_server(club, number):
-    """The order was carried out or not, and its status says so where it can; the totals are the sums."""
+def test_killed_command_or_server(club, number):
+    """The command was carried out or not, and its status says so if it can; the totals are the sums."""
     with club.served() as server:
         before = club.balance("k1")
-        order = subprocess.Popen([club.program, "credit", club.file, "m1", "1"], stdout=subprocess.DEVNULL, stderr=subprocess.DEVNULL)
+        command = subprocess.Popen([club.program, "credit", club.file, "m1", "1"], stdout=subprocess.DEVNULL, stderr=subprocess.DEVNULL)
         time.sleep((number % 10 * 10 + number * 7 % 10) / 10_000)
-        (order if number % 2 else server).kill()
-        order.wait()
-    assert (order.returncode, club.balance("k1") - before) in {(0, 1), (5, 0), (8, 0), (8, 1), (-9, 0), (-9, 1)}
+        (command if number % 2 else server).kill()
+        command.wait()
+    assert (command.returncode, club.balance("k1") - before) in {(0, 1), (5, 0), (8, 0), (8, 1), (-9, 0), (-9, 1)}
     assert not desk.unsound(club.file)
 
 
@@ -283,7 +283,7 @@ def test_server_that_ends_takes_its_door_along(club):
 
 @pytest.mark.parametrize("bookings, count", [(0, 0), (300_000, 0), (300_000, 500)])
 def test_times(made, bookings, count):
-    """Without orders at 360 bookings, and with and without at 300,000 more of 1,000 other members."""
+    """Without commands at 360 bookings, and with and without at 300,000 more of 1,000 other members."""
     club = made.copied_to(made.file.with_name(f"at {bookings}"))
     if bookings:
         desk.add_past_bookings(club.file, bookings, ROOT)

@@ -1,8 +1,6 @@
 #!/usr/bin/env -S /usr/bin/python3 -B -m pytest -q -p no:cacheprovider
-"""The door of a running desk, as a hostile or an unlucky office meets it: an order that is cut at each byte, of 70,000 bytes, with
-another count than its words, of words that are no UTF-8, of no command, and of `serve`; a sender that goes before it is greeted, in
-its words, or before its answer, that is silent, or that doesn't take its answer; a server that doesn't greet, or doesn't answer; 50
-orders at once; root's order at another user's desk, a folder that a server can't write, and a full disk. What isn't a whole order
+"""The door of a running desk, as a hostile or an unlucky office meets it: a command that is cut at each byte, of 70,000 bytes, with another count than its arguments, of arguments that are no UTF-8, of no name, and of `serve`; a sender that goes before it is greeted, in its arguments, or before its answer, that is silent, or that doesn't take its answer; a server that doesn't greet, or doesn't answer; 50
+commands at once; root's command at another user's desk, a folder that a server can't write, and a full disk. What isn't a whole command
 changes nothing, each whole one is carried out once, and the server goes on. Wants root for the last three. Not part of the gate.
 """
 # groups: faults
@@ -23,14 +21,14 @@ import desk
 import kinds
 
 
-def order_bytes(*words, root="", count=None):
-    """The bytes of an order: how many words it has, the root that was read for it, and the words, with a zero byte after each."""
+def command_bytes(*words, root="", count=None):
+    """The bytes of a command: how many words it has, the root that was read for it, and the words, with a zero byte after each."""
     pieces = [str(len(words) if count is None else count), root, *words]
     return b"".join(it.encode() + b"\0" for it in pieces)
 
 
 CREDIT = ("clubdesk", "credit", "club", "amy", "1")
-WHOLE = order_bytes(*CREDIT)
+WHOLE = command_bytes(*CREDIT)
 DONE, FAILED, NO_ANSWER = (0, "done\n", ""), (5, "", "storage failed\n"), (8, "", "no answer\n")
 needs_root = pytest.mark.skipif(os.geteuid() != 0, reason="wants root")
 
@@ -68,7 +66,7 @@ def goes_on(server):
     assert server.exchange(kinds.account().data).startswith(b"HTTP/1.1 200 ")
 
 
-def test_a_whole_order(club, serving):
+def test_a_whole_command(club, serving):
     assert answer(club, WHOLE) == (0, "done\n")
     assert credited(club) == 1
 
@@ -80,23 +78,23 @@ def test_cut_at_each_byte(club, serving):
 
 
 @pytest.mark.parametrize("data", [
-    order_bytes(*CREDIT, count=4), order_bytes(*CREDIT, count=6), b"05\0\0" + b"".join(it.encode() + b"\0" for it in CREDIT),
+    command_bytes(*CREDIT, count=4), command_bytes(*CREDIT, count=6), b"05\0\0" + b"".join(it.encode() + b"\0" for it in CREDIT),
     WHOLE + b"\0", WHOLE[:-1] + b"\0\0", b"5\0\0clubdesk\0credit\0club\0amy\xff\0" + b"1\0",
-    order_bytes("clubdesk", "serve", "club", "--port", "0", "--count", "1"), order_bytes("clubdesk", "--help"), order_bytes(), b"\0" * 100])
-def test_no_order(club, serving, data):
+    command_bytes("clubdesk", "serve", "club", "--port", "0", "--count", "1"), command_bytes("clubdesk", "--help"), command_bytes(), b"\0" * 100])
+def test_no_command(club, serving, data):
     assert answer(club, data)[0] == 2
     assert credited(club) == 0
 
 
 def test_words_that_are_refused(club, serving):
-    assert answer(club, order_bytes("clubdesk", "credits", "club"))[0] == 2
-    assert answer(club, order_bytes("clubdesk", "credit", "club", "amy", "none")) == (3, "bad value")
-    assert answer(club, order_bytes("clubdesk", "credit", "club", "zed", "1")) == (1, "refused: unknown")
+    assert answer(club, command_bytes("clubdesk", "credits", "club"))[0] == 2
+    assert answer(club, command_bytes("clubdesk", "credit", "club", "amy", "none")) == (3, "bad value")
+    assert answer(club, command_bytes("clubdesk", "credit", "club", "zed", "1")) == (1, "refused: unknown")
 
 
 def test_too_long(club, serving):
     with visitor(club) as it, contextlib.suppress(BrokenPipeError, ConnectionResetError):
-        it.sendall(order_bytes("clubdesk", "credit", "club", "a" * 70_000, "1"))
+        it.sendall(command_bytes("clubdesk", "credit", "club", "a" * 70_000, "1"))
         it.shutdown(socket.SHUT_WR)
         assert it.recv(1) == b""
     assert credited(club) == 0
@@ -122,7 +120,7 @@ def test_a_sender_that_takes_no_answer(club):
     club.sql("""WITH n(i) AS (SELECT 1 UNION ALL SELECT i + 1 FROM n WHERE i < 10000)
         INSERT INTO bookings SELECT 'amy-1', 1000 + i, 'court-1', 10957, 8, 0, 0, 0, 0, 0 FROM n""")
     with club.served("--patience", "1") as server, visitor(club) as it:
-        it.sendall(order_bytes("clubdesk", "sheet", "club", "2000-01-01"))
+        it.sendall(command_bytes("clubdesk", "sheet", "club", "2000-01-01"))
         it.shutdown(socket.SHUT_WR)
         began = time.monotonic()
         assert answer(club, WHOLE) == (0, "done\n")
@@ -133,10 +131,10 @@ def test_a_sender_that_takes_no_answer(club):
 
 
 def test_a_server_that_does_not_greet(club, serving):
-    """It is stopped for as long as an order waits, and carries nothing out when it goes on."""
+    """It is stopped for as long as a command waits, and carries nothing out when it goes on."""
     os.kill(serving.process.pid, signal.SIGSTOP)
     began = time.monotonic()
-    assert club.order("credit", "amy", "1") == FAILED
+    assert club.command("credit", "amy", "1") == FAILED
     assert 59 < time.monotonic() - began < 65
     os.kill(serving.process.pid, signal.SIGCONT)
     goes_on(serving)
@@ -158,13 +156,13 @@ def test_what_a_server_may_send(club, greeting, reply, wanted):
 
         server = threading.Thread(target=serve_one)
         server.start()
-        assert club.order("credit", "amy", "1") == wanted
+        assert club.command("credit", "amy", "1") == wanted
         server.join()
 
 
 def test_fifty_at_once(club, serving, clubdesk):
-    orders = [subprocess.Popen([clubdesk, "credit", club.file, "amy", "1"], stdout=subprocess.PIPE, stderr=subprocess.PIPE) for _ in range(50)]
-    assert {(*it.communicate(), it.returncode) for it in orders} == {(b"done\n", b"", 0)}
+    commands = [subprocess.Popen([clubdesk, "credit", club.file, "amy", "1"], stdout=subprocess.PIPE, stderr=subprocess.PIPE) for _ in range(50)]
+    assert {(*it.communicate(), it.returncode) for it in commands} == {(b"done\n", b"", 0)}
     assert credited(club) == 50
 
 
@@ -180,9 +178,9 @@ def of_another(club):
 
 
 @needs_root
-def test_an_order_of_root(of_another):
+def test_a_command_of_root(of_another):
     with of_another.served(by=desk.AS_ANOTHER):
-        assert of_another.order("credit", "amy", "1") == DONE
+        assert of_another.command("credit", "amy", "1") == DONE
         assert credited(of_another) == 1
         assert {path.stat().st_uid for path in of_another.file.parent.iterdir() if path.name.startswith("club")} <= {desk.ANOTHER, 0}
     assert of_another.file.stat().st_uid == desk.ANOTHER
@@ -214,11 +212,11 @@ def test_a_full_disk(club, small_disk):
         with open(small_disk / "rest", "wb", buffering=0) as rest, pytest.raises(OSError):
             while True:
                 rest.write(bytes(4096))
-        ended = [full.order("credit", "amy", "1") for _ in range(50)]
+        ended = [full.command("credit", "amy", "1") for _ in range(50)]
         assert ended[-1] == FAILED
         done = ended.count(DONE)
         assert done + ended.count(ended[-1]) == len(ended)
         os.unlink(small_disk / "rest")
         assert credited(full) == done
-        assert full.order("credit", "amy", "1") == DONE
+        assert full.command("credit", "amy", "1") == DONE
         assert credited(full) == done + 1

@@ -1,6 +1,6 @@
 #!/usr/bin/env -S /usr/bin/python3 -B
 """The office's wrapper, deploy/office, as clerks use it who are not root: by the sudoers lines of deploy/office.sudoers, beside a server
-that a small manager of services runs. Each order, look, list and correction against show-account, the sheet, the desk's replies
+that a small manager of services runs. Each command, what it shows, each list and each correction against show-account, the sheet, the desk's replies
 and the totals; what it refuses; passes and their files; the book, in a file and in systemd's journal; a copy that is put in the club's
 place, also of a file that is damaged or gone. Wants root, for a machine of its own (tests/office_room.sh). Not part of the gate.
 """
@@ -78,7 +78,7 @@ def as_nobody_else():
     same("two units in a word", run_as("clubdesk", "sudo", "-n", "/usr/bin/systemctl", "kill", "clubdesk@x ssh.service", folder="/")[0] != 0, True)
 
 
-def orders_and_looks():
+def commands_and_looks():
     """clubdesk's own statuses, lines and output."""
     for words in ("add-member amy 5", "credit amy 10000", "add-member bob 2", "credit bob 3000", "add-facility court-1 court 4 200 8 22",
                   "add-facility court-2 court 4 200 8 22", "add-facility boat-1 boat 2 50 6 20", f"close-slot court-1 {DAY} 09"):
@@ -283,20 +283,20 @@ def by_hand(sql):
 
 
 def takes_turns():
-    """One order at a time: another one waits, and is done then."""
+    """One command at a time: another one waits, and is done then."""
     def balance():
         return rows("SELECT credited - used FROM members WHERE name = 'amy'")[0][0]
 
     with open(TURN, "r+", encoding="ascii") as turn:
         fcntl.flock(turn, fcntl.LOCK_EX)
-        orders = [begun(*words) for words in (["credit", "amy", "1"], ["debit", "amy", "1", *YES])]
-        for order in orders:
-            same("it says that it waits", order.stderr.readline(), "waiting for another order\n")
-        same("both wait", [order.poll() for order in orders], [None, None])
+        commands = [begun(*words) for words in (["credit", "amy", "1"], ["debit", "amy", "1", *YES])]
+        for command in commands:
+            same("it says that it waits", command.stderr.readline(), "waiting for another order\n")
+        same("both wait", [command.poll() for command in commands], [None, None])
         before = balance()
-    for order in orders:
-        order.communicate()
-    same("both are done then", [order.returncode for order in orders], [0, 0])
+    for command in commands:
+        command.communicate()
+    same("both are done then", [command.returncode for command in commands], [0, 0])
     same("and in turn", balance(), before)
     with ThreadPoolExecutor(7) as pool:
         for _ in range(6):
@@ -306,12 +306,12 @@ def takes_turns():
 
 
 def changed_meanwhile(words, shown, change):
-    """What was shown is what is done: where the club has changed between the question and its answer, nothing is."""
-    with begun(*words, *AT) as order:
-        same("what is shown", order.stdout.readline(), f"{shown}\n")
+    """What was shown is what is done: if the club has changed between the question and its answer, nothing is."""
+    with begun(*words, *AT) as command:
+        same("what is shown", command.stdout.readline(), f"{shown}\n")
         change()
-        _, errors = order.communicate("y\n")
-    same(f"a change before the answer: {words}", (order.returncode, "has changed since" in errors), (1, True))
+        _, errors = command.communicate("y\n")
+    same(f"a change before the answer: {words}", (command.returncode, "has changed since" in errors), (1, True))
 
 
 def booked_meanwhile(server):
@@ -508,7 +508,7 @@ def manual():
 manual()
 before_there_is_a_club()
 as_nobody_else()
-orders_and_looks()
+commands_and_looks()
 amy, bob = passes()
 server = Service()
 looks(server, amy)

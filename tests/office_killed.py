@@ -1,7 +1,7 @@
 #!/usr/bin/env -S /usr/bin/python3 -B
-"""The office, killed: 100 orders and corrections, each killed at a random moment, beside a running desk with four clients; then no total
-is off, each reply was right, each order is done once or not at all, and the desk serves. An import of twelve members, killed before
-and after each of its orders, and 40 times at random: nobody is credited twice, and each pass that it leaves opens its account. A restore,
+"""The office, killed: 100 commands and corrections, each killed at a random moment, beside a running desk with four clients; then no total
+is off, each reply was right, each command is done once or not at all, and the desk serves. An import of twelve members, killed before
+and after each of its commands, and 40 times at random: nobody is credited twice, and each pass that it leaves opens its account. A restore,
 killed 25 times: the club is that of before or that of the copy. Wants root, for a machine of its own (tests/office_room.sh). Not part of
 the gate.
   tests/office_killed.py [KILLS [SEED]]
@@ -53,7 +53,7 @@ def seconds_of(*words):
     return time.monotonic() - start
 
 
-def orders_beside_the_desk():
+def commands_beside_the_desk():
     """Credits, debits, quotas, closings and cancellations, each killed."""
     configure()
     done("new")
@@ -68,12 +68,12 @@ def orders_beside_the_desk():
     server = Service()
     for number in range(1, 97):
         server.answer(text["zoe"], "PUT", f"/slots/room-1/2026-06-{1 + number // 24:02d}/{number % 24:02d}/bookings/{number}", '{"guests":0}')
-    orders, start, is_over = [order_of(attempt) for attempt in range(given.kills)], time.monotonic(), threading.Event()
+    commands, start, is_over = [command_of(attempt) for attempt in range(given.kills)], time.monotonic(), threading.Event()
     with ThreadPoolExecutor(4) as pool:
         clients = [pool.submit(books_and_cancels, server, place, text[f"k{place}"], is_over) for place in range(1, 5)]
         plain = seconds_of("debit", "zoe", "1", *YES)
         print(f"a correction beside the desk takes {plain:.2f} s")
-        for attempt, words in enumerate(orders):
+        for attempt, words in enumerate(commands):
             killed_after(chance.uniform(0, plain * (0.4 if words[0] == "credit" else 1.2)), words, chance if attempt % 3 == 0 else None)
             if attempt % 10 == 0:
                 whole(f"kill {attempt}")
@@ -82,7 +82,7 @@ def orders_beside_the_desk():
     same("replies that are wrong", [it for client in clients for it in client.result()[1]], [])
     print(f"{given.kills} kills in {time.monotonic() - start:.0f} s, {server.starts} starts, {sum(it.result()[0] for it in clients)} replies")
     whole("all kills")
-    hold_book(orders)
+    hold_book(commands)
     same("the desk serves", server.is_heard(), True)
     same("and answers", server.answer(text["zoe"], "GET", "/account")[0], 200)
     for it in left():
@@ -97,7 +97,7 @@ def left():
     return [it for folder in (Path("/dev/shm"), HOME) for it in folder.glob(".office-*")]
 
 
-def order_of(attempt):
+def command_of(attempt):
     return (
         ["debit", "zoe", str(1000 + attempt), *YES],
         ["credit", "zoe", str(2000 + attempt)],
@@ -107,7 +107,7 @@ def order_of(attempt):
     )[attempt % 5]
 
 
-def hold_book(orders):
+def hold_book(commands):
     """The credits and debits of the club are those that the book has with status 0, and of those with a question mark some."""
     book = [line.split() for line in done("log", "zoe").splitlines()]
     book = [(status, command, words) for _, _, status, command, *words in book if command in ("credit", "debit")]
@@ -117,7 +117,7 @@ def hold_book(orders):
         if status in ("0", "?"):
             sums = {it + points for it in sums} | (sums if status == "?" else set())
     same(f"zoe's credits, {counts['?']} of them broken off", rows("SELECT credited FROM members WHERE name = 'zoe'")[0][0] in sums, True)
-    lines = {" ".join(word for word in words if word != "--yes") for words in orders} | {"credit zoe 100000", f"debit zoe 1 --at {NOON}"}
+    lines = {" ".join(word for word in words if word != "--yes") for words in commands} | {"credit zoe 100000", f"debit zoe 1 --at {NOON}"}
     same("no order of nobody", {" ".join([command, *words]) for _, command, words in book} - lines, set())
     print(f"of the credits and debits {counts['0'] - 2} were done, {counts['?']} were broken off")
 
@@ -190,8 +190,8 @@ def fresh_club():
     done("add-facility", "room-1", "room", "50", "5", "0", "24")
 
 
-def count_orders(stop="0 never"):
-    """Orders are counted from now on, and the one of a number is stopped before it or after it."""
+def count_commands(stop="0 never"):
+    """Commands are counted from now on, and the one of a number is stopped before it or after it."""
     for file, text in (("orders", "0"), ("kill", stop)):
         (ROOM / file).write_text(f"{text}\n")
         (ROOM / file).chmod(0o666)
@@ -199,13 +199,13 @@ def count_orders(stop="0 never"):
 
 
 def import_stopped(*at):
-    """An import that is killed before or after one of its orders; its status."""
-    count_orders(*at)
-    order = begun("import", "members.csv", "--yes")
-    while order.poll() is None and not (ROOM / "killed").exists():
+    """An import that is killed before or after one of its commands; its status."""
+    count_commands(*at)
+    command = begun("import", "members.csv", "--yes")
+    while command.poll() is None and not (ROOM / "killed").exists():
         time.sleep(0.005)
-    kill(order)
-    return order.returncode
+    kill(command)
+    return command.returncode
 
 
 def imported(what, members):
@@ -224,7 +224,7 @@ def imports():
     (ROOM / "stopper").write_text(STOPPER)
     subprocess.run(["install", "-m", "755", ROOM / "stopper", "/usr/bin/clubdesk"], check=True)
     ROOM.chmod(0o777)
-    count_orders()
+    count_commands()
     refused_lists()
     first = MEMBERS[:3]
     make_list(first)
@@ -282,7 +282,7 @@ def refused_lists():
     same("nobody is a member then", rows("SELECT * FROM members"), [])
 
 
-orders_beside_the_desk()
+commands_beside_the_desk()
 restores()
 imports()
 leave()

@@ -18,7 +18,7 @@ from pathlib import Path
 
 import psutil
 
-from desk import SUMS, TESTS, free_port, opened, order
+from desk import SUMS, TESTS, free_port, opened, command
 
 if "OFFICE_ROOM" not in os.environ:
     os.execv("/bin/sh", ["sh", str(TESTS / "office_room.sh"), sys.executable, "-B", os.path.abspath(sys.argv[0]), *sys.argv[1:]])
@@ -46,7 +46,7 @@ def leave():
 
 def run_as(user, *line, given=None, folder=None):
     """Runs a command as a user, in its home; its status, output and errors."""
-    return order("runuser", "-u", user, "--", *line, text=given, cwd=folder or f"/home/{user}")
+    return command("runuser", "-u", user, "--", *line, text=given, cwd=folder or f"/home/{user}")
 
 
 def office(*words, by="anna", given="", club="club"):
@@ -119,21 +119,21 @@ def begun(*words):
                             text=True, cwd="/home/anna", start_new_session=True)
 
 
-def kill(order, chance=None):
+def kill(command, chance=None):
     """Kills a process with all that it started, of which sudo gives some a session of their own, or by chance one of them; waits for its end."""
     with contextlib.suppress(psutil.NoSuchProcess):
-        first = psutil.Process(order.pid)
+        first = psutil.Process(command.pid)
         found = [first, *first.children(recursive=True)]
         for it in [chance.choice(found)] if chance else found:
             with contextlib.suppress(psutil.NoSuchProcess):
                 it.kill()
-    order.communicate()
+    command.communicate()
 
 
 def killed_after(seconds, words, chance=None):
-    order = begun(*words)
+    command = begun(*words)
     time.sleep(seconds)
-    kill(order, chance)
+    kill(command, chance)
 
 
 def copied():

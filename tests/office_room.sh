@@ -2,7 +2,7 @@
 # those of the machine; what bin/package packs of deploy/, web/ and the programs lies there as a package puts it; the clerk anna is made
 # by the lines of docs/RUNNING.md under "The clerks", ben is another one, and carl is none. `systemctl` knows one word, `kill`, and hands
 # it to a small manager of services (tests/office_room.py). Wants root.
-# Before it is read, `room_net` may be not empty: then the room has a network of its own. Where it is run itself, it runs the command that
+# Before it is read, `room_net` may be not empty: then the room has a network of its own. If it is run itself, it runs the command that
 # stands behind its name, with ROOM as the room's folder.
 set -eu
 PATH=/usr/sbin:/sbin:$PATH

@@ -95,7 +95,7 @@ cp "first/$deb" ./*.deb first/*.tar.xz "$root/root/"
 offline sh -c "apt-get update && apt-get install --download-only /root/$deb qrencode xz-utils" >apt.log 2>&1 </dev/null || fail "apt-get: $(tail apt.log)"
 boot
 
-# The lines for root of RUNNING, as the package has it, each behind the heading of its section and a tab.
+# The lines for root of RUNNING, as the package has it, each after the heading of its section and a tab.
 awk '
     /^```/ { if (inside) inside = 0; else if ($0 == "```sh" && !other) inside = 1; else other = !other; next }
     inside { print title "\t" $0; next }

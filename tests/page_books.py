@@ -107,14 +107,14 @@ def start_proxy(upstream, rate=500, burst=2000):
 
 def printed(*words, given=None):
     """What a command prints, which has to end well."""
-    status, text, fault = desk.order(*words, text=given)
+    status, text, fault = desk.command(*words, text=given)
     check(status == 0, words, fault)
     return text
 
 
 def refused(fault, *words, given=None, **variables):
     """A command of the office is refused with a line, and prints nothing."""
-    found = desk.order(*words, text=given, env={**os.environ, **variables})
+    found = desk.command(*words, text=given, env={**os.environ, **variables})
     check(found[:2] == (1, "") and re.search(fault, found[2]), "what is refused", words, given, variables, found)
 
 
@@ -351,7 +351,7 @@ def books_and_cancels(page, passes):
     page.view("account")
     page.when("byName('account-facts').innerText.includes('999,698')", "the account")
     check("0 of 99" in page.run("return byName('account-facts').innerText"), "the account")
-    # The pass is kept: another visit needs no link, and forgets it where the member says so.
+    # The pass is kept: another visit needs no link, and forgets it if the member says so.
     page.visit("", "isShown('day') && dayIsThere()", "another visit")
     page.view("account")
     check("The pass is kept in this browser." in page.run("return shownText('account')"), "where the pass is")
@@ -502,7 +502,7 @@ def looks_again(page, passes):
     page.when("seen.length === 4 && dayIsThere() && cellAt('court-3', 14).button.innerText === 'Full'", "what changed while it was away")
     asked = Counter(address for _, address in page.requests() if "/slots/" in address)
     check(len(asked) == CELLS and set(asked.values()) == {1}, "each slot once", len(asked), Counter(asked.values()))
-    # So it does where another view was looked at meanwhile.
+    # So it does if another view was looked at meanwhile.
     curl(page, "DELETE", f"/slots/court-3/{day(4)}/14/bookings/{number}", passes["other"])
     page.view("bookings")
     page.run("lookedAt -= 16000")
@@ -624,7 +624,7 @@ def refusals_say_what_to_do(page, passes, between):
         page.run("showDay()")
         page.when(f"shownText('day-fault').includes(\"{words}\")", "a refused pass", fault)
         between.fates.clear()
-    # What comes in place of a reply, where the desk is away, busy or slow.
+    # What comes in place of a reply, if the desk is away, busy or slow.
     page.enter(passes["amy-1"])
     for hour, status, body, words in [(15, 502, "<html>", "isn't there just now (502)"), (16, 504, "<html>", "takes too long to answer (504)"),
                                       (17, 503, '{"fault":22,"text":"unavailable"}', "is busy just now (503)")]:
@@ -664,7 +664,7 @@ def survives_failures(page, passes, between):
     page.when("dialogText().includes('nothing is booked twice')", "a long wait")
     between.fates["PUT"] = []
     page.comes("Booked.", "a booking at last")
-    # A slot that gets no answer says so, spoils no other, and is looked at again where it is pressed.
+    # A slot that gets no answer says so, spoils no other, and is looked at again if it is pressed.
     between.fates["GET"] = ["silent"] * 200  # the page may be looking at others still
     page.run("lookAt(cellAt('boat-2', 10), round)")
     page.when("cellAt('boat-2', 10).button.innerText.includes('No answer')", "a slot without an answer")
@@ -792,7 +792,7 @@ def tabs_send_nothing_twice(page, passes, between, server):
     puts = {path: count - asked[method, path] for (method, path), count in server.asked().items() if method == "PUT" and day(9) in path}
     puts = {path: count for path, count in puts.items() if count}
     check(len(puts) == 5 and set(puts.values()) == {1}, "a request that was sent twice", puts)
-    # A second booking of one slot, where it is meant.
+    # A second booking of one slot, if it is meant.
     page.offer("court-1", 10)
     page.press("Book a second time")
     page.run("byName('dialog').querySelector('.main').click()")

@@ -74,8 +74,8 @@ def amys(form, *caveats):
 
 
 def tool(*words, given):
-    """The status, and what is printed: the output, or where there is a fault its line."""
-    status, printed, fault = desk.order(TOOL, *words, text=given)
+    """The status, and what is printed: the output, or if there is a fault its line."""
+    status, printed, fault = desk.command(TOOL, *words, text=given)
     return status, fault if status else printed
 
 
@@ -709,7 +709,7 @@ def hands_on(page):
 
 
 def shares():
-    """Also where the clipboard refuses."""
+    """Also if the clipboard refuses."""
     with NarrowingPage(before="""navigator.share = async (what) => { globalThis.shared = what; };
             navigator.clipboard.writeText = async () => { throw new Error(); };""") as page:
         page.visit()

@@ -58,13 +58,13 @@ class World(hostile.World):
 
     # Each third key's pass is printed in V1, in V2 and in JSON.
 
-    def words_of(self, order):
-        return [*super().words_of(order), *(["--form", self.form_of(order[1])] if order[0] == "add-key" else [])]
+    def words_of(self, command):
+        return [*super().words_of(command), *(["--form", self.form_of(command[1])] if command[0] == "add-key" else [])]
 
-    def answer_of(self, order):
-        status, printed, fault = super().answer_of(order)
-        if order[0] == "add-key":
-            printed = passes.text_of(passes.read(printed.strip().encode()), self.form_of(order[1])).decode() + "\n"
+    def answer_of(self, command):
+        status, printed, fault = super().answer_of(command)
+        if command[0] == "add-key":
+            printed = passes.text_of(passes.read(printed.strip().encode()), self.form_of(command[1])).decode() + "\n"
         return status, printed, fault
 
     def form_of(self, key):

@@ -72,7 +72,7 @@ member_of club court-1 >told
 cp club-pass "$room/page/amy-1"
 systemctl enable --now clubdesk@club
 direct=http://127.0.0.1:8080 site=https://desk.example.org slot=slots/court-1/2026-05-01/18
-# asks BASE METHOD PATH PASS [BODY]: the reply to a request, its status behind it.
+# asks BASE METHOD PATH PASS [BODY]: the reply to a request, its status after it.
 asks() { curl -sS --noproxy '*' --max-time 20 -w ' %{http_code}' -X "$2" -H "Authorization: Bearer $4" ${5:+-d "$5"} "$1/$3"; }
 pass=$(cat club-pass)
 soon 10 'the desk' is_heard $direct/

@@ -1,13 +1,13 @@
 #!/usr/bin/env -S /usr/bin/python3 -B
-"""Tests with each allocation refused in turn: the known passes read and written in each form, each opening of a store, each order of the
+"""Tests with each allocation refused in turn: the known passes read and written in each form, each opening of a store, each command of the
 office, and the known booking through `Desk::ask`, `Desk::run` and `answer`. Each call answers as if nothing had been refused, or is
 out of memory and has changed nothing.
 
-It fails where a test isn't there, fails with ample memory, or allocates nothing. Tests that are missing or older than their sources are
+It fails if a test isn't there, fails with ample memory, or allocates nothing. Tests that are missing or older than their sources are
 proved and built first. Not part of the gate.
 
 Name tests that pass each fault on, or compare what they get with out of memory and with the right answer: one that expects
-another fault fails where memory is refused instead.
+another fault fails if memory is refused instead.
   tests/refused_memory_tests.py                                              the tests of the list below
   tests/refused_memory_tests.py club_store_tests                                  those of one crate
   tests/refused_memory_tests.py club_store_tests store::shows_what_a_key_sees ..  any tests of a crate
@@ -31,7 +31,7 @@ TESTS = {
     "pass_json_tests": "known_pass known_pass_without_its_caveat example",
     "club_store_tests": "store_in_memory empty_database tables_of_version_1 tables_without_the_index tables_of_version_2"
                         " new_file file_of_version_1 file_without_the_index file_of_version_2",
-    "club_gate_tests": "orders ask_in_v1 ask_in_v2 ask_in_json run_in_v1 run_in_v2 run_in_json",
+    "club_gate_tests": "commands ask_in_v1 ask_in_v2 ask_in_json run_in_v1 run_in_v2 run_in_json",
     "exchange_tests": "exchange_in_v1 exchange_in_v2 exchange_in_json faults_of_bytes",
     "club_http_tests": "bodies::refused_memory counted::refused_memory",
 }
@@ -40,7 +40,7 @@ ROOM = tempfile.TemporaryDirectory(dir=desk.IN_MEMORY)
 
 
 def built(crate):
-    """The tests of a crate, proved and built where they are missing, or older than the sources that they are built from."""
+    """The tests of a crate, proved and built if they are missing, or older than the sources that they are built from."""
     if not (desk.ROOT / "crates" / crate / "src").is_dir():
         sys.exit(f"there is no crate {crate}")
     program, begun = desk.ROOT / "crates" / crate / "out" / f"{crate}_tests", time.time()

@@ -24,7 +24,7 @@ leave_all() {
 }
 trap leave_all EXIT
 
-# asks METHOD PATH [BODY]: the reply to a request at $port under the pass in the file `pass`, its status behind it.
+# asks METHOD PATH [BODY]: the reply to a request at $port under the pass in the file `pass`, its status after it.
 asks() {
     curl -sS --max-time 20 --noproxy '*' -w ' %{http_code}\n' -X "$1" -H "Authorization: Bearer $(cat pass)" ${3:+-d "$3"} "http://127.0.0.1:$port/$2"
 }
@@ -149,7 +149,7 @@ shown >wanted
 same 'a copy' 'backed up, with 901 bookings' "$(cat told)"
 asks PUT $second/bookings/1002 '{"guests":4}' >told
 stop
-# The same, where the desk copies its log into its file between the copies of the two.
+# The same, if the desk copies its log into its file between the copies of the two.
 copy club racing
 mkdir path
 cat >path/cp <<CP

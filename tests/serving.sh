@@ -1,7 +1,7 @@
 # Read by the scripts beside it that run the desk's server: its programs, a folder to work in, and a server at a fixed moment.
 here=${BATS_TEST_DIRNAME:-$(CDPATH='' cd -P -- "$(dirname -- "$0")" && pwd)}
 
-# The programs are those of the variables CLUBDESK and PASSTOOL. One without a variable is proved and built first, where that isn't
+# The programs are those of the variables CLUBDESK and PASSTOOL. One without a variable is proved and built first, if that isn't
 # done. Then it is run itself, so that a signal meets the server.
 desk=${CLUBDESK-}
 tool=${PASSTOOL-}

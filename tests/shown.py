@@ -81,12 +81,12 @@ WRITTEN = {
     "club.Club.decide_cancel": "club_core.Verdict: cancelled_now cancelled_before cancel_lines cancel_recorded_verdict unknown_verdict "
                                "cancel_verdict; club_core.After: is_marked cancelled_booking",
     "club.Club.refund": "club_rows.Booking: full_refund_ahead refund_at",
-    "club.Club.order_credit": "club_core.Office: points_limit credit_verdict; club_core.After: credited_member; club_rows.Limits: credited_limit",
-    "club.Club.order_revoke_key": "club_core.After: revoked_key",
-    "club.Club.order_rotate_key": "club_core.Office: rotate_verdict; club_core.After: good_until rotated_key",
-    "club.Club.order_close_slot": "club_core.Office: close_verdict",
-    "club.Club.order_add_member club.Club.order_add_facility club.Club.order_add_key":
-        "club_core.Office: are_limits order_verdict office_verdict; club_rows.Limits: quota_limit places_limit price_limit shutting_limit",
+    "club.Club.command_credit": "club_core.Office: points_limit credit_verdict; club_core.After: credited_member; club_rows.Limits: credited_limit",
+    "club.Club.command_revoke_key": "club_core.After: revoked_key",
+    "club.Club.command_rotate_key": "club_core.Office: rotate_verdict; club_core.After: good_until rotated_key",
+    "club.Club.command_close_slot": "club_core.Office: close_verdict",
+    "club.Club.command_add_member club.Club.command_add_facility club.Club.command_add_key":
+        "club_core.Office: are_limits command_verdict office_verdict; club_rows.Limits: quota_limit places_limit price_limit shutting_limit",
     "wire.values": "http_request.Fields: same_word values_of",
     "wire.split": "http_request.Frame: header_fields HasNoPiece IsRefusedHead IsWhole; http_request.Head: empty_line IsPiece IsHeadOf; "
                   "http_request.Limits: max_head_len max_fields",
@@ -138,7 +138,7 @@ def check_passes(vectors):
         expect(vector["what"], passes.read(vector["text"].encode()), pass_of(vectors["passes"][2]))
 
 
-# A line of passtool's has its own numbers of faults: the words behind them say which of the desk's it is.
+# A line of passtool's has its own numbers of faults: the words after them say which of the desk's it is.
 FAULTS = {"too long": passes.TOO_LONG, "malformed": passes.MALFORMED, "third-party caveat": passes.THIRD_PARTY, "too many caveats": passes.TOO_MANY}
 
 
@@ -161,7 +161,7 @@ def made_club(commands):
     for command in commands:
         name, _, *words = command.split()[1:]
         values = [READERS[kind](word) for kind, word in zip(KINDS_OF_VALUES.get(name, ["word"] * len(words)), words, strict=True)]
-        made.order([name, *values])
+        made.command([name, *values])
         if name == "add-key" and first is None:
             first = passes.minted(values[2], b"key:" + values[0].encode())
     return made, first

@@ -16,7 +16,7 @@ import pytest
 
 import desk
 from conftest import Club
-from kinds import ACCOUNT, ONE, ROOM, THREE, book, booked, cancel, key_pass, order, shown, slot, text, view
+from kinds import ACCOUNT, ONE, ROOM, THREE, book, booked, cancel, key_pass, command, shown, slot, text, view
 
 DAY = "2026-05-01"
 RUNNING = (desk.ROOT / "docs" / "RUNNING.md").read_text(encoding="utf-8")
@@ -31,14 +31,14 @@ FORGED = text(key_pass("amy-1", "00" * 16))  # under another root, so the desk l
 UNAVAILABLE = '{"fault":22,"text":"unavailable"}'
 LINE_7 = "court-1                  18:00 amy-1                            7  3    600\n"
 LINE_9 = "court-1                  18:00 amy-1                            9  1    200\n"
-NO_BOOKINGS = order(f"sheet {DAY}", printed=f"Day sheet {DAY}\nNo bookings.\n")
+NO_BOOKINGS = command(f"sheet {DAY}", printed=f"Day sheet {DAY}\nNo bookings.\n")
 
 
 def tells(taken, balance, opened, spent, quota=5, sheet=LINE_7 + "Total bookings 1, persons 3, charge 600\n", nine=True, room=False):
     """What shows a club: three slots, the account, and the day sheet. `nine` and `room` say whether these slots are closed."""
     rows = [shown(0, 9, nine), shown(taken), view(ROOM).serves(facility="room-1", day=DAY, hour=18, kind="room", price=601, places=1, taken=0, closed=room),
             ACCOUNT.serves(member="amy", balance=balance, quota=quota, open=opened, spent=spent)]
-    return [*(it.under(AMY) for it in rows), order(f"sheet {DAY}", printed=f"Day sheet {DAY}\n{sheet}")]
+    return [*(it.under(AMY) for it in rows), command(f"sheet {DAY}", printed=f"Day sheet {DAY}\n{sheet}")]
 
 
 FIRST = tells(3, 9099, 1, 901)
@@ -144,7 +144,7 @@ def sound(club):
 
 
 def corrected(club, heading, again):
-    """The correction finds a row, and so many once more, where it changes nothing if it finds none."""
+    """The correction finds a row, and so many once more, if it changes nothing if it finds none."""
     assert by_recipe(club, heading) == "1\n"
     sound(club)
     before = dump(club)
@@ -207,9 +207,9 @@ def test_file_of_before_is_migrated(club, change):
 
 
 def refused(club):
-    """A sheet, or a request where the file is opened, meets a fault of storage; the file stays as it was, and so do its rows."""
+    """A sheet, or a request if the file is opened, meets a fault of storage; the file stays as it was, and so do its rows."""
     before = club.file.read_bytes(), dump(club)
-    status, _, fault = club.order("sheet", DAY)
+    status, _, fault = club.command("sheet", DAY)
     if (status, fault) != (5, "storage failed\n"):
         assert (status, fault) == (0, "")
         asked = [*(it.under(AMY) for it in (view(slot("09")), view(), view(ROOM), ACCOUNT)), ACCOUNT.under(FORGED)]
@@ -224,15 +224,15 @@ def test_bytes_that_are_no_club(club, spoil):
     refused(club)
 
 
-def test_order_that_is_refused_changes_nothing(club):
+def test_command_that_is_refused_changes_nothing(club):
     before = club.file.read_bytes(), dump(club)
-    assert club.order("add-member", "amy", "5") == (1, "", "refused: exists\n")
+    assert club.command("add-member", "amy", "5") == (1, "", "refused: exists\n")
     assert (club.file.read_bytes(), dump(club)) == before
 
 
 @pytest.mark.parametrize("table, column, least, most", LIMITS, ids=map(" ".join, LIMITS))
 def test_limit(club, table, column, least, most):
-    """Each end is taken; the numbers beside them sqlite3 refuses, and where it doesn't look at limits the desk."""
+    """Each end is taken; the numbers beside them sqlite3 refuses, and if it doesn't look at limits the desk."""
     sql(club, "INSERT INTO old_roots VALUES ('amy-1', zeroblob(16), 20000000)")
     kept = club.copied_to(club.file.with_name("kept"))
     for value in (int(least) - 1, int(least), int(most), int(most) + 1):
@@ -286,10 +286,10 @@ def test_tables_that_hold_no_club(club, change):
 @pytest.mark.parametrize("path", ["no/club", ".", ""])
 def test_path_where_no_file_can_lie(clubdesk, tmp_path, monkeypatch, path):
     monkeypatch.chdir(tmp_path)
-    assert Club(clubdesk, path).order("sheet", DAY) == (5, "", "storage failed\n")
+    assert Club(clubdesk, path).command("sheet", DAY) == (5, "", "storage failed\n")
 
 
 def test_file_that_sqlite3_locked(club):
     with desk.opened(club.file, isolation_level=None) as database:
         database.execute("BEGIN EXCLUSIVE")
-        assert club.order("sheet", DAY) == (5, "", "storage failed\n")
+        assert club.command("sheet", DAY) == (5, "", "storage failed\n")

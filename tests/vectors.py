@@ -2,7 +2,7 @@
 """`passtool` and the server agree with docs/vectors.json: passes, texts that are none, verdicts on caveats, replies to requests.
 
 Each pass in each form, texts that are read as the same pass, the verdict of each caveat on each request, each reply byte for byte. The
-signatures are computed once more by Python's standard library, and V1 and V2 by pymacaroons, where it writes the pass as it is. Not part
+signatures are computed once more by Python's standard library, and V1 and V2 by pymacaroons, if it writes the pass as it is. Not part
 of the gate.
 """
 # groups: pages quick

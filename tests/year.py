@@ -1,10 +1,10 @@
 #!/usr/bin/env python3
 """A club's year beside the rules of `tests/reference`: narrowed passes, credits, rotations, revoked keys and closed slots, servers and
-orders that are killed, a clock that goes through both changes of summer time; each reply, order and day sheet, and each month the rows and
+commands that are killed, a clock that goes through both changes of summer time; each reply, command and day sheet, and each month the rows and
 totals. With `--self-test` each of the planted faults of those rules is found.
 
 The clock of each server is set by tests/set_clock.c, and the server turns it into the club's civil time by the zone's rule; the test
-does so by Python's zoneinfo. After a kill the client sends the request again, and an order is given again: the reply is the
+does so by Python's zoneinfo. After a kill the client sends the request again, and a command is given again: the reply is the
 reference's, whether the first one was done or not.
 
     tests/year.py [--seed N] [--days N] [--requests N] [--self-test]
@@ -52,13 +52,13 @@ class Year(Both):
         self.clock = programs.library("set_clock", folder)
         self.passes = {}  # of each key: the passes that somebody holds
         self.booked = []  # requests that were served, to be repeated or cancelled
-        self.next_key = self.kills = self.orders = 0
+        self.next_key = self.kills = self.commands = 0
 
     # ---- the office
 
-    def give(self, order):
-        self.orders += 1
-        super().give(order)
+    def give(self, command):
+        self.commands += 1
+        super().give(command)
 
     def add_key(self, member):
         key = f"k{self.next_key}"
@@ -111,18 +111,18 @@ class Year(Both):
         if draw.random() < 0.1:
             self.give_and_kill(("add-key", f"k{self.next_key}", draw.choice(MEMBERS), draw.randbytes(16)))
 
-    def give_and_kill(self, order):
-        """An order that is killed at some time. Given again it is done, or it was: either way the club then is the reference's."""
+    def give_and_kill(self, command):
+        """A command that is killed at some time. Given again it is done, or it was: either way the club then is the reference's."""
         self.next_key += 1
-        process = subprocess.Popen([self.desk, *map(str, self.words_of(order))], stdout=subprocess.DEVNULL, stderr=subprocess.DEVNULL)
+        process = subprocess.Popen([self.desk, *map(str, self.words_of(command))], stdout=subprocess.DEVNULL, stderr=subprocess.DEVNULL)
         time.sleep(self.draw.random() * 0.03)
         process.kill()
         process.wait()
-        wanted = self.answer_of(order)
-        found = programs.order(self.desk, *self.words_of(order))
+        wanted = self.answer_of(command)
+        found = programs.command(self.desk, *self.words_of(command))
         if found != (1, "", "refused: exists\n"):
-            expect(f"order {order} again", found, wanted)
-        self.hand_out(order[1])
+            expect(f"order {command} again", found, wanted)
+        self.hand_out(command[1])
         self.kills += 1
 
     # ---- members
@@ -209,7 +209,7 @@ def run(given, desk, plant=None):
         year.begin()
         year.pass_days(given.days, given.requests)
         bookings = sum(map(len, year.club.bookings.values()))
-        print(f"{given.days} days, seed {given.seed}: {bookings} bookings, {year.orders} orders, {year.kills} kills, no difference")
+        print(f"{given.days} days, seed {given.seed}: {bookings} bookings, {year.commands} orders, {year.kills} kills, no difference")
 
 
 def main():

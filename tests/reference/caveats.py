@@ -126,7 +126,7 @@ NOT_UNDERSTOOD, DENIES = 11, 12
 
 
 def first_fault(caveats, ask):
-    """The fault and the number, from 1, of the first caveat that isn't understood or denies; None where all allow the request."""
+    """The fault and the number, from 1, of the first caveat that isn't understood or denies; None if all allow the request."""
     for number, caveat in enumerate(caveats, 1):
         test = test_of(caveat)
         if test is None:

@@ -1,4 +1,4 @@
-"""The club and its rules: what a request under a pass gets, and what an order of the office does (docs/DESK.md)."""
+"""The club and its rules: what a request under a pass gets, and what a command of the office does (docs/DESK.md)."""
 
 import re
 from dataclasses import dataclass, replace
@@ -61,8 +61,8 @@ class Refused:
     caveat: int | None = None
 
 
-class OrderRefused(Exception):
-    """An order of the office that is refused, by its word."""
+class CommandRefused(Exception):
+    """A command of the office that is refused, by its word."""
 
 
 @dataclass
@@ -209,44 +209,44 @@ class Club:
 
     # ---- the office
 
-    def order(self, words):
-        """Does an order; `words` are its name and its values. Raises OrderRefused where it is refused."""
+    def command(self, words):
+        """Does a command; `words` are its name and its values. Raises CommandRefused if it is refused."""
         name, *values = words
-        return getattr(self, "order_" + name.replace("-", "_"))(*values)
+        return getattr(self, "command_" + name.replace("-", "_"))(*values)
 
-    def order_add_member(self, name, quota):
+    def command_add_member(self, name, quota):
         refuse_if("out of range", quota > 99)
         refuse_if("exists", name in self.members)
         self.members[name] = Member(0, quota)
 
-    def order_credit(self, member, points):
+    def command_credit(self, member, points):
         refuse_if("out of range", not 1 <= points <= 1_000_000)
         refuse_if("unknown", member not in self.members)
         refuse_if("out of range", self.members[member].credited + points > MOST_POINTS)
         self.members[member].credited += points
 
-    def order_add_facility(self, name, kind, places, price, opens, shuts):
+    def command_add_facility(self, name, kind, places, price, opens, shuts):
         refuse_if("out of range", not (1 <= places <= 50 and price <= 9999 and opens < shuts <= 24))
         refuse_if("exists", name in self.facilities)
         self.facilities[name] = Facility(kind, places, price, opens, shuts)
 
-    def order_add_key(self, name, member, root):
+    def command_add_key(self, name, member, root):
         refuse_if("unknown", member not in self.members)
         refuse_if("exists", name in self.keys)
         self.keys[name] = Key(member, root)
         self.bookings[name] = {}
 
-    def order_revoke_key(self, name):
+    def command_revoke_key(self, name):
         refuse_if("unknown", name not in self.keys)
         self.keys[name].is_revoked = True
 
-    def order_rotate_key(self, name, root, until):
+    def command_rotate_key(self, name, root, until):
         refuse_if("unknown", name not in self.keys)
         key = self.keys[name]
         refuse_if("exists", key.root == root)
         self.keys[name] = replace(key, root=root, older=(key.root, until))
 
-    def order_close_slot(self, *slot):
+    def command_close_slot(self, *slot):
         facility = self.facilities.get(slot[0])
         refuse_if("unknown", facility is None)
         refuse_if("out of range", not facility.opens <= slot[2] < facility.shuts)
@@ -263,4 +263,4 @@ class Club:
 
 def refuse_if(word, is_refused):
     if is_refused:
-        raise OrderRefused(word)
+        raise CommandRefused(word)

@@ -278,7 +278,7 @@ def json_value(data):
 
 
 def json_bytes_of(value, plain, encoded):
-    """The bytes under a plain name or under its `64` name, never under both; None where neither is there."""
+    """The bytes under a plain name or under its `64` name, never under both; None if neither is there."""
     if plain in value and encoded in value:
         raise Malformed
     text = value.get(plain, value.get(encoded))

@@ -8,7 +8,7 @@ pub(crate) enum Choice {
 }
 
 impl Choice {
-    /// Reads the program's words. `None` where one is missing, unknown, or not the number that it
+    /// Reads the program's words. `None` if one is missing, unknown, or not the number that it
     /// should be.
     pub(crate) fn read(words: &[String]) -> Option<Choice> {
         let [_, name, count] = words else {

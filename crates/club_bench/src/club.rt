@@ -56,7 +56,7 @@ fn run_over<S: ClubStore + Drop>(
 // The desk over empty tables, which get the court, the members and their keys.
 fn filled_desk<S: ClubStore + Drop>(alloc: Global, store: S) -> Result<Desk<S>> {
     let mut desk = Desk::new(alloc, store);
-    order(&mut desk, &known(court(), "a court")?)?;
+    give(&mut desk, &known(court(), "a court")?)?;
     for index in 0..KEYS {
         join(&mut desk, index)?;
     }
@@ -67,12 +67,12 @@ fn filled_desk<S: ClubStore + Drop>(alloc: Global, store: S) -> Result<Desk<S>> 
 fn join<S: ClubStore>(desk: &mut Desk<S>, index: u16) -> Result<()> {
     let commands = known(joining(index), "a member")?;
     for command in &commands {
-        order(desk, command)?;
+        give(desk, command)?;
     }
     Ok(())
 }
 
-fn order<S: ClubStore>(desk: &mut Desk<S>, command: &Command) -> Result<()> {
+fn give<S: ClubStore>(desk: &mut Desk<S>, command: &Command) -> Result<()> {
     match desk.office(command) {
         OfficeReply::Refused(fault) => Err(anyhow!("an order is refused: {fault}")),
         _ => Ok(()),

@@ -7,7 +7,7 @@ pub(crate) fn rate(count: usize, time: Duration) -> u128 {
     count as u128 * 1_000_000_000 / time.as_nanos().max(1)
 }
 
-/// How many nanoseconds each of so many takes, where all take this time.
+/// How many nanoseconds each of so many takes, if all take this time.
 pub(crate) fn nanos_each(count: usize, time: Duration) -> u128 {
     time.as_nanos() / (count as u128).max(1)
 }

@@ -19,7 +19,7 @@ before_once a b h k =
     let turned : Less ≡ Greater = sym h ∙ nat_list_cmp_total.antisymm a b ∙ ap ordering_reverse k in
     cc
 
--- by the first part, and where those are equal, by the others
+-- by the first part, and if those are equal, by the others
 lexicographic : {K : Type 0} (R : K → K → Type 0) → Asymmetric R → (x y : K) (P Q : Type 0) → (P → Q → ⊥) → R x y ⊎ ((x ≡ y) × P) → R y x ⊎ ((y ≡ x) × Q) → ⊥
 lexicographic R once x y P Q f (inl r) (inl s) = once x y r s
 lexicographic R once x y P Q f (inl r) (inr s) = let itself = subst (λ v. R x v) s.0 r in once x x itself itself
@@ -45,7 +45,7 @@ one_list club day rows others a b =
 
 -- ---- each sound club has a sheet
 
--- the part before, the same, or the part behind
+-- the part before, the same, or the part after
 abbrev pub Total : {K : Type 0} → (K → K → Type 0) → Type 0
 Total {K} R = (x y : K) → R x y ⊎ ((x ≡ y) ⊎ R y x)
 

@@ -7,7 +7,7 @@ use Rattle.club_core.specs.declared.request.Request.{Request}
 use Rattle.club_core.specs.declared.request.Request.TheVariants as asked
 use Rattle.club_core.specs.declared.command.Command.{Command}
 use Rattle.club_core.specs.declared.command.Command.TheVariants.{AddMember, Credit, AddFacility, AddKey, RevokeKey, RotateKey, CloseSlot}
-use Rattle.club_core.specs.Run.{Event, Asked, Ordered}
+use Rattle.club_core.specs.Run.{Event, Asked, Commanded}
 
 abbrev pub IsRequest : Request → Type 0
 IsRequest (asked.View slot) = IsSlot slot
@@ -15,7 +15,7 @@ IsRequest (asked.Book slot number guests) = IsSlot slot × IsBookingNumber numbe
 IsRequest (asked.Cancel slot number) = IsSlot slot × IsBookingNumber number
 IsRequest asked.Account = Unit {0}
 
--- the numbers have no limits here: `order_verdict` checks them
+-- the numbers have no limits here: `command_verdict` checks them
 abbrev pub IsCommand : Command → Type 0
 IsCommand (AddMember name quota) = IsName name
 IsCommand (Credit member points) = IsName member
@@ -28,4 +28,4 @@ IsCommand (CloseSlot slot) = IsSlot slot
 -- each value of the event is within its limits; the moment of a request may be any
 abbrev pub IsEvent : Event → Type 0
 IsEvent (Asked words moment) = IsRequest words.request
-IsEvent (Ordered command) = IsCommand command
+IsEvent (Commanded command) = IsCommand command

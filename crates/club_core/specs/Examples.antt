@@ -12,7 +12,7 @@ use Rattle.club_core.specs.declared.request.Request.{Request}
 use Rattle.club_core.specs.declared.request.Request.TheVariants as asked
 use Rattle.club_core.specs.Club.{Club, empty_club}
 use Rattle.club_core.specs.declared.command.OfficeAnswer.TheVariants.{Done, NotDone}
-use Rattle.club_core.specs.Run.{Event, Asked, Ordered, replies_of, club_after, EventReply, ToMember, ToOffice}
+use Rattle.club_core.specs.Run.{Event, Asked, Commanded, replies_of, club_after, EventReply, ToMember, ToOffice}
 
 abbrev pub root : List ℕ
 root = replicate 16 7
@@ -20,10 +20,10 @@ root = replicate 16 7
 -- member amy with quota 5 and 10,000 points, her key amy-1, and court-1 with 4 places for 200 points, from 8 to 22
 abbrev pub opening : List Event
 opening =
-    Ordered (AddMember (codes "amy") 5)
-    ∷ Ordered (Credit (codes "amy") 10_000)
-    ∷ Ordered (AddFacility (codes "court-1") Court 4 200 8 22)
-    ∷ Ordered (AddKey (codes "amy-1") (codes "amy") root)
+    Commanded (AddMember (codes "amy") 5)
+    ∷ Commanded (Credit (codes "amy") 10_000)
+    ∷ Commanded (AddFacility (codes "court-1") Court 4 200 8 22)
+    ∷ Commanded (AddKey (codes "amy-1") (codes "amy") root)
     ∷ []
 
 abbrev pub opened_club : Club
@@ -81,10 +81,10 @@ abbrev pub ClosesASlot : Type 0
 ClosesASlot =
     replies_of opened_club
     (ask (asked.Book (slot_at 18) 7 2) noon
-    ∷ Ordered (CloseSlot (slot_at 18))
+    ∷ Commanded (CloseSlot (slot_at 18))
     ∷ ask (asked.Cancel (slot_at 18) 7) noon
-    ∷ Ordered (CloseSlot (slot_at 18))
-    ∷ Ordered (CloseSlot (slot_at 18))
+    ∷ Commanded (CloseSlot (slot_at 18))
+    ∷ Commanded (CloseSlot (slot_at 18))
     ∷ ask (asked.Book (slot_at 18) 8 0) noon
     ∷ [])
     ≡ served_booking 7 600 1

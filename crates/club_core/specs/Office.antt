@@ -1,4 +1,4 @@
--- The orders of the office (ours). The first line that fits refuses the order.
+-- The commands of the office (ours). The first line that fits refuses the command.
 use Rattle.std.specs.Prelude.{ℕ, ◌+◌, ◌==◌, ◌&&◌, ◌||◌, not, Bool, false, List, [], ◌∷◌, nat_lt, nat_le, is_some, Option, Some, None, Result, Ok, Err}
 use Rattle.std.specs.Str.{bytes_eq}
 use Rattle.club_values.specs.declared.slot.Slot.{Slot}
@@ -13,26 +13,26 @@ use Rattle.club_core.specs.declared.command.Command.{Command}
 use Rattle.club_core.specs.declared.command.Command.TheVariants.{AddMember, Credit, AddFacility, AddKey, RevokeKey, RotateKey, CloseSlot}
 use Rattle.club_core.specs.declared.command.OfficeFault.{OfficeFault}
 use Rattle.club_core.specs.declared.command.OfficeFault.TheVariants.{Exists, Unknown, OutOfRange, SlotInUse}
-use Rattle.club_core.specs.declared.order_view.OrderView.{OrderView}
+use Rattle.club_core.specs.declared.command_view.CommandView.{CommandView}
 use Rattle.club_core.specs.declared.slot_use.SlotUse.{SlotUse}
 use Rattle.club_core.specs.Lines.{line_if, first_of}
 use Rattle.club_core.specs.Club.{Club, member_named, facility_named, key_named}
 use Rattle.club_core.specs.Basis.{slot_use}
 
 -- a view with these rows and no slot
-abbrev pub rows_seen : Option Member → Option Key → Option Facility → OrderView
+abbrev pub rows_seen : Option Member → Option Key → Option Facility → CommandView
 rows_seen member key facility =
     record { member = member; key = key; facility = facility; slot = record { taken = 0; closed = false } }
 
--- the rows that decide an order: those it names, and how much of its slot is taken
-abbrev pub order_view : Club → Command → OrderView
-order_view club (AddMember name quota) = rows_seen (member_named name club) None None
-order_view club (Credit name points) = rows_seen (member_named name club) None None
-order_view club (AddFacility name kind places price opens shuts) = rows_seen None None (facility_named name club)
-order_view club (AddKey name member root) = rows_seen (member_named member club) (key_named name club) None
-order_view club (RevokeKey name) = rows_seen None (key_named name club) None
-order_view club (RotateKey name root until) = rows_seen None (key_named name club) None
-order_view club (CloseSlot slot) =
+-- the rows that decide a command: those it names, and how much of its slot is taken
+abbrev pub command_view : Club → Command → CommandView
+command_view club (AddMember name quota) = rows_seen (member_named name club) None None
+command_view club (Credit name points) = rows_seen (member_named name club) None None
+command_view club (AddFacility name kind places price opens shuts) = rows_seen None None (facility_named name club)
+command_view club (AddKey name member root) = rows_seen (member_named member club) (key_named name club) None
+command_view club (RevokeKey name) = rows_seen None (key_named name club) None
+command_view club (RotateKey name root until) = rows_seen None (key_named name club) None
+command_view club (CloseSlot slot) =
     record { member = None; key = None; facility = facility_named slot.facility club; slot = slot_use club slot }
 
 -- the most points of one credit
@@ -64,28 +64,28 @@ close_verdict held slot (Some facility) =
     ∷ [])
     (Ok (MarkClosed slot))
 
--- the change that an order makes, or why it is refused
-abbrev pub order_verdict : OrderView → Command → Result Change OfficeFault
-order_verdict view (AddMember name quota) =
+-- the change that a command makes, or why it is refused
+abbrev pub command_verdict : CommandView → Command → Result Change OfficeFault
+command_verdict view (AddMember name quota) =
     first_of
     (line_if (nat_lt quota_limit quota) (Err OutOfRange) ∷ line_if (is_some view.member) (Err Exists) ∷ [])
     (Ok (InsertMember (record { name = name; credited = 0; quota = quota })))
-order_verdict view (Credit name points) =
+command_verdict view (Credit name points) =
     first_of
     (line_if (points == 0 || nat_lt points_limit points) (Err OutOfRange) ∷ [])
     (credit_verdict name points view.member)
-order_verdict view (AddFacility name kind places price opens shuts) =
+command_verdict view (AddFacility name kind places price opens shuts) =
     first_of
     (line_if (not (are_limits places price opens shuts)) (Err OutOfRange) ∷ line_if (is_some view.facility) (Err Exists) ∷ [])
     (Ok (InsertFacility (record { name = name; kind = kind; places = places; price = price; opens = opens; shuts = shuts })))
-order_verdict view (AddKey name member root) =
+command_verdict view (AddKey name member root) =
     first_of
     (line_if (not (is_some view.member)) (Err Unknown) ∷ line_if (is_some view.key) (Err Exists) ∷ [])
     (Ok (InsertKey (record { name = name; member = member; root = root; older = None; revoked = false })))
-order_verdict view (RevokeKey name) = first_of (line_if (not (is_some view.key)) (Err Unknown) ∷ []) (Ok (MarkRevoked name))
-order_verdict view (RotateKey name root until) = rotate_verdict name root until view.key
-order_verdict view (CloseSlot slot) = close_verdict view.slot slot view.facility
+command_verdict view (RevokeKey name) = first_of (line_if (not (is_some view.key)) (Err Unknown) ∷ []) (Ok (MarkRevoked name))
+command_verdict view (RotateKey name root until) = rotate_verdict name root until view.key
+command_verdict view (CloseSlot slot) = close_verdict view.slot slot view.facility
 
 -- the same in a club
 abbrev pub office_verdict : Club → Command → Result Change OfficeFault
-office_verdict club command = order_verdict (order_view club command) command
+office_verdict club command = command_verdict (command_view club command) command

@@ -14,12 +14,12 @@ use Rattle.club_core.specs.Answer.{verdict_in}
 use Rattle.club_core.specs.After.{after}
 use Rattle.club_core.specs.Office.{office_verdict}
 
--- a request at a moment, or an order of the office
+-- a request at a moment, or a command of the office
 pub data Event : Type 0 where
   Asked : (words : Words) (moment : ℕ) → Event
-  Ordered : (command : Command) → Event
+  Commanded : (command : Command) → Event
 
--- the response to an event: the reply to a request, or the answer to an order of the office, of whichever type
+-- the response to an event: the reply to a request, or the answer to a command of the office, of whichever type
 pub data Response (O : Type 0) : Type 0 where
   ToMember : (reply : Reply) → Response O
   ToOffice : (answer : O) → Response O
@@ -38,7 +38,7 @@ abbrev pub after_change : Option Change → Club → Club
 after_change None club = club
 after_change (Some change) club = after change club
 
--- the answer to an order that was carried out; for a new key or root its name and root, from which the signature follows
+-- the answer to a command that was carried out; for a new key or root its name and root, from which the signature follows
 abbrev pub done_answer : Command → OfficeAnswer
 done_answer (AddMember name quota) = Done
 done_answer (Credit member points) = Done
@@ -48,17 +48,17 @@ done_answer (RevokeKey name) = Done
 done_answer (RotateKey name root until) = NewKey name root
 done_answer (CloseSlot slot) = Done
 
--- a refused order leaves the club unchanged
-abbrev pub order_outcome : Club → Command → Result Change OfficeFault → Outcome
-order_outcome club command (Err fault) = record { reply = ToOffice (NotDone fault); club = club }
-order_outcome club command (Ok change) = record { reply = ToOffice (done_answer command); club = after change club }
+-- a refused command leaves the club unchanged
+abbrev pub command_outcome : Club → Command → Result Change OfficeFault → Outcome
+command_outcome club command (Err fault) = record { reply = ToOffice (NotDone fault); club = club }
+command_outcome club command (Ok change) = record { reply = ToOffice (done_answer command); club = after change club }
 
 abbrev pub verdict_outcome : Club → Verdict → Outcome
 verdict_outcome club verdict = record { reply = ToMember verdict.reply; club = after_change verdict.change club }
 
 abbrev pub step : Club → Event → Outcome
 step club (Asked words moment) = verdict_outcome club (verdict_in club words moment)
-step club (Ordered command) = order_outcome club command (office_verdict club command)
+step club (Commanded command) = command_outcome club command (office_verdict club command)
 
 -- the replies to a list of events, in order, and the club after them
 abbrev pub replies_of : Club → List Event → List EventReply

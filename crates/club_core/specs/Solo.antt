@@ -18,7 +18,7 @@ use Rattle.club_core.specs.Request.{request_slot}
 use Rattle.club_core.specs.Answer.{answer_by_basis}
 use Rattle.club_core.specs.After.{after}
 use Rattle.club_core.specs.Office.{office_verdict}
-use Rattle.club_core.specs.Run.{Event, Asked, Ordered, step, after_change}
+use Rattle.club_core.specs.Run.{Event, Asked, Commanded, step, after_change}
 
 abbrev pub bookings_of_others : List ℕ → Club → List Booking
 bookings_of_others member club = filter (λ (booking : Booking). not (is_key_of member club booking.key)) club.bookings
@@ -32,7 +32,7 @@ pub data OwnEvent : Type 0 where
   OwnAsk : (words : Words) (moment : ℕ) (others : SlotUse) → OwnEvent
   OwnChange : (change : Change) → OwnEvent
 
--- whether an order changes the member's part: the member, its credit and keys, and each new facility
+-- whether a command changes the member's part: the member, its credit and keys, and each new facility
 abbrev pub is_own : List ℕ → Club → Change → Bool
 is_own name club (InsertMember member) = bytes_eq member.name name
 is_own name club (AddCredit member points) = bytes_eq member name
@@ -56,7 +56,7 @@ own_ask name club words moment (Some basis) =
 
 abbrev pub own_part : List ℕ → Club → Event → List OwnEvent
 own_part name club (Asked words moment) = own_ask name club words moment (basis_of club words)
-own_part name club (Ordered command) = own_change name club (office_verdict club command)
+own_part name club (Commanded command) = own_change name club (office_verdict club command)
 
 -- the member's own events in a run, in order
 abbrev pub own_events : List ℕ → Club → List Event → List OwnEvent

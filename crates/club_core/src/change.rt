@@ -1,4 +1,4 @@
-//! The changes that a request or an order makes to the club's rows.
+//! The changes that a request or a command makes to the club's rows.
 
 use club_rows::{Booking, Facility, Key, Member, Root};
 use club_values::{Moment, Name, Slot};

@@ -1,4 +1,4 @@
-//! The orders of the office, the answers to them, and the faults with which they are refused.
+//! The commands of the office, the answers to them, and the faults with which they are refused.
 
 ghost use Rattle.std.specs.Prelude.{◌≡◌};
 
@@ -11,7 +11,7 @@ use std::fmt;
 /// The most points of one credit.
 pub const MAX_POINTS: u32 = 1_000_000;
 
-/// An order of the office.
+/// A command of the office.
 #[derive(Clone, Copy, Debug, PartialEq, Eq)]
 pub enum Command {
     AddMember {
@@ -48,7 +48,7 @@ pub enum Command {
     CloseSlot(Slot),
 }
 
-/// Why an order of the office is refused.
+/// Why a command of the office is refused.
 #[derive(Clone, Copy, Debug, PartialEq, Eq)]
 pub enum OfficeFault {
     /// The new name is taken, the key has the root already, or the slot is closed already.
@@ -82,7 +82,7 @@ impl Error for OfficeFault {}
 impl Command {
     ghost use Rattle.club_core.specs.Events.{IsCommand};
 
-    /// Each name, slot and root of an order is within its limits.
+    /// Each name, slot and root of a command is within its limits.
     pub fn within(&self)
         ensures { IsCommand self.now }
     {
@@ -108,7 +108,7 @@ impl Command {
     }
 }
 
-/// The reply to an order of the office.
+/// The answer to a command of the office.
 #[derive(Clone, Copy, Debug, PartialEq, Eq)]
 pub enum OfficeAnswer {
     Done,
@@ -121,7 +121,7 @@ pub enum OfficeAnswer {
 impl OfficeAnswer {
     ghost use Rattle.club_core.specs.Run.{done_answer};
 
-    /// The reply to an order that was carried out.
+    /// The answer to a command that was carried out.
     pub fn done(command: &Command) -> OfficeAnswer
         ensures { result ≡ done_answer command.now }
     {

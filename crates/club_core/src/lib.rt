@@ -1,4 +1,4 @@
-//! The rules of the club: the view of its rows that decides a request or an order of the office,
+//! The rules of the club: the view of its rows that decides a request or a command of the office,
 //! and the answer to each. Only the day sheet allocates memory.
 #![tactic(auto)]
 
@@ -6,10 +6,10 @@ mod acceptance;
 mod account;
 mod change;
 mod command;
+mod command_decisions;
+mod command_view;
 mod decisions;
 pub mod laws;
-mod order_view;
-mod orders;
 mod pass_fault;
 mod refusal;
 mod reply;
@@ -30,9 +30,9 @@ pub use club_rows::{
     MAX_QUOTA, MAX_ROOT_LEN, MIN_ROOT_LEN, Member, OlderRoot, Root, slot_from_columns,
 };
 pub use command::{Command, MAX_POINTS, OfficeAnswer, OfficeFault};
+pub use command_decisions::decide_command;
+pub use command_view::CommandView;
 pub use decisions::{decide, decide_account, decide_book, decide_cancel, decide_view};
-pub use order_view::OrderView;
-pub use orders::decide_order;
 pub use pass_fault::PassFault;
 pub use refusal::{Refusal, Resource};
 pub use reply::Reply;

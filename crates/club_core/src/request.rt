@@ -87,7 +87,7 @@ impl Request {
         }
     }
 
-    /// The booking number; `None` where the request has none.
+    /// The booking number; `None` if the request has none.
     pub fn number(&self) -> Option<BookingNumber>
         ensures { result ≡ request_number self.now }
     {

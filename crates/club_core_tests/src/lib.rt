@@ -1,10 +1,12 @@
-//! Tests of a club's rows, and of the answers to requests and orders by their views.
+//! Tests of a club's rows, and of the answers to requests and commands by their views.
 #![tactic(auto)]
 
 #[cfg(test)]
 mod answers;
 #[cfg(test)]
 mod bookings;
+#[cfg(test)]
+mod commands;
 #[cfg(test)]
 mod decisions;
 #[cfg(test)]
@@ -15,8 +17,6 @@ mod expect;
 mod fixture;
 #[cfg(test)]
 mod office;
-#[cfg(test)]
-mod orders;
 #[cfg(test)]
 mod rotation;
 #[cfg(test)]

@@ -1,8 +1,8 @@
-//! The views of orders of the office, and their expected results, as plain values.
+//! The views of commands of the office, and their expected results, as plain values.
 
 use crate::fixture::{facility, key};
 use crate::values::{moment, name, root};
-use club_core::{Change, OfficeFault, OrderView, SlotUse};
+use club_core::{Change, CommandView, OfficeFault, SlotUse};
 use club_rows::{Facility, Key};
 use club_values::Kind;
 use std::process::Abort;
@@ -18,7 +18,7 @@ pub(crate) enum KeySeen {
     Revoked,
 }
 
-/// The view of an order.
+/// The view of a command.
 #[derive(Clone, Copy)]
 pub(crate) struct Known {
     /// Whether amy is known. She was credited 999,000,000 points.
@@ -47,7 +47,7 @@ pub(crate) const EVERYTHING: Known = Known {
     closed: false,
 };
 
-/// The expected result of an order: a change of what it names, or a refusal.
+/// The expected result of a command: a change of what it names, or a refusal.
 #[derive(Clone, Copy)]
 pub(crate) enum Made {
     Member(u8),
@@ -71,8 +71,8 @@ impl KeySeen {
 }
 
 impl Known {
-    pub fn view(&self, rt: &impl Abort) -> OrderView {
-        OrderView {
+    pub fn view(&self, rt: &impl Abort) -> CommandView {
+        CommandView {
             member: if self.amy { amy(999_000_000, 5) } else { None },
             key: self.key.key(rt),
             facility: facility(rt, &self.facility),

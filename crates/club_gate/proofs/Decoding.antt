@@ -133,12 +133,12 @@ decoded_text law text bytes = (law text (decoded_pass text) bytes).1 refl
 pub event_is : Decodes → (event : Event) (seen : machine.Event) → IsEventOfBytes event → IsEventOf event seen → machine_event event ≡ seen
 event_is law (events.Asked words moment) seen bytes h =
     ap (λ (w : Words). machine.Asked w moment) (words_are law words.pass.now words.request h.0 bytes h.1) ∙ sym h.2
-event_is law (events.Ordered command) seen bytes h = sym h
+event_is law (events.Commanded command) seen bytes h = sym h
 
 event_by : Decodes → (event : Event) → IsEventOfBytes event → IsEventOf event (machine_event event)
 event_by law (events.Asked words moment) bytes =
     (decoded_words words.pass.now words.request, (decoded_text law words.pass.now bytes, refl), refl)
-event_by law (events.Ordered command) bytes = refl
+event_by law (events.Commanded command) bytes = refl
 
 events_are : Decodes → (all : List Event) (seen : List machine.Event) → All IsEventOfBytes all → AreEventsOf all seen → machine_events all ≡ seen
 events_are law [] [] bytes h = refl

@@ -9,7 +9,7 @@ use Rattle.club_core.specs.declared.command.OfficeFault.{OfficeFault}
 use Rattle.club_core.specs.declared.store.StoreFault.{StoreFault}
 use Rattle.club_core.specs.Club.{Club}
 use Rattle.club_core.specs.Office.{office_verdict}
-use Rattle.club_core.specs.Run.{Event, Asked, Ordered, after_change, order_outcome, step}
+use Rattle.club_core.specs.Run.{Event, Asked, Commanded, after_change, command_outcome, step}
 use Rattle.club_laws.specs.Failed.{has_failed, IsStep, IsRun}
 use Rattle.club_gate.specs.Desk.{IsAnsweredBy, IsRefusedBy, Steps, change_by, change_of, others_after}
 use Rattle.club_gate.specs.declared.event.Event.{Event as DeskEvent}
@@ -50,9 +50,9 @@ handled_one IsClean Represents Fails old now new events i event replies all repl
 -- an event that changes nothing keeps the club
 kept_by : (club : Club) (event : Event) → change_of club event ≡ None → (step club event).club ≡ club
 kept_by club (Asked words moment) h = ap (λ (change : Option Change). after_change change club) h
-kept_by club (Ordered command) h = go (office_verdict club command) h
+kept_by club (Commanded command) h = go (office_verdict club command) h
   where
-    go : (verdict : Result Change OfficeFault) → change_by verdict ≡ None → (order_outcome club command verdict).club ≡ club
+    go : (verdict : Result Change OfficeFault) → change_by verdict ≡ None → (command_outcome club command verdict).club ≡ club
     go (Ok change) e = absurd (cc)
     go (Err fault) e = refl
 

@@ -9,7 +9,7 @@ pub mod DeskLaws
 pub mod FollowedEvents
 pub mod FollowedRuns
 pub mod Reading
-pub mod LookTexts
+pub mod ShownTexts
 pub mod Spending
 pub mod KindScans
 pub mod ShortViews

@@ -48,7 +48,7 @@ first_view club key request = record (bare_view key) {
   booking = option_and_then (λ (number : ℕ). booking_under key.name number club.bookings) (request_number request);
 }
 
--- the view is the whole one; or it lacks the facility where neither the pass nor the decision looks at it, since the booking is there
+-- the view is the whole one; or it lacks the facility if neither the pass nor the decision looks at it, since the booking is there
 abbrev pub Suffices : Plain → View → View → Type 0
 Suffices pass whole view =
     (view ≡ whole) ⊎ (IsBlindPass pass × IsTrue (is_some whole.booking) × (view ≡ (let part : View = record whole { facility = None } in part)))
@@ -312,7 +312,7 @@ module _ (club : Club) (key : Key) (request : Request) (moment : ℕ) (its : IsO
       ∙ (ap (λ (b : Option Basis). answer_to (Ok (machine_pass pass)) request moment b) (known is.named is.row)
       ∙ ap (λ (b : Bool). answer_by_view (Some its_view) b (its_fault pass) request moment) is.signed)
 
--- where no caveat refuses, what is read gives the answer by the key's whole view
+-- if no caveat refuses, what is read gives the answer by the key's whole view
 pub decides_whole : OwnBookings → LooksNoFurther → (club : Club) (key : Key) (request : Request) (moment : ℕ) → IsSound club
     → key_named key.name club ≡ Some key
     → answer_read club (row_of_key key) request moment None ≡ answer_by_view (view_in club key.name request moment) true None request moment

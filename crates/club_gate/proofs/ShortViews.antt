@@ -1,5 +1,5 @@
--- A view without the facility gives the same verdict, where there is a booking and no caveat looks at the kind; and so what is read for the signer of
--- a pass gives the machine's verdict.
+-- A view without the facility gives the same verdict, if there is a booking and no caveat looks at the kind; and so what is read for the signer of a
+-- pass gives the machine's verdict.
 use Rattle.std.proofs.Common.{◌≡◌, inl, inr, ℕ, Bool, true, false, map, Option, Some, None, Ok, is_some, refl, sym, ap, ◌∙◌}
 use Rattle.pass_caveats.specs.declared.ask.Ask.{Ask}
 use Rattle.pass_caveats.specs.declared.fault.CaveatFault.{CaveatFault}
@@ -108,7 +108,7 @@ module _ (club : Club) (key : KeyRow) (moment : ℕ) where
       ∙ (ap (λ (a : Ask). first_fault_of (map caveat_of pass.caveats) a) (asks_alike whole request moment spent part.1)
       ∙ part.0 (after_spending spent (ask_of whole request moment)) None)
 
--- so it gives the verdict, where a caveat refuses, and where none does
+-- so it gives the verdict, if a caveat refuses, and if none does
 module _ (club : Club) (key : KeyRow) (moment : ℕ) (pass : Plain) (request : Request) (view : View) (ask : Ask) (fault : Option CaveatFault)
     (agrees : AgreesOnRecord club key pass request view) (asks : ask ≡ ask_of view request moment)
     (found : fault ≡ fault_after pass (spent_under key.name club.bookings) ask) where

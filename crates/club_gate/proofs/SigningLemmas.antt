@@ -16,7 +16,7 @@ use Rattle.club_core.specs.KeyParts.{older_root_of}
 use Rattle.club_core.specs.Pass.{is_signed_under}
 use Rattle.club_gate.specs.computed.DecodedPass.{machine_pass}
 
--- the chain of a pass's identifier that begins here ends in the signature behind these fields, if the answer is true
+-- the chain of a pass's identifier that begins here ends in the signature after these fields, if the answer is true
 abbrev EndsIn : List ℕ → List PassField → Bool → Type 0
 EndsIn start fields answer = (caveats : List (List ℕ)) (signature : List ℕ) → fields ≡ map caveat_field caveats ++ signature_field signature ∷ []
     → answer ≡ bytes_eq (extended_signature start caveats) signature

@@ -19,7 +19,7 @@ use Rattle.club_core.specs.Club.{Club, IsSound}
 use Rattle.club_core.specs.Events.{IsEvent}
 use Rattle.club_core.specs.Office.{office_verdict}
 use Rattle.club_core.specs.Pass.{Words}
-use Rattle.club_core.specs.Run.{Asked, Ordered, after_change, done_answer, order_outcome, ToMember, ToOffice}
+use Rattle.club_core.specs.Run.{Asked, Commanded, after_change, done_answer, command_outcome, ToMember, ToOffice}
 use Rattle.club_laws.specs.Failed.{present_reply, is_unavailable, NeverUnavailable}
 use Rattle.club_laws.specs.SoundRuns.{ChangesFit}
 use Rattle.club_core.specs.Store.{IsRead}
@@ -83,22 +83,22 @@ fails_at_its_words Fails old new club text request moment fault law bytes failed
     subst (λ (w : Words). FailsAt Fails old new (verdict_in club w moment).change fault) (words_are law text request words bytes are) failed
 
 module _ {S : Type 0} (Represents : S → Club → List Club → Type 0) (new : S) (club : Club) (others : List Club) where
-  pub order_done : (command : Command) (change : Change) → office_verdict club command ≡ Ok change
+  pub command_done : (command : Command) (change : Change) → office_verdict club command ≡ Ok change
       → Represents new (after change club) []
-      → IsAnsweredBy Represents new club others (Ordered command) (ToOffice (office_reply_of (done_answer command)))
-  order_done command change e represents =
-      let P : Result Change OfficeFault → Type 0 = λ v. Represents new (order_outcome club command v).club (others_after (change_by v) others) in
+      → IsAnsweredBy Represents new club others (Commanded command) (ToOffice (office_reply_of (done_answer command)))
+  command_done command change e represents =
+      let P : Result Change OfficeFault → Type 0 = λ v. Represents new (command_outcome club command v).club (others_after (change_by v) others) in
       record {
         success = done_is_no_failure command;
-        reply = ap (λ (v : Result Change OfficeFault). present_reply desk_presentation (order_outcome club command v).reply) (sym e);
+        reply = ap (λ (v : Result Change OfficeFault). present_reply desk_presentation (command_outcome club command v).reply) (sym e);
         represents = subst P (sym e) represents;
       }
 
-  pub order_failed : (command : Command) (change : Change) (result : Result OfficeAnswer StoreFault) → IsErr result
+  pub command_failed : (command : Command) (change : Change) (result : Result OfficeAnswer StoreFault) → IsErr result
       → office_verdict club command ≡ Ok change → Represents new club (after change club ∷ others)
-      → IsRefusedBy Represents new club others (Ordered command) (ToOffice (answer_or_fault result))
-  order_failed command change result err e represents =
-      let P : Result Change OfficeFault → Type 0 = λ v. Represents new club ((order_outcome club command v).club ∷ others) in
+      → IsRefusedBy Represents new club others (Commanded command) (ToOffice (answer_or_fault result))
+  command_failed command change result err e represents =
+      let P : Result Change OfficeFault → Type 0 = λ v. Represents new club ((command_outcome club command v).club ∷ others) in
       record { failure = answer_fails result err; represents = inr (subst P (sym e) represents) }
 
   pub ask_done : NeverUnavailable → (words : Words) (moment : ℕ) (verdict : Verdict) → verdict ≡ verdict_in club words moment

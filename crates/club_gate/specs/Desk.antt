@@ -13,7 +13,7 @@ use Rattle.club_core.specs.Answer.{verdict_in}
 use Rattle.club_core.specs.Club.{Club}
 use Rattle.club_core.specs.Office.{office_verdict}
 use Rattle.club_core.specs.Pass.{Words}
-use Rattle.club_core.specs.Run.{Event, Asked, Ordered, after_change, step, Response}
+use Rattle.club_core.specs.Run.{Event, Asked, Commanded, after_change, step, Response}
 use Rattle.club_core.specs.Store.{FitsClub, IsRead}
 use Rattle.club_laws.specs.Failed.{present_reply, has_failed}
 use Rattle.club_gate.specs.declared.event.OfficeReply.{OfficeReply}
@@ -35,14 +35,14 @@ change_by (Err fault) = None
 -- the change that an event makes of a club, if any
 abbrev pub change_of : Club → Event → Option Change
 change_of club (Asked words moment) = (verdict_in club words moment).change
-change_of club (Ordered command) = change_by (office_verdict club command)
+change_of club (Commanded command) = change_by (office_verdict club command)
 
--- a change, where there is one, fits
+-- a change, if there is one, fits
 abbrev pub FitsIfAny : Option Change → Club → Type 0
 FitsIfAny None club = Unit {0}
 FitsIfAny (Some change) club = FitsClub change club
 
--- other possible crash states: none after a committed change; unchanged where nothing was changed
+-- other possible crash states: none after a committed change; unchanged if nothing was changed
 abbrev pub others_after : Option Change → List Club → List Club
 others_after None others = others
 others_after (Some change) others = []

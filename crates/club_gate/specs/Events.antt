@@ -12,7 +12,7 @@ use Rattle.club_gate.specs.DecodedPass.{AreWordsOf}
 abbrev pub IsEventOf : Event → machine.Event → Type 0
 IsEventOf (events.Asked words moment) seen =
     (decoded : Words) × AreWordsOf words.pass.now words.request decoded × (seen ≡ machine.Asked decoded moment)
-IsEventOf (events.Ordered command) seen = seen ≡ machine.Ordered command
+IsEventOf (events.Commanded command) seen = seen ≡ machine.Commanded command
 
 -- one after the other
 abbrev pub AreEventsOf : List Event → List machine.Event → Type 0
@@ -21,4 +21,4 @@ AreEventsOf events seen = AllZip IsEventOf events seen
 -- the text of a request is made of bytes
 abbrev pub IsEventOfBytes : Event → Type 0
 IsEventOfBytes (events.Asked words moment) = IsBytes words.pass.now
-IsEventOfBytes (events.Ordered command) = Unit {0}
+IsEventOfBytes (events.Commanded command) = Unit {0}

@@ -156,7 +156,7 @@ pub record IsLawfulRun (club : Club) (events : List machine.Event) (responses : 
 abbrev pub EventFailsForCause : {S : Type 0} → (Option Change → S → StoreFault → S → Type 0) → S → S → Club → Event → EventReply → Type 0
 EventFailsForCause Fails old new club (events.Asked words moment) (Replied reply) =
     FailsForCause Fails old new club words.pass.now words.request moment reply
-EventFailsForCause Fails old new club (events.Ordered command) (Answered reply) = NamesItsFault Fails old new club (machine.Ordered command) reply
+EventFailsForCause Fails old new club (events.Commanded command) (Answered reply) = NamesItsFault Fails old new club (machine.Commanded command) reply
 EventFailsForCause Fails old new club event reply = ⊥
 
 module _ {S : Type 0} (IsClean : S → Type 0) (Represents : S → Club → List Club → Type 0) (Fails : Option Change → S → StoreFault → S → Type 0) where

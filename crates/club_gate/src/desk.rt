@@ -16,7 +16,7 @@ ghost use Rattle.pass_json.specs.computed.AnyForm.{reading};
 ghost use Rattle.club_core.specs.declared.reply.Reply.TheVariants.{Refused};
 ghost use Rattle.club_core.specs.Answer.{form_refusal};
 ghost use Rattle.club_core.specs.Club.{Club, key_named, member_named};
-ghost use Rattle.club_core.specs.Office.{order_view};
+ghost use Rattle.club_core.specs.Office.{command_view};
 ghost use Rattle.club_core.specs.Pass.{Words};
 ghost use Rattle.club_core.specs.Run as machine;
 ghost use Rattle.club_core.specs.Sheet.{IsSheet};
@@ -45,8 +45,8 @@ use crate::event::{Event, EventReply, OfficeReply};
 use crate::fault::Fault;
 use crate::laws::{decodes, finds_names};
 use club_core::{
-    Change, ClubStore, Command, OfficeAnswer, OrderView, Refusal, Reply, SentWords, SlotUse,
-    StoreFault, decide_order, sheet_text,
+    Change, ClubStore, Command, CommandView, OfficeAnswer, Refusal, Reply, SentWords, SlotUse,
+    StoreFault, decide_command, sheet_text,
 };
 use club_laws::failed::never_unavailable;
 use club_laws::single_request::{
@@ -181,11 +181,11 @@ impl<S: ClubStore> Desk<S> {
     }
 
     /// Reads the rows that a command of the office depends on.
-    fn order_view(&mut self, command: &Command) -> Result<OrderView, StoreFault>
+    fn command_view(&mut self, command: &Command) -> Result<CommandView, StoreFault>
         ensures { ReadsStore S.disk_is_clean S.represents S.fails self.old self.new result
-            (λ club view. view ≡ order_view club command.now) }
+            (λ club view. view ≡ command_view club command.now) }
     {
-        let mut view = OrderView {
+        let mut view = CommandView {
             member: None,
             key: None,
             facility: None,
@@ -219,15 +219,15 @@ impl<S: ClubStore> Desk<S> {
     fn answer_to(&mut self, command: &Command) -> Result<OfficeAnswer, StoreFault>
         ensures was_clean { S.disk_is_clean self.new → S.disk_is_clean self.old }
         ensures steps { S.disk_is_clean self.new → Steps S.represents self.old self.new
-            (machine.Ordered command.now) (ToOffice (answer_or_fault result)) }
+            (machine.Commanded command.now) (ToOffice (answer_or_fault result)) }
         ensures failed { OfItsClub S.disk_is_clean S.represents self.old self.new
             (λ club. IfErr result
-            (FailsAt S.fails self.old self.new (change_of club (machine.Ordered command.now)))) }
+            (FailsAt S.fails self.old self.new (change_of club (machine.Commanded command.now)))) }
     {
         changes_fit();
         command.within();
-        let view = self.order_view(command)?;
-        match decide_order(&view, command) {
+        let view = self.command_view(command)?;
+        match decide_command(&view, command) {
             Ok(change) => {
                 self.settle(Some(change))?;
                 Ok(OfficeAnswer::done(command))
@@ -289,9 +289,9 @@ impl<S: ClubStore> Desk<S> {
     pub fn office(&mut self, command: &Command) -> OfficeReply
         ensures was_clean { S.disk_is_clean self.new → S.disk_is_clean self.old }
         ensures steps { S.disk_is_clean self.new → Steps S.represents self.old self.new
-            (machine.Ordered command.now) (ToOffice result) }
+            (machine.Commanded command.now) (ToOffice result) }
         ensures failed { OfItsClub S.disk_is_clean S.represents self.old self.new
-            (λ club. NamesItsFault S.fails self.old self.new club (machine.Ordered command.now)
+            (λ club. NamesItsFault S.fails self.old self.new club (machine.Commanded command.now)
             result) }
     {
         match self.answer_to(command) {
@@ -307,7 +307,7 @@ impl<S: ClubStore> Desk<S> {
     {
         match event {
             Event::Asked { words, moment } => EventReply::Replied(self.ask(*moment, words)),
-            Event::Ordered(command) => EventReply::Answered(self.office(command)),
+            Event::Commanded(command) => EventReply::Answered(self.office(command)),
         }
     }
 

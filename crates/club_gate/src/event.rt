@@ -13,7 +13,7 @@ pub enum Event<'a> {
         words: SentWords<'a>,
         moment: Moment,
     },
-    Ordered(Command),
+    Commanded(Command),
 }
 
 /// The reply to a command of the office.

@@ -8,7 +8,7 @@ ghost use Rattle.club_gate.specs.Laws.{
   SeenAlike,
   SeesEvents,
 };
-ghost use Rattle.club_gate.specs.Looks.{ShowsSlotsToKeys};
+ghost use Rattle.club_gate.specs.Shown.{ShowsSlotsToKeys};
 
 use club_values::laws::reads_names;
 use pass_caveats::laws::reads_what_is_understood;

@@ -28,7 +28,7 @@ use pass_forms::FieldSource;
 impl<S: ClubStore> Desk<S> {
     /// Reads what caveats depend on, except what the key has spent: the booking that has the number
     /// that is asked for, and the facility. If there is such a booking, the facility is read only
-    /// where a caveat looks at its kind. The source yields the fields of the pass.
+    /// if a caveat looks at its kind. The source yields the fields of the pass.
     pub(crate) fn first_view<'a, F: FieldSource<'a> + Drop>(
         &mut self,
         source: &F,
@@ -54,7 +54,7 @@ impl<S: ClubStore> Desk<S> {
     }
 
     /// The first caveat that refuses a request with this key. The source yields the fields of the
-    /// pass. What the key has spent is read only where what its member has used leaves the result
+    /// pass. What the key has spent is read only if what its member has used leaves the result
     /// open.
     pub(crate) fn caveat_fault<'a, F: FieldSource<'a> + Drop>(
         &mut self,

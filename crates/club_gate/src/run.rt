@@ -37,7 +37,7 @@ fn event_within(event: &Event)
             are_bytes(words.pass);
             words.request.within()
         }
-        Event::Ordered(command) => command.within(),
+        Event::Commanded(command) => command.within(),
     }
 }
 

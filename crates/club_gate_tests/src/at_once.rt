@@ -12,11 +12,11 @@ use test_kit::passes::{AMY_JSON, AMY_V1, AMY_V2, BOB_V2, CY_V2};
 use test_kit::replies::{ACCOUNT_AFTER, BOOKED_2, BOOKED_7, CANCELLED_7, FILLED_BY_7};
 use test_kit::requests::{ACCOUNT, BOOK_2, BOOK_7, CANCEL_7};
 use test_kit::roots::ROOT;
-use test_kit::{FIXTURE, FRIDAY, Order, PlainReply, PlainRequest, PlainSlot};
+use test_kit::{FIXTURE, FRIDAY, PlainCommand, PlainReply, PlainRequest, PlainSlot};
 
 const DONE: OfficeReply = OfficeReply::Done;
 
-/// The answers to the orders of the fixture.
+/// The answers to the commands of the fixture.
 static ANSWERS: [OfficeReply; 8] = [DONE, DONE, SIGNED, DONE, DONE, BOB_SIGNED, DONE, DONE];
 
 /// Amy's list: she books, asks for her account and cancels, in each form of her pass.
@@ -48,8 +48,8 @@ fn run<S: ClubStore>(rt: &(impl Abort + Alloc<A = Global>), desk: &mut Desk<S>, 
 /// The fixture.
 fn fixture(rt: &(impl Abort + Alloc<A = Global>)) -> Vec<Happens> {
     let mut rows = Vec::new(rt.alloc());
-    for (order, answer) in FIXTURE.iter().zip(&ANSWERS) {
-        push(rt, &mut rows, Happens::Ordered(*order, *answer));
+    for (plain, answer) in FIXTURE.iter().zip(&ANSWERS) {
+        push(rt, &mut rows, Happens::Commanded(*plain, *answer));
     }
     rows
 }
@@ -72,15 +72,15 @@ fn append(rt: &impl Abort, rows: &mut Vec<Happens>, more: &[Happens]) {
 }
 
 static BEFORE_CY: [Happens; 4] = [
-    Happens::Ordered(Order::AddMember("cy", 20), DONE),
-    Happens::Ordered(Order::Credit("cy", 20_000), DONE),
-    Happens::Ordered(Order::AddKey("cy-1", "cy", ROOT), CY_SIGNED),
-    Happens::Ordered(Order::AddKey("bob-2", "bob", ROOT), BOB_SIGNED_AGAIN),
+    Happens::Commanded(PlainCommand::AddMember("cy", 20), DONE),
+    Happens::Commanded(PlainCommand::Credit("cy", 20_000), DONE),
+    Happens::Commanded(PlainCommand::AddKey("cy-1", "cy", ROOT), CY_SIGNED),
+    Happens::Commanded(PlainCommand::AddKey("bob-2", "bob", ROOT), BOB_SIGNED_AGAIN),
 ];
 
 static BEHIND_CY: [Happens; 2] = [
-    Happens::Ordered(Order::Credit("bob", 500), DONE),
-    Happens::Ordered(Order::RevokeKey("bob-1"), DONE),
+    Happens::Commanded(PlainCommand::Credit("bob", 500), DONE),
+    Happens::Commanded(PlainCommand::RevokeKey("bob-1"), DONE),
 ];
 
 /// Cy's booking of `court-1` for two persons, on a later day than amy's.

@@ -11,7 +11,7 @@ use pass_forms::Form;
 use std::alloc::Global;
 use std::process::Abort;
 use test_kit::roots::ROOT;
-use test_kit::{FIXTURE, Order, PlainPass, PlainReply, PlainRequest, PlainStep};
+use test_kit::{FIXTURE, PlainCommand, PlainPass, PlainReply, PlainRequest, PlainStep};
 
 /// A desk, and the form in which its passes are written.
 #[derive(Drop)]
@@ -25,10 +25,10 @@ pub(crate) struct Counter<S: ClubStore> {
 pub(crate) enum Step {
     /// A request at a moment under a pass, and its reply.
     Asks(u32, Shown, PlainRequest, PlainReply),
-    /// An order of the office that succeeds.
-    Orders(Order),
-    /// An order of the office, and its answer.
-    IsAnswered(Order, OfficeReply),
+    /// A command of the office that succeeds.
+    Gives(PlainCommand),
+    /// A command of the office, and its answer.
+    IsAnswered(PlainCommand, OfficeReply),
 }
 
 impl Step {
@@ -40,16 +40,16 @@ impl Step {
     }
 }
 
-/// Gives an order that has to succeed.
-pub(crate) fn carry_out<S: ClubStore>(rt: &impl Abort, desk: &mut Desk<S>, order: &Order) {
-    let answer = desk.office(&order.command().expect(rt, "an order"));
+/// Gives a command that has to succeed.
+pub(crate) fn carry_out<S: ClubStore>(rt: &impl Abort, desk: &mut Desk<S>, plain: &PlainCommand) {
+    let answer = desk.office(&plain.command().expect(rt, "a command"));
     expect_eq(rt, &matches!(answer, OfficeReply::Refused(_)), &false);
 }
 
 /// Makes the fixture at the desk of an empty club.
 pub(crate) fn furnish<S: ClubStore>(rt: &impl Abort, mut desk: Desk<S>, form: Form) -> Counter<S> {
-    for order in &FIXTURE {
-        carry_out(rt, &mut desk, order);
+    for plain in &FIXTURE {
+        carry_out(rt, &mut desk, plain);
     }
     Counter { desk, form }
 }
@@ -85,12 +85,12 @@ impl<S: ClubStore> Counter<S> {
                 let reply = self.reply(rt, *moment, shown, asked);
                 expect_row(rt, row, &reply, &expected.reply().expect(rt, "a reply"));
             }
-            Step::Orders(order) => carry_out(rt, &mut self.desk, order),
-            Step::IsAnswered(order, answer) => {
+            Step::Gives(plain) => carry_out(rt, &mut self.desk, plain),
+            Step::IsAnswered(plain, answer) => {
                 expect_row(
                     rt,
                     row,
-                    &self.desk.office(&order.command().expect(rt, "an order")),
+                    &self.desk.office(&plain.command().expect(rt, "a command")),
                     answer,
                 );
             }

@@ -6,13 +6,13 @@ use club_gate::{Event, EventReply, OfficeReply, Words};
 use std::alloc::Global;
 use std::process::Abort;
 use test_kit::minutes::NOON;
-use test_kit::{Order, PlainReply, PlainRequest};
+use test_kit::{PlainCommand, PlainReply, PlainRequest};
 
 /// An event, and its reply.
 #[derive(Clone, Copy)]
 pub(crate) enum Happens {
-    /// An order of the office, and its answer.
-    Ordered(Order, OfficeReply),
+    /// A command of the office, and its answer.
+    Commanded(PlainCommand, OfficeReply),
     /// A request at noon under the text of a pass, and its reply.
     Asked(&'static str, PlainRequest, PlainReply),
 }
@@ -20,7 +20,9 @@ pub(crate) enum Happens {
 impl Happens {
     fn event(&self, rt: &impl Abort) -> Event<'static> {
         match *self {
-            Happens::Ordered(order, _) => Event::Ordered(order.command().expect(rt, "an order")),
+            Happens::Commanded(plain, _) => Event::Commanded(
+                plain.command().expect(rt, "a command"),
+            ),
             Happens::Asked(pass, asked, _) => Event::Asked {
                 words: Words {
                     pass: pass.as_bytes(),
@@ -33,7 +35,7 @@ impl Happens {
 
     fn reply(&self, rt: &impl Abort) -> EventReply {
         match *self {
-            Happens::Ordered(_, answer) => EventReply::Answered(answer),
+            Happens::Commanded(_, answer) => EventReply::Answered(answer),
             Happens::Asked(_, _, expected) => EventReply::Replied(
                 expected.reply().expect(rt, "a reply"),
             ),

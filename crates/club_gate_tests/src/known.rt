@@ -1,4 +1,4 @@
-//! The office's answers to the orders that make keys.
+//! The office's answers to the commands that make keys.
 
 use club_gate::OfficeReply;
 use test_kit::passes;

@@ -19,18 +19,18 @@ use test_kit::passes::{AMY_JSON, AMY_V1, AMY_V2};
 use test_kit::replies::{ACCOUNT_AFTER, BOOKED_7, NOT_VERIFIED};
 use test_kit::requests::{ACCOUNT, BOOK_7};
 use test_kit::roots::ROOT;
-use test_kit::{Order, PlainReply};
+use test_kit::{PlainCommand, PlainReply};
 
-/// Four orders, a booking, its repeats in the two other forms, and the account, which was charged
+/// Four commands, a booking, its repeats in the two other forms, and the account, which was charged
 /// once.
 static BOOKS: [Happens; 8] = [
-    Happens::Ordered(Order::AddMember("amy", 5), OfficeReply::Done),
-    Happens::Ordered(Order::Credit("amy", 10_000), OfficeReply::Done),
-    Happens::Ordered(
-        Order::AddFacility("court-1", Kind::Court, 4, 200, 8, 22),
+    Happens::Commanded(PlainCommand::AddMember("amy", 5), OfficeReply::Done),
+    Happens::Commanded(PlainCommand::Credit("amy", 10_000), OfficeReply::Done),
+    Happens::Commanded(
+        PlainCommand::AddFacility("court-1", Kind::Court, 4, 200, 8, 22),
         OfficeReply::Done,
     ),
-    Happens::Ordered(Order::AddKey("amy-1", "amy", ROOT), SIGNED),
+    Happens::Commanded(PlainCommand::AddKey("amy-1", "amy", ROOT), SIGNED),
     Happens::Asked(AMY_V2, BOOK_7, BOOKED_7),
     Happens::Asked(AMY_V1, BOOK_7, BOOKED_7),
     Happens::Asked(AMY_JSON, BOOK_7, BOOKED_7),

@@ -16,7 +16,7 @@ use test_kit::minutes::{NOON, START};
 use test_kit::replies::{ACCOUNT_BEFORE, BOOKED_7, HALF_BACK, ROOM_BOOKED};
 use test_kit::requests::{ACCOUNT, BOOK_7, BOOK_ROOM, CANCEL_ROOM};
 use test_kit::roots::ROOT;
-use test_kit::{COURT_AT_18, COURT_AT_22, Order, PlainReply, PlainSlot};
+use test_kit::{COURT_AT_18, COURT_AT_22, PlainCommand, PlainReply, PlainSlot};
 
 const ONE_LEFT: PlainReply = PlainReply::AccountShown(9_099, 1, 901);
 
@@ -97,27 +97,34 @@ const UNKNOWN: OfficeReply = OfficeReply::Refused(Fault::Refused(OfficeFault::Un
 
 const OUT_OF_RANGE: OfficeReply = OfficeReply::Refused(Fault::Refused(OfficeFault::OutOfRange));
 
-const TOO_MANY_PLACES: Order = Order::AddFacility("court-2", Kind::Court, 51, 200, 8, 22);
+const TOO_MANY_PLACES: PlainCommand = PlainCommand::AddFacility(
+    "court-2",
+    Kind::Court,
+    51,
+    200,
+    8,
+    22,
+);
 
-const NEVER_OPEN: Order = Order::AddFacility("court-2", Kind::Court, 4, 200, 22, 22);
+const NEVER_OPEN: PlainCommand = PlainCommand::AddFacility("court-2", Kind::Court, 4, 200, 22, 22);
 
-const CLOSE_AT_22: Order = Order::CloseSlot(COURT_AT_22);
+const CLOSE_AT_22: PlainCommand = PlainCommand::CloseSlot(COURT_AT_22);
 
-const CLOSE_ELSEWHERE: Order = Order::CloseSlot(PlainSlot {
+const CLOSE_ELSEWHERE: PlainCommand = PlainCommand::CloseSlot(PlainSlot {
     facility: "court-2",
     ..COURT_AT_18
 });
 
 static REFUSED: [Step; 11] = [
-    Step::IsAnswered(Order::AddMember("amy", 5), EXISTS),
-    Step::IsAnswered(Order::AddMember("amy", 100), OUT_OF_RANGE),
-    Step::IsAnswered(Order::Credit("amy", 0), OUT_OF_RANGE),
-    Step::IsAnswered(Order::Credit("cy", 1), UNKNOWN),
+    Step::IsAnswered(PlainCommand::AddMember("amy", 5), EXISTS),
+    Step::IsAnswered(PlainCommand::AddMember("amy", 100), OUT_OF_RANGE),
+    Step::IsAnswered(PlainCommand::Credit("amy", 0), OUT_OF_RANGE),
+    Step::IsAnswered(PlainCommand::Credit("cy", 1), UNKNOWN),
     Step::IsAnswered(TOO_MANY_PLACES, OUT_OF_RANGE),
     Step::IsAnswered(NEVER_OPEN, OUT_OF_RANGE),
-    Step::IsAnswered(Order::AddKey("cy-1", "cy", ROOT), UNKNOWN),
-    Step::IsAnswered(Order::AddKey("amy-1", "bob", ROOT), EXISTS),
-    Step::IsAnswered(Order::RevokeKey("cy-1"), UNKNOWN),
+    Step::IsAnswered(PlainCommand::AddKey("cy-1", "cy", ROOT), UNKNOWN),
+    Step::IsAnswered(PlainCommand::AddKey("amy-1", "bob", ROOT), EXISTS),
+    Step::IsAnswered(PlainCommand::RevokeKey("cy-1"), UNKNOWN),
     Step::IsAnswered(CLOSE_ELSEWHERE, UNKNOWN),
     Step::IsAnswered(CLOSE_AT_22, OUT_OF_RANGE),
 ];

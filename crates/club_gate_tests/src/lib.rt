@@ -25,8 +25,6 @@ mod limits;
 #[cfg(test)]
 mod lists;
 #[cfg(test)]
-mod looks;
-#[cfg(test)]
 mod passes;
 #[cfg(test)]
 mod readings;
@@ -46,6 +44,8 @@ mod rows;
 mod scene;
 #[cfg(test)]
 mod sent;
+#[cfg(test)]
+mod shown;
 #[cfg(test)]
 mod texts;
 #[cfg(test)]

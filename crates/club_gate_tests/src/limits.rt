@@ -18,7 +18,7 @@ use test_kit::minutes::{FIRST, LAST, NOON};
 use test_kit::replies::{NO_SUCH_BOOKING, QUOTA_REACHED};
 use test_kit::requests::ACCOUNT;
 use test_kit::roots::{ROOT, THIRD_ROOT};
-use test_kit::{FRIDAY, Order, PlainReply, PlainRequest, PlainSlot};
+use test_kit::{FRIDAY, PlainCommand, PlainReply, PlainRequest, PlainSlot};
 
 /// Names of 24 letters, as many as a name may have.
 const MEMBER: &str = "a-member-with-24-letters";
@@ -42,24 +42,24 @@ const GREATEST: u32 = 999_999_999;
 
 /// The greatest quota, places, guests and price, and a root of 64 bytes; the least ones of all, and
 /// a root of 16.
-static LIMITS: [Order; 6] = [
-    Order::AddMember(MEMBER, 99),
-    Order::AddKey(KEY, MEMBER, THIRD_ROOT),
-    Order::AddFacility(FACILITY, Kind::Room, 50, 9_999, 0, 24),
-    Order::AddMember(SHORT, 0),
-    Order::AddKey(SHORT, SHORT, ROOT),
-    Order::AddFacility(SHORT, Kind::Boat, 1, 0, 0, 1),
+static LIMITS: [PlainCommand; 6] = [
+    PlainCommand::AddMember(MEMBER, 99),
+    PlainCommand::AddKey(KEY, MEMBER, THIRD_ROOT),
+    PlainCommand::AddFacility(FACILITY, Kind::Room, 50, 9_999, 0, 24),
+    PlainCommand::AddMember(SHORT, 0),
+    PlainCommand::AddKey(SHORT, SHORT, ROOT),
+    PlainCommand::AddFacility(SHORT, Kind::Boat, 1, 0, 0, 1),
 ];
 
 /// Makes the club of the least and the greatest values.
 fn furnish<S: ClubStore>(rt: &impl Abort, desk: &mut Desk<S>) {
-    for order in &LIMITS {
-        carry_out(rt, desk, order);
+    for plain in &LIMITS {
+        carry_out(rt, desk, plain);
     }
     for _ in 0..CREDITS {
-        carry_out(rt, desk, &Order::Credit(MEMBER, CREDIT));
+        carry_out(rt, desk, &PlainCommand::Credit(MEMBER, CREDIT));
     }
-    carry_out(rt, desk, &Order::Credit(MEMBER, CREDIT - 1));
+    carry_out(rt, desk, &PlainCommand::Credit(MEMBER, CREDIT - 1));
 }
 
 /// What is replied.

@@ -35,7 +35,7 @@ fn play_each<S: ClubStore>(
         trial.play(rt, event);
     }
     trial.audit(rt);
-    trial.look(rt);
+    trial.show(rt);
 }
 
 impl Pair {

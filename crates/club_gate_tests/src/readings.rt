@@ -18,7 +18,7 @@ use test_kit::replies::{
 };
 use test_kit::requests::{ACCOUNT, BOOK_7, BOOK_8, CANCEL_7, VIEW};
 use test_kit::roots::{ROOT, SECOND_ROOT, THIRD_ROOT};
-use test_kit::{FRIDAY, Order, PlainReply, PlainRequest, PlainSlot};
+use test_kit::{FRIDAY, PlainCommand, PlainReply, PlainRequest, PlainSlot};
 
 const KEY: Calls = Calls { keys: 1, ..NONE };
 
@@ -103,8 +103,8 @@ fn prepare<S: ClubStore>(
     desk: &mut Desk<S>,
     is_booked: bool,
 ) {
-    carry_out(rt, desk, &Order::RevokeKey("bob-1"));
-    carry_out(rt, desk, &Order::AddKey("amy-2", "amy", ROOT));
+    carry_out(rt, desk, &PlainCommand::RevokeKey("bob-1"));
+    carry_out(rt, desk, &PlainCommand::AddKey("amy-2", "amy", ROOT));
     if is_booked {
         book(rt, desk);
     }
@@ -360,7 +360,7 @@ impl Scene for Rotated<'_> {
         carry_out(
             rt,
             &mut desk,
-            &Order::RotateKey("amy-1", SECOND_ROOT, UNTIL),
+            &PlainCommand::RotateKey("amy-1", SECOND_ROOT, UNTIL),
         );
         let desk = Desk::new(rt.alloc(), Refusing::never(desk.into_store()));
         let (answer, asked) = reply_and_calls(rt, desk, Form::V2, self.row);

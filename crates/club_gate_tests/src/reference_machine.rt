@@ -7,7 +7,7 @@ use club_reference::{Club, Words};
 use std::alloc::Global;
 use std::process::Abort;
 use test_kit::drawn::{Asking, Event};
-use test_kit::{Order, signed_pass};
+use test_kit::{PlainCommand, signed_pass};
 
 /// The words of a request for the reference machine: the pass is signed under the one root.
 fn words_of(rt: &(impl Abort + Alloc<A = Global>), asking: &Asking) -> Words {
@@ -54,9 +54,9 @@ pub(crate) fn desk_reply(answer: &OfficeAnswer) -> OfficeReply {
     }
 }
 
-fn reference_answer(rt: &impl Abort, reference: &mut Club, order: &Order) -> OfficeReply {
+fn reference_answer(rt: &impl Abort, reference: &mut Club, plain: &PlainCommand) -> OfficeReply {
     let answer = reference
-        .office(&order.command().expect(rt, "an order"))
+        .office(&plain.command().expect(rt, "a command"))
         .expect(rt, "memory");
     desk_reply(&answer)
 }
@@ -68,7 +68,7 @@ fn reference_event_reply(
 ) -> EventReply {
     match event {
         Event::Asked(asking) => EventReply::Replied(reference_reply(rt, reference, asking)),
-        Event::Ordered(order) => EventReply::Answered(reference_answer(rt, reference, order)),
+        Event::Commanded(plain) => EventReply::Answered(reference_answer(rt, reference, plain)),
     }
 }
 

@@ -16,7 +16,7 @@ use std::test::*;
 use test_kit::minutes::NOON;
 use test_kit::requests::{ACCOUNT, BOOK_7};
 use test_kit::roots::ROOT;
-use test_kit::{COURT_AT_18, Order};
+use test_kit::{COURT_AT_18, PlainCommand};
 
 // The signature of the longest name under a root of 64 bytes 7, by an independent program.
 const LONGEST: [u8; 32] = *b"\
@@ -53,11 +53,11 @@ fn expect_unavailable<S: ClubStore>(rt: &(impl Abort + Alloc<A = Global>), desk:
     expect_eq(rt, &returned, &Reply::Refused(Refusal::Unavailable));
 }
 
-const ADD_KEY: Order = Order::AddKey("amy-2", "amy", ROOT);
+const ADD_KEY: PlainCommand = PlainCommand::AddKey("amy-2", "amy", ROOT);
 
 /// A new key and the day sheet fail.
 fn expect_failures<S: ClubStore>(rt: &impl Abort, desk: &mut Desk<S>, fault: StoreFault) {
-    let answer = desk.office(&ADD_KEY.command().expect(rt, "an order"));
+    let answer = desk.office(&ADD_KEY.command().expect(rt, "a command"));
     expect_eq(rt, &answer, &OfficeReply::Refused(Fault::Store(fault)));
     let day = Day::read(b"2026-05-01").expect(rt, "a day");
     expect_eq(rt, &desk.sheet(day).is_err(), &true);
@@ -73,7 +73,7 @@ fn expect_untouched<S: ClubStore>(rt: &impl Abort, store: &mut S) {
     expect_eq(rt, &key.is_none(), &true);
 }
 
-// Every request and order fails and nothing is changed.
+// Every request and command fails and nothing is changed.
 impl Scene for Failure {
     fn play<S: ClubStore + Drop>(&self, rt: &(impl Abort + Alloc<A = Global>), desk: Desk<S>) {
         let mut desk = failing_desk(rt, desk, self);

@@ -1,4 +1,4 @@
-//! Orders of the office and the known booking if an allocation is refused.
+//! Commands of the office and the known booking if an allocation is refused.
 //! `tests/refused_memory_tests.py` refuses each in turn, and none after it: a call that is out of
 //! memory changes nothing, and a second call is answered.
 
@@ -18,7 +18,7 @@ use test_kit::passes::{AMY_JSON, AMY_V1, AMY_V2};
 use test_kit::replies::{ACCOUNT_AFTER, ACCOUNT_BEFORE, BOOKED_7, KEY_REVOKED};
 use test_kit::requests::{ACCOUNT, BOOK_7, VIEW};
 use test_kit::roots::{ROOT, SECOND_ROOT};
-use test_kit::{COURT_AT_19, Order, PlainReply, PlainRequest, PlainSlot};
+use test_kit::{COURT_AT_19, PlainCommand, PlainReply, PlainRequest, PlainSlot};
 
 const UNAVAILABLE: Reply = Reply::Refused(Refusal::Unavailable);
 
@@ -49,8 +49,12 @@ fn amys_view<S: ClubStore>(rt: &impl Abort, desk: &mut Desk<S>) -> [Reply; 3] {
 
 const OUT_OF_MEMORY: OfficeReply = OfficeReply::Refused(Fault::Store(StoreFault::Memory));
 
-fn office_reply<S: ClubStore>(rt: &impl Abort, desk: &mut Desk<S>, order: &Order) -> OfficeReply {
-    desk.office(&order.command().expect(rt, "an order"))
+fn office_reply<S: ClubStore>(
+    rt: &impl Abort,
+    desk: &mut Desk<S>,
+    plain: &PlainCommand,
+) -> OfficeReply {
+    desk.office(&plain.command().expect(rt, "a command"))
 }
 
 /// Ends the test unless the office gets this answer. If the first call is out of memory, the club
@@ -58,64 +62,67 @@ fn office_reply<S: ClubStore>(rt: &impl Abort, desk: &mut Desk<S>, order: &Order
 fn expect_answer<S: ClubStore>(
     rt: &impl Abort,
     desk: &mut Desk<S>,
-    order: &Order,
+    plain: &PlainCommand,
     answer: &OfficeReply,
 ) {
     let before = amys_view(rt, desk);
-    let first = office_reply(rt, desk, order);
+    let first = office_reply(rt, desk, plain);
     if first != OUT_OF_MEMORY {
         expect_eq(rt, &first, answer);
         return;
     }
     expect_eq(rt, &amys_view(rt, desk), &before);
-    expect_eq(rt, &office_reply(rt, desk, order), answer);
+    expect_eq(rt, &office_reply(rt, desk, plain), answer);
 }
 
 fn expect_answers<S: ClubStore>(
     rt: &impl Abort,
     desk: &mut Desk<S>,
-    orders: &[(Order, OfficeReply)],
+    commands: &[(PlainCommand, OfficeReply)],
 ) {
-    for (order, answer) in orders {
-        expect_answer(rt, desk, order, answer);
+    for (plain, answer) in commands {
+        expect_answer(rt, desk, plain, answer);
     }
 }
 
 const DONE: OfficeReply = OfficeReply::Done;
 
 /// Amy with quota 5, 10,000 points and her key; and the court.
-static FIXTURE: [(Order, OfficeReply); 4] = [
-    (Order::AddMember("amy", 5), DONE),
-    (Order::Credit("amy", 10_000), DONE),
-    (Order::AddKey("amy-1", "amy", ROOT), SIGNED),
+static FIXTURE: [(PlainCommand, OfficeReply); 4] = [
+    (PlainCommand::AddMember("amy", 5), DONE),
+    (PlainCommand::Credit("amy", 10_000), DONE),
+    (PlainCommand::AddKey("amy-1", "amy", ROOT), SIGNED),
     (
-        Order::AddFacility("court-1", Kind::Court, 4, 200, 8, 22),
+        PlainCommand::AddFacility("court-1", Kind::Court, 4, 200, 8, 22),
         DONE,
     ),
 ];
 
 /// The older root is good for long, so amy's pass still shows what the key sees.
-static ORDERS: [(Order, OfficeReply); 3] = [
-    (Order::CloseSlot(AT_19), DONE),
-    (Order::RotateKey("amy-1", SECOND_ROOT, START), SIGNED_ANEW),
-    (Order::RevokeKey("amy-1"), DONE),
+static COMMANDS: [(PlainCommand, OfficeReply); 3] = [
+    (PlainCommand::CloseSlot(AT_19), DONE),
+    (
+        PlainCommand::RotateKey("amy-1", SECOND_ROOT, START),
+        SIGNED_ANEW,
+    ),
+    (PlainCommand::RevokeKey("amy-1"), DONE),
 ];
 
-/// The orders were carried out.
-static REVOKED: [(Order, OfficeReply); 2] = [
+/// The commands were carried out.
+static REVOKED: [(PlainCommand, OfficeReply); 2] = [
     (
-        Order::AddMember("amy", 5),
+        PlainCommand::AddMember("amy", 5),
         OfficeReply::Refused(Fault::Refused(OfficeFault::Exists)),
     ),
     (
-        Order::CloseSlot(AT_19),
+        PlainCommand::CloseSlot(AT_19),
         OfficeReply::Refused(Fault::Refused(OfficeFault::Exists)),
     ),
 ];
 
-fn carries_out_orders<S: ClubStore>(rt: &impl Abort, desk: &mut Desk<S>) {
+fn carries_out_commands<S: ClubStore>(rt: &impl Abort, desk: &mut Desk<S>) {
     expect_replied(rt, desk, AMY_V2, &ACCOUNT, &ACCOUNT_BEFORE);
-    expect_answers(rt, desk, &ORDERS);
+    expect_answers(rt, desk, &COMMANDS);
     expect_answers(rt, desk, &REVOKED);
     expect_replied(rt, desk, AMY_V2, &ACCOUNT, &KEY_REVOKED);
 }
@@ -190,7 +197,7 @@ fn books_in_a_run<S: ClubStore>(rt: &impl Abort, desk: &mut Desk<S>, pass: &str)
 
 /// What is done from the fixture on.
 enum Task {
-    Orders,
+    Commands,
     /// The booking under this pass, by `Desk::ask`.
     Ask(&'static str),
     /// The same by `Desk::run`.
@@ -201,7 +208,7 @@ impl Scene for Task {
     fn play<S: ClubStore + Drop>(&self, rt: &(impl Abort + Alloc<A = Global>), mut desk: Desk<S>) {
         expect_answers(rt, &mut desk, &FIXTURE);
         match self {
-            Task::Orders => carries_out_orders(rt, &mut desk),
+            Task::Commands => carries_out_commands(rt, &mut desk),
             Task::Ask(pass) => books(rt, &mut desk, pass),
             Task::Run(pass) => books_in_a_run(rt, &mut desk, pass),
         }
@@ -217,8 +224,8 @@ fn perform(rt: &(impl Abort + Alloc<A = Global>), task: &Task) {
 }
 
 #[test]
-fn orders(rt: HostRuntime) {
-    perform(&rt, &Task::Orders);
+fn commands(rt: HostRuntime) {
+    perform(&rt, &Task::Commands);
 }
 
 #[test]

@@ -10,7 +10,7 @@ use club_gate::{Fault, OfficeReply};
 use club_values::Moment;
 use std::process::Abort;
 use std::test::*;
-use test_kit::Order;
+use test_kit::PlainCommand;
 use test_kit::minutes::{FIRST, LAST, NOON, UNTIL};
 use test_kit::replies::{ACCOUNT_AFTER, ACCOUNT_BEFORE, BOOKED_7, NOT_VERIFIED};
 use test_kit::requests::{ACCOUNT, BOOK_7};
@@ -43,7 +43,10 @@ const RENEWED_AGAIN: Shown = Shown::Of("amy-1", THIRD_ROOT, &[]);
 /// under the new root.
 static FOR_A_WHILE: [Step; 6] = [
     Step::Asks(NOON, AMY, BOOK_7, BOOKED_7),
-    Step::IsAnswered(Order::RotateKey("amy-1", SECOND_ROOT, UNTIL), SIGNED_ANEW),
+    Step::IsAnswered(
+        PlainCommand::RotateKey("amy-1", SECOND_ROOT, UNTIL),
+        SIGNED_ANEW,
+    ),
     Step::Asks(UNTIL - 1, AMY, ACCOUNT, ACCOUNT_AFTER),
     Step::Asks(UNTIL, AMY, ACCOUNT, NOT_VERIFIED),
     Step::Asks(NOON, RENEWED, BOOK_7, BOOKED_7),
@@ -58,7 +61,7 @@ fn serves_both_roots_for_a_while(rt: HostRuntime) {
 /// An older root is refused after its moment, even if its derived key is in the cache.
 static PAST: [Step; 3] = [
     Step::Asks(NOON, AMY, ACCOUNT, ACCOUNT_BEFORE),
-    Step::Orders(Order::RotateKey("amy-1", SECOND_ROOT, FIRST)),
+    Step::Gives(PlainCommand::RotateKey("amy-1", SECOND_ROOT, FIRST)),
     Step::Asks(NOON, AMY, ACCOUNT, NOT_VERIFIED),
 ];
 
@@ -70,11 +73,11 @@ fn forgets_a_root_that_is_past(rt: HostRuntime) {
 /// A rotation to the key's current root is refused. A second rotation drops the first root.
 static TWICE: [Step; 6] = [
     Step::IsAnswered(
-        Order::RotateKey("amy-1", ROOT, LAST),
+        PlainCommand::RotateKey("amy-1", ROOT, LAST),
         OfficeReply::Refused(Fault::Refused(OfficeFault::Exists)),
     ),
-    Step::Orders(Order::RotateKey("amy-1", SECOND_ROOT, LAST)),
-    Step::Orders(Order::RotateKey("amy-1", THIRD_ROOT, LAST)),
+    Step::Gives(PlainCommand::RotateKey("amy-1", SECOND_ROOT, LAST)),
+    Step::Gives(PlainCommand::RotateKey("amy-1", THIRD_ROOT, LAST)),
     Step::Asks(NOON, AMY, ACCOUNT, NOT_VERIFIED),
     Step::Asks(UNTIL, RENEWED, ACCOUNT, ACCOUNT_BEFORE),
     Step::Asks(UNTIL, RENEWED_AGAIN, ACCOUNT, ACCOUNT_BEFORE),

@@ -19,7 +19,7 @@ use test_kit::replies::{
 };
 use test_kit::requests::{ACCOUNT, BOOK_1, BOOK_2, BOOK_2_FOR_TWO, BOOK_7, BOOK_8, CANCEL_7, VIEW};
 use test_kit::roots::ROOT;
-use test_kit::{COURT_AT_18, FRIDAY, Order, PlainReply, PlainRequest, PlainSlot};
+use test_kit::{COURT_AT_18, FRIDAY, PlainCommand, PlainReply, PlainRequest, PlainSlot};
 
 #[test]
 fn repeats_a_booking(rt: HostRuntime) {
@@ -39,7 +39,7 @@ static VERIFIES: [Step; 6] = [
     Step::Asks(NOON, STRANGER, ACCOUNT, NOT_VERIFIED),
     Step::Asks(NOON, Shown::Changed, ACCOUNT, NOT_VERIFIED),
     Step::Asks(NOON, Shown::Unnamed, ACCOUNT, NOT_VERIFIED),
-    Step::Orders(Order::RevokeKey("amy-1")),
+    Step::Gives(PlainCommand::RevokeKey("amy-1")),
     Step::Asks(NOON, AMY, ACCOUNT, KEY_REVOKED),
     Step::Asks(NOON, Shown::Changed, ACCOUNT, NOT_VERIFIED),
 ];
@@ -65,15 +65,15 @@ static BESIDE_BOB: [Step; 4] = [
 ];
 
 static BEFORE_CY: [Step; 4] = [
-    Step::Orders(Order::AddMember("cy", 20)),
-    Step::Orders(Order::Credit("cy", 20_000)),
-    Step::Orders(Order::AddKey("cy-1", "cy", ROOT)),
-    Step::Orders(Order::AddKey("bob-2", "bob", ROOT)),
+    Step::Gives(PlainCommand::AddMember("cy", 20)),
+    Step::Gives(PlainCommand::Credit("cy", 20_000)),
+    Step::Gives(PlainCommand::AddKey("cy-1", "cy", ROOT)),
+    Step::Gives(PlainCommand::AddKey("bob-2", "bob", ROOT)),
 ];
 
 static BEHIND_CY: [Step; 2] = [
-    Step::Orders(Order::Credit("bob", 500)),
-    Step::Orders(Order::RevokeKey("bob-1")),
+    Step::Gives(PlainCommand::Credit("bob", 500)),
+    Step::Gives(PlainCommand::RevokeKey("bob-1")),
 ];
 
 /// Cy books `court-1` on a day at an hour, with a guest or none, under a number.
@@ -138,11 +138,11 @@ fn books_within_the_window(rt: HostRuntime) {
 const DI: Shown = Shown::Of("di-1", ROOT, &[]);
 
 static LIMITS: [Step; 9] = [
-    Step::Orders(Order::AddMember("cy", 1)),
-    Step::Orders(Order::Credit("cy", 100)),
-    Step::Orders(Order::AddKey("cy-1", "cy", ROOT)),
-    Step::Orders(Order::AddMember("di", 0)),
-    Step::Orders(Order::AddKey("di-1", "di", ROOT)),
+    Step::Gives(PlainCommand::AddMember("cy", 1)),
+    Step::Gives(PlainCommand::Credit("cy", 100)),
+    Step::Gives(PlainCommand::AddKey("cy-1", "cy", ROOT)),
+    Step::Gives(PlainCommand::AddMember("di", 0)),
+    Step::Gives(PlainCommand::AddKey("di-1", "di", ROOT)),
     Step::Asks(NOON, AMY, BOOK_7, BOOKED_7),
     Step::Asks(NOON, BOB, BOOK_2_FOR_TWO, NO_PLACES),
     Step::Asks(NOON, CY, BOOK_1, BALANCE_TOO_LOW),
@@ -154,7 +154,7 @@ fn minds_places_points_and_quota(rt: HostRuntime) {
     plays_in_all_forms(&rt, &LIMITS);
 }
 
-const CLOSE: Order = Order::CloseSlot(COURT_AT_18);
+const CLOSE: PlainCommand = PlainCommand::CloseSlot(COURT_AT_18);
 
 static CLOSES: [Step; 7] = [
     Step::Asks(NOON, AMY, BOOK_7, BOOKED_7),
@@ -200,7 +200,7 @@ fn expect_sheet<S: ClubStore>(rt: &impl Abort, desk: &mut Desk<S>, day: u16, wan
     expect_eq(rt, &sheet.as_str(), &want);
 }
 
-/// The sheets behind the filled slot.
+/// The sheets after the filled slot.
 struct Sheets;
 
 impl Scene for Sheets {

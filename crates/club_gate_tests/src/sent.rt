@@ -7,11 +7,11 @@ use std::alloc::Global;
 use std::process::Abort;
 use test_kit::drawn::{Asking, Event};
 
-/// The text of the pass of an event; an order has none.
+/// The text of the pass of an event; a command has none.
 fn text_of(rt: &(impl Abort + Alloc<A = Global>), event: &Event) -> String {
     match event {
         Event::Asked(asking) => text_of_asking(rt, asking),
-        Event::Ordered(_) => String::new(rt.alloc()),
+        Event::Commanded(_) => String::new(rt.alloc()),
     }
 }
 
@@ -38,7 +38,7 @@ fn asked_event<'a>(rt: &impl Abort, asking: &Asking, text: &'a str) -> SentEvent
 fn sent_event<'a>(rt: &impl Abort, event: &Event, text: &'a str) -> SentEvent<'a> {
     match event {
         Event::Asked(asking) => asked_event(rt, asking, text),
-        Event::Ordered(order) => SentEvent::Ordered(order.command().expect(rt, "an order")),
+        Event::Commanded(plain) => SentEvent::Commanded(plain.command().expect(rt, "a command")),
     }
 }
 

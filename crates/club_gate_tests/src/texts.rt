@@ -16,11 +16,11 @@ use test_kit::minutes::NOON;
 use test_kit::passes::{AMY_1_SIGNATURE, AMY_V2};
 use test_kit::requests::ACCOUNT;
 use test_kit::roots::ROOT;
-use test_kit::{Order, PlainReply};
+use test_kit::{PlainCommand, PlainReply};
 
 static ADDS_A_KEY: [Step; 2] = [
-    Step::Orders(Order::AddMember("amy", 5)),
-    Step::IsAnswered(Order::AddKey("amy-1", "amy", ROOT), SIGNED),
+    Step::Gives(PlainCommand::AddMember("amy", 5)),
+    Step::IsAnswered(PlainCommand::AddKey("amy-1", "amy", ROOT), SIGNED),
 ];
 
 /// The pass of the key in V2 is this text.
@@ -102,7 +102,7 @@ const ONE_MORE: &str = "A";
 // Enough caveats for a text of more than 8,192 characters.
 const FAR_TOO_MANY: u32 = 2_049;
 
-/// How many caveats, third party's caveats and bytes behind the end a text has, and its refusal.
+/// How many caveats, third party's caveats and bytes after the end a text has, and its refusal.
 ///
 /// 64 caveats are read, and then the signature is wrong. What is too long comes first, then what
 /// is spelled wrongly, then a third party's caveat, then too many of them.
@@ -135,7 +135,7 @@ fn add(rt: &impl Abort, text: &mut String, piece: &str, count: u32) {
     }
 }
 
-/// The text of these pieces with so many caveats, third party's caveats and bytes behind the end.
+/// The text of these pieces with so many caveats, third party's caveats and bytes after the end.
 fn text_of_pieces(
     rt: &(impl Abort + Alloc<A = Global>),
     pieces: &Pieces,

@@ -14,7 +14,7 @@ use pass_forms::Form;
 use std::alloc::Global;
 use std::process::Abort;
 use test_kit::drawn::{AMY, AUDIT_AMY, AUDITORS, Asking, BEGINNING, Event, SLOTS, audit};
-use test_kit::{Order, PlainRequest, PlainSlot};
+use test_kit::{PlainCommand, PlainRequest, PlainSlot};
 
 // No member, so that others hold all of a slot.
 const NOBODY: &str = "nobody";
@@ -113,7 +113,7 @@ fn slot_lines(rt: &(impl Abort + Alloc<A = Global>), reply: &Reply) -> Option<St
     Some(text)
 }
 
-/// The lines of a reply; `None` where it shows nothing.
+/// The lines of a reply; `None` if it shows nothing.
 fn lines_of(rt: &(impl Abort + Alloc<A = Global>), reply: &Reply) -> Option<String> {
     match reply {
         Reply::SlotShown { .. } => slot_lines(rt, reply),
@@ -121,7 +121,7 @@ fn lines_of(rt: &(impl Abort + Alloc<A = Global>), reply: &Reply) -> Option<Stri
     }
 }
 
-/// The text of a look, or why it is refused.
+/// The text that is shown, or why there is none.
 fn text_of(shown: &Result<String, Fault>) -> Result<&str, Fault> {
     match shown {
         Ok(text) => Ok(text.as_str()),
@@ -129,7 +129,7 @@ fn text_of(shown: &Result<String, Fault>) -> Result<&str, Fault> {
     }
 }
 
-/// A look shows what a reply says; nothing where that refuses.
+/// What is shown is what a reply says; nothing if that refuses.
 fn expect_shown(
     rt: &(impl Abort + Alloc<A = Global>),
     shown: &Result<String, Fault>,
@@ -152,8 +152,8 @@ impl<S: ClubStore> Trial<S> {
     /// The club that each list begins with, from the desk of an empty one.
     pub fn begin(rt: &(impl Abort + Alloc<A = Global>), desk: Desk<S>) -> Trial<S> {
         let mut trial = Trial::of(rt, desk);
-        for order in &BEGINNING {
-            trial.order(rt, order);
+        for plain in &BEGINNING {
+            trial.give(rt, plain);
         }
         trial
     }
@@ -189,36 +189,39 @@ impl<S: ClubStore> Trial<S> {
         false
     }
 
-    /// Whether a successful order is amy's own.
-    fn is_own(&self, order: &Order) -> bool {
-        match *order {
-            Order::AddMember(member, _) | Order::Credit(member, _) | Order::AddKey(_, member, _) =>
-                member == AMY,
-            Order::AddFacility(..) => true,
-            Order::RevokeKey(key) | Order::RotateKey(key, _, _) => self.is_own_key(key),
-            Order::CloseSlot(_) => false,
+    /// Whether a successful command is amy's own.
+    fn is_own(&self, plain: &PlainCommand) -> bool {
+        match *plain {
+            PlainCommand::AddMember(member, _)
+            | PlainCommand::Credit(member, _)
+            | PlainCommand::AddKey(_, member, _) => member == AMY,
+            PlainCommand::AddFacility(..) => true,
+            PlainCommand::RevokeKey(key) | PlainCommand::RotateKey(key, _, _) => self.is_own_key(
+                key,
+            ),
+            PlainCommand::CloseSlot(_) => false,
         }
     }
 
-    /// Gives amy's part an order of her own: its answer is the reference machine's.
-    fn order_part(&mut self, rt: &impl Abort, order: &Order, answer: &OfficeAnswer) {
+    /// Gives amy's part a command of her own: its answer is the reference machine's.
+    fn give_part(&mut self, rt: &impl Abort, plain: &PlainCommand, answer: &OfficeAnswer) {
         let own = self
             .part
-            .office(&order.command().expect(rt, "an order"))
+            .office(&plain.command().expect(rt, "a command"))
             .expect(rt, "memory");
         expect_eq(rt, &own, answer);
-        if let Order::AddKey(key, _, _) = *order {
+        if let PlainCommand::AddKey(key, _, _) = *plain {
             push(rt, &mut self.own_keys, key);
         }
     }
 
-    /// Gives an order to the desk and the reference machine, and to amy's part if it is her own.
-    fn order(&mut self, rt: &impl Abort, order: &Order) {
-        let command = order.command().expect(rt, "an order");
+    /// Gives a command to the desk and the reference machine, and to amy's part if it is her own.
+    fn give(&mut self, rt: &impl Abort, plain: &PlainCommand) {
+        let command = plain.command().expect(rt, "a command");
         let answer = self.reference.office(&command).expect(rt, "memory");
         expect_eq(rt, &self.desk.office(&command), &desk_reply(&answer));
-        if is_done(&answer) && self.is_own(order) {
-            self.order_part(rt, order, &answer);
+        if is_done(&answer) && self.is_own(plain) {
+            self.give_part(rt, plain, &answer);
         }
     }
 
@@ -252,7 +255,7 @@ impl<S: ClubStore> Trial<S> {
     pub fn play(&mut self, rt: &(impl Abort + Alloc<A = Global>), event: &Event) {
         match event {
             Event::Asked(asking) => self.ask(rt, asking),
-            Event::Ordered(order) => self.order(rt, order),
+            Event::Commanded(plain) => self.give(rt, plain),
         }
     }
 
@@ -264,7 +267,7 @@ impl<S: ClubStore> Trial<S> {
     }
 
     /// Compares what the desk shows of an auditor's account with the reference machine's reply.
-    fn look_at_account(&mut self, rt: &(impl Abort + Alloc<A = Global>), key: &'static str) {
+    fn show_account(&mut self, rt: &(impl Abort + Alloc<A = Global>), key: &'static str) {
         let asking = audit(key);
         let want = reference_reply(rt, &mut self.reference, &asking);
         let moment = at(rt, asking.moment);
@@ -273,7 +276,7 @@ impl<S: ClubStore> Trial<S> {
     }
 
     /// The same of a slot, with the reply to an auditor.
-    fn look_at_slot(&mut self, rt: &(impl Abort + Alloc<A = Global>), slot: PlainSlot) {
+    fn show_slot(&mut self, rt: &(impl Abort + Alloc<A = Global>), slot: PlainSlot) {
         let asking = Asking {
             asked: PlainRequest::View(slot),
             ..audit(AUDIT_AMY)
@@ -285,12 +288,12 @@ impl<S: ClubStore> Trial<S> {
 
     /// Compares what the desk shows of the auditors' accounts and of the slots with the plain
     /// machine's replies to the auditors.
-    pub fn look(&mut self, rt: &(impl Abort + Alloc<A = Global>)) {
+    pub fn show(&mut self, rt: &(impl Abort + Alloc<A = Global>)) {
         for key in &AUDITORS {
-            self.look_at_account(rt, key);
+            self.show_account(rt, key);
         }
         for slot in &SLOTS {
-            self.look_at_slot(rt, *slot);
+            self.show_slot(rt, *slot);
         }
     }
 

@@ -8,7 +8,7 @@ use http_request::{HeadScan, Routes, words_by_scan, words_of};
 use std::process::Abort;
 use test_kit::{COURT_AT_18, PlainRequest};
 
-/// What a request asks for, of `court-1` on 2026-05-01 at 18 where it is of a slot, or why it is
+/// What a request asks for, of `court-1` on 2026-05-01 at 18 if it is of a slot, or why it is
 /// refused.
 pub(crate) enum Want {
     View,

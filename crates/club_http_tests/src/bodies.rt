@@ -56,7 +56,7 @@ fn in_two_pieces(rt: HostRuntime) {
     }
 }
 
-/// So many bytes behind a booking.
+/// So many bytes after a booking.
 static BEHIND: [usize; 3] = [1, 1_000, 100_000];
 
 fn is_booked_with(rt: &(impl Abort + AllocGlobal), behind: usize) {

@@ -9,7 +9,7 @@ use test_kit::PlainReply;
 
 static UNTOUCHED: [u8; MAX_REPLY_LEN] = [b'x'; MAX_REPLY_LEN];
 
-/// The room holds the text, and behind it what it held before.
+/// The room holds the text, and after it what it held before.
 fn writes(rt: &impl Abort, reply: &Reply, text: &str) {
     let mut room = UNTOUCHED;
     let len = reply_bytes(reply, &mut room);

@@ -15,7 +15,7 @@ pub(crate) fn expect_row<T: PartialEq + Debug>(
     assert_eq!(rt; returned, want, "{row:?}");
 }
 
-/// The pieces, one behind the other.
+/// The pieces, one after the other.
 pub(crate) fn join(rt: &(impl Abort + AllocGlobal), pieces: &[Piece]) -> String {
     test_kit::join(rt.alloc(), pieces).expect(rt, "memory")
 }

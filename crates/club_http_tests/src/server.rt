@@ -73,14 +73,14 @@ fn serves<L: Arrivals, M: Moments>(
     (outcome, desk.asked)
 }
 
-/// Failing clients, refused requests, and orders of the office between them.
+/// Failing clients, refused requests, and commands of the office between them.
 static FAILING: [Wire<'static>; 10] = [
     Wire::Whole(REQUEST),
-    Wire::Order(b"an order"),
+    Wire::Command(b"an order"),
     Wire::Absent,
     Wire::Broken,
     Wire::Cut,
-    Wire::Order(b"another order"),
+    Wire::Command(b"another order"),
     Wire::Whole(b"x"),
     Wire::Deaf(REQUEST),
     Wire::Whole(REQUEST),
@@ -88,7 +88,7 @@ static FAILING: [Wire<'static>; 10] = [
 ];
 
 /// How many of these clients are served, how often is waited for one, and how many of them reach
-/// the desk, of the orders too. Orders don't count, and the one before the last client that is
+/// the desk, of the commands too. Commands don't count, and the one before the last client that is
 /// served is the last.
 type Count = (u32, u64, u64, u64);
 
@@ -102,16 +102,19 @@ static COUNTS: [Count; 7] = [
     (6, 9, 3, 2),
 ];
 
-fn serves_so_many(rt: &(impl Abort + Alloc<A = Global>), (count, waited, asked, ordered): &Count) {
+fn serves_so_many(
+    rt: &(impl Abort + Alloc<A = Global>),
+    (count, waited, asked, commanded): &Count,
+) {
     let mut arrivals = Script::new(&FAILING);
     let mut desk = Noting::new(rt.alloc(), moment(rt, NOON));
     let served = serves_with(rt, &mut arrivals, *count, &mut noon(rt), &mut desk);
-    let returned = (served, arrivals.waited, desk.asked, desk.ordered);
-    expect_row(rt, &returned, &(Ok(()), *waited, *asked, *ordered), count);
+    let returned = (served, arrivals.waited, desk.asked, desk.commanded);
+    expect_row(rt, &returned, &(Ok(()), *waited, *asked, *commanded), count);
 }
 
-// Failing clients count, and the server goes on after a refused request. Each order is carried out
-// once, with its own bytes; one that doesn't come whole isn't.
+// Failing clients count, and the server goes on after a refused request. Each command is carried
+// out once, with its own bytes; one that doesn't come whole isn't.
 #[test]
 fn serves_as_many_as_asked(rt: HostRuntime) {
     for row in &COUNTS {
@@ -136,7 +139,7 @@ fn client_at<'a, C: Clock>(
 ) -> Option<Accepted<'a, ClientSocket<'a, C>, C>> {
     match Listening::new(listener, None, clock, patience).next() {
         Arrival::Client(client) => Some(client),
-        Arrival::Order(_) | Arrival::Nobody => None,
+        Arrival::Command(_) | Arrival::Nobody => None,
     }
 }
 

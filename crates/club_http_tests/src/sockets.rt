@@ -43,7 +43,7 @@ pub(crate) fn expect_reply(
     expect_bytes(rt, &returned, want, "a request over a socket");
 }
 
-/// Ends the test where the connection was reset: a client whose server closed it may still send.
+/// Ends the test if the connection was reset: a client whose server closed it may still send.
 pub(crate) fn expect_no_reset(rt: &impl Abort, client: &mut TcpStream) {
     client
         .write_all(b"x")

@@ -11,16 +11,16 @@ use Rattle.club_core.specs.Club.{Club, IsSound, key_named}
 use Rattle.club_core.specs.Events.{IsEvent}
 use Rattle.club_core.specs.Office.{office_verdict}
 use Rattle.club_core.specs.Pass.{Words}
-use Rattle.club_core.specs.Run.{Event, Asked, Ordered}
+use Rattle.club_core.specs.Run.{Event, Asked, Commanded}
 use Rattle.club_core.specs.Store.{FitsClub, IsTrueOf, IsToCancel}
 use Rattle.club_laws.specs.SoundRuns.{IsChangeBy}
 use Rattle.club_laws.proofs.AnswerCases.{answer_cases}
 use Rattle.club_laws.proofs.FittingAnswers.{fits_answer}
 use Rattle.club_laws.proofs.FittingChanges.{FitsIfAny}
-use Rattle.club_laws.proofs.FittingOffice.{FitsIfOk, fits_order}
+use Rattle.club_laws.proofs.FittingOffice.{FitsIfOk, fits_command}
 use Rattle.club_laws.proofs.FoundRows.{found_passes}
 use Rattle.club_laws.proofs.NamedRows.{is_numbered, numbered, found_by_own}
-use Rattle.club_laws.proofs.OrderCases.{OrderRestsOn, change_of, order_cases}
+use Rattle.club_laws.proofs.CommandCases.{CommandRestsOn, change_of, command_cases}
 use Rattle.club_laws.proofs.SoundSteps.{sound_after}
 
 abbrev IsTrueIfAny : Club → Option Change → Type 0
@@ -44,10 +44,10 @@ true_answer club words moment =
           (found, (key, subst (λ (n : List ℕ). key_named n club ≡ Some key) (sym named.0) k.known, refl));
     })
 
-true_order : (club : Club) (command : Command) → IsTrueIfOk club (office_verdict club command)
-true_order club command = order_cases (IsTrueIfOk club) club (λ fault. tt) command (done command)
+true_command : (club : Club) (command : Command) → IsTrueIfOk club (office_verdict club command)
+true_command club command = command_cases (IsTrueIfOk club) club (λ fault. tt) command (done command)
   where
-    done : (c : Command) (r : OrderRestsOn club c) → IsTrueIfOk club (Ok (change_of club c r))
+    done : (c : Command) (r : CommandRestsOn club c) → IsTrueIfOk club (Ok (change_of club c r))
     done (Credit name points) r = (r.0, r.1)
     done (AddKey name member root) r = refl
     done (RevokeKey name) r = (r.0, r.1)
@@ -59,7 +59,7 @@ fits_event club (Asked words moment) change s e is = record {
   carries = subst (IsTrueIfAny club) is (true_answer club words moment);
   sound = sound_after club change s (subst (FitsIfAny club) is (fits_answer club words moment s e));
 }
-fits_event club (Ordered command) change s e is = record {
-  carries = subst (IsTrueIfOk club) is (true_order club command);
-  sound = sound_after club change s (subst (FitsIfOk club) is (fits_order club command s e));
+fits_event club (Commanded command) change s e is = record {
+  carries = subst (IsTrueIfOk club) is (true_command club command);
+  sound = sound_after club change s (subst (FitsIfOk club) is (fits_command club command s e));
 }

@@ -6,7 +6,7 @@ use Rattle.club_core.specs.declared.command.OfficeFault.{OfficeFault}
 use Rattle.club_core.specs.Club.{Club}
 use Rattle.club_core.specs.declared.command.OfficeAnswer.{OfficeAnswer}
 use Rattle.club_core.specs.declared.command.OfficeAnswer.TheVariants.{NotDone}
-use Rattle.club_core.specs.Run.{Event, Asked, Ordered, done_answer, step, replies_of, club_after, Response}
+use Rattle.club_core.specs.Run.{Event, Asked, Commanded, done_answer, step, replies_of, club_after, Response}
 use Rattle.club_core.specs.Events.{IsEvent}
 use Rattle.club_laws.specs.Failed.{Presentation, present_reply, has_failed, IsRun, IsRunOfAnswered, AreRuns, answered_events, answers}
 use Rattle.club_laws.proofs.MachineAnswers.{answers_requests}
@@ -59,7 +59,7 @@ module _ {O : Type 0} (presentation : Presentation O) where
   not_failed : ((answer : OfficeAnswer) → presentation.is_fault (presentation.shown answer) ≡ false) → (club : Club) (event : Event)
       → has_failed presentation event (present_reply presentation (step club event).reply) ≡ false
   not_failed faultless club (Asked words moment) = answers_requests club words moment
-  not_failed faultless club (Ordered command) =
+  not_failed faultless club (Commanded command) =
       let refused = λ (fault : OfficeFault). faultless (NotDone fault) in
       let done = faultless (done_answer command) in
       grind arith

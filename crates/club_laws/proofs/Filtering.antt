@@ -15,7 +15,7 @@ pub filter_fixed : {X : Type 0} (p : X → Bool) (f : X → X) → ((x : X) → 
 filter_fixed p f fixed [] = refl
 filter_fixed p f fixed (x ∷ xs) = grind (arith, fixed x, filter_fixed p f fixed xs)
 
--- a map that changes nothing that fails, where all fail
+-- a map that changes nothing that fails, if all fail
 pub fixed_where_none : {X : Type 0} (q : X → Bool) (f : X → X) → ((x : X) → q x ≡ false → f x ≡ x) → (xs : List X) → list_any q xs ≡ false → map f xs ≡ xs
 fixed_where_none q f fixed [] e = refl
 fixed_where_none q f fixed (x ∷ xs) e = grind (arith, fixed x, fixed_where_none q f fixed xs)

@@ -1,4 +1,4 @@
--- The changes that orders of the office make fit a sound club.
+-- The changes that commands of the office make fit a sound club.
 use Rattle.std.proofs.Common.{◌≡◌, ◌≢◌, ◌+◌, ◌≤◌, true, false, Ok, Err, arith}
 use Rattle.std.proofs.lemmas.Bool.Decides.{nat_tests}
 use Rattle.std.specs.Prelude.{Result}
@@ -18,14 +18,14 @@ use Rattle.club_core.specs.Office.{office_verdict}
 use Rattle.club_core.specs.Events.{IsCommand}
 use Rattle.club_laws.proofs.FoundRows.{All-each}
 use Rattle.club_laws.proofs.NamedRows.{none_named, named_there, only_named, none_passes, same_slots}
-use Rattle.club_laws.proofs.OrderCases.{OrderRestsOn, change_of, order_cases}
+use Rattle.club_laws.proofs.CommandCases.{CommandRestsOn, change_of, command_cases}
 use Rattle.club_laws.proofs.FittingChanges.{Fits}
 
 abbrev pub FitsIfOk : Club → Result Change OfficeFault → Type 0
 FitsIfOk club (Err fault) = Unit {0}
 FitsIfOk club (Ok change) = Fits club change
 
-fits : (club : Club) → IsSound club → (command : Command) → IsCommand command → (r : OrderRestsOn club command) → Fits club (change_of club command r)
+fits : (club : Club) → IsSound club → (command : Command) → IsCommand command → (r : CommandRestsOn club command) → Fits club (change_of club command r)
 fits club s (AddMember name quota) c r = record {
   row = record { name = c; credited = omega arith; quota = r.0 };
   fresh = none_named (λ (m : Member). m.name) name club.members r.1;
@@ -55,5 +55,5 @@ fits club s (CloseSlot slot) c r = record {
   located = named_there (λ (f : Facility). f.name) slot.facility club.facilities r.0 r.1;
 }
 
-pub fits_order : (club : Club) (command : Command) → IsSound club → IsCommand command → FitsIfOk club (office_verdict club command)
-fits_order club command s c = order_cases (FitsIfOk club) club (λ fault. tt) command (fits club s command c)
+pub fits_command : (club : Club) (command : Command) → IsSound club → IsCommand command → FitsIfOk club (office_verdict club command)
+fits_command club command s c = command_cases (FitsIfOk club) club (λ fault. tt) command (fits club s command c)

@@ -11,7 +11,7 @@ use Rattle.club_core.specs.Club.{Club}
 use Rattle.club_core.specs.Basis.{Basis, basis_of}
 use Rattle.club_core.specs.Answer.{answer_by_basis}
 use Rattle.club_core.specs.Office.{office_verdict}
-use Rattle.club_core.specs.Run.{Event, Asked, Ordered, step, after_change, order_outcome}
+use Rattle.club_core.specs.Run.{Event, Asked, Commanded, step, after_change, command_outcome}
 use Rattle.club_core.specs.Solo.{own_change, own_part, part_of}
 use Rattle.club_laws.proofs.ChangedParts.{part_changed}
 use Rattle.club_laws.proofs.KnownKeys.{IsKeyed, keyed_after}
@@ -22,11 +22,11 @@ use Rattle.club_laws.proofs.NamedRows.{named_there}
 use Rattle.club_laws.proofs.FollowedAsks.{Follows, ask_follows}
 use Rattle.club_laws.proofs.OfficialChanges.{IsOfficial, official, own_of_part, official_fresh, official_known}
 
-order_follows : (name : List ℕ) (club : Club) (command : Command) (verdict : Result Change OfficeFault) → IsKeyed club → IsOfficial club verdict
-    → Follows (part_of name club) (own_change name club verdict) (order_outcome club command verdict).reply
-    (part_of name (order_outcome club command verdict).club)
-order_follows name club command (Err fault) keyed h = refl
-order_follows name club command (Ok change) keyed h =
+command_follows : (name : List ℕ) (club : Club) (command : Command) (verdict : Result Change OfficeFault) → IsKeyed club → IsOfficial club verdict
+    → Follows (part_of name club) (own_change name club verdict) (command_outcome club command verdict).reply
+    (part_of name (command_outcome club command verdict).club)
+command_follows name club command (Err fault) keyed h = refl
+command_follows name club command (Ok change) keyed h =
     let changed = part_changed name club change keyed.known (official_fresh club change h) in
     let own = own_of_part name club change h in
     grind arith
@@ -35,7 +35,7 @@ order_follows name club command (Ok change) keyed h =
 pub follows : (name : List ℕ) (club : Club) (event : Event) → IsKeyed club
     → Follows (part_of name club) (own_part name club event) (step club event).reply (part_of name (step club event).club)
 follows name club (Asked words moment) keyed = ask_follows name club words moment (basis_of club words) keyed refl
-follows name club (Ordered command) keyed = order_follows name club command (office_verdict club command) keyed (official club command)
+follows name club (Commanded command) keyed = command_follows name club command (office_verdict club command) keyed (official club command)
 
 -- key names stay unique and known
 keyed_under : (club : Club) (key : List ℕ) (change : Option Change) → Contains (map (λ (k : Key). k.name) club.keys) key → IsUnder key change → IsKeyed club
@@ -55,11 +55,11 @@ keyed_asked club words moment (Some basis) e keyed =
     (named_there (λ (k : Key). k.name) basis.key.name club.keys basis.key (known_rows club words basis e).known)
     (answer_changes_under club words moment basis e) keyed
 
-keyed_ordered : (club : Club) (command : Command) (verdict : Result Change OfficeFault) → IsOfficial club verdict → IsKeyed club
-    → IsKeyed (order_outcome club command verdict).club
-keyed_ordered club command (Err fault) h keyed = keyed
-keyed_ordered club command (Ok change) h keyed = keyed_after club change (official_fresh club change h) (official_known club change h) keyed
+keyed_commanded : (club : Club) (command : Command) (verdict : Result Change OfficeFault) → IsOfficial club verdict → IsKeyed club
+    → IsKeyed (command_outcome club command verdict).club
+keyed_commanded club command (Err fault) h keyed = keyed
+keyed_commanded club command (Ok change) h keyed = keyed_after club change (official_fresh club change h) (official_known club change h) keyed
 
 pub keyed_step : (club : Club) (event : Event) → IsKeyed club → IsKeyed (step club event).club
 keyed_step club (Asked words moment) keyed = keyed_asked club words moment (basis_of club words) refl keyed
-keyed_step club (Ordered command) keyed = keyed_ordered club command (office_verdict club command) (official club command) keyed
+keyed_step club (Commanded command) keyed = keyed_commanded club command (office_verdict club command) (official club command) keyed

@@ -46,7 +46,7 @@ AllPairs-map f R S step (x ∷ xs) h =
     AllPairs-cons S (f x) (map f xs) (All-map (S (f x)) f xs (All-weaker (R x) (λ y. S (f x) (f y)) (step x) xs (AllPairs-head R x xs h)))
     (AllPairs-map f R S step xs (AllPairs-tail R x xs h))
 
--- where no two elements pass, whatever passes is what is found
+-- if no two elements pass, whatever passes is what is found
 pub only_found : {X : Type 0} (R : X → X → Type 0) (p : X → Bool) → ((a b : X) → p a ≡ true → p b ≡ true → R a b → ⊥) → (xs : List X) (x : X) → AllPairs R xs
     → find p xs ≡ Some x → All (λ y. p y ≡ true → y ≡ x) xs
 only_found R p apart [] x h e = λ k d short. absurd (omega arith)
@@ -61,7 +61,7 @@ pub find-filter : {X : Type 0} (p q : X → Bool) (xs : List X) → ((x : X) →
 find-filter p q [] h = refl
 find-filter p q (y ∷ ys) h = grind (arith, find-filter p q ys h, h y)
 
--- and so it does where the one that it finds passes the other test
+-- and so it does if the one that it finds passes the other test
 pub find_filtered : {X : Type 0} (p q : X → Bool) (xs : List X) (x : X) → find p xs ≡ Some x → q x ≡ true → find p (filter q xs) ≡ Some x
 find_filtered p q [] x e h = absurd (cc)
 find_filtered p q (y ∷ ys) x e h = grind (arith, find_filtered p q ys x)
@@ -89,7 +89,7 @@ pub any-map : {X Y : Type 0} (f : X → Y) (p : Y → Bool) (xs : List X) → li
 any-map f p [] = refl
 any-map f p (x ∷ xs) = ap (λ b. p (f x) || b) (any-map f p xs)
 
--- what is found stays found behind more elements
+-- what is found stays found after more elements
 pub found_before : {X : Type 0} (p : X → Bool) (xs ys : List X) (x : X) → find p xs ≡ Some x → find p (xs ++ ys) ≡ Some x
 found_before p xs ys x e = find-append p xs ys ∙ rw e
 

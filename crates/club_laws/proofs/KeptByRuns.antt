@@ -7,7 +7,7 @@ use Rattle.club_core.specs.Club.{Club}
 use Rattle.club_core.specs.Answer.{verdict_in}
 use Rattle.club_core.specs.After.{after}
 use Rattle.club_core.specs.Office.{office_verdict}
-use Rattle.club_core.specs.Run.{Event, Asked, Ordered, step, after_change, order_outcome, replies_of, club_after, EventReply}
+use Rattle.club_core.specs.Run.{Event, Asked, Commanded, step, after_change, command_outcome, replies_of, club_after, EventReply}
 
 module _ (P : Club → Type 0) (kept : (club : Club) (change : Change) → P club → P (after change club)) where
   kept_by_change : (club : Club) (change : Option Change) → P club → P (after_change change club)
@@ -16,9 +16,9 @@ module _ (P : Club → Type 0) (kept : (club : Club) (change : Change) → P clu
 
   pub kept_by_step : (club : Club) (event : Event) → P club → P (step club event).club
   kept_by_step club (Asked words moment) h = kept_by_change club (verdict_in club words moment).change h
-  kept_by_step club (Ordered command) h = go (office_verdict club command)
+  kept_by_step club (Commanded command) h = go (office_verdict club command)
     where
-      go : (verdict : Result Change OfficeFault) → P (order_outcome club command verdict).club
+      go : (verdict : Result Change OfficeFault) → P (command_outcome club command verdict).club
       go (Err fault) = h
       go (Ok change) = kept club change h
 

@@ -66,7 +66,7 @@ bookings_of-edited root older is_revoked member club =
     (λ (booking : Booking). is_key_of member club booking.key) club.bookings
     (λ k d short. is_key_of-edited root older is_revoked member club (get_or club.bookings k d).key)
 
--- where names are unique, whoever's key it is, is the member that its row names
+-- if names are unique, whoever's key it is, is the member that its row names
 pub owner : (club : Club) → AllPairs (λ (a : Key) (b : Key). a.name ≢ b.name) club.keys → (key : Key) → key_named key.name club ≡ Some key → (name : List ℕ)
     → is_key_of name club key.name ≡ true → name ≡ key.member
 owner club unique key known name e =

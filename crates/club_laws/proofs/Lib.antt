@@ -16,7 +16,7 @@ pub mod RepeatAnswers
 pub mod FirstEntries
 pub mod ChargeMoves
 pub mod RefundMoves
-pub mod OrderCases
+pub mod CommandCases
 pub mod MemberAccounts
 pub mod PointRuns
 pub mod Filtering

@@ -7,7 +7,7 @@ use Rattle.club_core.specs.declared.verdict.Verdict.{Verdict}
 use Rattle.club_core.specs.Answer.{verdict_in}
 use Rattle.club_core.specs.Club.{Club}
 use Rattle.club_core.specs.Pass.{Words}
-use Rattle.club_core.specs.Run.{Event, Asked, Ordered, step, ToMember}
+use Rattle.club_core.specs.Run.{Event, Asked, Commanded, step, ToMember}
 use Rattle.club_laws.specs.Failed.{is_unavailable}
 use Rattle.club_laws.proofs.AnswerCases.{IsSilent, answer_cases}
 
@@ -26,4 +26,4 @@ answers_requests club words moment =
 
 pub never_unavailable : (club : Club) (event : Event) → (step club event).reply ≢ ToMember (Refused Unavailable)
 never_unavailable club (Asked words moment) e = let answers = answers_requests club words moment in grind arith
-never_unavailable club (Ordered command) e = grind arith
+never_unavailable club (Commanded command) e = grind arith

@@ -17,12 +17,12 @@ use Rattle.club_core.specs.Club.{Club, member_named, is_key_of}
 use Rattle.club_core.specs.Answer.{verdict_in}
 use Rattle.club_core.specs.After.{credited_member, revoked_key, rotated_key}
 use Rattle.club_core.specs.Office.{office_verdict}
-use Rattle.club_core.specs.Run.{Event, Asked, Ordered, step, after_change, order_outcome, replies_of, club_after}
+use Rattle.club_core.specs.Run.{Event, Asked, Commanded, step, after_change, command_outcome, replies_of, club_after}
 use Rattle.club_laws.specs.Points.{key_given, keys_given, credit_accepted, credits_accepted}
 use Rattle.club_laws.proofs.FoundRows.{bytes_same}
 use Rattle.club_laws.proofs.KeyOwners.{is_key_of-added, is_key_of-edited}
 use Rattle.club_laws.proofs.AnswerCases.{answer_cases}
-use Rattle.club_laws.proofs.OrderCases.{order_cases, OrderRestsOn, change_of}
+use Rattle.club_laws.proofs.CommandCases.{command_cases, CommandRestsOn, change_of}
 
 -- requests change only bookings
 pub record KeepsPeople (club new : Club) : Type 0 where
@@ -43,16 +43,16 @@ abbrev pub is_among : List (List ℕ) → List ℕ → Bool
 is_among keys key = list_any (λ (k : List ℕ). bytes_eq k key) keys
 
 module _ (member : List ℕ) where
-  -- after the order, the member's keys are those before and the one that was given
+  -- after the command, the member's keys are those before and the one that was given
   abbrev GivesKey : Club → List ℕ → Command → Result Change OfficeFault → Type 0
   GivesKey club key command verdict =
-      is_key_of member (order_outcome club command verdict).club key ≡ (is_key_of member club key
-      || is_among (key_given member (Ordered command) (order_outcome club command verdict).reply) key)
+      is_key_of member (command_outcome club command verdict).club key ≡ (is_key_of member club key
+      || is_among (key_given member (Commanded command) (command_outcome club command verdict).reply) key)
 
   gives_key : (club : Club) (key : List ℕ) (command : Command) → GivesKey club key command (office_verdict club command)
-  gives_key club key command = order_cases (GivesKey club key command) club (λ fault. grind arith) command (given command)
+  gives_key club key command = command_cases (GivesKey club key command) club (λ fault. grind arith) command (given command)
     where
-      given : (c : Command) (r : OrderRestsOn club c) → GivesKey club key c (Ok (change_of club c r))
+      given : (c : Command) (r : CommandRestsOn club c) → GivesKey club key c (Ok (change_of club c r))
       given (AddKey name owner root) r =
           let new : Key = record { name = name; member = owner; root = root; older = None; revoked = false } in
           grind (arith, is_key_of-added member club new key)
@@ -66,7 +66,7 @@ module _ (member : List ℕ) where
   keys_of_step : (club : Club) (key : List ℕ) (event : Event) → is_key_of member (step club event).club key
       ≡ (is_key_of member club key || is_among (key_given member event (step club event).reply) key)
   keys_of_step club key (Asked words moment) = let kept = (answer_keeps club words moment).keys in grind arith
-  keys_of_step club key (Ordered command) = gives_key club key command
+  keys_of_step club key (Commanded command) = gives_key club key command
 
   -- a member's keys after a run are those before and those that the run gave
   pub keys_of_run : (club : Club) (key : List ℕ) (events : List Event) → is_key_of member (club_after club events) key
@@ -78,7 +78,7 @@ module _ (member : List ℕ) where
       let later = keys_given member events (replies_of next.club events) in
       grind (arith, keys_of_run next.club key events, keys_of_step club key event, list_any-append (λ (k : List ℕ). bytes_eq k key) given later)
 
--- what a member was credited, and 0 where there is none
+-- what a member was credited, and 0 if there is none
 abbrev pub credit_of : Option Member → ℕ
 credit_of None = 0
 credit_of (Some member) = member.credited
@@ -97,13 +97,13 @@ credit_grown name other points (m ∷ members) known =
 module _ (name : List ℕ) where
   abbrev Credits : Club → Command → Result Change OfficeFault → Type 0
   Credits club command verdict =
-      credit_of (member_named name (order_outcome club command verdict).club) ≡ credit_of (member_named name club) + credit_accepted name (Ordered command)
-      (order_outcome club command verdict).reply
+      credit_of (member_named name (command_outcome club command verdict).club) ≡ credit_of (member_named name club) + credit_accepted name (Commanded command)
+      (command_outcome club command verdict).reply
 
   credits : (club : Club) (command : Command) → Credits club command (office_verdict club command)
-  credits club command = order_cases (Credits club command) club (λ fault. grind arith) command (credited command)
+  credits club command = command_cases (Credits club command) club (λ fault. grind arith) command (credited command)
     where
-      credited : (c : Command) (r : OrderRestsOn club c) → Credits club c (Ok (change_of club c r))
+      credited : (c : Command) (r : CommandRestsOn club c) → Credits club c (Ok (change_of club c r))
       credited (AddMember other quota) r =
           let new : Member = record { name = other; credited = 0; quota = quota } in
           grind (arith, find-append (λ (m : Member). bytes_eq m.name name) club.members (new ∷ []))
@@ -115,7 +115,7 @@ module _ (name : List ℕ) where
   credit_of_step : (club : Club) (event : Event) → credit_of (member_named name (step club event).club)
       ≡ credit_of (member_named name club) + credit_accepted name event (step club event).reply
   credit_of_step club (Asked words moment) = let kept = (answer_keeps club words moment).members in grind arith
-  credit_of_step club (Ordered command) = credits club command
+  credit_of_step club (Commanded command) = credits club command
 
   -- a member's credit after a run is that before and what the run credited
   pub credit_of_run : (club : Club) (events : List Event) → credit_of (member_named name (club_after club events))

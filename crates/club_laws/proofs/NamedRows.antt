@@ -45,7 +45,7 @@ pub still_all : {X Y : Type 0} (name : X → List ℕ) (rows new : List X) (refe
 still_all name rows new refers ys still h =
     All-each (λ y. Contains (map name rows) (refers y)) (λ y. Contains (map name new) (refers y)) ys (λ y. still (refers y)) h
 
--- where names are unique, the one found is the only one of its name
+-- if names are unique, the one found is the only one of its name
 pub only_named : {X : Type 0} (name : X → List ℕ) (n : List ℕ) (xs : List X) (x : X) → AllPairs (λ a b. name a ≢ name b) xs
     → find (λ y. bytes_eq (name y) n) xs ≡ Some x → All (λ y. bytes_eq (name y) n ≡ true → y ≡ x) xs
 only_named name n xs x unique e =

@@ -11,7 +11,7 @@ use Rattle.club_laws.specs.Frame.{is_of_part}
 use Rattle.club_core.specs.Solo.{is_own}
 use Rattle.club_laws.proofs.ChangedParts.{IsFresh}
 use Rattle.club_laws.proofs.KnownKeys.{IsKnown}
-use Rattle.club_laws.proofs.OrderCases.{OrderRestsOn, change_of, order_cases}
+use Rattle.club_laws.proofs.CommandCases.{CommandRestsOn, change_of, command_cases}
 
 -- no booking and no cancellation, and a new key has a new name
 abbrev pub IsOfficial : Club → Result Change OfficeFault → Type 0
@@ -22,9 +22,9 @@ IsOfficial club (Ok (MarkCancelled booking member refund)) = ⊥
 IsOfficial club (Ok change) = Unit {0}
 
 pub official : (club : Club) (command : Command) → IsOfficial club (office_verdict club command)
-official club command = order_cases (IsOfficial club) club (λ fault. tt) command (done command)
+official club command = command_cases (IsOfficial club) club (λ fault. tt) command (done command)
   where
-    done : (c : Command) (r : OrderRestsOn club c) → IsOfficial club (Ok (change_of club c r))
+    done : (c : Command) (r : CommandRestsOn club c) → IsOfficial club (Ok (change_of club c r))
     done (AddKey name member root) r = r.2
     done c r = tt
 

@@ -18,14 +18,14 @@ use Rattle.club_core.specs.declared.command.OfficeFault.{OfficeFault}
 use Rattle.club_rows.specs.Rows.{IsBooking}
 use Rattle.club_core.specs.Club.{Club, empty_club, member_named, facility_named, is_key_of, bookings_of, IsSound}
 use Rattle.club_core.specs.Sums.{cost_of, taken_in}
-use Rattle.club_core.specs.Run.{Event, Asked, Ordered, step, order_outcome, replies_of, club_after, EventReply, Outcome, ToOffice, done_answer}
+use Rattle.club_core.specs.Run.{Event, Asked, Commanded, step, command_outcome, replies_of, club_after, EventReply, Outcome, ToOffice, done_answer}
 use Rattle.club_core.specs.Events.{IsEvent}
 use Rattle.club_laws.specs.Points.{Entry, charge_of_reply, charges_of_replies, refund_of_reply, refunds_of_replies, keys_given, credits_accepted, total_under}
 use Rattle.club_laws.specs.Points.{firsts}
 use Rattle.club_laws.specs.Conservation.{IsConserved}
 use Rattle.club_laws.proofs.FoundRows.{at_found}
 use Rattle.club_laws.proofs.NamedRows.{named, none_named}
-use Rattle.club_laws.proofs.OrderCases.{OrderRestsOn, change_of, order_cases}
+use Rattle.club_laws.proofs.CommandCases.{CommandRestsOn, change_of, command_cases}
 use Rattle.club_laws.proofs.SoundOffice.{nobody_in}
 use Rattle.club_laws.proofs.SoundSteps.{sound_step, sound_run}
 use Rattle.club_laws.proofs.FirstEntries.{Seen, Stays, unseen_total, counts, points_of, moved, Moves}
@@ -38,18 +38,18 @@ abbrev MovesTo : (List ℕ → Bool) → (List Booking → ℕ) → (List Bookin
 MovesTo p total seen entries_of club next =
     Moves p (total club.bookings) (total next.club.bookings) (seen club.bookings) (seen next.club.bookings) (entries_of next.reply)
 
--- answers to the office have no entry, and orders don't change the bookings: so a total that requests move grows over a run by the first entry of each
--- booking that was not on record
+-- answers to the office have no entry, and commands don't change the bookings: so a total that requests move grows over a run by the first entry of
+-- each booking that was not on record
 module _ (p : List ℕ → Bool) (total : List Booking → ℕ) (seen : List Booking → Seen) (entries_of : EventReply → List Entry)
     (no_entry : (answer : OfficeAnswer) → entries_of (ToOffice answer) ≡ []) (asked : (club : Club) (words : Words) (moment : ℕ) → IsSound club
     → MovesTo p total seen entries_of club (step club (Asked words moment))) where
   step_moves : (club : Club) (event : Event) → IsSound club → MovesTo p total seen entries_of club (step club event)
   step_moves club (Asked words moment) s = asked club words moment s
-  step_moves club (Ordered command) s =
-      order_cases (λ (v : Result Change OfficeFault). MovesTo p total seen entries_of club (order_outcome club command v)) club
+  step_moves club (Commanded command) s =
+      command_cases (λ (v : Result Change OfficeFault). MovesTo p total seen entries_of club (command_outcome club command v)) club
       (λ fault. Stays (no_entry (NotDone fault)) refl (λ key number. refl)) command (done command)
     where
-      done : (c : Command) (r : OrderRestsOn club c) → MovesTo p total seen entries_of club (order_outcome club c (Ok (change_of club c r)))
+      done : (c : Command) (r : CommandRestsOn club c) → MovesTo p total seen entries_of club (command_outcome club c (Ok (change_of club c r)))
       done c r =
           let kept : (after (change_of club c r) club).bookings ≡ club.bookings = grind arith in
           Stays (no_entry (done_answer c)) (ap total kept) (λ key number. rw kept)
@@ -63,7 +63,7 @@ module _ (p : List ℕ → Bool) (total : List Booking → ℕ) (seen : List Boo
       (flat_map entries_of (replies_of next.club events)) (total (club_after next.club events).bookings) (step_moves club event s)
       (run_moves next.club events (sound_step club event s (All-head IsEvent event events h)) (All-tail IsEvent event events h))
 
--- where nothing is on record, all first entries count
+-- if nothing is on record, all first entries count
 all_count : (keys : List (List ℕ)) (seen : Seen) (entries : List Entry) → ((key : List ℕ) (number : ℕ) → seen key number ≡ false)
     → unseen_total (is_among keys) seen entries ≡ total_under keys entries
 all_count keys seen entries none =

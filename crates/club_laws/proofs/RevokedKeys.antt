@@ -16,12 +16,12 @@ use Rattle.club_core.specs.Basis.{key_of, basis_of}
 use Rattle.club_core.specs.Club.{Club, key_named}
 use Rattle.club_core.specs.After.{after, revoked_key, rotated_key}
 use Rattle.club_core.specs.declared.command.OfficeAnswer.TheVariants.{Done}
-use Rattle.club_core.specs.Run.{Event, Ordered, step, order_outcome, club_after, ToOffice}
+use Rattle.club_core.specs.Run.{Event, Commanded, step, command_outcome, club_after, ToOffice}
 use Rattle.club_core.specs.Acceptance.{IsServed}
 use Rattle.club_core.specs.Answer.{verdict_in}
 use Rattle.club_laws.specs.Revoked.{WasRevoked}
 use Rattle.club_laws.proofs.FoundRows.{found_before, found_edited, found_passes}
-use Rattle.club_laws.proofs.OrderCases.{order_cases}
+use Rattle.club_laws.proofs.CommandCases.{command_cases}
 use Rattle.club_laws.proofs.KeptByRuns.{kept_by_run, club_after-append}
 use Rattle.club_laws.proofs.ServedPasses.{served_entitled}
 
@@ -48,12 +48,12 @@ stays_revoked name club (ReplaceRoot other former root until) h =
 stays_revoked name club change h = record { key = h.key; row = h.row; revoked = h.revoked }
 
 -- the office revokes only known keys
-now_revoked : (club : Club) (name : List ℕ) → (step club (Ordered (RevokeKey name))).reply ≡ ToOffice Done
-    → IsRevoked name (step club (Ordered (RevokeKey name))).club
+now_revoked : (club : Club) (name : List ℕ) → (step club (Commanded (RevokeKey name))).reply ≡ ToOffice Done
+    → IsRevoked name (step club (Commanded (RevokeKey name))).club
 now_revoked club name =
-    let order = RevokeKey name in
-    order_cases (λ (v : Result Change OfficeFault). (order_outcome club order v).reply ≡ ToOffice Done
-    → IsRevoked name (order_outcome club order v).club) club (λ fault returned. absurd (cc)) order
+    let command = RevokeKey name in
+    command_cases (λ (v : Result Change OfficeFault). (command_outcome club command v).reply ≡ ToOffice Done
+    → IsRevoked name (command_outcome club command v).club) club (λ fault returned. absurd (cc)) command
     (λ r returned. record {
       key = revoked_key name r.0;
       row = found_edited (revoked_key name) (λ (k : Key). bytes_eq k.name name) (λ k. refl) club.keys r.0 r.1;
@@ -64,9 +64,9 @@ now_revoked club name =
 revoked_since : (club : Club) (history : List Event) (name : List ℕ) → WasRevoked club history name → IsRevoked name (club_after club history)
 revoked_since club history name was =
     let start = club_after club was.front in
-    let then = (step start (Ordered (RevokeKey name))).club in
+    let then = (step start (Commanded (RevokeKey name))).club in
     let end : club_after club history ≡ club_after then was.rest =
-    ap (club_after club) was.place ∙ club_after-append club was.front (Ordered (RevokeKey name) ∷ was.rest)
+    ap (club_after club) was.place ∙ club_after-append club was.front (Commanded (RevokeKey name) ∷ was.rest)
     in
     subst (IsRevoked name) (sym end) (kept_by_run (IsRevoked name) (stays_revoked name) then was.rest (now_revoked start name was.reply_is))
 

@@ -11,10 +11,10 @@ use Rattle.club_core.specs.Club.{Club, IsSound}
 use Rattle.club_core.specs.Answer.{verdict_in}
 use Rattle.club_core.specs.After.{after}
 use Rattle.club_core.specs.Office.{office_verdict}
-use Rattle.club_core.specs.Run.{Event, Asked, Ordered, step, after_change, order_outcome, club_after}
+use Rattle.club_core.specs.Run.{Event, Asked, Commanded, step, after_change, command_outcome, club_after}
 use Rattle.club_core.specs.Events.{IsEvent}
 use Rattle.club_laws.proofs.FittingChanges.{Fits, FitsIfAny}
-use Rattle.club_laws.proofs.FittingOffice.{FitsIfOk, fits_order}
+use Rattle.club_laws.proofs.FittingOffice.{FitsIfOk, fits_command}
 use Rattle.club_laws.proofs.FittingAnswers.{fits_answer}
 use Rattle.club_laws.proofs.SoundOffice.{sound_member, sound_credit, sound_facility, sound_key, sound_revoked, sound_rotated, sound_closed}
 use Rattle.club_laws.proofs.SoundBookings.{sound_booking, sound_cancellation}
@@ -34,14 +34,14 @@ sound_after_any : (club : Club) (change : Option Change) → IsSound club → Fi
 sound_after_any club None s f = s
 sound_after_any club (Some change) s f = sound_after club change s f
 
-sound_ordered : (club : Club) (command : Command) (verdict : Result Change OfficeFault) → IsSound club → FitsIfOk club verdict
-    → IsSound (order_outcome club command verdict).club
-sound_ordered club command (Err fault) s f = s
-sound_ordered club command (Ok change) s f = sound_after club change s f
+sound_commanded : (club : Club) (command : Command) (verdict : Result Change OfficeFault) → IsSound club → FitsIfOk club verdict
+    → IsSound (command_outcome club command verdict).club
+sound_commanded club command (Err fault) s f = s
+sound_commanded club command (Ok change) s f = sound_after club change s f
 
 pub sound_step : (club : Club) (event : Event) → IsSound club → IsEvent event → IsSound (step club event).club
 sound_step club (Asked words moment) s e = sound_after_any club (verdict_in club words moment).change s (fits_answer club words moment s e)
-sound_step club (Ordered command) s e = sound_ordered club command (office_verdict club command) s (fits_order club command s e)
+sound_step club (Commanded command) s e = sound_commanded club command (office_verdict club command) s (fits_command club command s e)
 
 pub sound_run : (club : Club) (events : List Event) → IsSound club → All IsEvent events → IsSound (club_after club events)
 sound_run club [] s h = s

@@ -6,7 +6,7 @@ use Rattle.club_core.specs.declared.request.Request.{Request}
 use Rattle.club_core.specs.declared.request.Request.TheVariants as asked
 use Rattle.club_core.specs.Examples.{opened_club, root, slot_at, noon, late, ask, served_booking, account}
 use Rattle.club_core.specs.declared.command.OfficeAnswer.TheVariants.{NewKey}
-use Rattle.club_core.specs.Run.{Event, Asked, Ordered, replies_of, ToMember, ToOffice}
+use Rattle.club_core.specs.Run.{Event, Asked, Commanded, replies_of, ToMember, ToOffice}
 
 -- a request of amy's other key, at noon
 abbrev pub ask_of_other_key : Request → Event
@@ -16,7 +16,7 @@ ask_of_other_key request =
 -- two bookings under each key, of which one has begun when the account is shown, and one was cancelled
 abbrev pub some_bookings : List Event
 some_bookings =
-    Ordered (AddKey (codes "amy-2") (codes "amy") root)
+    Commanded (AddKey (codes "amy-2") (codes "amy") root)
     ∷ ask (asked.Book (slot_at 18) 7 0) noon
     ∷ ask (asked.Book (slot_at 19) 8 0) noon
     ∷ ask_of_other_key (asked.Book (slot_at 20) 7 0)

@@ -5,7 +5,7 @@ use Rattle.club_core.specs.declared.reply.Reply.{Reply}
 use Rattle.club_core.specs.declared.reply.Reply.TheVariants.{Refused}
 use Rattle.club_core.specs.Club.{Club}
 use Rattle.club_core.specs.declared.command.OfficeAnswer.{OfficeAnswer}
-use Rattle.club_core.specs.Run.{Event, Asked, Ordered, step, replies_of, club_after, EventReply, Response, ToMember, ToOffice}
+use Rattle.club_core.specs.Run.{Event, Asked, Commanded, step, replies_of, club_after, EventReply, Response, ToMember, ToOffice}
 use Rattle.club_core.specs.Events.{IsEvent}
 
 -- how a desk presents the machine's answers to the office, and which presented answers say that memory or storage was refused
@@ -22,10 +22,10 @@ abbrev pub is_unavailable : Reply → Bool
 is_unavailable (Refused Unavailable) = true
 is_unavailable reply = false
 
--- a request fails with that reply alone, and an order with such a fault alone
+-- a request fails with that reply alone, and a command with such a fault alone
 abbrev pub has_failed : {O : Type 0} → Presentation O → Event → Response O → Bool
 has_failed presentation (Asked words moment) (ToMember reply) = is_unavailable reply
-has_failed presentation (Ordered command) (ToOffice answer) = presentation.is_fault answer
+has_failed presentation (Commanded command) (ToOffice answer) = presentation.is_fault answer
 has_failed presentation event returned = false
 
 -- an event was answered: its response is the machine's reply, and the club made the machine's step

@@ -8,7 +8,7 @@ use Rattle.club_core.specs.Club.{empty_club}
 use Rattle.club_core.specs.Examples.{opening, root, slot_at, noon, ask}
 use Rattle.club_core.specs.declared.command.OfficeAnswer.{OfficeAnswer}
 use Rattle.club_core.specs.declared.command.OfficeAnswer.TheVariants.{Done, NewKey}
-use Rattle.club_core.specs.Run.{Event, Ordered, replies_of, Response, ToMember, ToOffice}
+use Rattle.club_core.specs.Run.{Event, Commanded, replies_of, Response, ToMember, ToOffice}
 use Rattle.club_laws.specs.Failed.{Presentation, present_reply, answered_events, answers}
 
 -- a desk that returns its answer to the office, or none if memory or storage was refused
@@ -17,7 +17,7 @@ presentation = record { shown = λ answer. Some answer; is_fault = λ returned. 
 
 -- amy joins; she is credited again, and books, which both fail; then she looks at her account
 abbrev pub events : List Event
-events = opening ++ Ordered (Credit (codes "amy") 5) ∷ ask (asked.Book (slot_at 18) 7 2) noon ∷ ask asked.Account noon ∷ []
+events = opening ++ Commanded (Credit (codes "amy") 5) ∷ ask (asked.Book (slot_at 18) 7 2) noon ∷ ask asked.Account noon ∷ []
 
 abbrev pub replies : List (Response (Option OfficeAnswer))
 replies =

@@ -5,7 +5,7 @@ use Rattle.std.specs.List.{list_any}
 use Rattle.club_core.specs.declared.reply.Reply.TheVariants.{Booked, Cancelled}
 use Rattle.club_core.specs.declared.command.Command.TheVariants.{Credit, AddKey}
 use Rattle.club_core.specs.declared.command.OfficeAnswer.TheVariants.{Done, NewKey}
-use Rattle.club_core.specs.Run.{Event, Ordered, EventReply, ToMember, ToOffice}
+use Rattle.club_core.specs.Run.{Event, Commanded, EventReply, ToMember, ToOffice}
 
 -- points in a reply, with the key and the number of the booking
 pub record Entry : Type 0 where
@@ -39,7 +39,7 @@ refunds_of_replies replies = flat_map refund_of_reply replies
 
 -- the keys that a member was given
 abbrev pub key_given : List ℕ → Event → EventReply → List (List ℕ)
-key_given member (Ordered (AddKey name owner root)) (ToOffice (NewKey returned seed)) = if bytes_eq owner member then name ∷ [] else []
+key_given member (Commanded (AddKey name owner root)) (ToOffice (NewKey returned seed)) = if bytes_eq owner member then name ∷ [] else []
 key_given member event reply = []
 
 abbrev pub keys_given : List ℕ → List Event → List EventReply → List (List ℕ)
@@ -48,7 +48,7 @@ keys_given member events replies = []
 
 -- the points that a member was credited
 abbrev pub credit_accepted : List ℕ → Event → EventReply → ℕ
-credit_accepted member (Ordered (Credit name points)) (ToOffice Done) = if bytes_eq name member then points else 0
+credit_accepted member (Commanded (Credit name points)) (ToOffice Done) = if bytes_eq name member then points else 0
 credit_accepted member event reply = 0
 
 abbrev pub credits_accepted : List ℕ → List Event → List EventReply → ℕ

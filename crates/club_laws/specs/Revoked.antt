@@ -7,14 +7,14 @@ use Rattle.club_core.specs.Answer.{verdict_in}
 use Rattle.club_core.specs.Basis.{key_of}
 use Rattle.club_core.specs.Club.{Club}
 use Rattle.club_core.specs.Pass.{Words}
-use Rattle.club_core.specs.Run.{Event, Ordered, step, club_after, ToOffice}
+use Rattle.club_core.specs.Run.{Event, Commanded, step, club_after, ToOffice}
 
 -- the office revoked the key within the history
 pub record WasRevoked (club : Club) (history : List Event) (name : List ℕ) : Type 0 where
   pub front : List Event
   pub rest : List Event
-  pub place : history ≡ front ++ Ordered (RevokeKey name) ∷ rest
-  pub reply_is : (step (club_after club front) (Ordered (RevokeKey name))).reply ≡ ToOffice Done
+  pub place : history ≡ front ++ Commanded (RevokeKey name) ∷ rest
+  pub reply_is : (step (club_after club front) (Commanded (RevokeKey name))).reply ≡ ToOffice Done
 
 -- from then on no request under it is served, whatever the office and others do
 abbrev pub ServesNoRevokedKey : Type 0

@@ -8,7 +8,7 @@ use Rattle.club_core.specs.declared.request.Request.{Request}
 use Rattle.club_core.specs.declared.request.Request.TheVariants as asked
 use Rattle.club_core.specs.Examples.{opened_club, root, slot_at, noon, late, served_booking, account}
 use Rattle.club_core.specs.declared.command.OfficeAnswer.TheVariants.{Done, NewKey}
-use Rattle.club_core.specs.Run.{Event, Asked, Ordered, replies_of, ToMember, ToOffice}
+use Rattle.club_core.specs.Run.{Event, Asked, Commanded, replies_of, ToMember, ToOffice}
 
 -- a request of the key amy-1, under a pass that is signed under this root alone
 abbrev pub ask_under : List ℕ → Request → ℕ → Event
@@ -30,7 +30,7 @@ abbrev pub before_midnight : ℕ
 before_midnight = 29_617_919
 
 abbrev pub rotate : List ℕ → ℕ → Event
-rotate root until = Ordered (RotateKey (codes "amy-1") root until)
+rotate root until = Commanded (RotateKey (codes "amy-1") root until)
 
 -- the older root is good until the moment, a repeat under the new one gets the recorded reply, and nothing is charged
 abbrev pub RepeatsUnderANewRoot : Type 0
@@ -59,7 +59,7 @@ DropsTheOldestRoot =
     ∷ rotate third_root midnight
     ∷ ask_under root asked.Account noon
     ∷ ask_under second_root asked.Account noon
-    ∷ Ordered (RevokeKey (codes "amy-1"))
+    ∷ Commanded (RevokeKey (codes "amy-1"))
     ∷ rotate root midnight
     ∷ ask_under root asked.Account noon
     ∷ [])

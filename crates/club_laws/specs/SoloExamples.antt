@@ -4,7 +4,7 @@ use Rattle.club_core.specs.declared.command.Command.TheVariants.{AddMember, Cred
 use Rattle.club_core.specs.declared.request.Request.{Request}
 use Rattle.club_core.specs.declared.request.Request.TheVariants as asked
 use Rattle.club_core.specs.Club.{empty_club}
-use Rattle.club_core.specs.Run.{Event, Asked, Ordered, replies_of, EventReply}
+use Rattle.club_core.specs.Run.{Event, Asked, Commanded, replies_of, EventReply}
 use Rattle.club_core.specs.Examples.{opening, root, slot_at, noon, ask, served_booking, account, served_cancellation}
 use Rattle.club_laws.specs.SoloLaw.{replies_to}
 
@@ -17,7 +17,7 @@ abbrev pub ask_of_bob : Request → Event
 ask_of_bob request = Asked (record { pass = Ok (record { key = Some (codes "bob-1"); caveats = []; is_signed = λ _. true }); request = request }) noon
 
 abbrev pub bob_joins : List Event
-bob_joins = Ordered (AddMember (codes "bob") 5) ∷ Ordered (Credit (codes "bob") 10_000) ∷ Ordered (AddKey (codes "bob-1") (codes "bob") root) ∷ []
+bob_joins = Commanded (AddMember (codes "bob") 5) ∷ Commanded (Credit (codes "bob") 10_000) ∷ Commanded (AddKey (codes "bob-1") (codes "bob") root) ∷ []
 
 -- amy books three places of four, looks at her account, and cancels
 abbrev pub amy_alone : List Event
@@ -27,8 +27,8 @@ amy_alone =
 abbrev pub AnswersAmyAlone : Type 0
 AnswersAmyAlone = replies_to_amy amy_alone ≡ served_booking 7 600 1 ∷ account 9_400 1 600 ∷ served_cancellation 7 600 ∷ []
 
--- the same where bob books other slots and hers, under her number too, leaves hers, is credited, gets a key, and has one revoked,
--- and the office closes another slot
+-- the same if bob books other slots and hers, under her number too, leaves hers, is credited, gets a key, and has one revoked, and the office closes
+-- another slot
 abbrev pub amy_among_others : List Event
 amy_among_others =
     opening
@@ -36,14 +36,14 @@ amy_among_others =
     ++ ask_of_bob (asked.Book (slot_at 17) 7 3)
     ∷ ask_of_bob (asked.Book (slot_at 18) 9 1)
     ∷ ask_of_bob (asked.Cancel (slot_at 18) 9)
-    ∷ Ordered (CloseSlot (slot_at 8))
+    ∷ Commanded (CloseSlot (slot_at 8))
     ∷ ask (asked.Book (slot_at 18) 7 2) noon
     ∷ ask_of_bob (asked.Book (slot_at 19) 8 0)
     ∷ ask_of_bob (asked.Cancel (slot_at 17) 7)
-    ∷ Ordered (Credit (codes "bob") 5)
+    ∷ Commanded (Credit (codes "bob") 5)
     ∷ ask asked.Account noon
-    ∷ Ordered (AddKey (codes "bob-2") (codes "bob") root)
-    ∷ Ordered (RevokeKey (codes "bob-1"))
+    ∷ Commanded (AddKey (codes "bob-2") (codes "bob") root)
+    ∷ Commanded (RevokeKey (codes "bob-1"))
     ∷ ask_of_bob asked.Account
     ∷ ask (asked.Cancel (slot_at 18) 7) noon
     ∷ []
@@ -52,7 +52,7 @@ amy_among_others =
 abbrev pub AnswersAmyAmongOthers : Type 0
 AnswersAmyAmongOthers = replies_to_amy amy_among_others ≡ replies_to_amy amy_alone
 
--- where bob has a place in her slot, one place fewer is left, and all else is the same
+-- if bob has a place in her slot, one place fewer is left, and all else is the same
 abbrev pub ShowsAmyATakenPlace : Type 0
 ShowsAmyATakenPlace =
     replies_to_amy

@@ -4,7 +4,7 @@ use Rattle.club_core.specs.declared.change.Change.{Change}
 use Rattle.club_core.specs.Answer.{verdict_in}
 use Rattle.club_core.specs.Club.{Club, empty_club, IsSound}
 use Rattle.club_core.specs.Office.{office_verdict}
-use Rattle.club_core.specs.Run.{Event, Asked, Ordered, step, club_after}
+use Rattle.club_core.specs.Run.{Event, Asked, Commanded, step, club_after}
 use Rattle.club_core.specs.Events.{IsEvent}
 use Rattle.club_core.specs.Store.{FitsClub}
 
@@ -19,7 +19,7 @@ StepsKeepSound = (club : Club) (event : Event) → IsSound club → IsEvent even
 -- the change that an event makes of a club
 abbrev pub IsChangeBy : Club → Event → Change → Type 0
 IsChangeBy club (Asked words moment) change = (verdict_in club words moment).change ≡ Some change
-IsChangeBy club (Ordered command) change = office_verdict club command ≡ Ok change
+IsChangeBy club (Commanded command) change = office_verdict club command ≡ Ok change
 
 -- such a change fits the club, if the club is sound: the rows that it carries are the club's, and it leaves a sound club
 abbrev pub ChangesFit : Type 0

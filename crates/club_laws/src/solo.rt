@@ -30,7 +30,7 @@ pub fn answers_amy_among_others()
     ensures { AnswersAmyAmongOthers }
 {}
 
-/// Where another has a place in the slot, one place fewer is left, and all else is the same.
+/// If another has a place in the slot, one place fewer is left, and all else is the same.
 pub fn shows_amy_a_taken_place()
     ensures { ShowsAmyATakenPlace }
 {}

@@ -144,7 +144,7 @@ keeps_recorded : (club : Club) (booking : Option Booking) (f : Booking → Verdi
 keeps_recorded club None f other h k = k
 keeps_recorded club (Some booking) f other h k = h booking
 
--- the decision under a key, where the state of the slot has its facility and all that booked it
+-- the decision under a key, if the state of the slot has its facility and all that booked it
 abbrev basis_with : Club → Key → Member → SlotState → Basis
 basis_with club key member state = record { key = key; member = member; bookings = bookings_of member.name club; state = state }
 

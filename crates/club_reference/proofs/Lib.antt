@@ -3,6 +3,6 @@ pub mod EditLemmas
 pub mod NameLemmas
 pub mod WidthLemmas
 pub mod KeptLemmas
-pub mod OrderLemmas
+pub mod CommandLemmas
 pub mod PartLemmas
 pub mod WordLemmas

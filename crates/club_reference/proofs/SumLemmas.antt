@@ -29,7 +29,7 @@ pub total_push : {X : Type 0} (f : X → ℕ) (p : X → Bool) (xs : List X) (y 
 total_push f p [] y = omega arith
 total_push f p (x ∷ xs) y = omega (arith, total_push f p xs y)
 
--- where each edited element adds no more than the element did
+-- if each edited element adds no more than the element did
 pub total-map_le : {X : Type 0} (f : X → ℕ) (p : X → Bool) (h : X → X) (xs : List X) → All (λ x. part f p (h x) ≤ part f p x) xs
     → total f p (map h xs) ≤ total f p xs
 total-map_le f p h [] le = omega arith

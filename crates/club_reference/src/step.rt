@@ -1,4 +1,4 @@
-//! Requests and orders: the machine's steps.
+//! Requests and commands: the machine's steps.
 
 ghost use Rattle.std.specs.Prelude.{◌≡◌, IfOk, OnErr};
 ghost use Rattle.club_core.specs.Answer.{verdict_in};
@@ -13,7 +13,7 @@ ghost use Rattle.club_reference.specs.computed.Words.{words_model};
 use crate::club::Club;
 use crate::laws::models_words;
 use crate::words::Words;
-use club_core::{Change, Command, OfficeAnswer, OfficeFault, Reply, Verdict, decide_order};
+use club_core::{Change, Command, OfficeAnswer, OfficeFault, Reply, Verdict, decide_command};
 use club_values::Moment;
 use std::alloc::AllocError;
 
@@ -30,13 +30,13 @@ impl Club {
         words.verdict(self.view_for(words, moment).as_ref(), moment)
     }
 
-    /// The change of an order, or why it makes none.
-    fn order(&self, command: &Command) -> Result<Change, OfficeFault>
+    /// The change of a command, or why it makes none.
+    fn change_of(&self, command: &Command) -> Result<Change, OfficeFault>
         ensures value { result ≡ office_verdict self.now command.now }
         ensures fits { FitsWidths self.now }
     {
         let _members = &self.members;
-        decide_order(&self.order_view(command), command)
+        decide_command(&self.command_view(command), command)
     }
 
     /// Answers a request at a moment, and makes its change. Only a new booking needs memory; if it
@@ -64,7 +64,7 @@ impl Club {
         }
     }
 
-    /// Answers an order of the office, and makes its change. Only a new row needs memory; if it is
+    /// Answers a command of the office, and makes its change. Only a new row needs memory; if it is
     /// refused, the club is unchanged.
     ///
     /// # Errors
@@ -72,11 +72,11 @@ impl Club {
     /// Memory was refused.
     pub fn office(&mut self, command: &Command) -> Result<OfficeAnswer, AllocError>
         ensures outcome { IfOk result (λ answer. outcome (machine.ToOffice answer) self.new
-            ≡ machine.step self.old (machine.Ordered command.now)) }
+            ≡ machine.step self.old (machine.Commanded command.now)) }
         ensures err { OnErr result (self.new ≡ self.old) }
-        ensures growth { OnErr result (AddsRow self.old (machine.Ordered command.now)) }
+        ensures growth { OnErr result (AddsRow self.old (machine.Commanded command.now)) }
     {
-        match self.order(command) {
+        match self.change_of(command) {
             Err(fault) => Ok(OfficeAnswer::NotDone(fault)),
             Ok(change) => {
                 self.apply(change)?;

@@ -1,4 +1,4 @@
-//! The views of requests and orders: the rows and sums that decide them.
+//! The views of requests and commands: the rows and sums that decide them.
 
 ghost use Rattle.std.specs.Prelude.{◌≡◌, ◌≤◌, IfSome, option_map};
 ghost use Rattle.club_core.specs.Office.{rows_seen};
@@ -6,14 +6,14 @@ ghost use Rattle.club_core.specs.Office.{rows_seen};
 use crate::club::Club;
 use crate::sums::{balance, open_count, persons_in, recorded_booking, spent};
 use crate::words::{KeyView, Words};
-use club_core::{Command, OrderView, Request, SlotUse, View};
+use club_core::{Command, CommandView, Request, SlotUse, View};
 use club_rows::{Facility, Key, Member};
 use club_values::{Moment, Slot};
 
-fn rows_seen(member: Option<Member>, key: Option<Key>, facility: Option<Facility>) -> OrderView
+fn rows_seen(member: Option<Member>, key: Option<Key>, facility: Option<Facility>) -> CommandView
     ensures { result ≡ rows_seen member key facility }
 {
-    OrderView {
+    CommandView {
         member,
         key,
         facility,
@@ -26,7 +26,7 @@ fn rows_seen(member: Option<Member>, key: Option<Key>, facility: Option<Facility
 
 impl Club {
     ghost use Rattle.club_core.specs.Basis.{basis_of, basis_under, slot_use_by};
-    ghost use Rattle.club_core.specs.Office.{order_view};
+    ghost use Rattle.club_core.specs.Office.{command_view};
     ghost use Rattle.club_reference.specs.Words.{seen_of};
     ghost use Rattle.club_reference.specs.computed.Words.{words_model};
 
@@ -92,9 +92,9 @@ impl Club {
         }
     }
 
-    /// The view of an order: the rows that it names, and the use of its slot.
-    pub(crate) fn order_view(&self, command: &Command) -> OrderView
-        ensures { result ≡ order_view self.now command.now }
+    /// The view of a command: the rows that it names, and the use of its slot.
+    pub(crate) fn command_view(&self, command: &Command) -> CommandView
+        ensures { result ≡ command_view self.now command.now }
     {
         match command {
             Command::AddMember { name, .. } | Command::Credit { member: name, .. } => rows_seen(
@@ -111,7 +111,7 @@ impl Club {
             Command::RevokeKey { name } | Command::RotateKey { name, .. } => {
                 rows_seen(None, self.key_named(name), None)
             }
-            Command::CloseSlot(slot) => OrderView {
+            Command::CloseSlot(slot) => CommandView {
                 member: None,
                 key: None,
                 facility: self.facility_named(&slot.facility),

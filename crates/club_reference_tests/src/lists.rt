@@ -1,4 +1,4 @@
-//! Worked lists of requests and orders, with their replies.
+//! Worked lists of requests and commands, with their replies.
 
 use crate::answers::Answer;
 use crate::messages::{AMY, AMY_CHANGED, BOB, Shown, Step};
@@ -15,7 +15,7 @@ use test_kit::replies::{
 };
 use test_kit::requests::{ACCOUNT, BOOK_1, BOOK_2, BOOK_2_FOR_TWO, BOOK_7, BOOK_8, CANCEL_7, VIEW};
 use test_kit::roots::ROOT;
-use test_kit::{COURT_AT_18, FRIDAY, Order, PlainReply, PlainRequest, PlainSlot};
+use test_kit::{COURT_AT_18, FRIDAY, PlainCommand, PlainReply, PlainRequest, PlainSlot};
 
 #[test]
 fn books_repeats_and_cancels(rt: HostRuntime) {
@@ -39,10 +39,10 @@ const STRANGER: Shown = Shown::Pass("zed-1", ROOT, &[]);
 static VERIFIES: [Step; 6] = [
     Step::Asks(NOON, STRANGER, ACCOUNT, NOT_VERIFIED),
     Step::Asks(NOON, AMY_CHANGED, ACCOUNT, NOT_VERIFIED),
-    Step::Orders(Order::RevokeKey("amy-1"), Answer::Done),
+    Step::Gives(PlainCommand::RevokeKey("amy-1"), Answer::Done),
     Step::Asks(NOON, AMY, ACCOUNT, KEY_REVOKED),
     Step::Asks(NOON, AMY_CHANGED, ACCOUNT, NOT_VERIFIED),
-    Step::Orders(Order::RevokeKey("amy-1"), Answer::Done),
+    Step::Gives(PlainCommand::RevokeKey("amy-1"), Answer::Done),
 ];
 
 #[test]
@@ -71,11 +71,11 @@ const NEW_CY: Answer = Answer::NewKey("cy-1", ROOT);
 const NEW_DI: Answer = Answer::NewKey("di-1", ROOT);
 
 static LIMITS: [Step; 10] = [
-    Step::Orders(Order::AddMember("cy", 1), Answer::Done),
-    Step::Orders(Order::Credit("cy", 100), Answer::Done),
-    Step::Orders(Order::AddKey("cy-1", "cy", ROOT), NEW_CY),
-    Step::Orders(Order::AddMember("di", 0), Answer::Done),
-    Step::Orders(Order::AddKey("di-1", "di", ROOT), NEW_DI),
+    Step::Gives(PlainCommand::AddMember("cy", 1), Answer::Done),
+    Step::Gives(PlainCommand::Credit("cy", 100), Answer::Done),
+    Step::Gives(PlainCommand::AddKey("cy-1", "cy", ROOT), NEW_CY),
+    Step::Gives(PlainCommand::AddMember("di", 0), Answer::Done),
+    Step::Gives(PlainCommand::AddKey("di-1", "di", ROOT), NEW_DI),
     Step::Asks(NOON, AMY, BOOK_7, BOOKED_7),
     Step::Asks(NOON, BOB, BOOK_2_FOR_TWO, NO_PLACES),
     Step::Asks(NOON, CY, BOOK_1, BALANCE_TOO_LOW),
@@ -96,11 +96,11 @@ const TAKEN: PlainReply = PlainReply::SlotShown(3, false);
 
 static CLOSES: [Step; 7] = [
     Step::Asks(NOON, AMY, BOOK_7, BOOKED_7),
-    Step::Orders(Order::CloseSlot(COURT_AT_18), IN_USE),
+    Step::Gives(PlainCommand::CloseSlot(COURT_AT_18), IN_USE),
     Step::Asks(NOON, BOB, VIEW, TAKEN),
     Step::Asks(NOON, AMY, CANCEL_7, CANCELLED_7),
-    Step::Orders(Order::CloseSlot(COURT_AT_18), Answer::Done),
-    Step::Orders(Order::CloseSlot(COURT_AT_18), CLOSED_BEFORE),
+    Step::Gives(PlainCommand::CloseSlot(COURT_AT_18), Answer::Done),
+    Step::Gives(PlainCommand::CloseSlot(COURT_AT_18), CLOSED_BEFORE),
     Step::Asks(NOON, AMY, BOOK_8, SLOT_CLOSED),
 ];
 

@@ -7,13 +7,13 @@ use club_values::{Moment, Name};
 use std::alloc::Global;
 use std::process::Abort;
 use test_kit::roots::{ROOT, SECOND_ROOT};
-use test_kit::{Order, PlainPass, PlainReply, PlainRequest, PlainStep, signed_pass};
+use test_kit::{PlainCommand, PlainPass, PlainReply, PlainRequest, PlainStep, signed_pass};
 
-/// What comes to the club: a request at a moment, or an order of the office.
+/// What comes to the club: a request at a moment, or a command of the office.
 #[derive(Drop)]
 pub(crate) enum Event {
     Asked { words: Words, moment: Moment },
-    Ordered(Command),
+    Commanded(Command),
 }
 
 /// The reply to it.
@@ -37,8 +37,8 @@ pub(crate) enum Shown {
 pub(crate) enum Step {
     /// A request at a moment under a pass, and its reply.
     Asks(&'static str, Shown, PlainRequest, PlainReply),
-    /// An order of the office, and its answer.
-    Orders(Order, Answer),
+    /// A command of the office, and its answer.
+    Gives(PlainCommand, Answer),
 }
 
 /// Amy's pass without caveats, and the same signed under another root than her key's.
@@ -78,11 +78,11 @@ impl Step {
         Step::Asks(at, Shown::Pass(key, ROOT, caveats), asked, reply)
     }
 
-    /// The moment of a request; `the office` for an order.
+    /// The moment of a request; `the office` for a command.
     pub fn at(&self) -> &'static str {
         match self {
             Step::Asks(at, ..) => at,
-            Step::Orders(..) => "the office",
+            Step::Gives(..) => "the office",
         }
     }
 
@@ -92,14 +92,14 @@ impl Step {
                 words: shown.words(rt, asked.request().expect(rt, "a request")),
                 moment: Moment::read(at.as_bytes()).expect(rt, "a moment"),
             },
-            Step::Orders(order, _) => Event::Ordered(order.command().expect(rt, "an order")),
+            Step::Gives(plain, _) => Event::Commanded(plain.command().expect(rt, "a command")),
         }
     }
 
     pub fn reply(&self, rt: &impl Abort) -> EventReply {
         match self {
             Step::Asks(_, _, _, reply) => EventReply::Replied(reply.reply().expect(rt, "a reply")),
-            Step::Orders(_, answer) => EventReply::Answered(answer.answer(rt)),
+            Step::Gives(_, answer) => EventReply::Answered(answer.answer(rt)),
         }
     }
 }

@@ -16,7 +16,7 @@ use test_kit::replies::{
 };
 use test_kit::requests::{ACCOUNT, BOOK_2, BOOK_7, CANCEL_7};
 use test_kit::roots::{ROOT, SECOND_ROOT};
-use test_kit::{COURT_AT_18, Order, minutes};
+use test_kit::{COURT_AT_18, PlainCommand, minutes};
 
 fn amy(rt: &impl Abort) -> Name {
     Name::read(b"amy").expect(rt, "a name")
@@ -38,7 +38,9 @@ fn reply_alone(rt: &impl Abort, part: &mut Club, event: &Event, others: SlotUse)
             let reply = part.ask_alone(words, *moment, others);
             EventReply::Replied(reply.expect(rt, "memory"))
         }
-        Event::Ordered(command) => EventReply::Answered(part.office(command).expect(rt, "memory")),
+        Event::Commanded(command) => EventReply::Answered(
+            part.office(command).expect(rt, "memory"),
+        ),
     }
 }
 
@@ -102,10 +104,10 @@ const RENEWED_CY: Answer = Answer::NewKey("cy-1", SECOND_ROOT);
 
 /// Another member, whose key gets another root at once.
 static CY_ROTATES: [Step; 3] = [
-    Step::Orders(Order::AddMember("cy", 5), Answer::Done),
-    Step::Orders(Order::AddKey("cy-1", "cy", ROOT), NEW_CY),
-    Step::Orders(
-        Order::RotateKey("cy-1", SECOND_ROOT, minutes::FIRST),
+    Step::Gives(PlainCommand::AddMember("cy", 5), Answer::Done),
+    Step::Gives(PlainCommand::AddKey("cy-1", "cy", ROOT), NEW_CY),
+    Step::Gives(
+        PlainCommand::RotateKey("cy-1", SECOND_ROOT, minutes::FIRST),
         RENEWED_CY,
     ),
 ];

@@ -6,7 +6,7 @@ use club_core::OfficeAnswer;
 use club_reference::Club;
 use std::alloc::Global;
 use std::process::Abort;
-use test_kit::{FIXTURE, Order, PlainStep};
+use test_kit::{FIXTURE, PlainCommand, PlainStep};
 
 /// The reply to an event by `ask` or `office`.
 fn reply_by_kind(rt: &impl Abort, club: &mut Club, event: &Event) -> EventReply {
@@ -14,7 +14,9 @@ fn reply_by_kind(rt: &impl Abort, club: &mut Club, event: &Event) -> EventReply 
         Event::Asked { words, moment } => {
             EventReply::Replied(club.ask(words, *moment).expect(rt, "memory"))
         }
-        Event::Ordered(command) => EventReply::Answered(club.office(command).expect(rt, "memory")),
+        Event::Commanded(command) => EventReply::Answered(
+            club.office(command).expect(rt, "memory"),
+        ),
     }
 }
 
@@ -26,9 +28,9 @@ pub(crate) fn plays(rt: &(impl Abort + Alloc<A = Global>), club: &mut Club, step
     }
 }
 
-/// Gives an order, and ends the test unless it is carried out.
-fn carry_out(rt: &impl Abort, club: &mut Club, order: &Order) {
-    let command = order.command().expect(rt, "an order");
+/// Gives a command, and ends the test unless it is carried out.
+fn carry_out(rt: &impl Abort, club: &mut Club, plain: &PlainCommand) {
+    let command = plain.command().expect(rt, "a command");
     let answer = club.office(&command).expect(rt, "memory");
     expect_eq(rt, &answer, &OfficeAnswer::done(&command));
 }
@@ -36,8 +38,8 @@ fn carry_out(rt: &impl Abort, club: &mut Club, order: &Order) {
 /// The club of the fixture.
 pub(crate) fn fixture_club(rt: &(impl Abort + Alloc<A = Global>)) -> Club {
     let mut club = Club::new(rt.alloc());
-    for order in &FIXTURE {
-        carry_out(rt, &mut club, order);
+    for plain in &FIXTURE {
+        carry_out(rt, &mut club, plain);
     }
     club
 }

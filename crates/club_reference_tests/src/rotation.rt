@@ -9,7 +9,7 @@ use test_kit::moments::{BEFORE_UNTIL, NOON, UNTIL};
 use test_kit::replies::{ACCOUNT_AFTER, ACCOUNT_BEFORE, BOOKED_7, KEY_REVOKED, NOT_VERIFIED};
 use test_kit::requests::{ACCOUNT, BOOK_7};
 use test_kit::roots::{ROOT, SECOND_ROOT, THIRD_ROOT};
-use test_kit::{Order, minutes};
+use test_kit::{PlainCommand, minutes};
 
 /// Amy's pass under her key's second root, and under its third.
 const RENEWED: Shown = AMY_CHANGED;
@@ -23,8 +23,8 @@ const NEW_THIRD: Answer = Answer::NewKey("amy-1", THIRD_ROOT);
 /// The older root is good until the moment. The new pass repeats the booking of the old one.
 static ROTATES: [Step; 6] = [
     Step::Asks(NOON, AMY, BOOK_7, BOOKED_7),
-    Step::Orders(
-        Order::RotateKey("amy-1", SECOND_ROOT, minutes::UNTIL),
+    Step::Gives(
+        PlainCommand::RotateKey("amy-1", SECOND_ROOT, minutes::UNTIL),
         NEW_SECOND,
     ),
     Step::Asks(BEFORE_UNTIL, AMY, ACCOUNT, ACCOUNT_AFTER),
@@ -41,8 +41,8 @@ fn rotates_a_key(rt: HostRuntime) {
 /// If the moment is past, the older root is refused at once.
 static ROTATES_AT_ONCE: [Step; 3] = [
     Step::Asks(NOON, AMY, ACCOUNT, ACCOUNT_BEFORE),
-    Step::Orders(
-        Order::RotateKey("amy-1", SECOND_ROOT, minutes::FIRST),
+    Step::Gives(
+        PlainCommand::RotateKey("amy-1", SECOND_ROOT, minutes::FIRST),
         NEW_SECOND,
     ),
     Step::Asks(NOON, AMY, ACCOUNT, NOT_VERIFIED),
@@ -55,12 +55,12 @@ fn rotates_from_a_moment_past(rt: HostRuntime) {
 
 /// Of two rotations the second drops the root that the first kept.
 static ROTATES_TWICE: [Step; 5] = [
-    Step::Orders(
-        Order::RotateKey("amy-1", SECOND_ROOT, minutes::LAST),
+    Step::Gives(
+        PlainCommand::RotateKey("amy-1", SECOND_ROOT, minutes::LAST),
         NEW_SECOND,
     ),
-    Step::Orders(
-        Order::RotateKey("amy-1", THIRD_ROOT, minutes::LAST),
+    Step::Gives(
+        PlainCommand::RotateKey("amy-1", THIRD_ROOT, minutes::LAST),
         NEW_THIRD,
     ),
     Step::Asks(NOON, AMY, ACCOUNT, NOT_VERIFIED),
@@ -78,9 +78,12 @@ const ROOT_BEFORE: Answer = Answer::NotDone(OfficeFault::Exists);
 const NO_SUCH_KEY: Answer = Answer::NotDone(OfficeFault::Unknown);
 
 static NO_ROTATIONS: [Step; 2] = [
-    Step::Orders(Order::RotateKey("amy-1", ROOT, minutes::UNTIL), ROOT_BEFORE),
-    Step::Orders(
-        Order::RotateKey("zed-1", SECOND_ROOT, minutes::UNTIL),
+    Step::Gives(
+        PlainCommand::RotateKey("amy-1", ROOT, minutes::UNTIL),
+        ROOT_BEFORE,
+    ),
+    Step::Gives(
+        PlainCommand::RotateKey("zed-1", SECOND_ROOT, minutes::UNTIL),
         NO_SUCH_KEY,
     ),
 ];
@@ -92,9 +95,9 @@ fn refuses_a_rotation(rt: HostRuntime) {
 
 /// A revoked key stays revoked, under its older root and its new one.
 static ROTATES_REVOKED: [Step; 4] = [
-    Step::Orders(Order::RevokeKey("amy-1"), Answer::Done),
-    Step::Orders(
-        Order::RotateKey("amy-1", SECOND_ROOT, minutes::UNTIL),
+    Step::Gives(PlainCommand::RevokeKey("amy-1"), Answer::Done),
+    Step::Gives(
+        PlainCommand::RotateKey("amy-1", SECOND_ROOT, minutes::UNTIL),
         NEW_SECOND,
     ),
     Step::Asks(NOON, AMY, ACCOUNT, KEY_REVOKED),

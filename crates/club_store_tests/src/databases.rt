@@ -80,7 +80,7 @@ pub(crate) fn database(
     database_after(rt, &contents.statements())
 }
 
-/// How many bookings a database has, where it has a table of them.
+/// How many bookings a database has, if it has a table of them.
 pub(crate) fn bookings<S: Alter>(connection: &mut Connection<S>) -> Option<i64> {
     let row = connection
         .query_row("SELECT count(*) FROM bookings", &[])
@@ -88,7 +88,7 @@ pub(crate) fn bookings<S: Alter>(connection: &mut Connection<S>) -> Option<i64> 
     row.get(0).ok()
 }
 
-/// The version of a database, where it has one.
+/// The version of a database, if it has one.
 pub(crate) fn version<S: Alter>(connection: &mut Connection<S>) -> Option<i64> {
     let row = connection.query_row("SELECT version FROM desk", &[]).ok()?;
     row.get(0).ok()

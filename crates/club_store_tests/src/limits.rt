@@ -1,5 +1,4 @@
-//! Rows out of their limits, in tables that take any row: each is a fault of storage where it is
-//! read.
+//! Rows out of their limits, in tables that take any row: each is a fault of storage if it is read.
 
 use crate::databases::{database_after, runs};
 use crate::rows::{day, moment, name, number, slot};

@@ -32,8 +32,7 @@ fn steps_shown(contents: Contents) -> &'static [Step] {
     }
 }
 
-/// The store over a database that holds this, by the second opening where the first is out of
-/// memory.
+/// The store over a database that holds this, by the second opening if the first is out of memory.
 fn adopted_store(rt: &(impl Abort + Alloc<A = Global>), contents: Contents) -> Store<MemStore> {
     match Store::adopt(rt.alloc(), database(rt, contents)) {
         Ok(store) => store,
@@ -85,8 +84,8 @@ fn store_in_memory(rt: HostRuntime) {
     plays(&rt, &mut new_store(&rt), &NOBODY);
 }
 
-/// The store in the file shows what these tables hold, by the second opening where the first is out
-/// of memory.
+/// The store in the file shows what these tables hold, by the second opening if the first is out of
+/// memory.
 fn opens_at(
     host: &HostRuntime,
     rt: &(impl Abort + Alloc<A = Global>),

@@ -29,14 +29,14 @@ pub(crate) enum Step {
 /// What a store shows.
 #[derive(Clone, Copy)]
 pub(crate) enum Shown {
-    /// Amy with so many points credited; `None` where she is unknown.
+    /// Amy with so many points credited; `None` if she is unknown.
     Member(Option<u32>),
     Key(Kept),
     Facility(PlainFacility),
     /// So many persons in a slot, which is closed or isn't.
     Slot(PlainSlot, u32, bool),
-    /// What `amy-1` sees of a request where all of `BOOKS` was done: so many persons in its slot,
-    /// and the booking of its number.
+    /// What `amy-1` sees of a request if all of `BOOKS` was done: so many persons in its slot, and
+    /// the booking of its number.
     View(Asked, u64, Option<PlainBooking>),
     /// The sheet of a day.
     Sheet(&'static str, &'static str),
@@ -141,7 +141,7 @@ fn shows_sums<C: ClubStore>(rt: &impl Abort, store: &mut C) {
     expect_eq(rt, &store.account(&name(rt, "amy")), &Ok(Some(account)));
 }
 
-/// And the booking, where a number is asked for.
+/// And the booking, if a number is asked for.
 fn shows_booking<C: ClubStore>(
     rt: &impl Abort,
     store: &mut C,
@@ -191,7 +191,7 @@ fn applies<C: ClubStore>(rt: &impl Abort, store: &mut C, write: &Write) {
     expect_eq(rt, &store.apply(&change(rt, write)), &Ok(()));
 }
 
-/// Makes a change by the call of its own name, where it has one.
+/// Makes a change by the call of its own name, if it has one.
 fn make<S: Alter>(store: &mut Store<S>, change: &Change) -> Result<(), StoreFault> {
     match change {
         Change::InsertMember(member) => store.insert_member(member),

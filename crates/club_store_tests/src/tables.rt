@@ -43,7 +43,7 @@ pub(crate) enum Expected {
     Slot(PlainSlot, u32, bool),
     /// The booking of `amy-1` with a number.
     Booking(u32, Option<PlainBooking>),
-    /// The only booking of a day; `None` where there is none.
+    /// The only booking of a day; `None` if there is none.
     Day(&'static str, Option<PlainBooking>),
     /// What a key has spent.
     Spent(&'static str, u64),

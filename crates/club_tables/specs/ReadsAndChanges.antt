@@ -78,6 +78,6 @@ pub record ChangesClub {S : Type 0} (g : Ghosts S) (change : Change) (old new : 
   pub no_change : OnErr result (IsUntouched (state g old) (state g new))
   pub survives : Survives (state g old) (state g new) (MayCommit g 1 (AreStatementsOf change) old)
   pub fault : HasCleanDisk (state g new) → IfErr result (IsChangeFault g change old new)
-  -- where it fits, no statement falls short: it fails only by an error
+  -- if it fits, no statement falls short: it fails only by an error
   pub fault_if_fits : HasCleanDisk (state g new) → (club : Club) (others : List Club) → represents_in g old club others → FitsClub change club
       → IfErr result (IsRunFault g 0 (statements_of change) old new)

@@ -196,8 +196,8 @@ impl<S: Alter> Tables<S> {
         }
     }
 
-    /// Finds the tables, migrates those of version 1, makes the index of the bookings where it is
-    /// missing, or makes all where the version cannot be read.
+    /// Finds the tables, migrates those of version 1, makes the index of the bookings if it is
+    /// missing, or makes all if the version cannot be read.
     pub fn open(&mut self) -> Result<(), StoreFault>
         ensures opens { Opens S.Store (found_in S.Store) (WhenIdle S.Store (AcceptsTables S.Store))
             (IsOpeningFault S.Store) self.old self.new result }

@@ -45,7 +45,7 @@ parts_are_one y m d y₂ m₂ d₂ e =
 unfoldable pub date_record : (y m d : ℕ) → IsCivilDate (pos y) m d → Date
 date_record y m d h = record { year = pos y; month = m; day = d; year_in = h.0; month_in = h.1; day_in = h.2 }
 
--- where a text has no such digits, it is no date's
+-- if a text has no such digits, it is no date's
 pub no_date : (text : List ℕ) → ((p : ℕ × ℕ × ℕ) → AreDateParts text p.0 p.1 p.2 → ⊥) → (d : Date) → IsDateText text d → ⊥
 no_date text never d t =
     let P : ℤ → Type 0 = λ year. IsCivilDate year d.month d.day in
@@ -58,7 +58,7 @@ no_date text never d t =
       spelling = t.spelling;
     })
 
--- where a text is no date's, it is no day's
+-- if a text is no date's, it is no day's
 pub no_day : (text : List ℕ) → ((d : Date) → IsDateText text d → ⊥) → (n : ℕ) → SpellsDay text n → ⊥
 unfolding date_record
 no_day text never n s =
@@ -70,7 +70,7 @@ of_civil y m d h = (h.0, (omega (arith, signed_arith), omega (arith, signed_arit
 pub from_pos : (a b : ℕ) → pos a ≡ pos b → a ≡ b
 from_pos a b e = cc
 
--- a date by its parts, where the constructor says whether there is one
+-- a date by its parts, if the constructor says whether there is one
 date_by_parts : {E : Type 0} (text : List ℕ) (y m d : ℕ) (r : Result Date E) → AreDateParts text y m d → (IsDate (pos y) (pos m) (pos d) → IsOk r) →
     IfOk r (IsYmd (pos y) (pos m) (pos d)) → Reads (IsDateText text) (result_ok r)
 date_by_parts text y m d (Ok date) p can h =

@@ -23,7 +23,7 @@ march_year_bounds n h = (omega arith, omega arith, omega arith, omega arith)
 march_days-1996 : (q : ℕ) → 3 ≤ q → q ≤ 103 → march_days (11996 + q) ≡ 4381449 + 365 * q + q / 4
 march_days-1996 q low high = omega arith
 
--- where a year from March has 366 days, it ends in a leap year
+-- if a year from March has 366 days, it ends in a leap year
 leap_day-march : (q r : ℕ) → 3 ≤ q → q ≤ 102 → r < 366 → (q % 4 ≢ 3 → r < 365) → r < 365 + leap_day (pos (1997 + q))
 leap_day-march q r low high leap common = grind (arith, nat_tests)
 

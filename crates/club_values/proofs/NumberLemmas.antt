@@ -46,7 +46,7 @@ digits_read text read r few e parses =
     let small = value_below text h in
     rw (parse_gives own 32 text r (rw e at parses) h.digits h.some (omega arith), few) refl
 
--- a zero with more digits behind it
+-- a zero with more digits after it
 abbrev pub leads_with_zero : List ℕ → Bool
 leads_with_zero text = nat_lt 1 (length text) && slice_index text 0 == 48
 

@@ -33,7 +33,7 @@ found Spells guess false d same x =
     let P = Spells in
     ((λ e. absurd (cc)), (λ s. let t : false ≡ true = d.1 (subst P (sym (same x s)) s) in cc))
 
--- the same, where a text function gives the spelling
+-- the same, if a text function gives the spelling
 found_where : {A : Type 0} (text : List ℕ) (Spells Fits : A → Type 0) (guess : List ℕ → A) (text_of : A → List ℕ) (fits : A → Bool) →
     ((x : A) → Decides (fits x) (Fits x)) → ((x : A) → Spells x → Fits x × (text ≡ text_of x)) → ((x : A) → Fits x → text ≡ text_of x → Spells x) →
     ((x : A) → Fits x → guess (text_of x) ≡ x) → (x : A) → (where_spelled text (guess text) (text_of (guess text)) (fits (guess text)) ≡ Some x) ↔ Spells x

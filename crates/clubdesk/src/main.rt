@@ -6,7 +6,7 @@ use club_http::WriteOutlet;
 use clubdesk_arguments::{CommandName, Fault};
 use clubdesk_commands::run;
 use clubdesk_files::{DatabasesUser, run_over_files};
-use command_line::{given_words, report};
+use command_line::{given_arguments, report};
 use desk_server::{Databases, LogLines};
 use std::process::ExitCode;
 
@@ -14,7 +14,7 @@ fn main(rt: HostRuntime) -> ExitCode {
     let status = match run_over_files(&rt, Program { rt: &rt }) {
         Ok(()) => 0,
         Err(fault) => {
-            report(&rt, &fault, matches!(&fault, Fault::Words(_)));
+            report(&rt, &fault, matches!(&fault, Fault::Arguments(_)));
             fault.status()
         }
     };
@@ -34,13 +34,13 @@ impl DatabasesUser for Program<'_> {
 
     fn run_over<D: Databases>(self, databases: &mut D) -> Result<(), Fault> {
         let rt = self.rt;
-        let words = given_words::<HostRuntime, CommandName, ()>(rt)?;
+        let arguments = given_arguments::<HostRuntime, CommandName, ()>(rt)?;
         let mut log = LogLines::new(WriteOutlet::new(rt.stderr()), rt);
         run(
             rt,
             rt,
             databases,
-            words.as_slice(),
+            arguments.as_slice(),
             &mut rt.stdin(),
             &mut rt.stdout(),
             &mut log,

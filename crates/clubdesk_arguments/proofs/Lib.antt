@@ -1,3 +1,3 @@
 pub mod ValueLemmas
-pub mod WordsLemmas
+pub mod ArgumentsLemmas
 pub mod ReaderLemmas

@@ -1,4 +1,4 @@
--- The roots that words spell, as the code reads them.
+-- The roots that arguments spell, as the code reads them.
 use Rattle.std.proofs.Common.{◌≡◌, ◌⊎◌, ◌↔◌, ℕ, ◌<◌, List, length, Option, Some, None, inl, inr, refl, sym, arith}
 use Rattle.std.specs.Prelude.{IsSome, IfSome}
 use Rattle.std.proofs.lemmas.Bool.{cases_lt}

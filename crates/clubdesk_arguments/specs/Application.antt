@@ -1,15 +1,15 @@
 -- The program's commands and options, as `clap` reads them (ours).
 use Rattle.std.specs.Prelude.{List, [], ◌∷◌, ◌++◌, map, codes}
 use Rattle.clap.specs.Words.{Rule, Text}
-use Rattle.command_line.specs.Application.{as_required, flag_named, form_or_v2, option_named, with_default, word_named}
+use Rattle.command_line.specs.Application.{as_required, flag_named, form_or_v2, option_named, positional_named, with_default}
 use Rattle.command_line.specs.Table.{Table}
 use Rattle.clubdesk_arguments.specs.declared.table.CommandName.{CommandName}
 use Rattle.clubdesk_arguments.specs.declared.table.CommandName.TheVariants.{AddMember, Credit, AddFacility, AddKey, RevokeKey, RotateKey}
 use Rattle.clubdesk_arguments.specs.declared.table.CommandName.TheVariants.{CloseSlot, Sheet, Serve, ShowAccount, ShowSlot}
 
--- words that must be given, known by their places, of which the first is the file
-abbrev pub words_over_file : List Text → List Rule
-words_over_file names = map (λ name. as_required (word_named name)) (codes "FILE" ∷ names)
+-- positional arguments that must be given, of which the first is the file
+abbrev pub positionals_over_file : List Text → List Rule
+positionals_over_file names = map (λ name. as_required (positional_named name)) (codes "FILE" ∷ names)
 
 -- `[--zone RULE]`, UTC by default
 abbrev pub zone_option : Rule
@@ -36,42 +36,42 @@ root_flag = flag_named (codes "root-stdin")
 abbrev pub log_flag : Rule
 log_flag = flag_named (codes "log")
 
-abbrev slot_words : List Rule
-slot_words = words_over_file (codes "FACILITY" ∷ codes "DAY" ∷ codes "HOUR" ∷ [])
+abbrev slot_positionals : List Rule
+slot_positionals = positionals_over_file (codes "FACILITY" ∷ codes "DAY" ∷ codes "HOUR" ∷ [])
 
--- `add-key FILE KEY MEMBER [ROOT] [--root-stdin] [--form FORM]`, and `rotate-key FILE KEY ROOT [MOMENT] [--root-stdin] [--form FORM]`:
--- where the last word of a rotation is left out, the one before it is the moment. The others have all of their words, and
+-- `add-key FILE KEY MEMBER [ROOT] [--root-stdin] [--form FORM]`, and `rotate-key FILE KEY ROOT [MOMENT] [--root-stdin] [--form FORM]`: if the last
+-- argument of a rotation is left out, the one before it is the moment. The others have all of their arguments, and
 -- `serve --port P --count N [--zone RULE] [--at MOMENT] [--patience SECONDS] [--log]`, `show-account [--zone RULE] [--at MOMENT]`
 unfoldable pub clubdesk : Table CommandName
 clubdesk = record {
   title = codes "clubdesk";
   entries =
-      record { command = AddMember; name = codes "add-member"; rules = words_over_file (codes "NAME" ∷ codes "QUOTA" ∷ []) }
-      ∷ record { command = Credit; name = codes "credit"; rules = words_over_file (codes "MEMBER" ∷ codes "POINTS" ∷ []) }
+      record { command = AddMember; name = codes "add-member"; rules = positionals_over_file (codes "NAME" ∷ codes "QUOTA" ∷ []) }
+      ∷ record { command = Credit; name = codes "credit"; rules = positionals_over_file (codes "MEMBER" ∷ codes "POINTS" ∷ []) }
       ∷ record {
         command = AddFacility;
         name = codes "add-facility";
-        rules = words_over_file (codes "NAME" ∷ codes "KIND" ∷ codes "PLACES" ∷ codes "PRICE" ∷ codes "OPENS" ∷ codes "SHUTS" ∷ []);
+        rules = positionals_over_file (codes "NAME" ∷ codes "KIND" ∷ codes "PLACES" ∷ codes "PRICE" ∷ codes "OPENS" ∷ codes "SHUTS" ∷ []);
       }
       ∷ record {
         command = AddKey;
         name = codes "add-key";
-        rules = words_over_file (codes "KEY" ∷ codes "MEMBER" ∷ []) ++ (word_named (codes "ROOT") ∷ root_flag ∷ form_or_v2 ∷ []);
+        rules = positionals_over_file (codes "KEY" ∷ codes "MEMBER" ∷ []) ++ (positional_named (codes "ROOT") ∷ root_flag ∷ form_or_v2 ∷ []);
       }
-      ∷ record { command = RevokeKey; name = codes "revoke-key"; rules = words_over_file (codes "KEY" ∷ []) }
+      ∷ record { command = RevokeKey; name = codes "revoke-key"; rules = positionals_over_file (codes "KEY" ∷ []) }
       ∷ record {
         command = RotateKey;
         name = codes "rotate-key";
-        rules = words_over_file (codes "KEY" ∷ codes "ROOT" ∷ []) ++ (word_named (codes "MOMENT") ∷ root_flag ∷ form_or_v2 ∷ []);
+        rules = positionals_over_file (codes "KEY" ∷ codes "ROOT" ∷ []) ++ (positional_named (codes "MOMENT") ∷ root_flag ∷ form_or_v2 ∷ []);
       }
-      ∷ record { command = CloseSlot; name = codes "close-slot"; rules = slot_words }
-      ∷ record { command = Sheet; name = codes "sheet"; rules = words_over_file (codes "DAY" ∷ []) }
+      ∷ record { command = CloseSlot; name = codes "close-slot"; rules = slot_positionals }
+      ∷ record { command = Sheet; name = codes "sheet"; rules = positionals_over_file (codes "DAY" ∷ []) }
       ∷ record {
         command = Serve;
         name = codes "serve";
-        rules = words_over_file [] ++ (port_option ∷ count_option ∷ zone_option ∷ at_option ∷ patience_option ∷ log_flag ∷ []);
+        rules = positionals_over_file [] ++ (port_option ∷ count_option ∷ zone_option ∷ at_option ∷ patience_option ∷ log_flag ∷ []);
       }
-      ∷ record { command = ShowAccount; name = codes "show-account"; rules = words_over_file (codes "KEY" ∷ []) ++ (zone_option ∷ at_option ∷ []) }
-      ∷ record { command = ShowSlot; name = codes "show-slot"; rules = slot_words }
+      ∷ record { command = ShowAccount; name = codes "show-account"; rules = positionals_over_file (codes "KEY" ∷ []) ++ (zone_option ∷ at_option ∷ []) }
+      ∷ record { command = ShowSlot; name = codes "show-slot"; rules = slot_positionals }
       ∷ [];
 }

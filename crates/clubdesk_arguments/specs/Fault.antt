@@ -1,18 +1,18 @@
 -- The exit status and the line of each fault (ours).
 use Rattle.std.specs.Prelude.{ℕ, List, ◌++◌, Option, Some, None, codes}
 use Rattle.std.specs.String.{string_bytes}
-use Rattle.command_line.specs.declared.errors.WordsFault.{WordsFault}
-use Rattle.command_line.specs.declared.errors.WordsFault.TheVariants as words
+use Rattle.command_line.specs.declared.errors.ArgumentsFault.{ArgumentsFault}
+use Rattle.command_line.specs.declared.errors.ArgumentsFault.TheVariants as arguments
 use Rattle.club_core.specs.Faults.{office_fault_text}
 use Rattle.club_core.specs.declared.store.StoreFault.{StoreFault}
 use Rattle.club_core.specs.declared.store.StoreFault.TheVariants as store
 use Rattle.clubdesk_arguments.specs.declared.fault.Fault.{Fault}
-use Rattle.clubdesk_arguments.specs.declared.fault.Fault.TheVariants.{Refused, Words, BadValue, Memory, Storage}
+use Rattle.clubdesk_arguments.specs.declared.fault.Fault.TheVariants.{Refused, Arguments, BadValue, Memory, Storage}
 use Rattle.clubdesk_arguments.specs.declared.fault.Fault.TheVariants.{ClockOutOfRange, InputOutput, NoAnswer, Answered}
 
 abbrev pub fault_status : Fault → ℕ
 fault_status (Refused fault) = 1
-fault_status (Words error) = 2
+fault_status (Arguments error) = 2
 fault_status BadValue = 3
 fault_status Memory = 4
 fault_status Storage = 5
@@ -21,11 +21,11 @@ fault_status InputOutput = 7
 fault_status NoAnswer = 8
 fault_status (Answered status line) = status
 
--- the fault of refused words
-abbrev pub of_words : WordsFault Unit → Fault
-of_words (words.Refused error) = Words error
-of_words (words.BadValue value) = BadValue
-of_words words.Memory = Memory
+-- the fault of refused arguments
+abbrev pub of_arguments : ArgumentsFault Unit → Fault
+of_arguments (arguments.Refused error) = Arguments error
+of_arguments (arguments.BadValue value) = BadValue
+of_arguments arguments.Memory = Memory
 
 -- the program's fault for a database that can't be opened
 abbrev pub fault_of_opening : StoreFault → Fault
@@ -35,7 +35,7 @@ fault_of_opening store.Storage = Storage
 -- the line on standard error; clap's own text is not stated
 abbrev pub fault_line : Fault → Option (List ℕ)
 fault_line (Refused fault) = Some (codes "refused: " ++ office_fault_text fault)
-fault_line (Words error) = None
+fault_line (Arguments error) = None
 fault_line BadValue = Some (codes "bad value")
 fault_line Memory = Some (codes "out of memory")
 fault_line Storage = Some (codes "storage failed")

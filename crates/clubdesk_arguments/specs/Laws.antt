@@ -1,8 +1,8 @@
 -- Laws of the definitions.
 use Rattle.command_line.specs.JobLaws.{AskOnce}
 use Rattle.clubdesk_arguments.specs.Application.{clubdesk}
-use Rattle.clubdesk_arguments.specs.Words.{ReadsValues}
+use Rattle.clubdesk_arguments.specs.Arguments.{ReadsValues}
 
--- Words that ask for a job ask for no other, and have no fault: each of their results is this job, or out of memory.
+-- Arguments that ask for a job ask for no other, and have no fault: each of their results is this job, or out of memory.
 abbrev pub AskForOneJob : Type 0
 AskForOneJob = AskOnce clubdesk ReadsValues

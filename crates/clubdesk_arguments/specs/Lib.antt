@@ -3,6 +3,6 @@ pub mod Values
 pub mod JobModel
 pub mod Fault
 pub mod Readers
-pub mod Words
+pub mod Arguments
 pub mod Laws
 pub mod computed

@@ -1,4 +1,4 @@
--- The values that words spell, beside those of the club's own texts (ours).
+-- The values that arguments spell, beside those of the club's own texts (ours).
 use Rattle.std.specs.Prelude.{ℕ, ◌&&◌, List, length, nat_le, if◌then◌else◌, Option, Some, None, option_and_then}
 use Rattle.command_line.specs.Root.{root_of}
 use Rattle.club_values.specs.Number.{number_of_digits}

@@ -3,7 +3,7 @@
 use club_clock::Zone;
 use club_values::Moment;
 
-/// Where the moment of a connection comes from, or of a look.
+/// Where the moment of a connection comes from, or of what is shown.
 #[derive(Drop)]
 pub enum Clock<'a> {
     /// One moment, for all connections.

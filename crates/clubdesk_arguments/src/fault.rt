@@ -1,18 +1,18 @@
 //! Why a command failed, with the exit status and the line.
 
 use club_core::{OfficeFault, StoreFault};
-use command_line::WordsFault;
+use command_line::ArgumentsFault;
 use std::alloc::AllocError;
 use std::{error, fmt, io};
 
 /// Why a command failed. Its `Display` is the line for standard error.
 #[derive(Debug, Drop)]
 pub enum Fault {
-    /// The office refuses the order.
+    /// The office refuses the command.
     Refused(OfficeFault),
-    /// `clap` refused the words, or `--form` names none of the three forms.
-    Words(clap::Error),
-    /// A word doesn't spell a value of its place.
+    /// `clap` refused the arguments, or `--form` names none of the three forms.
+    Arguments(clap::Error),
+    /// An argument doesn't spell a value of its place.
     BadValue,
     /// Memory ran out.
     Memory,
@@ -22,9 +22,9 @@ pub enum Fault {
     ClockOutOfRange,
     /// The output couldn't be written, or the server couldn't listen.
     InputOutput,
-    /// A server was handed the order, and didn't answer: it may have carried it out or not.
+    /// A server was handed the command, and didn't answer: it may have carried it out or not.
     NoAnswer,
-    /// A server was handed the order, and answered with this status and line.
+    /// A server was handed the command, and answered with this status and line.
     Answered { status: u8, line: String },
 }
 
@@ -38,7 +38,7 @@ impl Fault {
     {
         match self {
             Fault::Refused(_) => 1,
-            Fault::Words(_) => 2,
+            Fault::Arguments(_) => 2,
             Fault::BadValue => 3,
             Fault::Memory => 4,
             Fault::Storage => 5,
@@ -58,7 +58,7 @@ impl fmt::Display for Fault {
     fn fmt<W: fmt::Write>(&self, f: &mut fmt::Formatter<W>) -> fmt::Result {
         match self {
             Fault::Refused(fault) => write!(f, "refused: {fault}"),
-            Fault::Words(error) => write!(f, "{error}"),
+            Fault::Arguments(error) => write!(f, "{error}"),
             Fault::BadValue => f.write_str("bad value"),
             Fault::Memory => f.write_str("out of memory"),
             Fault::Storage => f.write_str("storage failed"),
@@ -94,17 +94,17 @@ impl From<io::Error> for Fault {
     }
 }
 
-impl From<WordsFault<()>> for Fault {
+impl From<ArgumentsFault<()>> for Fault {
     ghost use Rattle.std.specs.Prelude.{◌≡◌};
-    ghost use Rattle.clubdesk_arguments.specs.Fault.{of_words};
+    ghost use Rattle.clubdesk_arguments.specs.Fault.{of_arguments};
 
-    ghost from_gives = { λ returned fault. fault ≡ of_words returned };
+    ghost from_gives = { λ returned fault. fault ≡ of_arguments returned };
 
-    fn from(returned: WordsFault<()>) -> Fault {
+    fn from(returned: ArgumentsFault<()>) -> Fault {
         match returned {
-            WordsFault::Refused(error) => Fault::Words(error),
-            WordsFault::BadValue(()) => Fault::BadValue,
-            WordsFault::Memory => Fault::Memory,
+            ArgumentsFault::Refused(error) => Fault::Arguments(error),
+            ArgumentsFault::BadValue(()) => Fault::BadValue,
+            ArgumentsFault::Memory => Fault::Memory,
         }
     }
 }

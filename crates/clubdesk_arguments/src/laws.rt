@@ -8,7 +8,7 @@ use crate::task::Job;
 use club_values::laws::{reads_days, reads_hours, reads_kinds, reads_moments, reads_names};
 use command_line::laws::{arguments_ask_once, rows_answer_once};
 
-/// Words that ask for a job ask for no other, and have no fault.
+/// Arguments that ask for a job ask for no other, and have no fault.
 pub fn ask_for_one_job()
     ensures { AskForOneJob }
 {

@@ -5,15 +5,15 @@
 mod clock;
 mod commands;
 mod fault;
+mod job;
 pub mod laws;
 mod options;
 mod table;
 mod task;
 mod values;
-mod words;
 
 pub use clock::Clock;
 pub use fault::Fault;
 pub use table::CommandName;
-pub use task::{Job, KeyChange, KeyOrder, Service, Task, Work};
+pub use task::{Job, KeyChange, KeyCommand, Service, Task, Work};
 pub use values::root_of;

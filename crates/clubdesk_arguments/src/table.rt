@@ -102,17 +102,17 @@ are taken, and whether it is closed. HOUR has two digits, 00 to 23.
 Example:
   clubdesk show-slot club.db court-1 2026-05-01 18";
 
-const FILE: Argument = Argument::NeededWord("FILE");
+const FILE: Argument = Argument::NeededPositional("FILE");
 
-const NAME: Argument = Argument::NeededWord("NAME");
+const NAME: Argument = Argument::NeededPositional("NAME");
 
-const KEY: Argument = Argument::NeededWord("KEY");
+const KEY: Argument = Argument::NeededPositional("KEY");
 
-const FACILITY: Argument = Argument::NeededWord("FACILITY");
+const FACILITY: Argument = Argument::NeededPositional("FACILITY");
 
-const DAY: Argument = Argument::NeededWord("DAY");
+const DAY: Argument = Argument::NeededPositional("DAY");
 
-const HOUR: Argument = Argument::NeededWord("HOUR");
+const HOUR: Argument = Argument::NeededPositional("HOUR");
 
 const ROOT_BY_INPUT: Argument = Argument::Flag(
     "root-stdin",
@@ -130,18 +130,18 @@ const SLOT: &[Argument] = &[FILE, FACILITY, DAY, HOUR];
 const FACILITY_ARGUMENTS: &[Argument] = &[
     FILE,
     NAME,
-    Argument::NeededWord("KIND"),
-    Argument::NeededWord("PLACES"),
-    Argument::NeededWord("PRICE"),
-    Argument::NeededWord("OPENS"),
-    Argument::NeededWord("SHUTS"),
+    Argument::NeededPositional("KIND"),
+    Argument::NeededPositional("PLACES"),
+    Argument::NeededPositional("PRICE"),
+    Argument::NeededPositional("OPENS"),
+    Argument::NeededPositional("SHUTS"),
 ];
 
 const ADD_KEY_ARGUMENTS: &[Argument] = &[
     FILE,
     KEY,
-    Argument::NeededWord("MEMBER"),
-    Argument::Word("ROOT"),
+    Argument::NeededPositional("MEMBER"),
+    Argument::Positional("ROOT"),
     ROOT_BY_INPUT,
     FORM,
 ];
@@ -149,8 +149,8 @@ const ADD_KEY_ARGUMENTS: &[Argument] = &[
 const ROTATE_KEY_ARGUMENTS: &[Argument] = &[
     FILE,
     KEY,
-    Argument::NeededWord("ROOT"),
-    Argument::Word("MOMENT"),
+    Argument::NeededPositional("ROOT"),
+    Argument::Positional("MOMENT"),
     ROOT_BY_INPUT,
     FORM,
 ];
@@ -181,7 +181,7 @@ static CLUBDESK: Program<CommandName> = Program {
             name: "add-member",
             about: "Adds a member",
             help: ADD_MEMBER_HELP,
-            arguments: &[FILE, NAME, Argument::NeededWord("QUOTA")],
+            arguments: &[FILE, NAME, Argument::NeededPositional("QUOTA")],
         },
         Row {
             command: CommandName::Credit,
@@ -190,8 +190,8 @@ static CLUBDESK: Program<CommandName> = Program {
             help: CREDIT_HELP,
             arguments: &[
                 FILE,
-                Argument::NeededWord("MEMBER"),
-                Argument::NeededWord("POINTS"),
+                Argument::NeededPositional("MEMBER"),
+                Argument::NeededPositional("POINTS"),
             ],
         },
         Row {
@@ -263,7 +263,7 @@ static CLUBDESK: Program<CommandName> = Program {
 impl Commands for CommandName {
     ghost table = { clubdesk };
 
-    #[tactic(auto, using(crate::proofs::WordsLemmas::is_good), unfolding(crate::specs::Application::clubdesk))]
+    #[tactic(auto, using(crate::proofs::ArgumentsLemmas::is_good), unfolding(crate::specs::Application::clubdesk))]
     fn application<'a>(alloc: Global) -> Result<Command<'a>, AllocError> {
         make_application(alloc, &CLUBDESK)
     }

@@ -10,10 +10,10 @@ use std::marker::Model;
 /// A task of the office.
 #[derive(Drop)]
 pub enum Task<'a> {
-    /// An order that makes no pass.
-    Order(Command),
-    /// An order that gives a key this root, and makes its pass.
-    Key(KeyOrder, Root),
+    /// A command that makes no pass.
+    Give(Command),
+    /// A command that gives a key this root, and makes its pass.
+    Key(KeyCommand, Root),
     /// The day sheet of a day.
     Sheet(Day),
     /// What the desk shows of a key's account, at the moment of the clock.
@@ -22,9 +22,9 @@ pub enum Task<'a> {
     ShowSlot(Slot),
 }
 
-/// An order that gives a key a root. The key's pass is printed in the form.
+/// A command that gives a key a root. The key's pass is printed in the form.
 #[derive(Drop)]
-pub struct KeyOrder {
+pub struct KeyCommand {
     pub name: Name,
     pub change: KeyChange,
     pub form: Form,
@@ -58,8 +58,8 @@ pub struct Service<'a> {
 #[derive(Drop)]
 pub enum Work<'a> {
     Office(Task<'a>),
-    /// A key's order, whose root is read from the input.
-    Rootless(KeyOrder),
+    /// A key's command, whose root is read from the input.
+    Rootless(KeyCommand),
     Serve(Service<'a>),
 }
 

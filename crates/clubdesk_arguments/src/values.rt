@@ -1,4 +1,4 @@
-//! The values that words spell, beside those of the club's own texts.
+//! The values that arguments spell, beside those of the club's own texts.
 
 ghost use Rattle.std.specs.Prelude.{◌≡◌};
 ghost use Rattle.clubdesk_arguments.specs.Values as spec;

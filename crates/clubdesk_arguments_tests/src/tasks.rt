@@ -2,19 +2,19 @@
 
 use crate::expect::expect_case;
 use club_rows::Root;
-use clubdesk_arguments::{Clock, Job, KeyChange, KeyOrder, Service, Task, Work, laws};
-use command_line::{Asked, WordsFault, read_job};
+use clubdesk_arguments::{Clock, Job, KeyChange, KeyCommand, Service, Task, Work, laws};
+use command_line::{ArgumentsFault, Asked, read_job};
 use std::alloc::AllocError;
 use std::fmt::Write;
 use std::process::Abort;
 
 // The arguments of a line, split at bars, after the program's name.
-pub(crate) fn words_of<'a>(rt: &(impl Abort + AllocGlobal), line: &'a str) -> Vec<&'a str> {
-    let mut words = Vec::from_array(rt.alloc(), ["clubdesk"]).expect(rt, "memory");
-    for word in line.split('|') {
-        words.push(word).expect(rt, "memory");
+pub(crate) fn arguments_of<'a>(rt: &(impl Abort + AllocGlobal), line: &'a str) -> Vec<&'a str> {
+    let mut arguments = Vec::from_array(rt.alloc(), ["clubdesk"]).expect(rt, "memory");
+    for argument in line.split('|') {
+        arguments.push(argument).expect(rt, "memory");
     }
-    words
+    arguments
 }
 
 fn hex_of(rt: &(impl Abort + AllocGlobal), root: &Root) -> String {
@@ -36,16 +36,16 @@ fn describe_service(output: &mut String, service: &Service<'_>) -> Result<(), Al
     }
 }
 
-fn describe_look(output: &mut String, key: &str, clock: &Clock<'_>) -> Result<(), AllocError> {
+fn describe_account(output: &mut String, key: &str, clock: &Clock<'_>) -> Result<(), AllocError> {
     match clock {
         Clock::Fixed(moment) => write!(output, "show {key} at {moment}"),
         Clock::InZone(_) => write!(output, "show {key} by the clock"),
     }
 }
 
-fn describe_key(output: &mut String, order: &KeyOrder, root: &str) -> Result<(), AllocError> {
-    let (name, form) = (&order.name, order.form);
-    match &order.change {
+fn describe_key(output: &mut String, command: &KeyCommand, root: &str) -> Result<(), AllocError> {
+    let (name, form) = (&command.name, command.form);
+    match &command.change {
         KeyChange::Add { member } => write!(output, "add {name} of {member} {root} {form:?}"),
         KeyChange::Rotate { until } => {
             write!(output, "rotate {name} {root} until {until} {form:?}")
@@ -59,10 +59,10 @@ fn describe_task(
     task: &Task<'_>,
 ) -> Result<(), AllocError> {
     match task {
-        Task::Order(order) => write!(output, "{order:?}"),
-        Task::Key(order, root) => describe_key(output, order, hex_of(rt, root).as_str()),
+        Task::Give(command) => write!(output, "{command:?}"),
+        Task::Key(command, root) => describe_key(output, command, hex_of(rt, root).as_str()),
         Task::Sheet(day) => write!(output, "sheet {day}"),
-        Task::ShowAccount { key, clock } => describe_look(output, key.as_str(), clock),
+        Task::ShowAccount { key, clock } => describe_account(output, key.as_str(), clock),
         Task::ShowSlot(slot) => write!(output, "show {slot:?}"),
     }
 }
@@ -74,7 +74,7 @@ fn describe_work(
 ) -> Result<(), AllocError> {
     match work {
         Work::Office(task) => describe_task(rt, output, task),
-        Work::Rootless(order) => describe_key(output, order, "by input"),
+        Work::Rootless(command) => describe_key(output, command, "by input"),
         Work::Serve(service) => describe_service(output, service),
     }
 }
@@ -86,10 +86,13 @@ fn work_text(rt: &(impl Abort + AllocGlobal), work: &Work<'_>) -> String {
     output
 }
 
-// The words of a line ask for this, over this file.
+// The arguments of a line ask for this, over this file.
 fn expect_asked(rt: &(impl Abort + AllocGlobal), line: &str, file: &str, want: &str) {
-    let words = words_of(rt, line);
-    let asked: Result<Asked<Job<'_>>, WordsFault<()>> = read_job(rt.alloc(), words.as_slice());
+    let arguments = arguments_of(rt, line);
+    let asked: Result<Asked<Job<'_>>, ArgumentsFault<()>> = read_job(
+        rt.alloc(),
+        arguments.as_slice(),
+    );
     match &asked {
         Ok(Asked::Perform(job)) => {
             let work = work_text(rt, &job.work);
@@ -167,7 +170,7 @@ static TASKS: [(&str, &str); 32] = [
         "add k of bob ffffffffffffffffffffffffffffffffffffffffffffffffffffffffffffffff\
         ffffffffffffffffffffffffffffffffffffffffffffffffffffffffffffffff V2",
     ),
-    // With `--root-stdin` the word of the root is left out.
+    // With `--root-stdin` the argument of the root is left out.
     ("add-key|F|k|bob|--root-stdin", "add k of bob by input V2"),
     (
         "add-key|--root-stdin|--form=v1|F|k|bob",
@@ -231,7 +234,7 @@ fn tasks(rt: HostRuntime) {
     }
 }
 
-// Words behind `--` are no options.
+// Arguments after `--` are no options.
 #[test]
 fn sheets(rt: HostRuntime) {
     let output = "sheet 2026-05-02";

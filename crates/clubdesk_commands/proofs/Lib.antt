@@ -1,5 +1,5 @@
 pub mod RunLemmas
 pub mod RootTexts
 pub mod ServerLemmas
-pub mod OrderLemmas
+pub mod HandedLemmas
 pub mod MachineLemmas

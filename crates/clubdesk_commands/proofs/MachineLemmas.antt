@@ -26,19 +26,19 @@ use Rattle.club_laws.specs.Failed.{IsStep, is_unavailable}
 use Rattle.clubdesk_arguments.specs.declared.fault.Fault.{Fault}
 use Rattle.clubdesk_arguments.specs.declared.task.Service.{Service}
 use Rattle.clubdesk_arguments.specs.declared.task.Task.{Task}
-use Rattle.clubdesk_arguments.specs.declared.task.Task.TheVariants.{Order, Key, Sheet, ShowAccount, ShowSlot}
-use Rattle.clubdesk_commands.specs.Does.{Does, IsAnswered, Looks}
+use Rattle.clubdesk_arguments.specs.declared.task.Task.TheVariants.{Give, Key, Sheet, ShowAccount, ShowSlot}
+use Rattle.clubdesk_commands.specs.Does.{DeskShows, Does, IsAnswered}
 use Rattle.clubdesk_commands.specs.Does as does
-use Rattle.clubdesk_commands.specs.Machine.{Always, IsItself, machine_answers, machine_orders}
+use Rattle.clubdesk_commands.specs.Machine.{Always, IsItself, machine_answers, machine_commands}
 use Rattle.clubdesk_commands.specs.Moments.{showing}
-use Rattle.clubdesk_commands.specs.OfficeDesk.{DoesWords, Orders}
+use Rattle.clubdesk_commands.specs.OfficeDesk.{CarriesOutBy, DoesArguments}
 use Rattle.clubdesk_commands.specs.OfficeDesk as spec
 use Rattle.clubdesk_commands.specs.Run.{FollowsMachine, RunsServer, over_socket}
 use Rattle.clubdesk_commands.specs.Run as run
-use Rattle.desk_server.specs.Served.{AreOrdered, AreServed, IsAttended, IsCarriedOut, IsExchanged, ServesOne, Turn}
+use Rattle.desk_server.specs.Served.{AreCommanded, AreServed, IsAttended, IsCarriedOut, IsExchanged, ServesOne, Turn}
 use Rattle.desk_server.specs.Served as served
 use Rattle.desk_server.specs.declared.log.Fate.{Fate}
-use Rattle.desk_server.specs.declared.log.Fate.TheVariants.{Absent, Overrun, Unanswered, Exchanged, Ordered}
+use Rattle.desk_server.specs.declared.log.Fate.TheVariants.{Absent, Overrun, Unanswered, Exchanged, Commanded}
 use Rattle.desk_server.specs.declared.office.Answer.{Answer}
 use Rattle.desk_server.specs.declared.office.Carried.{Carried}
 use Rattle.club_clock.specs.Moments.{GivesMoment}
@@ -145,115 +145,117 @@ module _ {S : Type 0} (Clean : S → Type 0) (Represents : S → Club → List C
     exchanges old new (Err (Write n)) (reply, is, fewer, written) =
         so old new _ _ (replies old new reply is) (λ club next gives. (reply, gives, fewer, tt))
 
-  -- ---- an order
+  -- ---- a command
 
-  answered : (order : Command) (IsText : List ℕ → Type 0) (answer : Result (List ℕ) Fault) (old new : S)
-      → IsAnswered Clean Represents order IsText answer old new → Simulates old new (λ club next. IsAnswered Always IsItself order IsText answer club next)
-  answered order IsText answer old new (does.out_of_memory is kept) = same old new _ kept (λ club. does.out_of_memory is refl)
-  answered order IsText answer old new (does.order_given text is given) =
+  answered : (command : Command) (IsText : List ℕ → Type 0) (answer : Result (List ℕ) Fault) (old new : S)
+      → IsAnswered Clean Represents command IsText answer old new → Simulates old new (λ club next. IsAnswered Always IsItself command IsText answer club next)
+  answered command IsText answer old new (does.out_of_memory is kept) = same old new _ kept (λ club. does.out_of_memory is refl)
+  answered command IsText answer old new (does.command_given text is given) =
       so old new _ _ (stepped old new _ _ given.was_clean given.steps)
-      (λ club next steps. does.order_given text is (record {
+      (λ club next steps. does.command_given text is (record {
         reply = given.reply;
         was_clean = λ always. tt;
         steps = λ always. machine_steps club next _ _ steps;
         answers = given.answers;
       }))
 
-  looked : (Shows : Club → Result (String Global) DeskFault → Type 0) (answer : Result (List ℕ) Fault) (old new : S)
-      → Looks Clean Represents Shows answer old new → Simulates old new (λ club next. Looks Always IsItself Shows answer club next)
-  looked Shows answer old new look = record {
-    was_clean = look.was_clean;
+  desk_shown : (Shows : Club → Result (String Global) DeskFault → Type 0) (answer : Result (List ℕ) Fault) (old new : S)
+      → DeskShows Clean Represents Shows answer old new → Simulates old new (λ club next. DeskShows Always IsItself Shows answer club next)
+  desk_shown Shows answer old new desk_shows = record {
+    was_clean = desk_shows.was_clean;
     follows = λ clean club others represents. (
       club,
       others,
-      look.kept clean club others represents,
+      desk_shows.kept clean club others represents,
       record {
         was_clean = λ always. tt;
         kept = λ always now rest is. is;
-        returned = look.returned;
-        shows = λ always now rest is. rw (← is) (look.shows clean club others represents);
-        is = look.is;
+        returned = desk_shows.returned;
+        shows = λ always now rest is. rw (← is) (desk_shows.shows clean club others represents);
+        is = desk_shows.is;
       },
     );
   }
 
   done : (task : Task) (answer : Result (List ℕ) Fault) (old new : S) → Does Clean Represents task answer old new
       → Simulates old new (λ club next. Does Always IsItself task answer club next)
-  done (Order given) answer old new does = answered given _ answer old new does
-  done (Key order root) answer old new does = answered _ _ answer old new does
-  done (Sheet day) answer old new look = looked _ answer old new look
+  done (Give given) answer old new does = answered given _ answer old new does
+  done (Key command root) answer old new does = answered _ _ answer old new does
+  done (Sheet day) answer old new desk_shows = desk_shown _ answer old new desk_shows
   done (ShowAccount key clock) answer old new (None, shows, stopped) = same old new _ stopped.1 (λ club. (None, shows, (stopped.0, refl)))
-  done (ShowAccount key clock) answer old new (Some moment, shows, look) =
-      so old new _ _ (looked _ answer old new look) (λ club next look. (Some moment, shows, look))
-  done (ShowSlot slot) answer old new look = looked _ answer old new look
+  done (ShowAccount key clock) answer old new (Some moment, shows, desk_shows) =
+      so old new _ _ (desk_shown _ answer old new desk_shows) (λ club next desk_shows. (Some moment, shows, desk_shows))
+  done (ShowSlot slot) answer old new desk_shows = desk_shown _ answer old new desk_shows
 
-  worded : (root : Text) (words : List Text) (answer : Result (List ℕ) Fault) (old new : S) → DoesWords Clean Represents root words answer old new
-      → Simulates old new (λ club next. DoesWords Always IsItself root words answer club next)
-  worded root words answer old new (spec.task_done file task asks does) =
+  with_arguments : (root : Text) (arguments : List Text) (answer : Result (List ℕ) Fault) (old new : S)
+      → DoesArguments Clean Represents root arguments answer old new
+      → Simulates old new (λ club next. DoesArguments Always IsItself root arguments answer club next)
+  with_arguments root arguments answer old new (spec.task_done file task asks does) =
       so old new _ _ (done task answer old new does) (λ club next does. spec.task_done file task asks does)
-  worded root words answer old new (spec.key_done file order given asks is does) =
-      so old new _ _ (done (Key order given) answer old new does) (λ club next does. spec.key_done file order given asks is does)
-  worded root words answer old new (spec.root_refused file order asks none refused kept) =
-      same old new _ kept (λ club. spec.root_refused file order asks none refused refl)
-  worded root words answer old new (spec.words_refused fault reads refused kept) = same old new _ kept (λ club. spec.words_refused fault reads refused refl)
+  with_arguments root arguments answer old new (spec.key_done file command given asks is does) =
+      so old new _ _ (done (Key command given) answer old new does) (λ club next does. spec.key_done file command given asks is does)
+  with_arguments root arguments answer old new (spec.root_refused file command asks none refused kept) =
+      same old new _ kept (λ club. spec.root_refused file command asks none refused refl)
+  with_arguments root arguments answer old new (spec.arguments_refused fault reads refused kept) =
+      same old new _ kept (λ club. spec.arguments_refused fault reads refused refl)
 
-  ordered : (bytes : List ℕ) (answer : Answer) (old new : S) → Orders Clean Represents bytes old answer new
-      → Simulates old new (λ club next. machine_orders bytes club answer next)
-  ordered bytes answer old new (spec.order_done root words result is does answers) =
-      so old new _ _ (worded root words result old new does) (λ club next does. spec.order_done root words result is does answers)
-  ordered bytes answer old new (spec.no_order none status kept) = same old new _ kept (λ club. spec.no_order none status refl)
-  ordered bytes answer old new (spec.not_office root words is other status kept) =
-      same old new _ kept (λ club. spec.not_office root words is other status refl)
-  ordered bytes answer old new (spec.no_memory status kept) = same old new _ kept (λ club. spec.no_memory status refl)
+  commanded : (bytes : List ℕ) (answer : Answer) (old new : S) → CarriesOutBy Clean Represents bytes old answer new
+      → Simulates old new (λ club next. machine_commands bytes club answer next)
+  commanded bytes answer old new (spec.command_done root arguments result is does answers) =
+      so old new _ _ (with_arguments root arguments result old new does) (λ club next does. spec.command_done root arguments result is does answers)
+  commanded bytes answer old new (spec.no_command none status kept) = same old new _ kept (λ club. spec.no_command none status refl)
+  commanded bytes answer old new (spec.not_office root arguments is other status kept) =
+      same old new _ kept (λ club. spec.not_office root arguments is other status refl)
+  commanded bytes answer old new (spec.no_memory status kept) = same old new _ kept (λ club. spec.no_memory status refl)
 
-  carried_out : (carried : Option Carried) (old new : S) → IsCarriedOut (Orders Clean Represents) old carried new
-      → Simulates old new (λ club next. IsCarriedOut machine_orders club carried next)
+  carried_out : (carried : Option Carried) (old new : S) → IsCarriedOut (CarriesOutBy Clean Represents) old carried new
+      → Simulates old new (λ club next. IsCarriedOut machine_commands club carried next)
   carried_out None old new kept = same old new _ kept (λ club. refl)
   carried_out (Some carried) old new (bytes, answer, carries, is) =
-      so old new _ _ (ordered bytes answer old new carries) (λ club next carries. (bytes, answer, carries, is))
+      so old new _ _ (commanded bytes answer old new carries) (λ club next carries. (bytes, answer, carries, is))
 
   -- ---- a server
 
   module _ {Clock : Type 0} (Given : GivesMoment Clock) where
-    are_ordered : (clock : Clock) (old : S) (fates : List Fate) (clock' : Clock) (new : S)
-        → AreOrdered Given (Orders Clean Represents) clock old fates clock' new
-        → Simulates old new (λ club next. AreOrdered Given machine_orders clock club fates clock' next)
-    are_ordered clock old _ _ _ served.no_order = same old old _ refl (λ club. served.no_order)
-    are_ordered clock old _ _ _ (served.one_order fates moment carried c d c' new before gives is) =
-        after old d new _ _ _ (are_ordered clock old fates c d before) (carried_out carried d new is)
-        (λ club now next before is. served.one_order fates moment carried c now c' next before gives is)
+    are_commanded : (clock : Clock) (old : S) (fates : List Fate) (clock' : Clock) (new : S)
+        → AreCommanded Given (CarriesOutBy Clean Represents) clock old fates clock' new
+        → Simulates old new (λ club next. AreCommanded Given machine_commands clock club fates clock' next)
+    are_commanded clock old _ _ _ served.no_command = same old old _ refl (λ club. served.no_command)
+    are_commanded clock old _ _ _ (served.one_command fates moment carried c d c' new before gives is) =
+        after old d new _ _ _ (are_commanded clock old fates c d before) (carried_out carried d new is)
+        (λ club now next before is. served.one_command fates moment carried c now c' next before gives is)
 
     module _ (Fails : Option Change → S → StoreFault → S → Type 0) where
       attended : (meanwhile : List Fate) (moment : ℕ) (line : List ℕ) (outcome : Result Reply AnswerFault) (clock : Clock) (old : S) (clock' : Clock) (new : S)
-          → IsAttended Given (AnswersBy Clean Represents Fails) (Orders Clean Represents) over_socket meanwhile moment line outcome clock old clock' new
+          → IsAttended Given (AnswersBy Clean Represents Fails) (CarriesOutBy Clean Represents) over_socket meanwhile moment line outcome clock old clock' new
           → Simulates old new
-          (λ club next. IsAttended Given machine_answers machine_orders over_socket meanwhile moment line outcome clock club clock' next)
+          (λ club next. IsAttended Given machine_answers machine_commands over_socket meanwhile moment line outcome clock club clock' next)
       attended meanwhile moment line outcome clock old clock' new client =
-          after old client.left new _ _ _ (are_ordered client.given old meanwhile clock' client.left client.ordered)
+          after old client.left new _ _ _ (are_commanded client.given old meanwhile clock' client.left client.commanded)
           (exchanges Fails moment client.exchanged.0 client.left new outcome client.exchanged.2)
-          (λ club now next ordered exchanged. record {
+          (λ club now next commanded exchanged. record {
             given = client.given;
             left = now;
             gives = client.gives;
-            ordered = ordered;
+            commanded = commanded;
             exchanged = (client.exchanged.0, client.exchanged.1, exchanged);
             ended = client.ended;
           })
 
       one : (clock : Clock) (old : S) (f : ℕ) (meanwhile : List Fate) (fate : Fate) (clock' : Clock) (new : S) (f' : ℕ)
-          → ServesOne Given (AnswersBy Clean Represents Fails) (Orders Clean Represents) over_socket clock old f meanwhile fate clock' new f'
-          → Simulates old new (λ club next. ServesOne Given machine_answers machine_orders over_socket clock club f meanwhile fate clock' next f')
+          → ServesOne Given (AnswersBy Clean Represents Fails) (CarriesOutBy Clean Represents) over_socket clock old f meanwhile fate clock' new f'
+          → Simulates old new (λ club next. ServesOne Given machine_answers machine_commands over_socket clock club f meanwhile fate clock' next f')
       one clock old f meanwhile Absent clock' new f' (none, counted, still, kept) = same old new _ kept (λ club. (none, counted, still, refl))
       one clock old f meanwhile Overrun clock' new f' (none, counted, still, kept) = same old new _ kept (λ club. (none, counted, still, refl))
-      one clock old f meanwhile (Ordered moment carried) clock' new f' (none, counted, gives, is) =
+      one clock old f meanwhile (Commanded moment carried) clock' new f' (none, counted, gives, is) =
           so old new _ _ (carried_out carried old new is) (λ club next is. (none, counted, gives, is))
       one clock old f meanwhile Unanswered clock' new f' never = absurd never
       one clock old f meanwhile (Exchanged moment line outcome) clock' new f' (counted, client) =
           so old new _ _ (attended meanwhile moment line outcome clock old clock' new client) (λ club next client. (counted, client))
 
       all : (clock : Clock) (old : S) (f : ℕ) (turns : List Turn) (clock' : Clock) (new : S) (f' : ℕ)
-          → AreServed Given (AnswersBy Clean Represents Fails) (Orders Clean Represents) over_socket clock old f turns clock' new f'
-          → Simulates old new (λ club next. AreServed Given machine_answers machine_orders over_socket clock club f turns clock' next f')
+          → AreServed Given (AnswersBy Clean Represents Fails) (CarriesOutBy Clean Represents) over_socket clock old f turns clock' new f'
+          → Simulates old new (λ club next. AreServed Given machine_answers machine_commands over_socket clock club f turns clock' next f')
       all clock old f _ _ _ _ served.none = same old old _ refl (λ club. served.none)
       all clock old f _ _ _ _ (served.more turns turn c d f1 c' new f' before due it) =
           after old d new _ _ _ (all clock old f turns c d f1 before) (one c d f1 turn.meanwhile turn.fate c' new f' it)
@@ -261,7 +263,8 @@ module _ {S : Type 0} (Clean : S → Type 0) (Represents : S → Club → List C
 
   module _ (Fails : Option Change → S → StoreFault → S → Type 0) (service : Service) (store left : S) (Noted : List Turn → Type 0) where
     -- a server over a store is one over the club that this represents
-    pub follows_machine : (result : Result Unit Fault) → RunsServer (AnswersBy Clean Represents Fails) (Orders Clean Represents) service store left Noted result
+    pub follows_machine : (result : Result Unit Fault)
+        → RunsServer (AnswersBy Clean Represents Fails) (CarriesOutBy Clean Represents) service store left Noted result
         → FollowsMachine Clean Represents service store left Noted result
     follows_machine result (run.listened outcome last failures is it) =
         (so store left _ _ (all showing Fails service.clock store 0 it.turns it.last left failures it.before)

@@ -1,4 +1,4 @@
--- What words ask for, what is handed over, and how work ends.
+-- What arguments ask for, what is handed over, and how work ends.
 use Rattle.std.proofs.Common.{◌≡◌, ℕ, List, Option, Result, Ok, Err, ap, subst, sym, ◌∙◌, inl, inr, refl}
 use Rattle.clap.specs.Words.{Text}
 use Rattle.club_core.specs.declared.store.ClubStore.{Ghosts as StoreWords}
@@ -10,36 +10,37 @@ use Rattle.desk_server.specs.declared.databases.Databases.{Ghosts as DatabasesWo
 use Rattle.desk_server.specs.declared.databases.Visit.{Ghosts as VisitWords}
 use Rattle.clubdesk_arguments.specs.Fault.{fault_of_opening}
 use Rattle.clubdesk_arguments.specs.JobModel.{JobModel}
-use Rattle.clubdesk_arguments.specs.Words.{AskFor, ReadsWords}
+use Rattle.clubdesk_arguments.specs.Arguments.{AskFor, ReadsArguments}
 use Rattle.clubdesk_arguments.specs.declared.fault.Fault.{Fault}
 use Rattle.clubdesk_arguments.specs.declared.fault.Fault.TheVariants.{Memory, ClockOutOfRange, InputOutput}
 use Rattle.clubdesk_arguments.specs.declared.task.Service.{Service}
 use Rattle.clubdesk_arguments.specs.declared.task.Work.{Work}
-use Rattle.command_line.specs.declared.errors.WordsFault.{WordsFault}
+use Rattle.command_line.specs.declared.errors.ArgumentsFault.{ArgumentsFault}
 use Rattle.command_line.specs.declared.job.Asked.{Asked}
 use Rattle.command_line.specs.declared.job.Asked.TheVariants.{Perform}
-use Rattle.clubdesk_commands.specs.Order.{order_bytes}
+use Rattle.clubdesk_commands.specs.HandedCommand.{command_bytes}
 use Rattle.clubdesk_commands.specs.Output.{EndsWork, Stream}
 use Rattle.clubdesk_commands.specs.Run.{Announces, IsHandedOver, IsReply, Serves}
 use Rattle.clubdesk_commands.specs.Run as spec
 
--- words that were read as a job ask for its work
-pub asks_for : (given words : List Text) (read : Asked JobModel) (job whole : JobModel) (work : Work) → given ≡ words → ReadsWords given (Ok read)
-    → read ≡ Perform whole → job ≡ whole → job.work ≡ work → AskFor words job.file work
-asks_for given words read job whole work same reads is as_whole asked =
+-- arguments that were read as a job ask for its work
+pub asks_for : (given arguments : List Text) (read : Asked JobModel) (job whole : JobModel) (work : Work) → given ≡ arguments → ReadsArguments given (Ok read)
+    → read ≡ Perform whole → job ≡ whole → job.work ≡ work → AskFor arguments job.file work
+asks_for given arguments read job whole work same reads is as_whole asked =
     let as_asked : read ≡ Perform (record { file = job.file; work = work }) =
     is ∙ ap Perform (sym as_whole) ∙ ap (λ (it : Work). Perform (record { file = job.file; work = it })) asked in
-    subst (λ (it : Asked JobModel). ReadsWords words (Ok it)) as_asked (subst (λ (texts : List Text). ReadsWords texts (Ok read)) same reads)
+    subst (λ (it : Asked JobModel). ReadsArguments arguments (Ok it)) as_asked (subst (λ (texts : List Text). ReadsArguments texts (Ok read)) same reads)
 
--- equal words have the same fault
-pub refused_alike : (given words : List Text) (fault : WordsFault Unit) → given ≡ words → ReadsWords given (Err fault) → ReadsWords words (Err fault)
-refused_alike given words fault same = subst (λ (texts : List Text). ReadsWords texts (Err fault)) same
+-- equal arguments have the same fault
+pub refused_alike : (given arguments : List Text) (fault : ArgumentsFault Unit) → given ≡ arguments → ReadsArguments given (Err fault)
+    → ReadsArguments arguments (Err fault)
+refused_alike given arguments fault same = subst (λ (texts : List Text). ReadsArguments texts (Err fault)) same
 
--- the bytes that a server was given are those of the order
-pub handed_reply : {V : Type 0} (Gives : Giving V) (visit : V) (root : Text) (words : List Text) (given bytes : List ℕ) (reply : Option (ℕ × List ℕ))
-    (answer : Result (List ℕ) Fault) → given ≡ bytes → bytes ≡ order_bytes root words → Gives visit given reply → IsReply reply answer
-    → IsHandedOver Gives visit root words answer
-handed_reply Gives visit root words given bytes reply answer same made gives is =
+-- the bytes that a server was given are those of the command
+pub handed_reply : {V : Type 0} (Gives : Giving V) (visit : V) (root : Text) (arguments : List Text) (given bytes : List ℕ) (reply : Option (ℕ × List ℕ))
+    (answer : Result (List ℕ) Fault) → given ≡ bytes → bytes ≡ command_bytes root arguments → Gives visit given reply → IsReply reply answer
+    → IsHandedOver Gives visit root arguments answer
+handed_reply Gives visit root arguments given bytes reply answer same made gives is =
     spec.handed reply (subst (λ (text : List ℕ). Gives visit text reply) (same ∙ made) gives) is
 
 -- ---- how work ends

@@ -1,7 +1,7 @@
 -- What a server serves, by how it ends.
 use Rattle.std.proofs.Common.{◌≡◌, ℕ, List, [], Result, Err, inl, inr, refl}
 use Rattle.club_http.specs.Replied.{AnswerRelation}
-use Rattle.desk_server.specs.Served.{Orders, Turn}
+use Rattle.desk_server.specs.Served.{CommandRelation, Turn}
 use Rattle.desk_server.specs.Served as served
 use Rattle.desk_server.specs.declared.serve.ClockOutOfRange.{ClockOutOfRange as ClockFault}
 use Rattle.clubdesk_arguments.specs.declared.clock.Clock.{Clock}
@@ -13,8 +13,9 @@ use Rattle.clubdesk_commands.specs.Output.{Stream}
 use Rattle.clubdesk_commands.specs.Run.{IfLogged, RunsServer, StopsBefore, outcome_of_server, over_socket}
 use Rattle.clubdesk_commands.specs.Run as spec
 
-module _ {Desk : Type 0} (Answers : ℕ → AnswerRelation Desk) (Carries : Orders Desk) (service : Service) (old new : Desk) (Noted : List Turn → Type 0) where
-  -- one that listens; what is noted counts where a log is asked for
+module _ {Desk : Type 0} (Answers : ℕ → AnswerRelation Desk) (Carries : CommandRelation Desk) (service : Service) (old new : Desk) (Noted : List Turn
+    → Type 0) where
+  -- one that listens; what is noted counts if a log is asked for
   pub serves : (last : Clock) (failures : ℕ) (Besides : List Turn → Type 0) → ((turns : List Turn) → Besides turns → IfLogged service Noted turns)
       → (outcome : Result Unit ClockFault)
       → served.Serves showing Answers Carries over_socket service.count service.clock old 0 outcome last new failures Besides

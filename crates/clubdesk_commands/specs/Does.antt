@@ -3,14 +3,14 @@ use Rattle.std.specs.Prelude.{◌≡◌, ℕ, List, [], ◌∷◌, ◌++◌, cod
 use Rattle.std.specs.String.{string_bytes}
 use Rattle.std.specs.declared.alloc.Global.{Global}
 use Rattle.club_core.specs.declared.command.Command.{Command}
-use Rattle.club_core.specs.declared.command.Command.TheVariants as order
+use Rattle.club_core.specs.declared.command.Command.TheVariants as office
 use Rattle.club_core.specs.Club.{Club}
 use Rattle.club_core.specs.Run.{ToOffice}
 use Rattle.club_core.specs.Run as machine
 use Rattle.club_core.specs.Sheet.{IsSheet}
 use Rattle.club_core.specs.Store.{KeepsClub}
 use Rattle.club_gate.specs.Desk.{OfItsClub, Steps}
-use Rattle.club_gate.specs.Looks.{ReturnsLook, account_look, slot_look}
+use Rattle.club_gate.specs.Shown.{ReturnsShown, shown_account, shown_slot}
 use Rattle.club_gate.specs.Minted.{key_pass, minted_signature}
 use Rattle.club_gate.specs.declared.event.OfficeReply.{OfficeReply}
 use Rattle.club_gate.specs.declared.event.OfficeReply.TheVariants as replies
@@ -25,13 +25,13 @@ use Rattle.clubdesk_arguments.specs.declared.fault.Fault.TheVariants.{Refused, M
 use Rattle.clubdesk_arguments.specs.declared.task.KeyChange.{KeyChange}
 use Rattle.clubdesk_arguments.specs.declared.task.KeyChange.TheVariants.{Add, Rotate}
 use Rattle.clubdesk_arguments.specs.declared.task.Task.{Task}
-use Rattle.clubdesk_arguments.specs.declared.task.Task.TheVariants.{Order, Key, Sheet, ShowAccount, ShowSlot}
+use Rattle.clubdesk_arguments.specs.declared.task.Task.TheVariants.{Give, Key, Sheet, ShowAccount, ShowSlot}
 use Rattle.clubdesk_commands.specs.Moments.{IsMomentOf}
 
--- the desk's order that gives a key this root
+-- the office's command that gives a key this root
 abbrev pub key_command : List ℕ → KeyChange → List ℕ → Command
-key_command name (Add member) root = order.AddKey name member root
-key_command name (Rotate until) root = order.RotateKey name root until
+key_command name (Add member) root = office.AddKey name member root
+key_command name (Rotate until) root = office.RotateKey name root until
 
 -- the line is the text of a key's pass under a root, in a form, with a line feed; there is none if the pass has no text within the limits
 pub record IsPassLine (name root : List ℕ) (form : Form) (line : List ℕ) : Type 0 where
@@ -44,7 +44,7 @@ abbrev pub fault_of_desk : DeskFault → Fault
 fault_of_desk (desk.Refused refusal) = Refused refusal
 fault_of_desk (desk.Store failure) = fault_of_opening failure
 
--- the answer to an order: its fault if it was refused, otherwise the text
+-- the answer to a command: its fault if it was refused, otherwise the text
 abbrev pub GivesReply : List ℕ → Result (List ℕ) Fault → OfficeReply → Type 0
 GivesReply text answer (replies.Refused fault) = answer ≡ Err (fault_of_desk fault)
 GivesReply text answer reply = answer ≡ Ok text
@@ -55,20 +55,20 @@ answer_of_desk (Ok text) = Ok (string_bytes text)
 answer_of_desk (Err fault) = Err (fault_of_desk fault)
 
 module _ {S : Type 0} (Clean : S → Type 0) (Represents : S → Club → List Club → Type 0) where
-  -- The desk got an order, and its reply was answered, with this text if it wasn't refused.
-  pub record IsGiven (order : Command) (text : List ℕ) (answer : Result (List ℕ) Fault) (old new : S) : Type 0 where
+  -- The desk got a command, and its reply became the answer, with this text if it wasn't refused.
+  pub record IsGiven (command : Command) (text : List ℕ) (answer : Result (List ℕ) Fault) (old new : S) : Type 0 where
     pub reply : OfficeReply
     pub was_clean : Clean new → Clean old
-    pub steps : Clean new → Steps Represents old new (machine.Ordered order) (ToOffice reply)
+    pub steps : Clean new → Steps Represents old new (machine.Commanded command) (ToOffice reply)
     pub answers : GivesReply text answer reply
 
-  -- The text was made before the order was given; if memory ran out for it, nothing was done.
-  pub data IsAnswered (order : Command) (IsText : List ℕ → Type 0) (answer : Result (List ℕ) Fault) (old new : S) : Type 0 where
-    out_of_memory : answer ≡ Err Memory → new ≡ old → IsAnswered order IsText answer old new
-    order_given : (text : List ℕ) → IsText text → IsGiven order text answer old new → IsAnswered order IsText answer old new
+  -- The text was made before the command was given; if memory ran out for it, nothing was done.
+  pub data IsAnswered (command : Command) (IsText : List ℕ → Type 0) (answer : Result (List ℕ) Fault) (old new : S) : Type 0 where
+    out_of_memory : answer ≡ Err Memory → new ≡ old → IsAnswered command IsText answer old new
+    command_given : (text : List ℕ) → IsText text → IsGiven command text answer old new → IsAnswered command IsText answer old new
 
   -- The desk was asked for a look at the club, which is unchanged, and what it returned was answered.
-  pub record Looks (Shows : Club → Result (String Global) DeskFault → Type 0) (answer : Result (List ℕ) Fault) (old new : S) : Type 0 where
+  pub record DeskShows (Shows : Club → Result (String Global) DeskFault → Type 0) (answer : Result (List ℕ) Fault) (old new : S) : Type 0 where
     pub was_clean : Clean new → Clean old
     pub kept : Clean new → KeepsClub Represents old new
     pub returned : Result (String Global) DeskFault
@@ -77,11 +77,11 @@ module _ {S : Type 0} (Clean : S → Type 0) (Represents : S → Club → List C
 
   -- What a task of the office answers, and how it changes a store, by the store's trait.
   abbrev pub Does : Task → Result (List ℕ) Fault → S → S → Type 0
-  Does (Order given) answer old new = IsAnswered given (λ line. line ≡ codes "done\n") answer old new
+  Does (Give given) answer old new = IsAnswered given (λ line. line ≡ codes "done\n") answer old new
   Does (Key given root) answer old new =
       IsAnswered (key_command given.name given.change root) (IsPassLine given.name root given.form) answer old new
-  Does (Sheet day) answer old new = Looks (λ club sheet. IfOk sheet (λ text. IsSheet club day (string_bytes text))) answer old new
+  Does (Sheet day) answer old new = DeskShows (λ club sheet. IfOk sheet (λ text. IsSheet club day (string_bytes text))) answer old new
   Does (ShowAccount key clock) answer old new = (shown : Option ℕ) × IsMomentOf clock shown
       × MatchOption shown ((answer ≡ Err ClockOutOfRange) × (new ≡ old))
-      (λ moment. Looks (λ club look. ReturnsLook (account_look club key moment) look) answer old new)
-  Does (ShowSlot slot) answer old new = Looks (λ club look. ReturnsLook (slot_look club slot) look) answer old new
+      (λ moment. DeskShows (λ club shown. ReturnsShown (shown_account club key moment) shown) answer old new)
+  Does (ShowSlot slot) answer old new = DeskShows (λ club shown. ReturnsShown (shown_slot club slot) shown) answer old new

@@ -1,7 +1,7 @@
 pub mod Output
 pub mod Moments
 pub mod Does
-pub mod Order
+pub mod HandedCommand
 pub mod OfficeDesk
 pub mod Machine
 pub mod Input

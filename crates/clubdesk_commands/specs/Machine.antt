@@ -1,4 +1,4 @@
--- The club in place of a store: what its machine makes of requests and orders (ours).
+-- The club in place of a store: what its machine makes of requests and commands (ours).
 use Rattle.std.specs.Prelude.{◌≡◌, ℕ, List}
 use Rattle.club_core.specs.Club.{Club}
 use Rattle.club_core.specs.Pass.{Words}
@@ -8,7 +8,7 @@ use Rattle.club_gate.specs.Response.{desk_presentation}
 use Rattle.club_http.specs.Replied.{AnswerRelation}
 use Rattle.club_laws.specs.Failed.{IsStep}
 use Rattle.desk_server.specs.Served as served
-use Rattle.clubdesk_commands.specs.OfficeDesk.{Orders}
+use Rattle.clubdesk_commands.specs.OfficeDesk.{CarriesOutBy}
 
 -- a club represents itself alone, and is always clean
 abbrev pub IsItself : Club → Club → List Club → Type 0
@@ -22,6 +22,6 @@ abbrev pub machine_answers : ℕ → AnswerRelation Club
 machine_answers moment text request club reply next =
     (words : Words) × AreWordsOf text request words × IsStep desk_presentation club (Asked words moment) (ToMember reply) next
 
--- an order does to the club what it does to a store that represents it
-abbrev pub machine_orders : served.Orders Club
-machine_orders bytes club answer next = Orders Always IsItself bytes club answer next
+-- a command does to the club what it does to a store that represents it
+abbrev pub machine_commands : served.CommandRelation Club
+machine_commands bytes club answer next = CarriesOutBy Always IsItself bytes club answer next

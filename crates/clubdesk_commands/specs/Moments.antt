@@ -5,7 +5,7 @@ use Rattle.club_clock.specs.Zone.{IsShown}
 use Rattle.clubdesk_arguments.specs.declared.clock.Clock.{Clock}
 use Rattle.clubdesk_arguments.specs.declared.clock.Clock.TheVariants.{Fixed, InZone}
 
--- a moment of a clock: the fixed one; or that which a clock shows in the zone at some instant, or none where it can't be read
+-- a moment of a clock: the fixed one; or that which a clock shows in the zone at some instant, or none if it can't be read
 abbrev pub IsMomentOf : Clock → Option ℕ → Type 0
 IsMomentOf (Fixed moment) shown = shown ≡ Some moment
 IsMomentOf (InZone rule) shown = ((instant : ℤ) × IsShown rule instant shown) ⊎ (shown ≡ None)

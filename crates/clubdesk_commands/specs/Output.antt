@@ -6,7 +6,7 @@ use Rattle.command_line.specs.Output.{AppendsFront}
 use Rattle.desk_server.specs.Served.{AreNoted, Turn}
 use Rattle.desk_server.specs.declared.log.Log.{Ghosts as LogWords}
 use Rattle.clubdesk_arguments.specs.declared.fault.Fault.{Fault}
-use Rattle.clubdesk_arguments.specs.declared.fault.Fault.TheVariants.{Words, BadValue, ClockOutOfRange, InputOutput}
+use Rattle.clubdesk_arguments.specs.declared.fault.Fault.TheVariants.{Arguments, BadValue, ClockOutOfRange, InputOutput}
 
 -- a reader or a writer before and after: the bytes that it has left or holds, if they are known, and the statement that it is unchanged
 pub record Stream : Type 1 where
@@ -42,12 +42,12 @@ abbrev pub Prints : Result (List ℕ) Fault → Stream → Result Unit Fault →
 Prints (Ok text) written result = WritesText text written result
 Prints (Err fault) written result = (result ≡ Err fault) × written.no_change
 
--- a fault that work may end with: none of the words
+-- a fault that work may end with: none of the arguments
 abbrev pub IsWorkFault : Fault → Type 0
-IsWorkFault (Words error) = ⊥
+IsWorkFault (Arguments error) = ⊥
 IsWorkFault BadValue = ⊥
 IsWorkFault fault = Unit {0}
 
--- How work ends: by no fault of the words, and, but for these two, with nothing written before a fault.
+-- How work ends: by no fault of the arguments, and, but for these two, with nothing written before a fault.
 abbrev pub EndsWork : Type 0 → Result Unit Fault → Type 0
 EndsWork Unwritten result = IfErr result (λ fault. IsWorkFault fault × ((fault ≡ ClockOutOfRange) ⊎ (fault ≡ InputOutput) ⊎ Unwritten))

@@ -11,7 +11,7 @@ use Rattle.club_core.specs.Club.{Club}
 use Rattle.club_http.specs.Desk.{AnswersBy}
 use Rattle.club_http.specs.Replied.{AnswerRelation}
 use Rattle.command_line.specs.Output.{AppendsFront}
-use Rattle.command_line.specs.declared.errors.WordsFault.{WordsFault}
+use Rattle.command_line.specs.declared.errors.ArgumentsFault.{ArgumentsFault}
 use Rattle.command_line.specs.declared.job.Asked.TheVariants.{ShowText}
 use Rattle.desk_server.specs.Databases.{Giving}
 use Rattle.desk_server.specs.Served.{Ends, Turn}
@@ -20,12 +20,12 @@ use Rattle.desk_server.specs.declared.databases.Databases.{Ghosts as DatabasesWo
 use Rattle.desk_server.specs.declared.databases.Reached.TheVariants.{Opened, Served}
 use Rattle.desk_server.specs.declared.databases.Visit.{Ghosts as VisitWords}
 use Rattle.desk_server.specs.declared.serve.ClockOutOfRange.{ClockOutOfRange as ClockFault}
-use Rattle.clubdesk_arguments.specs.Fault.{fault_of_opening, of_words}
-use Rattle.clubdesk_arguments.specs.Words.{AskFor, ReadsWords}
+use Rattle.clubdesk_arguments.specs.Fault.{fault_of_opening, of_arguments}
+use Rattle.clubdesk_arguments.specs.Arguments.{AskFor, ReadsArguments}
 use Rattle.clubdesk_arguments.specs.declared.clock.Clock.{Clock}
 use Rattle.clubdesk_arguments.specs.declared.fault.Fault.{Fault}
 use Rattle.clubdesk_arguments.specs.declared.fault.Fault.TheVariants.{Memory, ClockOutOfRange, InputOutput, NoAnswer, Answered}
-use Rattle.clubdesk_arguments.specs.declared.task.KeyOrder.{KeyOrder}
+use Rattle.clubdesk_arguments.specs.declared.task.KeyCommand.{KeyCommand}
 use Rattle.clubdesk_arguments.specs.declared.task.Service.{Service}
 use Rattle.clubdesk_arguments.specs.declared.task.Task.{Task}
 use Rattle.clubdesk_arguments.specs.declared.task.Task.TheVariants.{Key}
@@ -33,9 +33,9 @@ use Rattle.clubdesk_arguments.specs.declared.task.Work.TheVariants.{Office, Root
 use Rattle.clubdesk_commands.specs.Does.{Does}
 use Rattle.clubdesk_commands.specs.Input.{TakesRoot}
 use Rattle.clubdesk_commands.specs.Moments.{showing}
-use Rattle.clubdesk_commands.specs.Machine.{machine_answers, machine_orders}
-use Rattle.clubdesk_commands.specs.OfficeDesk.{Orders}
-use Rattle.clubdesk_commands.specs.Order.{order_bytes}
+use Rattle.clubdesk_commands.specs.Machine.{machine_answers, machine_commands}
+use Rattle.clubdesk_commands.specs.OfficeDesk.{CarriesOutBy}
+use Rattle.clubdesk_commands.specs.HandedCommand.{command_bytes}
 use Rattle.clubdesk_commands.specs.Output.{EndsWork, LogChange, Prints, Stream}
 
 -- ---- the server
@@ -53,9 +53,9 @@ abbrev pub outcome_of_server : Result Unit ClockFault → Result Unit Fault
 outcome_of_server (Ok done) = Ok done
 outcome_of_server (Err stopped) = Err ClockOutOfRange
 
--- How a server ends: so many clients were served, at moments of its clock, and the orders that came before them and meanwhile; or the clock
--- gave no moment at one of them. Its log noted the turns of all. Or it couldn't listen or write its address, and served and noted nothing.
-pub data RunsServer {Desk : Type 0} (Answers : ℕ → AnswerRelation Desk) (Carries : served.Orders Desk) (service : Service) (old new : Desk)
+-- How a server ends: so many clients were served, at moments of its clock, and the commands that came before them and meanwhile; or the clock gave no
+-- moment at one of them. Its log noted the turns of all. Or it couldn't listen or write its address, and served and noted nothing.
+pub data RunsServer {Desk : Type 0} (Answers : ℕ → AnswerRelation Desk) (Carries : served.CommandRelation Desk) (service : Service) (old new : Desk)
     (Noted : List Turn → Type 0) (result : Result Unit Fault) : Type 0 where
   listened : (outcome : Result Unit ClockFault) (last : Clock) (failures : ℕ) → result ≡ outcome_of_server outcome
       → served.Serves showing Answers Carries over_socket service.count service.clock old 0 outcome last new failures (IfLogged service Noted)
@@ -93,75 +93,76 @@ module _ {Store : Type 0} (Clean : Store → Type 0) (Represents : Store → Clu
   abbrev pub FollowsMachine : Service → Store → Store → (List Turn → Type 0) → Result Unit Fault → Type 0
   FollowsMachine service store left Noted result =
       Clean left → (club : Club) (others : List Club) → Represents store club others
-      → (last : Club) × (still : List Club) × Represents left last still × RunsServer machine_answers machine_orders service club last Noted result
+      → (last : Club) × (still : List Club) × Represents left last still × RunsServer machine_answers machine_commands service club last Noted result
 
--- ---- an order that is handed over
+-- ---- a command that is handed over
 
--- the root of a task in hexadecimal, for a server that is handed words without it
+-- the root of a task in hexadecimal, for a server that is handed arguments without it
 abbrev pub handed_root : Task → Text
-handed_root (Key order root) = encode_lower root
+handed_root (Key command root) = encode_lower root
 handed_root task = []
 
--- the answer to an order that a server was handed: what it replied, or that it gave no reply
+-- the answer to a command that a server was handed: what it replied, or that it gave no reply
 abbrev pub IsReply : Option (ℕ × List ℕ) → Result (List ℕ) Fault → Type 0
 IsReply reply (Ok text) = reply ≡ Some (0, text)
 IsReply reply (Err NoAnswer) = reply ≡ None
 IsReply reply (Err (Answered status line)) = (status ≢ 0) × (reply ≡ Some (status, string_bytes line))
 IsReply reply (Err fault) = ⊥
 
--- A server was handed an order of these words with this root, and its reply is the answer; or memory was refused, and it was handed none.
-pub data IsHandedOver {Visit : Type 0} (Gives : Giving Visit) (visit : Visit) (root : Text) (words : List Text)
+-- A server was handed a command of these arguments with this root, and its reply is the answer; or memory was refused, and it was handed none.
+pub data IsHandedOver {Visit : Type 0} (Gives : Giving Visit) (visit : Visit) (root : Text) (arguments : List Text)
     (answer : Result (List ℕ) Fault) : Type 0 where
-  not_handed : answer ≡ Err Memory → IsHandedOver Gives visit root words answer
-  handed : (reply : Option (ℕ × List ℕ)) → Gives visit (order_bytes root words) reply → IsReply reply answer
-      → IsHandedOver Gives visit root words answer
+  not_handed : answer ≡ Err Memory → IsHandedOver Gives visit root arguments answer
+  handed : (reply : Option (ℕ × List ℕ)) → Gives visit (command_bytes root arguments) reply → IsReply reply answer
+      → IsHandedOver Gives visit root arguments answer
 
 -- ---- a run
 
 module _ {D S R V : Type 0} (databases : DatabasesWords D S R V) (visits : VisitWords V) (stores : StoreWords S) where
-  -- A task of the office over the database of a name. It was handed to the server of the database, in the words of the run and with the
-  -- task's root, and the reply was written; or the database was opened, the task was done, the database closed and the answer written. Or
-  -- the database couldn't be reached.
-  pub data Performs (words : List Text) (file : Text) (task : Task) (old new : D) (written : Stream) (result : Result Unit Fault) : Type 0 where
+  -- A task of the office over the database of a name. It was handed to the server of the database, in the arguments of the run and with the task's
+  -- root, and the reply was written; or the database was opened, the task was done, the database closed and the answer written. Or the database
+  -- couldn't be reached.
+  pub data Performs (arguments : List Text) (file : Text) (task : Task) (old new : D) (written : Stream) (result : Result Unit Fault) : Type 0 where
     not_reached : (fault : StoreFault) → databases.reaches old file (Err fault) new → result ≡ Err (fault_of_opening fault) → written.no_change
-        → Performs words file task old new written result
+        → Performs arguments file task old new written result
     task_done : (answer : Result (List ℕ) Fault) (store left : S) (between : D) → databases.reaches old file (Ok (Opened store)) between
         → Does stores.disk_is_clean stores.represents task answer store left → databases.closes between left new → Prints answer written result
-        → Performs words file task old new written result
+        → Performs arguments file task old new written result
     handed_over : (answer : Result (List ℕ) Fault) (visit : V) → databases.reaches old file (Ok (Served visit)) new
-        → IsHandedOver visits.gives visit (handed_root task) words answer → Prints answer written result
-        → Performs words file task old new written result
+        → IsHandedOver visits.gives visit (handed_root task) arguments answer → Prints answer written result
+        → Performs arguments file task old new written result
 
-  -- A server over the database of a name, which it opened. It served clients and carried out orders at the one desk over that store, and
-  -- closed it at the end; or the database has no door, and was closed; or it couldn't be opened.
+  -- A server over the database of a name, which it opened. It served clients and carried out commands at the one desk over that store, and closed it
+  -- at the end; or the database has no door, and was closed; or it couldn't be opened.
   pub data Serves (file : Text) (service : Service) (old new : D) (written : Stream) (Noted : List Turn → Type 0) (result : Result Unit Fault) : Type 0 where
     not_opened : (fault : StoreFault) → databases.opens old file (Err fault) new → result ≡ Err (fault_of_opening fault) → written.no_change → Noted []
         → Serves file service old new written Noted result
     no_door : (fault : StoreFault) (store : S) (between : D) → databases.opens old file (Ok store) between → databases.closes between store new
         → result ≡ Err (fault_of_opening fault) → written.no_change → Noted [] → Serves file service old new written Noted result
     server_done : (store left : S) (between : D) → databases.opens old file (Ok store) between
-        → RunsServer (AnswersBy stores.disk_is_clean stores.represents stores.fails) (Orders stores.disk_is_clean stores.represents) service store left
+        → RunsServer (AnswersBy stores.disk_is_clean stores.represents stores.fails) (CarriesOutBy stores.disk_is_clean stores.represents) service store left
         Noted result
         → FollowsMachine stores.disk_is_clean stores.represents service store left Noted result → Announces service.port written result
         → databases.closes between left new → Serves file service old new written Noted result
 
-  -- What a run on these words did.
-  pub data Runs (words : List Text) (given : Stream) (old new : D) (written : Stream) (log : LogChange) (result : Result Unit Fault) : Type 0 where
+  -- What a run on these arguments did.
+  pub data Runs (arguments : List Text) (given : Stream) (old new : D) (written : Stream) (log : LogChange) (result : Result Unit Fault) : Type 0 where
     -- They have a fault, or memory was refused, and nothing was done.
-    words_refused : (fault : WordsFault Unit) → ReadsWords words (Err fault) → result ≡ Err (of_words fault) → given.no_change → new ≡ old
-        → written.no_change → log.no_change → Runs words given old new written log result
+    arguments_refused : (fault : ArgumentsFault Unit) → ReadsArguments arguments (Err fault) → result ≡ Err (of_arguments fault) → given.no_change → new ≡ old
+        → written.no_change → log.no_change → Runs arguments given old new written log result
     -- They ask for a text, and no database was opened.
-    text_shown : (text : Error) → ReadsWords words (Ok (ShowText text)) → IfErr result (λ fault. fault ≡ InputOutput) → given.no_change → new ≡ old
-        → log.no_change → Runs words given old new written log result
-    task_asked : (file : Text) (task : Task) → AskFor words file (Office task) → Performs words file task old new written result
-        → EndsWork written.no_change result → given.no_change → log.no_change → Runs words given old new written log result
+    text_shown : (text : Error) → ReadsArguments arguments (Ok (ShowText text)) → IfErr result (λ fault. fault ≡ InputOutput) → given.no_change → new ≡ old
+        → log.no_change → Runs arguments given old new written log result
+    task_asked : (file : Text) (task : Task) → AskFor arguments file (Office task) → Performs arguments file task old new written result
+        → EndsWork written.no_change result → given.no_change → log.no_change → Runs arguments given old new written log result
     -- They leave a key's root to the input, and it was read before the database was reached.
-    key_asked : (file : Text) (order : KeyOrder) (root : List ℕ) → AskFor words file (Rootless order) → TakesRoot given.before given.after (Ok root)
-        → Performs words file (Key order root) old new written result → EndsWork written.no_change result → log.no_change
-        → Runs words given old new written log result
+    key_asked : (file : Text) (command : KeyCommand) (root : List ℕ) → AskFor arguments file (Rootless command) → TakesRoot given.before given.after (Ok root)
+        → Performs arguments file (Key command root) old new written result → EndsWork written.no_change result → log.no_change
+        → Runs arguments given old new written log result
     -- What was read is no root, or it couldn't be read, and nothing was done.
-    root_refused : (file : Text) (order : KeyOrder) (fault : Fault) → AskFor words file (Rootless order) → TakesRoot given.before given.after (Err fault)
-        → result ≡ Err fault → new ≡ old → written.no_change → log.no_change → Runs words given old new written log result
+    root_refused : (file : Text) (command : KeyCommand) (fault : Fault) → AskFor arguments file (Rootless command)
+        → TakesRoot given.before given.after (Err fault)
+        → result ≡ Err fault → new ≡ old → written.no_change → log.no_change → Runs arguments given old new written log result
     -- Only a server that is asked for a log notes anything.
-    server_asked : (file : Text) (service : Service) → AskFor words file (Serve service) → Serves file service old new written log.notes result
-        → EndsWork written.no_change result → given.no_change → (service.log ≡ false → log.no_change) → Runs words given old new written log result
+    server_asked : (file : Text) (service : Service) → AskFor arguments file (Serve service) → Serves file service old new written log.notes result
+        → EndsWork written.no_change result → given.no_change → (service.log ≡ false → log.no_change) → Runs arguments given old new written log result

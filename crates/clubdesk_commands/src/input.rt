@@ -15,7 +15,7 @@ const MAX_READ: usize = 130;
 ///
 /// # Errors
 ///
-/// `BadValue` where what was read is no root; `InputOutput` where the reader failed.
+/// `BadValue` if what was read is no root; `InputOutput` if the reader failed.
 pub(crate) fn read_root<R: Read>(reader: &mut R) -> Result<Root, Fault>
     ensures { spec.TakesRoot (R.remaining reader.old) (R.remaining reader.new) result }
 {

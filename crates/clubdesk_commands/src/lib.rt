@@ -2,15 +2,15 @@
 //! that has it open.
 #![tactic(auto)]
 
+mod handed_command;
 mod input;
 mod moments;
 mod office;
 mod office_desk;
-mod order;
 mod program;
 mod server;
 
+pub use handed_command::{HandedCommand, command_bytes, read_command};
 pub use office_desk::OfficeDesk;
-pub use order::{Order, order_bytes, read_order};
 pub use program::run;
 pub use server::{serve, serve_file};

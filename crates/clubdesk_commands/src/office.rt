@@ -11,7 +11,7 @@ use club_core::{ClubStore, Command, StoreFault};
 use club_gate::{Desk, OfficeReply, key_signature, minted};
 use club_rows::Root;
 use club_values::Name;
-use clubdesk_arguments::{Fault, KeyChange, KeyOrder, Task};
+use clubdesk_arguments::{Fault, KeyChange, KeyCommand, Task};
 use pass_forms::Form;
 use pass_json::write_any;
 use std::alloc::Global;
@@ -22,8 +22,8 @@ use std::time::Clock;
 /// # Errors
 ///
 /// `Refused`, `Memory` and `Storage` if the desk returns them; `Memory` also if there was none for
-/// the text of an order's answer, and then no order was given; `ClockOutOfRange` if the clock shows
-/// no moment at which to look. The club is unchanged.
+/// the text of a command's answer, and then no command was given; `ClockOutOfRange` if the clock
+/// shows no moment at which to look. The club is unchanged.
 pub(crate) fn carry_out<C: Clock, S: ClubStore>(
     alloc: Global,
     machine: &C,
@@ -35,12 +35,12 @@ pub(crate) fn carry_out<C: Clock, S: ClubStore>(
     ensures worked { IfErr result IsWorkFault }
 {
     match task {
-        Task::Order(order) => match format!(in alloc; "done\n") {
-            Ok(line) => give(desk, &order, line),
+        Task::Give(command) => match format!(in alloc; "done\n") {
+            Ok(line) => give(desk, &command, line),
             Err(_) => Err(Fault::Memory),
         },
-        Task::Key(order, root) => {
-            let KeyOrder { name, change, form } = order;
+        Task::Key(command, root) => {
+            let KeyCommand { name, change, form } = command;
             match pass_line(alloc, &name, &root, form) {
                 Some(line) => give(desk, &key_command(name, change, root), line),
                 None => Err(Fault::Memory),
@@ -55,13 +55,13 @@ pub(crate) fn carry_out<C: Clock, S: ClubStore>(
     }
 }
 
-// Gives an order to the desk, and returns a text if it is carried out.
-fn give<S: ClubStore>(desk: &mut Desk<S>, order: &Command, text: String) -> Result<String, Fault>
-    ensures given { spec.IsGiven S.disk_is_clean S.represents order.now (string_bytes text)
+// Gives a command to the desk, and returns a text if it is carried out.
+fn give<S: ClubStore>(desk: &mut Desk<S>, command: &Command, text: String) -> Result<String, Fault>
+    ensures given { spec.IsGiven S.disk_is_clean S.represents command.now (string_bytes text)
         (text_of result) desk.old desk.new }
     ensures worked { IfErr result IsWorkFault }
 {
-    match desk.office(order) {
+    match desk.office(command) {
         OfficeReply::Refused(fault) => Err(fault_of_desk(fault)),
         OfficeReply::Done | OfficeReply::Key { .. } => Ok(text),
     }
@@ -83,7 +83,7 @@ fn pass_line(alloc: Global, name: &Name, root: &Root, form: Form) -> Option<Stri
     Some(line)
 }
 
-// The desk's order that gives a key this root.
+// The office's command that gives a key this root.
 fn key_command(name: Name, change: KeyChange, root: Root) -> Command
     ensures { result ≡ spec.key_command name change root }
 {

@@ -6,9 +6,9 @@ ghost use Rattle.clubdesk_commands.specs.OfficeDesk as spec;
 ghost use Rattle.clubdesk_commands.specs.OfficeDesk.{AnswersWith};
 ghost use Rattle.clubdesk_commands.specs.Output.{text_of};
 
+use crate::handed_command::{HandedCommand, read_command};
 use crate::input::root_in;
 use crate::office::carry_out;
-use crate::order::{Order, read_order};
 use club_core::{ClubStore, Reply};
 use club_gate::Desk;
 use club_http::{Responder, Words};
@@ -21,13 +21,13 @@ use std::alloc::Global;
 use std::marker::Model;
 use std::time::Clock;
 
-/// The status of an order that was done.
+/// The status of a command that was done.
 const DONE: u8 = 0;
 
-/// The status of bytes that spell no order of the office.
-const NO_ORDER: u8 = 2;
+/// The status of bytes that spell no command of the office.
+const NO_COMMAND: u8 = 2;
 
-/// The status of an order whose answer memory was refused for.
+/// The status of a command whose answer memory was refused for.
 const OUT_OF_MEMORY: u8 = 4;
 
 /// More letters than a command's name has.
@@ -82,37 +82,37 @@ impl<S: ClubStore, C: Clock> Responder for OfficeDesk<'_, S, C> {
 }
 
 impl<S: ClubStore, C: Clock> Office for OfficeDesk<'_, S, C> {
-    ghost use Rattle.clubdesk_commands.specs.OfficeDesk.{Orders};
+    ghost use Rattle.clubdesk_commands.specs.OfficeDesk.{CarriesOutBy};
 
-    ghost orders = { Orders S.disk_is_clean S.represents };
+    ghost commands = { CarriesOutBy S.disk_is_clean S.represents };
 
-    fn order(&mut self, bytes: &[u8]) -> Answer {
-        let order = match read_order(self.alloc, bytes) {
-            Ok(Some(order)) => order,
-            Ok(None) => return answer_of(NO_ORDER, None, String::new(self.alloc)),
+    fn command(&mut self, bytes: &[u8]) -> Answer {
+        let command = match read_command(self.alloc, bytes) {
+            Ok(Some(command)) => command,
+            Ok(None) => return answer_of(NO_COMMAND, None, String::new(self.alloc)),
             Err(_) => return answer_of(OUT_OF_MEMORY, None, String::new(self.alloc)),
         };
-        match answer_order(self.alloc, self.machine, &mut self.desk, &order) {
-            None => answer_of(NO_ORDER, None, String::new(self.alloc)),
-            Some(Ok(text)) => answer_of(DONE, order.words.get(1), text),
-            Some(Err(fault)) => refusal_of(self.alloc, &fault, order.words.get(1)),
+        match answer_command(self.alloc, self.machine, &mut self.desk, &command) {
+            None => answer_of(NO_COMMAND, None, String::new(self.alloc)),
+            Some(Ok(text)) => answer_of(DONE, command.arguments.get(1), text),
+            Some(Err(fault)) => refusal_of(self.alloc, &fault, command.arguments.get(1)),
         }
     }
 }
 
-// Does what an order asks for; `None` if it asks for nothing of the office's.
-fn answer_order<S: ClubStore, C: Clock>(
+// Does what a command asks for; `None` if it asks for nothing of the office's.
+fn answer_command<S: ClubStore, C: Clock>(
     alloc: Global,
     machine: &C,
     desk: &mut Desk<S>,
-    order: &Order,
+    command: &HandedCommand,
 ) -> Option<Result<String, Fault>>
     ensures { MatchOption result
-        ((desk.new ≡ desk.old) × spec.AskOther (map string_bytes order.now.words.items))
-        (λ answer. spec.DoesWords S.disk_is_clean S.represents (string_bytes order.now.root)
-        (map string_bytes order.now.words.items) (text_of answer) desk.old desk.new) }
+        ((desk.new ≡ desk.old) × spec.AskOther (map string_bytes command.now.arguments.items))
+        (λ answer. spec.DoesArguments S.disk_is_clean S.represents (string_bytes command.now.root)
+        (map string_bytes command.now.arguments.items) (text_of answer) desk.old desk.new) }
 {
-    let job: Job<'_> = match read_job(alloc, order.words.as_slice()) {
+    let job: Job<'_> = match read_job(alloc, command.arguments.as_slice()) {
         Ok(Asked::Perform(job)) => job,
         Ok(Asked::ShowText(_text)) => return None,
         Err(fault) => return Some(Err(Fault::from(fault))),
@@ -120,7 +120,7 @@ fn answer_order<S: ClubStore, C: Clock>(
     let Job { file: _, work } = job;
     match work {
         Work::Office(task) => Some(carry_out(alloc, machine, desk, task)),
-        Work::Rootless(given) => match root_in(order.root.as_bytes()) {
+        Work::Rootless(given) => match root_in(command.root.as_bytes()) {
             Some(root) => Some(carry_out(alloc, machine, desk, Task::Key(given, root))),
             None => Some(Err(Fault::BadValue)),
         },
@@ -152,7 +152,7 @@ fn refusal_of(alloc: Global, fault: &Fault, name: Option<&String>) -> Answer
     ensures { AnswersWith (Err fault.now) result }
 {
     let name = match fault {
-        Fault::Words(_) => None,
+        Fault::Arguments(_) => None,
         _ => name,
     };
     match format!(in alloc; "{fault}") {

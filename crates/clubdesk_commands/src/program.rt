@@ -1,14 +1,14 @@
-//! A run of the program, over words, a reader and writers.
+//! A run of the program, over arguments, a reader and writers.
 
 ghost use Rattle.std.specs.Prelude.{◌≡◌, IfErr, IfOk, map};
-ghost use Rattle.clubdesk_commands.specs.Order.{order_bytes};
+ghost use Rattle.clubdesk_commands.specs.HandedCommand.{command_bytes};
 ghost use Rattle.clubdesk_commands.specs.Output.{EndsWork, IsWorkFault, Prints, log_change};
 ghost use Rattle.clubdesk_commands.specs.Output.{stream, text_of};
 ghost use Rattle.clubdesk_commands.specs.Run as spec;
 
+use crate::handed_command::command_bytes;
 use crate::input::read_root;
 use crate::office::carry_out;
-use crate::order::order_bytes;
 use crate::server::serve_file;
 use club_gate::Desk;
 use clubdesk_arguments::{Fault, Job, Task, Work};
@@ -19,47 +19,63 @@ use std::convert::AsStr;
 use std::io::{Read, Write};
 use std::time::Clock;
 
-/// Runs the program on its words, of which the first is its name. The machine's clock is that by
-/// which a server without `--at` has its moments, and its connections their limits of time.
+/// Runs the program on its arguments, of which the first is its name. The machine's clock is that
+/// by which a server without `--at` has its moments, and its connections their limits of time.
 ///
-/// The words are checked before a database is reached. A server opens it once, and closes it at its
-/// end; meanwhile other runs hand their orders to it. Without a server a run opens it once, and
-/// closes it before it writes. Only a root is read, which `--root-stdin` asks for: in hexadecimal,
-/// one line feed at its end taken off, after the words and before the database is reached. Help and
-/// the version are written as `clap` makes them. Only `serve` with `--log` notes each client and
-/// each order in the log.
+/// The arguments are checked before a database is reached. A server opens it once, and closes it at
+/// its end; meanwhile other runs hand their commands to it. Without a server a run opens it once,
+/// and closes it before it writes. Only a root is read, which `--root-stdin` asks for: in
+/// hexadecimal, one line feed at its end taken off, after the arguments and before the database is
+/// reached. Help and the version are written as `clap` makes them. Only `serve` with `--log` notes
+/// each client and each command in the log.
 ///
 /// # Errors
 ///
-/// Of the words: `Words` and `BadValue`, the latter also of a root that was read. `Refused` as the
-/// office rules; `Storage`, also where the database can't be opened; `Memory`; after these nothing
-/// was written. `ClockOutOfRange` and `InputOutput` may come after a beginning of the output; where
-/// the input can't be read, nothing was written.
+/// Of the arguments: `Arguments` and `BadValue`, the latter also of a root that was read. `Refused`
+/// as the office rules; `Storage`, also if the database can't be opened; `Memory`; after these
+/// nothing was written. `ClockOutOfRange` and `InputOutput` may come after a beginning of the
+/// output; if the input can't be read, nothing was written.
 pub fn run<C: Clock, D: Databases, S: AsStr, R: Read, W: Write, G: Log>(
     rt: &HostRuntime,
     machine: &C,
     databases: &mut D,
-    words: &[S],
+    arguments: &[S],
     reader: &mut R,
     writer: &mut W,
     log: &mut G,
 ) -> Result<(), Fault>
-    ensures { spec.Runs D.Databases D.Visit.Visit D.Store.ClubStore (map S.text words.now)
+    ensures { spec.Runs D.Databases D.Visit.Visit D.Store.ClubStore (map S.text arguments.now)
         (stream R.remaining reader.old reader.new) databases.old databases.new
         (stream W.contents writer.old writer.new) (log_change G.Log log.old log.new) result }
 {
-    let job: Job<'_> = match read_job(rt.alloc(), words) {
+    let job: Job<'_> = match read_job(rt.alloc(), arguments) {
         Ok(Asked::Perform(job)) => job,
         Ok(Asked::ShowText(text)) => return show(&text, writer),
         Err(fault) => return Err(Fault::from(fault)),
     };
     let Job { file, work } = job;
     match work {
-        Work::Office(task) => perform(rt.alloc(), machine, databases, words, file, task, writer),
-        Work::Rootless(order) => match read_root(reader) {
+        Work::Office(task) => perform(
+            rt.alloc(),
+            machine,
+            databases,
+            arguments,
+            file,
+            task,
+            writer,
+        ),
+        Work::Rootless(command) => match read_root(reader) {
             Ok(root) => {
-                let task = Task::Key(order, root);
-                perform(rt.alloc(), machine, databases, words, file, task, writer)
+                let task = Task::Key(command, root);
+                perform(
+                    rt.alloc(),
+                    machine,
+                    databases,
+                    arguments,
+                    file,
+                    task,
+                    writer,
+                )
             }
             Err(fault) => Err(fault),
         },
@@ -73,13 +89,13 @@ fn perform<C: Clock, D: Databases, S: AsStr, W: Write>(
     alloc: Global,
     machine: &C,
     databases: &mut D,
-    words: &[S],
+    arguments: &[S],
     file: &str,
     task: Task<'_>,
     writer: &mut W,
 ) -> Result<(), Fault>
     ensures performs { spec.Performs D.Databases D.Visit.Visit D.Store.ClubStore
-        (map S.text words.now) file.now task.entry databases.old databases.new
+        (map S.text arguments.now) file.now task.entry databases.old databases.new
         (stream W.contents writer.old writer.new) result }
     ensures ends { EndsWork (writer.new ≡ writer.old) result }
 {
@@ -90,45 +106,49 @@ fn perform<C: Clock, D: Databases, S: AsStr, W: Write>(
             databases.close(desk.into_store());
             print(answer, writer)
         }
-        Ok(Reached::Served(visit)) => print(hand_over(alloc, visit, words, &task), writer),
+        Ok(Reached::Served(visit)) => print(hand_over(alloc, visit, arguments, &task), writer),
         Err(fault) => Err(Fault::from(fault)),
     }
 }
 
-// Hands an order to a server, and returns its answer.
+// Hands a command to a server, and returns its answer.
 fn hand_over<V: Visit + Drop, S: AsStr>(
     alloc: Global,
     visit: V,
-    words: &[S],
+    arguments: &[S],
     task: &Task<'_>,
 ) -> Result<String, Fault>
     ensures handed { spec.IsHandedOver V.gives visit (spec.handed_root task.now)
-        (map S.text words.now) (text_of result) }
+        (map S.text arguments.now) (text_of result) }
     ensures worked { IfErr result IsWorkFault }
 {
-    let order = match order_of(alloc, words, task) {
-        Ok(order) => order,
+    let command = match handed_bytes(alloc, arguments, task) {
+        Ok(command) => command,
         Err(_) => return Err(Fault::Memory),
     };
-    match visit.give(order.as_slice()) {
+    match visit.give(command.as_slice()) {
         Some((0, text)) => Ok(text),
         Some((status, line)) => Err(Fault::Answered { status, line }),
         None => Err(Fault::NoAnswer),
     }
 }
 
-// The bytes of an order: words, and the root of the task that they ask for, which they may lack.
-// It is empty if the task has none.
-fn order_of<S: AsStr>(alloc: Global, words: &[S], task: &Task<'_>) -> Result<Vec<u8>, AllocError>
-    ensures { IfOk result (λ bytes. bytes.items ≡ order_bytes (spec.handed_root task.now)
-        (map S.text words.now)) }
+// The bytes of a command: arguments, and the root of the task that they ask for, which they may
+// lack. It is empty if the task has none.
+fn handed_bytes<S: AsStr>(
+    alloc: Global,
+    arguments: &[S],
+    task: &Task<'_>,
+) -> Result<Vec<u8>, AllocError>
+    ensures { IfOk result (λ bytes. bytes.items ≡ command_bytes (spec.handed_root task.now)
+        (map S.text arguments.now)) }
 {
     match task {
         Task::Key(_, root) => {
             let root = hex::encode(alloc, root.as_bytes())?;
-            order_bytes(alloc, root.as_str(), words)
+            command_bytes(alloc, root.as_str(), arguments)
         }
-        _ => order_bytes(alloc, "", words),
+        _ => command_bytes(alloc, "", arguments),
     }
 }
 

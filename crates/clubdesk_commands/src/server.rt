@@ -23,7 +23,7 @@ use std::{io, time};
 const LOOPBACK: &str = "127.0.0.1";
 
 /// Serves over the database of a name, which it opens before it writes, and closes at the end.
-/// Orders of the office come by the database's door meanwhile.
+/// Commands of the office come by the database's door meanwhile.
 ///
 /// # Errors
 ///
@@ -69,10 +69,10 @@ pub fn serve_file<C: time::Clock, D: Databases, W: Write, G: Log>(
     outcome
 }
 
-/// Listens on the loopback address, writes where, and serves the clients, and the orders that come
-/// by the door: each client at the moment that the service fixes, or that the machine's clock shows
-/// in its zone, and under limits of the service's patience by that clock. Where a log is asked for,
-/// it notes each.
+/// Listens on the loopback address, writes where, and serves the clients, and the commands that
+/// come by the door: each client at the moment that the service fixes, or that the machine's clock
+/// shows in its zone, and under limits of the service's patience by that clock. If a log is asked
+/// for, it notes each.
 ///
 /// # Errors
 ///
@@ -87,7 +87,7 @@ pub fn serve<D: Office, C: time::Clock, W: Write, G: Log>(
     writer: &mut W,
     log: &mut G,
 ) -> Result<(), Fault>
-    ensures served { spec.RunsServer D.answers D.orders service.entry
+    ensures served { spec.RunsServer D.answers D.commands service.entry
         desk.old desk.new (λ turns. AreNoted G.begins G.notes log.old turns log.new) result }
     ensures announced { spec.Announces service.entry.port
         (stream W.contents writer.old writer.new) result }

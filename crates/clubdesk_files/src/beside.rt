@@ -34,8 +34,8 @@ pub(crate) struct Place {
 }
 
 impl Place {
-    /// The place of the database of this path. Where the file is gone, but not its folder, it is
-    /// that of its name in the folder: a server that has it open goes on.
+    /// The place of the database of this path. If the file is gone, but not its folder, it is that
+    /// of its name in the folder: a server that has it open goes on.
     pub fn find(rt: &HostRuntime, file: &str) -> io::Result<Place> {
         match fs::canonicalize(rt, file) {
             Ok(whole) => Place::of(rt, whole.as_path()),

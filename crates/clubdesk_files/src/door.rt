@@ -10,7 +10,7 @@ use std::os::fd::{AsFd, AsRawFd};
 use std::os::unix::net::{SocketAddr, UnixListener};
 use std::rt::Files;
 
-/// How many orders may wait.
+/// How many commands may wait.
 const BACKLOG: i32 = 128;
 
 /// The socket of a server's door. It is removed when this is dropped, unless the door of another

@@ -1,6 +1,5 @@
 //! Databases in files. One program has a file open at a time. A server has a door beside its file,
-//! by which the office's commands hand it their orders; without a server they open the file
-//! themselves.
+//! by which the office's commands are handed to it; without a server they open the file themselves.
 #![tactic(auto)]
 
 mod attempts;

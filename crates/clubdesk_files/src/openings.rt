@@ -2,7 +2,7 @@
 
 use crate::attempts::Attempts;
 use crate::beside::make_private;
-use crate::visit::{FileVisit, look};
+use crate::visit::{FileVisit, find_server};
 use club_core::StoreFault;
 use club_store::{Remains, Store};
 use desk_server::Reached;
@@ -53,7 +53,7 @@ impl<'a> Attempts for OfficeOpenings<'a, '_> {
     ghost gains = { λ _ _ _. Unit {0} };
 
     fn attempt(&mut self) -> Option<Result<Reached<FileClub, FileVisit<'a>>, StoreFault>> {
-        match look(self.rt, self.name) {
+        match find_server(self.rt, self.name) {
             Some(Ok(visit)) => Some(Ok(Reached::Served(visit))),
             Some(Err(fault)) => Some(Err(fault)),
             None => match try_open(self.rt, self.name)? {

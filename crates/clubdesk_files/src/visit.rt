@@ -1,4 +1,4 @@
-//! A command that gives its order to a server.
+//! A command that is given to a server.
 
 use crate::beside::{Place, fault_of};
 use club_core::StoreFault;
@@ -13,7 +13,7 @@ use std::time::Duration;
 /// patience.
 const GREETING_SECONDS: u64 = 60;
 
-/// How many seconds the server has to take an order and to answer it.
+/// How many seconds the server has to take a command and to answer it.
 const ANSWER_SECONDS: u64 = 600;
 
 /// A server that has greeted.
@@ -23,10 +23,10 @@ pub struct FileVisit<'a> {
     stream: UnixStream,
 }
 
-/// Looks for the server of a database. It has greeted; or one listens, but doesn't greet in time,
-/// or the door can't be used, also for want of memory. `None` if nobody listens, or the database's
+/// Finds the server of a database. It has greeted; or one listens, but doesn't greet in time, or
+/// the door can't be used, also for want of memory. `None` if nobody listens, or the database's
 /// name is too long for a door.
-pub(crate) fn look<'a>(
+pub(crate) fn find_server<'a>(
     rt: &'a HostRuntime,
     file: &str,
 ) -> Option<Result<FileVisit<'a>, StoreFault>> {
@@ -65,19 +65,19 @@ fn greeted(stream: &UnixStream) -> io::Result<()> {
 impl Visit for FileVisit<'_> {
     ghost gives = { λ _ _ _. Unit {0} };
 
-    fn give(self, order: &[u8]) -> Option<(u8, String)> {
+    fn give(self, command: &[u8]) -> Option<(u8, String)> {
         let FileVisit { rt, stream } = self;
-        answered(rt, &stream, order).ok()
+        answered(rt, &stream, command).ok()
     }
 }
 
-// Sends an order, and reads the answer to its end: the status, and the text.
-fn answered(rt: &HostRuntime, stream: &UnixStream, order: &[u8]) -> io::Result<(u8, String)> {
+// Sends a command, and reads the answer to its end: the status, and the text.
+fn answered(rt: &HostRuntime, stream: &UnixStream, command: &[u8]) -> io::Result<(u8, String)> {
     let mut stream = stream;
     let most = Some(Duration::from_secs(ANSWER_SECONDS));
     stream.set_read_timeout(most)?;
     stream.set_write_timeout(most)?;
-    stream.write_all(order)?;
+    stream.write_all(command)?;
     stream.shutdown(Shutdown::Write)?;
     let mut answer = Vec::new(rt.alloc());
     stream.read_to_end(&mut answer)?;

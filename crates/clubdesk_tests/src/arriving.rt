@@ -1,4 +1,4 @@
-//! What comes to a server, over memory: clients whose requests come in two halves, and orders of
+//! What comes to a server, over memory: clients whose requests come in two halves, and commands of
 //! the office, which may come between them.
 
 ghost use Rattle.std.specs.Prelude.{◌≤◌, length, IfSome};
@@ -9,7 +9,7 @@ use club_http::WriteOutlet;
 use club_values::Moment;
 use desk_server::{
     Accepted, Arrival, Arrivals, Carried, ClientStream, Handover, Office, Waited, Woken,
-    answer_order,
+    answer_command,
 };
 use std::alloc::Global;
 use std::cell::{Cell, RefCell};
@@ -55,23 +55,23 @@ impl Write for &Written {
 /// An arrival.
 #[derive(Drop)]
 pub enum Arriving {
-    /// A client with its request, and the order that comes after the first half of it, if any.
+    /// A client with its request, and the command that comes after the first half of it, if any.
     Client(Vec<u8>, Option<Vec<u8>>),
-    /// The office with an order.
+    /// The office with a command.
     Office(Vec<u8>),
 }
 
-/// A connection of the office that brings an order.
+/// A connection of the office that brings a command.
 #[derive(Drop)]
 pub struct Letter<'a> {
-    order: &'a [u8],
+    command: &'a [u8],
     written: &'a Written,
 }
 
 impl Handover for Letter<'_> {
     fn carry_out<D: Office>(&mut self, desk: &mut D) -> Option<Carried> {
         let mut writer = WriteOutlet::new(self.written);
-        Some(answer_order(desk, self.order, &mut writer))
+        Some(answer_command(desk, self.command, &mut writer))
     }
 }
 
@@ -79,20 +79,20 @@ impl Handover for Letter<'_> {
 #[derive(Drop)]
 pub struct Sender<'a> {
     halves: (&'a [u8], &'a [u8]),
-    order: Option<&'a [u8]>,
-    // how often it was read, and whether the order has come
+    command: Option<&'a [u8]>,
+    // how often it was read, and whether the command has come
     reads: Cell<u64>,
-    ordered: Cell<bool>,
+    commanded: Cell<bool>,
     written: &'a Written,
 }
 
 impl<'a> Sender<'a> {
-    fn new(request: &'a [u8], order: Option<&'a [u8]>, written: &'a Written) -> Sender<'a> {
+    fn new(request: &'a [u8], command: Option<&'a [u8]>, written: &'a Written) -> Sender<'a> {
         Sender {
             halves: request.split_at(request.len() / 2),
-            order,
+            command,
             reads: Cell::new(0),
-            ordered: Cell::new(false),
+            commanded: Cell::new(false),
             written,
         }
     }
@@ -110,14 +110,14 @@ fn read_from(bytes: &[u8], room: &mut [u8]) -> Waited
 }
 
 impl<'a> ClientStream for Sender<'a> {
-    type Order = Letter<'a>;
+    type Command = Letter<'a>;
 
-    fn wait_within(&self, _limit: Duration, _order_first: bool) -> Woken<Letter<'a>> {
+    fn wait_within(&self, _limit: Duration, _command_first: bool) -> Woken<Letter<'a>> {
         let written = self.written;
-        match self.order {
-            Some(order) if self.reads.get() > 0 && !self.ordered.get() => {
-                self.ordered.set(true);
-                Woken::Order(Letter { order, written })
+        match self.command {
+            Some(command) if self.reads.get() > 0 && !self.commanded.get() => {
+                self.commanded.set(true);
+                Woken::Command(Letter { command, written })
             }
             _ => Woken::Client,
         }
@@ -183,7 +183,7 @@ impl<'a> Queue<'a> {
 impl<'a> Arrivals for Queue<'a> {
     type Client = Accepted<'a, Sender<'a>, Standing>;
 
-    type Order = Letter<'a>;
+    type Command = Letter<'a>;
 
     ghost waited = { λ queue. queue.waited };
 
@@ -198,16 +198,16 @@ impl<'a> Arrivals for Queue<'a> {
                 self.failures = self.failures.saturating_add(1);
                 Arrival::Nobody
             }
-            Some(Arriving::Office(order)) => Arrival::Order(Letter {
-                order: order.as_slice(),
+            Some(Arriving::Office(command)) => Arrival::Command(Letter {
+                command: command.as_slice(),
                 written,
             }),
-            Some(Arriving::Client(request, order)) => {
-                let order = match order {
-                    Some(order) => Some(order.as_slice()),
+            Some(Arriving::Client(request, command)) => {
+                let command = match command {
+                    Some(command) => Some(command.as_slice()),
                     None => None,
                 };
-                let sender = Sender::new(request.as_slice(), order, written);
+                let sender = Sender::new(request.as_slice(), command, written);
                 Arrival::Client(Accepted::new(sender, &STANDING, Duration::from_secs(10)))
             }
         }

@@ -72,8 +72,8 @@ impl<'a> Caller<'a> {
         Ok(())
     }
 
-    /// What came back to each in turn; nothing where no client was there. A connection that is
-    /// closed with its request unread may end with an error.
+    /// What came back to each in turn; nothing if no client was there. A connection that is closed
+    /// with its request unread may end with an error.
     pub fn reply(self) -> Vec<u8> {
         let Caller {
             rt,

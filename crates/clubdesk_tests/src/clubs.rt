@@ -16,7 +16,7 @@ static BESIDE_AMY: [Row; 2] = [
 static MILLION: [Row; 1] = [Row("credit", "bea 1000000", "0 done\n")];
 
 /// Where the file holds bea's points, 9,000,000 of them. By credits alone she would get the most in
-/// a thousand orders.
+/// a thousand commands.
 const BEAS_POINTS_AT: usize = 12_283;
 
 /// 9,000,000 and 999,999,999 in four bytes.

@@ -1,4 +1,4 @@
-//! The door of a server: its file, and orders by it, from the first byte to the answer.
+//! The door of a server: its file, and commands by it, from the first byte to the answer.
 
 use crate::expect::expect_eq;
 use crate::runs::{Row, expect_rows, new_path, remove};

@@ -16,11 +16,11 @@ fn expect_full(
     rt: &HostRuntime,
     path: &str,
     command: &str,
-    words: &str,
+    arguments: &str,
     room: usize,
 ) -> Result<(), Fail> {
-    let output = run_command(rt, path, command, words, room)?.output;
-    let row = Row(command, words, FULL);
+    let output = run_command(rt, path, command, arguments, room)?.output;
+    let row = Row(command, arguments, FULL);
     expect_output(rt, &row, output.returned.as_str())?;
     if output.taken == room && output.log.is_empty() {
         return Ok(());
@@ -40,8 +40,8 @@ fn a_failing_writer(rt: HostRuntime) -> Result<(), Fail> {
     let path = new_path(&rt, "full")?;
     let path = path.as_str();
     expect_full(&rt, path, "add-member", "amy 5", 0)?;
-    let words = "amy-1 amy 00112233445566778899aabbccddeeff";
-    expect_full(&rt, path, "add-key", words, 40)?;
+    let arguments = "amy-1 amy 00112233445566778899aabbccddeeff";
+    expect_full(&rt, path, "add-key", arguments, 40)?;
     expect_rows(&rt, path, &KEY_EXISTS)?;
     remove(&rt, path);
     Ok(())
@@ -95,8 +95,8 @@ fn a_server_that_fails_to_flush(rt: HostRuntime) -> Result<(), Fail> {
 fn a_port_in_use(rt: HostRuntime) -> Result<(), Fail> {
     let listener = TcpListener::bind(&rt, "127.0.0.1:0")?;
     let port = listener.local_addr()?.port();
-    let words = format!(in rt.alloc(); "--port {port} --count 1")?;
-    let row = Row("serve", words.as_str(), FULL);
+    let arguments = format!(in rt.alloc(); "--port {port} --count 1")?;
+    let row = Row("serve", arguments.as_str(), FULL);
     expect_over_clubs(&rt, 1, &[row])
 }
 
@@ -104,8 +104,8 @@ fn a_port_in_use(rt: HostRuntime) -> Result<(), Fail> {
 #[test]
 fn a_server_with_no_output(rt: HostRuntime) -> Result<(), Fail> {
     let path = new_path(&rt, "silent")?;
-    let words = "--port 0 --count 1 --log";
-    expect_full(&rt, path.as_str(), "serve", words, 5)?;
+    let arguments = "--port 0 --count 1 --log";
+    expect_full(&rt, path.as_str(), "serve", arguments, 5)?;
     remove(&rt, path.as_str());
     Ok(())
 }

@@ -1,4 +1,4 @@
-//! Runs whose orders are handed to a server, and what they print of its answers.
+//! Runs whose commands are handed to a server, and what they print of its answers.
 
 use crate::memory::{Scene, ServerAnswer, expect_openings, play_row};
 use crate::runs::Row;
@@ -7,8 +7,8 @@ use std::test::Fail;
 
 const SHEET: &str = "Day sheet 2026-05-02\nNo bookings.\n";
 
-/// A command, the answer of the server, and how many bytes it is handed. An order of n words has
-/// its count, a root, and its words, each with a byte after it.
+/// A command, the answer of the server, and how many bytes it is handed. A command of n arguments
+/// has its count, a root, and its arguments, each with a byte after it.
 type Handed = (Row<'static>, ServerAnswer<'static>, usize);
 
 static HANDED: [Handed; 7] = [
@@ -43,7 +43,7 @@ static HANDED: [Handed; 7] = [
         34,
     ),
     (Row("revoke-key", "amy-1", "8 no answer"), None, 34),
-    // Words that are refused are handed to nobody.
+    // Arguments that are refused are handed to nobody.
     (
         Row("credit", "amy none", "3 bad value"),
         Some((0, "done\n")),
@@ -64,7 +64,7 @@ fn hands_over(rt: &HostRuntime, (row, answer, bytes): &Handed) -> Result<(), Fai
 }
 
 #[test]
-fn hands_orders_over(rt: HostRuntime) -> Result<(), Fail> {
+fn hands_commands_over(rt: HostRuntime) -> Result<(), Fail> {
     for handed in &HANDED {
         hands_over(&rt, handed)?;
     }
@@ -73,7 +73,7 @@ fn hands_orders_over(rt: HostRuntime) -> Result<(), Fail> {
 
 const ROOT: &[u8] = b"00112233445566778899aabbccddeeff\n";
 
-// A root from the input goes with the words: 32 bytes in place of none.
+// A root from the input goes with the arguments: 32 bytes in place of none.
 #[test]
 fn hands_a_root_over(rt: HostRuntime) -> Result<(), Fail> {
     let scene = Scene {

@@ -50,7 +50,7 @@ static ROOTS: [(&[u8], Row); 4] = [
     ),
 ];
 
-// 64 zero bytes, and what may stand behind them.
+// 64 zero bytes, and what may stand after them.
 const LONGEST: &str = "0000000000000000000000000000000000000000000000000000000000000000\
     0000000000000000000000000000000000000000000000000000000000000000";
 

@@ -4,13 +4,15 @@
 #[cfg(test)]
 mod arriving;
 #[cfg(test)]
-mod bad_orders;
+mod bad_commands;
 #[cfg(test)]
 mod beside;
 #[cfg(test)]
 mod callers;
 #[cfg(test)]
 mod clubs;
+#[cfg(test)]
+mod commands;
 #[cfg(test)]
 mod door;
 #[cfg(test)]
@@ -26,11 +28,7 @@ mod input;
 #[cfg(test)]
 mod lists;
 #[cfg(test)]
-mod looks;
-#[cfg(test)]
 mod memory;
-#[cfg(test)]
-mod orders;
 #[cfg(test)]
 mod ports;
 #[cfg(test)]
@@ -39,5 +37,7 @@ mod runs;
 mod served;
 #[cfg(test)]
 mod servers;
+#[cfg(test)]
+mod shown;
 #[cfg(test)]
 mod terminal;

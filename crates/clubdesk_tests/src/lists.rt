@@ -1,5 +1,5 @@
-//! Random lists of requests and orders, as bytes, through the server: it writes what the reference
-//! machine replies and answers.
+//! Random lists of requests and commands, as bytes, through the server: it writes what the
+//! reference machine replies and answers.
 
 use crate::arriving::{Arriving, Given, Queue, Written};
 use crate::expect::expect_eq;
@@ -10,7 +10,7 @@ use club_reference::{Club, Words};
 use club_rows::Root;
 use club_store::Store;
 use club_values::{Moment, Name, Slot};
-use clubdesk_commands::{OfficeDesk, order_bytes};
+use clubdesk_commands::{OfficeDesk, command_bytes};
 use desk_server::{Unlogged, serve_logged};
 use http_response::{MAX_REPLY_LEN, reply_bytes};
 use pass_forms::{Form, Pass, narrow};
@@ -21,7 +21,7 @@ use std::test::*;
 use std::time::Clock;
 use test_kit::drawn::{AUDIT_AMY, AUDITORS, Asking, BEGINNING, Event, Numbers, SLOTS, audit};
 use test_kit::roots::ROOT;
-use test_kit::{Order, PlainRequest, signed_pass};
+use test_kit::{PlainCommand, PlainRequest, signed_pass};
 
 /// How many lists a test plays over one club, and how many events each has.
 const LISTS: u32 = 10;
@@ -124,23 +124,28 @@ fn asking_bytes(rt: &(impl Abort + Alloc<A = Global>), asking: &Asking) -> Vec<u
     bytes.expect(rt, "memory")
 }
 
-// The command line of an order. A new key's root is read from standard input.
-fn command_line(alloc: Global, order: &Order, command: &Command) -> Result<String, AllocError> {
-    match (order, command) {
-        (Order::AddMember(member, quota), _) => {
+// The command line of a command. A new key's root is read from standard input.
+fn command_line(
+    alloc: Global,
+    plain: &PlainCommand,
+    command: &Command,
+) -> Result<String, AllocError> {
+    match (plain, command) {
+        (PlainCommand::AddMember(member, quota), _) => {
             format!(in alloc; "clubdesk add-member club {member} {quota}")
         }
-        (Order::Credit(member, points), _) => {
+        (PlainCommand::Credit(member, points), _) => {
             format!(in alloc; "clubdesk credit club {member} {points}")
         }
-        (Order::AddFacility(facility, kind, places, price, opens, shuts), _) => format!(in alloc;
-            "clubdesk add-facility club {facility} {kind} {places} {price} {opens} {shuts}"
-        ),
-        (Order::AddKey(key, member, _), _) => {
+        (PlainCommand::AddFacility(facility, kind, places, price, opens, shuts), _) =>
+            format!(in alloc;
+                "clubdesk add-facility club {facility} {kind} {places} {price} {opens} {shuts}"
+            ),
+        (PlainCommand::AddKey(key, member, _), _) => {
             format!(in alloc; "clubdesk add-key club {key} {member} --root-stdin")
         }
-        (Order::RevokeKey(key), _) => format!(in alloc; "clubdesk revoke-key club {key}"),
-        (Order::RotateKey(key, root, _), Command::RotateKey { until, .. }) => {
+        (PlainCommand::RevokeKey(key), _) => format!(in alloc; "clubdesk revoke-key club {key}"),
+        (PlainCommand::RotateKey(key, root, _), Command::RotateKey { until, .. }) => {
             let root = root_text(root);
             format!(in alloc; "clubdesk rotate-key club {key} {root} {until}")
         }
@@ -152,19 +157,23 @@ fn command_line(alloc: Global, order: &Order, command: &Command) -> Result<Strin
     }
 }
 
-// The root that an order's command reads from standard input; empty if it reads none.
-fn root_read(order: &Order) -> &'static str {
-    match order {
-        Order::AddKey(_, _, root) => root_text(root),
+// The root that a command reads from standard input; empty if it reads none.
+fn root_read(plain: &PlainCommand) -> &'static str {
+    match plain {
+        PlainCommand::AddKey(_, _, root) => root_text(root),
         _ => "",
     }
 }
 
-// The bytes of an order.
-fn bytes_of_order(alloc: Global, order: &Order, command: &Command) -> Result<Vec<u8>, AllocError> {
-    let line = command_line(alloc, order, command)?;
-    let words: Vec<&str> = line.as_str().split(' ').collect(alloc)?;
-    order_bytes(alloc, root_read(order), words.as_slice())
+// The bytes of a command.
+fn bytes_of_command(
+    alloc: Global,
+    plain: &PlainCommand,
+    command: &Command,
+) -> Result<Vec<u8>, AllocError> {
+    let line = command_line(alloc, plain, command)?;
+    let arguments: Vec<&str> = line.as_str().split(' ').collect(alloc)?;
+    command_bytes(alloc, root_read(plain), arguments.as_slice())
 }
 
 /// What comes to the server, in its order, and what it writes by the reference machine.
@@ -190,20 +199,20 @@ impl Plan {
         self.want.extend_from_slice(bytes).expect(rt, "memory");
     }
 
-    // Gives an order to the reference machine, and returns its bytes.
-    fn order(
+    // Gives a command to the reference machine, and returns its bytes.
+    fn give(
         &mut self,
         rt: &(impl Abort + Alloc<A = Global>),
         reference: &mut Club,
-        order: &Order,
+        plain: &PlainCommand,
     ) -> Vec<u8> {
-        let command = order.command().expect(rt, "an order");
+        let command = plain.command().expect(rt, "a command");
         let answer = reference.office(&command).expect(rt, "memory");
         self.wants_answer(rt, &answer);
-        bytes_of_order(rt.alloc(), order, &command).expect(rt, "memory")
+        bytes_of_command(rt.alloc(), plain, &command).expect(rt, "memory")
     }
 
-    // The status of an order, and what its command prints.
+    // The status of a command, and what it prints.
     fn wants_answer(&mut self, rt: &(impl Abort + Alloc<A = Global>), answer: &OfficeAnswer) {
         match answer {
             OfficeAnswer::Done => self.wants(rt, b"\0done\n"),
@@ -223,14 +232,14 @@ impl Plan {
         }
     }
 
-    // The office comes with an order.
+    // The office comes with a command.
     fn office(
         &mut self,
         rt: &(impl Abort + Alloc<A = Global>),
         reference: &mut Club,
-        order: &Order,
+        plain: &PlainCommand,
     ) {
-        let bytes = self.order(rt, reference, order);
+        let bytes = self.give(rt, reference, plain);
         self.arriving
             .push(Arriving::Office(bytes))
             .expect(rt, "memory");
@@ -239,20 +248,20 @@ impl Plan {
             .expect(rt, "memory");
     }
 
-    // A client comes with a request, and the office meanwhile with an order, if there is one.
+    // A client comes with a request, and the office meanwhile with a command, if there is one.
     fn client(
         &mut self,
         rt: &(impl Abort + Alloc<A = Global>),
         reference: &mut Club,
         asking: &Asking,
-        between: Option<&Order>,
+        between: Option<&PlainCommand>,
     ) {
         let moment = at(rt, asking.moment);
         self.moments.push(moment).expect(rt, "memory");
-        let order = match between {
-            Some(order) => {
+        let given = match between {
+            Some(plain) => {
                 self.moments.push(moment).expect(rt, "memory");
-                Some(self.order(rt, reference, order))
+                Some(self.give(rt, reference, plain))
             }
             None => None,
         };
@@ -262,12 +271,12 @@ impl Plan {
         self.wants(rt, &room[..len]);
         let request = asking_bytes(rt, asking);
         self.arriving
-            .push(Arriving::Client(request, order))
+            .push(Arriving::Client(request, given))
             .expect(rt, "memory");
         self.clients = self.clients.saturating_add(1);
     }
 
-    // Events in their order. An order that is drawn after a request comes between its halves.
+    // Events in their order. A command that is drawn after a request comes between its halves.
     fn events(
         &mut self,
         rt: &(impl Abort + Alloc<A = Global>),
@@ -277,9 +286,9 @@ impl Plan {
         let mut waiting: Option<Asking> = None;
         for event in events {
             match (waiting, event) {
-                (None, Event::Ordered(order)) => self.office(rt, reference, order),
-                (Some(asking), Event::Ordered(order)) => {
-                    self.client(rt, reference, &asking, Some(order));
+                (None, Event::Commanded(plain)) => self.office(rt, reference, plain),
+                (Some(asking), Event::Commanded(plain)) => {
+                    self.client(rt, reference, &asking, Some(plain));
                     waiting = None;
                 }
                 (None, Event::Asked(next)) => waiting = Some(*next),
@@ -300,11 +309,11 @@ impl Plan {
             self.client(rt, reference, &audit(key), None);
         }
         for slot in &SLOTS {
-            let look = Asking {
+            let asking = Asking {
                 asked: PlainRequest::View(*slot),
                 ..audit(AUDIT_AMY)
             };
-            self.client(rt, reference, &look, None);
+            self.client(rt, reference, &asking, None);
         }
     }
 }
@@ -352,8 +361,8 @@ fn play_lists<S: ClubStore, C: Clock>(
     let mut reference = Club::new(rt.alloc());
     let mut numbers = Numbers::new(first);
     let mut plan = Plan::new(rt.alloc());
-    for order in &BEGINNING {
-        plan.office(rt, &mut reference, order);
+    for plain in &BEGINNING {
+        plan.office(rt, &mut reference, plain);
     }
     plan.audit(rt, &mut reference);
     serve_plan(rt, desk, &plan);

@@ -1,7 +1,7 @@
 //! A database in memory, and runs of the program over it.
 
 use crate::callers::{Caller, Machine};
-use crate::runs::{Output, Row, Run, expect_output, words_of};
+use crate::runs::{Output, Row, Run, arguments_of, expect_output};
 use crate::terminal::{Input, NO_INPUT};
 use club_core::{ClubStore, StoreFault};
 use club_http::WriteOutlet;
@@ -18,7 +18,7 @@ use test_kit::exchanges::BOOK_7;
 /// The name of the database.
 pub const NAME: &str = "club";
 
-/// What a server answers to an order: the status and the text, or nothing.
+/// What a server answers to a command: the status and the text, or nothing.
 pub type ServerAnswer<'a> = Option<(u8, &'a str)>;
 
 /// A door by which nobody comes. When it is removed, it notes how often the database was closed.
@@ -40,7 +40,7 @@ impl Drop for ShutDoor<'_> {
     }
 }
 
-/// A server that has greeted, and gives one answer to each order.
+/// A server that has greeted, and gives one answer to each command.
 #[derive(Drop)]
 pub struct Greeted<'a> {
     rt: &'a HostRuntime,
@@ -51,8 +51,8 @@ pub struct Greeted<'a> {
 impl Visit for Greeted<'_> {
     ghost gives = { λ _ _ _. Unit {0} };
 
-    fn give(self, order: &[u8]) -> Option<(u8, String)> {
-        self.handed.set(order.len());
+    fn give(self, command: &[u8]) -> Option<(u8, String)> {
+        self.handed.set(command.len());
         let (status, text) = self.answer?;
         Some((status, format!(in self.rt.alloc(); "{text}").ok()?))
     }
@@ -73,8 +73,8 @@ struct InMemory<'a, S: ClubStore + Drop> {
 }
 
 impl<'a, S: ClubStore + Drop> InMemory<'a, S> {
-    // A database that nobody opened yet, and where its closings and the bytes handed over are
-    // counted, and the closings before a door was removed.
+    // A database that nobody opened yet, and if its closings and the bytes handed over are counted,
+    // and the closings before a door was removed.
     fn new(
         rt: &'a HostRuntime,
         store: S,
@@ -160,8 +160,8 @@ pub struct Scene<'a> {
     pub fault: Option<StoreFault>,
     /// The answer of the server that has the database, if one has.
     pub server: Option<ServerAnswer<'a>>,
-    /// The orders before the run, each of which ends as its row expects.
-    pub orders: &'a [Row<'a>],
+    /// The commands before the run, each of which ends as its row expects.
+    pub commands: &'a [Row<'a>],
     /// The clock of the machine, as `Machine` has it: its second and its microseconds.
     pub second: Option<u64>,
     pub later: u64,
@@ -175,12 +175,12 @@ pub struct Scene<'a> {
 }
 
 impl<'a> Scene<'a> {
-    /// A run after these orders and with nothing else.
-    pub fn after(orders: &'a [Row<'a>]) -> Scene<'a> {
+    /// A run after these commands and with nothing else.
+    pub fn after(commands: &'a [Row<'a>]) -> Scene<'a> {
         Scene {
             fault: None,
             server: None,
-            orders,
+            commands,
             second: Some(0),
             later: 0,
             input: NO_INPUT,
@@ -192,7 +192,7 @@ impl<'a> Scene<'a> {
 }
 
 /// How a run ended; and how often its database was opened and closed, before and after the run too,
-/// how many bytes of an order were handed over last, and how often the database was closed when a
+/// how many bytes of a command were handed over last, and how often the database was closed when a
 /// server's door was removed.
 #[derive(Drop)]
 pub struct SceneOutcome {
@@ -210,7 +210,7 @@ fn run_in<D: Databases>(
     machine: &Machine,
     asked: Run<'_>,
 ) -> Result<Output, AllocError> {
-    let words = words_of(rt, asked.line)?;
+    let arguments = arguments_of(rt, asked.line)?;
     let mut input = asked.input;
     let mut caller = Caller::new(rt, &asked);
     let mut log = Vec::new(rt.alloc());
@@ -219,7 +219,7 @@ fn run_in<D: Databases>(
         rt,
         machine,
         databases,
-        words.as_slice(),
+        arguments.as_slice(),
         &mut input,
         &mut caller,
         &mut lines,
@@ -229,8 +229,8 @@ fn run_in<D: Databases>(
 
 /// The line of a command over the database.
 pub fn line_of(rt: &HostRuntime, row: &Row<'_>) -> Result<String, AllocError> {
-    let Row(command, words, _) = row;
-    format!(in rt.alloc(); "clubdesk {command} {NAME} {words}")
+    let Row(command, arguments, _) = row;
+    format!(in rt.alloc(); "clubdesk {command} {NAME} {arguments}")
 }
 
 // Runs the command of a row over the database. It ends as that expects.
@@ -263,7 +263,7 @@ fn run_scene<D: Databases>(
     scene: &Scene<'_>,
     line: &str,
 ) -> Result<Output, Fail> {
-    expect_in(rt, databases, scene.orders)?;
+    expect_in(rt, databases, scene.commands)?;
     let asked = Run {
         input: scene.input,
         flushes: scene.flushes,
@@ -408,14 +408,14 @@ fn watch_over<S: ClubStore + Drop>(
         closed,
         found: None,
     };
-    let words = words_of(rt, line)?;
-    let words = words.as_slice();
+    let arguments = arguments_of(rt, line)?;
+    let arguments = arguments.as_slice();
     let mut input = NO_INPUT;
     let outcome = run(
         rt,
         rt,
         &mut databases,
-        words,
+        arguments,
         &mut input,
         &mut writer,
         &mut Unlogged,
@@ -426,7 +426,7 @@ fn watch_over<S: ClubStore + Drop>(
     Ok(writer.found)
 }
 
-/// An order, and a sheet.
+/// A command, and a sheet.
 static ANSWERED: [&str; 2] = [
     "clubdesk add-member club amy 5",
     "clubdesk sheet club 2026-05-01",

@@ -14,16 +14,16 @@ use std::net::TcpListener;
 use std::test::Fail;
 use std::{env, fs, process};
 
-/// A command and its words without the path, which is its second one, and how it ends: its status,
-/// and what it wrote or the line of its fault.
+/// A command and its arguments without the path, which is its second one, and how it ends: its
+/// status, and what it wrote or the line of its fault.
 #[derive(Clone, Copy)]
 pub struct Row<'a>(pub &'a str, pub &'a str, pub &'a str);
 
 /// Room for all that a command writes.
 pub const ROOM: usize = 65_536;
 
-/// A run of the program: its line of words, its input, how much it may write, whether that can be
-/// flushed, and the requests of the clients of its server.
+/// A run of the program: its line of arguments, its input, how much it may write, whether that can
+/// be flushed, and the requests of the clients of its server.
 #[derive(Clone, Copy)]
 pub struct Run<'a> {
     pub line: &'a str,
@@ -112,8 +112,8 @@ pub fn remove(rt: &HostRuntime, path: &str) {
     }
 }
 
-/// The words of a line.
-pub fn words_of<'a>(rt: &HostRuntime, line: &'a str) -> Result<Vec<&'a str>, AllocError> {
+/// The arguments of a line.
+pub fn arguments_of<'a>(rt: &HostRuntime, line: &'a str) -> Result<Vec<&'a str>, AllocError> {
     line.split(' ').collect(rt.alloc())
 }
 
@@ -141,17 +141,17 @@ fn run_over<D: Databases>(
     databases: &mut D,
     asked: Run<'_>,
 ) -> Result<Output, AllocError> {
-    let words = words_of(rt, asked.line)?;
+    let arguments = arguments_of(rt, asked.line)?;
     let mut input = asked.input;
     let mut caller = Caller::new(rt, &asked);
     let mut log = Vec::new(rt.alloc());
     let mut lines = LogLines::new(WriteOutlet::new(&mut log), rt);
-    let words = words.as_slice();
+    let arguments = arguments.as_slice();
     let outcome = run(
         rt,
         rt,
         databases,
-        words,
+        arguments,
         &mut input,
         &mut caller,
         &mut lines,
@@ -256,7 +256,8 @@ pub fn do_work<'x>(rt: &'x HostRuntime, work: Work<'x>) -> Result<RunOutcome, Fa
     run_over_files(rt, Worker { rt, work })
 }
 
-/// Runs the program on a line of words over databases in files, to a writer with this much room.
+/// Runs the program on a line of arguments over databases in files, to a writer with this much
+/// room.
 pub fn run_line(rt: &HostRuntime, line: &str, room: usize) -> Result<RunOutcome, Fail> {
     let asked = Run {
         room,
@@ -270,20 +271,20 @@ pub fn run_command(
     rt: &HostRuntime,
     path: &str,
     command: &str,
-    words: &str,
+    arguments: &str,
     room: usize,
 ) -> Result<RunOutcome, Fail> {
-    let line = format!(in rt.alloc(); "clubdesk {command} {path} {words}")?;
+    let line = format!(in rt.alloc(); "clubdesk {command} {path} {arguments}")?;
     run_line(rt, line.as_str(), room)
 }
 
 /// Fails unless a run ended as its row expects.
 pub fn expect_output(rt: &HostRuntime, row: &Row<'_>, returned: &str) -> Result<(), Fail> {
-    let Row(command, words, wanted) = row;
+    let Row(command, arguments, wanted) = row;
     if returned == *wanted {
         return Ok(());
     }
-    Err(format!(in rt.alloc(); "{command} {words}: {returned}")?.into())
+    Err(format!(in rt.alloc(); "{command} {arguments}: {returned}")?.into())
 }
 
 /// Runs commands over a file one after the other. Each ends as its row expects.

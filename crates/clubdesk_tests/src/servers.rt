@@ -70,7 +70,7 @@ const OUT_OF_RANGE: Outcome = Outcome {
 /// be read, the options of the server, what comes of it, and the log.
 struct Serving(Option<u64>, &'static str, &'static Outcome, &'static str);
 
-/// The microseconds that a connection takes, but where its server has a patience.
+/// The microseconds that a connection takes, but if its server has a patience.
 const SPAN: u64 = 1_533;
 
 /// Those that it takes there.
@@ -117,7 +117,7 @@ fn serves(rt: &HostRuntime, serving: &Serving) -> Result<(), Fail> {
     expect_openings(&played, 6, 6)
 }
 
-/// Whatever the machine's clock shows, where it can be read.
+/// Whatever the machine's clock shows, if it can be read.
 static AT: [Serving; 6] = [
     Serving(None, "--at 2026-04-20T12:00", &CUT_OFF, ""),
     Serving(

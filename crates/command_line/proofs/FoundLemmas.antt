@@ -15,7 +15,7 @@ use Rattle.clap.specs.declared.parser.matches.ValueSource.TheVariants.{CommandLi
 use Rattle.clap.proofs.SimpleLemmas.{is_false}
 use Rattle.command_line.specs.Given.{Given, rule_given}
 use Rattle.command_line.specs.Given.{row_given, are_apart}
-use Rattle.command_line.proofs.WordsLemmas.{both}
+use Rattle.command_line.proofs.ArgumentsLemmas.{both}
 
 -- ---- lists of rows
 

@@ -18,12 +18,13 @@ use Rattle.clap.specs.declared.parser.matches.ValueSource.TheVariants.{CommandLi
 use Rattle.clap.proofs.CutLemmas.{Lacks}
 use Rattle.clap.proofs.SimpleLemmas.{is_false}
 use Rattle.clap.proofs.LexerLemmas.{name_and_value-at, name_and_value-without}
-use Rattle.command_line.specs.Application.{words_named}
-use Rattle.command_line.specs.Given.{Given, option_given, flag_given, word_given, words_given, left_out, rule_given, options_spelled, words_spelled}
+use Rattle.command_line.specs.Application.{positionals_named}
+use Rattle.command_line.specs.Given.{Given, option_given, flag_given, positional_given, positionals_given, left_out, rule_given, options_spelled}
 use Rattle.command_line.specs.Given.{AreSpelled}
-use Rattle.command_line.specs.Given.{row_given, option_rows, word_rows, rows_given, are_apart, are_new, are_options_named, has_no_words, is_in_order}
+use Rattle.command_line.specs.Given.{row_given, option_rows, positional_rows, rows_given, are_apart, are_new, are_options_named, is_in_order}
+use Rattle.command_line.specs.Given.{has_no_positionals, positionals_spelled}
 use Rattle.command_line.specs.Given.{end_fault}
-use Rattle.command_line.proofs.WordsLemmas.{both}
+use Rattle.command_line.proofs.ArgumentsLemmas.{both}
 use Rattle.command_line.proofs.FoundLemmas.{same_text, added, set_row, grown, AreFound, all_found, IsFound}
 
 lacks : (name : Text) → not (list_any (λ byte. byte == 61) name) ≡ true → Lacks 61 name
@@ -47,7 +48,7 @@ held_with rows pending = record { rows = rows; pending = pending; skip = 0 }
 abbrev at_option : List Found → Option (Text × List Text) → Walk
 at_option rows pending = record (walk_from nothing_held) { held = held_with rows pending }
 
--- behind `--`, where the word at this place comes next
+-- after `--`, where the positional argument at this place comes next
 abbrev at_place : List Found → Option (Text × List Text) → Waiting → ℕ → Walk
 at_place rows pending waiting place = record {
   held = held_with rows pending;
@@ -57,20 +58,20 @@ at_place rows pending waiting place = record {
   stopped = None;
 }
 
-alone_held : (rules : List Rule) (rule : Rule) (word : Text) (h : Held) → takes_several rule ≡ false
-    → positional_held rules rule word h ≡ pushed rule.id word (settled rules h)
-alone_held rules rule word h one = rw one (go (is_pending rule h.pending))
+alone_held : (rules : List Rule) (rule : Rule) (argument : Text) (h : Held) → takes_several rule ≡ false
+    → positional_held rules rule argument h ≡ pushed rule.id argument (settled rules h)
+alone_held rules rule argument h one = rw one (go (is_pending rule h.pending))
   where
-    go : (b : Bool) → pushed rule.id word (cond (b && false) h (settled rules h)) ≡ pushed rule.id word (settled rules h)
+    go : (b : Bool) → pushed rule.id argument (cond (b && false) h (settled rules h)) ≡ pushed rule.id argument (settled rules h)
     go true = refl
     go false = refl
 
-none_spelled : (given : List Given) → has_no_words given ≡ true → (words_spelled given ≡ []) × (word_rows given ≡ [])
+none_spelled : (given : List Given) → has_no_positionals given ≡ true → (positionals_spelled given ≡ []) × (positional_rows given ≡ [])
 none_spelled [] none = (refl, refl)
 none_spelled (option_given joined required defaults name value ∷ given) none = none_spelled given none
 none_spelled (flag_given name ∷ given) none = none_spelled given none
-none_spelled (word_given required name value ∷ given) none = cc
-none_spelled (words_given required name first more ∷ given) none = cc
+none_spelled (positional_given required name value ∷ given) none = cc
+none_spelled (positionals_given required name first more ∷ given) none = cc
 none_spelled (left_out rule ∷ given) none = none_spelled given none
 
 module _ (s : Shape) where
@@ -78,41 +79,42 @@ module _ (s : Shape) where
   again = s.args_override_self
 
   IsStep : Walk → Text → Walk → Type 0
-  IsStep w word next = (walked s.rules [] w word ≡ next) × (turn_fault s [] w word ≡ [])
+  IsStep w argument next = (walked s.rules [] w argument ≡ next) × (turn_fault s [] w argument ≡ [])
 
   -- these rows, once what waits is used, and using it doesn't fail
   abbrev Holds : Held → List Found → Type 0
   Holds held now = ((settled s.rules held).rows ≡ now) × (settle_fault s.rules again held ≡ [])
 
-  -- the walk over the words ends with these rows, and nothing fails
+  -- the walk over the arguments ends with these rows, and nothing fails
   Settles : Walk → List Text → List Found → Type 0
-  Settles w words now = (end : Walk) × (fold (walked s.rules []) w words ≡ end) × (walk_fault s [] w words ≡ []) × Holds end.held now
+  Settles w arguments now = (end : Walk) × (fold (walked s.rules []) w arguments ≡ end) × (walk_fault s [] w arguments ≡ []) × Holds end.held now
 
-  step_on : (w next : Walk) (word : Text) (words : List Text) (rows : List Found) → IsStep w word next → Settles next words rows → Settles w (word ∷ words) rows
+  step_on : (w next : Walk) (argument : Text) (arguments : List Text) (rows : List Found) → IsStep w argument next → Settles next arguments rows
+      → Settles w (argument ∷ arguments) rows
   unfolding IsStep Settles walk_fault
-  step_on w next word words rows is on = (
+  step_on w next argument arguments rows is on = (
     on.0,
-    ap (λ (w : Walk). fold (walked s.rules []) w words) is.0 ∙ on.1,
-    ap₂ or_else is.1 (ap (λ (w : Walk). walk_fault s [] w words) is.0 ∙ on.2),
+    ap (λ (w : Walk). fold (walked s.rules []) w arguments) is.0 ∙ on.1,
+    ap₂ or_else is.1 (ap (λ (w : Walk). walk_fault s [] w arguments) is.0 ∙ on.2),
     on.3,
   )
 
   -- the walk ends here
-  stands : (w : Walk) (words : List Text) (now : List Found) → words ≡ [] → Holds w.held now → Settles w words now
+  stands : (w : Walk) (arguments : List Text) (now : List Found) → arguments ≡ [] → Holds w.held now → Settles w arguments now
   unfolding Settles walk_fault
-  stands w words now none holds = rw none (w, refl, refl, holds)
+  stands w arguments now none holds = rw none (w, refl, refl, holds)
 
   -- ---- options
 
-  -- what becomes of a word that reads so, and why it fails
+  -- what becomes of an argument that reads so, and why it fails
   abbrev after_long : Text → Held → Option (Text × Option Text) → Walk
-  after_long word held long =
-      let met = long_or_other s.rules idle word long held in after_step s.rules word (record (walk_from nothing_held) { held = held }) met.0 met.1
+  after_long argument held long =
+      let met = long_or_other s.rules idle argument long held in after_step s.rules argument (record (walk_from nothing_held) { held = held }) met.0 met.1
 
   abbrev long_fails : Text → Held → Option (Text × Option Text) → Kinds
-  long_fails word held long =
-      let met = long_or_other s.rules idle word long held in
-      or_else (flag_word_fault s.rules again long word held) (step_fault s 1 met.0 met.1)
+  long_fails argument held long =
+      let met = long_or_other s.rules idle argument long held in
+      or_else (flag_word_fault s.rules again long argument held) (step_fault s 1 met.0 met.1)
 
   -- the rows with one use more of this argument
   abbrev with_use : Text → List Text → List Found → List Found
@@ -125,29 +127,29 @@ module _ (s : Shape) where
         → IsStep (at_option rows pending) (codes "--" ++ (first ∷ name ++ 61 ∷ value)) (at_option (now ++ row_given (first ∷ name) (value ∷ []) ∷ []) None)
     unfolding IsStep walked
     option_step required defaults value found =
-        let word = codes "--" ++ (first ∷ name ++ 61 ∷ value) in
+        let argument = codes "--" ++ (first ∷ name ++ 61 ∷ value) in
         let long = long_with first name value named in
         let by_name = found.by_name (rw (same_text (first ∷ name)) refl) in (
-          ap (after_long word (held_with rows pending)) long
+          ap (after_long argument (held_with rows pending)) long
               ∙ rw by_name (ap (λ (rows : List Found). at_option (with_use (first ∷ name) (value ∷ []) rows) None) holds.0
               ∙ ap (λ (rows : List Found). at_option rows None) (set_row (first ∷ name) (value ∷ []) now new)),
-          ap (long_fails word (held_with rows pending)) long ∙ rw (by_name, holds.1, holds.0, new) refl,
+          ap (long_fails argument (held_with rows pending)) long ∙ rw (by_name, holds.1, holds.0, new) refl,
         )
 
     flag_step : IsFound s.rules (filled (rule_given (flag_given (first ∷ name))))
         → IsStep (at_option rows pending) (codes "--" ++ (first ∷ name)) (at_option (now ++ row_given (first ∷ name) (codes "true" ∷ []) ∷ []) None)
     unfolding IsStep walked
     flag_step found =
-        let word = codes "--" ++ (first ∷ name) in
+        let argument = codes "--" ++ (first ∷ name) in
         let long = long_alone first name named in
         let by_name = found.by_name (rw (same_text (first ∷ name)) refl) in (
-          ap (after_long word (held_with rows pending)) long
+          ap (after_long argument (held_with rows pending)) long
               ∙ rw by_name (ap (λ (rows : List Found). at_option (with_use (first ∷ name) (codes "true" ∷ []) rows) None) holds.0
               ∙ ap (λ (rows : List Found). at_option rows None) (set_row (first ∷ name) (codes "true" ∷ []) now new)),
-          ap (long_fails word (held_with rows pending)) long ∙ rw (by_name, holds.1, holds.0, new) refl,
+          ap (long_fails argument (held_with rows pending)) long ∙ rw (by_name, holds.1, holds.0, new) refl,
         )
 
-    -- an option whose value is the next word, which doesn't begin with a dash
+    -- an option whose value is the next argument, which doesn't begin with a dash
     abbrev waits : Walk
     waits = record (at_option now (Some (first ∷ name, []))) { waiting = option (first ∷ name) }
 
@@ -156,12 +158,12 @@ module _ (s : Shape) where
         → IsStep (at_option rows pending) (codes "--" ++ (first ∷ name)) waits
     unfolding IsStep walked
     name_step required defaults value found =
-        let word = codes "--" ++ (first ∷ name) in
+        let argument = codes "--" ++ (first ∷ name) in
         let long = long_alone first name named in
         let by_name = found.by_name (rw (same_text (first ∷ name)) refl) in (
-          ap (after_long word (held_with rows pending)) long
+          ap (after_long argument (held_with rows pending)) long
               ∙ rw by_name (ap (λ (rows : List Found). record (at_option rows (Some (first ∷ name, []))) { waiting = option (first ∷ name) }) holds.0),
-          ap (long_fails word (held_with rows pending)) long ∙ rw (by_name, holds.1) refl,
+          ap (long_fails argument (held_with rows pending)) long ∙ rw (by_name, holds.1) refl,
         )
 
     value_step : (required : Bool) (defaults : List Text) (value : Text) → not (is_some (strip_byte 45 value)) ≡ true
@@ -185,20 +187,20 @@ module _ (s : Shape) where
   unfolding IsStep walked
   dashes_step rows pending = (refl, refl)
 
-  -- ---- words
+  -- ---- positional arguments
 
-  -- a word that stands for itself: what waited is used, and the word waits
-  word_step : (rule : Rule) (place : ℕ) (rows now : List Found) (pending : Option (Text × List Text)) (waiting : Waiting) (word : Text)
+  -- a text that stands for itself: what waited is used, and the text waits
+  positional_step : (rule : Rule) (place : ℕ) (rows now : List Found) (pending : Option (Text × List Text)) (waiting : Waiting) (argument : Text)
       → arg_by_index s.rules place ≡ Some rule → takes_several rule ≡ false → Holds (held_with rows pending) now
-      → IsStep (at_place rows pending waiting place) word
-      (at_place now (Some (rule.id, word ∷ [])) (cond (is_multiple rule) positional idle) (next_position rule place))
+      → IsStep (at_place rows pending waiting place) argument
+      (at_place now (Some (rule.id, argument ∷ [])) (cond (is_multiple rule) positional idle) (next_position rule place))
   unfolding IsStep walked
-  word_step rule place rows now pending waiting word by_place one holds = (
+  positional_step rule place rows now pending waiting argument by_place one holds = (
     rw by_place (ap (λ (h : Held). record (at_place rows pending waiting place) {
       held = h;
       waiting = cond (is_multiple rule) positional idle;
       position = next_position rule place;
-    }) (alone_held s.rules rule word (held_with rows pending) one ∙ ap (λ (rows : List Found). held_with rows (Some (rule.id, word ∷ []))) holds.0)),
+    }) (alone_held s.rules rule argument (held_with rows pending) one ∙ ap (λ (rows : List Found). held_with rows (Some (rule.id, argument ∷ []))) holds.0)),
     rw by_place (clear_alone (is_pending rule pending && takes_several rule) holds.1),
   )
     where
@@ -206,64 +208,66 @@ module _ (s : Shape) where
       clear_alone true none = refl
       clear_alone false none = none
 
-  -- more words of the argument that takes several
+  -- more texts of the argument that takes several
   more_walked : (required : Bool) (name : Text) (place : ℕ) (rows before : List Found) (some : List Text) (last : Text) (more : List Text)
-      → IsFound s.rules (with_index place (filled (record (words_named name) { required = required }))) → has_row name before ≡ false
+      → IsFound s.rules (with_index place (filled (record (positionals_named name) { required = required }))) → has_row name before ≡ false
       → Holds (held_with rows (Some (name, last ∷ []))) (before ++ row_given name some ∷ [])
       → Settles (at_place rows (Some (name, last ∷ [])) positional place) more (before ++ row_given name (some ++ more) ∷ [])
   more_walked required name place rows before some last [] found new holds =
       stands (at_place rows (Some (name, last ∷ [])) positional place) [] _ refl
       (holds.0 ∙ ap (λ (values : List Text). before ++ row_given name values ∷ []) (sym (append-nil some)), holds.1)
-  more_walked required name place rows before some last (word ∷ more) found new holds =
-      let rule = with_index place (filled (record (words_named name) { required = required })) in
+  more_walked required name place rows before some last (argument ∷ more) found new holds =
+      let rule = with_index place (filled (record (positionals_named name) { required = required })) in
       let by_place = found.by_place (grind (arith, nat_tests)) in
       let now = before ++ row_given name some ∷ [] in
-      step_on _ _ word more _ (word_step rule place rows now (Some (name, last ∷ [])) positional word by_place refl holds)
-      (subst (λ (values : List Text). Settles (at_place now (Some (name, word ∷ [])) positional place) more (before ++ row_given name values ∷ []))
-      (append_assoc some (word ∷ []) more) (more_walked required name place now before (some ++ word ∷ []) word more found new
-      (rw found.by_id (grown name some (word ∷ []) before new), rw found.by_id refl)))
+      step_on _ _ argument more _ (positional_step rule place rows now (Some (name, last ∷ [])) positional argument by_place refl holds)
+      (subst (λ (values : List Text). Settles (at_place now (Some (name, argument ∷ [])) positional place) more (before ++ row_given name values ∷ []))
+      (append_assoc some (argument ∷ []) more) (more_walked required name place now before (some ++ argument ∷ []) argument more found new
+      (rw found.by_id (grown name some (argument ∷ []) before new), rw found.by_id refl)))
 
-  words_walked : (i : ℕ) (given : List Given) (rows now : List Found) (pending : Option (Text × List Text)) (waiting : Waiting) → AreFound s.rules i given
-      → are_new now (word_rows given) ≡ true → is_in_order given ≡ true → Holds (held_with rows pending) now
-      → Settles (at_place rows pending waiting i) (words_spelled given) (now ++ word_rows given)
+  positionals_walked : (i : ℕ) (given : List Given) (rows now : List Found) (pending : Option (Text × List Text)) (waiting : Waiting) → AreFound s.rules i given
+      → are_new now (positional_rows given) ≡ true → is_in_order given ≡ true → Holds (held_with rows pending) now
+      → Settles (at_place rows pending waiting i) (positionals_spelled given) (now ++ positional_rows given)
   unfolding AreFound
-  words_walked i [] rows now pending waiting found new ordered holds =
+  positionals_walked i [] rows now pending waiting found new ordered holds =
       stands (at_place rows pending waiting i) [] _ refl (holds.0 ∙ sym (append-nil now), holds.1)
-  words_walked i (option_given joined required defaults name value ∷ given) rows now pending waiting found new ordered holds =
-      words_walked i given rows now pending waiting found.1 new ordered holds
-  words_walked i (flag_given name ∷ given) rows now pending waiting found new ordered holds =
-      words_walked i given rows now pending waiting found.1 new ordered holds
-  words_walked i (word_given required name value ∷ given) rows now pending waiting found new ordered holds =
-      let rule = with_index i (filled (rule_given (word_given required name value))) in
+  positionals_walked i (option_given joined required defaults name value ∷ given) rows now pending waiting found new ordered holds =
+      positionals_walked i given rows now pending waiting found.1 new ordered holds
+  positionals_walked i (flag_given name ∷ given) rows now pending waiting found new ordered holds =
+      positionals_walked i given rows now pending waiting found.1 new ordered holds
+  positionals_walked i (positional_given required name value ∷ given) rows now pending waiting found new ordered holds =
+      let rule = with_index i (filled (rule_given (positional_given required name value))) in
       let parts = both (not (has_row name now)) _ new in
       let fresh = is_false _ parts.0 in
       let row = row_given name (value ∷ []) in
-      step_on _ _ value (words_spelled given) _ (word_step rule i rows now pending waiting value (found.0.by_place (grind (arith, nat_tests))) refl holds)
-      (subst (Settles (at_place now (Some (name, value ∷ [])) idle (next_position rule i)) (words_spelled given))
-      (append_assoc now (row ∷ []) (word_rows given))
-      (words_walked (next_position rule i) given now (now ++ row ∷ []) (Some (name, value ∷ [])) idle found.1 parts.1 ordered
+      step_on _ _ value (positionals_spelled given) _
+      (positional_step rule i rows now pending waiting value (found.0.by_place (grind (arith, nat_tests))) refl holds)
+      (subst (Settles (at_place now (Some (name, value ∷ [])) idle (next_position rule i)) (positionals_spelled given))
+      (append_assoc now (row ∷ []) (positional_rows given))
+      (positionals_walked (next_position rule i) given now (now ++ row ∷ []) (Some (name, value ∷ [])) idle found.1 parts.1 ordered
       (rw found.0.by_id (set_row name (value ∷ []) now fresh), rw (found.0.by_id, fresh) refl)))
-  words_walked i (words_given required name first more ∷ given) rows now pending waiting found new ordered holds =
-      let rule = with_index i (filled (rule_given (words_given required name first more))) in
+  positionals_walked i (positionals_given required name first more ∷ given) rows now pending waiting found new ordered holds =
+      let rule = with_index i (filled (rule_given (positionals_given required name first more))) in
       let parts = both (not (has_row name now)) _ new in
       let fresh = is_false _ parts.0 in
       rw (none_spelled given ordered).1 (step_on _ _ first more _
-      (word_step rule i rows now pending waiting first (found.0.by_place (grind (arith, nat_tests))) refl holds)
+      (positional_step rule i rows now pending waiting first (found.0.by_place (grind (arith, nat_tests))) refl holds)
       (more_walked required name i now now (first ∷ []) first more found.0 fresh (rw found.0.by_id (added name (first ∷ []) now fresh), rw found.0.by_id refl)))
-  words_walked i (left_out rule ∷ given) rows now pending waiting found new ordered holds =
+  positionals_walked i (left_out rule ∷ given) rows now pending waiting found new ordered holds =
       go (wants_index rule) refl ordered
-      (λ same ordered. words_walked i given rows now pending waiting (subst (λ (i : ℕ). AreFound s.rules i given) same found.1) new ordered holds)
+      (λ same ordered. positionals_walked i given rows now pending waiting (subst (λ (i : ℕ). AreFound s.rules i given) same found.1) new ordered holds)
     where
-      go : (wants : Bool) → wants_index rule ≡ wants → cond wants (has_no_words given) (is_in_order given) ≡ true
-          → (index_after i rule ≡ i → is_in_order given ≡ true → Settles (at_place rows pending waiting i) (words_spelled given) (now ++ word_rows given))
-          → Settles (at_place rows pending waiting i) (words_spelled given) (now ++ word_rows given)
+      go : (wants : Bool) → wants_index rule ≡ wants → cond wants (has_no_positionals given) (is_in_order given) ≡ true
+          → (index_after i rule ≡ i → is_in_order given ≡ true
+          → Settles (at_place rows pending waiting i) (positionals_spelled given) (now ++ positional_rows given))
+          → Settles (at_place rows pending waiting i) (positionals_spelled given) (now ++ positional_rows given)
       go true wants none rest =
           let nothing = none_spelled given none in
-          stands (at_place rows pending waiting i) (words_spelled given) _ nothing.0
+          stands (at_place rows pending waiting i) (positionals_spelled given) _ nothing.0
           (holds.0 ∙ (sym (append-nil now) ∙ ap (λ (more : List Found). now ++ more) (sym nothing.1)), holds.1)
       go false wants ordered rest = rest (ap (λ (b : Bool). cond b (min (i + 1) usize_max) i) wants) ordered
 
-  -- ---- the options, and then the words
+  -- ---- the options, and then the positional arguments
 
   -- the walk goes on from these rows
   GoesOn : List Text → List Found → List Found → Type 0
@@ -290,10 +294,10 @@ module _ (s : Shape) where
         → GoesOn tail last (now ++ option_rows given) → OptionsGoOn given now
     unfolding AreFound GoesOn OptionsGoOn
     options_walked i [] now found named then rows pending holds new = subst (GoesOn tail last) (append-nil now) then rows pending holds new
-    options_walked i (word_given required name value ∷ given) now found named then rows pending holds new =
-        options_walked (index_after i (rule_given (word_given required name value))) given now found.1 named then rows pending holds new
-    options_walked i (words_given required name first more ∷ given) now found named then rows pending holds new =
-        options_walked (index_after i (rule_given (words_given required name first more))) given now found.1 named then rows pending holds new
+    options_walked i (positional_given required name value ∷ given) now found named then rows pending holds new =
+        options_walked (index_after i (rule_given (positional_given required name value))) given now found.1 named then rows pending holds new
+    options_walked i (positionals_given required name first more ∷ given) now found named then rows pending holds new =
+        options_walked (index_after i (rule_given (positionals_given required name first more))) given now found.1 named then rows pending holds new
     options_walked i (left_out rule ∷ given) now found named then rows pending holds new =
         options_walked (index_after i rule) given now found.1 named then rows pending holds new
     options_walked i (flag_given [] ∷ given) now found named then rows pending holds new = cc
@@ -321,30 +325,31 @@ module _ (s : Shape) where
         (one_more given now row then (options_walked i given (now ++ row ∷ []) found.1 value_is.1) now (Some (first ∷ name, value ∷ []))
         (value_holds first name rows now pending holds own.0 fresh required defaults value found.0) parts.1))
 
-  -- no word follows the options
-  ends_with_options : (given : List Given) → has_no_words given ≡ true → GoesOn [] (word_rows given) (option_rows given)
+  -- no positional argument follows the options
+  ends_with_options : (given : List Given) → has_no_positionals given ≡ true → GoesOn [] (positional_rows given) (option_rows given)
   unfolding GoesOn
   ends_with_options given none rows pending holds new = stands (at_option rows pending) [] _ refl
       (holds.0 ∙ (sym (append-nil (option_rows given)) ∙ ap (λ (more : List Found). option_rows given ++ more) (sym (none_spelled given none).1)), holds.1)
 
-  words_after_options : (given : List Given) → AreFound s.rules 1 given → is_in_order given ≡ true
-      → GoesOn (codes "--" ∷ words_spelled given) (word_rows given) (option_rows given)
+  positionals_after_options : (given : List Given) → AreFound s.rules 1 given → is_in_order given ≡ true
+      → GoesOn (codes "--" ∷ positionals_spelled given) (positional_rows given) (option_rows given)
   unfolding GoesOn
-  words_after_options given found ordered rows pending holds new = step_on _ _ (codes "--") (words_spelled given) _ (dashes_step rows pending)
-      (words_walked 1 given rows (option_rows given) pending idle found new ordered holds)
+  positionals_after_options given found ordered rows pending holds new = step_on _ _ (codes "--") (positionals_spelled given) _ (dashes_step rows pending)
+      (positionals_walked 1 given rows (option_rows given) pending idle found new ordered holds)
 
   -- nothing fails, and the rows of what is given are found
-  pub given_taken : (given : List Given) (others : List Rule) (words : List Text) → s.rules ≡ filled_from 1 (map rule_given given ++ others)
+  pub given_taken : (given : List Given) (others : List Rule) (arguments : List Text) → s.rules ≡ filled_from 1 (map rule_given given ++ others)
       → are_apart [] s.rules ≡ true → are_options_named given ≡ true → are_new [] (rows_given given) ≡ true → is_in_order given ≡ true
-      → end_fault s (rows_given given) ≡ [] → AreSpelled given words
-      → (level_fault s [] nothing_held words false [] ≡ []) × (rows_after s.rules [] words ≡ fold with_default (rows_given given) s.rules)
+      → end_fault s (rows_given given) ≡ [] → AreSpelled given arguments
+      → (level_fault s [] nothing_held arguments false [] ≡ []) × (rows_after s.rules [] arguments ≡ fold with_default (rows_given given) s.rules)
   unfolding Settles OptionsGoOn
-  given_taken given others words same apart named new ordered ends spells =
+  given_taken given others arguments same apart named new ordered ends spells =
       let found = all_found s.rules [] 1 given others same (rw same at apart) in
-      let walked : Settles (walk_from nothing_held) words (rows_given given) = elim spells [
-        | inl are ↦ rw are (options_walked _ (word_rows given) 1 given [] found named (words_after_options given found ordered) [] None (refl, refl) new)
-        | inr alone ↦ rw alone.0 (subst (λ (words : List Text). Settles (walk_from nothing_held) words (rows_given given)) (append-nil (options_spelled given))
-            (options_walked [] (word_rows given) 1 given [] found named (ends_with_options given alone.1) [] None (refl, refl) new))
+      let walked : Settles (walk_from nothing_held) arguments (rows_given given) = elim spells [
+        | inl are ↦ rw are
+            (options_walked _ (positional_rows given) 1 given [] found named (positionals_after_options given found ordered) [] None (refl, refl) new)
+        | inr alone ↦ rw alone.0 (subst (λ (texts : List Text). Settles (walk_from nothing_held) texts (rows_given given)) (append-nil (options_spelled given))
+            (options_walked [] (positional_rows given) 1 given [] found named (ends_with_options given alone.1) [] None (refl, refl) new))
       ] in
       let Fails : Held → Kinds = λ held. or_else (settle_fault s.rules again held) (or_else (defaults_fault (settled s.rules held).rows s.rules)
       (check_fault s (finished s.rules held) false)) in (

@@ -5,26 +5,27 @@ use Rattle.clap.specs.declared.error.kind.ErrorKind.{ErrorKind}
 use Rattle.command_line.specs.JobLaws.{RowsAnswerOnce, AskOnce, IsOrLacksMemory, ReadsOnce, WordsNameARow}
 use Rattle.command_line.specs.Job.{ReadsAccepted, ReadsFound, ReadsJob, ReadsRow}
 use Rattle.command_line.specs.Table.{IsGood, Table, app_of_table, asked, asked_in, refusals}
-use Rattle.command_line.specs.declared.errors.WordsFault.{WordsFault}
-use Rattle.command_line.specs.declared.errors.WordsFault.TheVariants.{Refused, BadValue, Memory}
+use Rattle.command_line.specs.declared.errors.ArgumentsFault.{ArgumentsFault}
+use Rattle.command_line.specs.declared.errors.ArgumentsFault.TheVariants.{Refused, BadValue, Memory}
 use Rattle.command_line.specs.declared.job.Asked.{Asked}
 use Rattle.command_line.specs.declared.job.Asked.TheVariants.{Perform, ShowText}
 
 -- clap accepts the arguments, and found this of them
-module _ {C J V : Type 0} (table : Table C) (Reads : ReadsRow C J V) (words : List Text) (found : Option (Text × List Row))
-    (clear : fault_of (app_of_table table) words ≡ []) (same : found ≡ subcommand_of (app_of_table table) words) where
-  pub reads_accepted : (result : Result J (WordsFault V)) → ReadsFound Reads (asked_in table found) result → ReadsAccepted table Reads words result
+module _ {C J V : Type 0} (table : Table C) (Reads : ReadsRow C J V) (arguments : List Text) (found : Option (Text × List Row))
+    (clear : fault_of (app_of_table table) arguments ≡ []) (same : found ≡ subcommand_of (app_of_table table) arguments) where
+  pub reads_accepted : (result : Result J (ArgumentsFault V)) → ReadsFound Reads (asked_in table found) result → ReadsAccepted table Reads arguments result
   unfolding refusals asked
   reads_accepted result reads = (clear, rw (← same) reads)
 
-  pub reads_fault : (fault : WordsFault V) → ReadsFound Reads (asked_in table found) (let result : Result J (WordsFault V) = Err fault in result)
-      → ReadsJob table Reads words (Err fault)
+  pub reads_fault : (fault : ArgumentsFault V) → ReadsFound Reads (asked_in table found) (let result : Result J (ArgumentsFault V) = Err fault in result)
+      → ReadsJob table Reads arguments (Err fault)
   reads_fault (Refused error) reads = inr (reads_accepted _ reads)
   reads_fault (BadValue value) reads = reads_accepted _ reads
   reads_fault Memory reads = tt
 
-pub row_named : {C : Type 0} (table : Table C) → WordsNameARow C → IsGood table → (words : List Text) → refusals table words ≡ [] → IsSome (asked table words)
-row_named table law good words clear = law table words clear
+pub row_named : {C : Type 0} (table : Table C) → WordsNameARow C → IsGood table → (arguments : List Text) → refusals table arguments ≡ []
+    → IsSome (asked table arguments)
+row_named table law good arguments clear = law table arguments clear
 
 -- ---- one job
 
@@ -36,29 +37,29 @@ answers_once (Ok expected) job (Err Memory) is that = inr refl
 answers_once (Err refusal) job result is that = absurd cc
 
 pub ask_once : {C J V : Type 0} (table : Table C) (Reads : ReadsRow C J V) → ReadsOnce Reads → AskOnce table Reads
-ask_once {C} {J} {V} table Reads once words job result asks is = go result is
+ask_once {C} {J} {V} table Reads once arguments job result asks is = go result is
   where
-    accepted : (kind : ErrorKind) → IsAmong kind (refusals table words) → ⊥
+    accepted : (kind : ErrorKind) → IsAmong kind (refusals table arguments) → ⊥
     accepted kind among = subst (λ (kinds : Kinds). IsAmong kind kinds) asks.0 among
 
-    found : (row : Option (C × List Row)) (result : Result J (WordsFault V)) → ReadsFound Reads row (Ok job) → ReadsFound Reads row result
+    found : (row : Option (C × List Row)) (result : Result J (ArgumentsFault V)) → ReadsFound Reads row (Ok job) → ReadsFound Reads row result
         → IsOrLacksMemory job result
     found None result none is = absurd none
     found (Some row) result one is = once row.0 row.1 job result one is
 
-    go : (result : Result (Asked J) (WordsFault V)) → ReadsJob table Reads words result → IsOrLacksMemory (Perform job) result
+    go : (result : Result (Asked J) (ArgumentsFault V)) → ReadsJob table Reads arguments result → IsOrLacksMemory (Perform job) result
     go (Ok (ShowText text)) (inl among) = absurd (accepted _ among)
     go (Ok (ShowText text)) (inr among) = absurd (accepted _ among)
-    go (Ok (Perform other)) is = elim (found (asked table words) (Ok other) asks.1 is.1) [
+    go (Ok (Perform other)) is = elim (found (asked table arguments) (Ok other) asks.1 is.1) [
       | inl same ↦ let one : other ≡ job = cc in inl (ap (λ (j : J). Ok (Perform j)) one)
       | inr none ↦ cc
     ]
     go (Err (Refused error)) (inl among) = absurd (accepted _ among.0)
-    go (Err (Refused error)) (inr is) = elim (found (asked table words) (Err (Refused error)) asks.1 is.1) [
+    go (Err (Refused error)) (inr is) = elim (found (asked table arguments) (Err (Refused error)) asks.1 is.1) [
       | inl same ↦ cc
       | inr none ↦ cc
     ]
-    go (Err (BadValue value)) is = elim (found (asked table words) (Err (BadValue value)) asks.1 is.1) [
+    go (Err (BadValue value)) is = elim (found (asked table arguments) (Err (BadValue value)) asks.1 is.1) [
       | inl same ↦ cc
       | inr none ↦ cc
     ]

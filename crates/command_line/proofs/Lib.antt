@@ -3,7 +3,7 @@ pub mod InputLemmas
 pub mod OutputLemmas
 pub mod TreeLemmas
 pub mod OptionLemmas
-pub mod WordsLemmas
+pub mod ArgumentsLemmas
 pub mod NamedLemmas
 pub mod TableLemmas
 pub mod FoundLemmas

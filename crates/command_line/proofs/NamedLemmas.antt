@@ -17,7 +17,7 @@ use Rattle.std.specs.List.{list_any}
 use Rattle.clap.specs.declared.error.kind.ErrorKind.TheVariants.{DisplayHelp, InvalidSubcommand}
 use Rattle.clap.specs.Faults.{built_fault, defaults_fault, entered_fault, settle_fault, check_fault, other_fault, turn_fault, walk_fault, word_fault}
 
--- of two lists of kinds in turn, both are empty where the whole is
+-- of two lists of kinds in turn, both are empty if the whole is
 or_else_nil : (a b : Kinds) → or_else a b ≡ [] → (a ≡ []) × (b ≡ [])
 or_else_nil [] b h = (refl, h)
 or_else_nil (k ∷ ks) b h = cc

@@ -4,7 +4,7 @@ use Rattle.std.specs.Borrow.{Bor}
 use Rattle.clap.specs.Words.{Text, first_value, rows_of}
 use Rattle.clap.proofs.WalkLemmas.{first_value-rows}
 use Rattle.clap.specs.declared.parser.matches.Found.{Found}
-use Rattle.command_line.specs.Words.{value_in}
+use Rattle.command_line.specs.Arguments.{value_in}
 
 -- the value of an option as the code reads it
 pub value_read : (options : Found) (id : Text) (given : Option (Bor Text)) (text default : Bor Text)

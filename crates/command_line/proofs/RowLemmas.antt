@@ -19,7 +19,7 @@ use Rattle.command_line.specs.Given.{AreSpelled, Given, can_be_given, found_give
 use Rattle.command_line.specs.JobLaws.{RowsTakeWhatTheyAreGiven, WordsNameARow}
 use Rattle.command_line.specs.Table.{Entry, Table, asked, asked_in, entry_app, entry_named, refusals, with_entries}
 use Rattle.command_line.proofs.GivenLemmas.{given_taken}
-use Rattle.command_line.proofs.WordsLemmas.{both}
+use Rattle.command_line.proofs.ArgumentsLemmas.{both}
 use Rattle.command_line.proofs.NamedLemmas.{StopsNotAtHelp, enters_command}
 
 -- ---- what clap builds of a table
@@ -76,23 +76,23 @@ shape_found {C} above (next ∷ entries) name other = go (bytes_eq next.name nam
     go true others = refl
     go false others = others
 
--- ---- the words behind a command's name
+-- ---- the arguments after a command's name
 
--- the walk has met the command of this name, and these words behind it
+-- the walk has met the command of this name, and these arguments after it
 abbrev at_command : Text → List Text → Walk
-at_command name words = record (walk_from nothing_held) { stopped = Some (name, words) }
+at_command name arguments = record (walk_from nothing_held) { stopped = Some (name, arguments) }
 
-words_kept : (c : List Rule) (names : Names) (name : Text) (some words : List Text)
-    → fold (walked c names) (at_command name some) words ≡ at_command name (some ++ words)
+arguments_kept : (c : List Rule) (names : Names) (name : Text) (some arguments : List Text)
+    → fold (walked c names) (at_command name some) arguments ≡ at_command name (some ++ arguments)
 unfolding walked
-words_kept c names name some [] = ap (at_command name) (sym (append-nil some))
-words_kept c names name some (word ∷ words) =
-    words_kept c names name (some ++ word ∷ []) words ∙ ap (at_command name) (append_assoc some (word ∷ []) words)
+arguments_kept c names name some [] = ap (at_command name) (sym (append-nil some))
+arguments_kept c names name some (argument ∷ arguments) =
+    arguments_kept c names name (some ++ argument ∷ []) arguments ∙ ap (at_command name) (append_assoc some (argument ∷ []) arguments)
 
-words_pass : (s : Shape) (names : Names) (name : Text) (some words : List Text) → walk_fault s names (at_command name some) words ≡ []
+arguments_pass : (s : Shape) (names : Names) (name : Text) (some arguments : List Text) → walk_fault s names (at_command name some) arguments ≡ []
 unfolding walk_fault walked
-words_pass s names name some [] = refl
-words_pass s names name some (word ∷ words) = words_pass s names name (some ++ word ∷ []) words
+arguments_pass s names name some [] = refl
+arguments_pass s names name some (argument ∷ arguments) = arguments_pass s names name (some ++ argument ∷ []) arguments
 
 module _ {C : Type 0} (title : Text) (first : Entry C) (others : List (Entry C)) where
   abbrev app : App
@@ -103,7 +103,7 @@ module _ {C : Type 0} (title : Text) (first : Entry C) (others : List (Entry C))
   above = with_leaf_noted (marked_built (with_more (program_named title) []).top)
 
   module _ (entry : Entry C) (is : entry_named entry.name (first ∷ others) ≡ Some entry)
-      (no_help : bytes_eq entry.name (codes "help") ≡ false) (words : List Text) where
+      (no_help : bytes_eq entry.name (codes "help") ≡ false) (arguments : List Text) where
     abbrev shape : Shape
     shape = built_leaf (shape_of_entry entry)
 
@@ -130,18 +130,22 @@ module _ {C : Type 0} (title : Text) (first : Entry C) (others : List (Entry C))
     passes : turn_fault app.top (names_of app) (walk_from nothing_held) entry.name ≡ []
     passes = ap name_fails met ∙ rw no_help refl
 
-    walks : walk app.top.rules (names_of app) nothing_held (entry.name ∷ words) ≡ at_command entry.name words
-    walks = ap (λ (w : Walk). fold (walked app.top.rules (names_of app)) w words) meets ∙ words_kept app.top.rules (names_of app) entry.name [] words
+    walks : walk app.top.rules (names_of app) nothing_held (entry.name ∷ arguments) ≡ at_command entry.name arguments
+    walks =
+        ap (λ (w : Walk). fold (walked app.top.rules (names_of app)) w arguments) meets
+        ∙ arguments_kept app.top.rules (names_of app) entry.name [] arguments
 
-    walks_clear : walk_fault app.top (names_of app) (walk_from nothing_held) (entry.name ∷ words) ≡ []
+    walks_clear : walk_fault app.top (names_of app) (walk_from nothing_held) (entry.name ∷ arguments) ≡ []
     unfolding walk_fault
     walks_clear =
-        ap₂ or_else passes (ap (λ (w : Walk). walk_fault app.top (names_of app) w words) meets ∙ words_pass app.top (names_of app) entry.name [] words)
+        ap₂ or_else passes
+        (ap (λ (w : Walk). walk_fault app.top (names_of app) w arguments) meets ∙ arguments_pass app.top (names_of app) entry.name [] arguments)
 
-    finds : entered app (walk app.top.rules (names_of app) nothing_held (entry.name ∷ words)).stopped ≡ Some (entry.name, rows_after shape.rules [] words)
-    finds = ap (λ (w : Walk). entered app w.stopped) walks ∙ ap (option_map (λ (s : Shape). rows_at s words)) shape_is
+    finds : entered app (walk app.top.rules (names_of app) nothing_held (entry.name ∷ arguments)).stopped
+        ≡ Some (entry.name, rows_after shape.rules [] arguments)
+    finds = ap (λ (w : Walk). entered app w.stopped) walks ∙ ap (option_map (λ (s : Shape). rows_at s arguments)) shape_is
 
-    clear : level_fault shape [] nothing_held words false [] ≡ [] → built_fault app nothing_held (entry.name ∷ words) ≡ []
+    clear : level_fault shape [] nothing_held arguments false [] ≡ [] → built_fault app nothing_held (entry.name ∷ arguments) ≡ []
     unfolding defaults_fault
     clear below =
         let Fails : Walk → Kinds = λ w. or_else (entered_fault app w.stopped) (or_else (settle_fault app.top.rules false w.held)
@@ -149,7 +153,7 @@ module _ {C : Type 0} (title : Text) (first : Entry C) (others : List (Entry C))
         (check_fault app.top (finished app.top.rules w.held) (is_some (entered app w.stopped))))) in
         ap₂ or_else walks_clear (ap Fails walks ∙ rw (shape_is, below) refl)
 
--- ---- words that clap accepts
+-- ---- arguments that clap accepts
 
 name_found : {C : Type 0} (name : Text) (entries : List (Entry C)) (entry : Entry C) → entry_named name entries ≡ Some entry → entry.name ≡ name
 name_found name [] entry is = cc
@@ -179,38 +183,38 @@ asked_where_entered {C} title first others (Some p) met other =
         let Asks : Option (Entry C) → Type 0 = λ named. IsSome {T = C × List Found} (option_map (λ (e : Entry C). (e.command, rows)) named) in
         subst Asks (sym (ap (λ (name : Text). entry_named name (first ∷ others)) (name_found p.0 (first ∷ others) entry is) ∙ is)) refl
 
-named : {C : Type 0} (title : Text) (entries : List (Entry C)) (words : List Text)
-    → let table : Table C = record { title = title; entries = entries } in refusals table words ≡ [] → IsSome (asked table words)
+named : {C : Type 0} (title : Text) (entries : List (Entry C)) (arguments : List Text)
+    → let table : Table C = record { title = title; entries = entries } in refusals table arguments ≡ [] → IsSome (asked table arguments)
 unfolding refusals asked
-named {C} title [] words clear =
+named {C} title [] arguments clear =
     let none = built (program_named title) in
-    go (stop_after none.top.rules (names_of none) (drop 1 words)) (enters_command none (drop 1 words) refl clear).0
+    go (stop_after none.top.rules (names_of none) (drop 1 arguments)) (enters_command none (drop 1 arguments) refl clear).0
   where
     go : (stop : Option (Text × List Text)) → is_some (entered (built (program_named title)) stop) ≡ true
         → let table : Table C = record { title = title; entries = [] } in IsSome (asked_in table (entered (built (program_named title)) stop))
     go None met = cc
     go (Some p) met = cc
-named {C} title (first ∷ others) words clear =
+named {C} title (first ∷ others) arguments clear =
     let table : Table C = record { title = title; entries = first ∷ others } in
     let made = entries_added (program_named title) first others in
-    let met = enters_command (app title first others) (drop 1 words) refl (ap (λ (app : App). fault_of app words) (sym made) ∙ clear) in
-    subst (λ (app : App). IsSome (asked_in table (subcommand_of app words))) (sym made)
-    (asked_where_entered title first others (stop_after (app title first others).top.rules (names_of (app title first others)) (drop 1 words))
+    let met = enters_command (app title first others) (drop 1 arguments) refl (ap (λ (app : App). fault_of app arguments) (sym made) ∙ clear) in
+    subst (λ (app : App). IsSome (asked_in table (subcommand_of app arguments))) (sym made)
+    (asked_where_entered title first others (stop_after (app title first others).top.rules (names_of (app title first others)) (drop 1 arguments))
     met.0 (met.1 refl))
 
-pub words_name_a_row : {C : Type 0} → WordsNameARow C
-words_name_a_row table = named table.title table.entries
+pub arguments_name_a_row : {C : Type 0} → WordsNameARow C
+arguments_name_a_row table = named table.title table.entries
 
 -- ---- the law
 
-taken : {C : Type 0} (title : Text) (entries : List (Entry C)) (entry : Entry C) (given : List Given) (program : Text) (words : List Text)
-    → entry_named entry.name entries ≡ Some entry → map rule_given given ≡ entry.rules → can_be_given entry.name given ≡ true → AreSpelled given words
+taken : {C : Type 0} (title : Text) (entries : List (Entry C)) (entry : Entry C) (given : List Given) (program : Text) (arguments : List Text)
+    → entry_named entry.name entries ≡ Some entry → map rule_given given ≡ entry.rules → can_be_given entry.name given ≡ true → AreSpelled given arguments
     → let table : Table C = record { title = title; entries = entries } in
-    (refusals table (program ∷ entry.name ∷ words) ≡ [])
-    × (asked table (program ∷ entry.name ∷ words) ≡ Some (entry.command, found_given entry.name given))
+    (refusals table (program ∷ entry.name ∷ arguments) ≡ [])
+    × (asked table (program ∷ entry.name ∷ arguments) ≡ Some (entry.command, found_given entry.name given))
 unfolding refusals asked
-taken title [] entry given program words is rules can spells = cc
-taken {C} title (first ∷ others) entry given program words is rules can spells =
+taken title [] entry given program arguments is rules can spells = cc
+taken {C} title (first ∷ others) entry given program arguments is rules can spells =
     let table : Table C = record { title = title; entries = first ∷ others } in
     let shape = shape_given entry.name given in
     let made = entries_added (program_named title) first others in
@@ -219,15 +223,15 @@ taken {C} title (first ∷ others) entry given program words is rules can spells
     let new = both _ _ apart.1 in
     let named = both _ _ new.1 in
     let ordered = both _ _ named.1 in
-    let leaf = given_taken shape given (help_rule ∷ []) words refl apart.0 named.0 new.0 ordered.0 (is_nil _ ordered.1) spells in
+    let leaf = given_taken shape given (help_rule ∷ []) arguments refl apart.0 named.0 new.0 ordered.0 (is_nil _ ordered.1) spells in
     let same : shape ≡ built_leaf (shape_of_entry entry) =
     ap (λ (rules : List Rule). built_leaf (record (new_shape entry.name) { rules = rules })) rules in
     let no_help = is_false _ helps.0 in (
-      ap (λ (app : App). fault_of app (program ∷ entry.name ∷ words)) made
-          ∙ clear title first others entry is no_help words (ap (λ (s : Shape). level_fault s [] nothing_held words false []) (sym same) ∙ leaf.0),
-      ap (λ (app : App). asked_in table (subcommand_of app (program ∷ entry.name ∷ words))) made
-          ∙ (ap (asked_in table) (finds title first others entry is no_help words
-          ∙ ap (λ (rows : List Found). Some (entry.name, rows)) (ap (λ (s : Shape). rows_after s.rules [] words) (sym same) ∙ leaf.1))
+      ap (λ (app : App). fault_of app (program ∷ entry.name ∷ arguments)) made
+          ∙ clear title first others entry is no_help arguments (ap (λ (s : Shape). level_fault s [] nothing_held arguments false []) (sym same) ∙ leaf.0),
+      ap (λ (app : App). asked_in table (subcommand_of app (program ∷ entry.name ∷ arguments))) made
+          ∙ (ap (asked_in table) (finds title first others entry is no_help arguments
+          ∙ ap (λ (rows : List Found). Some (entry.name, rows)) (ap (λ (s : Shape). rows_after s.rules [] arguments) (sym same) ∙ leaf.1))
           ∙ ap (option_map (λ (e : Entry C). (e.command, found_given entry.name given))) is),
     )
 

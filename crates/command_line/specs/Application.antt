@@ -14,13 +14,13 @@ option_named name = record (new_rule name) { long = Some name; value_names = 1 }
 abbrev pub flag_named : Text → Rule
 flag_named name = record (new_rule name) { long = Some name; action = Some SetTrue }
 
--- a word, known by its place
-abbrev pub word_named : Text → Rule
-word_named name = record (new_rule name) { value_names = 1 }
+-- a positional argument
+abbrev pub positional_named : Text → Rule
+positional_named name = record (new_rule name) { value_names = 1 }
 
--- any number of words
-abbrev pub words_named : Text → Rule
-words_named name = record (new_rule name) { action = Some Append; value_names = 1 }
+-- any number of positional arguments
+abbrev pub positionals_named : Text → Rule
+positionals_named name = record (new_rule name) { action = Some Append; value_names = 1 }
 
 abbrev pub as_required : Rule → Rule
 as_required rule = record rule { required = true }

@@ -11,22 +11,22 @@ use Rattle.clap.specs.Simple.{built_leaf, new_shape, wants_index}
 use Rattle.clap.specs.Walk.{has_long, has_row, is_empty, reading_by, with_default}
 use Rattle.clap.specs.Words.{Row as Found, Rule, Shape, Text}
 use Rattle.clap.specs.declared.parser.matches.ValueSource.TheVariants.{CommandLine}
-use Rattle.command_line.specs.Application.{flag_named, option_named, word_named, words_named}
+use Rattle.command_line.specs.Application.{flag_named, option_named, positional_named, positionals_named}
 
--- An argument of a row with what it is given: an option with its value in one word or two, whether it is required, its
--- defaults, its name and the value; a flag; a word; some words, the first apart; or nothing.
+-- An argument of a row with what it is given: an option with its value, spelled as one text or two, whether it is required, its defaults, its name
+-- and the value; a flag; a positional argument; some of them, the first apart; or nothing.
 pub data Given : Type 0 where
   option_given : Bool → Bool → List Text → Text → Text → Given
   flag_given : Text → Given
-  word_given : Bool → Text → Text → Given
-  words_given : Bool → Text → Text → List Text → Given
+  positional_given : Bool → Text → Text → Given
+  positionals_given : Bool → Text → Text → List Text → Given
   left_out : Rule → Given
 
 abbrev pub rule_given : Given → Rule
 rule_given (option_given joined required defaults name value) = record (option_named name) { required = required; defaults = defaults }
 rule_given (flag_given name) = flag_named name
-rule_given (word_given required name value) = record (word_named name) { required = required }
-rule_given (words_given required name first more) = record (words_named name) { required = required }
+rule_given (positional_given required name value) = record (positional_named name) { required = required }
+rule_given (positionals_given required name first more) = record (positionals_named name) { required = required }
 rule_given (left_out rule) = rule
 
 -- `--NAME=VALUE` or `--NAME VALUE` for each option, and `--NAME` for each flag
@@ -37,16 +37,16 @@ options_spelled (option_given false required defaults name value ∷ given) = (c
 options_spelled (flag_given name ∷ given) = (codes "--" ++ name) ∷ options_spelled given
 options_spelled (_ ∷ given) = options_spelled given
 
--- no word follows several
-abbrev pub words_spelled : List Given → List Text
-words_spelled [] = []
-words_spelled (word_given required name value ∷ given) = value ∷ words_spelled given
-words_spelled (words_given required name first more ∷ given) = first ∷ more
-words_spelled (_ ∷ given) = words_spelled given
+-- no positional argument follows several
+abbrev pub positionals_spelled : List Given → List Text
+positionals_spelled [] = []
+positionals_spelled (positional_given required name value ∷ given) = value ∷ positionals_spelled given
+positionals_spelled (positionals_given required name first more ∷ given) = first ∷ more
+positionals_spelled (_ ∷ given) = positionals_spelled given
 
 -- what clap finds of an argument with these values
 abbrev pub row_given : Text → List Text → Found
-row_given name values = record { id = name; values = values; count = None; source = Some CommandLine; reading = reading_by (word_named name) }
+row_given name values = record { id = name; values = values; count = None; source = Some CommandLine; reading = reading_by (positional_named name) }
 
 abbrev pub option_rows : List Given → List Found
 option_rows [] = []
@@ -54,14 +54,14 @@ option_rows (option_given joined required defaults name value ∷ given) = row_g
 option_rows (flag_given name ∷ given) = row_given name (codes "true" ∷ []) ∷ option_rows given
 option_rows (_ ∷ given) = option_rows given
 
-abbrev pub word_rows : List Given → List Found
-word_rows [] = []
-word_rows (word_given required name value ∷ given) = row_given name (value ∷ []) ∷ word_rows given
-word_rows (words_given required name first more ∷ given) = row_given name (first ∷ more) ∷ word_rows given
-word_rows (_ ∷ given) = word_rows given
+abbrev pub positional_rows : List Given → List Found
+positional_rows [] = []
+positional_rows (positional_given required name value ∷ given) = row_given name (value ∷ []) ∷ positional_rows given
+positional_rows (positionals_given required name first more ∷ given) = row_given name (first ∷ more) ∷ positional_rows given
+positional_rows (_ ∷ given) = positional_rows given
 
 abbrev pub rows_given : List Given → List Found
-rows_given given = option_rows given ++ word_rows given
+rows_given given = option_rows given ++ positional_rows given
 
 -- the row's command as clap builds it
 abbrev pub shape_given : Text → List Given → Shape
@@ -94,7 +94,7 @@ abbrev is_option_name : Text → Bool
 is_option_name [] = false
 is_option_name (first ∷ rest) = not (list_any (λ byte. byte == 61) (first ∷ rest))
 
--- the options have such names, and no value that is a word of its own begins with a dash
+-- the options have such names, and no value that is a text of its own begins with a dash
 abbrev pub are_options_named : List Given → Bool
 are_options_named [] = true
 are_options_named (option_given joined required defaults name value ∷ given) =
@@ -102,17 +102,17 @@ are_options_named (option_given joined required defaults name value ∷ given) =
 are_options_named (flag_given name ∷ given) = is_option_name name && are_options_named given
 are_options_named (_ ∷ given) = are_options_named given
 
-abbrev pub has_no_words : List Given → Bool
-has_no_words [] = true
-has_no_words (word_given required name value ∷ given) = false
-has_no_words (words_given required name first more ∷ given) = false
-has_no_words (_ ∷ given) = has_no_words given
+abbrev pub has_no_positionals : List Given → Bool
+has_no_positionals [] = true
+has_no_positionals (positional_given required name value ∷ given) = false
+has_no_positionals (positionals_given required name first more ∷ given) = false
+has_no_positionals (_ ∷ given) = has_no_positionals given
 
--- no word is given behind several ones, nor behind one that is left out
+-- no positional argument is given after several ones, nor after one that is left out
 abbrev pub is_in_order : List Given → Bool
 is_in_order [] = true
-is_in_order (words_given required name first more ∷ given) = has_no_words given
-is_in_order (left_out rule ∷ given) = if wants_index rule then has_no_words given else is_in_order given
+is_in_order (positionals_given required name first more ∷ given) = has_no_positionals given
+is_in_order (left_out rule ∷ given) = if wants_index rule then has_no_positionals given else is_in_order given
 is_in_order (_ ∷ given) = is_in_order given
 
 -- clap's last checks of what was found: its defaults, and what is required
@@ -128,13 +128,15 @@ can_be_given name given =
     && (are_new [] (rows_given given)
     && (are_options_named given && (is_in_order given && is_empty (end_fault shape (rows_given given))))))
 
--- the options, and behind `--` the words; the dashes may be left out where there are no words
+-- the options, and after `--` the positional arguments; the dashes may be left out if there are none
 abbrev pub AreSpelled : List Given → List Text → Type 0
-AreSpelled given words = (words ≡ options_spelled given ++ codes "--" ∷ words_spelled given) ⊎ ((words ≡ options_spelled given) × (has_no_words given ≡ true))
+AreSpelled given arguments =
+    (arguments ≡ options_spelled given ++ codes "--" ∷ positionals_spelled given)
+    ⊎ ((arguments ≡ options_spelled given) × (has_no_positionals given ≡ true))
 
 -- an argument that is given the value of its name
 abbrev pub given_by : (Text → Text) → Rule → Given
 given_by value rule =
     if is_some rule.long
     then (if rule.value_names == 0 then flag_given rule.id else option_given true rule.required rule.defaults rule.id (value rule.id))
-    else (if is_some rule.action then words_given rule.required rule.id (value rule.id) [] else word_given rule.required rule.id (value rule.id))
+    else (if is_some rule.action then positionals_given rule.required rule.id (value rule.id) [] else positional_given rule.required rule.id (value rule.id))

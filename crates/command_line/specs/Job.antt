@@ -7,9 +7,9 @@ use Rattle.clap.specs.declared.error.kind.ErrorKind.TheVariants as kind
 use Rattle.pass_forms.specs.declared.form.Form.{Form}
 use Rattle.command_line.specs.FormName.{form_named}
 use Rattle.command_line.specs.Table.{Table, asked, refusals}
-use Rattle.command_line.specs.Words.{HasText, IsRefusedAs, value_in}
-use Rattle.command_line.specs.declared.errors.WordsFault.{WordsFault}
-use Rattle.command_line.specs.declared.errors.WordsFault.TheVariants.{Refused, BadValue, Memory}
+use Rattle.command_line.specs.Arguments.{HasText, IsRefusedAs, value_in}
+use Rattle.command_line.specs.declared.errors.ArgumentsFault.{ArgumentsFault}
+use Rattle.command_line.specs.declared.errors.ArgumentsFault.TheVariants.{Refused, BadValue, Memory}
 use Rattle.command_line.specs.declared.job.Asked.{Asked}
 use Rattle.command_line.specs.declared.job.Asked.TheVariants.{ShowText, Perform}
 
@@ -33,7 +33,7 @@ abbrev pub form_given : {V : Type 0} → List Row → Result Form (Refusal V)
 form_given rows = ok_or (form_named (value_in (codes "form") rows)) (refused_as kind.InvalidValue)
 
 -- A call returns what is asked for, or the fault that applies, or out of memory in place of either.
-abbrev pub Answers : {A V : Type 0} → Result A (Refusal V) → Result A (WordsFault V) → Type 0
+abbrev pub Answers : {A V : Type 0} → Result A (Refusal V) → Result A (ArgumentsFault V) → Type 0
 Answers expected (Ok answer) = expected ≡ Ok answer
 Answers expected (Err (Refused error)) = expected ≡ Err (refused_as (kind_of error))
 Answers expected (Err (BadValue value)) = expected ≡ Err (bad_value value)
@@ -41,22 +41,22 @@ Answers expected (Err Memory) = Unit {0}
 
 -- the results that reading the values of a program's rows may have, of what clap found of their arguments
 abbrev pub ReadsRow : Type 0 → Type 0 → Type 0 → Type 1
-ReadsRow C J V = C → List Row → Result J (WordsFault V) → Type 0
+ReadsRow C J V = C → List Row → Result J (ArgumentsFault V) → Type 0
 
 -- a result of reading the row that clap found
-abbrev pub ReadsFound : {C J V : Type 0} → ReadsRow C J V → Option (C × List Row) → Result J (WordsFault V) → Type 0
+abbrev pub ReadsFound : {C J V : Type 0} → ReadsRow C J V → Option (C × List Row) → Result J (ArgumentsFault V) → Type 0
 ReadsFound Reads None result = ⊥
 ReadsFound Reads (Some row) result = Reads row.0 row.1 result
 
 -- clap accepts the arguments, and reading the row that they name has this result
-abbrev pub ReadsAccepted : {C J V : Type 0} → Table C → ReadsRow C J V → List Text → Result J (WordsFault V) → Type 0
-ReadsAccepted table Reads words result = (refusals table words ≡ []) × ReadsFound Reads (asked table words) result
+abbrev pub ReadsAccepted : {C J V : Type 0} → Table C → ReadsRow C J V → List Text → Result J (ArgumentsFault V) → Type 0
+ReadsAccepted table Reads arguments result = (refusals table arguments ≡ []) × ReadsFound Reads (asked table arguments) result
 
 -- The results of reading arguments: clap decides first, then the row.
-abbrev pub ReadsJob : {C J V : Type 0} → Table C → ReadsRow C J V → List Text → Result (Asked J) (WordsFault V) → Type 0
-ReadsJob table Reads words (Ok (ShowText text)) = HasText (refusals table words)
-ReadsJob table Reads words (Ok (Perform job)) = ReadsAccepted table Reads words (Ok job)
-ReadsJob table Reads words (Err (Refused error)) =
-    IsRefusedAs (refusals table words) (kind_of error) ⊎ ReadsAccepted table Reads words (Err (Refused error))
-ReadsJob table Reads words (Err (BadValue value)) = ReadsAccepted table Reads words (Err (BadValue value))
-ReadsJob table Reads words (Err Memory) = Unit {0}
+abbrev pub ReadsJob : {C J V : Type 0} → Table C → ReadsRow C J V → List Text → Result (Asked J) (ArgumentsFault V) → Type 0
+ReadsJob table Reads arguments (Ok (ShowText text)) = HasText (refusals table arguments)
+ReadsJob table Reads arguments (Ok (Perform job)) = ReadsAccepted table Reads arguments (Ok job)
+ReadsJob table Reads arguments (Err (Refused error)) =
+    IsRefusedAs (refusals table arguments) (kind_of error) ⊎ ReadsAccepted table Reads arguments (Err (Refused error))
+ReadsJob table Reads arguments (Err (BadValue value)) = ReadsAccepted table Reads arguments (Err (BadValue value))
+ReadsJob table Reads arguments (Err Memory) = Unit {0}

@@ -4,37 +4,37 @@ use Rattle.clap.specs.Words.{Row, Text}
 use Rattle.command_line.specs.Given.{AreSpelled, Given, can_be_given, found_given, rule_given}
 use Rattle.command_line.specs.Job.{Answers, ReadsJob, ReadsRow, Refusal}
 use Rattle.command_line.specs.Table.{Entry, Table, asked, entry_named, refusals}
-use Rattle.command_line.specs.declared.errors.WordsFault.{WordsFault}
-use Rattle.command_line.specs.declared.errors.WordsFault.TheVariants.{Memory}
+use Rattle.command_line.specs.declared.errors.ArgumentsFault.{ArgumentsFault}
+use Rattle.command_line.specs.declared.errors.ArgumentsFault.TheVariants.{Memory}
 use Rattle.command_line.specs.declared.job.Asked.{Asked}
 use Rattle.command_line.specs.declared.job.Asked.TheVariants.{Perform}
 
 -- Arguments that clap accepts name a row.
 abbrev pub WordsNameARow : Type 0 → Type 0
-WordsNameARow C = (table : Table C) (words : List Text) → refusals table words ≡ [] → IsSome (asked table words)
+WordsNameARow C = (table : Table C) (arguments : List Text) → refusals table arguments ≡ [] → IsSome (asked table arguments)
 
 -- Clap refuses nothing of what a row is given, and finds exactly that, with the defaults of what is left out.
 abbrev pub RowsTakeWhatTheyAreGiven : Type 0 → Type 0
-RowsTakeWhatTheyAreGiven C = (table : Table C) (entry : Entry C) (given : List Given) (program : Text) (words : List Text)
-    → entry_named entry.name table.entries ≡ Some entry → map rule_given given ≡ entry.rules → can_be_given entry.name given ≡ true → AreSpelled given words
-    → (refusals table (program ∷ entry.name ∷ words) ≡ [])
-    × (asked table (program ∷ entry.name ∷ words) ≡ Some (entry.command, found_given entry.name given))
+RowsTakeWhatTheyAreGiven C = (table : Table C) (entry : Entry C) (given : List Given) (program : Text) (arguments : List Text)
+    → entry_named entry.name table.entries ≡ Some entry → map rule_given given ≡ entry.rules → can_be_given entry.name given ≡ true → AreSpelled given arguments
+    → (refusals table (program ∷ entry.name ∷ arguments) ≡ [])
+    × (asked table (program ∷ entry.name ∷ arguments) ≡ Some (entry.command, found_given entry.name given))
 
 -- a result is this value, or out of memory
-abbrev pub IsOrLacksMemory : {A V : Type 0} → A → Result A (WordsFault V) → Type 0
+abbrev pub IsOrLacksMemory : {A V : Type 0} → A → Result A (ArgumentsFault V) → Type 0
 IsOrLacksMemory value result = (result ≡ Ok value) ⊎ (result ≡ Err Memory)
 
 -- A row whose values are read as a job is read as no other, and has no fault.
 abbrev pub ReadsOnce : {C J V : Type 0} → ReadsRow C J V → Type 0
-ReadsOnce {C} {J} {V} Reads = (row : C) (rows : List Row) (job : J) (result : Result J (WordsFault V)) → Reads row rows (Ok job) → Reads row rows result
+ReadsOnce {C} {J} {V} Reads = (row : C) (rows : List Row) (job : J) (result : Result J (ArgumentsFault V)) → Reads row rows (Ok job) → Reads row rows result
     → IsOrLacksMemory job result
 
 -- So is a row that is read as a function says.
 abbrev pub RowsAnswerOnce : Type 0 → Type 0 → Type 0
-RowsAnswerOnce J V = (expected : Result J (Refusal V)) (job : J) (result : Result J (WordsFault V)) → Answers expected (Ok job) → Answers expected result
+RowsAnswerOnce J V = (expected : Result J (Refusal V)) (job : J) (result : Result J (ArgumentsFault V)) → Answers expected (Ok job) → Answers expected result
     → IsOrLacksMemory job result
 
 -- Arguments that ask for a job ask for no other, and have no fault.
 abbrev pub AskOnce : {C J V : Type 0} → Table C → ReadsRow C J V → Type 0
-AskOnce {C} {J} {V} table Reads = (words : List Text) (job : J) (result : Result (Asked J) (WordsFault V))
-    → ReadsJob table Reads words (Ok (Perform job)) → ReadsJob table Reads words result → IsOrLacksMemory (Perform job) result
+AskOnce {C} {J} {V} table Reads = (arguments : List Text) (job : J) (result : Result (Asked J) (ArgumentsFault V))
+    → ReadsJob table Reads arguments (Ok (Perform job)) → ReadsJob table Reads arguments result → IsOrLacksMemory (Perform job) result

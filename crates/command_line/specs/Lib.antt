@@ -3,7 +3,7 @@ pub mod Root
 pub mod FormName
 pub mod Input
 pub mod Output
-pub mod Words
+pub mod Arguments
 pub mod Given
 pub mod Table
 pub mod Job

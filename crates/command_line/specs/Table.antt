@@ -4,10 +4,10 @@ use Rattle.std.specs.List.{list_all}
 use Rattle.std.specs.Str.{bytes_eq}
 use Rattle.clap.specs.Words.{App, Kinds, Row as Found, Rule, Text, fault_of, is_simple_and_free, new_app}
 use Rattle.clap.specs.Words.{subcommand_of, with_rule, with_subcommand}
-use Rattle.command_line.specs.Application.{as_required, flag_named, option_named, program_named, with_default, word_named, words_named}
+use Rattle.command_line.specs.Application.{as_required, flag_named, option_named, positional_named, positionals_named, program_named, with_default}
 use Rattle.command_line.specs.Given.{can_be_given, given_by, rule_given}
 use Rattle.command_line.specs.declared.table.Argument.{Argument}
-use Rattle.command_line.specs.declared.table.Argument.TheVariants.{Value, Needed, Or, Flag, Word, NeededWord, Words, NeededWords}
+use Rattle.command_line.specs.declared.table.Argument.TheVariants.{Value, Needed, Or, Flag, Positional, NeededPositional, Positionals, NeededPositionals}
 use Rattle.command_line.specs.declared.table.Program.{Program}
 use Rattle.command_line.specs.declared.table.Row.{Row}
 
@@ -26,10 +26,10 @@ rule_for (Value name value help) = option_named name.now
 rule_for (Needed name value help) = as_required (option_named name.now)
 rule_for (Or name value help default) = with_default default.now (option_named name.now)
 rule_for (Flag name help) = flag_named name.now
-rule_for (Word name) = word_named name.now
-rule_for (NeededWord name) = as_required (word_named name.now)
-rule_for (Words name value help) = words_named name.now
-rule_for (NeededWords name value help) = as_required (words_named name.now)
+rule_for (Positional name) = positional_named name.now
+rule_for (NeededPositional name) = as_required (positional_named name.now)
+rule_for (Positionals name value help) = positionals_named name.now
+rule_for (NeededPositionals name value help) = as_required (positionals_named name.now)
 
 abbrev pub entry_of : {C : Type 0} → Row C → Entry C
 entry_of row = record { command = row.command; name = row.name.now; rules = map rule_for row.arguments.now }
@@ -49,7 +49,7 @@ app_of_table table = with_entries (program_named table.title) table.entries
 
 -- clap's errors for the arguments, the program's name first; empty if it accepts them
 unfoldable pub refusals : {C : Type 0} → Table C → List Text → Kinds
-refusals table words = fault_of (app_of_table table) words
+refusals table arguments = fault_of (app_of_table table) arguments
 
 abbrev pub entry_named : {C : Type 0} → Text → List (Entry C) → Option (Entry C)
 entry_named name entries = find (λ entry. bytes_eq entry.name name) entries
@@ -60,7 +60,7 @@ asked_in table found = option_and_then (λ found. option_map (λ entry. (entry.c
     (entry_named found.0 table.entries)) found
 
 unfoldable pub asked : {C : Type 0} → Table C → List Text → Option (C × List Found)
-asked table words = asked_in table (subcommand_of (app_of_table table) words)
+asked table arguments = asked_in table (subcommand_of (app_of_table table) arguments)
 
 -- What clap has to make of a table, which each program's table computes to: it reads the arguments of any row by rules that
 -- don't speak of one another, and each row can be given all of its arguments, whatever their values.

@@ -1,7 +1,7 @@
 //! Why arguments ask for nothing, and the errors that `clap` doesn't find itself, with its usage.
 
 ghost use Rattle.clap.specs.declared.error.kind.ErrorKind.TheVariants as kinds;
-ghost use Rattle.command_line.specs.Words.{IsOfKind};
+ghost use Rattle.command_line.specs.Arguments.{IsOfKind};
 
 use crate::table::Commands;
 use clap::Error;
@@ -10,7 +10,7 @@ use std::alloc::{AllocError, Global};
 
 /// Why arguments ask for nothing.
 #[derive(Debug, Drop)]
-pub enum WordsFault<V> {
+pub enum ArgumentsFault<V> {
     /// `clap`'s error, with its text.
     Refused(Error),
     /// An argument spells no value of its place.
@@ -19,46 +19,50 @@ pub enum WordsFault<V> {
     Memory,
 }
 
-impl<V> From<AllocError> for WordsFault<V> {
+impl<V> From<AllocError> for ArgumentsFault<V> {
     ghost use Rattle.std.specs.Prelude.{◌≡◌};
-    ghost use Rattle.command_line.specs.declared.errors.WordsFault.TheVariants.{Memory};
+    ghost use Rattle.command_line.specs.declared.errors.ArgumentsFault.TheVariants.{Memory};
 
     ghost from_gives = { λ _ fault. fault ≡ Memory };
 
-    fn from(_error: AllocError) -> WordsFault<V> {
-        WordsFault::Memory
+    fn from(_error: AllocError) -> ArgumentsFault<V> {
+        ArgumentsFault::Memory
     }
 }
 
 /// The fault of arguments that aren't UTF-8, which `clap` isn't given.
-pub fn text_fault<C: Commands, V>(alloc: Global) -> WordsFault<V>
+pub fn text_fault<C: Commands, V>(alloc: Global) -> ArgumentsFault<V>
     ensures { IsOfKind kinds.ValueValidation result }
 {
     let message = "invalid UTF-8 was detected in one or more arguments";
-    words_fault::<C, V>(alloc, ErrorKind::ValueValidation, message)
+    arguments_fault::<C, V>(alloc, ErrorKind::ValueValidation, message)
 }
 
 /// The fault of a name that is no form's.
-pub fn form_fault<C: Commands, V>(alloc: Global, name: &str) -> WordsFault<V>
+pub fn form_fault<C: Commands, V>(alloc: Global, name: &str) -> ArgumentsFault<V>
     ensures { IsOfKind kinds.InvalidValue result }
 {
     match format!(in alloc;
         "invalid value '{name}' for '--form <FORM>'\n  [possible values: v1, v2, json]"
     ) {
-        Ok(message) => words_fault::<C, V>(alloc, ErrorKind::InvalidValue, message.as_str()),
-        Err(_) => WordsFault::Memory,
+        Ok(message) => arguments_fault::<C, V>(alloc, ErrorKind::InvalidValue, message.as_str()),
+        Err(_) => ArgumentsFault::Memory,
     }
 }
 
 /// A fault of this kind and with this message.
-pub fn words_fault<C: Commands, V>(alloc: Global, kind: ErrorKind, message: &str) -> WordsFault<V>
+pub fn arguments_fault<C: Commands, V>(
+    alloc: Global,
+    kind: ErrorKind,
+    message: &str,
+) -> ArgumentsFault<V>
     ensures { IsOfKind kind result }
 {
     let Ok(mut application) = C::application(alloc) else {
-        return WordsFault::Memory;
+        return ArgumentsFault::Memory;
     };
     match application.error(kind, message) {
-        Ok(error) => WordsFault::Refused(error),
-        Err(_) => WordsFault::Memory,
+        Ok(error) => ArgumentsFault::Refused(error),
+        Err(_) => ArgumentsFault::Memory,
     }
 }

@@ -5,8 +5,8 @@ ghost use Rattle.clap.specs.Words.{found_of, rows_of, subcommand_rows_of};
 ghost use Rattle.command_line.specs.Job.{Answers, ReadsFound, ReadsJob, form_given};
 ghost use Rattle.command_line.specs.Table.{asked_in};
 
-use crate::errors::{WordsFault, form_fault};
-use crate::laws::words_name_a_row;
+use crate::errors::{ArgumentsFault, form_fault};
+use crate::laws::arguments_name_a_row;
 use crate::options::value_of;
 use crate::table::Commands;
 use crate::value::read_value;
@@ -43,7 +43,7 @@ pub trait Job<'a> {
         alloc: Global,
         command: Self::Command,
         options: &ArgMatches<'a>,
-    ) -> Result<Self, WordsFault<Self::BadValue>>
+    ) -> Result<Self, ArgumentsFault<Self::BadValue>>
         ensures { Reads command (rows_of (found_of options.now)) result };
 }
 
@@ -56,16 +56,16 @@ pub trait Job<'a> {
 /// does; `Memory` only if an allocation fails.
 pub fn read_job<'a, J: Job<'a>, S: AsStr>(
     alloc: Global,
-    words: &'a [S],
-) -> Result<Asked<J>, WordsFault<J::BadValue>>
-    ensures { ReadsJob J.Command.table J.Reads (map S.text words.entry.now) result }
+    arguments: &'a [S],
+) -> Result<Asked<J>, ArgumentsFault<J::BadValue>>
+    ensures { ReadsJob J.Command.table J.Reads (map S.text arguments.entry.now) result }
 {
     // By this law the arguments that are accepted name a row.
-    words_name_a_row::<J::Command>();
+    arguments_name_a_row::<J::Command>();
     let Ok(application) = J::Command::application(alloc) else {
-        return Err(WordsFault::Memory);
+        return Err(ArgumentsFault::Memory);
     };
-    match application.try_get_matches_from(words) {
+    match application.try_get_matches_from(arguments) {
         Ok(matches) => match job_found(alloc, matches) {
             Ok(job) => Ok(Asked::Perform(job)),
             Err(fault) => Err(fault),
@@ -73,8 +73,8 @@ pub fn read_job<'a, J: Job<'a>, S: AsStr>(
         Err(error) => match error.kind() {
             ErrorKind::DisplayHelp => Ok(Asked::ShowText(error)),
             ErrorKind::DisplayVersion => Ok(Asked::ShowText(error)),
-            ErrorKind::OutOfMemory => Err(WordsFault::Memory),
-            _ => Err(WordsFault::Refused(error)),
+            ErrorKind::OutOfMemory => Err(ArgumentsFault::Memory),
+            _ => Err(ArgumentsFault::Refused(error)),
         },
     }
 }
@@ -83,7 +83,7 @@ pub fn read_job<'a, J: Job<'a>, S: AsStr>(
 fn job_found<'a, J: Job<'a>>(
     alloc: Global,
     mut matches: ArgMatches<'a>,
-) -> Result<J, WordsFault<J::BadValue>>
+) -> Result<J, ArgumentsFault<J::BadValue>>
     requires { IsSome (asked_in J.Command.table (subcommand_rows_of matches)) }
     ensures { ReadsFound J.Reads
         (asked_in J.Command.table (subcommand_rows_of matches.entry)) result }
@@ -105,7 +105,7 @@ fn job_found<'a, J: Job<'a>>(
 pub fn read_form<C: Commands, V>(
     alloc: Global,
     options: &ArgMatches<'_>,
-) -> Result<Form, WordsFault<V>>
+) -> Result<Form, ArgumentsFault<V>>
     ensures { Answers (form_given (rows_of (found_of options.now))) result }
 {
     match read_value(options, "form") {

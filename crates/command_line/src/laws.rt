@@ -6,14 +6,14 @@ ghost use Rattle.command_line.specs.JobLaws.{RowsTakeWhatTheyAreGiven, WordsName
 use crate::job::Job;
 
 /// Arguments that `clap` accepts for a program of a table name one of its rows.
-#[tactic(auto, using(crate::proofs::RowLemmas::words_name_a_row))]
-pub fn words_name_a_row<C: Copy>()
+#[tactic(auto, using(crate::proofs::RowLemmas::arguments_name_a_row))]
+pub fn arguments_name_a_row<C: Copy>()
     ensures { WordsNameARow C }
 {}
 
 /// Arguments that give a row of a table what it needs are accepted, and are found as they were
 /// given: `--NAME=VALUE` or `--NAME VALUE` for an option, `--NAME` for a flag, in the row's order,
-/// and behind `--` the words.
+/// and after `--` the positional arguments.
 pub fn rows_take_what_they_are_given<C: Copy>()
     ensures { RowsTakeWhatTheyAreGiven C }
 {}

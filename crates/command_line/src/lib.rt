@@ -16,13 +16,13 @@ mod table;
 mod tree;
 mod value;
 
-pub use errors::{WordsFault, text_fault, words_fault};
+pub use errors::{ArgumentsFault, arguments_fault, text_fault};
 pub use form_names::{form_name, form_named};
 pub use input::{fill, without_line_feed};
 pub use job::{Asked, Job, read_form, read_job};
 pub use options::{is_set, value_of};
 pub use output::{flush, write_text};
-pub use process::{given_words, report};
+pub use process::{given_arguments, report};
 pub use root::Root;
 pub use table::{Argument, Commands, Program, Row, command_named, make_application};
 pub use value::{Value, read_value};

@@ -3,7 +3,7 @@
 ghost use Rattle.std.specs.Prelude.{◌≡◌, false};
 ghost use Rattle.clap.specs.Words.{found_of, rows_of, rule_of};
 ghost use Rattle.command_line.specs.Application as spec;
-ghost use Rattle.command_line.specs.Words.{is_set, value_in};
+ghost use Rattle.command_line.specs.Arguments.{is_set, value_in};
 
 use clap::{Arg, ArgAction, ArgMatches};
 use std::alloc::Global;
@@ -30,17 +30,17 @@ pub fn make_flag<'a>(alloc: Global, name: &'a str, help: &'a str) -> Arg<'a>
         .help(help)
 }
 
-/// A word, known by its place
-pub fn make_word<'a>(alloc: Global, name: &'a str) -> Arg<'a>
-    ensures rule { rule_of result ≡ spec.word_named name.entry.now }
+/// A positional argument
+pub fn make_positional<'a>(alloc: Global, name: &'a str) -> Arg<'a>
+    ensures rule { rule_of result ≡ spec.positional_named name.entry.now }
     ensures local { result.global ≡ false }
 {
     Arg::new(alloc, name).value_name(name)
 }
 
-/// Any number of words
-pub fn make_words<'a>(alloc: Global, name: &'a str, value: &'a str, help: &'a str) -> Arg<'a>
-    ensures rule { rule_of result ≡ spec.words_named name.entry.now }
+/// Any number of positional arguments
+pub fn make_positionals<'a>(alloc: Global, name: &'a str, value: &'a str, help: &'a str) -> Arg<'a>
+    ensures rule { rule_of result ≡ spec.positionals_named name.entry.now }
     ensures local { result.global ≡ false }
 {
     Arg::new(alloc, name)

@@ -2,9 +2,9 @@
 
 ghost use Rattle.std.specs.Prelude.{IfErr};
 ghost use Rattle.clap.specs.declared.error.kind.ErrorKind.TheVariants as kinds;
-ghost use Rattle.command_line.specs.Words.{IsOfKind};
+ghost use Rattle.command_line.specs.Arguments.{IsOfKind};
 
-use crate::errors::{WordsFault, text_fault};
+use crate::errors::{ArgumentsFault, text_fault};
 use crate::table::Commands;
 use std::env::{self, Env};
 use std::fmt::Display;
@@ -15,14 +15,14 @@ use std::io;
 /// # Errors
 ///
 /// `Refused` if they aren't UTF-8; `Memory` only if an allocation fails.
-pub fn given_words<R: Env + AllocGlobal, C: Commands, V>(
+pub fn given_arguments<R: Env + AllocGlobal, C: Commands, V>(
     rt: &R,
-) -> Result<Vec<String>, WordsFault<V>>
+) -> Result<Vec<String>, ArgumentsFault<V>>
     ensures { IfErr result (IsOfKind kinds.ValueValidation) }
 {
     match env::args(rt) {
-        Ok(words) => Ok(words.collect(rt.alloc())?),
-        Err(error) if error.kind() == io::ErrorKind::OutOfMemory => Err(WordsFault::Memory),
+        Ok(arguments) => Ok(arguments.collect(rt.alloc())?),
+        Err(error) if error.kind() == io::ErrorKind::OutOfMemory => Err(ArgumentsFault::Memory),
         Err(_) => Err(text_fault::<C, V>(rt.alloc())),
     }
 }

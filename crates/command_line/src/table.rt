@@ -5,7 +5,7 @@ ghost use Rattle.clap.specs.Words.{app_of, rule_of};
 ghost use Rattle.command_line.specs.Application.{IsMade};
 ghost use Rattle.command_line.specs.Table.{app_of_table, entry_app, entry_named, entry_of, rule_for, table_of};
 
-use crate::options::{make_flag, make_option, make_word, make_words};
+use crate::options::{make_flag, make_option, make_positional, make_positionals};
 use crate::tree::{make_program, new_command, with_argument, with_command};
 use clap::{Arg, Command};
 use std::alloc::{AllocError, Global};
@@ -21,14 +21,14 @@ pub enum Argument {
     Or(&'static str, &'static str, &'static str, &'static str),
     /// `--NAME`
     Flag(&'static str, &'static str),
-    /// A word, known by its place. Its name is what its help calls it, and it has no other help.
-    Word(&'static str),
+    /// A positional argument. Its name is what its help calls it, and it has no other help.
+    Positional(&'static str),
     /// The same, which must be given.
-    NeededWord(&'static str),
-    /// Any number of words.
-    Words(&'static str, &'static str, &'static str),
-    /// One word or more.
-    NeededWords(&'static str, &'static str, &'static str),
+    NeededPositional(&'static str),
+    /// Any number of positional arguments.
+    Positionals(&'static str, &'static str, &'static str),
+    /// One positional argument or more.
+    NeededPositionals(&'static str, &'static str, &'static str),
 }
 
 /// A command: what it asks for, its name, its help, which ends with a text, and its arguments.
@@ -103,11 +103,11 @@ fn make_argument<'a>(alloc: Global, argument: Argument) -> Arg<'a>
             make_option(alloc, name, value, help).default_value(default)
         }
         Argument::Flag(name, help) => make_flag(alloc, name, help),
-        Argument::Word(name) => make_word(alloc, name),
-        Argument::NeededWord(name) => make_word(alloc, name).required(true),
-        Argument::Words(name, value, help) => make_words(alloc, name, value, help),
-        Argument::NeededWords(name, value, help) => {
-            make_words(alloc, name, value, help).required(true)
+        Argument::Positional(name) => make_positional(alloc, name),
+        Argument::NeededPositional(name) => make_positional(alloc, name).required(true),
+        Argument::Positionals(name, value, help) => make_positionals(alloc, name, value, help),
+        Argument::NeededPositionals(name, value, help) => {
+            make_positionals(alloc, name, value, help).required(true)
         }
     }
 }

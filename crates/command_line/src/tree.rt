@@ -33,8 +33,8 @@ pub fn new_command<'a>(alloc: Global, name: &'a str, about: &'a str, help: &'a s
     Command::new(alloc, name).about(about).after_help(help)
 }
 
-/// The command with one more option, flag or word. It takes a result, so that the steps that make a
-/// command need no `?` between them.
+/// The command with one more option, flag or positional argument. It takes a result, so that the
+/// steps that make a command need no `?` between them.
 ///
 /// # Errors
 ///

@@ -73,8 +73,8 @@ fn reply<S: ClubStore>(
     event: &Event,
 ) -> String {
     match event {
-        Event::Orders(order) => {
-            let command = order.command().expect(rt, "an order");
+        Event::Gives(plain) => {
+            let command = plain.command().expect(rt, "a command");
             office_text(rt, &desk.office(&command))
         }
         Event::Asks(at, bytes) => ask(rt, desk, at, bytes),

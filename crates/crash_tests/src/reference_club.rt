@@ -12,7 +12,7 @@ use club_values::{Name, Slot};
 use std::alloc::Global;
 use std::process::Abort;
 use test_kit::roots::ROOT;
-use test_kit::{Order, signed_pass};
+use test_kit::{PlainCommand, signed_pass};
 
 /// Which tables a file has.
 #[derive(Clone, Copy, PartialEq, Eq)]
@@ -54,15 +54,19 @@ fn desk_reply(answer: &OfficeAnswer) -> OfficeReply {
     }
 }
 
-fn give_order(rt: &(impl Abort + Alloc<A = Global>), club: &mut Club, order: &Order) -> String {
-    let command = order.command().expect(rt, "an order");
+fn give_command(
+    rt: &(impl Abort + Alloc<A = Global>),
+    club: &mut Club,
+    plain: &PlainCommand,
+) -> String {
+    let command = plain.command().expect(rt, "a command");
     let answer = club.office(&command).expect(rt, "memory");
     office_text(rt, &desk_reply(&answer))
 }
 
 fn reply(rt: &(impl Abort + Alloc<A = Global>), club: &mut Club, event: &Event) -> String {
     match event {
-        Event::Orders(order) => give_order(rt, club, order),
+        Event::Gives(plain) => give_command(rt, club, plain),
         Event::Asks(at, bytes) | Event::Exchanges(at, bytes) => ask(rt, club, at, bytes),
     }
 }

@@ -10,7 +10,7 @@ use test_kit::exchanges::{
 };
 use test_kit::moments::{LATER, NOON};
 use test_kit::roots::{ROOT, SECOND_ROOT};
-use test_kit::{COURT_AT_19, Order, minutes};
+use test_kit::{COURT_AT_19, PlainCommand, minutes};
 
 /// By `Desk::ask`.
 static BOOKS: Trial = Trial {
@@ -63,7 +63,7 @@ fn cancels_whole_or_not_at_all(rt: HostRuntime) {
     CANCELS.holds(&rt);
 }
 
-const ADD_KEY: Event = Event::Orders(Order::AddKey("amy-2", "amy", ROOT));
+const ADD_KEY: Event = Event::Gives(PlainCommand::AddKey("amy-2", "amy", ROOT));
 
 static ADDS_A_KEY: Trial = Trial {
     beginning: Beginning::Made(&[]),
@@ -80,7 +80,7 @@ fn adds_a_key_whole_or_not_at_all(rt: HostRuntime) {
 }
 
 /// While the slot before it is booked.
-const CLOSE_AT_19: Event = Event::Orders(Order::CloseSlot(COURT_AT_19));
+const CLOSE_AT_19: Event = Event::Gives(PlainCommand::CloseSlot(COURT_AT_19));
 
 static CLOSES: Trial = Trial {
     beginning: Beginning::Made(&[Event::Asks(NOON, BOOK_7)]),
@@ -96,7 +96,7 @@ fn closes_a_slot_or_not(rt: HostRuntime) {
     CLOSES.holds(&rt);
 }
 
-const ROTATE: Event = Event::Orders(Order::RotateKey("amy-1", SECOND_ROOT, minutes::UNTIL));
+const ROTATE: Event = Event::Gives(PlainCommand::RotateKey("amy-1", SECOND_ROOT, minutes::UNTIL));
 
 static ROTATES: Trial = Trial {
     beginning: Beginning::Made(&[]),

@@ -39,7 +39,7 @@ module _ {Log : Type 0} (Begins : Log → Log → Type 0) (Noted : Notes Log) (t
   if_begun old l begun fates Overrun same before = rw same before
   if_begun old l begun fates fate begins before = begun_keeps old l begun fates begins before
 
-  -- the notes of orders meanwhile more
+  -- the notes of commands meanwhile more
   lines_behind : (old l new : Log) (fates more : List Fate) → Written old fates l → AreNotedMeanwhile Begins Noted l more new
       → Written old (fates ++ more) new
   lines_behind old l _ fates _ before served.no_note = rw (append-nil fates) before

@@ -1,24 +1,24 @@
--- Orders between the pieces of a request.
+-- Commands between the pieces of a request.
 use Rattle.std.proofs.Common.{◌∙◌, ℕ, inl, inr, List, [], ◌∷◌, ◌++◌, append_assoc, append-nil, refl}
 use Rattle.std.specs.Prelude.{Option, None, Some}
 use Rattle.club_clock.specs.Moments.{GivesMoment}
 use Rattle.club_http.specs.Calls.{Call, Gives, ReadsNoFurther}
 use Rattle.club_http.specs.Calls as calls
-use Rattle.desk_server.specs.Between.{OrdersAlone}
-use Rattle.desk_server.specs.Served.{AreNotedMeanwhile, AreOrdered, Meanwhile, Notes, Orders}
+use Rattle.desk_server.specs.Between.{CommandsAlone}
+use Rattle.desk_server.specs.Served.{AreCommanded, AreNotedMeanwhile, CommandRelation, Meanwhile, Notes}
 use Rattle.desk_server.specs.Served as spec
-use Rattle.desk_server.specs.Server.{IsOrdered}
+use Rattle.desk_server.specs.Server.{IsCommanded}
 use Rattle.desk_server.specs.declared.between.Between.{Between}
 use Rattle.desk_server.specs.declared.log.Fate.{Fate}
-use Rattle.desk_server.specs.declared.log.Fate.TheVariants.{Ordered}
+use Rattle.desk_server.specs.declared.log.Fate.TheVariants.{Commanded}
 
-ordered_append : {Clock Desk : Type 0} {Given : GivesMoment Clock} {Carries : Orders Desk} {c c1 : Clock} {d d1 : Desk} {first : List Fate}
-    → AreOrdered Given Carries c d first c1 d1 → (second : List Fate) (c' : Clock) (d' : Desk) → AreOrdered Given Carries c1 d1 second c' d'
-    → AreOrdered Given Carries c d (first ++ second) c' d'
-ordered_append {first = first} before _ _ _ spec.no_order = rw (append-nil first) before
-ordered_append {first = first} before _ _ _ (spec.one_order second moment carried c2 d2 c' d' so_far gives is) =
-    rw (← append_assoc first second (Ordered moment carried ∷ []))
-    (spec.one_order (first ++ second) moment carried c2 d2 c' d' (ordered_append before second c2 d2 so_far) gives is)
+commanded_append : {Clock Desk : Type 0} {Given : GivesMoment Clock} {Carries : CommandRelation Desk} {c c1 : Clock} {d d1 : Desk} {first : List Fate}
+    → AreCommanded Given Carries c d first c1 d1 → (second : List Fate) (c' : Clock) (d' : Desk) → AreCommanded Given Carries c1 d1 second c' d'
+    → AreCommanded Given Carries c d (first ++ second) c' d'
+commanded_append {first = first} before _ _ _ spec.no_command = rw (append-nil first) before
+commanded_append {first = first} before _ _ _ (spec.one_command second moment carried c2 d2 c' d' so_far gives is) =
+    rw (← append_assoc first second (Commanded moment carried ∷ []))
+    (spec.one_command (first ++ second) moment carried c2 d2 c' d' (commanded_append before second c2 d2 so_far) gives is)
 
 noted_append : {Log : Type 0} {Begins : Log → Log → Type 0} {Noted : Notes Log} {l l1 : Log} {first : List Fate}
     → AreNotedMeanwhile Begins Noted l first l1 → (second : List Fate) (l' : Log) → AreNotedMeanwhile Begins Noted l1 second l'
@@ -28,18 +28,18 @@ noted_append {first = first} before _ _ (spec.one_note second fate l2 begun l' s
     rw (← append_assoc first second (fate ∷ []))
     (spec.one_note (first ++ second) fate l2 begun l' (noted_append before second l2 so_far) begins noted)
 
-module _ {Clock Desk Log : Type 0} (Given : GivesMoment Clock) (Carries : Orders Desk) (Begins : Log → Log → Type 0) (Noted : Notes Log) where
-  -- no order
-  pub no_orders : (c : Clock) (d : Desk) (l : Log) → Meanwhile Given Carries Begins Noted c d l c d l
-  no_orders c d l = record { fates = []; ordered = spec.no_order; noted = spec.no_note }
+module _ {Clock Desk Log : Type 0} (Given : GivesMoment Clock) (Carries : CommandRelation Desk) (Begins : Log → Log → Type 0) (Noted : Notes Log) where
+  -- no command
+  pub no_commands : (c : Clock) (d : Desk) (l : Log) → Meanwhile Given Carries Begins Noted c d l c d l
+  no_commands c d l = record { fates = []; commanded = spec.no_command; noted = spec.no_note }
 
-  -- one order more
-  pub order_more : (c c1 c' : Clock) (d d1 d' : Desk) (l l1 l' : Log) → Meanwhile Given Carries Begins Noted c d l c1 d1 l1
-      → IsOrdered Given Begins Noted Carries c1 d1 l1 c' d' l' → Meanwhile Given Carries Begins Noted c d l c' d' l'
-  order_more c c1 c' d d1 d' l l1 l' first (moment, carried, begun, begins, noted, gives, is) = record {
-    fates = first.fates ++ Ordered moment carried ∷ [];
-    ordered = spec.one_order first.fates moment carried c1 d1 c' d' first.ordered gives is;
-    noted = spec.one_note first.fates (Ordered moment carried) l1 begun l' first.noted begins noted;
+  -- one command more
+  pub one_command_more : (c c1 c' : Clock) (d d1 d' : Desk) (l l1 l' : Log) → Meanwhile Given Carries Begins Noted c d l c1 d1 l1
+      → IsCommanded Given Begins Noted Carries c1 d1 l1 c' d' l' → Meanwhile Given Carries Begins Noted c d l c' d' l'
+  one_command_more c c1 c' d d1 d' l l1 l' first (moment, carried, begun, begins, noted, gives, is) = record {
+    fates = first.fates ++ Commanded moment carried ∷ [];
+    commanded = spec.one_command first.fates moment carried c1 d1 c' d' first.commanded gives is;
+    noted = spec.one_note first.fates (Commanded moment carried) l1 begun l' first.noted begins noted;
   }
 
   module _ (R W : Type 0) where
@@ -47,7 +47,7 @@ module _ {Clock Desk Log : Type 0} (Given : GivesMoment Clock) (Carries : Orders
     Lent = Between R W Clock Desk Log
 
     abbrev Alone : Lent → Lent → Type 0
-    Alone old new = OrdersAlone Given Carries Begins Noted old new
+    Alone old new = CommandsAlone Given Carries Begins Noted old new
 
     pub alone_none : (between : Lent) → Alone between between
     alone_none between = record {
@@ -55,7 +55,7 @@ module _ {Clock Desk Log : Type 0} (Given : GivesMoment Clock) (Carries : Orders
       same_moments = refl;
       same_desk = refl;
       same_log = refl;
-      orders = no_orders between.moments.now between.desk.now between.log.now;
+      commands = no_commands between.moments.now between.desk.now between.log.now;
     }
 
     alone_more : (old mid new : Lent) → Alone old mid → Alone mid new → Alone old new
@@ -64,14 +64,14 @@ module _ {Clock Desk Log : Type 0} (Given : GivesMoment Clock) (Carries : Orders
       same_moments = second.same_moments ∙ first.same_moments;
       same_desk = second.same_desk ∙ first.same_desk;
       same_log = second.same_log ∙ first.same_log;
-      orders = record {
-        fates = first.orders.fates ++ second.orders.fates;
-        ordered = ordered_append first.orders.ordered second.orders.fates new.moments.now new.desk.now second.orders.ordered;
-        noted = noted_append first.orders.noted second.orders.fates new.log.now second.orders.noted;
+      commands = record {
+        fates = first.commands.fates ++ second.commands.fates;
+        commanded = commanded_append first.commands.commanded second.commands.fates new.moments.now new.desk.now second.commands.commanded;
+        noted = noted_append first.commands.noted second.commands.fates new.log.now second.commands.noted;
       };
     }
 
-    -- a request that was read by calls between which there were orders alone
+    -- a request that was read by calls between which there were commands alone
     module _ (Fills : Call Lent) (one : (old : Lent) (given : Option ℕ) (room : List ℕ) (new : Lent) → Fills old given room new → Alone old new) where
       given_alone : (old : Lent) (bytes : List ℕ) (new : Lent) → Gives Fills old bytes new → Alone old new
       given_alone old _ _ calls.nothing = alone_none old

@@ -2,7 +2,7 @@
 use Rattle.std.proofs.Common.{◌≡◌, ℕ, ◌+◌, List, [], ◌∷◌, ◌++◌, ◌≤◌, length, arith, length-append}
 use Rattle.club_clock.specs.Moments.{GivesMoment}
 use Rattle.club_http.specs.Replied.{AnswerRelation}
-use Rattle.desk_server.specs.Served.{AreNoted, AreServed, CountsOn, Ends, IsBegun, IsDue, IsNoted, Notes, Orders, ServesOne}
+use Rattle.desk_server.specs.Served.{AreNoted, AreServed, CommandRelation, CountsOn, Ends, IsBegun, IsDue, IsNoted, Notes, ServesOne}
 use Rattle.desk_server.specs.Served.{Turn, alone, client_in, clients_in}
 use Rattle.desk_server.specs.Served as spec
 use Rattle.desk_server.specs.declared.log.Fate.{Fate}
@@ -11,27 +11,28 @@ clients_more : (turns : List Turn) (turn : Turn) → clients_in (turns ++ turn �
 clients_more [] turn = omega arith
 clients_more (first ∷ turns) turn = omega (arith, clients_more turns turn)
 
-module _ {Clock Desk Source Log : Type 0} (Gives : GivesMoment Clock) (Answers : ℕ → AnswerRelation Desk) (Carries : Orders Desk)
+module _ {Clock Desk Source Log : Type 0} (Gives : GivesMoment Clock) (Answers : ℕ → AnswerRelation Desk) (Carries : CommandRelation Desk)
     (Ended : Ends) (waited failures : Source → ℕ) (Begins : Log → Log → Type 0) (Noted : Notes Log) where
-  -- the turns so far: so many are clients', and at least so many are orders
-  pub record SoFar (clients orders : ℕ) (s s' : Source) (c : Clock) (d : Desk) (l : Log) (c' : Clock) (d' : Desk) (l' : Log) : Type 0 where
+  -- the turns so far: so many are clients', and at least so many are commands
+  pub record SoFar (clients commands : ℕ) (s s' : Source) (c : Clock) (d : Desk) (l : Log) (c' : Clock) (d' : Desk) (l' : Log) : Type 0 where
     pub turns : List Turn
     pub so_many : clients_in turns ≡ clients
-    pub no_fewer : orders ≤ length turns
+    pub no_fewer : commands ≤ length turns
     pub served : AreServed Gives Answers Carries Ended c d (failures s) turns c' d' (failures s')
     pub noted : AreNoted Begins Noted l turns l'
     pub called : CountsOn (waited s) (length turns) (waited s')
 
-module _ {Clock Desk Source Log : Type 0} {Gives : GivesMoment Clock} {Answers : ℕ → AnswerRelation Desk} {Carries : Orders Desk}
-    {Ended : Ends} {waited failures : Source → ℕ} {Begins : Log → Log → Type 0} {Noted : Notes Log} {clients orders : ℕ} {s s1 : Source}
-    {c c1 : Clock} {d d1 : Desk} {l l1 : Log} (first : SoFar Gives Answers Carries Ended waited failures Begins Noted clients orders s s1 c d l c1 d1 l1) where
+module _ {Clock Desk Source Log : Type 0} {Gives : GivesMoment Clock} {Answers : ℕ → AnswerRelation Desk} {Carries : CommandRelation Desk}
+    {Ended : Ends} {waited failures : Source → ℕ} {Begins : Log → Log → Type 0} {Noted : Notes Log} {clients commands : ℕ} {s s1 : Source}
+    {c c1 : Clock} {d d1 : Desk} {l l1 : Log}
+    (first : SoFar Gives Answers Carries Ended waited failures Begins Noted clients commands s s1 c d l c1 d1 l1) where
   -- one turn more
-  pub one_more : (turn : Turn) (clients' orders' : ℕ) (s' : Source) (c' : Clock) (d' : Desk) (l' : Log) → clients' ≡ clients + client_in turn.fate
-      → orders' ≤ orders + 1 → IsDue first.turns turn.fate
+  pub one_more : (turn : Turn) (clients' commands' : ℕ) (s' : Source) (c' : Clock) (d' : Desk) (l' : Log) → clients' ≡ clients + client_in turn.fate
+      → commands' ≤ commands + 1 → IsDue first.turns turn.fate
       → ServesOne Gives Answers Carries Ended c1 d1 (failures s1) turn.meanwhile turn.fate c' d' (failures s') → IsNoted Begins Noted l1 turn l'
       → CountsOn (waited s) (length first.turns + 1) (waited s')
-      → SoFar Gives Answers Carries Ended waited failures Begins Noted clients' orders' s s' c d l c' d' l'
-  one_more turn clients' orders' s' c' d' l' so_many no_fewer due one noted called = record {
+      → SoFar Gives Answers Carries Ended waited failures Begins Noted clients' commands' s s' c d l c' d' l'
+  one_more turn clients' commands' s' c' d' l' so_many no_fewer due one noted called = record {
     turns = first.turns ++ turn ∷ [];
     so_many = omega (arith, clients_more first.turns turn, first.so_many);
     no_fewer = omega (arith, length-append first.turns (turn ∷ []), first.no_fewer);
@@ -45,7 +46,7 @@ module _ {Clock Desk Source Log : Type 0} {Gives : GivesMoment Clock} {Answers :
   one_call s' waits fits = let before = first.called (omega arith) in let last = waits (omega arith) in omega arith
 
 module _ {Log : Type 0} {Begins : Log → Log → Type 0} {Noted : Notes Log} where
-  -- a turn without orders meanwhile
+  -- a turn without commands meanwhile
   pub noted_alone : {log log' : Log} (begun : Log) (fate : Fate) → IsBegun Begins Noted log fate begun → Noted begun fate log'
       → IsNoted Begins Noted log (alone fate) log'
   noted_alone begun fate begins notes =

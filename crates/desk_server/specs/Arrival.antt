@@ -2,10 +2,10 @@
 use Rattle.std.specs.Prelude.{ℕ}
 use Rattle.club_http.specs.Ends.{one_more}
 use Rattle.desk_server.specs.declared.connections.Arrival.{Arrival}
-use Rattle.desk_server.specs.declared.connections.Arrival.TheVariants.{Client, Order, Nobody}
+use Rattle.desk_server.specs.declared.connections.Arrival.TheVariants.{Client, Command, Nobody}
 
 -- the count after a wait: one more if nobody came
 abbrev pub failures_after : {C O : Type 0} → ℕ → Arrival C O → ℕ
 failures_after failures (Client client) = failures
-failures_after failures (Order order) = failures
+failures_after failures (Command command) = failures
 failures_after failures Nobody = one_more failures

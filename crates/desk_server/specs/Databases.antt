@@ -12,11 +12,11 @@ Opening Databases Store = Databases → List ℕ → Result Store StoreFault →
 abbrev pub Closing : Type 0 → Type 0 → Type 1
 Closing Databases Store = Databases → Store → Databases → Type 0
 
--- what reaching a name returns, with the databases before and after: a store that was opened, or a server that takes orders
+-- what reaching a name returns, with the databases before and after: a store that was opened, or a server that takes commands
 abbrev pub Reaching : Type 0 → Type 0 → Type 0 → Type 1
 Reaching Databases Store Visit = Databases → List ℕ → Result (Reached Store Visit) StoreFault → Databases → Type 0
 
--- what giving the bytes of an order to a server returns: the status of its answer and the bytes of the text, if there is an answer
+-- what giving the bytes of a command to a server returns: the status of its answer and the bytes of the text, if there is an answer
 abbrev pub Giving : Type 0 → Type 1
 Giving Visit = Visit → List ℕ → Option (ℕ × List ℕ) → Type 0
 

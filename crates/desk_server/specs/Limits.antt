@@ -57,7 +57,7 @@ pub data AreInterrupted {C Stream : Type 0} (Shows : C → Option ℕ → Type 0
       → AtShown (Shows limit.clock.now) (λ shown. Does old (left_until (nanos_of limit.due) shown) Interrupted new)
       → AreInterrupted Shows Does limit first (n + 1) new
 
--- A call with the time that is left of a limit. Where a signal interrupts it, it is repeated with what is then left, fewer than 2 ^ 64 times.
+-- A call with the time that is left of a limit. If a signal interrupts it, it is repeated with what is then left, fewer than 2 ^ 64 times.
 pub record IsCalledUnder {C Stream : Type 0} (Shows : C → Option ℕ → Type 0) (Does : Calls Stream) (limit : Limit C) (old : Stream) (result : Option ℕ)
     (new : Stream) : Type 0 where
   pub interruptions : ℕ

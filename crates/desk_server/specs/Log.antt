@@ -9,7 +9,7 @@ use Rattle.club_values.specs.Moment.{moment_text}
 use Rattle.http_response.specs.Status.{status_of}
 use Rattle.desk_server.specs.RequestLine.{method_of, path_of}
 use Rattle.desk_server.specs.declared.log.Fate.{Fate}
-use Rattle.desk_server.specs.declared.log.Fate.TheVariants.{Absent, Overrun, Unanswered, Exchanged, Ordered}
+use Rattle.desk_server.specs.declared.log.Fate.TheVariants.{Absent, Overrun, Unanswered, Exchanged, Commanded}
 
 -- a word, or a dash if there is none
 abbrev pub or_dash : Option (List ℕ) → List ℕ
@@ -26,14 +26,14 @@ words_text moment method path status microseconds =
     or_dash (option_map moment_text moment) ++ codes " " ++ or_dash method ++ codes " " ++ or_dash path ++ codes " "
     ++ or_dash (option_map decimal status) ++ codes " " ++ decimal microseconds ++ codes "\n"
 
--- The moment, the method, the path and the status of a client, and the microseconds that it took. Of an order the moment, `office`, the command's
--- name, its exit status and the microseconds; name and status are missing if no order came whole.
+-- The moment, the method, the path and the status of a client, and the microseconds that it took. Of a command the moment, `office`, its name, its
+-- exit status and the microseconds; name and status are missing if no command came whole.
 unfoldable pub line_text : Fate → ℕ → List ℕ
 line_text Absent microseconds = words_text None None None None microseconds
 line_text Overrun microseconds = words_text None None None None microseconds
 line_text Unanswered microseconds = words_text None None None None microseconds
-line_text (Ordered moment None) microseconds = words_text moment (Some (codes "office")) None None microseconds
-line_text (Ordered moment (Some carried)) microseconds =
+line_text (Commanded moment None) microseconds = words_text moment (Some (codes "office")) None None microseconds
+line_text (Commanded moment (Some carried)) microseconds =
     words_text moment (Some (codes "office")) (path_of carried.line) (Some carried.status) microseconds
 line_text (Exchanged moment line outcome) microseconds =
     words_text (Some moment) (method_of line) (path_of line) (written_status outcome) microseconds

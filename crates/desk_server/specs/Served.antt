@@ -1,4 +1,4 @@
--- A server: it serves what arrives, clients and orders of the office, one after the other, and orders also while a client's request is awaited
+-- A server: it serves what arrives, clients and commands of the office, one after the other, and commands also while a client's request is awaited
 -- (ours).
 use Rattle.std.specs.Prelude.{◌≡◌, ℕ, suc, ◌+◌, ◌^◌, ◌<◌, ◌≤◌, length, List, [], ◌∷◌, ◌++◌, take, Option, Some, None, Result, MatchResult}
 use Rattle.std.specs.Io.KnownBytes.{Appends}
@@ -10,7 +10,7 @@ use Rattle.club_http.specs.Exchange.{Exchanges}
 use Rattle.club_http.specs.Replied.{AnswerRelation, IsReplied}
 use Rattle.club_http.specs.declared.fault.AnswerFault.{AnswerFault}
 use Rattle.desk_server.specs.declared.log.Fate.{Fate}
-use Rattle.desk_server.specs.declared.log.Fate.TheVariants.{Absent, Overrun, Unanswered, Exchanged, Ordered}
+use Rattle.desk_server.specs.declared.log.Fate.TheVariants.{Absent, Overrun, Unanswered, Exchanged, Commanded}
 use Rattle.desk_server.specs.declared.office.Answer.{Answer}
 use Rattle.desk_server.specs.declared.office.Carried.{Carried}
 use Rattle.desk_server.specs.declared.serve.ClockOutOfRange.{ClockOutOfRange}
@@ -19,9 +19,9 @@ use Rattle.desk_server.specs.declared.serve.ClockOutOfRange.{ClockOutOfRange}
 abbrev pub CountsOn : ℕ → ℕ → ℕ → Type 0
 CountsOn count more count' = count + more < 2 ^ 64 → count' ≡ count + more
 
--- what the desk does with the bytes of an order: the desk before, the answer, and the desk after
-abbrev pub Orders : Type 0 → Type 1
-Orders Desk = List ℕ → Desk → Answer → Desk → Type 0
+-- what the desk does with the bytes of a command: the desk before, the answer, and the desk after
+abbrev pub CommandRelation : Type 0 → Type 1
+CommandRelation Desk = List ℕ → Desk → Answer → Desk → Type 0
 
 -- the outcomes that an exchange with a connection may have
 abbrev pub Ends : Type 1
@@ -36,38 +36,38 @@ IsExchanged Answers bytes old outcome new = Exchanges
     (λ _. Unit {0})
     outcome
 
--- What a connection of the office did to the desk: one order was carried out, once, whether or not its answer was taken. If no order came
--- whole, the desk is unchanged.
-abbrev pub IsCarriedOut : {Desk : Type 0} → Orders Desk → Desk → Option Carried → Desk → Type 0
+-- What a connection of the office did to the desk: one command was carried out, once, whether or not its answer was taken. If no command came whole,
+-- the desk is unchanged.
+abbrev pub IsCarriedOut : {Desk : Type 0} → CommandRelation Desk → Desk → Option Carried → Desk → Type 0
 IsCarriedOut Carries old None new = new ≡ old
 IsCarriedOut Carries old (Some carried) new =
     (bytes : List ℕ) × (answer : Answer) × Carries bytes old answer new × (carried ≡ answer.carried)
 
--- An order was carried out, and its answer was written: its status and its text, whole or a beginning of them.
-pub record AnswersOrder {Desk : Type 0} (Carries : Orders Desk) (bytes : List ℕ) (old : Desk) (taken : Option (List ℕ)) (carried : Carried) (new : Desk)
-    (taken' : Option (List ℕ)) : Type 0 where
+-- A command was carried out, and its answer was written: its status and its text, whole or a beginning of them.
+pub record AnswersCommand {Desk : Type 0} (Carries : CommandRelation Desk) (bytes : List ℕ) (old : Desk) (taken : Option (List ℕ)) (carried : Carried)
+    (new : Desk) (taken' : Option (List ℕ)) : Type 0 where
   pub answer : Answer
   pub carries : Carries bytes old answer new
   pub same : carried ≡ answer.carried
   pub writes : (n : ℕ) × Appends taken taken' (take n (answer.carried.status ∷ string_bytes answer.text))
 
--- A turn of the server: an arrival with its fate, and with the fates of the orders that were carried out meanwhile, while its request was awaited.
+-- A turn of the server: an arrival with its fate, and with the fates of the commands that were carried out meanwhile, while its request was awaited.
 pub record Turn : Type 0 where
   pub meanwhile : List Fate
   pub fate : Fate
 
--- a turn without orders meanwhile
+-- a turn without commands meanwhile
 abbrev pub alone : Fate → Turn
 alone fate = record { meanwhile = []; fate = fate }
 
--- the fates in the order in which they ended: a client's behind those of the orders meanwhile
+-- the fates in the order in which they ended: a client's after those of the commands meanwhile
 abbrev pub fates_in : List Turn → List Fate
 fates_in [] = []
 fates_in (turn ∷ turns) = (turn.meanwhile ++ turn.fate ∷ []) ++ fates_in turns
 
--- what a fate adds to the number of clients: an order is none
+-- what a fate adds to the number of clients: a command is none
 abbrev pub client_in : Fate → ℕ
-client_in (Ordered moment carried) = 0
+client_in (Commanded moment carried) = 0
 client_in fate = 1
 
 -- how many of these turns were clients'
@@ -82,28 +82,28 @@ IsDue turns fate = Unit {0}
 
 -- ---- the clock, the desk and what arrives
 
-module _ {Clock Desk : Type 0} (Gives : GivesMoment Clock) (Carries : Orders Desk) where
-  -- orders one after the other, each carried out whether or not the clock gives a moment
-  pub data AreOrdered (clock : Clock) (desk : Desk) : List Fate → Clock → Desk → Type 0 where
-    no_order : AreOrdered clock desk [] clock desk
-    one_order : (fates : List Fate) (moment : Option ℕ) (carried : Option Carried) (c : Clock) (d : Desk) (c' : Clock) (d' : Desk)
-        → AreOrdered clock desk fates c d → Gives c moment c' → IsCarriedOut Carries d carried d'
-        → AreOrdered clock desk (fates ++ Ordered moment carried ∷ []) c' d'
+module _ {Clock Desk : Type 0} (Gives : GivesMoment Clock) (Carries : CommandRelation Desk) where
+  -- commands one after the other, each carried out whether or not the clock gives a moment
+  pub data AreCommanded (clock : Clock) (desk : Desk) : List Fate → Clock → Desk → Type 0 where
+    no_command : AreCommanded clock desk [] clock desk
+    one_command : (fates : List Fate) (moment : Option ℕ) (carried : Option Carried) (c : Clock) (d : Desk) (c' : Clock) (d' : Desk)
+        → AreCommanded clock desk fates c d → Gives c moment c' → IsCarriedOut Carries d carried d'
+        → AreCommanded clock desk (fates ++ Commanded moment carried ∷ []) c' d'
 
-module _ {Clock Desk : Type 0} (Gives : GivesMoment Clock) (Answers : ℕ → AnswerRelation Desk) (Carries : Orders Desk) (Ended : Ends) where
-  -- What a client did to the clock and the desk: the clock gave its moment, orders were carried out meanwhile, each at a moment of its own, and
+module _ {Clock Desk : Type 0} (Gives : GivesMoment Clock) (Answers : ℕ → AnswerRelation Desk) (Carries : CommandRelation Desk) (Ended : Ends) where
+  -- What a client did to the clock and the desk: the clock gave its moment, commands were carried out meanwhile, each at a moment of its own, and
   -- then it had an exchange with the desk as these had left it, with an outcome that such a connection may have.
   pub record IsAttended (meanwhile : List Fate) (moment : ℕ) (line : List ℕ) (outcome : Result Reply AnswerFault) (clock : Clock) (desk : Desk)
       (clock' : Clock) (desk' : Desk) : Type 0 where
     pub given : Clock
     pub left : Desk
     pub gives : Gives clock (Some moment) given
-    pub ordered : AreOrdered Gives Carries given desk meanwhile clock' left
+    pub commanded : AreCommanded Gives Carries given desk meanwhile clock' left
     pub exchanged : (bytes : List ℕ) × (line ≡ take 96 bytes) × IsExchanged (Answers moment) bytes left outcome desk'
     pub ended : Ended outcome
 
-  -- What one arrival did to the clock, the desk and the count of failed calls. If waiting failed, only the count grew. An order is carried out,
-  -- whether or not the clock gives a moment. Only a client has orders meanwhile. At an overrun one client counts that never came.
+  -- What one arrival did to the clock, the desk and the count of failed calls. If waiting failed, only the count grew. A command is carried out,
+  -- whether or not the clock gives a moment. Only a client has commands meanwhile. At an overrun one client counts that never came.
   abbrev pub ServesOne : Clock → Desk → ℕ → List Fate → Fate → Clock → Desk → ℕ → Type 0
   ServesOne clock desk failures meanwhile Absent clock' desk' failures' =
       (meanwhile ≡ []) × (failures' ≡ one_more failures) × (clock' ≡ clock) × (desk' ≡ desk)
@@ -111,7 +111,7 @@ module _ {Clock Desk : Type 0} (Gives : GivesMoment Clock) (Answers : ℕ → An
       (meanwhile ≡ []) × (failures' ≡ failures) × (clock' ≡ clock) × (desk' ≡ desk)
   ServesOne clock desk failures meanwhile (Exchanged moment line outcome) clock' desk' failures' =
       (failures' ≡ failures) × IsAttended meanwhile moment line outcome clock desk clock' desk'
-  ServesOne clock desk failures meanwhile (Ordered moment carried) clock' desk' failures' =
+  ServesOne clock desk failures meanwhile (Commanded moment carried) clock' desk' failures' =
       (meanwhile ≡ []) × (failures' ≡ failures) × Gives clock moment clock' × IsCarriedOut Carries desk carried desk'
   ServesOne clock desk failures meanwhile Unanswered clock' desk' failures' = ⊥
 
@@ -142,7 +142,7 @@ abbrev pub Notes : Type 0 → Type 1
 Notes Log = Log → Fate → Log → Type 0
 
 module _ {Log : Type 0} (Begins : Log → Log → Type 0) (Noted : Notes Log) where
-  -- orders meanwhile, each begun and then noted, in their order
+  -- commands meanwhile, each begun and then noted, in their order
   pub data AreNotedMeanwhile (log : Log) : List Fate → Log → Type 0 where
     no_note : AreNotedMeanwhile log [] log
     one_note : (fates : List Fate) (fate : Fate) (l begun l' : Log) → AreNotedMeanwhile log fates l → Begins l begun → Noted begun fate l'
@@ -154,7 +154,7 @@ module _ {Log : Type 0} (Begins : Log → Log → Type 0) (Noted : Notes Log) wh
   IsBegun log Overrun begun = begun ≡ log
   IsBegun log fate begun = Begins log begun
 
-  -- A turn: what was accepted is begun, then the orders meanwhile are begun and noted, and then it is noted itself. The rest is only noted.
+  -- A turn: what was accepted is begun, then the commands meanwhile are begun and noted, and then it is noted itself. The rest is only noted.
   pub record IsNoted (log : Log) (turn : Turn) (log' : Log) : Type 0 where
     pub begun : Log
     pub awaited : Log
@@ -169,14 +169,14 @@ module _ {Log : Type 0} (Begins : Log → Log → Type 0) (Noted : Notes Log) wh
 
 -- ---- the clock, the desk and the log
 
-module _ {Clock Desk Log : Type 0} (Gives : GivesMoment Clock) (Carries : Orders Desk) (Begins : Log → Log → Type 0) (Noted : Notes Log) where
-  -- some orders meanwhile, carried out and noted, in their order
+module _ {Clock Desk Log : Type 0} (Gives : GivesMoment Clock) (Carries : CommandRelation Desk) (Begins : Log → Log → Type 0) (Noted : Notes Log) where
+  -- some commands meanwhile, carried out and noted, in their order
   pub record Meanwhile (clock : Clock) (desk : Desk) (log : Log) (clock' : Clock) (desk' : Desk) (log' : Log) : Type 0 where
     pub fates : List Fate
-    pub ordered : AreOrdered Gives Carries clock desk fates clock' desk'
+    pub commanded : AreCommanded Gives Carries clock desk fates clock' desk'
     pub noted : AreNotedMeanwhile Begins Noted log fates log'
 
-  -- An exchange: while the request was awaited, orders were carried out and noted; then the outcome is as at the desk that they left.
+  -- An exchange: while the request was awaited, commands were carried out and noted; then the outcome is as at the desk that they left.
   pub record ExchangesBetween (Answers : AnswerRelation Desk) (bytes : List ℕ) (clock : Clock) (desk : Desk) (log : Log) (outcome : Result Reply AnswerFault)
       (clock' : Clock) (desk' : Desk) (log' : Log) : Type 0 where
     pub left : Desk

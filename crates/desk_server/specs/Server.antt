@@ -2,20 +2,20 @@
 use Rattle.std.specs.Prelude.{ℕ, length, Option, Result}
 use Rattle.club_clock.specs.Moments.{GivesMoment}
 use Rattle.club_http.specs.Replied.{AnswerRelation}
-use Rattle.desk_server.specs.Served.{AreNoted, CountsOn, Ends, IsCarriedOut, Notes, Orders, Serves}
-use Rattle.desk_server.specs.declared.log.Fate.TheVariants.{Ordered}
+use Rattle.desk_server.specs.Served.{AreNoted, CommandRelation, CountsOn, Ends, IsCarriedOut, Notes, Serves}
+use Rattle.desk_server.specs.declared.log.Fate.TheVariants.{Commanded}
 use Rattle.desk_server.specs.declared.office.Carried.{Carried}
 use Rattle.desk_server.specs.declared.serve.ClockOutOfRange.{ClockOutOfRange}
 
 module _ {Clock Desk Log : Type 0} (Gives : GivesMoment Clock) (Begins : Log → Log → Type 0) (Noted : Notes Log) where
-  -- an order, carried out or not, begun and noted with the clock's moment
-  abbrev pub IsOrdered : Orders Desk → Clock → Desk → Log → Clock → Desk → Log → Type 0
-  IsOrdered Carries clock desk log clock' desk' log' =
-      (moment : Option ℕ) × (carried : Option Carried) × (begun : Log) × Begins log begun × Noted begun (Ordered moment carried) log'
+  -- a command, carried out or not, begun and noted with the clock's moment
+  abbrev pub IsCommanded : CommandRelation Desk → Clock → Desk → Log → Clock → Desk → Log → Type 0
+  IsCommanded Carries clock desk log clock' desk' log' =
+      (moment : Option ℕ) × (carried : Option Carried) × (begun : Log) × Begins log begun × Noted begun (Commanded moment carried) log'
       × Gives clock moment clock' × IsCarriedOut Carries desk carried desk'
 
   -- a server of so many clients of a source, which counts each call, with a log, which notes each arrival
-  abbrev pub ServesLogged : {Source : Type 0} → (ℕ → AnswerRelation Desk) → Orders Desk → Ends → (Source → ℕ) → (Source → ℕ) → ℕ
+  abbrev pub ServesLogged : {Source : Type 0} → (ℕ → AnswerRelation Desk) → CommandRelation Desk → Ends → (Source → ℕ) → (Source → ℕ) → ℕ
       → Source → Clock → Desk → Log → Result Unit ClockOutOfRange → Source → Clock → Desk → Log → Type 0
   ServesLogged Answers Carries Ended waited failures count source clock desk log result source' clock' desk' log' =
       Serves Gives Answers Carries Ended count clock desk (failures source) result clock' desk' (failures source')

@@ -1,11 +1,11 @@
-//! Orders of the office, and those that come between the pieces of a client's request.
+//! Commands of the office, and those that come between the pieces of a client's request.
 
 ghost use Rattle.std.specs.Prelude.{IfNone, IfSome};
 ghost use Rattle.http_request.specs.Front.{Covers};
 ghost use Rattle.club_http.specs.Received.{IsCutOff, Receives};
-ghost use Rattle.desk_server.specs.Between.{OrdersAlone};
+ghost use Rattle.desk_server.specs.Between.{CommandsAlone};
 ghost use Rattle.desk_server.specs.Served.{Meanwhile};
-ghost use Rattle.desk_server.specs.Server.{IsOrdered};
+ghost use Rattle.desk_server.specs.Server.{IsCommanded};
 
 use crate::log::{Fate, Log};
 use crate::office::{Carried, Office};
@@ -13,44 +13,44 @@ use club_clock::Moments;
 use club_http::{Face, Inlet};
 use http_request::HeadScan;
 
-/// A connection of the office, which brings an order.
+/// A connection of the office, which brings a command.
 pub trait Handover {
     ghost use Rattle.desk_server.specs.Served.{IsCarriedOut};
 
-    /// Reads an order, has the desk carry it out, and writes the answer; `None` if no order came
+    /// Reads a command, has the desk carry it out, and writes the answer; `None` if no command came
     /// whole.
     fn carry_out<D: Office>(&mut self, desk: &mut D) -> Option<Carried>
-        ensures { IsCarriedOut D.orders desk.old result desk.new };
+        ensures { IsCarriedOut D.commands desk.old result desk.new };
 }
 
-/// Carries out an order, and logs it.
+/// Carries out a command, and logs it.
 pub(crate) fn carry_out<O: Handover + Drop, M: Moments, D: Office, G: Log>(
-    mut order: O,
+    mut command: O,
     moments: &mut M,
     desk: &mut D,
     log: &mut G,
 )
-    ensures { IsOrdered M.gives G.begins G.notes D.orders moments.old desk.old log.old
+    ensures { IsCommanded M.gives G.begins G.notes D.commands moments.old desk.old log.old
         moments.new desk.new log.new }
 {
     log.begin();
     let moment = moments.now();
-    let carried = order.carry_out(desk);
-    drop(order);
-    log.note(&Fate::Ordered { moment, carried });
+    let carried = command.carry_out(desk);
+    drop(command);
+    log.note(&Fate::Commanded { moment, carried });
 }
 
 /// What waits for a client and for the office at once.
 pub trait Waits {
-    type Order: Handover + Drop;
+    type Command: Handover + Drop;
 
-    /// Waits until the client is to be read, and returns the order that comes before, if one does.
-    /// The client is to be read once its bytes or its end are there, its time is over, or waiting
-    /// failed.
-    fn order_before(&mut self) -> Option<Self::Order>;
+    /// Waits until the client is to be read, and returns the command that comes before, if one
+    /// does. The client is to be read once its bytes or its end are there, its time is over, or
+    /// waiting failed.
+    fn command_before(&mut self) -> Option<Self::Command>;
 }
 
-/// A client's reader that carries out the orders that come while it waits.
+/// A client's reader that carries out the commands that come while it waits.
 #[derive(Drop)]
 struct Between<'r, 'w, 'm, 'd, 'g, R, W, M, D, G> {
     reader: &'r mut R,
@@ -62,20 +62,20 @@ struct Between<'r, 'w, 'm, 'd, 'g, R, W, M, D, G> {
 
 impl<R: Inlet, W: Waits, M: Moments, D: Office, G: Log> Inlet
     for Between<'_, '_, '_, '_, '_, R, W, M, D, G> {
-    ghost use Rattle.desk_server.specs.Between.{OrdersAlone};
+    ghost use Rattle.desk_server.specs.Between.{CommandsAlone};
 
     ghost to_come = { λ between. R.to_come between.reader.now };
 
     ghost failures = { λ between. R.failures between.reader.now };
 
-    ghost fills = { λ old result room new. OrdersAlone M.gives D.orders G.begins G.notes old new
+    ghost fills = { λ old result room new. CommandsAlone M.gives D.commands G.begins G.notes old new
         × R.fills old.reader.now result room new.reader.now };
 
     fn fill(&mut self, room: &mut [u8]) -> Option<usize> {
-        for ordered in 0..u64::MAX {
-            match self.waits.order_before() {
-                Some(order) => {
-                    carry_out(order, &mut *self.moments, &mut *self.desk, &mut *self.log);
+        for commanded in 0..u64::MAX {
+            match self.waits.command_before() {
+                Some(command) => {
+                    carry_out(command, &mut *self.moments, &mut *self.desk, &mut *self.log);
                 }
                 None => return self.reader.fill(room),
             }
@@ -84,7 +84,7 @@ impl<R: Inlet, W: Waits, M: Moments, D: Office, G: Log> Inlet
     }
 }
 
-/// Reads a request, as `Face::receive` does, and carries out the orders that come while it is
+/// Reads a request, as `Face::receive` does, and carries out the commands that come while it is
 /// awaited. Each has a moment of its own, and is logged.
 pub fn receive_between<R: Inlet, W: Waits, M: Moments, D: Office, G: Log>(
     face: &mut Face,
@@ -99,7 +99,7 @@ pub fn receive_between<R: Inlet, W: Waits, M: Moments, D: Office, G: Log>(
         (λ _. Receives (R.to_come reader.old) (R.to_come reader.new) face.new) }
     ensures cut_off { IfNone result
         (IsCutOff (R.to_come reader.old) (R.to_come reader.new) face.new) }
-    ensures meanwhile { Meanwhile M.gives D.orders G.begins G.notes
+    ensures meanwhile { Meanwhile M.gives D.commands G.begins G.notes
         moments.old desk.old log.old moments.new desk.new log.new }
 {
     let mut between = Between {
@@ -122,7 +122,7 @@ fn receive_in<R: Inlet, W: Waits, M: Moments, D: Office, G: Log>(
         (R.to_come between.new.reader.now) face.new) }
     ensures cut_off { IfNone result (IsCutOff (R.to_come between.old.reader.now)
         (R.to_come between.new.reader.now) face.new) }
-    ensures alone { OrdersAlone M.gives D.orders G.begins G.notes between.old between.new }
+    ensures alone { CommandsAlone M.gives D.commands G.begins G.notes between.old between.new }
 {
     face.receive(between)
 }

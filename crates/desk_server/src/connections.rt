@@ -19,7 +19,7 @@ pub trait Connection {
     // the outcomes that an exchange may have
     ghost ends: { Ends };
 
-    /// One exchange with the desk, at a moment. While the request is awaited, orders are carried
+    /// One exchange with the desk, at a moment. While the request is awaited, commands are carried
     /// out and logged, each at a moment of its own; then the desk changed as the returned outcome
     /// says. The bytes that were read of the request stay in the face.
     ///
@@ -34,13 +34,13 @@ pub trait Connection {
         log: &mut G,
         moment: Moment,
     ) -> Result<Reply, AnswerFault>
-        ensures exchanged { ExchangesBetween M.gives D.orders G.begins G.notes (D.answers moment)
+        ensures exchanged { ExchangesBetween M.gives D.commands G.begins G.notes (D.answers moment)
             face.new moments.old desk.old log.old result moments.new desk.new log.new }
         ensures ended { ends result };
 }
 
 /// A connection that a listener accepted. The client has the patience for its request, the same
-/// time again for taking the reply, and once more for bytes that it still sends. An order that is
+/// time again for taking the reply, and once more for bytes that it still sends. A command that is
 /// carried out meanwhile doesn't extend the patience.
 #[derive(Drop)]
 pub struct Accepted<'c, S, C> {
@@ -73,31 +73,31 @@ impl<'c, S: ClientStream, C: MonotonicClock> Accepted<'c, S, C> {
     }
 }
 
-/// Waits for a client under its limit. Where both are there, its bytes and orders take turns.
+/// Waits for a client under its limit. If both are there, its bytes and commands take turns.
 #[derive(Drop)]
 struct Awaited<'s, 'l, 'c, S, C> {
     stream: &'s S,
     limit: &'l Limit<'c, C>,
-    // whether an order goes before the client's bytes
-    order_first: bool,
+    // whether a command goes before the client's bytes
+    command_first: bool,
 }
 
 impl<S: ClientStream, C: MonotonicClock> Waits for Awaited<'_, '_, '_, S, C> {
-    type Order = S::Order;
+    type Command = S::Command;
 
-    fn order_before(&mut self) -> Option<S::Order> {
+    fn command_before(&mut self) -> Option<S::Command> {
         for _ in 0..u64::MAX {
             let left = self.limit.left();
             if left.is_zero() {
                 return None;
             }
-            match self.stream.wait_within(left, self.order_first) {
-                Woken::Order(order) => {
-                    self.order_first = false;
-                    return Some(order);
+            match self.stream.wait_within(left, self.command_first) {
+                Woken::Command(command) => {
+                    self.command_first = false;
+                    return Some(command);
                 }
                 Woken::Client => {
-                    self.order_first = true;
+                    self.command_first = true;
                     return None;
                 }
                 Woken::Nobody => {}
@@ -107,7 +107,7 @@ impl<S: ClientStream, C: MonotonicClock> Waits for Awaited<'_, '_, '_, S, C> {
     }
 }
 
-/// An exchange as `club_http::answer` makes it, over a socket, but that orders are carried out
+/// An exchange as `club_http::answer` makes it, over a socket, but that commands are carried out
 /// while the request is awaited. No contract states which bytes a socket gives or takes.
 impl<S: ClientStream, C: MonotonicClock> Connection for Accepted<'_, S, C> {
     ghost ends = { λ _. Unit {0} };
@@ -126,7 +126,7 @@ impl<S: ClientStream, C: MonotonicClock> Connection for Accepted<'_, S, C> {
         let mut waits = Awaited {
             stream,
             limit,
-            order_first: false,
+            command_first: false,
         };
         let received = receive_between(face, &mut reader, &mut waits, moments, desk, log);
         let Some(scan) = received else {
@@ -150,16 +150,16 @@ impl<S: ClientStream, C: MonotonicClock> Connection for Accepted<'_, S, C> {
 #[derive(Drop)]
 pub enum Arrival<C, O> {
     Client(C),
-    Order(O),
+    Command(O),
     /// Waiting failed.
     Nobody,
 }
 
-/// What clients and orders come from.
+/// What clients and commands come from.
 pub trait Arrivals {
     type Client: Connection + Drop;
 
-    type Order: Handover + Drop;
+    type Command: Handover + Drop;
 
     ghost use Rattle.std.specs.Prelude.{◌≡◌, ℕ};
     ghost use Rattle.desk_server.specs.Served.{CountsOn};
@@ -172,7 +172,7 @@ pub trait Arrivals {
     ghost failures: { Self → ℕ };
 
     /// Waits for the next arrival.
-    fn next(&mut self) -> Arrival<Self::Client, Self::Order>
+    fn next(&mut self) -> Arrival<Self::Client, Self::Command>
         ensures waited { CountsOn (waited self.old) 1 (waited self.new) }
         ensures failure_count { failures self.new ≡ failures_after (failures self.old) result };
 }

@@ -3,9 +3,9 @@
 use club_core::{ClubStore, StoreFault};
 use std::os::unix::net::UnixListener;
 
-/// The door of a server, by which orders of the office come. It is removed when this is dropped.
+/// The door of a server, by which commands of the office come. It is removed when this is dropped.
 pub trait Door {
-    /// What orders come to; `None` where there is no door.
+    /// What commands come to; `None` if there is no door.
     fn listener(&self) -> Option<&UnixListener>;
 }
 
@@ -13,20 +13,20 @@ pub trait Door {
 pub trait Visit {
     ghost use Rattle.desk_server.specs.Databases.{Giving, in_bytes};
 
-    // what giving the bytes of an order returns
+    // what giving the bytes of a command returns
     ghost gives: { Giving Self };
 
-    /// Hands over the bytes of an order, and returns the answer's status and text; `None` if there
-    /// is no answer, and then nobody knows whether the order was carried out.
-    fn give(self, order: &[u8]) -> Option<(u8, String)>
-        ensures { gives self order.now (in_bytes result) };
+    /// Hands over the bytes of a command, and returns the answer's status and text; `None` if there
+    /// is no answer, and then nobody knows whether the command was carried out.
+    fn give(self, command: &[u8]) -> Option<(u8, String)>
+        ensures { gives self command.now (in_bytes result) };
 }
 
 /// A database that was reached.
 pub enum Reached<S, V> {
     /// It was opened.
     Opened(S),
-    /// A server has it open, and takes orders.
+    /// A server has it open, and takes commands.
     Served(V),
 }
 

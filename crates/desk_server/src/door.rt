@@ -2,7 +2,7 @@
 
 ghost use Rattle.std.specs.Prelude.{◌≡◌, ◌≤◌, length, take, IfSome};
 ghost use Rattle.std.specs.Io.KnownBytes.{Consumes, IsAtEnd};
-ghost use Rattle.desk_server.specs.Served.{AnswersOrder};
+ghost use Rattle.desk_server.specs.Served.{AnswersCommand};
 
 use crate::between::Handover;
 use crate::limit::{Limit, MonotonicClock};
@@ -13,15 +13,15 @@ use std::io;
 use std::os::unix::net::{UnixListener, UnixStream};
 use std::time::Duration;
 
-/// What the server sends when it has accepted a connection of the office. Only then the command
-/// sends its order: one that has gone by then has sent none.
+/// What the server sends when it has accepted a connection of the office. Only then the sender
+/// sends its command: one that has gone by then has sent none.
 pub const GREETING: [u8; 1] = *b"!";
 
-/// The most bytes of an order, less one.
-pub const MAX_ORDER_LEN: usize = 8_192;
+/// The most bytes of a command, less one.
+pub const MAX_COMMAND_LEN: usize = 8_192;
 
-/// How many milliseconds the office has to send its order.
-const ORDER_MILLISECONDS: u64 = 1_000;
+/// How many milliseconds the office has to send its command.
+const COMMAND_MILLISECONDS: u64 = 1_000;
 
 /// A connection of the office that a door accepted. The answer has to be taken within the patience.
 #[derive(Drop)]
@@ -52,9 +52,9 @@ impl<'c, C: MonotonicClock> Handed<'c, C> {
     }
 }
 
-/// Reads the bytes of an order up to the end of the input, and returns how many; `None` if the
+/// Reads the bytes of a command up to the end of the input, and returns how many; `None` if the
 /// reader fails, or the buffer is full before the end.
-pub fn read_order<R: Inlet>(reader: &mut R, room: &mut [u8]) -> Option<usize>
+pub fn read_command<R: Inlet>(reader: &mut R, room: &mut [u8]) -> Option<usize>
     ensures { IfSome result (λ n. (n ≤ length room.new)
         × Consumes (R.to_come reader.old) (R.to_come reader.new) (take n room.new)
         × IsAtEnd (R.to_come reader.new)) }
@@ -70,13 +70,13 @@ pub fn read_order<R: Inlet>(reader: &mut R, room: &mut [u8]) -> Option<usize>
     None
 }
 
-/// Has the desk carry out an order, and writes its answer: the status, and then the text. Whether
+/// Has the desk carry out a command, and writes its answer: the status, and then the text. Whether
 /// the writer takes it changes nothing.
-pub fn answer_order<D: Office, W: Outlet>(desk: &mut D, bytes: &[u8], writer: &mut W) -> Carried
-    ensures { AnswersOrder D.orders bytes.now desk.old (W.taken writer.old)
+pub fn answer_command<D: Office, W: Outlet>(desk: &mut D, bytes: &[u8], writer: &mut W) -> Carried
+    ensures { AnswersCommand D.commands bytes.now desk.old (W.taken writer.old)
         result desk.new (W.taken writer.new) }
 {
-    let Answer { carried, text } = desk.order(bytes);
+    let Answer { carried, text } = desk.command(bytes);
     match put_all(writer, &[carried.status]) {
         Ok(()) => {
             let _ = put_all(writer, text.as_str().as_bytes());
@@ -86,17 +86,17 @@ pub fn answer_order<D: Office, W: Outlet>(desk: &mut D, bytes: &[u8], writer: &m
     carried
 }
 
-/// Greets the command, reads its order, and answers it.
+/// Greets the sender, reads its command, and answers it.
 impl<C: MonotonicClock> Handover for Handed<'_, C> {
     fn carry_out<D: Office>(&mut self, desk: &mut D) -> Option<Carried> {
         let stream = &self.stream;
-        let limit = Limit::after(self.clock, Duration::from_millis(ORDER_MILLISECONDS));
+        let limit = Limit::after(self.clock, Duration::from_millis(COMMAND_MILLISECONDS));
         if put_all(&mut self.writer(), &GREETING).is_err() {
             return None;
         }
-        let mut room = [0; MAX_ORDER_LEN];
-        match read_order(&mut TimedInlet::new(stream, &limit), &mut room) {
-            Some(len) => Some(answer_order(desk, &room[..len], &mut self.writer())),
+        let mut room = [0; MAX_COMMAND_LEN];
+        match read_command(&mut TimedInlet::new(stream, &limit), &mut room) {
+            Some(len) => Some(answer_command(desk, &room[..len], &mut self.writer())),
             None => None,
         }
     }

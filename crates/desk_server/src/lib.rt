@@ -1,6 +1,6 @@
-//! The server of the desk: it serves clients and orders of the office one after the other, and
-//! orders also while a client's request is awaited, each client at the moment that the club's clock
-//! shows. `Databases` is the trait by which it and the office open a database.
+//! The server of the desk: it serves clients and commands of the office one after the other, and
+//! commands also while a client's request is awaited, each client at the moment that the club's
+//! clock shows. `Databases` is the trait by which it and the office open a database.
 #![tactic(auto)]
 
 mod between;
@@ -20,7 +20,7 @@ mod timed;
 pub use between::{Handover, Waits, receive_between};
 pub use connections::{Accepted, Arrival, Arrivals, Connection};
 pub use databases::{Databases, Door, Reached, Visit};
-pub use door::{GREETING, Handed, MAX_ORDER_LEN, answer_order, read_order};
+pub use door::{GREETING, Handed, MAX_COMMAND_LEN, answer_command, read_command};
 pub use limit::{Limit, MonotonicClock};
 pub use listening::Listening;
 pub use log::{Fate, Log, LogLines, Unlogged};

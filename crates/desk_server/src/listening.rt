@@ -1,8 +1,8 @@
-//! The listeners of a server: clients come over TCP, and orders of the office by its door.
+//! The listeners of a server: clients come over TCP, and commands of the office by its door.
 
 use crate::connections::{Accepted, Arrival, Arrivals};
 use crate::door::Handed;
-use crate::stream::{ClientSocket, order_is_next};
+use crate::stream::{ClientSocket, command_is_next};
 use std::cell::Cell;
 use std::io::ErrorKind;
 use std::net::TcpListener;
@@ -21,19 +21,19 @@ const NO_DESCRIPTOR: RawFd = -1;
 /// The time of a wait without an end, as `poll` takes it.
 const NO_END: i32 = -1;
 
-/// A client of a listener, or an order that came by a door.
+/// A client of a listener, or a command that came by a door.
 type Arrived<'a, C> = Arrival<Accepted<'a, ClientSocket<'a, C>, C>, Handed<'a, C>>;
 
-/// Clients of a listener and, if there is a door, orders of the office, each with the same
-/// patience. Where both wait they take turns.
+/// Clients of a listener and, if there is a door, commands of the office, each with the same
+/// patience. If both wait they take turns.
 #[derive(Drop)]
 pub struct Listening<'a, C> {
     clients: &'a TcpListener,
     door: Option<&'a UnixListener>,
     clock: &'a C,
     patience: Duration,
-    // whether an order goes before a client
-    order_first: Cell<bool>,
+    // whether a command goes before a client
+    command_first: Cell<bool>,
     waited: u64,
     failures: u64,
 }
@@ -56,13 +56,13 @@ impl<'a, C: Clock> Listening<'a, C> {
             door,
             clock,
             patience,
-            order_first: Cell::new(true),
+            command_first: Cell::new(true),
             waited: 0,
             failures: 0,
         }
     }
 
-    // Waits until an order or a client is there. A connection that was gone before it was accepted
+    // Waits until a command or a client is there. A connection that was gone before it was accepted
     // is waited for no more.
     fn wait(&self) -> Arrived<'a, C> {
         let door = match self.door {
@@ -71,11 +71,12 @@ impl<'a, C: Clock> Listening<'a, C> {
         };
         let clients = self.clients.as_raw_fd();
         for _ in 0..u64::MAX {
-            let Some(order) = order_is_next(door, clients, NO_END, self.order_first.get()) else {
+            let Some(command) = command_is_next(door, clients, NO_END, self.command_first.get())
+            else {
                 return Arrival::Nobody;
             };
-            self.order_first.set(!order);
-            match self.take(order) {
+            self.command_first.set(!command);
+            match self.take(command) {
                 Ok(arrival) => return arrival,
                 Err(error) if error.kind() == ErrorKind::WouldBlock => {}
                 Err(_) => return Arrival::Nobody,
@@ -84,12 +85,12 @@ impl<'a, C: Clock> Listening<'a, C> {
         Arrival::Nobody
     }
 
-    // Accepts an order, or a client.
-    fn take(&self, order: bool) -> io::Result<Arrived<'a, C>> {
+    // Accepts a command, or a client.
+    fn take(&self, command: bool) -> io::Result<Arrived<'a, C>> {
         match self.door {
-            Some(door) if order => {
+            Some(door) if command => {
                 let handed = Handed::accept(door, self.clock, self.patience)?;
-                Ok(Arrival::Order(handed))
+                Ok(Arrival::Command(handed))
             }
             _ => {
                 let (stream, _) = self.clients.accept()?;
@@ -104,7 +105,7 @@ impl<'a, C: Clock> Listening<'a, C> {
 impl<'a, C: Clock> Arrivals for Listening<'a, C> {
     type Client = Accepted<'a, ClientSocket<'a, C>, C>;
 
-    type Order = Handed<'a, C>;
+    type Command = Handed<'a, C>;
 
     ghost waited = { λ listening. listening.waited };
 

@@ -12,7 +12,7 @@ use club_values::Moment;
 use http_response::{Line, status_of};
 use std::time::{Clock, Instant};
 
-/// The word of an order, in place of a method.
+/// The word of a command, in place of a method.
 const OFFICE: &[u8] = b"office";
 
 /// What became of an arrival.
@@ -20,12 +20,12 @@ const OFFICE: &[u8] = b"office";
 pub enum Fate {
     /// Waiting failed.
     Absent,
-    /// More orders came than a u64 counts: a client counts that never came.
+    /// More commands came than a u64 counts: a client counts that never came.
     Overrun,
     /// A client's connection was closed unanswered, since the clock showed no moment of the club's.
     Unanswered,
-    /// A connection of the office, at this moment: its order was carried out, or none came whole.
-    Ordered {
+    /// A connection of the office, at this moment: its command was carried out, or none came whole.
+    Commanded {
         moment: Option<Moment>,
         carried: Option<Carried>,
     },
@@ -38,8 +38,8 @@ pub enum Fate {
     },
 }
 
-/// A log of clients and orders. It is called as each begins and ends, and changes nothing of the
-/// outcome. Orders that come while a client's request is awaited begin and end within the client.
+/// A log of clients and commands. It is called as each begins and ends, and changes nothing of the
+/// outcome. Commands that come while a client's request is awaited begin and end within the client.
 pub trait Log {
     ghost use Rattle.desk_server.specs.Served.{Notes};
 
@@ -49,7 +49,7 @@ pub trait Log {
     // the log before and after a call of `note`
     ghost notes: { Notes Self };
 
-    /// Notes that a client or an order was accepted.
+    /// Notes that a client or a command was accepted.
     fn begin(&mut self)
         ensures { begins self.old self.new };
 
@@ -74,8 +74,8 @@ impl Log for Unlogged {
 
 /// Writes a line for each client: the moment, the method, the path, the status of the reply and the
 /// microseconds that it took, with spaces between them. A dash replaces a missing value and the
-/// status of a reply that wasn't written whole. The line of an order has the moment, `office`, the
-/// command's name, its exit status and the microseconds. If the writer fails, the server goes on.
+/// status of a reply that wasn't written whole. The line of a command has the moment, `office`, its
+/// name, its exit status and the microseconds. If the writer fails, the server goes on.
 #[derive(Drop)]
 pub struct LogLines<'a, W, C> {
     /// What the lines are written to.
@@ -141,7 +141,7 @@ fn line_of(fate: &Fate, microseconds: u64) -> Line
         Fate::Absent | Fate::Overrun | Fate::Unanswered => {
             words(&None, None, None, None, microseconds)
         }
-        Fate::Ordered { moment, carried } => match carried {
+        Fate::Commanded { moment, carried } => match carried {
             Some(carried) => {
                 let status = Some(u16::from(carried.status));
                 words(

@@ -1,9 +1,9 @@
-//! Orders of the office, at the desk that a server serves.
+//! Commands of the office, at the desk that a server serves.
 
 use crate::request_line::RequestLine;
 use club_http::Responder;
 
-/// What a log shows of an order that was carried out.
+/// What a log shows of a command that was carried out.
 #[derive(Drop)]
 pub struct Carried {
     /// The first bytes of a line whose second word is the command's name.
@@ -12,7 +12,7 @@ pub struct Carried {
     pub status: u8,
 }
 
-/// The answer to an order.
+/// The answer to a command.
 #[derive(Drop)]
 pub struct Answer {
     pub carried: Carried,
@@ -20,14 +20,14 @@ pub struct Answer {
     pub text: String,
 }
 
-/// A responder that carries out orders of the office, too.
+/// A responder that carries out commands of the office, too.
 pub trait Office: Responder {
-    ghost use Rattle.desk_server.specs.Served.{Orders};
+    ghost use Rattle.desk_server.specs.Served.{CommandRelation};
 
-    // what it may do with the bytes of an order
-    ghost orders: { Orders Self };
+    // what it may do with the bytes of a command
+    ghost commands: { CommandRelation Self };
 
-    /// Carries out the order that the bytes spell. Bytes that spell none change nothing.
-    fn order(&mut self, bytes: &[u8]) -> Answer
-        ensures { orders bytes.now self.old result self.new };
+    /// Carries out the command that the bytes spell. Bytes that spell none change nothing.
+    fn command(&mut self, bytes: &[u8]) -> Answer
+        ensures { commands bytes.now self.old result self.new };
 }

@@ -28,11 +28,11 @@ impl fmt::Display for ClockOutOfRange {
 
 impl Error for ClockOutOfRange {}
 
-/// Serves this many clients, one after the other, and carries out each order of the office that
+/// Serves this many clients, one after the other, and carries out each command of the office that
 /// comes before one of them, or while its request is awaited. A client gets the moment of the clock
 /// at its start. One that fails, on its way or in its exchange, counts like any other, and so does
-/// one whose request was refused. Orders don't count. Each client and each order is logged, which
-/// changes nothing of what is served.
+/// one whose request was refused. Commands don't count. Each client and each command is logged,
+/// which changes nothing of what is served.
 ///
 /// # Errors
 ///
@@ -46,22 +46,22 @@ pub fn serve_logged<L: Arrivals, M: Moments, D: Office, G: Log>(
     desk: &mut D,
     log: &mut G,
 ) -> Result<(), ClockOutOfRange>
-    ensures { ServesLogged M.gives G.begins G.notes D.answers D.orders L.Client.ends
+    ensures { ServesLogged M.gives G.begins G.notes D.answers D.commands L.Client.ends
         L.waited L.failures count arrivals.old moments.old desk.old log.old
         result arrivals.new moments.new desk.new log.new }
 {
     let mut served = 0;
-    let mut ordered = 0;
+    let mut commanded = 0;
     while served < count {
-        if ordered == u64::MAX {
+        if commanded == u64::MAX {
             log.note(&Fate::Overrun);
             served += 1;
             continue;
         }
         match arrivals.next() {
-            Arrival::Order(order) => {
-                carry_out(order, moments, desk, log);
-                ordered += 1;
+            Arrival::Command(command) => {
+                carry_out(command, moments, desk, log);
+                commanded += 1;
             }
             Arrival::Client(mut client) => {
                 log.begin();

@@ -16,26 +16,26 @@ use std::time::Duration;
 /// How a wait for a client and for the office ended.
 #[derive(Drop)]
 pub enum Woken<O> {
-    /// An order came.
-    Order(O),
+    /// A command came.
+    Command(O),
     /// The client is to be read: its bytes or its end are there, the time is over, or waiting
     /// failed.
     Client,
-    /// An order came that was gone before it was accepted.
+    /// A command came that was gone before it was accepted.
     Nobody,
 }
 
 /// A client's stream, with the office's door beside it. No contract states which bytes it gives or
-/// takes, nor which orders come.
+/// takes, nor which commands come.
 pub trait ClientStream {
     ghost use Rattle.std.specs.Prelude.{◌≤◌, length, IfSome};
     ghost use Rattle.desk_server.specs.Limits.{moved};
 
-    type Order: Handover + Drop;
+    type Command: Handover + Drop;
 
-    /// Waits at most this long for the client and for the office at once. Where both are there, it
+    /// Waits at most this long for the client and for the office at once. If both are there, it
     /// says whose turn it is.
-    fn wait_within(&self, limit: Duration, order_first: bool) -> Woken<Self::Order>;
+    fn wait_within(&self, limit: Duration, command_first: bool) -> Woken<Self::Command>;
 
     /// Reads as `TimedStream::read_within`.
     fn read_for(&self, limit: Duration, room: &mut [u8]) -> Waited
@@ -70,7 +70,7 @@ impl<S: ClientStream> TimedStream for &S {
     }
 }
 
-/// A client's socket, with the office's door beside it, if there is one. Its orders have the same
+/// A client's socket, with the office's door beside it, if there is one. Its commands have the same
 /// patience.
 #[derive(Drop)]
 pub struct ClientSocket<'a, C> {
@@ -101,21 +101,21 @@ impl<'a, C: MonotonicClock> ClientSocket<'a, C> {
 }
 
 impl<'a, C: MonotonicClock> ClientStream for ClientSocket<'a, C> {
-    type Order = Handed<'a, C>;
+    type Command = Handed<'a, C>;
 
-    fn wait_within(&self, limit: Duration, order_first: bool) -> Woken<Handed<'a, C>> {
+    fn wait_within(&self, limit: Duration, command_first: bool) -> Woken<Handed<'a, C>> {
         let Some(door) = self.door else {
             return Woken::Client;
         };
         let client = self.stream.as_raw_fd();
-        match order_is_next(
+        match command_is_next(
             door.as_raw_fd(),
             client,
             milliseconds_of(limit),
-            order_first,
+            command_first,
         ) {
             Some(true) => match Handed::accept(door, self.clock, self.patience) {
-                Ok(handed) => Woken::Order(handed),
+                Ok(handed) => Woken::Command(handed),
                 Err(error) if error.kind() == ErrorKind::WouldBlock => Woken::Nobody,
                 Err(_) => Woken::Client,
             },
@@ -151,21 +151,21 @@ impl<'a, C: MonotonicClock> ClientStream for ClientSocket<'a, C> {
     }
 }
 
-/// Waits for an order at a door and for a client, at most so many milliseconds, or without end for
-/// -1. Returns whether the order goes first; `None` if neither came, or waiting failed.
-pub(crate) fn order_is_next(
+/// Waits for a command at a door and for a client, at most so many milliseconds, or without end for
+/// -1. Returns whether the command goes first; `None` if neither came, or waiting failed.
+pub(crate) fn command_is_next(
     door: RawFd,
     client: RawFd,
     milliseconds: i32,
-    order_first: bool,
+    command_first: bool,
 ) -> Option<bool> {
     let mut asked = [waits_for(door), waits_for(client)];
     if c::poll(&mut asked, milliseconds) <= 0 {
         return None;
     }
-    let order = asked[0].revents != 0;
+    let command = asked[0].revents != 0;
     let client = asked[1].revents != 0;
-    Some(order && (order_first || !client))
+    Some(command && (command_first || !client))
 }
 
 // What `poll` is asked to wait for: the bytes of a descriptor, or its next connection.

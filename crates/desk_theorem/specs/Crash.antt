@@ -25,7 +25,7 @@ pub record RecoversOne (state : State) (clubs : List Club) (events : List machin
   pub represents : Represents state club []
   pub again : RepeatsServedReplies club events returned
 
--- A store that is opened on what a crash left of another one's files, where that could recover to these clubs, recovers exactly one of them.
+-- A store that is opened on what a crash left of another one's files, if that could recover to these clubs, recovers exactly one of them.
 abbrev pub SurvivesCrash : {D E : Type 0} {d : disk.Ghosts D} {e : disk.Ghosts E} → FileStore D d → Held (FileStore E e) → List Club
     → List machine.Event → List DeskResponse → Type 0
 SurvivesCrash before after clubs events returned =

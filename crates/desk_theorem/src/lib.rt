@@ -1,4 +1,4 @@
-//! The law of the desk and its tables together: the responses to any list of orders and requests
+//! The law of the desk and its tables together: the responses to any list of commands and requests
 //! from an empty database, the reply to a request after it, and what a crash leaves.
 #![tactic(auto)]
 

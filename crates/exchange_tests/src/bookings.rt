@@ -12,7 +12,7 @@ use club_gate::Fault;
 use test_kit::moments::{BEFORE_START, BEGUN, DAY_AHEAD, LATER, NOON, START};
 use test_kit::passes::{AMY, BOB, CY};
 use test_kit::roots::ROOT;
-use test_kit::{COURT_AT_18, Order};
+use test_kit::{COURT_AT_18, PlainCommand};
 
 const CONFLICT: &str = "409 Conflict";
 
@@ -167,11 +167,11 @@ const BALANCE_TOO_LOW: HttpReply<'static> = HttpReply::Refused(
 );
 
 static LIMITS: [Step; 9] = [
-    Step::Orders(Order::AddMember("cy", 1), None),
-    Step::Orders(Order::Credit("cy", 100), None),
-    Step::Orders(Order::AddKey("cy-1", "cy", ROOT), None),
-    Step::Orders(Order::AddMember("di", 0), None),
-    Step::Orders(Order::AddKey("di-1", "di", ROOT), None),
+    Step::Gives(PlainCommand::AddMember("cy", 1), None),
+    Step::Gives(PlainCommand::Credit("cy", 100), None),
+    Step::Gives(PlainCommand::AddKey("cy-1", "cy", ROOT), None),
+    Step::Gives(PlainCommand::AddMember("di", 0), None),
+    Step::Gives(PlainCommand::AddKey("di-1", "di", ROOT), None),
     Step::Asks(NOON, &AMY, &BOOK_7, &BOOKED_7),
     Step::Asks(NOON, &BOB, &BOOK_2_FOR_TWO, &NO_PLACES),
     Step::Asks(NOON, &CY, &BOOK_2, &BALANCE_TOO_LOW),
@@ -191,15 +191,15 @@ const CLOSED: HttpReply<'static> = HttpReply::Refused(
 
 static CLOSES: [Step; 7] = [
     Step::Asks(NOON, &AMY, &BOOK_7, &BOOKED_7),
-    Step::Orders(
-        Order::CloseSlot(COURT_AT_18),
+    Step::Gives(
+        PlainCommand::CloseSlot(COURT_AT_18),
         Some(Fault::Refused(OfficeFault::SlotInUse)),
     ),
     Step::Asks(NOON, &AMY, &VIEW, &TAKEN),
     Step::Asks(NOON, &AMY, &CANCEL_7, &CANCELLED_7),
-    Step::Orders(Order::CloseSlot(COURT_AT_18), None),
-    Step::Orders(
-        Order::CloseSlot(COURT_AT_18),
+    Step::Gives(PlainCommand::CloseSlot(COURT_AT_18), None),
+    Step::Gives(
+        PlainCommand::CloseSlot(COURT_AT_18),
         Some(Fault::Refused(OfficeFault::Exists)),
     ),
     Step::Asks(NOON, &AMY, &BOOK_8, &CLOSED),

@@ -8,7 +8,7 @@ use std::io::{self, ErrorKind, Read, Write};
 /// More bytes than any request has.
 pub(crate) const WHOLE: usize = 65_536;
 
-/// Gives a request, at most so many bytes a call. Behind its end it gives none, or fails.
+/// Gives a request, at most so many bytes a call. After its end it gives none, or fails.
 #[derive(Drop)]
 pub(crate) struct Giver<'a> {
     pub left: &'a [u8],
@@ -28,7 +28,7 @@ impl<'a> Giver<'a> {
         }
     }
 
-    /// Fails where more is wanted than these bytes.
+    /// Fails if more is wanted than these bytes.
     pub fn failing(bytes: &'a [u8], step: usize) -> Giver<'a> {
         Giver {
             left: bytes,
@@ -53,7 +53,7 @@ impl Read for Giver<'_> {
     }
 }
 
-/// Takes a reply, at most so many bytes a call. Where its limit is reached it fails, or takes none.
+/// Takes a reply, at most so many bytes a call. If its limit is reached it fails, or takes none.
 #[derive(Drop)]
 pub(crate) struct Taker {
     bytes: [u8; MAX_REPLY_LEN],

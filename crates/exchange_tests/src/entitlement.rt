@@ -14,7 +14,7 @@ use club_gate::Fault;
 use test_kit::moments::{BEFORE_UNTIL, NOON, UNTIL};
 use test_kit::passes::AMY;
 use test_kit::roots::{ROOT, SECOND_ROOT, THIRD_ROOT};
-use test_kit::{Order, minutes};
+use test_kit::{PlainCommand, minutes};
 
 const KEY_REVOKED: HttpReply<'static> = HttpReply::Refused(
     "403 Forbidden",
@@ -26,7 +26,7 @@ static VERIFIES: [Step; 6] = [
     Step::Asks(NOON, &STRANGER, &ACCOUNT, &NOT_VERIFIED),
     Step::Asks(NOON, &CHANGED, &ACCOUNT, &NOT_VERIFIED),
     Step::Asks(NOON, &UNNAMED, &ACCOUNT, &NOT_VERIFIED),
-    Step::Orders(Order::RevokeKey("amy-1"), None),
+    Step::Gives(PlainCommand::RevokeKey("amy-1"), None),
     Step::Asks(NOON, &AMY, &ACCOUNT, &KEY_REVOKED),
     Step::Asks(NOON, &CHANGED, &ACCOUNT, &NOT_VERIFIED),
 ];
@@ -108,7 +108,10 @@ fn tests_weekdays(rt: HostRuntime) {
 /// A key's older root is good until its moment, and not from it on.
 static ROTATES: [Step; 6] = [
     Step::Asks(NOON, &AMY, &BOOK_7, &BOOKED_7),
-    Step::Orders(Order::RotateKey("amy-1", SECOND_ROOT, minutes::UNTIL), None),
+    Step::Gives(
+        PlainCommand::RotateKey("amy-1", SECOND_ROOT, minutes::UNTIL),
+        None,
+    ),
     Step::Asks(BEFORE_UNTIL, &AMY, &ACCOUNT, &ACCOUNT_AFTER),
     Step::Asks(UNTIL, &AMY, &ACCOUNT, &NOT_VERIFIED),
     Step::Asks(UNTIL, &RENEWED, &BOOK_7, &BOOKED_7),
@@ -117,21 +120,30 @@ static ROTATES: [Step; 6] = [
 
 static ROTATES_AT_ONCE: [Step; 4] = [
     Step::Asks(NOON, &AMY, &ACCOUNT, &ACCOUNT_BEFORE),
-    Step::Orders(Order::RotateKey("amy-1", SECOND_ROOT, minutes::FIRST), None),
+    Step::Gives(
+        PlainCommand::RotateKey("amy-1", SECOND_ROOT, minutes::FIRST),
+        None,
+    ),
     Step::Asks(NOON, &AMY, &ACCOUNT, &NOT_VERIFIED),
-    Step::Orders(
-        Order::RotateKey("amy-1", SECOND_ROOT, minutes::LAST),
+    Step::Gives(
+        PlainCommand::RotateKey("amy-1", SECOND_ROOT, minutes::LAST),
         Some(Fault::Refused(OfficeFault::Exists)),
     ),
 ];
 
 static ROTATES_TWICE: [Step; 4] = [
-    Step::Orders(
-        Order::RotateKey("amy-1", ROOT, minutes::LAST),
+    Step::Gives(
+        PlainCommand::RotateKey("amy-1", ROOT, minutes::LAST),
         Some(Fault::Refused(OfficeFault::Exists)),
     ),
-    Step::Orders(Order::RotateKey("amy-1", SECOND_ROOT, minutes::LAST), None),
-    Step::Orders(Order::RotateKey("amy-1", THIRD_ROOT, minutes::LAST), None),
+    Step::Gives(
+        PlainCommand::RotateKey("amy-1", SECOND_ROOT, minutes::LAST),
+        None,
+    ),
+    Step::Gives(
+        PlainCommand::RotateKey("amy-1", THIRD_ROOT, minutes::LAST),
+        None,
+    ),
     Step::Asks(NOON, &AMY, &ACCOUNT, &NOT_VERIFIED),
 ];
 

@@ -69,7 +69,7 @@ fn reads_no_further_than_the_request(rt: HostRuntime) {
     }
 }
 
-/// So many bytes behind the booking, and how many of them stay with a reader that gives all.
+/// So many bytes after the booking, and how many of them stay with a reader that gives all.
 struct Behind(usize, usize);
 
 static BEHIND: [Behind; 3] = [Behind(1, 0), Behind(1_000, 0), Behind(100_000, 83_563)];

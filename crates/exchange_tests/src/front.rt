@@ -14,7 +14,7 @@ use club_values::Moment;
 use pass_forms::Form;
 use std::alloc::Global;
 use std::process::Abort;
-use test_kit::{FIXTURE, Order};
+use test_kit::{FIXTURE, PlainCommand};
 
 /// A desk behind its face.
 #[derive(Drop)]
@@ -27,7 +27,7 @@ pub(crate) fn moment(rt: &impl Abort, text: &str) -> Moment {
     Moment::read(text.as_bytes()).expect(rt, "a moment")
 }
 
-/// Why the office's command is refused; `None` where it is done.
+/// Why the office's command is refused; `None` if it is done.
 fn refusal<S: ClubStore>(desk: &mut Desk<S>, command: &Command) -> Option<Fault> {
     match desk.office(command) {
         OfficeReply::Refused(fault) => Some(fault),
@@ -64,16 +64,16 @@ pub(crate) fn play(rt: &(impl Abort + Alloc<A = Global>), scene: &impl Scene) {
 }
 
 impl<S: ClubStore> Front<S> {
-    /// Ends the test unless these orders are done.
-    fn carries_out(&mut self, rt: &impl Abort, orders: &[Order]) {
-        for order in orders {
-            self.refuses(rt, order, &None);
+    /// Ends the test unless these commands are done.
+    fn carries_out(&mut self, rt: &impl Abort, commands: &[PlainCommand]) {
+        for plain in commands {
+            self.refuses(rt, plain, &None);
         }
     }
 
-    /// Ends the test unless the office's order is refused so; where it is `None`, done.
-    fn refuses(&mut self, rt: &impl Abort, order: &Order, fault: &Option<Fault>) {
-        let command = order.command().expect(rt, "an order");
+    /// Ends the test unless the office's command is refused so; if it is `None`, done.
+    fn refuses(&mut self, rt: &impl Abort, plain: &PlainCommand, fault: &Option<Fault>) {
+        let command = plain.command().expect(rt, "a command");
         expect_eq(rt, &refusal(&mut self.desk, &command), fault);
     }
 
@@ -137,7 +137,7 @@ impl<S: ClubStore> Front<S> {
             Step::Asks(at, texts, asked, returned) => {
                 self.answers(rt, at, text_in(texts, form), asked, returned);
             }
-            Step::Orders(order, fault) => self.refuses(rt, order, fault),
+            Step::Gives(plain, fault) => self.refuses(rt, plain, fault),
         }
     }
 

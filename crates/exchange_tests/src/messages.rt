@@ -3,7 +3,7 @@
 use club_gate::Fault;
 use std::alloc::Global;
 use std::process::Abort;
-use test_kit::Order;
+use test_kit::PlainCommand;
 use test_kit::moments::NOON;
 use test_kit::passes::{AMY, PassTexts};
 
@@ -26,8 +26,8 @@ pub(crate) enum HttpReply<'a> {
 pub(crate) enum Step {
     /// A request at a moment under a pass, and its reply.
     Asks(&'static str, &'static PassTexts, &'static Asked<'static>, &'static HttpReply<'static>),
-    /// An order of the office; it is done, or refused with this fault.
-    Orders(Order, Option<Fault>),
+    /// A command of the office; it is done, or refused with this fault.
+    Gives(PlainCommand, Option<Fault>),
 }
 
 impl Asked<'_> {

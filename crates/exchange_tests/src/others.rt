@@ -10,7 +10,7 @@ use club_core::ClubStore;
 use pass_forms::Form;
 use std::alloc::Global;
 use std::process::Abort;
-use test_kit::Order;
+use test_kit::PlainCommand;
 use test_kit::moments::NOON;
 use test_kit::passes::{AMY, BOB, CY};
 use test_kit::roots::ROOT;
@@ -41,15 +41,15 @@ static BESIDE_BOB: [Step; 4] = [
 ];
 
 static BEFORE_CY: [Step; 4] = [
-    Step::Orders(Order::AddMember("cy", 20), None),
-    Step::Orders(Order::Credit("cy", 20_000), None),
-    Step::Orders(Order::AddKey("cy-1", "cy", ROOT), None),
-    Step::Orders(Order::AddKey("bob-2", "bob", ROOT), None),
+    Step::Gives(PlainCommand::AddMember("cy", 20), None),
+    Step::Gives(PlainCommand::Credit("cy", 20_000), None),
+    Step::Gives(PlainCommand::AddKey("cy-1", "cy", ROOT), None),
+    Step::Gives(PlainCommand::AddKey("bob-2", "bob", ROOT), None),
 ];
 
 static BEHIND_CY: [Step; 2] = [
-    Step::Orders(Order::Credit("bob", 500), None),
-    Step::Orders(Order::RevokeKey("bob-1"), None),
+    Step::Gives(PlainCommand::Credit("bob", 500), None),
+    Step::Gives(PlainCommand::RevokeKey("bob-1"), None),
 ];
 
 /// The request of a place in `court-1` on a day of May under a number of two digits.

@@ -45,11 +45,11 @@ no_piece bytes piece rest cut parts none =
     let yes = cut.ends in
     cc
 
--- no frame where no piece is
+-- no frame if no piece is
 pub no_frame : (bytes : List ℕ) → HasNoPiece bytes → (head : RequestHead) (body : List ℕ) → ¬ (IsFramed bytes head body)
 no_frame bytes none head body frame = no_piece bytes frame.piece (body ++ frame.after) frame.cut frame.parts none
 
--- nor where the piece is refused
+-- nor if the piece is refused
 pub refused_frame : (bytes : List ℕ) → IsRefusedHead bytes → (head : RequestHead) (body : List ℕ) → ¬ (IsFramed bytes head body)
 refused_frame bytes refused head body frame =
     let same = one_piece frame.piece refused.piece (body ++ frame.after) refused.rest (sym frame.parts ∙ refused.parts) frame.cut refused.cut in
@@ -63,7 +63,7 @@ same_asked piece head other n m asks again =
     let first = asks.requests in
     (same, cc)
 
--- nor where the body is cut
+-- nor if the body is cut
 pub cut_frame : (bytes piece rest : List ℕ) (head : RequestHead) (n : ℕ) → IsPiece piece → bytes ≡ piece ++ rest → AsksForBody piece head n → length rest < n
     → (other : RequestHead) (body : List ℕ) → ¬ (IsFramed bytes other body)
 cut_frame bytes piece rest head n cut parts asks short other body frame =

@@ -83,13 +83,13 @@ not_at (suc n) (b ∷ part) none = not_at n part (no_slash b part none).1
 cuts_no_slash : (part : List ℕ) → has_slash part ≡ false → cuts part (47 ∷ []) ≡ false
 cuts_no_slash part none = and_right _ _ (not_at (length part - 1) part none)
 
--- what a parameter takes of a part and a slash, where each row goes on with a slash
+-- what a parameter takes of a part and a slash, if each row goes on with a slash
 pub takes_two : {K : Type 0} (t s : List ℕ) (k j : K) (part rest : List ℕ) → 0 < length part → has_slash part ≡ false
     → param_step ((47 ∷ t, k) ∷ (47 ∷ s, j) ∷ []) (part ++ 47 ∷ rest) ≡ (length part, (47 ∷ t, k) ∷ (47 ∷ s, j) ∷ [])
 unfolding param_step
 takes_two t s k j part rest some none = rw (segment_of part rest none, cuts_slash part some, one_less part) refl
 
--- where one row goes on with a slash, and one ends
+-- if one row goes on with a slash, and one ends
 pub takes_one : {K : Type 0} (t : List ℕ) (k j : K) (part rest : List ℕ) → 0 < length part → has_slash part ≡ false
     → param_step ((47 ∷ t, k) ∷ ([], j) ∷ []) (part ++ 47 ∷ rest) ≡ (length part, (47 ∷ t, k) ∷ [])
 unfolding param_step

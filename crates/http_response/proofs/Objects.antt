@@ -3,7 +3,7 @@ use Rattle.std.proofs.Common.{◌≡◌, ℕ, List, [], ◌∷◌, ◌++◌, cod
 use Rattle.std.proofs.lemmas.List.{append-nil}
 use Rattle.http_response.specs.Body.{Member, member_text, object_text}
 
--- a text, and behind it the next members
+-- a text, and after it the next members
 abbrev pub written : List ℕ → List Member → List ℕ
 written line [] = line
 written line (member ∷ members) = written (line ++ codes "," ++ member_text member) members

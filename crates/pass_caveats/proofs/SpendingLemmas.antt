@@ -1,4 +1,4 @@
--- What was spent before changes the first fault of a list only under a spend limit, and only where something is owed.
+-- What was spent before changes the first fault of a list only under a spend limit, and only if something is owed.
 use Rattle.std.proofs.Common.{◌≡◌, ℕ, zero, suc, ◌+◌, ◌-◌, ◌≤◌, ◌==◌, ◌||◌, true, false, cond, nat_le, List, [], ◌∷◌, ◌<◌}
 use Rattle.std.proofs.Common.{Option, Some, None, refl, subst, ◌∙◌, arith}
 use Rattle.std.specs.Prelude.{All, IfSome}

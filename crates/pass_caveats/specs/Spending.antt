@@ -27,7 +27,7 @@ LimitsNoMore =
     → first_fault_of caveats (after_spending most ask) ≡ first_fault_of caveats (after_spending 0 ask)
     → first_fault_of caveats (after_spending spent ask) ≡ first_fault_of caveats (after_spending 0 ask)
 
--- what is left of a spend limit for earlier spending, if the charge alone is within it; no bound where the caveat limits nothing
+-- what is left of a spend limit for earlier spending, if the charge alone is within it; no bound if the caveat limits nothing
 abbrev pub slack_under : Caveat → Ask → Option ℕ
 slack_under (Spend n) ask = if ask.owed == 0 then None else Some (n - ask.owed)
 slack_under caveat ask = None

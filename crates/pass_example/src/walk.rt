@@ -79,7 +79,7 @@ fn output_of(alloc: Global, words: &[&str], input: &str) -> anyhow::Result<Strin
     }
 }
 
-// The words as a shell takes them, with quotes where a word has a space.
+// The words as a shell takes them, with quotes if a word has a space.
 fn command_line(alloc: Global, words: &[&str]) -> anyhow::Result<String> {
     let mut line = String::new(alloc);
     for (index, word) in words.iter().enumerate() {

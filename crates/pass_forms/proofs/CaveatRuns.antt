@@ -36,13 +36,13 @@ keeps_all count third_party rest left whole ended kept =
     record { count_is = omega (arith, known.count_is); any = sym (or-false third_party) ∙ known.any; after = known.after }
 
 module _ (at : Reader) where
-  -- the caveats that follow, where one does
+  -- the caveats that follow, if one does
   one_more : (fuel less : ℕ) (rest : List ℕ) (found : WideCaveat × List ℕ) → fuel ≡ suc less → at rest ≡ Some found →
       caveats_at at fuel rest ≡ (found.0 ∷ (caveats_at at less found.1).0, (caveats_at at less found.1).1)
   unfolding caveats_at
   one_more fuel less rest found e is_found = rw (e, is_found) refl
 
-  -- and where none does
+  -- and if none does
   none_follow : (fuel : ℕ) (rest : List ℕ) → option_map summary None ≡ option_map summary (at rest) → caveats_at at fuel rest ≡ ([], rest)
   unfolding caveats_at
   none_follow zero rest content = refl
@@ -60,7 +60,7 @@ module _ (at : Reader) where
 
   -- ---- counting
 
-  -- Where no caveat follows, what was counted is the whole.
+  -- If no caveat follows, what was counted is the whole.
   pub none_left : (count : ℕ) (third_party : Bool) (rest : List ℕ) (fuel : ℕ) (whole : Run) → option_map summary None ≡ option_map summary (at rest) →
       Keeps count third_party (caveats_at at fuel rest) whole → Counts count third_party rest whole
   none_left count third_party rest fuel whole content kept =

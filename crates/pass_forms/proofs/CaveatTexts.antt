@@ -7,7 +7,7 @@ use Rattle.pass_forms.specs.computed.Caveats.{and_others, caveats_at}
 use Rattle.pass_forms.specs.Pass.{WideCaveat}
 use Rattle.pass_forms.proofs.CaveatRuns.{Reader}
 
--- A layout reads the texts of the caveats that fit it, where what follows ends a caveat.
+-- A layout reads the texts of the caveats that fit it, if what follows ends a caveat.
 pub record Exact (at : Reader) (text : WideCaveat → List ℕ) (Fits : WideCaveat → Type 0) (Ends : List ℕ → Type 0) : Type 0 where
   pub takes : (bytes : List ℕ) (found : WideCaveat × List ℕ) → at bytes ≡ Some found → (bytes ≡ text found.0 ++ found.1) × Fits found.0
   pub again : (caveat : WideCaveat) (rest : List ℕ) → Fits caveat → Ends rest → at (text caveat ++ rest) ≡ Some (caveat, rest)
@@ -52,7 +52,7 @@ module _ (at : Reader) (text : WideCaveat → List ℕ) (Fits : WideCaveat → T
       ap (caveats_at at (suc n)) (regrouped text caveat caveats rest)
       ∙ rw (exact.again caveat others fits.0 (caveats_end caveats rest fits.1 ends), caveats_again n caveats rest (omega arith) fits.1 ends none) refl
 
--- Where no caveat is without bytes, there are no more caveats than bytes.
+-- If no caveat is without bytes, there are no more caveats than bytes.
 pub caveats_fit : (text : WideCaveat → List ℕ) → ((caveat : WideCaveat) → 1 ≤ length (text caveat)) → (caveats : List WideCaveat) →
     length caveats ≤ length (flat_map text caveats)
 caveats_fit text long [] = omega arith

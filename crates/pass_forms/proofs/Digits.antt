@@ -24,7 +24,7 @@ digits_of_value x y z w hx hy hz hw =
     let fourth : value x y z w % 16 ≡ w = omega arith in
     rw (first, second, third, fourth) refl
 
--- the number that a step gave, where none was refused
+-- the number that a step gave, if none was refused
 pub bind_some : {A B : Type 0} (o : Option A) (f : A → Option B) (y : B) → (o >>= f) ≡ Some y → (x : A) × (o ≡ Some x) × (f x ≡ Some y)
 bind_some None f y e = absurd cc
 bind_some (Some x) f y e = (x, refl, e)

@@ -6,7 +6,7 @@ use Rattle.std.proofs.lemmas.List.{length-append}
 use Rattle.pass_forms.specs.Pass.{WideCaveat, widened_caveat}
 use Rattle.pass_forms.specs.Putting.{buffer_len}
 
--- the bytes of the caveats from the i-th on, where each has this text
+-- the bytes of the caveats from the i-th on, if each has this text
 abbrev pub left_from : (WideCaveat → List ℕ) → List (Vec ℕ Global) → ℕ → List ℕ
 left_from text caveats i = flat_map text (map widened_caveat (map (λ caveat. caveat.items) (drop i caveats)))
 

@@ -8,7 +8,7 @@ ghost use Rattle.pass_forms.specs.FieldSource.{caveat_field, signature_field};
 use crate::{Field, FieldSource};
 use pass_mac::{Chain, same};
 
-/// Whether a chain, extended by the caveats that a source has left, ends in the signature behind
+/// Whether a chain, extended by the caveats that a source has left, ends in the signature after
 /// them. A pass is signed if the chain is that of its identifier, and the source has yielded its
 /// location and its identifier.
 pub fn is_signed_by<'a, F: FieldSource<'a>>(mut chain: Chain, source: &mut F) -> bool

@@ -23,7 +23,7 @@ fn append(rt: &impl Abort, bytes: &mut Vec<u8>, piece: &Piece) {
     }
 }
 
-/// The pieces, one behind the other.
+/// The pieces, one after the other.
 pub(crate) fn join(rt: &(impl Abort + AllocGlobal), pieces: &[Piece]) -> Vec<u8> {
     let mut bytes = Vec::new(rt.alloc());
     for piece in pieces {

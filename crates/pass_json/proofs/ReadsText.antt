@@ -1,4 +1,4 @@
--- The text of a value is read back as the value, and is UTF-8 where its strings are.
+-- The text of a value is read back as the value, and is UTF-8 if its strings are.
 use Rattle.std.proofs.Common.{◌≡◌, ℕ, ◌≤◌, ◌++◌, Bool, true, false, List, [], ◌∷◌, Option, option_and_then, refl, sym, ap, subst, ◌∙◌, append-nil, append_assoc}
 use Rattle.std.specs.Str.{IsUtf8}
 use Rattle.std.proofs.lemmas.Str.{IsUtf8-append}

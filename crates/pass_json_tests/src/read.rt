@@ -95,7 +95,7 @@ fn reads_passes(rt: HostRuntime) {
 
 const GUESTS: &[u8] = b"guests <= 1";
 
-// What may be as long, as deep or as many as here, and no more: a text with white space behind it;
+// What may be as long, as deep or as many as here, and no more: a text with white space after it;
 // arrays and objects in one another, of which `serde_json` reads 127, under a name whose last value
 // counts; caveats.
 static AT_THE_LIMITS: [Read; 3] = [

@@ -1,4 +1,4 @@
-//! Passes that are read and written in each form where an allocation is refused.
+//! Passes that are read and written in each form if an allocation is refused.
 //! `tests/refused_memory_tests.py` refuses each in turn, and none after it: a second call is given
 //! what it asks for.
 
@@ -8,7 +8,7 @@ use crate::rows::expect_eq;
 use pass_forms::{Form, FormFault, Pass};
 use std::process::Abort;
 
-// The form and the pass of a text, by the second call where the first is out of memory.
+// The form and the pass of a text, by the second call if the first is out of memory.
 fn read(rt: &(impl Abort + AllocGlobal), text: &str) -> (Form, Pass) {
     let found = match read_any(rt.alloc(), text.as_bytes()) {
         Err(FormFault::Memory) => read_any(rt.alloc(), text.as_bytes()),
@@ -17,7 +17,7 @@ fn read(rt: &(impl Abort + AllocGlobal), text: &str) -> (Form, Pass) {
     found.expect(rt, "a pass")
 }
 
-// The text of a pass, by the second call where the first is out of memory.
+// The text of a pass, by the second call if the first is out of memory.
 fn written_text(rt: &(impl Abort + AllocGlobal), form: Form, pass: &Pass) -> String {
     let text = match write_any(rt.alloc(), form, pass) {
         Err(FormFault::Memory) => write_any(rt.alloc(), form, pass),

@@ -24,7 +24,7 @@ fn append(rt: &impl Abort, text: &mut String, piece: &Piece) {
     }
 }
 
-/// The pieces, one behind the other.
+/// The pieces, one after the other.
 pub(crate) fn join(rt: &(impl Abort + AllocGlobal), pieces: &[Piece]) -> String {
     let mut text = String::new(rt.alloc());
     for piece in pieces {

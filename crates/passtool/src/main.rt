@@ -2,7 +2,7 @@
 //! and standard output.
 #![tactic(auto)]
 
-use command_line::given_words;
+use command_line::given_arguments;
 pub use passtool_commands::run;
 use passtool_commands::{BadValue, Fault, Name, Outcome};
 use std::process::ExitCode;
@@ -20,10 +20,10 @@ fn main(rt: HostRuntime) -> ExitCode {
 
 // Runs on the process's arguments, standard input and standard output.
 fn run_here(rt: &HostRuntime) -> Result<Outcome, Fault> {
-    let words = given_words::<HostRuntime, Name, BadValue>(rt)?;
+    let arguments = given_arguments::<HostRuntime, Name, BadValue>(rt)?;
     run(
         rt.alloc(),
-        words.as_slice(),
+        arguments.as_slice(),
         &mut rt.stdin(),
         &mut rt.stdout(),
     )

@@ -4,12 +4,12 @@ use Rattle.std.proofs.Math.Path.{fun_ext}
 use Rattle.clap.specs.Words.{Row, Text}
 use Rattle.command_line.specs.Job.{Answers}
 use Rattle.command_line.specs.JobLaws.{RowsAnswerOnce, ReadsOnce}
-use Rattle.command_line.specs.declared.errors.WordsFault.{WordsFault}
+use Rattle.command_line.specs.declared.errors.ArgumentsFault.{ArgumentsFault}
 use Rattle.pass_caveats.specs.Laws.{ReadsWhatIsUnderstood}
 use Rattle.pass_caveats.specs.computed.CaveatOf.{caveat_of}
 use Rattle.pass_caveats.specs.declared.caveat.Caveat.{Caveat}
-use Rattle.passtool_commands.specs.Words.{IsCaveatTest, IsCaveatText, ReadsCommand, command_of}
-use Rattle.passtool_commands.specs.computed.Words.{is_understood}
+use Rattle.passtool_commands.specs.Arguments.{IsCaveatTest, IsCaveatText, ReadsCommand, command_of}
+use Rattle.passtool_commands.specs.computed.Arguments.{is_understood}
 use Rattle.passtool_commands.specs.declared.answer.BadValue.{BadValue as OurBadValue}
 use Rattle.passtool_commands.specs.declared.command.Command.{Command}
 use Rattle.passtool_commands.specs.declared.table.Name.{Name}
@@ -31,7 +31,7 @@ is_test reads text = (found (caveat_of text) refl, λ is. ap is_some ((reads tex
     found None same is = cc
 
 -- a row's values are read by this test
-pub values_read : ReadsWhatIsUnderstood → (name : Name) (rows : List Row) (result : Result Command (WordsFault OurBadValue))
+pub values_read : ReadsWhatIsUnderstood → (name : Name) (rows : List Row) (result : Result Command (ArgumentsFault OurBadValue))
     → Answers (command_of is_understood name rows) result → ReadsCommand name rows result
 values_read reads name rows result is = record { is_understood = is_understood; is_test = is_test reads; answers = is }
 

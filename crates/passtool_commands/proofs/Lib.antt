@@ -1,7 +1,7 @@
 pub mod OptionLemmas
 pub mod NarrowLemmas
 pub mod ShownLemmas
-pub mod WordsLemmas
+pub mod ArgumentsLemmas
 pub mod CaveatTest
 pub mod StepLemmas
 pub mod OutputLemmas

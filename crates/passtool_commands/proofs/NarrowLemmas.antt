@@ -44,7 +44,7 @@ module _ (xs : List (Bor (List ℕ))) (i : ℕ) (pass now : Plain) (counted : le
       let made : with_caveats (texts xs) pass ≡ now = sym same ∙ (ap (λ (left : List (Bor (List ℕ))). with_caveats (texts left) now) none ∙ none_added now) in
       rw (le-ltb max_caveats (length pass.caveats + length (texts xs)) total) (ap Ok made)
 
-  -- where one would be the 65th
+  -- if one would be the 65th
   too_many : max_caveats ≤ length now.caveats → i < length xs → narrowing (texts xs) pass ≡ Err TooMany
   unfolding narrowing
   too_many full within =

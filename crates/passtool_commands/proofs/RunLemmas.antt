@@ -3,20 +3,20 @@ use Rattle.std.proofs.Common.{◌≡◌, ℕ, List, Option, Result, Ok, Err, inl
 use Rattle.std.specs.Io.KnownBytes.{Appends}
 use Rattle.clap.specs.Words.{Text}
 use Rattle.command_line.specs.Output.{AppendsFront}
-use Rattle.command_line.specs.declared.errors.WordsFault.{WordsFault}
-use Rattle.command_line.specs.declared.errors.WordsFault.TheVariants.{Refused, BadValue, Memory as OutOfMemory}
+use Rattle.command_line.specs.declared.errors.ArgumentsFault.{ArgumentsFault}
+use Rattle.command_line.specs.declared.errors.ArgumentsFault.TheVariants.{Refused, BadValue, Memory as OutOfMemory}
 use Rattle.command_line.specs.declared.job.Asked.TheVariants.{Perform}
 use Rattle.pass_forms.specs.Reading.{UnlessMemory}
 use Rattle.pass_forms.specs.declared.fault.FormFault.{FormFault}
 use Rattle.pass_forms.specs.declared.fault.FormFault.TheVariants.{Memory}
 use Rattle.passtool_commands.specs.Answer.{IsAnswer, OutcomeText, reads_input}
-use Rattle.passtool_commands.specs.Fault.{of_words}
-use Rattle.passtool_commands.specs.Run.{AnswersWords, Performs, ReadsInput, Writes, WritesFront}
-use Rattle.passtool_commands.specs.Words.{AskForCommand, ReadsWords}
+use Rattle.passtool_commands.specs.Fault.{of_arguments}
+use Rattle.passtool_commands.specs.Run.{AnswersArguments, Performs, ReadsInput, Writes, WritesFront}
+use Rattle.passtool_commands.specs.Arguments.{AskForCommand, ReadsArguments}
 use Rattle.passtool_commands.specs.declared.answer.BadValue.{BadValue as OurBadValue}
 use Rattle.passtool_commands.specs.declared.answer.BadValue.TheVariants.{Root, Caveat}
 use Rattle.passtool_commands.specs.declared.answer.Fault.{Fault}
-use Rattle.passtool_commands.specs.declared.answer.Fault.TheVariants.{Words, Pass, BadRoot, CaveatNotUnderstood, InputOutput}
+use Rattle.passtool_commands.specs.declared.answer.Fault.TheVariants.{Arguments, Pass, BadRoot, CaveatNotUnderstood, InputOutput}
 use Rattle.passtool_commands.specs.declared.answer.Outcome.{Outcome}
 use Rattle.passtool_commands.specs.declared.answer.Outcome.TheVariants.{Done}
 use Rattle.passtool_commands.specs.declared.command.Command.{Command}
@@ -48,40 +48,41 @@ module _ (command : Command) (left left' held held' : Option (List ℕ)) (bytes 
   failed Memory is = tt
   failed fault is = (bytes, reads, is)
 
-module _ (once : AskForOneCommand) (words : List Text) (command : Command) (ask : AskForCommand words command) where
+module _ (once : AskForOneCommand) (arguments : List Text) (command : Command) (ask : AskForCommand arguments command) where
   -- what is performed is what the arguments allow
-  pub performs_words : (left left' held held' : Option (List ℕ)) (result : Result Outcome Fault) → Performs command left left' held held' result
-      → AnswersWords words result
-  performs_words left left' held held' (Ok Done) is = inl (command, ask)
-  performs_words left left' held held' (Err (Words error)) is = absurd is
-  performs_words left left' held held' (Err BadRoot) is = absurd is
-  performs_words left left' held held' (Err (CaveatNotUnderstood number)) is = absurd is
-  performs_words left left' held held' (Err (Pass Memory)) is = tt
-  performs_words left left' held held' (Err InputOutput) is = inl (command, ask)
-  performs_words left left' held held' result is = (command, ask)
+  pub performs_arguments : (left left' held held' : Option (List ℕ)) (result : Result Outcome Fault) → Performs command left left' held held' result
+      → AnswersArguments arguments result
+  performs_arguments left left' held held' (Ok Done) is = inl (command, ask)
+  performs_arguments left left' held held' (Err (Arguments error)) is = absurd is
+  performs_arguments left left' held held' (Err BadRoot) is = absurd is
+  performs_arguments left left' held held' (Err (CaveatNotUnderstood number)) is = absurd is
+  performs_arguments left left' held held' (Err (Pass Memory)) is = tt
+  performs_arguments left left' held held' (Err InputOutput) is = inl (command, ask)
+  performs_arguments left left' held held' result is = (command, ask)
 
   -- no other command is asked for
-  pub performs_alone : (left left' held held' : Option (List ℕ)) (result : Result Outcome Fault) (other : Command) → AskForCommand words other
+  pub performs_alone : (left left' held held' : Option (List ℕ)) (result : Result Outcome Fault) (other : Command) → AskForCommand arguments other
       → Performs command left left' held held' result → Performs other left left' held held' result
-  performs_alone left left' held held' result other asked is = elim (once words other (Ok (Perform command)) asked ask) [
+  performs_alone left left' held held' result other asked is = elim (once arguments other (Ok (Perform command)) asked ask) [
     | inl same ↦ let one : command ≡ other = cc in subst (λ (c : Command). Performs c left left' held held' result) one is
     | inr none ↦ cc
   ]
 
-module _ (once : AskForOneCommand) (words : List Text) (fault : WordsFault OurBadValue) (read : ReadsWords words (Err fault)) where
-  pub refused_words : AnswersWords words (Err (of_words fault))
-  refused_words = go fault read
+module _ (once : AskForOneCommand) (arguments : List Text) (fault : ArgumentsFault OurBadValue) (read : ReadsArguments arguments (Err fault)) where
+  pub refused_arguments : AnswersArguments arguments (Err (of_arguments fault))
+  refused_arguments = go fault read
     where
-      go : (fault : WordsFault OurBadValue) → ReadsWords words (Err fault) → AnswersWords words (Err (of_words fault))
+      go : (fault : ArgumentsFault OurBadValue) → ReadsArguments arguments (Err fault) → AnswersArguments arguments (Err (of_arguments fault))
       go (Refused error) is = is
       go (BadValue Root) is = is
       go (BadValue (Caveat number)) is = is
       go OutOfMemory is = tt
 
   -- no command is asked for, unless memory ran out
-  pub refused_alone : (left left' held held' : Option (List ℕ)) (command : Command) → AskForCommand words command
-      → Performs command left left' held held' (Err (of_words fault))
-  refused_alone left left' held held' command ask = elim (once words command (Err fault) ask read) [
+  pub refused_alone : (left left' held held' : Option (List ℕ)) (command : Command) → AskForCommand arguments command
+      → Performs command left left' held held' (Err (of_arguments fault))
+  refused_alone left left' held held' command ask = elim (once arguments command (Err fault) ask read) [
     | inl same ↦ cc
-    | inr none ↦ let out : OutOfMemory ≡ fault = cc in subst (λ (f : WordsFault OurBadValue). Performs command left left' held held' (Err (of_words f))) out tt
+    | inr none ↦ let out : OutOfMemory ≡ fault = cc in
+        subst (λ (f : ArgumentsFault OurBadValue). Performs command left left' held held' (Err (of_arguments f))) out tt
   ]

@@ -1,7 +1,7 @@
 -- The program's commands and options, as `clap` reads them (ours).
 use Rattle.std.specs.Prelude.{[], ◌∷◌, codes}
 use Rattle.clap.specs.Words.{Rule}
-use Rattle.command_line.specs.Application.{as_required, flag_named, form_option, form_or_v2, option_named, words_named}
+use Rattle.command_line.specs.Application.{as_required, flag_named, form_option, form_or_v2, option_named, positionals_named}
 use Rattle.command_line.specs.Table.{Table}
 use Rattle.passtool_commands.specs.declared.table.Name.{Name}
 use Rattle.passtool_commands.specs.declared.table.Name.TheVariants.{Mint, Show, Narrow, Convert, Verify}
@@ -22,12 +22,12 @@ required_form = as_required form_option
 abbrev pub any_flag : Rule
 any_flag = flag_named (codes "any")
 
--- any number of words
-abbrev pub caveat_words : Rule
-caveat_words = words_named (codes "caveat")
+-- any number of positional arguments
+abbrev pub caveat_positionals : Rule
+caveat_positionals = positionals_named (codes "caveat")
 
 abbrev pub required_caveats : Rule
-required_caveats = as_required caveat_words
+required_caveats = as_required caveat_positionals
 
 -- `mint --root HEX --id TEXT [--location TEXT] [--form F] [CAVEAT]...`, `show`, `narrow [--any] CAVEAT...`,
 -- `convert --form F` and `verify --root HEX`
@@ -35,7 +35,7 @@ unfoldable pub passtool : Table Name
 passtool = record {
   title = codes "passtool";
   entries =
-      record { command = Mint; name = codes "mint"; rules = root_option ∷ id_option ∷ location_option ∷ form_or_v2 ∷ caveat_words ∷ [] }
+      record { command = Mint; name = codes "mint"; rules = root_option ∷ id_option ∷ location_option ∷ form_or_v2 ∷ caveat_positionals ∷ [] }
       ∷ record { command = Show; name = codes "show"; rules = [] }
       ∷ record { command = Narrow; name = codes "narrow"; rules = any_flag ∷ required_caveats ∷ [] }
       ∷ record { command = Convert; name = codes "convert"; rules = required_form ∷ [] }

@@ -1,15 +1,15 @@
 -- The exit status and the line of each answer (ours).
 use Rattle.std.specs.Prelude.{ℕ, List, ◌++◌, Option, Some, None, codes}
 use Rattle.std.specs.Fmt.{decimal}
-use Rattle.command_line.specs.declared.errors.WordsFault.{WordsFault}
-use Rattle.command_line.specs.declared.errors.WordsFault.TheVariants as words
+use Rattle.command_line.specs.declared.errors.ArgumentsFault.{ArgumentsFault}
+use Rattle.command_line.specs.declared.errors.ArgumentsFault.TheVariants as arguments
 use Rattle.pass_forms.specs.FormFault.{fault_text}
 use Rattle.pass_forms.specs.declared.fault.FormFault.{FormFault}
 use Rattle.pass_forms.specs.declared.fault.FormFault.TheVariants as form
 use Rattle.passtool_commands.specs.declared.answer.BadValue.{BadValue}
 use Rattle.passtool_commands.specs.declared.answer.BadValue.TheVariants.{Root, Caveat}
 use Rattle.passtool_commands.specs.declared.answer.Fault.{Fault}
-use Rattle.passtool_commands.specs.declared.answer.Fault.TheVariants.{Words, Pass, CaveatNotUnderstood, BadRoot, InputOutput}
+use Rattle.passtool_commands.specs.declared.answer.Fault.TheVariants.{Arguments, Pass, CaveatNotUnderstood, BadRoot, InputOutput}
 use Rattle.passtool_commands.specs.declared.answer.Outcome.{Outcome}
 use Rattle.passtool_commands.specs.declared.answer.Outcome.TheVariants.{Done, NotSigned}
 
@@ -18,7 +18,7 @@ outcome_status Done = 0
 outcome_status NotSigned = 1
 
 abbrev pub fault_status : Fault → ℕ
-fault_status (Words error) = 2
+fault_status (Arguments error) = 2
 fault_status (Pass form.Memory) = 4
 fault_status (Pass fault) = 3
 fault_status (CaveatNotUnderstood number) = 5
@@ -33,22 +33,22 @@ form_number form.ThirdParty = Some 3
 form_number form.TooMany = Some 4
 form_number form.Memory = None
 
--- a text behind the number that it has
+-- a text after the number that it has
 abbrev pub with_number : Option ℕ → List ℕ → List ℕ
 with_number None text = text
 with_number (Some number) text = codes "fault " ++ (decimal number ++ (codes ": " ++ text))
 
 -- the line on standard error; clap's own text is not stated
 abbrev pub fault_line : Fault → Option (List ℕ)
-fault_line (Words error) = None
+fault_line (Arguments error) = None
 fault_line (Pass fault) = Some (with_number (form_number fault) (fault_text fault))
 fault_line (CaveatNotUnderstood number) = Some (codes "caveat " ++ (decimal number ++ codes " not understood"))
 fault_line BadRoot = Some (codes "bad root")
 fault_line InputOutput = Some (codes "input or output failed")
 
 -- the fault of refused arguments
-abbrev pub of_words : WordsFault BadValue → Fault
-of_words (words.Refused error) = Words error
-of_words (words.BadValue Root) = BadRoot
-of_words (words.BadValue (Caveat number)) = CaveatNotUnderstood number
-of_words words.Memory = Pass form.Memory
+abbrev pub of_arguments : ArgumentsFault BadValue → Fault
+of_arguments (arguments.Refused error) = Arguments error
+of_arguments (arguments.BadValue Root) = BadRoot
+of_arguments (arguments.BadValue (Caveat number)) = CaveatNotUnderstood number
+of_arguments arguments.Memory = Pass form.Memory

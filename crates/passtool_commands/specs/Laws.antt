@@ -8,7 +8,7 @@ use Rattle.passtool_commands.specs.Application.{passtool}
 use Rattle.passtool_commands.specs.Minting.{Minting}
 use Rattle.command_line.specs.JobLaws.{AskOnce}
 use Rattle.passtool_commands.specs.Shown.{with_line_feed}
-use Rattle.passtool_commands.specs.Words.{ReadsCommand}
+use Rattle.passtool_commands.specs.Arguments.{ReadsCommand}
 use Rattle.passtool_commands.specs.declared.answer.Outcome.TheVariants.{Done}
 use Rattle.passtool_commands.specs.declared.command.Command.{Command}
 use Rattle.passtool_commands.specs.declared.command.Command.TheVariants.{Verify}

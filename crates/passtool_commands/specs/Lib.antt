@@ -3,7 +3,7 @@ pub mod Minting
 pub mod Fault
 pub mod Shown
 pub mod Answer
-pub mod Words
+pub mod Arguments
 pub mod computed
 pub mod Run
 pub mod Laws

@@ -7,13 +7,13 @@ use Rattle.pass_forms.specs.declared.fault.FormFault.TheVariants.{Memory}
 use Rattle.passtool_commands.specs.Answer.{IsAnswer, OutcomeText, reads_input}
 use Rattle.command_line.specs.Input.{ReadsAtMost}
 use Rattle.command_line.specs.Table.{refusals}
-use Rattle.command_line.specs.Words.{HasText}
-use Rattle.command_line.specs.declared.errors.WordsFault.TheVariants.{Refused, BadValue}
+use Rattle.command_line.specs.Arguments.{HasText}
+use Rattle.command_line.specs.declared.errors.ArgumentsFault.TheVariants.{Refused, BadValue}
 use Rattle.passtool_commands.specs.Application.{passtool}
-use Rattle.passtool_commands.specs.Words.{AskForCommand, ReadsWords}
+use Rattle.passtool_commands.specs.Arguments.{AskForCommand, ReadsArguments}
 use Rattle.passtool_commands.specs.declared.answer.BadValue.TheVariants.{Root, Caveat}
 use Rattle.passtool_commands.specs.declared.answer.Fault.{Fault}
-use Rattle.passtool_commands.specs.declared.answer.Fault.TheVariants.{Words, Pass, BadRoot, CaveatNotUnderstood, InputOutput}
+use Rattle.passtool_commands.specs.declared.answer.Fault.TheVariants.{Arguments, Pass, BadRoot, CaveatNotUnderstood, InputOutput}
 use Rattle.passtool_commands.specs.declared.answer.Outcome.{Outcome}
 use Rattle.passtool_commands.specs.declared.answer.Outcome.TheVariants.{Done, NotSigned}
 use Rattle.passtool_commands.specs.declared.command.Command.{Command}
@@ -48,19 +48,19 @@ Performs command left left' held held' (Err fault) = ⊥
 
 -- the arguments ask for some command
 abbrev pub AskForAny : List Text → Type 0
-AskForAny words = (command : Command) × AskForCommand words command
+AskForAny arguments = (command : Command) × AskForCommand arguments command
 
 -- the arguments ask for no command, or for one that reads no input
 abbrev pub AskForNoInput : List Text → Type 0
-AskForNoInput words = (command : Command) → AskForCommand words command → reads_input command ≡ false
+AskForNoInput arguments = (command : Command) → AskForCommand arguments command → reads_input command ≡ false
 
 -- the results of a run that the arguments allow
-abbrev pub AnswersWords : List Text → Result Outcome Fault → Type 0
-AnswersWords words (Ok NotSigned) = AskForAny words
-AnswersWords words (Ok Done) = AskForAny words ⊎ HasText (refusals passtool words)
-AnswersWords words (Err (Words error)) = ReadsWords words (Err (Refused error))
-AnswersWords words (Err BadRoot) = ReadsWords words (Err (BadValue Root))
-AnswersWords words (Err (CaveatNotUnderstood number)) = ReadsWords words (Err (BadValue (Caveat number)))
-AnswersWords words (Err (Pass Memory)) = Unit {0}
-AnswersWords words (Err (Pass fault)) = AskForAny words
-AnswersWords words (Err InputOutput) = AskForAny words ⊎ HasText (refusals passtool words)
+abbrev pub AnswersArguments : List Text → Result Outcome Fault → Type 0
+AnswersArguments arguments (Ok NotSigned) = AskForAny arguments
+AnswersArguments arguments (Ok Done) = AskForAny arguments ⊎ HasText (refusals passtool arguments)
+AnswersArguments arguments (Err (Arguments error)) = ReadsArguments arguments (Err (Refused error))
+AnswersArguments arguments (Err BadRoot) = ReadsArguments arguments (Err (BadValue Root))
+AnswersArguments arguments (Err (CaveatNotUnderstood number)) = ReadsArguments arguments (Err (BadValue (Caveat number)))
+AnswersArguments arguments (Err (Pass Memory)) = Unit {0}
+AnswersArguments arguments (Err (Pass fault)) = AskForAny arguments
+AnswersArguments arguments (Err InputOutput) = AskForAny arguments ⊎ HasText (refusals passtool arguments)

@@ -4,7 +4,7 @@ ghost use Rattle.std.specs.Prelude.{◌≡◌};
 ghost use Rattle.std.specs.String.{string_bytes};
 ghost use Rattle.passtool_commands.specs.Fault.{form_number};
 
-use command_line::{WordsFault, report};
+use command_line::{ArgumentsFault, report};
 use pass_forms::FormFault;
 use std::marker::Model;
 use std::{error, fmt, io};
@@ -86,7 +86,7 @@ pub enum BadValue {
 #[derive(Debug, Drop)]
 pub enum Fault {
     /// `clap` refused the arguments, or `--form` names none of the three forms.
-    Words(clap::Error),
+    Arguments(clap::Error),
     /// The text isn't a pass, or the pass can't be narrowed or written, or memory ran out.
     Pass(FormFault),
     /// The caveat of this number, counted from 1, isn't understood.
@@ -105,7 +105,7 @@ impl Fault {
         ensures { result ≡ fault_status self.now }
     {
         match self {
-            Fault::Words(_) => 2,
+            Fault::Arguments(_) => 2,
             Fault::Pass(FormFault::Memory) => 4,
             Fault::Pass(_) => 3,
             Fault::CaveatNotUnderstood(_) => 5,
@@ -116,7 +116,7 @@ impl Fault {
 
     /// Prints the line of the fault on standard error.
     pub fn report(&self, rt: &impl Eprint) {
-        report(rt, self, matches!(self, Fault::Words(_)));
+        report(rt, self, matches!(self, Fault::Arguments(_)));
     }
 }
 
@@ -127,7 +127,7 @@ impl fmt::Display for Fault {
 
     fn fmt<W: fmt::Write>(&self, f: &mut fmt::Formatter<W>) -> fmt::Result {
         match self {
-            Fault::Words(error) => write!(f, "{error}"),
+            Fault::Arguments(error) => write!(f, "{error}"),
             Fault::Pass(fault) => match fault_number(*fault) {
                 Some(number) => write!(f, "fault {number}: {fault}"),
                 None => write!(f, "{fault}"),
@@ -165,18 +165,20 @@ impl From<io::Error> for Fault {
     }
 }
 
-impl From<WordsFault<BadValue>> for Fault {
+impl From<ArgumentsFault<BadValue>> for Fault {
     ghost use Rattle.std.specs.Prelude.{◌≡◌};
-    ghost use Rattle.passtool_commands.specs.Fault.{of_words};
+    ghost use Rattle.passtool_commands.specs.Fault.{of_arguments};
 
-    ghost from_gives = { λ returned fault. fault ≡ of_words returned };
+    ghost from_gives = { λ returned fault. fault ≡ of_arguments returned };
 
-    fn from(returned: WordsFault<BadValue>) -> Fault {
+    fn from(returned: ArgumentsFault<BadValue>) -> Fault {
         match returned {
-            WordsFault::Refused(error) => Fault::Words(error),
-            WordsFault::BadValue(BadValue::Root) => Fault::BadRoot,
-            WordsFault::BadValue(BadValue::Caveat(number)) => Fault::CaveatNotUnderstood(number),
-            WordsFault::Memory => Fault::Pass(FormFault::Memory),
+            ArgumentsFault::Refused(error) => Fault::Arguments(error),
+            ArgumentsFault::BadValue(BadValue::Root) => Fault::BadRoot,
+            ArgumentsFault::BadValue(BadValue::Caveat(number)) => Fault::CaveatNotUnderstood(
+                number,
+            ),
+            ArgumentsFault::Memory => Fault::Pass(FormFault::Memory),
         }
     }
 }

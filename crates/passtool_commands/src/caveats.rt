@@ -1,8 +1,8 @@
 //! Caveats from the command line.
 
 ghost use Rattle.std.specs.Prelude.{◌≡◌, IfOk, map, not, position};
-ghost use Rattle.passtool_commands.specs.Words as spec;
-ghost use Rattle.passtool_commands.specs.computed.Words.{is_understood};
+ghost use Rattle.passtool_commands.specs.Arguments as spec;
+ghost use Rattle.passtool_commands.specs.computed.Arguments.{is_understood};
 
 use pass_caveats::read;
 use std::alloc::{AllocError, Global};

@@ -3,8 +3,8 @@
 ghost use Rattle.std.specs.Prelude.{◌≡◌, ◌≢◌, ◌≤◌, IfErr, IfOk, false, length, take};
 ghost use Rattle.clap.specs.Words.{found_of, rows_of};
 ghost use Rattle.command_line.specs.Job.{Answers};
-ghost use Rattle.passtool_commands.specs.Words.{ReadsCommand, checked_caveats, command_of};
-ghost use Rattle.passtool_commands.specs.computed.Words.{is_understood};
+ghost use Rattle.passtool_commands.specs.Arguments.{ReadsCommand, checked_caveats, command_of};
+ghost use Rattle.passtool_commands.specs.computed.Arguments.{is_understood};
 
 use crate::answer::{Answer, BadValue, Fault, Outcome};
 use crate::caveats::Caveats;
@@ -17,7 +17,7 @@ use crate::show::show;
 use crate::table::Name;
 use crate::verify::verify;
 use clap::ArgMatches;
-use command_line::{Job, Root, WordsFault, fill, is_set, read_form, value_of, write_text};
+use command_line::{ArgumentsFault, Job, Root, fill, is_set, read_form, value_of, write_text};
 use pass_caveats::laws::reads_what_is_understood;
 use pass_forms::{Form, FormFault};
 use std::alloc::Global;
@@ -50,7 +50,7 @@ impl<'a> Job<'a> for Command<'a> {
         alloc: Global,
         name: Name,
         options: &ArgMatches<'a>,
-    ) -> Result<Command<'a>, WordsFault<BadValue>>
+    ) -> Result<Command<'a>, ArgumentsFault<BadValue>>
         ensures { ReadsCommand name (rows_of (found_of options.now)) result }
     {
         // By this law the code tests caveats as the clause does.
@@ -65,7 +65,10 @@ impl<'a> Job<'a> for Command<'a> {
     }
 }
 
-fn mint_of<'a>(alloc: Global, options: &ArgMatches<'a>) -> Result<Command<'a>, WordsFault<BadValue>>
+fn mint_of<'a>(
+    alloc: Global,
+    options: &ArgMatches<'a>,
+) -> Result<Command<'a>, ArgumentsFault<BadValue>>
     ensures { Answers (command_of is_understood Name.Mint (rows_of (found_of options.now))) result }
 {
     let form = read_form::<Name, BadValue>(alloc, options)?;
@@ -79,7 +82,7 @@ fn mint_of<'a>(alloc: Global, options: &ArgMatches<'a>) -> Result<Command<'a>, W
 fn narrow_of<'a>(
     alloc: Global,
     options: &ArgMatches<'a>,
-) -> Result<Command<'a>, WordsFault<BadValue>>
+) -> Result<Command<'a>, ArgumentsFault<BadValue>>
     ensures { Answers (command_of is_understood Name.Narrow (rows_of (found_of options.now)))
         result }
 {
@@ -149,8 +152,8 @@ impl<'a> Command<'a> {
 }
 
 // The caveats, if any text is accepted or all of them are understood.
-#[tactic(auto, unfolding(crate::specs::Words::checked_caveats))]
-fn checked_caveats(caveats: Caveats<'_>, any: bool) -> Result<Caveats<'_>, WordsFault<BadValue>>
+#[tactic(auto, unfolding(crate::specs::Arguments::checked_caveats))]
+fn checked_caveats(caveats: Caveats<'_>, any: bool) -> Result<Caveats<'_>, ArgumentsFault<BadValue>>
     ensures { Answers (checked_caveats is_understood any caveats.entry) result }
 {
     if any {
@@ -158,6 +161,6 @@ fn checked_caveats(caveats: Caveats<'_>, any: bool) -> Result<Caveats<'_>, Words
     }
     match caveats.first_unknown() {
         None => Ok(caveats),
-        Some(place) => Err(WordsFault::BadValue(BadValue::Caveat(place + 1))),
+        Some(place) => Err(ArgumentsFault::BadValue(BadValue::Caveat(place + 1))),
     }
 }

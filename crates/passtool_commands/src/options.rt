@@ -3,19 +3,19 @@
 ghost use Rattle.std.specs.Prelude.{◌≡◌, IfOk};
 ghost use Rattle.clap.specs.Words.{found_of, rows_of};
 ghost use Rattle.command_line.specs.Job.{Answers};
-ghost use Rattle.passtool_commands.specs.Words.{caveats_in, root_in};
+ghost use Rattle.passtool_commands.specs.Arguments.{caveats_in, root_in};
 
 use crate::answer::BadValue;
 use crate::caveats::Caveats;
 use clap::ArgMatches;
-use command_line::{Root, WordsFault, read_value};
+use command_line::{ArgumentsFault, Root, read_value};
 use std::alloc::{AllocError, Global};
 
 /// The root that `--root` spells.
-pub fn root_of(options: &ArgMatches<'_>) -> Result<Root, WordsFault<BadValue>>
+pub fn root_of(options: &ArgMatches<'_>) -> Result<Root, ArgumentsFault<BadValue>>
     ensures { Answers (root_in (rows_of (found_of options.now))) result }
 {
-    read_value(options, "root").ok_or(WordsFault::BadValue(BadValue::Root))
+    read_value(options, "root").ok_or(ArgumentsFault::BadValue(BadValue::Root))
 }
 
 /// The caveats among the arguments.

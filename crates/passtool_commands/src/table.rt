@@ -62,7 +62,7 @@ const MINT_ARGUMENTS: &[Argument] = &[
         "A hint at who made the pass; not signed, not checked; empty where it is left out",
     ),
     Argument::Or("form", "FORM", "v1, v2 or json", "v2"),
-    Argument::Words("caveat", "CAVEAT", CAVEAT_HELP),
+    Argument::Positionals("caveat", "CAVEAT", CAVEAT_HELP),
 ];
 
 const NARROW_ARGUMENTS: &[Argument] = &[
@@ -70,7 +70,7 @@ const NARROW_ARGUMENTS: &[Argument] = &[
         "any",
         "Takes any caveats, not only those that the desk understands",
     ),
-    Argument::NeededWords("caveat", "CAVEAT", CAVEAT_HELP),
+    Argument::NeededPositionals("caveat", "CAVEAT", CAVEAT_HELP),
 ];
 
 /// The program.
@@ -120,7 +120,7 @@ static PASSTOOL: Program<Name> = Program {
 impl Commands for Name {
     ghost table = { passtool };
 
-    #[tactic(auto, using(crate::proofs::WordsLemmas::is_good), unfolding(crate::specs::Application::passtool))]
+    #[tactic(auto, using(crate::proofs::ArgumentsLemmas::is_good), unfolding(crate::specs::Application::passtool))]
     fn application<'a>(alloc: Global) -> Result<Command<'a>, AllocError> {
         make_application(alloc, &PASSTOOL)
     }

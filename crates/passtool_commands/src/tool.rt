@@ -1,8 +1,8 @@
 //! A run of the program, on arguments, a reader and a writer.
 
 ghost use Rattle.std.specs.Prelude.{◌≡◌, ◌≢◌, IfErr, MatchResult, map};
-ghost use Rattle.passtool_commands.specs.Run.{AnswersWords, AskForNoInput, Performs};
-ghost use Rattle.passtool_commands.specs.Words.{AskForCommand};
+ghost use Rattle.passtool_commands.specs.Run.{AnswersArguments, AskForNoInput, Performs};
+ghost use Rattle.passtool_commands.specs.Arguments.{AskForCommand};
 ghost use Rattle.passtool_commands.specs.declared.command.Command.{Command as CommandOf};
 
 use crate::answer::{Fault, Outcome};
@@ -21,33 +21,33 @@ use std::io::{Read, Write};
 ///
 /// # Errors
 ///
-/// Of the arguments: `Words` if `clap` refuses them or the form is unknown, `BadRoot`, and
+/// Of the arguments: `Arguments` if `clap` refuses them or the form is unknown, `BadRoot`, and
 /// `CaveatNotUnderstood` with the number of the caveat among those given. `Pass` with the fault of
 /// the pass, or with `Memory` only if an allocation fails. After these nothing was written.
 /// `InputOutput` if the reader or the writer failed: nothing was written, or a beginning of the
 /// answer to the whole input, or of help or the version.
 pub fn run<S: AsStr, R: Read, W: Write>(
     alloc: Global,
-    words: &[S],
+    arguments: &[S],
     reader: &mut R,
     writer: &mut W,
 ) -> Result<Outcome, Fault>
     // The fault of the arguments, or what they ask for.
-    ensures words { AnswersWords (map S.text words.now) result }
+    ensures arguments { AnswersArguments (map S.text arguments.now) result }
     // If they ask for a command, it read its input and wrote its answer to that. If the reader or
     // the writer failed, it wrote nothing or a beginning of the answer.
-    ensures command { (command : CommandOf) → AskForCommand (map S.text words.now) command
+    ensures command { (command : CommandOf) → AskForCommand (map S.text arguments.now) command
         → Performs command (R.remaining reader.old) (R.remaining reader.new)
         (W.contents writer.old) (W.contents writer.new) result }
     // If they ask for no command, or for one without input, nothing was read.
-    ensures unread { AskForNoInput (map S.text words.now) → reader.new ≡ reader.old }
+    ensures unread { AskForNoInput (map S.text arguments.now) → reader.new ≡ reader.old }
     // After any other fault nothing was written.
     ensures silent { IfErr result (λ fault. fault ≢ Fault.InputOutput
         → writer.new ≡ writer.old) }
 {
     // By this law the arguments ask for one command.
     ask_for_one_command();
-    let command: Command<'_> = match read_job(alloc, words) {
+    let command: Command<'_> = match read_job(alloc, arguments) {
         Ok(Asked::Perform(command)) => command,
         Ok(Asked::ShowText(text)) => return show(&text, writer),
         Err(fault) => return Err(Fault::from(fault)),

@@ -3,7 +3,8 @@
 use crate::doubles::{Narrow, Pieces};
 use crate::expect::{expect_end, expect_eq};
 use crate::runs::{
-    BARE_TEXT, MINT, NARROW, SHOW, SHOWN, TEXT, TO_V2, V2_TEXT, VERIFY, Words, ended_by, output_of,
+    Arguments, BARE_TEXT, MINT, NARROW, SHOW, SHOWN, TEXT, TO_V2, V2_TEXT, VERIFY, ended_by,
+    output_of,
 };
 use std::process::Abort;
 use test_kit::End;
@@ -16,13 +17,13 @@ const FAILED: End = Prints(7, "input or output failed");
 // A run on an input that comes in pieces, and then ends or fails.
 fn expect_of_pieces(
     rt: &(impl Abort + AllocGlobal),
-    words: &[&str],
+    arguments: &[&str],
     left: &[u8],
     fails: bool,
     end: &End,
 ) {
     let mut reader = Pieces::new(left, fails);
-    expect_end(rt, &output_of(rt, words, &mut reader), end, words);
+    expect_end(rt, &output_of(rt, arguments, &mut reader), end, arguments);
 }
 
 #[test]
@@ -30,26 +31,26 @@ fn reads_in_pieces(rt: HostRuntime) {
     expect_of_pieces(&rt, VERIFY, TEXT.as_bytes(), false, &Writes("signed"));
 }
 
-// A reader that fails at once, amidst a pass or behind it fails the run, and nothing is written.
-fn expect_failing(rt: &(impl Abort + AllocGlobal), words: &[&str]) {
+// A reader that fails at once, amidst a pass or after it fails the run, and nothing is written.
+fn expect_failing(rt: &(impl Abort + AllocGlobal), arguments: &[&str]) {
     let (half, _) = TEXT.as_bytes().split_at(90);
-    expect_of_pieces(rt, words, b"", true, &FAILED);
-    expect_of_pieces(rt, words, half, true, &FAILED);
-    expect_of_pieces(rt, words, TEXT.as_bytes(), true, &FAILED);
+    expect_of_pieces(rt, arguments, b"", true, &FAILED);
+    expect_of_pieces(rt, arguments, half, true, &FAILED);
+    expect_of_pieces(rt, arguments, TEXT.as_bytes(), true, &FAILED);
 }
 
-static READERS: [Words; 4] = [VERIFY, SHOW, NARROW, TO_V2];
+static READERS: [Arguments; 4] = [VERIFY, SHOW, NARROW, TO_V2];
 
 #[test]
 fn fails_with_its_reader(rt: HostRuntime) {
-    for words in &READERS {
-        expect_failing(&rt, words);
+    for arguments in &READERS {
+        expect_failing(&rt, arguments);
     }
 }
 
 // A run that writes this text and a line feed.
 struct Run {
-    words: Words,
+    arguments: Arguments,
     input: &'static str,
     text: &'static str,
 }
@@ -64,8 +65,8 @@ fn expect_taken(
     end: &End,
 ) {
     let mut writer = Narrow::new(rt.alloc(), front.len(), flushes);
-    let output = ended_by(rt, run.words, &mut run.input.as_bytes(), &mut writer);
-    expect_end(rt, &output, end, run.words);
+    let output = ended_by(rt, run.arguments, &mut run.input.as_bytes(), &mut writer);
+    expect_end(rt, &output, end, run.arguments);
     expect_eq(rt, &writer.taken.as_slice(), &front);
 }
 
@@ -88,32 +89,32 @@ fn expect_text_and_fronts(rt: &(impl Abort + AllocGlobal), run: &Run) {
 
 static WRITERS: [Run; 6] = [
     Run {
-        words: &["passtool", "--version"],
+        arguments: &["passtool", "--version"],
         input: "",
         text: "passtool 0.1.0",
     },
     Run {
-        words: VERIFY,
+        arguments: VERIFY,
         input: TEXT,
         text: "signed",
     },
     Run {
-        words: SHOW,
+        arguments: SHOW,
         input: TEXT,
         text: SHOWN,
     },
     Run {
-        words: NARROW,
+        arguments: NARROW,
         input: BARE_TEXT,
         text: TEXT,
     },
     Run {
-        words: TO_V2,
+        arguments: TO_V2,
         input: TEXT,
         text: V2_TEXT,
     },
     Run {
-        words: MINT,
+        arguments: MINT,
         input: "",
         text: V2_TEXT,
     },

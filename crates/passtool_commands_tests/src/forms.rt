@@ -1,8 +1,8 @@
 //! Passes made, narrowed and written in each form.
 
 use crate::runs::{
-    BARE_TEXT, IDENTIFIER, JSON_TEXT, MALFORMED, MINT, NARROW, OTHER_JSON, OTHER_TEXT, OTHER_V2,
-    ROOT, Row, SHOW, SHOWN, TEXT, TO_JSON, TO_V1, TO_V2, V2_TEXT, VERIFY, Words, expect,
+    Arguments, BARE_TEXT, IDENTIFIER, JSON_TEXT, MALFORMED, MINT, NARROW, OTHER_JSON, OTHER_TEXT,
+    OTHER_V2, ROOT, Row, SHOW, SHOWN, TEXT, TO_JSON, TO_V1, TO_V2, V2_TEXT, VERIFY, expect,
     expect_all_unread, expect_rows, expect_unread,
 };
 use std::process::Abort;
@@ -66,7 +66,7 @@ static CONVERSIONS: [Row; 24] = [
 const DASHED_TEXT: &str =
     "MDAxY2xvY2F0aW9uIGh0dHA6Ly9teWJhbmsvCjAwMjZpZGVudGlmaWVyIHdlIHVzZWQgb3VyIHNlY3JldCBrZXkKMDAwYmNpZCAteAowMDJmc2lnbmF0dXJlIH5yFLJImuHOPzWujMWYmtw37uVf1cHSu9BEnMhq071KCg";
 
-const FRIDAYS: Words = &["passtool", "narrow", "weekday = fri"];
+const FRIDAYS: Arguments = &["passtool", "narrow", "weekday = fri"];
 
 // A pass is written in the form in which it came.
 static NARROWED: [Row; 6] = [
@@ -138,7 +138,7 @@ static MINTED: [(&str, End); 3] = [
 
 // The pass of `TEXT` is minted in this form.
 fn expect_minted(rt: &(impl Abort + AllocGlobal), form: &str, end: &End) {
-    let words = [
+    let arguments = [
         "passtool",
         "mint",
         "--root",
@@ -151,10 +151,10 @@ fn expect_minted(rt: &(impl Abort + AllocGlobal), form: &str, end: &End) {
         form,
         "test = caveat",
     ];
-    expect_unread(rt, &words, end);
+    expect_unread(rt, &arguments, end);
 }
 
-static OTHERS_MINTED: [(Words, End); 3] = [
+static OTHERS_MINTED: [(Arguments, End); 3] = [
     // A pass of the desk, as the office makes it.
     (
         &[
@@ -253,7 +253,7 @@ const LONG_NAMED: &str =
 
 fn expect_named(rt: &(impl Abort + AllocGlobal), id: &str, form: &str, end: &End) {
     let root = "00112233445566778899aabbccddeeff";
-    let words = [
+    let arguments = [
         "passtool",
         "mint",
         "--root",
@@ -265,7 +265,7 @@ fn expect_named(rt: &(impl Abort + AllocGlobal), id: &str, form: &str, end: &End
         "--form",
         form,
     ];
-    expect_unread(rt, &words, end);
+    expect_unread(rt, &arguments, end);
 }
 
 static OF_A_LONG_NAME: [Row; 3] = [
@@ -297,7 +297,7 @@ fn prints_passes_of_short_and_long_names(rt: HostRuntime) {
     expect_rows(&rt, &OF_A_LONG_NAME);
 }
 
-static NOT_UNDERSTOOD: [(Words, End); 3] = [
+static NOT_UNDERSTOOD: [(Arguments, End); 3] = [
     (
         &["passtool", "narrow", "test = caveat"],
         Begins(5, "caveat 1 not understood"),
@@ -312,7 +312,7 @@ static NOT_UNDERSTOOD: [(Words, End); 3] = [
     ),
 ];
 
-const UNDERSTOOD: Words = &[
+const UNDERSTOOD: Arguments = &[
     "passtool",
     "narrow",
     "hours = 18-20",

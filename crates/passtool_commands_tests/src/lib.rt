@@ -2,7 +2,7 @@
 #![tactic(auto)]
 
 #[cfg(test)]
-mod bad_words;
+mod bad_arguments;
 #[cfg(test)]
 mod doubles;
 #[cfg(test)]

@@ -3,14 +3,14 @@
 use crate::doubles::no_input;
 use crate::expect::{expect_end, expect_eq};
 use crate::runs::{
-    BARE_TEXT, IDENTIFIER, MALFORMED, ROOT, SHOW, TEXT, TOO_MANY, Words, expect, output_of,
+    Arguments, BARE_TEXT, IDENTIFIER, MALFORMED, ROOT, SHOW, TEXT, TOO_MANY, expect, output_of,
 };
 use base64::engine::general_purpose::URL_SAFE_NO_PAD;
 use std::process::Abort;
 use test_kit::End;
 use test_kit::End::{Begins, Prints, Writes};
 
-// Puts bytes behind others, so often.
+// Puts bytes after others, so often.
 fn append(rt: &impl Abort, bytes: &mut Vec<u8>, more: &[u8], count: usize) {
     for _ in 0..count {
         bytes.extend_from_slice(more).expect(rt, "memory");
@@ -18,7 +18,7 @@ fn append(rt: &impl Abort, bytes: &mut Vec<u8>, more: &[u8], count: usize) {
 }
 
 // The bytes of a pass in V2 with the section of a caveat, which may be empty, this many caveats
-// `guests <= 1`, and bytes behind it.
+// `guests <= 1`, and bytes after it.
 struct Bytes {
     section: &'static [u8],
     count: usize,
@@ -93,27 +93,27 @@ fn reads_sixty_four_caveats(rt: HostRuntime) {
     expect_shown(&rt, &CAVEATS);
 }
 
-// The first words of a command, the caveat that is given behind them, how often, the input, and how
-// the run ends.
+// The first arguments of a command, the caveat that is given after them, how often, the input, and
+// how the run ends.
 struct Added {
-    first: Words,
+    first: Arguments,
     caveat: &'static str,
     count: usize,
     input: &'static str,
     end: End,
 }
 
-fn words_of(rt: &(impl Abort + AllocGlobal), added: &Added) -> Vec<&'static str> {
-    let mut words = Vec::from_slice(rt.alloc(), added.first).expect(rt, "memory");
+fn arguments_of(rt: &(impl Abort + AllocGlobal), added: &Added) -> Vec<&'static str> {
+    let mut arguments = Vec::from_slice(rt.alloc(), added.first).expect(rt, "memory");
     for _ in 0..added.count {
-        words.push(added.caveat).expect(rt, "memory");
+        arguments.push(added.caveat).expect(rt, "memory");
     }
-    words
+    arguments
 }
 
-const NARROW: Words = &["passtool", "narrow"];
+const NARROW: Arguments = &["passtool", "narrow"];
 
-const MINT: Words = &["passtool", "mint", "--root", ROOT, "--id", IDENTIFIER];
+const MINT: Arguments = &["passtool", "mint", "--root", ROOT, "--id", IDENTIFIER];
 
 static ADDED: [Added; 4] = [
     Added {
@@ -149,8 +149,13 @@ static ADDED: [Added; 4] = [
 #[test]
 fn adds_no_sixty_fifth_caveat(rt: HostRuntime) {
     for added in &ADDED {
-        let words = words_of(&rt, added);
-        expect(&rt, words.as_slice(), added.input.as_bytes(), &added.end);
+        let arguments = arguments_of(&rt, added);
+        expect(
+            &rt,
+            arguments.as_slice(),
+            added.input.as_bytes(),
+            &added.end,
+        );
     }
 }
 
@@ -161,10 +166,10 @@ static IDENTIFIERS: [(usize, usize, End); 2] = [(6104, 8193, Begins(0, "")), (61
 fn expect_minted(rt: &(impl Abort + AllocGlobal), len: usize, text_len: usize, end: &End) {
     let letters = vec![in rt.alloc(); b'k'; len].expect(rt, "memory");
     let identifier = str::from_utf8(&letters).ok().expect(rt, "text");
-    let words = ["passtool", "mint", "--root", "00", "--id", identifier];
-    let output = output_of(rt, &words, &mut no_input());
+    let arguments = ["passtool", "mint", "--root", "00", "--id", identifier];
+    let output = output_of(rt, &arguments, &mut no_input());
     expect_eq(rt, &output.text.len(), &text_len);
-    expect_end(rt, &output, end, &words);
+    expect_end(rt, &output, end, &arguments);
 }
 
 #[test]
@@ -191,15 +196,15 @@ static BEHIND: [(&str, End); 6] = [
 fn longest_line(rt: &(impl Abort + AllocGlobal)) -> String {
     let letters = vec![in rt.alloc(); b'k'; 6104].expect(rt, "memory");
     let identifier = str::from_utf8(&letters).ok().expect(rt, "text");
-    let words = ["passtool", "mint", "--root", "00", "--id", identifier];
-    output_of(rt, &words, &mut no_input()).text
+    let arguments = ["passtool", "mint", "--root", "00", "--id", identifier];
+    output_of(rt, &arguments, &mut no_input()).text
 }
 
 fn expect_behind(rt: &(impl Abort + AllocGlobal), text: &str, behind: &str, end: &End) {
     let input = format!(in rt.alloc(); "{text}{behind}").expect(rt, "memory");
-    let words = ["passtool", "verify", "--root", "00"];
+    let arguments = ["passtool", "verify", "--root", "00"];
     let mut reader = input.as_bytes();
-    expect_end(rt, &output_of(rt, &words, &mut reader), end, &[behind]);
+    expect_end(rt, &output_of(rt, &arguments, &mut reader), end, &[behind]);
 }
 
 #[test]

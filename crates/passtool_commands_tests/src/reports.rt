@@ -2,7 +2,7 @@
 
 use crate::doubles::no_input;
 use crate::expect::expect_eq;
-use crate::runs::{SHOW, Words};
+use crate::runs::{Arguments, SHOW};
 use command_line::text_fault;
 use passtool_commands::{BadValue, Fault, Name, run};
 use std::alloc::Global;
@@ -50,16 +50,16 @@ fn expect_report(rt: &(impl Abort + AllocGlobal), fault: &Fault, want: &str) {
 // A run ends with a fault that is reported so.
 fn expect_reported<R: Read>(
     rt: &(impl Abort + AllocGlobal),
-    words: &[&str],
+    arguments: &[&str],
     reader: &mut R,
     want: &str,
 ) {
     let mut written = Vec::new(rt.alloc());
-    let fault = run(rt.alloc(), words, reader, &mut written).err();
+    let fault = run(rt.alloc(), arguments, reader, &mut written).err();
     expect_report(rt, &fault.expect(rt, "a fault"), want);
 }
 
-static REPORTED: [(Words, &str); 5] = [
+static REPORTED: [(Arguments, &str); 5] = [
     (SHOW, "fault 2: malformed\n"),
     (&["passtool", "verify", "--root", "zz"], "bad root\n"),
     (
@@ -79,9 +79,9 @@ static REPORTED: [(Words, &str); 5] = [
 
 #[test]
 fn reports_a_line_for_each_fault(rt: HostRuntime) {
-    for (words, want) in &REPORTED {
+    for (arguments, want) in &REPORTED {
         let mut reader = b"!".as_slice();
-        expect_reported(&rt, words, &mut reader, want);
+        expect_reported(&rt, arguments, &mut reader, want);
     }
     expect_reported(&rt, SHOW, &mut no_input(), "input or output failed\n");
 }

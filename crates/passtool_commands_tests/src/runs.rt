@@ -8,8 +8,8 @@ use std::io::{Read, Write};
 use std::process::Abort;
 use test_kit::{End, Output};
 
-/// The words of a run, of which the first is the program's name.
-pub(crate) type Words = &'static [&'static str];
+/// The arguments of a run, of which the first is the program's name.
+pub(crate) type Arguments = &'static [&'static str];
 
 // "this is our super secret key; only we should know it"
 pub(crate) const ROOT: &str =
@@ -47,22 +47,22 @@ pub(crate) const OTHER_V2: &str =
 pub(crate) const OTHER_JSON: &str =
     "{\"c\":[],\"i\":\"keyid\",\"l\":\"http://example.org/\",\"s64\":\"fN7nklEcW8b1KEhYBd_psk54XijiqZMB-dcRxgnjjvc\",\"v\":2}";
 
-// The words of each command.
-pub(crate) const VERIFY: Words = &["passtool", "verify", "--root", ROOT];
+// The arguments of each command.
+pub(crate) const VERIFY: Arguments = &["passtool", "verify", "--root", ROOT];
 
-pub(crate) const SHOW: Words = &["passtool", "show"];
+pub(crate) const SHOW: Arguments = &["passtool", "show"];
 
-pub(crate) const TO_V1: Words = &["passtool", "convert", "--form", "v1"];
+pub(crate) const TO_V1: Arguments = &["passtool", "convert", "--form", "v1"];
 
-pub(crate) const TO_V2: Words = &["passtool", "convert", "--form", "v2"];
+pub(crate) const TO_V2: Arguments = &["passtool", "convert", "--form", "v2"];
 
-pub(crate) const TO_JSON: Words = &["passtool", "convert", "--form", "json"];
+pub(crate) const TO_JSON: Arguments = &["passtool", "convert", "--form", "json"];
 
 // Makes `TEXT` of `BARE_TEXT`.
-pub(crate) const NARROW: Words = &["passtool", "narrow", "--any", "test = caveat"];
+pub(crate) const NARROW: Arguments = &["passtool", "narrow", "--any", "test = caveat"];
 
 // Makes `V2_TEXT`.
-pub(crate) const MINT: Words = &[
+pub(crate) const MINT: Arguments = &[
     "passtool",
     "mint",
     "--root",
@@ -77,17 +77,21 @@ pub(crate) const MALFORMED: End = End::Prints(3, "fault 2: malformed");
 
 pub(crate) const TOO_MANY: End = End::Prints(3, "fault 4: too many caveats");
 
-/// Words and an input, and how a run on them ends.
-pub(crate) struct Row(pub(crate) Words, pub(crate) &'static str, pub(crate) End);
+/// Arguments and an input, and how a run on them ends.
+pub(crate) struct Row(
+    pub(crate) Arguments,
+    pub(crate) &'static str,
+    pub(crate) End,
+);
 
 /// A run of the program; the text of its end is its line on standard error.
 pub(crate) fn ended_by<R: Read, W: Write>(
     rt: &(impl Abort + AllocGlobal),
-    words: &[&str],
+    arguments: &[&str],
     reader: &mut R,
     writer: &mut W,
 ) -> Output {
-    match run(rt.alloc(), words, reader, writer) {
+    match run(rt.alloc(), arguments, reader, writer) {
         Ok(outcome) => Output {
             status: outcome.status(),
             text: String::new(rt.alloc()),
@@ -107,11 +111,11 @@ pub(crate) fn output_of_fault(rt: &(impl Abort + AllocGlobal), fault: &Fault) ->
 /// A run of the program, which writes nothing before a fault.
 pub(crate) fn output_of<R: Read>(
     rt: &(impl Abort + AllocGlobal),
-    words: &[&str],
+    arguments: &[&str],
     reader: &mut R,
 ) -> Output {
     let mut written = Vec::new(rt.alloc());
-    let output = ended_by(rt, words, reader, &mut written);
+    let output = ended_by(rt, arguments, reader, &mut written);
     if output.text.is_empty() {
         let text = String::from_utf8(written).ok().expect(rt, "text");
         return Output {
@@ -124,27 +128,32 @@ pub(crate) fn output_of<R: Read>(
 }
 
 /// A run on this input ends so.
-pub(crate) fn expect(rt: &(impl Abort + AllocGlobal), words: &[&str], input: &[u8], end: &End) {
+pub(crate) fn expect(rt: &(impl Abort + AllocGlobal), arguments: &[&str], input: &[u8], end: &End) {
     let mut reader = input;
-    expect_end(rt, &output_of(rt, words, &mut reader), end, words);
+    expect_end(rt, &output_of(rt, arguments, &mut reader), end, arguments);
 }
 
 /// Each run ends as its row says.
 pub(crate) fn expect_rows(rt: &(impl Abort + AllocGlobal), rows: &[Row]) {
-    for Row(words, input, end) in rows {
+    for Row(arguments, input, end) in rows {
         let mut reader = input.as_bytes();
-        expect_end(rt, &output_of(rt, words, &mut reader), end, &[*input]);
+        expect_end(rt, &output_of(rt, arguments, &mut reader), end, &[*input]);
     }
 }
 
 /// A run that reads no input ends so.
-pub(crate) fn expect_unread(rt: &(impl Abort + AllocGlobal), words: &[&str], end: &End) {
-    expect_end(rt, &output_of(rt, words, &mut no_input()), end, words);
+pub(crate) fn expect_unread(rt: &(impl Abort + AllocGlobal), arguments: &[&str], end: &End) {
+    expect_end(
+        rt,
+        &output_of(rt, arguments, &mut no_input()),
+        end,
+        arguments,
+    );
 }
 
 /// Each of these runs reads no input, and ends so.
-pub(crate) fn expect_all_unread(rt: &(impl Abort + AllocGlobal), rows: &[(Words, End)]) {
-    for (words, end) in rows {
-        expect_unread(rt, words, end);
+pub(crate) fn expect_all_unread(rt: &(impl Abort + AllocGlobal), rows: &[(Arguments, End)]) {
+    for (arguments, end) in rows {
+        expect_unread(rt, arguments, end);
     }
 }

@@ -1,14 +1,14 @@
 //! Verifying, and texts that are no pass.
 
 use crate::runs::{
-    JSON_TEXT, MALFORMED, OTHER_TEXT, OTHER_V2, ROOT, Row, SHOW, TEXT, TO_V1, V2_TEXT, VERIFY,
-    Words, expect, expect_rows,
+    Arguments, JSON_TEXT, MALFORMED, OTHER_TEXT, OTHER_V2, ROOT, Row, SHOW, TEXT, TO_V1, V2_TEXT,
+    VERIFY, expect, expect_rows,
 };
 use std::process::Abort;
 use test_kit::End;
 use test_kit::End::{Prints, Writes};
 
-const VERIFY_OTHER: Words = &["passtool", "verify", "--root", "00"];
+const VERIFY_OTHER: Arguments = &["passtool", "verify", "--root", "00"];
 
 static SIGNED: [Row; 6] = [
     Row(VERIFY, TEXT, Prints(0, "signed\n")),
@@ -24,11 +24,11 @@ fn verifies_signed_and_not_signed(rt: HostRuntime) {
     expect_rows(&rt, &SIGNED);
 }
 
-// The runs of rows on inputs with more behind them.
+// The runs of rows on inputs with more after them.
 fn expect_behind(rt: &(impl Abort + AllocGlobal), rows: &[(&str, Row)]) {
-    for (more, Row(words, input, end)) in rows {
+    for (more, Row(arguments, input, end)) in rows {
         let longer = format!(in rt.alloc(); "{input}{more}").expect(rt, "memory");
-        expect(rt, words, longer.as_bytes(), end);
+        expect(rt, arguments, longer.as_bytes(), end);
     }
 }
 
@@ -51,7 +51,7 @@ fn refuses_every_cut(rt: HostRuntime) {
 }
 
 static NO_PASSES: [&[u8]; 13] = [
-    // A byte behind the signature, in V1 and in V2.
+    // A byte after the signature, in V1 and in V2.
     b"MDAxY2xvY2F0aW9uIGh0dHA6Ly9teWJhbmsvCjAwMjZpZGVudGlmaWVyIHdlIHVzZWQgb3VyIHNlY3JldCBrZXkKMDAxNmNpZCB0ZXN0ID0gY2F2ZWF0CjAwMmZzaWduYXR1cmUgGXusegRK8zMyhluSZuJtSTvdZopmDkTYjOGpmMI9vWcKeA",
     b"AgETaHR0cDovL2V4YW1wbGUub3JnLwIFa2V5aWQAAAYgfN7nklEcW8b1KEhYBd_psk54XijiqZMB-dcRxgnjjvcA",
     // A length of two bytes where one is enough.
@@ -69,7 +69,7 @@ static NO_PASSES: [&[u8]; 13] = [
     b"\xff\xfe",
 ];
 
-const NARROW_ONCE: Words = &["passtool", "narrow", "guests <= 1"];
+const NARROW_ONCE: Arguments = &["passtool", "narrow", "guests <= 1"];
 
 #[test]
 fn refuses_texts_that_are_no_pass(rt: HostRuntime) {

@@ -2,8 +2,8 @@
 
 ghost use Rattle.std.specs.Prelude.{◌<◌};
 
+use crate::commands::PlainCommand;
 use crate::minutes::START;
-use crate::orders::Order;
 use crate::requests::PlainRequest;
 use crate::roots::{ROOT, SECOND_ROOT};
 use crate::slots::{COURT_AT_18, PlainSlot, ROOM_AT_18};
@@ -47,21 +47,21 @@ pub static AUDITORS: [&str; 3] = [AUDIT_AMY, AUDIT_BOB, AUDIT_CY];
 
 /// What a club begins with: three members with a key each, and their auditors' keys; `court-1` and
 /// `room-1`.
-pub static BEGINNING: [Order; 14] = [
-    Order::AddMember(AMY, 2),
-    Order::Credit(AMY, 1_500),
-    Order::AddKey("amy-1", AMY, ROOT),
-    Order::AddKey(AUDIT_AMY, AMY, ROOT),
-    Order::AddMember("bob", 3),
-    Order::Credit("bob", 1_500),
-    Order::AddKey("bob-1", "bob", ROOT),
-    Order::AddKey(AUDIT_BOB, "bob", ROOT),
-    Order::AddMember("cy", 4),
-    Order::Credit("cy", 1_500),
-    Order::AddKey("cy-1", "cy", ROOT),
-    Order::AddKey(AUDIT_CY, "cy", ROOT),
-    Order::AddFacility("court-1", Kind::Court, 8, 200, 8, 22),
-    Order::AddFacility("room-1", Kind::Room, 1, 601, 8, 22),
+pub static BEGINNING: [PlainCommand; 14] = [
+    PlainCommand::AddMember(AMY, 2),
+    PlainCommand::Credit(AMY, 1_500),
+    PlainCommand::AddKey("amy-1", AMY, ROOT),
+    PlainCommand::AddKey(AUDIT_AMY, AMY, ROOT),
+    PlainCommand::AddMember("bob", 3),
+    PlainCommand::Credit("bob", 1_500),
+    PlainCommand::AddKey("bob-1", "bob", ROOT),
+    PlainCommand::AddKey(AUDIT_BOB, "bob", ROOT),
+    PlainCommand::AddMember("cy", 4),
+    PlainCommand::Credit("cy", 1_500),
+    PlainCommand::AddKey("cy-1", "cy", ROOT),
+    PlainCommand::AddKey(AUDIT_CY, "cy", ROOT),
+    PlainCommand::AddFacility("court-1", Kind::Court, 8, 200, 8, 22),
+    PlainCommand::AddFacility("room-1", Kind::Room, 1, 601, 8, 22),
 ];
 
 // The caveats of passes.
@@ -113,7 +113,7 @@ pub fn audit(key: &'static str) -> Asking {
 #[derive(Clone, Copy)]
 pub enum Event {
     Asked(Asking),
-    Ordered(Order),
+    Commanded(PlainCommand),
 }
 
 /// The random numbers, from the next one on.
@@ -181,30 +181,30 @@ impl Numbers {
         }
     }
 
-    fn rotation(&mut self, key: &'static str) -> Order {
+    fn rotation(&mut self, key: &'static str) -> PlainCommand {
         let root = ROOTS[self.below(2) as usize];
-        Order::RotateKey(key, root, self.moment())
+        PlainCommand::RotateKey(key, root, self.moment())
     }
 
-    fn order(&mut self) -> Order {
+    fn command(&mut self) -> PlainCommand {
         let member = MEMBERS[self.below(3) as usize];
         let key = KEYS[self.below(4) as usize];
         match self.below(24) {
-            0..=7 => Order::Credit(member, self.below(400)),
-            8 => Order::RevokeKey(key),
-            9 | 10 => Order::CloseSlot(self.slot()),
+            0..=7 => PlainCommand::Credit(member, self.below(400)),
+            8 => PlainCommand::RevokeKey(key),
+            9 | 10 => PlainCommand::CloseSlot(self.slot()),
             11..=14 => self.rotation(key),
-            15..=17 => Order::AddKey(SPARE, member, ROOT),
-            18 => Order::AddKey(key, member, SECOND_ROOT),
-            19..=21 => Order::AddMember(member, 90 + self.below(20)),
-            _ => Order::AddFacility("court-2", Kind::Court, 40 + self.below(20), 200, 8, 22),
+            15..=17 => PlainCommand::AddKey(SPARE, member, ROOT),
+            18 => PlainCommand::AddKey(key, member, SECOND_ROOT),
+            19..=21 => PlainCommand::AddMember(member, 90 + self.below(20)),
+            _ => PlainCommand::AddFacility("court-2", Kind::Court, 40 + self.below(20), 200, 8, 22),
         }
     }
 
-    /// The next event: a request, or once in six an order.
+    /// The next event: a request, or once in six a command.
     pub fn event(&mut self) -> Event {
         match self.below(6) {
-            0 => Event::Ordered(self.order()),
+            0 => Event::Commanded(self.command()),
             _ => Event::Asked(self.draw_asking()),
         }
     }

@@ -1,16 +1,16 @@
-//! What the test crates share: orders of the office, requests, replies and rows as plain values,
+//! What the test crates share: commands of the office, requests, replies and rows as plain values,
 //! the club that most tests begin with, worked lists of requests, known passes, the bytes of known
 //! exchanges, and tables of version 1. It asserts nothing: what may be out of its limits, or out of
 //! memory, is `None`.
 #![tactic(auto)]
 
+mod commands;
 pub mod drawn;
 mod ends;
 pub mod exchanges;
 pub mod lists;
 pub mod minutes;
 pub mod moments;
-mod orders;
 pub mod passes;
 mod pieces;
 pub mod replies;
@@ -21,9 +21,9 @@ mod slots;
 pub mod version_1;
 mod words;
 
+pub use commands::{FIXTURE, PlainCommand};
 pub use ends::{End, Output, form_line};
 pub use lists::{PlainPass, PlainStep};
-pub use orders::{FIXTURE, Order};
 pub use pieces::{Piece, join};
 pub use replies::PlainReply;
 pub use requests::PlainRequest;

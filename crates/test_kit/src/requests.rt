@@ -17,7 +17,7 @@ pub enum PlainRequest {
 
 pub const ACCOUNT: PlainRequest = PlainRequest::Account;
 
-/// A look at `court-1` at 18 hours.
+/// A view of `court-1` at 18 hours.
 pub const VIEW: PlainRequest = PlainRequest::View(COURT_AT_18);
 
 /// Amy's booking of it under number 7, for three persons, and its cancellation.

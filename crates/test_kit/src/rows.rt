@@ -28,7 +28,7 @@ pub const ROOM: PlainFacility = PlainFacility {
     price: 601,
 };
 
-/// A booking, with its refund where it is cancelled.
+/// A booking, with its refund if it is cancelled.
 #[derive(Clone, Copy)]
 pub struct PlainBooking {
     pub key: &'static str,

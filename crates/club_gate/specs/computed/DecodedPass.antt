@@ -47,7 +47,7 @@ words_in_form form bytes request = record { pass = decoded_or_fault (reading_in_
 -- an event at the desk, as the machine sees it
 abbrev pub machine_event : Event → machine.Event
 machine_event (events.Asked words moment) = machine.Asked (decoded_words words.pass.now words.request) moment
-machine_event (events.Ordered command) = machine.Ordered command
+machine_event (events.Commanded command) = machine.Commanded command
 
 -- the events of the machine that events at the desk are
 abbrev pub machine_events : List Event → List machine.Event

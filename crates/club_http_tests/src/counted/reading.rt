@@ -9,7 +9,7 @@ use std::alloc::Global;
 use std::process::Abort;
 use test_kit::Piece;
 
-/// How a text is read of a reader that fails at the call behind its end: at most so many bytes come
+/// How a text is read of a reader that fails at the call after its end: at most so many bytes come
 /// in a call, so many calls are made, and so many bytes stay with the reader.
 type Reading = (usize, u64, usize);
 
@@ -27,7 +27,7 @@ fn is_read(
 /// A text in pieces, and how it is read.
 type Read = (&'static [Piece], Reading);
 
-/// The booking has 128 bytes, and a buffer 16,640. What follows the booking is taken where a call
+/// The booking has 128 bytes, and a buffer 16,640. What follows the booking is taken if a call
 /// gives it.
 static BOOKINGS: [Read; 14] = [
     (&[(1, BOOKING)], (1, 128, 0)),
@@ -57,7 +57,7 @@ static LONGEST_READINGS: [Reading; 5] = [
 ];
 
 /// 20,000 bytes in which no head ends are a bad request once 16,384 have come; no call is given
-/// room behind 16,640.
+/// room after 16,640.
 static ENDLESS: [Reading; 4] = [
     (1, 16_384, 3_616),
     (3, 5_462, 3_614),
@@ -96,7 +96,7 @@ fn endless_head(rt: HostRuntime) {
     is_read_so(&rt, &[(20_000, "x")], &ENDLESS, &IS_BAD);
 }
 
-/// How a request of so many bytes is read, so many a call, with five bytes behind it.
+/// How a request of so many bytes is read, so many a call, with five bytes after it.
 fn by_steps(len: usize, step: usize) -> Reading {
     let behind_first = step.max(1) - 1;
     let calls = (len.min(20_000) + behind_first.min(20_000)) / (behind_first + 1);
@@ -108,7 +108,7 @@ fn by_steps(len: usize, step: usize) -> Reading {
     )
 }
 
-/// The text is a request and five bytes behind it.
+/// The text is a request and five bytes after it.
 fn is_read_by_steps(
     rt: &(impl Abort + Alloc<A = Global>),
     text: &str,

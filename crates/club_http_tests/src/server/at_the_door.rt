@@ -30,7 +30,7 @@ enum Then {
     Goes,
 }
 
-/// How many bytes a sender sends, what it does then, how many orders are carried out and of how
+/// How many bytes a sender sends, what it does then, how many commands are carried out and of how
 /// many bytes, and what the sender gets.
 type Row = (usize, Then, u64, usize, &'static [u8]);
 
@@ -43,7 +43,7 @@ static ROWS: [Row; 8] = [
     (70_000, Then::Ends, 0, 0, b"!"),
     // A silent one is cut off after a second.
     (8, Then::Waits, 0, 0, b"!"),
-    // One that is gone before it is greeted has its order left undone, even where it came whole.
+    // One that is gone before it is greeted has its command left undone, even if it came whole.
     (0, Then::Goes, 0, 0, b""),
     (8, Then::Goes, 0, 0, b""),
 ];
@@ -67,7 +67,7 @@ fn sender_at(
     Ok(Some(sender))
 }
 
-/// What the next connection of a door has done at this desk; whether an order came whole.
+/// What the next connection of a door has done at this desk; whether a command came whole.
 fn hand_over<D: Office>(
     rt: &HostRuntime,
     door: &UnixListener,
@@ -76,7 +76,7 @@ fn hand_over<D: Office>(
 ) -> Result<bool, Fail> {
     let listener = TcpListener::bind(rt, "127.0.0.1:0")?;
     let mut arrivals = Listening::new(&listener, Some(door), rt, patience);
-    let Arrival::Order(mut handed) = arrivals.next() else {
+    let Arrival::Command(mut handed) = arrivals.next() else {
         return Err("no order".into());
     };
     Ok(handed.carry_out(desk).is_some())
@@ -86,14 +86,14 @@ fn hand_over<D: Office>(
 fn got_by(rt: &HostRuntime, sender: Option<UnixStream>) -> Vec<u8> {
     let mut got = Vec::new(rt.alloc());
     if let Some(mut sender) = sender {
-        // A connection that is closed with bytes unread is reset behind what was written to it.
+        // A connection that is closed with bytes unread is reset after what was written to it.
         let _ = sender.read_to_end(&mut got);
     }
     got
 }
 
-/// What comes of a sender: whether its order came whole, how many were carried out and of how many
-/// bytes, and what it got.
+/// What comes of a sender: whether its command came whole, how many were carried out and of how
+/// many bytes, and what it got.
 type Outcome = (bool, u64, usize, Vec<u8>);
 
 fn visits(rt: &HostRuntime, bytes: usize, then: Then) -> Result<Outcome, Fail> {
@@ -104,20 +104,20 @@ fn visits(rt: &HostRuntime, bytes: usize, then: Then) -> Result<Outcome, Fail> {
     let mut desk = Noting::new(rt.alloc(), noon);
     let whole = hand_over(rt, &door, Duration::from_secs(10), &mut desk)?;
     fs::remove_file(rt, path.as_str())?;
-    Ok((whole, desk.ordered, desk.bytes, got_by(rt, sender)))
+    Ok((whole, desk.commanded, desk.bytes, got_by(rt, sender)))
 }
 
-// An order is carried out, once and by its own bytes, only if it came whole, in time, and from a
+// A command is carried out, once and by its own bytes, only if it came whole, in time, and from a
 // sender that was still there.
 #[test]
 fn senders_at_a_door(rt: HostRuntime) -> Result<(), Fail> {
-    for (bytes, then, ordered, of, want) in &ROWS {
+    for (bytes, then, commanded, of, want) in &ROWS {
         let (whole, done, came, got) = visits(&rt, *bytes, *then)?;
         let row = (*bytes, *then);
         expect_row(
             &rt,
             &(whole, done, came),
-            &(*ordered == 1, *ordered, *of),
+            &(*commanded == 1, *commanded, *of),
             &row,
         );
         expect_bytes(&rt, &got, want, "what the office got");
@@ -130,7 +130,7 @@ fn senders_at_a_door(rt: HostRuntime) -> Result<(), Fail> {
 struct Wordy<'t> {
     text: &'t str,
     rt: &'t HostRuntime,
-    ordered: u64,
+    commanded: u64,
 }
 
 impl Responder for Wordy<'_> {
@@ -142,10 +142,10 @@ impl Responder for Wordy<'_> {
 }
 
 impl Office for Wordy<'_> {
-    ghost orders = { λ _ _ _ _. Unit {0} };
+    ghost commands = { λ _ _ _ _. Unit {0} };
 
-    fn order(&mut self, _bytes: &[u8]) -> Answer {
-        self.ordered = self.ordered.saturating_add(1);
+    fn command(&mut self, _bytes: &[u8]) -> Answer {
+        self.commanded = self.commanded.saturating_add(1);
         let text = self.text;
         Answer {
             carried: Carried {
@@ -160,8 +160,8 @@ impl Office for Wordy<'_> {
 /// More bytes than the buffers of a socket hold.
 const LONG: usize = 2_000_000;
 
-// A sender that doesn't take its answer has its order carried out, and is cut off once the patience
-// is over.
+// A sender that doesn't take its answer has its command carried out, and is cut off once the
+// patience is over.
 #[test]
 fn a_sender_that_takes_no_answer(rt: HostRuntime) -> Result<(), Fail> {
     let path = new_path(&rt, "takes-no-answer")?;
@@ -171,30 +171,31 @@ fn a_sender_that_takes_no_answer(rt: HostRuntime) -> Result<(), Fail> {
     let mut desk = Wordy {
         text: text.as_str(),
         rt: &rt,
-        ordered: 0,
+        commanded: 0,
     };
     let whole = hand_over(&rt, &door, Duration::from_millis(50), &mut desk)?;
     fs::remove_file(&rt, path.as_str())?;
     let got = got_by(&rt, sender);
     let cut_off = got.len() > 2 && got.len() < LONG;
-    expect_eq(&rt, &(whole, desk.ordered, cut_off), &(true, 1, true));
+    expect_eq(&rt, &(whole, desk.commanded, cut_off), &(true, 1, true));
     Ok(())
 }
 
-/// Which of two orders and three clients come, one after the other: orders take turns with them.
+/// Which of two commands and three clients come, one after the other: commands take turns with
+/// them.
 static TURNS: [bool; 5] = [true, false, true, false, false];
 
-/// Whether the next arrival is an order.
-fn is_order<A: Arrivals>(arrivals: &mut A) -> Option<bool> {
+/// Whether the next arrival is a command.
+fn is_command<A: Arrivals>(arrivals: &mut A) -> Option<bool> {
     match arrivals.next() {
-        Arrival::Order(_) => Some(true),
+        Arrival::Command(_) => Some(true),
         Arrival::Client(_) => Some(false),
         Arrival::Nobody => None,
     }
 }
 
 #[test]
-fn orders_and_clients_take_turns(rt: HostRuntime) -> Result<(), Fail> {
+fn commands_and_clients_take_turns(rt: HostRuntime) -> Result<(), Fail> {
     let path = new_path(&rt, "turns")?;
     let door = door_at(&rt, path.as_str())?;
     let listener = loopback_listener(&rt);
@@ -209,7 +210,7 @@ fn orders_and_clients_take_turns(rt: HostRuntime) -> Result<(), Fail> {
     );
     let mut arrivals = Listening::new(&listener, Some(&door), &rt, Duration::from_secs(10));
     for turn in &TURNS {
-        expect_eq(&rt, &is_order(&mut arrivals), &Some(*turn));
+        expect_eq(&rt, &is_command(&mut arrivals), &Some(*turn));
     }
     fs::remove_file(&rt, path.as_str())?;
     Ok(())

@@ -1,4 +1,4 @@
-//! Orders that come while a client's request is awaited, over a stream that notes its calls, each
+//! Commands that come while a client's request is awaited, over a stream that notes its calls, each
 //! with its time. No contract states how long a server waits, nor whose turn it is, nor that a
 //! stream is closed before the log has its line.
 
@@ -25,7 +25,7 @@ struct Once<'a> {
 impl<'a> Arrivals for Once<'a> {
     type Client = Accepted<'a, Recorded<'a>, HandSet>;
 
-    type Order = Letter<'a>;
+    type Command = Letter<'a>;
 
     ghost waited = { λ once. once.waited };
 
@@ -43,11 +43,11 @@ impl<'a> Arrivals for Once<'a> {
     }
 }
 
-/// What comes to a server that has a patience of ten seconds, the milliseconds that an order takes,
-/// and the calls.
+/// What comes to a server that has a patience of ten seconds, the milliseconds that a command
+/// takes, and the calls.
 struct Row {
     steps: &'static [Step<'static>],
-    order_takes: u64,
+    command_takes: u64,
     calls: &'static [(u64, Call)],
 }
 
@@ -55,10 +55,10 @@ struct Row {
 const REST: &[u8] = b"ET /account HTTP/1.1\r\nAuthorization: Bearer AgEJ\r\n\r\n";
 
 static ROWS: [Row; 5] = [
-    // Its request is there: no order goes before it.
+    // Its request is there: no command goes before it.
     Row {
-        steps: &[Step::Bytes(0, REQUEST), Step::Order(0, b"an order")],
-        order_takes: 0,
+        steps: &[Step::Bytes(0, REQUEST), Step::Command(0, b"an order")],
+        command_takes: 0,
         calls: &[
             (0, Call::Began),
             (0, Call::WaitedBytesFirst(10_000)),
@@ -69,22 +69,22 @@ static ROWS: [Row; 5] = [
             (0, Call::NotedClient),
         ],
     },
-    // An order between two pieces is done before the desk is asked. It takes the client's time.
+    // A command between two pieces is done before the desk is asked. It takes the client's time.
     Row {
         steps: &[
             Step::Bytes(1_000, b"G"),
-            Step::Order(500, b"an order"),
+            Step::Command(500, b"an order"),
             Step::Bytes(2_000, REST),
         ],
-        order_takes: 100,
+        command_takes: 100,
         calls: &[
             (0, Call::Began),
             (0, Call::WaitedBytesFirst(10_000)),
             (1_000, Call::Read(9_000)),
-            (1_000, Call::WaitedOrderFirst(9_000)),
+            (1_000, Call::WaitedCommandFirst(9_000)),
             (1_500, Call::Began),
-            (1_500, Call::Ordered(8)),
-            (1_600, Call::NotedOrder),
+            (1_500, Call::Commanded(8)),
+            (1_600, Call::NotedCommand),
             (1_600, Call::WaitedBytesFirst(8_400)),
             (3_600, Call::Read(6_400)),
             (3_600, Call::Asked),
@@ -93,40 +93,40 @@ static ROWS: [Row; 5] = [
             (3_600, Call::NotedClient),
         ],
     },
-    // A silent client keeps no order, and is cut off in its time.
+    // A silent client keeps no command, and is cut off in its time.
     Row {
         steps: &[
-            Step::Order(3_000, b"an order"),
+            Step::Command(3_000, b"an order"),
             Step::Gone(1_000),
-            Step::Order(2_000, b"another order"),
+            Step::Command(2_000, b"another order"),
         ],
-        order_takes: 0,
+        command_takes: 0,
         calls: &[
             (0, Call::Began),
             (0, Call::WaitedBytesFirst(10_000)),
             (3_000, Call::Began),
-            (3_000, Call::Ordered(8)),
-            (3_000, Call::NotedOrder),
+            (3_000, Call::Commanded(8)),
+            (3_000, Call::NotedCommand),
             (3_000, Call::WaitedBytesFirst(7_000)),
             (4_000, Call::WaitedBytesFirst(6_000)),
             (6_000, Call::Began),
-            (6_000, Call::Ordered(13)),
-            (6_000, Call::NotedOrder),
+            (6_000, Call::Commanded(13)),
+            (6_000, Call::NotedCommand),
             (6_000, Call::WaitedBytesFirst(4_000)),
             (10_000, Call::Closed),
             (10_000, Call::NotedClient),
         ],
     },
-    // An order that takes all its time cuts a client off.
+    // A command that takes all its time cuts a client off.
     Row {
-        steps: &[Step::Order(1_000, b"an order"), Step::Bytes(0, REQUEST)],
-        order_takes: 20_000,
+        steps: &[Step::Command(1_000, b"an order"), Step::Bytes(0, REQUEST)],
+        command_takes: 20_000,
         calls: &[
             (0, Call::Began),
             (0, Call::WaitedBytesFirst(10_000)),
             (1_000, Call::Began),
-            (1_000, Call::Ordered(8)),
-            (21_000, Call::NotedOrder),
+            (1_000, Call::Commanded(8)),
+            (21_000, Call::NotedCommand),
             (21_000, Call::Closed),
             (21_000, Call::NotedClient),
         ],
@@ -135,18 +135,18 @@ static ROWS: [Row; 5] = [
     Row {
         steps: &[
             Step::Bytes(0, b"x"),
-            Step::Order(0, b"an order"),
+            Step::Command(0, b"an order"),
             Step::End(0),
         ],
-        order_takes: 0,
+        command_takes: 0,
         calls: &[
             (0, Call::Began),
             (0, Call::WaitedBytesFirst(10_000)),
             (0, Call::Read(10_000)),
-            (0, Call::WaitedOrderFirst(10_000)),
+            (0, Call::WaitedCommandFirst(10_000)),
             (0, Call::Began),
-            (0, Call::Ordered(8)),
-            (0, Call::NotedOrder),
+            (0, Call::Commanded(8)),
+            (0, Call::NotedCommand),
             (0, Call::WaitedBytesFirst(10_000)),
             (0, Call::Read(10_000)),
             (0, Call::Wrote(10_000, 131)),
@@ -163,7 +163,7 @@ fn serve_steps<'a>(
     rt: &(impl Abort + Alloc<A = Global>),
     journal: &'a Journal,
     steps: &'a [Step<'a>],
-    order_takes: u64,
+    command_takes: u64,
 ) {
     let stream = Recorded::new(journal, steps);
     let client = Accepted::new(stream, &journal.clock, Duration::from_secs(10));
@@ -173,7 +173,7 @@ fn serve_steps<'a>(
         failures: 0,
     };
     let reply = Reply::Refused(Refusal::Unavailable);
-    let mut desk = Recorder::new(journal, rt.alloc(), reply).that_takes(0, order_takes);
+    let mut desk = Recorder::new(journal, rt.alloc(), reply).that_takes(0, command_takes);
     let mut face = Face::new(rt.alloc()).expect(rt, "a face");
     let mut log = Entries(journal);
     let served = serve_logged(
@@ -189,13 +189,13 @@ fn serve_steps<'a>(
 
 fn plays(rt: &(impl Abort + Alloc<A = Global>), row: &Row) {
     let journal = Journal::new(rt.alloc());
-    serve_steps(rt, &journal, row.steps, row.order_takes);
+    serve_steps(rt, &journal, row.steps, row.command_takes);
     let calls = journal.calls(rt.alloc());
     expect_row(rt, &calls.as_slice(), &row.calls, &row.calls);
 }
 
 #[test]
-fn orders_between_the_pieces_of_a_request(rt: HostRuntime) {
+fn commands_between_the_pieces_of_a_request(rt: HostRuntime) {
     for row in &ROWS {
         plays(&rt, row);
     }

@@ -1,4 +1,4 @@
-//! Orders that come by the office's door while a client's request is awaited, over sockets in one
+//! Commands that come by the office's door while a client's request is awaited, over sockets in one
 //! process.
 
 use super::{REPLY, REQUEST};
@@ -21,15 +21,15 @@ use std::time::Duration;
 use std::{env, fs, process};
 use test_kit::moments::NOON;
 
-/// A desk whose client sends the rest of its request only once an order was carried out. Where it
-/// is asked, it looks at what the office has got by then.
+/// A desk whose client sends the rest of its request only once a command was carried out. If it is
+/// asked, it looks at what the office has got by then.
 #[derive(Drop)]
 struct Tied<'s> {
     alloc: Global,
     client: &'s TcpStream,
     office: &'s UnixStream,
     rest: &'s [u8],
-    ordered: usize,
+    commanded: usize,
     asked: u64,
     got: &'s mut Vec<u8>,
 }
@@ -46,10 +46,10 @@ impl Responder for Tied<'_> {
 }
 
 impl Office for Tied<'_> {
-    ghost orders = { λ _ _ _ _. Unit {0} };
+    ghost commands = { λ _ _ _ _. Unit {0} };
 
-    fn order(&mut self, bytes: &[u8]) -> Answer {
-        self.ordered = self.ordered.saturating_add(bytes.len());
+    fn command(&mut self, bytes: &[u8]) -> Answer {
+        self.commanded = self.commanded.saturating_add(bytes.len());
         let mut client = self.client;
         let _ = client.write_all(self.rest);
         Answer {
@@ -77,21 +77,21 @@ pub fn door_at(rt: &HostRuntime, path: &str) -> Result<UnixListener, Fail> {
     Ok(door)
 }
 
-/// A connection of the office that has sent this order, and waits for its answer no longer than a
+/// A connection of the office that has sent this command, and waits for its answer no longer than a
 /// second.
-fn office_at(rt: &HostRuntime, path: &str, order: &[u8]) -> Result<UnixStream, Fail> {
+fn office_at(rt: &HostRuntime, path: &str, command: &[u8]) -> Result<UnixStream, Fail> {
     let mut office = UnixStream::connect(rt, path)?;
-    office.write_all(order)?;
+    office.write_all(command)?;
     office.shutdown(Shutdown::Write)?;
     office.set_read_timeout(Some(Duration::from_secs(1)))?;
     Ok(office)
 }
 
-/// How an exchange ended with a client that was accepted before an order came: the fault, the bytes
-/// of the order that was carried out, and how often the desk was asked.
+/// How an exchange ended with a client that was accepted before a command came: the fault, the
+/// bytes of the command that was carried out, and how often the desk was asked.
 type Outcome = (Option<AnswerFault>, usize, u64);
 
-/// A client and the next order at this door, in an exchange within this time.
+/// A client and the next command at this door, in an exchange within this time.
 fn exchanges(
     rt: &HostRuntime,
     listener: &TcpListener,
@@ -112,7 +112,7 @@ fn exchanges(
         client,
         office: &office,
         rest,
-        ordered: 0,
+        commanded: 0,
         asked: 0,
         got,
     };
@@ -121,12 +121,12 @@ fn exchanges(
     let mut face = Face::new(rt.alloc())?;
     let outcome = connection.exchange(&mut face, &mut moments, &mut desk, &mut Unlogged, moment);
     fs::remove_file(rt, path)?;
-    Ok((outcome.err(), desk.ordered, desk.asked))
+    Ok((outcome.err(), desk.commanded, desk.asked))
 }
 
-// The client has sent a letter. The order is carried out, and answered, before the rest comes.
+// The client has sent a letter. The command is carried out, and answered, before the rest comes.
 #[test]
-fn an_order_between_two_pieces(rt: HostRuntime) -> Result<(), Fail> {
+fn a_command_between_two_pieces(rt: HostRuntime) -> Result<(), Fail> {
     let path = new_path(&rt, "between-two-pieces")?;
     let listener = loopback_listener(&rt);
     let mut client = client_of(&rt, &listener, b"G");
@@ -141,9 +141,10 @@ fn an_order_between_two_pieces(rt: HostRuntime) -> Result<(), Fail> {
     Ok(())
 }
 
-// The client sends nothing: the order is carried out all the same, and then the client is cut off.
+// The client sends nothing: the command is carried out all the same, and then the client is cut
+// off.
 #[test]
-fn an_order_beside_a_silent_client(rt: HostRuntime) -> Result<(), Fail> {
+fn a_command_beside_a_silent_client(rt: HostRuntime) -> Result<(), Fail> {
     let path = new_path(&rt, "beside-a-silent-client")?;
     let listener = loopback_listener(&rt);
     let client = client_of(&rt, &listener, b"");

@@ -23,8 +23,8 @@ pub enum Wire<'a> {
     /// Nobody: waiting failed.
     Absent,
     /// A connection of the office with these bytes.
-    Order(&'a [u8]),
-    /// One whose order doesn't come whole.
+    Command(&'a [u8]),
+    /// One whose command doesn't come whole.
     Cut,
     /// A client whose reader fails.
     Broken,
@@ -32,7 +32,7 @@ pub enum Wire<'a> {
     Whole(&'a [u8]),
     /// One that sends these bytes, and whose writer fails.
     Deaf(&'a [u8]),
-    /// One that sends its bytes in pieces, with orders between them, and then ends.
+    /// One that sends its bytes in pieces, with commands between them, and then ends.
     Pieces(&'a [Piece<'a>]),
 }
 
@@ -42,8 +42,8 @@ pub enum Piece<'a> {
     /// Some of its bytes.
     Bytes(&'a [u8]),
     /// A connection of the office with these bytes.
-    Order(&'a [u8]),
-    /// One whose order doesn't come whole.
+    Command(&'a [u8]),
+    /// One whose command doesn't come whole.
     Cut,
     /// One that was gone before it was accepted.
     Gone,
@@ -115,12 +115,12 @@ pub fn read_from(bytes: &[u8], room: &mut [u8]) -> Waited
 }
 
 impl<'a> ClientStream for Played<'a> {
-    type Order = Letter<'a>;
+    type Command = Letter<'a>;
 
-    fn wait_within(&self, _limit: Duration, _order_first: bool) -> Woken<Letter<'a>> {
+    fn wait_within(&self, _limit: Duration, _command_first: bool) -> Woken<Letter<'a>> {
         let woken = match self.next() {
-            Some(Piece::Order(bytes)) => Woken::Order(Letter(Some(bytes))),
-            Some(Piece::Cut) => Woken::Order(Letter(None)),
+            Some(Piece::Command(bytes)) => Woken::Command(Letter(Some(bytes))),
+            Some(Piece::Cut) => Woken::Command(Letter(None)),
             Some(Piece::Gone) => Woken::Nobody,
             _ => return Woken::Client,
         };
@@ -151,7 +151,7 @@ impl<'a> ClientStream for Played<'a> {
     }
 }
 
-/// A connection of the office over memory; `None` if its order doesn't come whole.
+/// A connection of the office over memory; `None` if its command doesn't come whole.
 #[derive(Drop)]
 pub struct Letter<'a>(pub Option<&'a [u8]>);
 
@@ -159,7 +159,7 @@ impl Handover for Letter<'_> {
     fn carry_out<D: Office>(&mut self, desk: &mut D) -> Option<Carried> {
         match self.0 {
             Some(bytes) => {
-                let Answer { carried, text: _ } = desk.order(bytes);
+                let Answer { carried, text: _ } = desk.command(bytes);
                 Some(carried)
             }
             None => None,
@@ -191,7 +191,7 @@ impl<'a> Script<'a> {
 impl<'a> Arrivals for Script<'a> {
     type Client = Accepted<'a, Played<'a>, Stopped>;
 
-    type Order = Letter<'a>;
+    type Command = Letter<'a>;
 
     ghost waited = { λ script. script.waited };
 
@@ -205,8 +205,8 @@ impl<'a> Arrivals for Script<'a> {
                 self.failures = self.failures.saturating_add(1);
                 Arrival::Nobody
             }
-            Some(Wire::Order(bytes)) => Arrival::Order(Letter(Some(bytes))),
-            Some(Wire::Cut) => Arrival::Order(Letter(None)),
+            Some(Wire::Command(bytes)) => Arrival::Command(Letter(Some(bytes))),
+            Some(Wire::Cut) => Arrival::Command(Letter(None)),
             Some(wire) => {
                 let stream = Played::new(*wire);
                 Arrival::Client(Accepted::new(stream, &STOPPED, Duration::from_secs(10)))
@@ -434,14 +434,14 @@ impl TimedStream for Slow<'_> {
     }
 }
 
-/// Answers all requests as out of memory, and counts those at its moment, and the orders and their
-/// bytes.
+/// Answers all requests as out of memory, and counts those at its moment, and the commands and
+/// their bytes.
 #[derive(Drop)]
 pub struct Noting {
     alloc: Global,
     moment: Moment,
     pub asked: u64,
-    pub ordered: u64,
+    pub commanded: u64,
     pub bytes: usize,
 }
 
@@ -451,7 +451,7 @@ impl Noting {
             alloc,
             moment,
             asked: 0,
-            ordered: 0,
+            commanded: 0,
             bytes: 0,
         }
     }
@@ -469,10 +469,10 @@ impl Responder for Noting {
 }
 
 impl Office for Noting {
-    ghost orders = { λ _ _ _ _. Unit {0} };
+    ghost commands = { λ _ _ _ _. Unit {0} };
 
-    fn order(&mut self, bytes: &[u8]) -> Answer {
-        self.ordered = self.ordered.saturating_add(1);
+    fn command(&mut self, bytes: &[u8]) -> Answer {
+        self.commanded = self.commanded.saturating_add(1);
         self.bytes = self.bytes.saturating_add(bytes.len());
         Answer {
             carried: Carried {

@@ -35,8 +35,8 @@ impl Clock for HandSet {
 /// A call, with the milliseconds of its limit, or the bytes that were written.
 #[derive(Clone, Copy, Debug, PartialEq, Eq)]
 pub enum Call {
-    /// A wait for a client and for the office; orders go first, or bytes.
-    WaitedOrderFirst(u64),
+    /// A wait for a client and for the office; commands go first, or bytes.
+    WaitedCommandFirst(u64),
     WaitedBytesFirst(u64),
     Read(u64),
     Wrote(u64, usize),
@@ -44,10 +44,10 @@ pub enum Call {
     /// The client's stream was closed.
     Closed,
     Asked,
-    /// An order of so many bytes was carried out.
-    Ordered(usize),
+    /// A command of so many bytes was carried out.
+    Commanded(usize),
     Began,
-    NotedOrder,
+    NotedCommand,
     NotedClient,
     NotedOther,
 }
@@ -86,9 +86,9 @@ impl Journal {
 pub enum Step<'a> {
     /// Bytes of the client.
     Bytes(u64, &'a [u8]),
-    /// An order with these bytes.
-    Order(u64, &'a [u8]),
-    /// An order that was gone before it was accepted.
+    /// A command with these bytes.
+    Command(u64, &'a [u8]),
+    /// A command that was gone before it was accepted.
     Gone(u64),
     /// The end of what the client sends.
     End(u64),
@@ -120,7 +120,7 @@ impl<'a> Recorded<'a> {
         let most = milliseconds(limit);
         let next = self.steps.get(self.came.get()).copied();
         let after = match next {
-            Some(Step::Bytes(after, _) | Step::Order(after, _)) => after,
+            Some(Step::Bytes(after, _) | Step::Command(after, _)) => after,
             Some(Step::Gone(after) | Step::End(after)) => after,
             None => u64::MAX,
         };
@@ -134,17 +134,17 @@ impl<'a> Recorded<'a> {
 }
 
 impl<'a> ClientStream for Recorded<'a> {
-    type Order = Letter<'a>;
+    type Command = Letter<'a>;
 
-    fn wait_within(&self, limit: Duration, order_first: bool) -> Woken<Letter<'a>> {
+    fn wait_within(&self, limit: Duration, command_first: bool) -> Woken<Letter<'a>> {
         let left = milliseconds(limit);
-        self.journal.note(if order_first {
-            Call::WaitedOrderFirst(left)
+        self.journal.note(if command_first {
+            Call::WaitedCommandFirst(left)
         } else {
             Call::WaitedBytesFirst(left)
         });
         let woken = match self.next_within(limit) {
-            Some(Step::Order(_, bytes)) => Woken::Order(Letter(Some(bytes))),
+            Some(Step::Command(_, bytes)) => Woken::Command(Letter(Some(bytes))),
             Some(Step::Gone(_)) => Woken::Nobody,
             _ => return Woken::Client,
         };
@@ -192,14 +192,14 @@ impl Drop for Recorded<'_> {
 /// for.
 type Asking = (u64, Moment, Request);
 
-/// A desk that notes its calls. A request takes so many milliseconds, and so does an order; each
+/// A desk that notes its calls. A request takes so many milliseconds, and so does a command; each
 /// request gets one reply.
 #[derive(Drop)]
 pub struct Recorder<'j> {
     journal: &'j Journal,
     alloc: Global,
     asking_takes: u64,
-    order_takes: u64,
+    command_takes: u64,
     pub reply: Reply,
     pub calls: u64,
     pub last: Option<Asking>,
@@ -211,18 +211,18 @@ impl<'j> Recorder<'j> {
             journal,
             alloc,
             asking_takes: 0,
-            order_takes: 0,
+            command_takes: 0,
             reply,
             calls: 0,
             last: None,
         }
     }
 
-    /// The same, with these milliseconds for a request and for an order.
-    pub fn that_takes(self, asking_takes: u64, order_takes: u64) -> Recorder<'j> {
+    /// The same, with these milliseconds for a request and for a command.
+    pub fn that_takes(self, asking_takes: u64, command_takes: u64) -> Recorder<'j> {
         Recorder {
             asking_takes,
-            order_takes,
+            command_takes,
             ..self
         }
     }
@@ -241,11 +241,11 @@ impl Responder for Recorder<'_> {
 }
 
 impl Office for Recorder<'_> {
-    ghost orders = { λ _ _ _ _. Unit {0} };
+    ghost commands = { λ _ _ _ _. Unit {0} };
 
-    fn order(&mut self, bytes: &[u8]) -> Answer {
-        self.journal.note(Call::Ordered(bytes.len()));
-        self.journal.clock.advance(self.order_takes);
+    fn command(&mut self, bytes: &[u8]) -> Answer {
+        self.journal.note(Call::Commanded(bytes.len()));
+        self.journal.clock.advance(self.command_takes);
         Answer {
             carried: Carried {
                 line: RequestLine::of(b"office credit "),
@@ -271,7 +271,7 @@ impl Log for Entries<'_> {
 
     fn note(&mut self, fate: &Fate) {
         self.0.note(match fate {
-            Fate::Ordered { .. } => Call::NotedOrder,
+            Fate::Commanded { .. } => Call::NotedCommand,
             Fate::Exchanged { .. } => Call::NotedClient,
             _ => Call::NotedOther,
         });

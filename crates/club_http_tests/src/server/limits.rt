@@ -32,7 +32,7 @@ const CUT: Option<AnswerFault> = Some(AnswerFault::Read);
 
 /// The request has 53 bytes and its reply 140, and the patience is ten seconds for each. A client
 /// that keeps within both is served, and is cut off else once the limit is over. Nothing is read or
-/// written where the clock can't be read.
+/// written if the clock can't be read.
 static OUTCOMES: [(Client, Outcome); 10] = [
     ((0, 0, ALWAYS), (None, 53, 140, 0)),
     ((100, 50, ALWAYS), (None, 53, 140, 12_300)),

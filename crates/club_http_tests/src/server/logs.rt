@@ -12,18 +12,18 @@ use std::io::Write;
 use std::process::Abort;
 use test_kit::moments::NOON;
 
-/// One of the requests comes in two pieces, with orders before them and between.
+/// One of the requests comes in two pieces, with commands before them and between.
 static SCRIPT: [Wire<'static>; 11] = [
-    Wire::Order(b"an order"),
+    Wire::Command(b"an order"),
     Wire::Whole(REQUEST),
     Wire::Cut,
     Wire::Absent,
     Wire::Pieces(&[
-        Piece::Order(b"an order"),
+        Piece::Command(b"an order"),
         Piece::Bytes(b"GET /account HTTP/1.1\r\nAuthorization:"),
         Piece::Cut,
         Piece::Gone,
-        Piece::Order(b"an order"),
+        Piece::Command(b"an order"),
         Piece::Bytes(b" Bearer AgEJ\r\n\r\n"),
     ]),
     Wire::Broken,

@@ -91,10 +91,10 @@ fn exchanges_over_a_socket(rt: HostRuntime) {
     }
 }
 
-/// How many bytes a client sends behind its request.
+/// How many bytes a client sends after its request.
 static BEHIND: [u16; 3] = [1, 1_000, 60_000];
 
-/// A client that sends so many bytes behind its request reads its whole reply, and then the end.
+/// A client that sends so many bytes after its request reads its whole reply, and then the end.
 fn replies_before(
     rt: &(impl Abort + Alloc<A = Global> + Clock + Net<Listener = TcpListener, Stream = TcpStream>),
     behind: u16,

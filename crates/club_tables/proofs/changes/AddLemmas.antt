@@ -189,7 +189,7 @@ module _ (text : List ℕ) (terms sets : List Term) (at : ℕ) (clause : Upsert)
     each_yields xs yields.1,
   )
 
-  -- the slot's row is put, where there was one and where there was none
+  -- the slot's row is put, if there was one and if there was none
   slot_put : (list_any (λ (row : SlotRow). same_slot row.slot slot) rows.slots ≡ false → closed ∷ taken ∷ [] ≡ use_values (change no_slot_use))
       → ((there : Row) → column (params ++ rowid there ∷ shown slot_table slot_row) at ≡ rowid there)
       → AllByRecursion YieldsUse rows.slots → (count : ℕ) → Executes text params old new (Ok count)
@@ -284,7 +284,7 @@ older_table = record old_roots_table { tree = olders_tree }
 abbrev older_target : Option (List ℕ)
 older_target = Some (1 ∷ [])
 
--- a row conflicts with a new one where both are of one key
+-- a row conflicts with a new one if both are of one key
 olders_conflict : (id id' : ℤ) (row : OlderRow) (key : List ℕ) (older : OlderRoot)
     → conflicts older_target club_schema.indexes older_table (Int id' ∷ Text key ∷ older_root_values older) (Int id ∷ older_values row) ≡ bytes_eq row.key key
 unfolding first_key

@@ -136,7 +136,7 @@ module _ (old new : State) (rows : Rows) (holds_rows : HoldsRows old.now rows) (
   marked : Implies is_as_given (is_marked booking.key booking.number)
   marked b h = rw (named b h, (as_given b h).1) refl
 
-  -- where the booking is on record as it is given, its row is updated
+  -- if the booking is on record as it is given, its row is updated
   pub cancel_some : booking_under booking.key booking.number rows.bookings ≡ Some booking → booking.cancelled ≡ false → 1 ≤ count
   cancel_some on_record uncancelled =
       let it = found (is_numbered booking.key booking.number) rows.bookings booking on_record in

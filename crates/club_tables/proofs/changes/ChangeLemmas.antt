@@ -113,7 +113,7 @@ module _ (old new : State) (rows : Rows) (holds_rows : HoldsRows old.now rows) (
   pub credit_found : 1 ≤ count → (row : MemberRow) × (find is_named rows.members ≡ Some row)
   credit_found some = passes_one credit_finds some
 
-  -- where the member is there, its row is updated
+  -- if the member is there, its row is updated
   pub credit_some : (row : MemberRow) → find is_named rows.members ≡ Some row → 1 ≤ count
   credit_some row stores = writes_one credit_finds (found_counts is_named rows.members row stores)
 
@@ -179,7 +179,7 @@ module _ (old new : State) (rows : Rows) (holds_rows : HoldsRows old.now rows) (
     counted = used_put.counted;
   }
 
-  -- where the key is the member's, the member's row is updated
+  -- if the key is the member's, the member's row is updated
   pub used_some : (k : Key) → StoresKey key rows.keys k → k.member ≡ name → (row : MemberRow) → find is_member rows.members ≡ Some row → 1 ≤ count
   used_some k stores same row stored =
       let is_key : Key → Bool = λ k. bytes_eq k.name key in
@@ -244,7 +244,7 @@ module _ (old new : State) (rows : Rows) (holds_rows : HoldsRows old.now rows) (
   pub revoke_found : 1 ≤ count → (key : Key) × StoresKey name rows.keys key
   revoke_found some = passes_one revoke_finds some
 
-  -- where the key is there, its row is updated
+  -- if the key is there, its row is updated
   pub revoke_some : (key : Key) → StoresKey name rows.keys key → 1 ≤ count
   revoke_some key stores = writes_one revoke_finds (found_counts is_key rows.keys key stores)
 
@@ -286,7 +286,7 @@ module _ (old new : State) (rows : Rows) (holds_rows : HoldsRows old.now rows) (
   root_finds = finds key_values has_root rows.keys (updates root_means key_table refl holds_rows.schema ran) holds_rows.held.keys
       (λ id key. both_tests _ _ _ _ (text_equal key.name name) (blob_equal key.root was))
 
-  -- where the key has the former root, its row is updated
+  -- if the key has the former root, its row is updated
   pub root_some : (key : Key) → StoresKey name rows.keys key → key.root ≡ was → 1 ≤ count
   root_some key stores same =
       let it = found has_name rows.keys key stores in

@@ -104,7 +104,7 @@ module _ {S : Type 0} (g : Ghosts S) where
 
 -- ---- calls in a transaction
 
--- where the connection is open, it was, and has the same commit
+-- if the connection is open, it was, and has the same commit
 abbrev pub Keeps : State → State → Type 0
 Keeps old new = IsTrue new.is_open → IsTrue old.is_open × (new.committed ≡ old.committed)
 

@@ -58,7 +58,7 @@ module _ {X K : Type 0} (key_of : X → K) (same : K → K → Bool) (same_keys 
   lone rows once = apart_from_pairs IsLone rows (λ i j d less low both.
       once i j d less low (same_keys _ key both.0 ∙ sym (same_keys _ key both.1)))
 
-  -- its row is changed, or else this one is put behind the others
+  -- its row is changed, or else this one is put after the others
   module _ (changed : X → X) (kept : (x : X) → key_of (changed x) ≡ key_of x) (first : X) (of_key : key_of first ≡ key) where
     abbrev put : Bool → List X → List X
     put any rows = if any then map changed rows else rows ++ first ∷ []
@@ -130,7 +130,7 @@ slot_table = record slots_table { tree = slots_tree }
 abbrev pub AreApart : List SlotRow → Type 0
 AreApart = Apart (λ (a : SlotRow) (b : SlotRow). a.slot ≢ b.slot)
 
--- a row conflicts with a new one where both are of one slot
+-- a row conflicts with a new one if both are of one slot
 pub slots_conflict : (id id' : ℤ) (a : SlotRow) (b : Slot) (v w : Value) → conflicts (Some (1 ∷ 2 ∷ 3 ∷ [])) club_schema.indexes slot_table (Int id'
     ∷ name_values b ++ v ∷ w ∷ []) (Int id ∷ slot_values a) ≡ same_slot a.slot b
 unfolding first_key

@@ -52,7 +52,7 @@ module _ {X : Type 0} (values : X → Row) (p : X → Bool) where
         (same.0.0, ap rowid is, inl (same.0.1, sym (meets_is same.0.0 x) ∙ ap meets (sym is) ∙ h))
     met_at (q ∷ rows) (x ∷ xs) same r (inr there) h = let more = met_at rows xs same.1 r there h in (more.0, more.1, inr more.2)
 
-    -- where an element passes, the new row meets one
+    -- if an element passes, the new row meets one
     pub meets_one : (rows : List Row) (xs : List X) → AreRows rows xs → list_any p xs ≡ true → (r : Row) × Has rows r × (meets r ≡ true)
     meets_one [] [] same any = absurd cc
     meets_one [] (x ∷ xs) same any = absurd same
@@ -64,7 +64,7 @@ module _ {X : Type 0} (values : X → Row) (p : X → Bool) where
         go later true is h = (q, inl refl, ap meets same.0.1 ∙ meets_is same.0.0 x ∙ is)
         go later false is h = let more = later h in (more.0, inr more.1, more.2)
 
-    -- where none passes, it meets none
+    -- if none passes, it meets none
     pub meets_none : (rows : List Row) (xs : List X) → AreRows rows xs → list_any p xs ≡ false → (r : Row) → Has rows r → meets r ≡ true → ⊥
     meets_none [] [] same none r has h = absurd has
     meets_none [] (x ∷ xs) same none r has h = absurd same
@@ -116,6 +116,6 @@ module _ {X : Type 0} (values : X → Row) (p : X → Bool) where
   hits id (r ∷ rows) (x ∷ xs) table same apart (inr there) =
       (ap is_eq (at_above r rows xs id table.0 there) ∙ sym (at_apart x rows xs id apart.0 there), hits id rows xs table.1 same.1 apart.1 there)
 
-  -- the one that passes is changed, or else this one is put behind the others
+  -- the one that passes is changed, or else this one is put after the others
   abbrev pub put_among : (X → X) → X → List X → List X
   put_among change one xs = if list_any p xs then map change xs else xs ++ one ∷ []

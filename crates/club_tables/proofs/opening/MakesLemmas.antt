@@ -60,7 +60,7 @@ pub makes_bookings_by_key : MakesIndex unindexed_schema MAKE_BOOKINGS_BY_KEY.now
 unfolding understood everything
 makes_bookings_by_key = record { plain = (refl, refl); listed = refl; is = refl; whole = refl; defined = refl }
 
--- a batch doesn't run over tables where its first text is refused
+-- a batch doesn't run over tables if its first text is refused
 pub never_ran : {S : Type 0} {g : Ghosts S} {old : Held S} {db : Database} {text : List ℕ} {more : List BoundStatement} {schema : Schema}
     → Ran g 0 ((text, []) ∷ more) old db → (state g old).now.schema ≡ schema → is_ok (understood schema text) ≡ false → ⊥
 unfolding ExecutesIn
@@ -71,7 +71,7 @@ pub indexes_again : is_ok (understood club_schema MAKE_BOOKINGS_BY_KEY.now) ≡ 
 unfolding understood everything
 indexes_again = refl
 
--- where there is none, none can be dropped
+-- if there is none, none can be dropped
 pub drops_none : is_ok (understood unindexed_schema DROP_BOOKINGS_BY_KEY.now) ≡ false
 unfolding understood everything
 drops_none = refl

@@ -136,7 +136,7 @@ module _ {S : Type 0} (g : Ghosts S) (old : Held S) (db : Database) (ran : Ran g
       (state g t10.0).now empty_club = record { rows = no_rows; holds_rows = holds_rows; storage = empty_is_stored; sound = empty_is_sound } in
       subst (λ (d : Database). HoldsClub d empty_club) (sym is) held
 
-  -- it runs only where there is no version
+  -- it runs only if there is no version
   pub makes_free : HasNoDesk (state g old).now.schema
   unfolding ExecutesIn
   makes_free = desk_made _ (ap is_ok ran.turns.2.1.is)
@@ -222,7 +222,7 @@ holds_second g old db ran clean club others second =
       | inr it ↦ indexed_tables g old db ran club (subst (λ (d : Database). HoldsClubUnindexed d club) (sym now) it)
     ]
 
--- the index is there where it can be named
+-- the index is there if it can be named
 pub named_represents : {S : Type 0} (g : Ghosts S) (old new : Held S) → IsKept (state g old) (state g new) → Survives (state g old) (state g new) (λ _. ⊥)
     → IsUnderstood (state g old).now.schema DROP_BOOKINGS_BY_KEY.now
     → (club : Club) (others : List Club) → RepresentsVersion2 (state g old) club others → Represents (state g new) club others

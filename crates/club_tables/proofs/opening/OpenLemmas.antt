@@ -51,7 +51,7 @@ module _ {S : Type 0} (g : Ghosts S) (IsHeld : Database → Club → Type 0) (st
   earlier : HasCleanDisk (state g new) → HasCleanDisk (state g old)
   earlier = was_clean (state g old) (state g new) _ commits.survives
 
-  -- where it is refused, the tables are as they were, and a crash leaves those or what the batch leaves
+  -- if it is refused, the tables are as they were, and a crash leaves those or what the batch leaves
   refused : IsKept (state g old) (state g new) → (club : Club) (others : List Club) → RepresentsBy IsHeld (state g old) club others
       → RepresentsBy IsHeld (state g new) club others
   refused kept club others before = record {

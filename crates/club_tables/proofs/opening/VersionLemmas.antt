@@ -191,7 +191,7 @@ abbrev makes_where : Bool → Option ℕ → Option ℕ → Checked Command
 makes_where kept same other =
     if kept then Err Unsupported else and_then (creates false (codes "desk") same other) (λ is_new. if is_new then Ok CreateTable else Ok Nothing)
 
--- the text makes the table where nothing has its name
+-- the text makes the table if nothing has its name
 clubdesk_commands : (schema : Schema) (base : ℕ) → and_then (first MAKE_DESK.now) (λ p. command schema p.formats base p.statement)
     ≡ makes_where (is_attached schema (codes "desk")) (option_or (table_named schema (codes "desk")) (view_named schema (codes "desk")))
     (index_named schema (codes "desk"))
@@ -227,7 +227,7 @@ module _ (schema : Schema) where
   is_commanded (Ok p) (Err e) is h = absurd (true≢false (sym h ∙ unplanned schema p e is))
   is_commanded (Err e) (Err other) is h = absurd cc
 
-  -- where the table is made, nothing has its name, and so there is no version
+  -- if the table is made, nothing has its name, and so there is no version
   pub desk_made : is_ok (understood schema MAKE_DESK.now) ≡ true → HasNoDesk schema
   unfolding compiled
   desk_made h =

@@ -64,7 +64,7 @@ number_less m n h = ranked m n Less (sym h)
 number_equal : (m n : ℕ) → nat_cmp m n ≡ Equal → m ≡ n
 number_equal m n h = ranked m n Equal (sym h)
 
--- by the first part, and where those are equal, by the others
+-- by the first part, and if those are equal, by the others
 by_parts : {A B C : Type 0} (o p : Ordering) → (o ≡ Less → A) → (o ≡ Equal → B) → (p ≡ Less → C) → ordering_then o p ≡ Less → A ⊎ (B × C)
 by_parts {A} {B} {C} o p f g h less = elim (then_less o p less) [ inl first ↦ inl (f first) | inr both ↦ inr (g both.0, h both.1) ]
 
@@ -83,7 +83,7 @@ same_name a b h =
 abbrev Differ : Booking → Booking → Type 0
 Differ a b = ¬ ((a.key ≡ b.key) × (a.number ≡ b.number))
 
--- of two bookings of different names, the first precedes where the second isn't less
+-- of two bookings of different names, the first precedes if the second isn't less
 strictly : (a b : Booking) → is_lt (sheet_cmp b a) ≡ false → Differ a b → Precedes a b
 strictly a b h differ = go (sheet_cmp a b) refl
   where

@@ -64,7 +64,7 @@ one_listed {X} p xs low = short (filter p xs) low ∙ ap option_to_list (sym (fi
     short (y ∷ []) low = refl
     short (y ∷ z ∷ ys) low = absurd (omega arith)
 
--- where one element passes at most, the rows are of the first that does
+-- if one element passes at most, the rows are of the first that does
 pub first_returned : {X : Type 0} (show : X → Row) (p : X → Bool) (xs : List X) (rows : List Row) → length (filter p xs) ≤ 1
     → IsPermutation (map show (filter p xs)) rows → rows ≡ map show (option_to_list (find p xs))
 first_returned show p xs rows low same =

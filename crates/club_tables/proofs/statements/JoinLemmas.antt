@@ -50,7 +50,7 @@ in_two {X} r p s either apart (x ∷ xs) = go (p x) (s x) refl refl (in_two r p 
         ++ x ∷ back) (x ∷ (front ++ back)) (IsPermutation-middle front x back)))
     go false false hp hs more = rw (either x, hp, hs) more
 
--- where no two of the xs are paired with one y, the ys that are paired are those of the pairs
+-- if no two of the xs are paired with one y, the ys that are paired are those of the pairs
 module _ {X Y : Type 0} (paired : X → Y → Bool) where
   abbrev pub IsElsewhere : X → X → Type 0
   IsElsewhere a b = (y : Y) → paired a y ≡ true → paired b y ≡ false
@@ -180,7 +180,7 @@ module _ (params : Row) (inside_tests tests project : List Term) where
       subst (λ ys. IsPermutation ys rows) (map-map (λ env. (output query env).1) each (filter (passes others) (db.trees outer)))
       (shown_of a (map each (filter (passes others) (db.trees outer))) staged a.distinct a.shown)
 
-  -- where the other table holds a list, and its test doesn't read the outer row, the count is that of the elements that pass
+  -- if the other table holds a list, and its test doesn't read the outer row, the count is that of the elements that pass
   pub counts_elements : {X : Type 0} (values : X → Row) (p : X → Bool) → ((id : ℤ) (row : Row) (x : X) → passes_inside row (Int id ∷ values x) ≡ p x)
       → (others : List Row) (xs : List X) → Holds values others xs → (row : Row) → count_in others row ≡ length (filter p xs)
   counts_elements values p tested others xs held row =

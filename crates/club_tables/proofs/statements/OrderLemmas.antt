@@ -1,4 +1,4 @@
--- What a SELECT over one table with ORDER BY gives, where the table holds a list.
+-- What a SELECT over one table with ORDER BY gives, if the table holds a list.
 use Rattle.std.proofs.Common.{◌≡◌, ℕ, ◌+◌, ℤ, Bool, false, cond, List, [], ◌∷◌, map, ap, subst, ◌∙◌, arith}
 use Rattle.std.specs.Prelude.{filter, flat_map, AllPairs, IsPermutation, IsSorted}
 use Rattle.std.specs.declared.cmp.Ordering.{Ordering}

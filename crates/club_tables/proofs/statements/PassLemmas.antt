@@ -26,7 +26,7 @@ as_many {X} hit p (r ∷ rows) (x ∷ xs) same =
     (elim (p x) as (λ b. length (cond b (r ∷ filter hit rows) (filter hit rows)) ≡ length (cond b (x ∷ filter p xs) (filter p xs)))
     [ true ↦ omega arith | false ↦ more ])
 
--- a test of the columns passes where the element does
+-- a test of the columns passes if the element does
 pub each_row : {X : Type 0} (values : X → Row) (hit : Row → Bool) (p : X → Bool) → ((id : ℤ) (x : X) → hit (Int id ∷ values x) ≡ p x) → (rows : List Row)
     (xs : List X) → AllZip (λ row x. IsRowOf (values x) row) rows xs → AllZip (λ row x. hit row ≡ p x) rows xs
 each_row values hit p tested [] [] same = tt
@@ -45,7 +45,7 @@ find_some {X} p (x ∷ xs) some = go (p x) refl some (find_some p xs)
     go true is some more = (x, refl)
     go false is some more = more some
 
--- where rows were written, an element passes
+-- if rows were written, an element passes
 pub some_found : {X : Type 0} (hit : Row → Bool) (shown : Row → Row) (p : X → Bool) (before rows : List Row) (xs : List X)
     → AllZip (λ row x. hit row ≡ p x) before xs → IsPermutation (map shown (filter hit before)) rows → 1 ≤ length rows → (x : X) × (find p xs ≡ Some x)
 some_found hit shown p before rows xs same permuted some =
@@ -53,7 +53,7 @@ some_found hit shown p before rows xs same permuted some =
     let mapped = length-map (filter hit before) shown in
     find_some p xs (omega (arith, lengths, mapped, as_many hit p before xs same, some))
 
--- and where an element passes, rows were written
+-- and if an element passes, rows were written
 pub rows_found : {X : Type 0} (hit : Row → Bool) (shown : Row → Row) (p : X → Bool) (before rows : List Row) (xs : List X)
     → AllZip (λ row x. hit row ≡ p x) before xs → IsPermutation (map shown (filter hit before)) rows → 1 ≤ length (filter p xs) → 1 ≤ length rows
 rows_found hit shown p before rows xs same permuted some =
@@ -96,7 +96,7 @@ as_wide {X} p q implies (x ∷ xs) low = go (p x) (q x) refl refl low (as_wide p
     go false false is fails low more = (is ∙ sym fails, more low)
     go false true is also low more = absurd (omega (arith, low, fewer p q implies xs))
 
--- where one element passes at most, and one passes a narrower test, both tests are passed by the same elements
+-- if one element passes at most, and one passes a narrower test, both tests are passed by the same elements
 pub agree : {X : Type 0} (p q : X → Bool) → Implies p q → (xs : List X) (one : X) → length (filter q xs) ≤ 1 → find p xs ≡ Some one
     → AllByRecursion (λ x. p x ≡ q x) xs
 agree p q implies xs one low found = as_wide p q implies xs (omega (arith, low, found_counts p xs one found))

@@ -248,7 +248,7 @@ module _ (name : List ℕ) (columns : List Column) (keys : List (List ℕ)) (che
         abbrev pub Yields : X → Type 0
         Yields x = (id : ℤ) (there : Row) → p x ≡ true → eval_all sets (env there ∷ (Int id ∷ values x) ∷ []) ≡ Int id ∷ Int id ∷ values (change x)
 
-        -- a row is put behind the others
+        -- a row is put after the others
         put_new : source ≡ values first → list_any p xs ≡ false → (count : ℕ) (it : Ran count) → (left : List Row) × Leaves db new.now.trees left
             × Holds values left (xs ++ first ∷ []) × (1 ≤ count)
         put_new same none count it =
@@ -292,7 +292,7 @@ module _ (name : List ℕ) (columns : List Column) (keys : List (List ℕ)) (che
             (answered (env there) (is_there there_at ∷ []) sets tree (record { schema = club_schema; trees = db }) up.5 up.6) (any_counts p xs any) in
             (_, others_left count it _ up.7, after, omega (arith, it.counted, up.8, some))
 
-        -- the row is put, where there was one and where there was none
+        -- the row is put, if there was one and if there was none
         pub row_put : (list_any p xs ≡ false → source ≡ values first) → ((there : Row) → column (env there) there_at ≡ rowid there) → AllByRecursion Yields xs
             → (count : ℕ) → Executes text params old new (Ok count)
             → Wrote club_schema old.now new.now tree × Holds values (new.now.trees tree) (put_among values p change first xs) × (1 ≤ count)

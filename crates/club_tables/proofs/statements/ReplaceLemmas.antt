@@ -109,7 +109,7 @@ module _ {X : Type 0} (values : X → Row) (p : X → Bool) (change : X → X) (
       (subst (λ y. R r y) (sym there.0) same.0, swapped rows xs id one table.1 same.1 there.1)
 
   module _ (hit : Row → Bool) (shown : Row → Row) where
-    -- the row is the element's, and passes where it does
+    -- the row is the element's, and passes if it does
     abbrev pub IsHit : Row → X → Type 0
     IsHit row x = IsRowOf (values x) row × (hit row ≡ p x)
 

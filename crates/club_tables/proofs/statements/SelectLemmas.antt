@@ -1,4 +1,4 @@
--- What a SELECT over one table gives, where the table holds a list.
+-- What a SELECT over one table gives, if the table holds a list.
 use Rattle.std.proofs.Common.{◌≡◌, ◌≤◌, ℕ, suc, ◌-◌, ◌^◌, ℤ, pos, Bool, true, false, cond, ◌==◌, None, Some, List, [], ◌∷◌, ◌++◌, length, map, slice_get}
 use Rattle.std.proofs.Common.{refl, sym, ap, subst, ◌∙◌, arith}
 use Rattle.std.specs.Prelude.{filter, find, flat_map, AllPairs, IsPermutation, nat_le, unwrap_or}

@@ -115,17 +115,17 @@ finds values p xs {table = table} {tests = tests} {project = project} {old = old
 
 module _ {X : Type 0} {values : X → Row} {p : X → Bool} {xs : List X} {shown : Row → Row} {old new : State} {table : Table} {count : ℕ}
     (it : Finds values p xs shown old new table count) where
-  -- where a row is written, an element passes
+  -- if a row is written, an element passes
   pub passes_one : 1 ≤ count → (x : X) × (find p xs ≡ Some x)
   passes_one some = some_found it.hit shown p (old.now.trees table.tree) it.rows xs it.hits it.answer (omega (arith, some, it.counted))
 
-  -- and where an element passes, a row is written
+  -- and if an element passes, a row is written
   pub writes_one : 1 ≤ length (filter p xs) → 1 ≤ count
   writes_one passing =
       let some = rows_found it.hit shown p (old.now.trees table.tree) it.rows xs it.hits it.answer passing in
       omega (arith, some, it.counted)
 
-  -- the table holds the changed list, where the same elements pass another test, and one of them at most
+  -- the table holds the changed list, if the same elements pass another test, and one of them at most
   pub changes_one : (q : X → Bool) → AllByRecursion (λ x. p x ≡ q x) xs → (change : X → X) → ((x : X) → q x ≡ false → change x ≡ x) → (Q : X → Type 0)
       → AllByRecursion Q xs → ((id : ℤ) (x : X) → Q x → q x ≡ true → shown (Int id ∷ values x) ≡ Int id ∷ Int id ∷ values (change x))
       → ((id : ℤ) (x : X) → cast_row table (Int id ∷ values x) ≡ Int id ∷ values x) → length (filter q xs) ≤ 1

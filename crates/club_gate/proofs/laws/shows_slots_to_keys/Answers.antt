@@ -10,7 +10,7 @@ use Rattle.club_core.specs.declared.view.View.{View}
 use Rattle.club_core.specs.Basis.{Basis, basis_under, slot_use, state_of, view_of}
 use Rattle.club_core.specs.Club.{Club, bookings_of, facility_named, key_named, member_named}
 use Rattle.club_core.specs.Verdict.{shown_at, verdict_of}
-use Rattle.club_gate.specs.Looks.{reply_lines, slot_look, unless_refused}
+use Rattle.club_gate.specs.Shown.{reply_lines, shown_slot, unless_refused}
 use Rattle.club_gate.proofs.laws.shows_slots_to_keys.Goals as goal
 
 module _ (club : Club) (slot : Slot) (moment : ℕ) (view : View) where
@@ -28,7 +28,7 @@ module _ (club : Club) (slot : Slot) (moment : ℕ) (view : View) where
 
   by_member : (row : Key) (member : Option Member)
       → option_map (λ (basis : Basis). view_of basis (asked.View slot) moment) (option_map (with_rows row) member) ≡ Some view
-      → slot_look club slot ≡ shown view
+      → shown_slot club slot ≡ shown view
   by_member row None e = absurd (cc)
   by_member row (Some member) e =
       by_facility row member (facility_named slot.facility club)
@@ -36,7 +36,7 @@ module _ (club : Club) (slot : Slot) (moment : ℕ) (view : View) where
 
   by_row : (row : Option Key)
       → option_map (λ (basis : Basis). view_of basis (asked.View slot) moment) (option_and_then (basis_under club (asked.View slot)) row) ≡ Some view
-      → slot_look club slot ≡ shown view
+      → shown_slot club slot ≡ shown view
   by_row None e = absurd (cc)
   by_row (Some row) e = by_member row (member_named row.member club) e
 

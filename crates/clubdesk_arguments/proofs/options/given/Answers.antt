@@ -4,4 +4,4 @@ use Rattle.clap.proofs.WalkLemmas.{first_value-rows}
 use Rattle.clubdesk_arguments.proofs.options.given.Goals as goal
 
 pub returns : goal.returns
-returns c = c.get_str.ensures ∙ first_value-rows (found_of c.args.words.now) c.args.id.now
+returns c = c.get_str.ensures ∙ first_value-rows (found_of c.args.arguments.now) c.args.id.now

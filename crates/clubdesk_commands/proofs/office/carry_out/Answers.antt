@@ -3,7 +3,7 @@ use Rattle.clubdesk_commands.specs.Does as spec
 use Rattle.clubdesk_commands.proofs.office.carry_out.Goals as goal
 
 pub returns-in-Ok-clause-does : goal.returns-in-Ok-clause-does
-returns-in-Ok-clause-does g c = rw c.in-Order.is (spec.order_given (string_bytes c.in-Ok.line) c.in-Ok.ensures.ok c.give.ensures.given)
+returns-in-Ok-clause-does g c = rw c.in-Give.is (spec.command_given (string_bytes c.in-Ok.line) c.in-Ok.ensures.ok c.give.ensures.given)
 
 pub returns-in-Sheet-clause-does : goal.returns-in-Sheet-clause-does
 returns-in-Sheet-clause-does g c = rw c.in-Sheet.is (record {
@@ -16,4 +16,4 @@ returns-in-Sheet-clause-does g c = rw c.in-Sheet.is (record {
 
 pub returns-in-Some-clause-does : goal.returns-in-Some-clause-does
 returns-in-Some-clause-does g c =
-    rw c.in-Key.is (spec.order_given (string_bytes c.in-Some.line) c.in-Some.ensures (rw c.key_command.ensures at c.give-in-Some.ensures.given))
+    rw c.in-Key.is (spec.command_given (string_bytes c.in-Some.line) c.in-Some.ensures (rw c.key_command.ensures at c.give-in-Some.ensures.given))

@@ -3,7 +3,7 @@ use Rattle.clap.specs.Words.{kind_of}
 use Rattle.clap.specs.declared.error.kind.ErrorKind.TheVariants as kind
 use Rattle.command_line.specs.Table.{asked, refusals}
 use Rattle.command_line.proofs.JobLemmas.{reads_accepted, reads_fault, row_named}
-use Rattle.command_line.proofs.WordsLemmas.{accepted, refused}
+use Rattle.command_line.proofs.ArgumentsLemmas.{accepted, refused}
 use Rattle.command_line.proofs.job.read_job.Goals as goal
 
 pub job_found-requires : goal.job_found-requires
@@ -11,7 +11,7 @@ unfolding refusals asked
 job_found-requires g c κs =
     let parse = c.in-Ok-try_get_matches_from.ensures in
     let parsed = accepted _ _ _ c.in-Ok.ensures.made c.application.ensures.good.free _ parse.matches parse.kinds in
-    ((refl, tt), rw parsed.1 (row_named _ c.words_name_a_row.ensures c.application.ensures.good _ parsed.0))
+    ((refl, tt), rw parsed.1 (row_named _ c.arguments_name_a_row.ensures c.application.ensures.good _ parsed.0))
 
 pub returns-in-Ok-job_found : goal.returns-in-Ok-job_found
 returns-in-Ok-job_found g c =

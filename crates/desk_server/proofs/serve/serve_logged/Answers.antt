@@ -1,7 +1,7 @@
 use Rattle.std.proofs.Common.{◌≤◌, ◌^◌, ◌∷◌, ◌++◌, suc, [], length, length-append, arith, refl}
 use Rattle.desk_server.specs.Served as spec
 use Rattle.desk_server.specs.Served.{alone}
-use Rattle.desk_server.specs.declared.log.Fate.TheVariants.{Absent, Overrun, Unanswered, Exchanged, Ordered}
+use Rattle.desk_server.specs.declared.log.Fate.TheVariants.{Absent, Overrun, Unanswered, Exchanged, Commanded}
 use Rattle.desk_server.proofs.ServedLemmas.{noted_alone, one_call, one_more}
 use Rattle.desk_server.proofs.serve.serve_logged.Goals as goal
 
@@ -11,8 +11,8 @@ loop-served-init g c = record {
   so_far = record { turns = []; so_many = refl; no_fewer = omega arith; served = spec.none; noted = spec.nothing; called = λ fits. omega arith };
 }
 
-pub loop-served-preserved-then-ordered : goal.loop-served-preserved-then-ordered
-loop-served-preserved-then-ordered g c =
+pub loop-served-preserved-then-commanded : goal.loop-served-preserved-then-commanded
+loop-served-preserved-then-commanded g c =
     let so_far = c.loop-served.invariant.so_far in
     let due : 2 ^ 64 ≤ suc (length so_far.turns) = omega (arith, so_far.no_fewer) in
     record {
@@ -21,15 +21,15 @@ loop-served-preserved-then-ordered g c =
           (λ fits. absurd (omega (arith, due, fits)));
     }
 
-pub loop-served-preserved-in-Order : goal.loop-served-preserved-in-Order
-loop-served-preserved-in-Order g c =
+pub loop-served-preserved-in-Command : goal.loop-served-preserved-in-Command
+loop-served-preserved-in-Command g c =
     let so_far = c.loop-served.invariant.so_far in
-    let next = c.in-Order.ensures in
-    let order = c.carry_out.ensures in
+    let next = c.in-Command.ensures in
+    let command = c.carry_out.ensures in
     record {
       fewer = omega arith;
-      so_far = one_more so_far (alone (Ordered order.0 order.1)) _ _ _ _ _ _ (omega arith) (omega arith) tt
-          (refl, next.failure_count, order.5, order.6) (noted_alone order.2 _ order.3 order.4) (one_call so_far _ next.waited);
+      so_far = one_more so_far (alone (Commanded command.0 command.1)) _ _ _ _ _ _ (omega arith) (omega arith) tt
+          (refl, next.failure_count, command.5, command.6) (noted_alone command.2 _ command.3 command.4) (one_call so_far _ next.waited);
     }
 
 pub loop-served-preserved-in-Client : goal.loop-served-preserved-in-Client
@@ -46,7 +46,7 @@ loop-served-preserved-in-Client g c =
           given = c.now.new.self;
           left = exchange.left;
           gives = c.in-Some.ensures;
-          ordered = exchange.meanwhile.ordered;
+          commanded = exchange.meanwhile.commanded;
           exchanged = (c.request.result.now, c.of-line.ensures, rw (← c.request.ensures) at exchange.exchanged);
           ended = c.exchange-outcome.ensures.ended;
         },

@@ -6,10 +6,10 @@ use Rattle.desk_server.proofs.serve.serve_logged.Given as goal
 abbrev pub invariant-loop-served : goal.invariant-loop-served
 invariant-loop-served g l = record {
   fewer : l.served ≤ l.count;
-  so_far : SoFar g.M.Moments.gives g.D.Responder.answers g.D.Office.orders g.L.Client.Connection.ends g.L.Arrivals.waited g.L.Arrivals.failures
-      g.G.Log.begins g.G.Log.notes l.served l.ordered l.initial.arrivals l.arrivals
+  so_far : SoFar g.M.Moments.gives g.D.Responder.answers g.D.Office.commands g.L.Client.Connection.ends g.L.Arrivals.waited g.L.Arrivals.failures
+      g.G.Log.begins g.G.Log.notes l.served l.commanded l.initial.arrivals l.arrivals
       l.initial.moments l.initial.desk l.initial.log l.moments l.desk l.log;
 }
 
 abbrev pub decreases-loop-served : goal.decreases-loop-served
-decreases-loop-served g l = (l.count - l.served) + (18446744073709551615 - l.ordered)
+decreases-loop-served g l = (l.count - l.served) + (18446744073709551615 - l.commanded)

@@ -12,8 +12,8 @@ returns-in-Asked g c = rw c.in-Asked.is (record {
   failed = c.ask.ensures.failed;
 })
 
-pub returns-in-Ordered : goal.returns-in-Ordered
-returns-in-Ordered g c = rw c.in-Ordered.is (record {
+pub returns-in-Commanded : goal.returns-in-Commanded
+returns-in-Commanded g c = rw c.in-Commanded.is (record {
   was_clean = c.office.ensures.was_clean;
   steps = λ clean. (_, refl, c.office.ensures.steps clean);
   failed = c.office.ensures.failed;

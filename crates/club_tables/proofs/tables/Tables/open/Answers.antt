@@ -18,7 +18,7 @@ use Rattle.club_tables.proofs.opening.StepLemmas.{batch_failed, keeps_after, ope
 use Rattle.club_tables.proofs.queries.ReadLemmas.{at_once}
 use Rattle.club_tables.proofs.tables.Tables.open.Goals as goal
 
--- where a batch was run over what was there, tables of the version that was read were there
+-- if a batch was run over what was there, tables of the version that was read were there
 upgraded : {S : Type 0} (g : Ghosts S) (old mid new : Held S) (version : ℕ) (texts : List (List ℕ)) (statements : List BoundStatement) (rows : List Row)
     → HasCleanDisk (state g mid) → IsIdle (state g old) → IsKept (state g old) (state g mid)
     → (row : Row) × (rows ≡ row ∷ []) × HasValues row (version_values version) → YieldsRows VERSION.now (state g old).now rows

@@ -1,13 +1,13 @@
 use Rattle.std.proofs.Common.{refl}
-use Rattle.desk_server.proofs.MeanwhileLemmas.{alone_none, order_more}
+use Rattle.desk_server.proofs.MeanwhileLemmas.{alone_none, one_command_more}
 use Rattle.desk_server.proofs.between.BetweenInlet.fill.Goals as goal
 
-pub loop-ordered-init : goal.loop-ordered-init
-loop-ordered-init g c = record { same_reader = refl; alone = alone_none _ _ _ _ _ _ _ }
+pub loop-commanded-init : goal.loop-commanded-init
+loop-commanded-init g c = record { same_reader = refl; alone = alone_none _ _ _ _ _ _ _ }
 
-pub loop-ordered-preserved : goal.loop-ordered-preserved
-loop-ordered-preserved g c =
-    let so_far = c.loop-ordered.invariant in
+pub loop-commanded-preserved : goal.loop-commanded-preserved
+loop-commanded-preserved g c =
+    let so_far = c.loop-commanded.invariant in
     record {
       same_reader = so_far.same_reader;
       alone = record {
@@ -15,6 +15,6 @@ loop-ordered-preserved g c =
         same_moments = so_far.alone.same_moments;
         same_desk = so_far.alone.same_desk;
         same_log = so_far.alone.same_log;
-        orders = order_more _ _ _ _ _ _ _ _ _ _ _ _ _ so_far.alone.orders c.carry_out.ensures;
+        commands = one_command_more _ _ _ _ _ _ _ _ _ _ _ _ _ so_far.alone.commands c.carry_out.ensures;
       };
     }

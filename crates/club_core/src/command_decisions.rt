@@ -1,0 +1,183 @@
+//! Decides the commands of the office by their views. The first line that fits refuses the command.
+
+ghost use Rattle.std.specs.Prelude.{◌≡◌};
+ghost use Rattle.club_core.specs.declared.command.Command.TheVariants as commands;
+ghost use Rattle.club_core.specs.Office.{are_limits, command_verdict};
+
+use crate::change::Change;
+use crate::command::{Command, MAX_POINTS, OfficeFault};
+use crate::command_view::CommandView;
+use club_rows::{
+    Facility, Key, LAST_HOUR, MAX_CREDITED, MAX_PLACES, MAX_PRICE, MAX_QUOTA, Member, Root,
+};
+use club_values::{Kind, Moment, Name, Slot};
+
+fn add_member(view: &CommandView, name: &Name, quota: u32) -> Result<Change, OfficeFault>
+    ensures { result ≡ command_verdict view.now (commands.AddMember name.now quota) }
+{
+    if quota > MAX_QUOTA {
+        return Err(OfficeFault::OutOfRange);
+    }
+    if view.member.is_some() {
+        return Err(OfficeFault::Exists);
+    }
+    Ok(Change::InsertMember(Member {
+        name: *name,
+        credited: 0,
+        quota: quota as u8,
+    }))
+}
+
+fn credit(view: &CommandView, name: &Name, points: u32) -> Result<Change, OfficeFault>
+    ensures { result ≡ command_verdict view.now (commands.Credit name.now points) }
+{
+    if points == 0 || points > MAX_POINTS {
+        return Err(OfficeFault::OutOfRange);
+    }
+    let Some(member) = &view.member else {
+        return Err(OfficeFault::Unknown);
+    };
+    if u64::from(member.credited) + u64::from(points) > u64::from(MAX_CREDITED) {
+        return Err(OfficeFault::OutOfRange);
+    }
+    Ok(Change::AddCredit {
+        member: *name,
+        points,
+    })
+}
+
+/// Whether the numbers are within the limits of a facility.
+fn are_limits(places: u32, price: u32, opens: u32, shuts: u32) -> bool
+    ensures { result ≡ are_limits places price opens shuts }
+{
+    1 <= places && places <= MAX_PLACES && price <= MAX_PRICE && opens < shuts && shuts <= LAST_HOUR
+}
+
+fn add_facility(
+    view: &CommandView,
+    name: &Name,
+    kind: Kind,
+    places: u32,
+    price: u32,
+    opens: u32,
+    shuts: u32,
+) -> Result<Change, OfficeFault>
+    ensures { result
+        ≡ command_verdict view.now (commands.AddFacility name.now kind places price opens shuts) }
+{
+    if !are_limits(places, price, opens, shuts) {
+        return Err(OfficeFault::OutOfRange);
+    }
+    if view.facility.is_some() {
+        return Err(OfficeFault::Exists);
+    }
+    Ok(Change::InsertFacility(Facility {
+        name: *name,
+        kind,
+        places: places as u8,
+        price: price as u16,
+        opens: opens as u8,
+        shuts: shuts as u8,
+    }))
+}
+
+fn add_key(
+    view: &CommandView,
+    name: &Name,
+    member: &Name,
+    root: &Root,
+) -> Result<Change, OfficeFault>
+    ensures { result ≡ command_verdict view.now (commands.AddKey name.now member.now root.now) }
+{
+    if view.member.is_none() {
+        return Err(OfficeFault::Unknown);
+    }
+    if view.key.is_some() {
+        return Err(OfficeFault::Exists);
+    }
+    Ok(Change::InsertKey(Key {
+        name: *name,
+        member: *member,
+        root: *root,
+        older: None,
+        revoked: false,
+    }))
+}
+
+fn revoke_key(view: &CommandView, name: &Name) -> Result<Change, OfficeFault>
+    ensures { result ≡ command_verdict view.now (commands.RevokeKey name.now) }
+{
+    if view.key.is_none() {
+        return Err(OfficeFault::Unknown);
+    }
+    Ok(Change::MarkRevoked { key: *name })
+}
+
+fn rotate_key(
+    view: &CommandView,
+    name: &Name,
+    root: &Root,
+    until: Moment,
+) -> Result<Change, OfficeFault>
+    ensures { result ≡ command_verdict view.now (commands.RotateKey name.now root.now until) }
+{
+    let Some(key) = &view.key else {
+        return Err(OfficeFault::Unknown);
+    };
+    if key.root == *root {
+        return Err(OfficeFault::Exists);
+    }
+    Ok(Change::ReplaceRoot {
+        key: *name,
+        former: key.root,
+        root: *root,
+        until,
+    })
+}
+
+fn close_slot(view: &CommandView, slot: &Slot) -> Result<Change, OfficeFault>
+    ensures { result ≡ command_verdict view.now (commands.CloseSlot slot.now) }
+{
+    let Some(facility) = &view.facility else {
+        return Err(OfficeFault::Unknown);
+    };
+    if !facility.is_open_at(slot.hour) {
+        return Err(OfficeFault::OutOfRange);
+    }
+    if view.slot.closed {
+        return Err(OfficeFault::Exists);
+    }
+    if view.slot.taken > 0 {
+        return Err(OfficeFault::SlotInUse);
+    }
+    Ok(Change::MarkClosed(*slot))
+}
+
+/// The change that a command makes, by its view.
+///
+/// # Errors
+///
+/// `OutOfRange` if a number is outside its limits, the hour outside the opening hours, or the
+/// credit would take the member's points above their limit; `Unknown` if the command's member, key
+/// or facility doesn't exist; `Exists` if the new name is taken, the key has the root already, or
+/// the slot is closed already; `SlotInUse` if the slot has bookings.
+pub fn decide_command(view: &CommandView, command: &Command) -> Result<Change, OfficeFault>
+    ensures { result ≡ command_verdict view.now command.now }
+{
+    match command {
+        Command::AddMember { name, quota } => add_member(view, name, *quota),
+        Command::Credit { member, points } => credit(view, member, *points),
+        Command::AddFacility {
+            name,
+            kind,
+            places,
+            price,
+            opens,
+            shuts,
+        } => add_facility(view, name, *kind, *places, *price, *opens, *shuts),
+        Command::AddKey { name, member, root } => add_key(view, name, member, root),
+        Command::RevokeKey { name } => revoke_key(view, name),
+        Command::RotateKey { name, root, until } => rotate_key(view, name, root, *until),
+        Command::CloseSlot(slot) => close_slot(view, slot),
+    }
+}

@@ -1,0 +1,173 @@
+//! What the desk shows of a key's account and of a slot to whoever keeps its file.
+
+ghost use Rattle.std.specs.Prelude.{◌≡◌, ◌++◌, IfOk, OnOk};
+ghost use Rattle.std.specs.String.{string_bytes};
+ghost use Rattle.club_core.specs.Store.{ReadsStore};
+ghost use Rattle.club_gate.specs.Shown as spec;
+
+use crate::desk::Desk;
+use crate::fault::Fault;
+use club_core::laws::own_bookings_suffice;
+use club_core::{ClubStore, OfficeFault, Reply, SlotUse, StoreFault, View, decide_account};
+use club_rows::Key;
+use club_values::{Kind, Moment, Name, Slot};
+use std::alloc::{AllocError, Global};
+
+impl<S: ClubStore> Desk<S> {
+    /// What a key is shown of its account at a moment, and whether it is revoked and until when it
+    /// has an older root: a line a value. No root is shown. The rows stay as they are.
+    ///
+    /// # Errors
+    ///
+    /// `Refused(Unknown)` if no key has the name; `Store`, if memory or storage was refused.
+    pub fn show_account(&mut self, key: &Name, moment: Moment) -> Result<String, Fault>
+        ensures { spec.ShowsClub S.disk_is_clean S.represents S.fails self.old self.new result
+            (λ club. spec.ReturnsShown (spec.shown_account club key.now moment) result) }
+    {
+        let Some((key, view)) = self.account_view(key, moment)? else {
+            return Err(Fault::Refused(OfficeFault::Unknown));
+        };
+        Ok(account_text(self.alloc, &key, &view)?)
+    }
+
+    /// What every key is shown of a slot: a line a value. The rows stay as they are.
+    ///
+    /// # Errors
+    ///
+    /// `Refused(Unknown)` if there is no such facility; `Store`, if memory or storage was refused.
+    pub fn show_slot(&mut self, slot: &Slot) -> Result<String, Fault>
+        ensures { spec.ShowsClub S.disk_is_clean S.represents S.fails self.old self.new result
+            (λ club. spec.ReturnsShown (spec.shown_slot club slot.now) result) }
+    {
+        let Some(reply) = self.slot_reply(slot)? else {
+            return Err(Fault::Refused(OfficeFault::Unknown));
+        };
+        Ok(reply_text(self.alloc, &reply)?)
+    }
+
+    // A key, and what it sees of its account; `None` if there is no key of the name.
+    fn account_view(
+        &mut self,
+        key: &Name,
+        moment: Moment,
+    ) -> Result<Option<(Key, View)>, StoreFault>
+        ensures { ReadsStore S.disk_is_clean S.represents S.fails self.old self.new result
+            (λ club seen. seen ≡ spec.account_with_key club key.now moment) }
+    {
+        own_bookings_suffice();
+        let Some(key) = self.key(key)? else {
+            return Ok(None);
+        };
+        match self.with_sums(View::of_key(&key.row()), moment)? {
+            Some(view) => Ok(Some((key, view))),
+            None => Ok(None),
+        }
+    }
+
+    // The reply to a view of a slot, whoever asks; `None` if the facility is unknown.
+    fn slot_reply(&mut self, slot: &Slot) -> Result<Option<Reply>, StoreFault>
+        ensures { ReadsStore S.disk_is_clean S.represents S.fails self.old self.new result
+            (λ club reply. reply ≡ spec.slot_reply club slot.now) }
+    {
+        let Some(facility) = self.store.facility(&slot.facility)? else {
+            return Ok(None);
+        };
+        let SlotUse { taken, closed } = self.store.slot(slot)?;
+        Ok(Some(Reply::SlotShown {
+            slot: *slot,
+            kind: facility.kind,
+            price: facility.price,
+            places: facility.places,
+            taken: u64::from(taken),
+            closed,
+        }))
+    }
+}
+
+// The lines of an account, and of the key that asks for it.
+fn account_text(alloc: Global, key: &Key, view: &View) -> Result<String, AllocError>
+    ensures { IfOk result (λ text. string_bytes text ≡ spec.shown_account_text key.now view.now) }
+{
+    let mut text = reply_text(alloc, &decide_account(view).reply)?;
+    push_key(&mut text, key)?;
+    Ok(text)
+}
+
+// The lines of a reply that shows an account or a slot; any other has none.
+fn reply_text(alloc: Global, reply: &Reply) -> Result<String, AllocError>
+    ensures { IfOk result (λ text. string_bytes text ≡ spec.lines (spec.named_values reply.now)) }
+{
+    match reply {
+        Reply::AccountShown {
+            member,
+            balance,
+            quota,
+            open_count,
+            spent,
+        } => format!(in alloc;
+            "member {member}\nbalance {balance}\nquota {quota}\nopen {open_count}\nspent {spent}\n"
+        ),
+        Reply::SlotShown {
+            slot,
+            kind,
+            price,
+            places,
+            taken,
+            closed,
+        } => {
+            let mut text = slot_name(alloc, slot)?;
+            push_state(&mut text, *kind, *price, *places, *taken, *closed)?;
+            Ok(text)
+        }
+        _ => Ok(String::new(alloc)),
+    }
+}
+
+// The lines that name a slot.
+fn slot_name(alloc: Global, slot: &Slot) -> Result<String, AllocError>
+    ensures { IfOk result
+        (λ text. string_bytes text ≡ spec.lines (spec.values_of_slot slot.now)) }
+{
+    let hour = slot.hour.number();
+    format!(in alloc;
+        "facility {}\nday {}\nhour {hour}\n",
+        slot.facility, slot.day
+    )
+}
+
+// The lines of a facility, and of what is taken of a slot.
+fn push_state(
+    text: &mut String,
+    kind: Kind,
+    price: u16,
+    places: u8,
+    taken: u64,
+    closed: bool,
+) -> Result<(), AllocError>
+    ensures { OnOk result (string_bytes text.new ≡ string_bytes text.old
+        ++ spec.lines (spec.values_of_state kind price places taken closed)) }
+{
+    let closed = yes_or_no(closed);
+    writeln!(
+        text,
+        "kind {kind}\nprice {price}\nplaces {places}\ntaken {taken}\nclosed {closed}"
+    )
+}
+
+// The lines of a key, without its roots.
+fn push_key(text: &mut String, key: &Key) -> Result<(), AllocError>
+    ensures { OnOk result
+        (string_bytes text.new ≡ string_bytes text.old ++ spec.lines (spec.values_of_key key.now)) }
+{
+    let revoked = yes_or_no(key.revoked);
+    match &key.older {
+        None => writeln!(text, "revoked {revoked}\nolder root none"),
+        Some(older) => writeln!(text, "revoked {revoked}\nolder root until {}", older.until),
+    }
+}
+
+fn yes_or_no(holds: bool) -> &'static str
+    ensures { result.now ≡ spec.yes_or_no holds }
+{
+    if holds { "yes" } else { "no" }
+}

@@ -1,0 +1,207 @@
+-- What the arguments ask for (ours).
+use Rattle.std.specs.Prelude.{◌≡◌, ℕ, Bool, true, false, List, Option, Some, None, option_map, option_and_then, Result, Ok, Err, codes}
+use Rattle.std.specs.Borrow.{Bor}
+use Rattle.std.specs.Option.{ok_or, unwrap_or}
+use Rattle.clap.specs.Words.{Row, Text, first_of}
+use Rattle.clap.specs.declared.error.kind.ErrorKind.TheVariants as kind
+use Rattle.command_line.specs.Job.{Answers, JobOf, ReadsJob, Refusal, bad_value, form_given, refused_as}
+use Rattle.command_line.specs.Arguments.{is_set, value_in}
+use Rattle.command_line.specs.declared.errors.ArgumentsFault.{ArgumentsFault}
+use Rattle.command_line.specs.declared.job.Asked.{Asked}
+use Rattle.command_line.specs.declared.job.Asked.TheVariants.{Perform}
+use Rattle.club_values.specs.declared.slot.Slot.{Slot}
+use Rattle.club_core.specs.declared.command.Command.TheVariants as office
+use Rattle.pass_forms.specs.declared.form.Form.{Form}
+use Rattle.clubdesk_arguments.specs.Application.{clubdesk}
+use Rattle.clubdesk_arguments.specs.JobModel.{JobModel}
+use Rattle.clubdesk_arguments.specs.Readers.{ReadExactly, Readers}
+use Rattle.clubdesk_arguments.specs.Values.{count_of, parse_number, patience_of, port_of, key_root_of}
+use Rattle.club_clock.specs.Zone.{zone_of}
+use Rattle.clubdesk_arguments.specs.declared.clock.Clock.{Clock}
+use Rattle.clubdesk_arguments.specs.declared.clock.Clock.TheVariants.{Fixed, InZone}
+use Rattle.clubdesk_arguments.specs.declared.table.CommandName.{CommandName}
+use Rattle.clubdesk_arguments.specs.declared.table.CommandName.TheVariants as command
+use Rattle.clubdesk_arguments.specs.declared.task.KeyChange.TheVariants.{Add, Rotate}
+use Rattle.clubdesk_arguments.specs.declared.task.KeyCommand.{KeyCommand}
+use Rattle.clubdesk_arguments.specs.declared.task.Task.TheVariants.{Give, Key, Sheet, ShowAccount, ShowSlot}
+use Rattle.clubdesk_arguments.specs.declared.task.Work.{Work}
+use Rattle.clubdesk_arguments.specs.declared.task.Work.TheVariants.{Office, Rootless, Serve}
+
+-- the `?` of the logic
+infixl 10 ◌>>=◌
+abbrev pub ◌>>=◌ : {A B : Type 0} → Option A → (A → Option B) → Option B
+Some x >>= f = f x
+None >>= f = None
+
+-- the value of this name, as a number
+abbrev pub number_value : Text → List Row → Option ℕ
+number_value id rows = parse_number (value_in id rows)
+
+-- a key's command with the root of its argument, or without the argument as it waits for one
+abbrev pub key_work : KeyCommand → Option Text → Option Work
+key_work given None = Some (Rootless given)
+key_work given (Some argument) = do
+  root ← key_root_of argument
+  Some (Office (Key given root))
+
+-- the last argument of a rotation, which is the moment, and the argument before it, which is the root's, if there are two
+abbrev pub rotation_moment_in : List Row → Text
+rotation_moment_in rows = unwrap_or (first_of (codes "MOMENT") rows) (value_in (codes "ROOT") rows)
+
+abbrev pub rotation_root_in : List Row → Option Text
+rotation_root_in rows = option_and_then (λ (moment : Text). first_of (codes "ROOT") rows) (first_of (codes "MOMENT") rows)
+
+-- ---- what makes a row ask for nothing
+
+abbrev pub unless_bad : Option Work → Result Work (Refusal Unit)
+unless_bad work = ok_or work (bad_value tt)
+
+-- A root is given by its argument, or by the input, which the flag asks for; that is checked before the form.
+abbrev pub root_and_form : Option Text → Bool → Result Form (Refusal Unit) → Result (Option Text × Form) (Refusal Unit)
+root_and_form (Some argument) true form = Err (refused_as kind.ArgumentConflict)
+root_and_form None false form = Err (refused_as kind.MissingRequiredArgument)
+root_and_form argument by_input (Err refusal) = Err refusal
+root_and_form argument by_input (Ok form) = Ok (argument, form)
+
+abbrev pub root_and_form_in : Option Text → List Row → Result (Option Text × Form) (Refusal Unit)
+root_and_form_in argument rows = root_and_form argument (is_set (codes "root-stdin") rows) (form_given rows)
+
+-- both are checked before the other values
+abbrev pub of_root_and_form : List Row → (Option Text → Form → List Row → Option Work) → Result (Option Text × Form) (Refusal Unit)
+    → Result Work (Refusal Unit)
+of_root_and_form rows of (Err refusal) = Err refusal
+of_root_and_form rows of (Ok given) = unless_bad (of given.0 given.1 rows)
+
+abbrev pub over_file : Text → Result Work (Refusal Unit) → Result JobModel (Refusal Unit)
+over_file file (Err refusal) = Err refusal
+over_file file (Ok work) = Ok (record { file = file; work = work })
+
+-- ---- the commands, each from the values that its arguments spell, as they are read
+
+module _ (read : Readers) where
+  -- the argument of this name, as a name
+  abbrev pub name_value : Text → List Row → Option Text
+  name_value id rows = read.name (value_in id rows)
+
+  abbrev pub add_member_of : List Row → Option Work
+  add_member_of rows = do
+    name ← name_value (codes "NAME") rows
+    quota ← number_value (codes "QUOTA") rows
+    Some (Office (Give (office.AddMember name quota)))
+
+  abbrev pub credit_of : List Row → Option Work
+  credit_of rows = do
+    member ← name_value (codes "MEMBER") rows
+    points ← number_value (codes "POINTS") rows
+    Some (Office (Give (office.Credit member points)))
+
+  abbrev pub add_facility_of : List Row → Option Work
+  add_facility_of rows = do
+    name ← name_value (codes "NAME") rows
+    of_kind ← read.kind (value_in (codes "KIND") rows)
+    places ← number_value (codes "PLACES") rows
+    price ← number_value (codes "PRICE") rows
+    opens ← number_value (codes "OPENS") rows
+    shuts ← number_value (codes "SHUTS") rows
+    Some (Office (Give (office.AddFacility name of_kind places price opens shuts)))
+
+  abbrev pub add_key_of : Option Text → Form → List Row → Option Work
+  add_key_of root form rows = do
+    key ← name_value (codes "KEY") rows
+    member ← name_value (codes "MEMBER") rows
+    key_work (record { name = key; change = Add member; form = form }) root
+
+  abbrev pub revoke_key_of : List Row → Option Work
+  revoke_key_of rows = do
+    key ← name_value (codes "KEY") rows
+    Some (Office (Give (office.RevokeKey key)))
+
+  abbrev pub rotate_key_of : Option Text → Form → List Row → Option Work
+  rotate_key_of root form rows = do
+    key ← name_value (codes "KEY") rows
+    until ← read.moment (rotation_moment_in rows)
+    key_work (record { name = key; change = Rotate until; form = form }) root
+
+  abbrev pub slot_in : List Row → Option Slot
+  slot_in rows = do
+    facility ← name_value (codes "FACILITY") rows
+    day ← read.day (value_in (codes "DAY") rows)
+    hour ← read.hour (value_in (codes "HOUR") rows)
+    Some (record { facility = facility; day = day; hour = hour })
+
+  abbrev pub close_slot_of : List Row → Option Work
+  close_slot_of rows = do
+    slot ← slot_in rows
+    Some (Office (Give (office.CloseSlot slot)))
+
+  abbrev pub sheet_of : List Row → Option Work
+  sheet_of rows = do
+    day ← read.day (value_in (codes "DAY") rows)
+    Some (Office (Sheet day))
+
+  -- the moment that `--at` fixes, else the clock in the zone
+  abbrev pub clock_of : Text → Option Text → Option Clock
+  clock_of zone None = Some (InZone zone)
+  clock_of zone (Some at) = do
+    moment ← read.moment at
+    Some (Fixed moment)
+
+  abbrev pub serve_of : List Row → Option Work
+  serve_of rows = do
+    port ← port_of (value_in (codes "port") rows)
+    count ← count_of (value_in (codes "count") rows)
+    zone ← zone_of (value_in (codes "zone") rows)
+    clock ← clock_of zone (first_of (codes "at") rows)
+    patience ← patience_of (value_in (codes "patience") rows)
+    Some (Serve (record { port = port; count = count; clock = clock; patience = patience; log = is_set (codes "log") rows }))
+
+  abbrev pub show_account_of : List Row → Option Work
+  show_account_of rows = do
+    key ← name_value (codes "KEY") rows
+    zone ← zone_of (value_in (codes "zone") rows)
+    clock ← clock_of zone (first_of (codes "at") rows)
+    Some (Office (ShowAccount key clock))
+
+  abbrev pub show_slot_of : List Row → Option Work
+  show_slot_of rows = do
+    slot ← slot_in rows
+    Some (Office (ShowSlot slot))
+
+  -- the work of a command
+  abbrev pub work_named : CommandName → List Row → Result Work (Refusal Unit)
+  work_named command.AddMember rows = unless_bad (add_member_of rows)
+  work_named command.Credit rows = unless_bad (credit_of rows)
+  work_named command.AddFacility rows = unless_bad (add_facility_of rows)
+  work_named command.AddKey rows = of_root_and_form rows add_key_of (root_and_form_in (first_of (codes "ROOT") rows) rows)
+  work_named command.RevokeKey rows = unless_bad (revoke_key_of rows)
+  work_named command.RotateKey rows = of_root_and_form rows rotate_key_of (root_and_form_in (rotation_root_in rows) rows)
+  work_named command.CloseSlot rows = unless_bad (close_slot_of rows)
+  work_named command.Sheet rows = unless_bad (sheet_of rows)
+  work_named command.Serve rows = unless_bad (serve_of rows)
+  work_named command.ShowAccount rows = unless_bad (show_account_of rows)
+  work_named command.ShowSlot rows = unless_bad (show_slot_of rows)
+
+  -- the job of a command
+  abbrev pub job_of : JobOf CommandName JobModel Unit
+  job_of name rows = over_file (value_in (codes "FILE") rows) (work_named name rows)
+
+-- The results of reading the arguments of a row, whose values are exactly those that they spell.
+pub record ReadsValues (name : CommandName) (rows : List Row) (result : Result JobModel (ArgumentsFault Unit)) : Type 0 where
+  pub read : Readers
+  pub exact : ReadExactly read
+  pub answers : Answers (job_of read name rows) result
+
+-- ---- the arguments
+
+-- the results of reading the arguments
+abbrev pub ReadsArguments : List Text → Result (Asked JobModel) (ArgumentsFault Unit) → Type 0
+ReadsArguments arguments result = ReadsJob clubdesk ReadsValues arguments result
+
+-- arguments ask for this work over a file
+abbrev pub AskFor : List Text → Text → Work → Type 0
+AskFor arguments file work = ReadsArguments arguments (Ok (Perform (record { file = file; work = work })))
+
+-- A call answers a root's argument and a form, or the fault that applies, or out of memory in place of either.
+abbrev pub AnswersRoot : Result (Option Text × Form) (Refusal Unit) → Result (Option (Bor Text) × Form) (ArgumentsFault Unit) → Type 0
+AnswersRoot expected (Ok answer) = expected ≡ Ok (option_map (λ text. text.now) answer.0, answer.1)
+AnswersRoot expected (Err fault) = Answers expected (Err fault)

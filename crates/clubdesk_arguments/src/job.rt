@@ -1,0 +1,43 @@
+//! The job of a command, from what `clap` found of its arguments.
+
+ghost use Rattle.clap.specs.Words.{found_of, rows_of};
+ghost use Rattle.clubdesk_arguments.specs.Arguments.{ReadsValues};
+
+use crate::commands::work_of;
+use crate::laws::readers_are_exact;
+use crate::table::CommandName;
+use crate::task::Job;
+use clap::ArgMatches;
+use command_line::{ArgumentsFault, value_of};
+use std::alloc::Global;
+
+impl<'a> command_line::Job<'a> for Job<'a> {
+    type Command = CommandName;
+
+    type BadValue = ();
+
+    ghost Reads = { ReadsValues };
+
+    /// The job over the file that the arguments name. A root has to be given once; then a form is
+    /// checked, then the other values.
+    ///
+    /// # Errors
+    ///
+    /// `Refused` if a root is given twice or not at all, or a form is none of the three; `BadValue`
+    /// if an argument spells no value of its place; `Memory` only if memory was refused.
+    fn read(
+        alloc: Global,
+        name: CommandName,
+        arguments: &ArgMatches<'a>,
+    ) -> Result<Job<'a>, ArgumentsFault<()>>
+        ensures { ReadsValues name (rows_of (found_of arguments.now)) result }
+    {
+        // By this law the values of the job are exactly those that the arguments spell.
+        readers_are_exact();
+        let file = value_of(arguments, "FILE");
+        match work_of(alloc, name, arguments) {
+            Ok(work) => Ok(Job { file, work }),
+            Err(fault) => Err(fault),
+        }
+    }
+}

@@ -1,0 +1,238 @@
+//! Arguments that are refused, and help.
+
+use crate::expect::expect_end;
+use crate::tasks::arguments_of;
+use clubdesk_arguments::{CommandName, Fault, Job};
+use command_line::{ArgumentsFault, Asked, read_job, text_fault};
+use std::process::Abort;
+use test_kit::End::{Begins, Prints};
+use test_kit::{End, Output, form_line};
+
+fn output_of_fault(rt: &(impl Abort + AllocGlobal), fault: &Fault) -> Output {
+    Output {
+        status: fault.status(),
+        text: fault.to_string(rt.alloc()).expect(rt, "memory"),
+    }
+}
+
+// The status and the line of the fault of arguments that are refused.
+fn output_of(rt: &(impl Abort + AllocGlobal), arguments: &[&str]) -> Output {
+    let asked: Result<Asked<Job<'_>>, ArgumentsFault<()>> = read_job(rt.alloc(), arguments);
+    match asked {
+        Ok(_) => panic!(rt; "{arguments:?}"),
+        Err(fault) => output_of_fault(rt, &Fault::from(fault)),
+    }
+}
+
+// The arguments of each line are refused so.
+fn expect_refused(rt: &(impl Abort + AllocGlobal), lines: &[&str], end: &End) {
+    for line in lines {
+        let arguments = arguments_of(rt, line);
+        expect_end(rt, &output_of(rt, arguments.as_slice()), end);
+    }
+}
+
+static BAD_VALUES: [&str; 49] = [
+    "add-member|F|Amy|5",
+    "add-member|F||5",
+    "add-member|F|amybobcydideeveflogushalfi|5",
+    "add-member|F|amy|",
+    "add-member|F|amy|+5",
+    "add-member|F|amy| 5",
+    "add-member|F|amy|5x",
+    "add-member|F|amy|1000000000",
+    "add-member|F|amy|0000000005",
+    "credit|F|amy!|1",
+    "credit|F|amy|1.0",
+    "add-facility|F|court-1|Court|4|200|8|22",
+    "add-facility|F|court 1|court|4|200|8|22",
+    "add-facility|F|court-1|court|x|200|8|22",
+    "add-facility|F|court-1|court|4|x|8|22",
+    "add-facility|F|court-1|court|4|200|x|22",
+    "add-facility|F|court-1|court|4|200|8|x",
+    "revoke-key|F|amy_1",
+    "close-slot|F|court-1|2026-02-29|18",
+    "close-slot|F|court-1|2026-05-01|24",
+    "close-slot|F|court-1|2026-05-01|8",
+    "close-slot|F|Court-1|2026-05-01|18",
+    "sheet|F|1999-12-31",
+    "sheet|F|2100-01-01",
+    "sheet|F|2026-5-1",
+    "serve|F|--port|65536|--count|1",
+    "serve|F|--port|x|--count|1",
+    "serve|F|--port|0|--count|0",
+    "serve|F|--port|0|--count|1000001",
+    "serve|F|--port|0|--count|1|--zone|",
+    "serve|F|--port|0|--count|1|--zone|UTC",
+    "serve|F|--port|0|--count|1|--zone|Europe/Berlin",
+    "serve|F|--port|0|--count|1|--at|2026-05-01",
+    "serve|F|--port|0|--count|1|--at|2026-05-01T24:00",
+    // The zone is checked beside a fixed moment.
+    "serve|F|--port|0|--count|1|--at|2026-05-01T12:00|--zone|x",
+    "serve|F|--port|0|--count|1|--patience|0",
+    "serve|F|--port|0|--count|1|--patience|3601",
+    "serve|F|--port|0|--count|1|--patience|x",
+    "serve|F|--port|0|--count|1|--patience|",
+    "serve|F|--port|0|--count|1|--patience|1.5",
+    "show-account|F|Amy-1",
+    "show-account|F|amy-1|--zone|UTC",
+    "show-account|F|amy-1|--at|2026-05-01",
+    "show-account|F|amy-1|--at|2026-05-01T12:00|--zone|x",
+    "show-slot|F|court 1|2026-05-01|18",
+    "show-slot|F|court-1|2026-02-29|18",
+    "show-slot|F|court-1|2026-05-01|24",
+    "add-key|F|K|bob|--root-stdin",
+    "rotate-key|F|k|never|--root-stdin",
+];
+
+#[test]
+fn bad_values(rt: HostRuntime) {
+    expect_refused(&rt, &BAD_VALUES, &Begins(3, "bad value"));
+}
+
+static BAD_ROOTS: [&str; 11] = [
+    "add-key|F|k|bob|",
+    // 15 bytes, and 16 with half a byte.
+    "add-key|F|k|bob|000102030405060708090a0b0c0d0e",
+    "add-key|F|k|bob|000102030405060708090a0b0c0d0e0f1",
+    "add-key|F|k|bob|000102030405060708090a0b0c0d0e0g",
+    // 65 bytes.
+    "add-key|F|k|bob|0000000000000000000000000000000000000000000000000000000000000000\
+    000000000000000000000000000000000000000000000000000000000000000000",
+    "rotate-key|F|k||2026-04-25T00:00",
+    // 15 bytes, and 16 with half a byte.
+    "rotate-key|F|k|000102030405060708090a0b0c0d0e|2026-04-25T00:00",
+    "rotate-key|F|k|000102030405060708090a0b0c0d0e0f1|2026-04-25T00:00",
+    "rotate-key|F|k|000102030405060708090a0b0c0d0e0g|2026-04-25T00:00",
+    // 65 bytes.
+    "rotate-key|F|k|0000000000000000000000000000000000000000000000000000000000000000\
+    000000000000000000000000000000000000000000000000000000000000000000|2026-04-25T00:00",
+    // A moment before the first.
+    "rotate-key|F|k|000102030405060708090a0b0c0d0e0f|1999-12-31T23:59",
+];
+
+#[test]
+fn bad_roots(rt: HostRuntime) {
+    expect_refused(&rt, &BAD_ROOTS, &Begins(3, "bad value"));
+}
+
+// Sixteen bytes, 0 to 15.
+const ROOT: &str = "000102030405060708090a0b0c0d0e0f";
+
+static OTHER_FORMS: [&str; 5] = ["", "v3", "V1", "JSON", "v1 "];
+
+// Arguments are refused by the line about this form.
+fn expect_other_form(rt: &(impl Abort + AllocGlobal), arguments: &[&str], form: &str) {
+    let output = output_of(rt, arguments);
+    let line = form_line(rt.alloc(), form).expect(rt, "memory");
+    assert!(rt; output.begins(2, line.as_str()), "{output:?}");
+}
+
+// A form is checked before other values.
+#[test]
+fn bad_forms(rt: HostRuntime) {
+    for form in &OTHER_FORMS {
+        let arguments = ["clubdesk", "add-key", "F", "K", "BOB", "zz", "--form", form];
+        expect_other_form(&rt, &arguments, form);
+        let arguments = [
+            "clubdesk",
+            "rotate-key",
+            "F",
+            "k",
+            ROOT,
+            "never",
+            "--form",
+            form,
+        ];
+        expect_other_form(&rt, &arguments, form);
+    }
+}
+
+static BAD_ARGUMENTS: [&str; 34] = [
+    "frob",
+    "help|frob",
+    "add-member|--version",
+    "add-member",
+    "add-member|F|amy",
+    "add-member|F|amy|5|6",
+    "add-member|F|-amy|5",
+    "add-member|F|amy|-5",
+    "add-member|F|amy|5|--form|v1",
+    "credit|F",
+    "add-facility|F|court-1|court|4|200|8",
+    "add-key|F|k|bob",
+    "add-key|F|k|bob|000102030405060708090a0b0c0d0e0f|--form",
+    "add-key|F|k|bob|000102030405060708090a0b0c0d0e0f|--form|v1|--form|v2",
+    "revoke-key|F",
+    "rotate-key|F|k|000102030405060708090a0b0c0d0e0f",
+    "close-slot|F|court-1|2026-05-01",
+    "sheet|F",
+    "sheet",
+    "serve|F",
+    "serve|F|--port|0",
+    "serve|F|--count|1",
+    "serve|--port|0|--count|1",
+    "serve|F|--port|0|--count|1|--verbose",
+    // Some versions had this command.
+    "pause|F|60",
+    "serve|F|--port|0|--count|1|--patience",
+    "show-account|F",
+    "show-account|F|amy-1|2026-05-01T12:00",
+    "show-slot|F|court-1|2026-05-01",
+    "show-slot|F|court-1|2026-05-01|18|--at|2026-05-01T12:00",
+    // A root is given once, by its argument or by the input.
+    "add-key|F|k|bob|000102030405060708090a0b0c0d0e0f|--root-stdin",
+    "rotate-key|F|k|000102030405060708090a0b0c0d0e0f|2026-04-25T00:00|--root-stdin",
+    "rotate-key|F|k|--root-stdin",
+    "add-key|F|k|bob|--root-stdin|--root-stdin",
+];
+
+#[test]
+fn arguments_that_clap_refuses(rt: HostRuntime) {
+    expect_refused(&rt, &BAD_ARGUMENTS, &Begins(2, "error: "));
+}
+
+// The text that clap writes in Rust.
+const NOT_TEXT: End = Prints(
+    2,
+    "error: invalid UTF-8 was detected in one or more arguments\n\nUsage: clubdesk <COMMAND>\n\nFor more information, try '--help'.\n",
+);
+
+#[test]
+fn arguments_that_are_no_text(rt: HostRuntime) {
+    let fault = Fault::from(text_fault::<CommandName, ()>(rt.alloc()));
+    expect_end(&rt, &output_of_fault(&rt, &fault), &NOT_TEXT);
+}
+
+static HELP: [&str; 8] = [
+    "--help",
+    "help",
+    "help|serve",
+    "help|show-account",
+    "help|show-slot",
+    "add-facility|-h",
+    "--version",
+    "-V",
+];
+
+fn help_of(rt: &(impl Abort + AllocGlobal), arguments: &[&str]) -> String {
+    let asked: Result<Asked<Job<'_>>, ArgumentsFault<()>> = read_job(rt.alloc(), arguments);
+    match asked {
+        Ok(Asked::ShowText(help)) => help.to_string(rt.alloc()).expect(rt, "memory"),
+        _ => panic!(rt; "{arguments:?}"),
+    }
+}
+
+// The text that is shown names the program.
+fn expect_help(rt: &(impl Abort + AllocGlobal), line: &str) {
+    let arguments = arguments_of(rt, line);
+    let text = help_of(rt, arguments.as_slice());
+    assert!(rt; text.as_str().contains("clubdesk"), "{text}");
+}
+
+#[test]
+fn help(rt: HostRuntime) {
+    for line in &HELP {
+        expect_help(&rt, line);
+    }
+}

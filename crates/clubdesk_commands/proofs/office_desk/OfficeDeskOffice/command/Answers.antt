@@ -1,0 +1,23 @@
+use Rattle.std.proofs.Common.{Ok, Err, ap}
+use Rattle.std.specs.String.{string_bytes}
+use Rattle.clubdesk_commands.specs.OfficeDesk as spec
+use Rattle.clubdesk_commands.proofs.office_desk.OfficeDeskOffice.command.Goals as goal
+
+pub returns-in-Some-Ok : goal.returns-in-Some-Ok
+returns-in-Some-Ok g c =
+    rw (← c.self.view_is)
+    (spec.command_done _ _ (Ok (string_bytes c.in-Some-Ok.text)) (rw c.in-Ok-Some.field-0-is at c.in-Ok-Some.ensures)
+    (rw c.in-Some-Ok.field-0-is at c.in-Some-Ok.ensures)
+    (c.answer_of-in-Some-Ok.ensures.status, ap string_bytes c.answer_of-in-Some-Ok.ensures.text))
+
+pub returns : goal.returns
+returns g c =
+    rw (← c.self.view_is)
+    (spec.command_done _ _ (Err c.in-Some-Err.fault) (rw c.in-Ok-Some.field-0-is at c.in-Ok-Some.ensures)
+    (rw c.in-Some-Err.field-0-is at c.in-Some-Err.ensures) c.refusal_of.ensures)
+
+pub returns-in-None : goal.returns-in-None
+returns-in-None g c =
+    rw (← c.self.view_is)
+    (spec.not_office _ _ (rw c.in-Ok-Some.field-0-is at c.in-Ok-Some.ensures) c.in-None.ensures.1 c.answer_of-in-None.ensures.status
+    c.in-None.ensures.0)
