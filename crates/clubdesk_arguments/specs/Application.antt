@@ -62,7 +62,7 @@ clubdesk = record {
       ∷ record {
         command = RotateKey;
         name = codes "rotate-key";
-        rules = positionals_over_file (codes "KEY" ∷ codes "ROOT" ∷ []) ++ (positional_named (codes "MOMENT") ∷ root_flag ∷ form_or_v2 ∷ []);
+        rules = positionals_over_file (codes "KEY" ∷ codes "ROOT-OR-MOMENT" ∷ []) ++ (positional_named (codes "MOMENT") ∷ root_flag ∷ form_or_v2 ∷ []);
       }
       ∷ record { command = CloseSlot; name = codes "close-slot"; rules = slot_positionals }
       ∷ record { command = Sheet; name = codes "sheet"; rules = positionals_over_file (codes "DAY" ∷ []) }

@@ -46,10 +46,10 @@ key_work given (Some argument) = do
 
 -- the last argument of a rotation, which is the moment, and the argument before it, which is the root's, if there are two
 abbrev pub rotation_moment_in : List Row → Text
-rotation_moment_in rows = unwrap_or (first_of (codes "MOMENT") rows) (value_in (codes "ROOT") rows)
+rotation_moment_in rows = unwrap_or (first_of (codes "MOMENT") rows) (value_in (codes "ROOT-OR-MOMENT") rows)
 
 abbrev pub rotation_root_in : List Row → Option Text
-rotation_root_in rows = option_and_then (λ (moment : Text). first_of (codes "ROOT") rows) (first_of (codes "MOMENT") rows)
+rotation_root_in rows = option_and_then (λ (moment : Text). first_of (codes "ROOT-OR-MOMENT") rows) (first_of (codes "MOMENT") rows)
 
 -- ---- what makes a row ask for nothing
 

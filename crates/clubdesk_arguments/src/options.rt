@@ -42,7 +42,7 @@ pub fn rotation_root<'a>(arguments: &ArgMatches<'a>) -> Option<&'a str>
         ≡ spec.rotation_root_in (rows_of (found_of arguments.now)) }
 {
     match given(arguments, "MOMENT") {
-        Some(_) => given(arguments, "ROOT"),
+        Some(_) => given(arguments, "ROOT-OR-MOMENT"),
         None => None,
     }
 }
@@ -53,7 +53,7 @@ pub fn rotation_moment<'a>(arguments: &ArgMatches<'a>) -> &'a str
 {
     match given(arguments, "MOMENT") {
         Some(moment) => moment,
-        None => value_of(arguments, "ROOT"),
+        None => value_of(arguments, "ROOT-OR-MOMENT"),
     }
 }
 

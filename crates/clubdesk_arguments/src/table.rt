@@ -149,7 +149,8 @@ const ADD_KEY_ARGUMENTS: &[Argument] = &[
 const ROTATE_KEY_ARGUMENTS: &[Argument] = &[
     FILE,
     KEY,
-    Argument::NeededPositional("ROOT"),
+    // Its place is the root's, or with `--root-stdin` the moment's.
+    Argument::NeededPositionalAs("ROOT-OR-MOMENT", "ROOT"),
     Argument::Positional("MOMENT"),
     ROOT_BY_INPUT,
     FORM,

@@ -7,7 +7,8 @@ use Rattle.clap.specs.Words.{subcommand_of, with_rule, with_subcommand}
 use Rattle.command_line.specs.Application.{as_required, flag_named, option_named, positional_named, positionals_named, program_named, with_default}
 use Rattle.command_line.specs.Given.{can_be_given, given_by, rule_given}
 use Rattle.command_line.specs.declared.table.Argument.{Argument}
-use Rattle.command_line.specs.declared.table.Argument.TheVariants.{Value, Needed, Or, Flag, Positional, NeededPositional, Positionals, NeededPositionals}
+use Rattle.command_line.specs.declared.table.Argument.TheVariants.{Value, Needed, Or, Flag, Positional, NeededPositional, NeededPositionalAs}
+use Rattle.command_line.specs.declared.table.Argument.TheVariants.{Positionals, NeededPositionals}
 use Rattle.command_line.specs.declared.table.Program.{Program}
 use Rattle.command_line.specs.declared.table.Row.{Row}
 
@@ -28,6 +29,7 @@ rule_for (Or name value help default) = with_default default.now (option_named n
 rule_for (Flag name help) = flag_named name.now
 rule_for (Positional name) = positional_named name.now
 rule_for (NeededPositional name) = as_required (positional_named name.now)
+rule_for (NeededPositionalAs name value) = as_required (positional_named name.now)
 rule_for (Positionals name value help) = positionals_named name.now
 rule_for (NeededPositionals name value help) = as_required (positionals_named name.now)
 

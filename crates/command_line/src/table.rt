@@ -25,6 +25,8 @@ pub enum Argument {
     Positional(&'static str),
     /// The same, which must be given.
     NeededPositional(&'static str),
+    /// The same, which its help calls by another name.
+    NeededPositionalAs(&'static str, &'static str),
     /// Any number of positional arguments.
     Positionals(&'static str, &'static str, &'static str),
     /// One positional argument or more.
@@ -105,6 +107,11 @@ fn make_argument<'a>(alloc: Global, argument: Argument) -> Arg<'a>
         Argument::Flag(name, help) => make_flag(alloc, name, help),
         Argument::Positional(name) => make_positional(alloc, name),
         Argument::NeededPositional(name) => make_positional(alloc, name).required(true),
+        Argument::NeededPositionalAs(name, value) => {
+            make_positional(alloc, name)
+                .value_name(value)
+                .required(true)
+        }
         Argument::Positionals(name, value, help) => make_positionals(alloc, name, value, help),
         Argument::NeededPositionals(name, value, help) => {
             make_positionals(alloc, name, value, help).required(true)
