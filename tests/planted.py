@@ -24,7 +24,7 @@ PLANTS = {
     "club_stays_whole": ("tests/club_stays_whole.py", "VALUES ('amy', 0, 5, 0)", "VALUES ('amy', 0, 4, 0)", "assert found in wanted"),
     "completions_hold": ("bin/completions", 'compgen -W "$values"', 'compgen -W ""', "test_completions[clubdesk-Bash]"),
     "demo_tells": ("bin/demo", 'kill "$server" 2>/dev/null', "true", "not ok 6 a signal"),
-    "docs_hold-quick": ("docs/TOUR.md", "`row_refusal`", "`row_refusel`", "row_refusel"),
+    "docs_hold-quick": ("docs/TOUR.md", "`is_signed_by`", "`is_sygned_by`", "is_sygned_by"),
     "field_outlives_bytes": ("tests/field_outlives_bytes.bats", "'drop(bytes);'", "''", "not ok 1 a field of V1"),
     "hostile-quick": ("clubdesk", "quota reached", "quota reachex", "quota reachex"),
     "jobs_hold": ("deploy/old_copies", "now - its_day < 14", "now - its_day < 13", "too few"),
