@@ -74,7 +74,7 @@ fn join<S: ClubStore>(desk: &mut Desk<S>, index: u16) -> Result<()> {
 
 fn give<S: ClubStore>(desk: &mut Desk<S>, command: &Command) -> Result<()> {
     match desk.office(command) {
-        OfficeReply::Refused(fault) => Err(anyhow!("an order is refused: {fault}")),
+        OfficeReply::Refused(fault) => Err(anyhow!("a command is refused: {fault}")),
         _ => Ok(()),
     }
 }

@@ -1,14 +1,7 @@
 -- Filters of lists that grow, are mapped, or were filtered before.
-use Rattle.std.proofs.Common.{◌≡◌, Bool, true, false, ◌&&◌, List, [], ◌∷◌, ◌++◌, map, filter, All, refl, sym, ◌∙◌, append-nil, arith}
+use Rattle.std.proofs.Common.{◌≡◌, Bool, true, false, ◌&&◌, List, [], ◌∷◌, map, filter, All, refl, sym, ◌∙◌, arith}
 use Rattle.std.specs.List.{list_any}
-use Rattle.std.proofs.lemmas.List.Elements.{filter-append, filter_agree, All-head, All-tail}
-
--- one more element at the end
-pub filter_push_true : {X : Type 0} (p : X → Bool) (xs : List X) (x : X) → p x ≡ true → filter p (xs ++ x ∷ []) ≡ filter p xs ++ x ∷ []
-filter_push_true p xs x e = filter-append p xs (x ∷ []) ∙ rw e
-
-pub filter_push_false : {X : Type 0} (p : X → Bool) (xs : List X) (x : X) → p x ≡ false → filter p (xs ++ x ∷ []) ≡ filter p xs
-filter_push_false p xs x e = filter-append p xs (x ∷ []) ∙ rw e (append-nil (filter p xs))
+use Rattle.std.proofs.lemmas.List.Elements.{filter_agree, All-head, All-tail}
 
 -- a map that changes nothing that passes
 pub filter_fixed : {X : Type 0} (p : X → Bool) (f : X → X) → ((x : X) → p x ≡ true → f x ≡ x) → (xs : List X) → map f (filter p xs) ≡ filter p xs

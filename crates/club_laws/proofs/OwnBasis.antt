@@ -26,9 +26,6 @@ state_with facility taken closed = record { facility = facility; held = record {
 abbrev with_outside : SlotUse → SlotState → SlotState
 with_outside others state = state_with state.facility (state.held.taken + others.taken) others.closed
 
-abbrev basis_of_rows : Key → Member → List Booking → SlotState → Basis
-basis_of_rows key member bookings state = record { key = key; member = member; bookings = bookings; state = state }
-
 -- the bookings of the part are those of the member
 own_bookings : (name : List ℕ) (club : Club) → bookings_of name (part_of name club) ≡ bookings_of name club
 own_bookings name club = rw (filter_twice (is_owned name) club.keys) (filter_twice (is_under_one (keys_of name club)) club.bookings)

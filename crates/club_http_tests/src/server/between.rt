@@ -93,7 +93,7 @@ static ROWS: [Row; 5] = [
             (3_600, Call::NotedClient),
         ],
     },
-    // A silent client keeps no command, and is cut off in its time.
+    // A silent client holds up no command, and is cut off in its time.
     Row {
         steps: &[
             Step::Command(3_000, b"an order"),

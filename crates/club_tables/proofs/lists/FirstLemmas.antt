@@ -1,5 +1,5 @@
 -- A row is decoded to the value of which it was made.
-use Rattle.std.proofs.Common.{◌≡◌, ℕ, List, [], ◌∷◌, map, get_or, Option, Some, None, Result, Ok, Err, IfOk, IfSome, refl, ap, subst, ◌∙◌, arith}
+use Rattle.std.proofs.Common.{◌≡◌, ℕ, List, [], ◌∷◌, map, get_or, Option, Some, None, refl, ap, subst, ◌∙◌, arith}
 use Rattle.std.specs.Prelude.{option_map}
 use Rattle.std.specs.Option.{option_to_list}
 use Rattle.sqlite.specs.Order.{Row}
@@ -17,17 +17,6 @@ use Rattle.club_tables.specs.Answers.{IsFirst, IsKeyIn, IsOlderRootIn, IsMemberI
 use Rattle.club_tables.specs.Columns.{HasValues, key_values, older_root_values, member_values, facility_values, booking_values}
 use Rattle.club_rows.specs.Key.{key_of_row, row_of_key}
 use Rattle.club_tables.proofs.lists.BookingRows.{truths, one_booking}
-
--- a property of each value that a row yields holds of the result
-pub held_if : {A E : Type 0} (Yields : Row → A → Type 0) (P : A → Type 0) (r : Result (Option A) E)
-    → IfOk r (λ found. (rows : List Row) × IsFirst Yields rows found) → ((row : Row) (it : A) → Yields row it → P it) → IfOk r (λ found. IfSome found P)
-held_if Yields P (Ok None) held f = tt
-held_if Yields P (Ok (Some it)) held f = first held.0 held.1
-  where
-    first : (rows : List Row) → IsFirst Yields rows (Some it) → P it
-    first [] h = absurd cc
-    first (row ∷ rows) h = f row it h
-held_if Yields P (Err e) held f = tt
 
 -- of the rows that are made of an option, the first yields its value
 first_of : {X A : Type 0} (values : X → Row) (into : X → A) (Yields : Row → A → Type 0) → ((x : X) (a : A) → Yields (values x) a → a ≡ into x)
@@ -123,24 +112,3 @@ module _ (key : List ℕ) (number : ℕ) where
   unnamed [] found h = h
   unnamed (row ∷ rows) None h = absurd h
   unnamed (row ∷ rows) (Some booking) h = h.0
-
-  pub none_named : (rows : List Row) → IsFirst IsBookingIn rows None → IsFirst (IsBookingNamed key number) rows None
-  none_named [] h = h
-  none_named (row ∷ rows) h = absurd h
-
-  pub one_named : (rows : List Row) (booking : Booking) → IsFirst IsBookingIn rows (Some booking) → (booking.key ≡ key) × (booking.number ≡ number)
-      → IsFirst (IsBookingNamed key number) rows (Some booking)
-  one_named [] booking h named = absurd (let e : ◌≡◌ {A = Option Booking} (Some booking) None = h in cc)
-  one_named (row ∷ rows) booking h named = (h, named)
-
-  -- a row yields one booking, so one of another key or number isn't the one that is read
-  pub not_named : (rows : List Row) (booking : Booking) → IsFirst IsBookingIn rows (Some booking)
-      → ¬ ((booking.key ≡ key) × (booking.number ≡ number)) → (found : Option Booking) → ¬ (IsFirst (IsBookingNamed key number) rows found)
-  not_named [] booking h other found named = absurd (let e : ◌≡◌ {A = Option Booking} (Some booking) None = h in cc)
-  not_named (row ∷ rows) booking h other None named = named
-  not_named (row ∷ rows) booking h other (Some found) named =
-      let one = h.1 in
-      let two = named.0.1 in
-      let keys : booking.key ≡ found.key = cc in
-      let numbers : booking.number ≡ found.number = cc in
-      other (keys ∙ named.1.0, numbers ∙ named.1.1)
