@@ -7,15 +7,15 @@ use Rattle.sqlite_tied.specs.Compute.{everything}
 use Rattle.sqlite_schema.specs.declared.command.Command.{Command}
 use Rattle.sqlite_schema.specs.declared.command.Returning.{Returning}
 use Rattle.sqlite_resolve.specs.declared.compiled.Compiled.{Compiled}
-use Rattle.sqlite_resolve.specs.Lowering.{Checked, and_then, fresh, max_budget, take_slot}
-use Rattle.sqlite_resolve.specs.Compile.{first, returning, command, timed, meaning, planned, with_command, compiled, is_reserved, creates, is_attached, read}
+use Rattle.sqlite_resolve.specs.Lowering.{Checked, and_then, take_slot}
+use Rattle.sqlite_resolve.specs.Compile.{first, returning, command, meaning, planned, with_command, compiled, is_reserved, creates, is_attached, read}
 use Rattle.sqlite.specs.Schema.{Schema}
 use Rattle.sqlite.specs.Order.{Row}
 use Rattle.sqlite.specs.Effect.{Reads}
 use Rattle.sqlite.specs.Listing.{understood, reads_listing, listing_schema, if_select, IsSourceOf}
 use Rattle.sqlite.specs.State.{State, Shown}
 use Rattle.sqlite_ast.specs.declared.Source.{Source, out-Source}
-use Rattle.sqlite_ast.specs.declared.Core.{Core, out-Core}
+use Rattle.sqlite_ast.specs.declared.Core.{out-Core}
 use Rattle.sqlite_ast.specs.declared.Select.{Select, out-Select}
 use Rattle.sqlite_ast.specs.declared.Statement.{Statement}
 use Rattle.sqlite_syntax.specs.declared.statement.Parsed.{Parsed}
@@ -43,36 +43,24 @@ formats_by (Err e) = []
 abbrev IsBare : Checked Compiled → Type 0
 IsBare r = (returned_by r ≡ None) × (formats_by r ≡ [])
 
-version_returns : (schema : Schema) (base : ℕ) → and_then (first VERSION.now) (λ p. returning schema base p.statement) ≡ Ok None
-unfolding everything
-version_returns schema base = refl
-
-version_formats : (schema : Schema) → and_then (first VERSION.now) (λ p. Ok (timed schema p.formats p.statement)) ≡ Ok []
-unfolding everything
-version_formats schema = refl
-
 -- it is no query on the list of the tables
 pub version_unlisted : is_ok (if_select (compiled listing_schema VERSION.now)) ≡ false
 unfolding listing_schema everything
 version_unlisted = refl
 
-commanded : (r : Checked Command) (formats : List (List ℕ)) (p : _) → formats ≡ []
-    → IsBare (and_then (and_then (and_then r (λ c. Ok (c, None))) (λ found. Ok (formats, found))) (λ plan. Ok (with_command p plan)))
-commanded (Ok c) formats p none = (refl, none)
-commanded (Err e) formats p none = (refl, refl)
+abbrev planned_by : List (List ℕ) → ℕ → ℕ → ℕ → List (List ℕ) × (Command × Option Returning) → Compiled
+planned_by names start end tail plan =
+    record { command = plan.1.0; returning = plan.1.1; names = names; formats = plan.0; start = start; end = end; tail = tail }
 
-parsed_bare : (schema : Schema) (r : Checked _) → r ≡ first VERSION.now → ((base : ℕ) → and_then r (λ p. returning schema base p.statement) ≡ Ok None)
-    → and_then r (λ p. Ok (timed schema p.formats p.statement)) ≡ Ok []
-    → IsBare (and_then r (λ p. and_then (planned schema p) (λ plan. Ok (with_command p plan))))
-unfolding planned meaning
-parsed_bare schema (Ok p) is returns untimed =
-    let none : timed schema p.formats p.statement ≡ [] = cc in
-    rw (returns _) (commanded (command schema p.formats _ p.statement) (timed schema p.formats p.statement) p none)
-parsed_bare schema (Err e) is returns untimed = (refl, refl)
+commanded : (r : Checked Command) (names : List (List ℕ)) (start end tail : ℕ)
+    → IsBare (and_then {A = List (List ℕ) × (Command × Option Returning)} (and_then {A = Command × Option Returning} (and_then r (λ c. Ok (c, None)))
+    (λ found. Ok ([], found))) (λ plan. Ok (planned_by names start end tail plan)))
+commanded (Ok c) names start end tail = (refl, refl)
+commanded (Err e) names start end tail = (refl, refl)
 
 version_bare : (schema : Schema) → IsBare (compiled schema VERSION.now)
-unfolding compiled
-version_bare schema = parsed_bare schema (first VERSION.now) refl (version_returns schema) (version_formats schema)
+unfolding everything
+version_bare schema = commanded _ _ _ _ _
 
 version_understood : (schema : Schema) (c : Compiled) → understood schema VERSION.now ≡ Ok c → (reads_listing schema VERSION.now ≡ false) × (c.returning ≡ None)
     × (c.formats ≡ [])
@@ -135,39 +123,12 @@ unfolding everything
 version_reads = record { source = _; one = refl; is = refl; withs = refl; others = refl; limit = refl; offset = refl }
 
 module _ (schema : Schema) (tables : table_named schema (codes "desk") ≡ None) (views : view_named schema (codes "desk") ≡ None) where
-  no_table : (slot : ℕ) → table_in schema slot (origin.Table (codes "desk")) ≡ Err NoSuchTable
-  unfolding table_in
-  no_table slot = rw (tables, views) refl
-
-  module _ (core : Core) (from : Source) (one : (out-Core core).from ≡ from ∷ []) (is : (out-Source from).origin ≡ origin.Table (codes "desk")) where
-    no_bounds : bounds schema (out-Core core).from (fresh 1 max_budget) ≡ Err NoSuchTable
-    unfolding bounds bound take_slot
-    no_bounds = rw (one, is, no_table 1) refl
-
-    no_rows : (order page : _) → named schema core order page ≡ Err NoSuchTable
-    unfolding named parts body
-    no_rows order page = rw no_bounds refl
-
-    not_alone : (query : _) (order page : _) → alone query schema core order page [] ≡ Err NoSuchTable
-    unfolding alone single sources source viewing
-    not_alone query order page = rw (one, is, no_rows order page) refl
-
-  module _ (s : Select) (asks : AsksDesk s) where
-    not_whole : (query : _) → whole query schema s [] ≡ Err NoSuchTable
-    unfolding whole paging constant_or
-    not_whole query = rw (asks.limit, asks.offset, asks.others, not_alone (out-Select s).first asks.source asks.one asks.is query _ _) refl
-
-    not_level : (query : _) → level query schema s [] ≡ Err NoSuchTable
-    unfolding level with_tables
-    not_level query = rw (asks.withs, not_whole query) refl
-
-    no_query : query schema s ≡ Err NoSuchTable
-    unfolding query query_to
-    no_query = not_level (query_to 15)
-
-    not_read : read schema s ≡ Err NoSuchTable
-    unfolding read
-    not_read = rw no_query refl
+  not_read : (s : Select) → AsksDesk s → read schema s ≡ Err NoSuchTable
+  unfolding
+      read query query_to level with_tables whole paging constant_or alone single sources source viewing named parts body bounds bound take_slot table_in
+  not_read s asks =
+      rw (query_to, level, asks.withs, with_tables, whole, paging, asks.limit, asks.offset, constant_or, asks.others, alone, asks.one, sources)
+      (rw (single, source, asks.is, viewing, named, parts, body, bounds, bound, take_slot, table_in, tables, views) refl)
 
   not_stated : (formats : List (List ℕ)) (base : ℕ) (statement : Statement) → StatesDesk statement → command schema formats base statement ≡ Err NoSuchTable
   unfolding command
