@@ -4,6 +4,5 @@ pub mod AddLemmas
 pub mod ChangeLemmas
 pub mod CancelLemmas
 pub mod StoredLemmas
-pub mod TotalsLemmas
 pub mod PlanLemmas
 pub mod WriteLemmas

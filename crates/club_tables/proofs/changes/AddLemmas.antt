@@ -1,8 +1,8 @@
 -- What the statements make of the tables that insert a row, or put the row of a slot or of an older root.
-use Rattle.std.proofs.Common.{pos, List, [], ◌∷◌, ◌++◌, refl, sym, subst, ◌≡◌, ◌≢◌, ◌≤◌, ℕ, ◌/◌, ℤ, true, false, if◌then◌else◌, Some, Option, Ok, length, ap}
-use Rattle.std.proofs.Common.{◌∙◌, Bool}
+use Rattle.std.proofs.Common.{pos, List, [], ◌∷◌, ◌++◌, refl, sym, subst, ◌≡◌, ◌≢◌, ◌≤◌, ℕ, ◌/◌, ℤ, true, false, if◌then◌else◌, Some, Option, length, ap}
+use Rattle.std.proofs.Common.{◌∙◌, Bool, filter, slice_get, None, unwrap_or, find, cond}
 use Rattle.std.specs.Prelude.{AllPairs, option_map}
-use Rattle.std.specs.List.{AllByRecursion, list_any}
+use Rattle.std.specs.List.{AllByRecursion}
 use Rattle.std.specs.Str.{bytes_eq}
 use Rattle.std.proofs.lemmas.Slice.Eq.{bytes_eq-Decides}
 use Rattle.std.proofs.Math.Bool.{and-true, or-false}
@@ -25,10 +25,18 @@ use Rattle.sqlite.specs.Cast.{cast, cast_row}
 use Rattle.sqlite.specs.Edit.{next_rowid}
 use Rattle.sqlite.specs.Rows.{shown}
 use Rattle.sqlite.specs.Effect.{value_rows}
-use Rattle.sqlite.specs.State.{State, Executes}
 use Rattle.sqlite.proofs.Callers.{command_of}
 use Rattle.sqlite_value.specs.Keys.{first_key}
 use Rattle.sqlite_rules.specs.Keys.{conflicts}
+use Rattle.sqlite.specs.Effect.{Database}
+use Rattle.sqlite_rules.specs.Action.{works}
+use Rattle.sqlite_schema.specs.declared.schema.Keys.TheVariants.{Enforced}
+use Rattle.std.proofs.lemmas.List.Elements.{All-contains_itself, recursion_from_All}
+use Rattle.club_tables.proofs.statements.PassLemmas.{contains_counts}
+use Rattle.club_tables.proofs.statements.SelectLemmas.{one_passes}
+use Rattle.club_tables.proofs.statements.MeansLemmas.{Wrote}
+use Rattle.club_tables.proofs.lists.KeyedRows.{absent}
+use Rattle.std.proofs.Common.{arith}
 use Rattle.club_rows.specs.Columns.{truth}
 use Rattle.club_rows.specs.declared.member.Member.{Member}
 use Rattle.club_rows.specs.declared.facility.Facility.{Facility}
@@ -43,7 +51,7 @@ use Rattle.club_tables.specs.declared.texts.TheConstants.{ADD_MEMBER, ADD_FACILI
 use Rattle.club_tables.specs.Schema.{members_table, facilities_table, keys_table, bookings_table, club_schema, slots_table, old_roots_table}
 use Rattle.club_tables.specs.Columns.{whole, member_values, facility_values, key_values, booking_values, flag, name_values, use_values, slot_values}
 use Rattle.club_tables.specs.Columns.{older_root_values, older_values}
-use Rattle.club_tables.specs.Stored.{Rows, SlotRow, no_slot_use, OlderRow, older_by}
+use Rattle.club_tables.specs.Stored.{Rows, SlotRow, no_slot_use, OlderRow, older_by, stored_slot_use, row_of}
 use Rattle.club_tables.specs.Tables.{Holds, members_tree, facilities_tree, keys_tree, bookings_tree, HoldsRows, slots_tree, olders_tree}
 use Rattle.club_tables.proofs.statements.MeansLemmas.{Means, on_members, on_facilities, on_keys, on_bookings, Steps, on_slots, on_olders}
 use Rattle.club_tables.proofs.statements.InsertLemmas.{inserts, cast_null, cast_int}
@@ -55,6 +63,40 @@ use Rattle.club_tables.proofs.lists.KeyedRows.{lone, by_put, put_once as once_pu
 use Rattle.club_tables.proofs.lists.KeyedRows.{put_slot, new_row as new_row_of}
 use Rattle.club_tables.proofs.lists.PutRows.{put_among}
 use Rattle.club_tables.proofs.queries.KeyLemmas.{same_slots}
+
+-- ---- lists
+
+each_weaker : {X : Type 0} {P Q : X → Type 0} → ((x : X) → P x → Q x) → (xs : List X) → AllByRecursion P xs → AllByRecursion Q xs
+each_weaker weaker [] h = tt
+each_weaker weaker (x ∷ xs) h = (weaker x h.0, each_weaker weaker xs h.1)
+
+-- of elements of which one passes at most, each that passes is the one that is found
+pub only_found : {X : Type 0} (q : X → Bool) (xs : List X) → length (filter q xs) ≤ 1 → AllByRecursion (λ x. q x ≡ true → find q xs ≡ Some x) xs
+only_found q [] low = tt
+only_found {X} q (x ∷ xs) low = (λ passes. rw passes refl, go (q x) low (only_found q xs))
+  where
+    go : (b : Bool) → length (cond b (x ∷ filter q xs) (filter q xs)) ≤ 1
+        → (length (filter q xs) ≤ 1 → AllByRecursion (λ y. q y ≡ true → find q xs ≡ Some y) xs)
+        → AllByRecursion (λ y. q y ≡ true → cond b (Some x) (find q xs) ≡ Some y) xs
+    go true low more = recursion_from_All _ xs (λ k d within passes.
+        absurd (omega (arith, low, contains_counts q xs _ (All-contains_itself xs k d within) passes)))
+    go false low more = more low
+
+-- ---- a row comes last in its table
+
+added : {X : Type 0} (values : X → Row) {text : List ℕ} {at width : ℕ} {terms : List Term} → Means club_schema text (Insert at (Values terms width))
+    → (table : Table) → slice_get club_schema.tables at ≡ Some table → table.is_counted ≡ false
+    → table.stamps ≡ record { places = []; terms = []; formats = [] }
+    → ((row : Row) → works club_schema Enforced 0 table.tree [] (row ∷ []) ≡ [])
+    → (params : Row) (x : X) → value_rows params width (length terms / width) terms ≡ (Null ∷ values x) ∷ []
+    → cast_row table (Null ∷ values x) ≡ Null ∷ values x → (rows next : Rows) (xs : List X)
+    → ((old : Database) → HoldsRows old rows → Holds values (old.trees table.tree) xs)
+    → ((old new : Database) → HoldsRows old rows → Wrote club_schema old new table.tree → Holds values (new.trees table.tree) (xs ++ x ∷ [])
+    → HoldsRows new next)
+    → Steps (text, params) rows next
+added values means table listed uncounted unstamped still params x gives casts rows next xs held on old new count holds_rows ran =
+    let put = inserts means table listed uncounted unstamped still old new holds_rows.schema params (values x) gives casts count ran in
+    (on old.now new.now holds_rows put.0 (subst (λ rs. Holds values rs (xs ++ x ∷ [])) (sym put.1) (holds_more values _ xs x (held old.now holds_rows))), put.2)
 
 -- ---- members
 
@@ -74,15 +116,9 @@ new_row member = record { member = member; used = 0 }
 
 pub member_put : (rows : Rows) (member : Member) → Steps (ADD_MEMBER.now, Text member.name ∷ whole member.credited ∷ whole member.quota ∷ []) rows
     (record rows { members = rows.members ++ new_row member ∷ [] })
-member_put rows member old new count holds_rows ran =
-    let put = inserts member_means member_table refl refl refl (λ row. refl) old new holds_rows.schema
-    (Text member.name ∷ whole member.credited ∷ whole member.quota ∷ []) (member_values (new_row member)) refl
-    (simp (cast_null, cast_int)) count ran in (
-      on_members holds_rows put.0
-          (subst (λ rs. Holds member_values rs (rows.members ++ new_row member ∷ [])) (sym put.1)
-          (holds_more member_values _ rows.members (new_row member) holds_rows.held.members)),
-      put.2,
-    )
+member_put rows member =
+    added member_values member_means member_table refl refl refl (λ row. refl) _ (new_row member) refl (simp (cast_null, cast_int)) rows _ rows.members
+    (λ old holds_rows. holds_rows.held.members) (λ old new holds_rows wrote held. on_members holds_rows wrote held)
 
 -- ---- facilities
 
@@ -98,15 +134,9 @@ facility_means = record { is = refl; plain = (refl, refl) }
 
 pub facility_put : (rows : Rows) (facility : Facility) → Steps (ADD_FACILITY.now, facility_values facility) rows
     (record rows { facilities = rows.facilities ++ facility ∷ [] })
-facility_put rows facility old new count holds_rows ran =
-    let put = inserts facility_means facility_table refl refl refl (λ row. refl) old new holds_rows.schema (facility_values facility)
-    (facility_values facility) refl
-    (simp (cast_null, cast_int)) count ran in (
-      on_facilities holds_rows put.0
-          (subst (λ rs. Holds facility_values rs (rows.facilities ++ facility ∷ [])) (sym put.1)
-          (holds_more facility_values _ rows.facilities facility holds_rows.held.facilities)),
-      put.2,
-    )
+facility_put rows facility =
+    added facility_values facility_means facility_table refl refl refl (λ row. refl) _ facility refl (simp (cast_null, cast_int)) rows _ rows.facilities
+    (λ old holds_rows. holds_rows.held.facilities) (λ old new holds_rows wrote held. on_facilities holds_rows wrote held)
 
 -- ---- keys
 
@@ -121,13 +151,9 @@ unfolding understood everything
 key_means = record { is = refl; plain = (refl, refl) }
 
 pub key_put : (rows : Rows) (key : Key) → Steps (ADD_KEY.now, key_values key) rows (record rows { keys = rows.keys ++ key ∷ [] })
-key_put rows key old new count holds_rows ran =
-    let put = inserts key_means key_table refl refl refl (λ row. refl) old new holds_rows.schema (key_values key) (key_values key) refl
-    (simp (cast_null, cast_int)) count ran in (
-      on_keys holds_rows put.0
-          (subst (λ rs. Holds key_values rs (rows.keys ++ key ∷ [])) (sym put.1) (holds_more key_values _ rows.keys key holds_rows.held.keys)),
-      put.2,
-    )
+key_put rows key =
+    added key_values key_means key_table refl refl refl (λ row. refl) _ key refl (simp (cast_null, cast_int)) rows _ rows.keys
+    (λ old holds_rows. holds_rows.held.keys) (λ old new holds_rows wrote held. on_keys holds_rows wrote held)
 
 -- ---- bookings
 
@@ -143,14 +169,9 @@ booking_means = record { is = refl; plain = (refl, refl) }
 
 pub booking_put : (rows : Rows) (booking : Booking) → Steps (ADD_BOOKING.now, booking_values booking) rows
     (record rows { bookings = rows.bookings ++ booking ∷ [] })
-booking_put rows booking old new count holds_rows ran =
-    let put = inserts booking_means booking_table refl refl refl (λ row. refl) old new holds_rows.schema (booking_values booking) (booking_values booking) refl
-    (simp (cast_null, cast_int)) count ran in (
-      on_bookings holds_rows put.0
-          (subst (λ rs. Holds booking_values rs (rows.bookings ++ booking ∷ [])) (sym put.1)
-          (holds_more booking_values _ rows.bookings booking holds_rows.held.bookings)),
-      put.2,
-    )
+booking_put rows booking =
+    added booking_values booking_means booking_table refl refl refl (λ row. refl) _ booking refl (simp (cast_null, cast_int)) rows _ rows.bookings
+    (λ old holds_rows. holds_rows.held.bookings) (λ old new holds_rows wrote held. on_bookings holds_rows wrote held)
 
 -- ---- rows that are put by their keys
 
@@ -163,48 +184,38 @@ PutsSlot text terms sets at clause =
 
 -- ---- a statement of this form
 
-module _ (text : List ℕ) (terms sets : List Term) (at : ℕ) (clause : Upsert) (puts : PutsSlot text terms sets at clause)
-    (old new : State) (rows : Rows) (holds_rows : HoldsRows old.now rows) (once : AllPairs (λ (a : SlotRow) (b : SlotRow). a.slot ≢ b.slot) rows.slots)
-    (slot : Slot)
-    (params : Row) (closed taken : Value)
-    (gives : value_rows params 6 (length terms / 6) terms ≡ (Null ∷ name_values slot ++ closed ∷ taken ∷ []) ∷ []) (casts_closed : cast Integer closed
-    ≡ closed) (casts_taken : cast Integer taken ≡ taken) (change : SlotUse → SlotUse) where
-  abbrev slot_row : Row
-  slot_row = Int (next_rowid (old.now.trees slots_tree)) ∷ name_values slot ++ closed ∷ taken ∷ []
+module _ {text : List ℕ} {terms sets : List Term} {at : ℕ} {clause : Upsert} (puts : PutsSlot text terms sets at clause) (rows : Rows)
+    (once : AllPairs (λ (a : SlotRow) (b : SlotRow). a.slot ≢ b.slot) rows.slots) (slot : Slot) (params : Row) (closed taken : Value)
+    (gives : value_rows params 6 (length terms / 6) terms ≡ (Null ∷ name_values slot ++ closed ∷ taken ∷ []) ∷ [])
+    (casts_closed : cast Integer closed ≡ closed) (casts_taken : cast Integer taken ≡ taken) (change : SlotUse → SlotUse) where
+  abbrev is_of_slot : SlotRow → Bool
+  is_of_slot row = same_slot row.slot slot
 
-  -- what the clause yields for the slot's row
-  abbrev YieldsUse : SlotRow → Type 0
-  YieldsUse x = (id : ℤ) (there : Row) → same_slot x.slot slot ≡ true → eval_all sets ((params ++ rowid there ∷ shown slot_table slot_row)
-      ∷ (Int id ∷ slot_values x) ∷ []) ≡ Int id ∷ Int id ∷ name_values x.slot ++ use_values (change x.held)
-
-  abbrev YieldsRow : SlotRow → Type 0
-  YieldsRow x = (id : ℤ) (there : Row) → same_slot x.slot slot ≡ true → eval_all sets ((params ++ rowid there ∷ shown slot_table slot_row)
-      ∷ (Int id ∷ slot_values x) ∷ []) ≡ Int id ∷ Int id ∷ slot_values (changed slot change x)
-
-  each_yields : (xs : List SlotRow) → AllByRecursion YieldsUse xs → AllByRecursion YieldsRow xs
-  each_yields [] yields = tt
-  each_yields (x ∷ xs) yields = (
-    λ id there passes. yields.0 id there passes
-        ∙ ap (λ b. Int id ∷ Int id ∷ name_values x.slot ++ use_values (if b then change x.held else x.held)) (sym passes),
-    each_yields xs yields.1,
-  )
+  -- what the clause sees, of a row that it meets and of one at this rowid
+  abbrev sees : Row → ℤ → Row
+  sees there id = params ++ rowid there ∷ shown slot_table (Int id ∷ name_values slot ++ closed ∷ taken ∷ [])
 
   -- the slot's row is put, if there was one and if there was none
-  slot_put : (list_any (λ (row : SlotRow). same_slot row.slot slot) rows.slots ≡ false → closed ∷ taken ∷ [] ≡ use_values (change no_slot_use))
-      → ((there : Row) → column (params ++ rowid there ∷ shown slot_table slot_row) at ≡ rowid there)
-      → AllByRecursion YieldsUse rows.slots → (count : ℕ) → Executes text params old new (Ok count)
-      → HoldsRows new.now (record rows { slots = put_slot slot change rows.slots }) × (1 ≤ count)
-  slot_put values ids yields count executed =
+  slot_put : (row_of slot rows.slots ≡ None → closed ∷ taken ∷ [] ≡ use_values (change no_slot_use))
+      → ((there : Row) (next : ℤ) → column (sees there next) at ≡ rowid there)
+      → ((x : SlotRow) → row_of slot rows.slots ≡ Some x → (id next : ℤ) (there : Row) → eval_all sets (sees there next ∷ (Int id ∷ slot_values x) ∷ [])
+      ≡ Int id ∷ Int id ∷ name_values x.slot ++ use_values (change x.held))
+      → Steps (text, params) rows (record rows { slots = put_slot slot change rows.slots })
+  slot_put fresh ids yields old new count holds_rows executed =
       let t = slots_table in
+      let alone = lone (λ (row : SlotRow). row.slot) same_slot same_slots same_itself slot rows.slots once in
+      let next = next_rowid (old.now.trees slots_tree) in
       let left = row_put t.name t.columns t.uniques t.checks t.references slots_tree target 4 refl text terms sets 6 at clause puts old new
       holds_rows.schema params (name_values slot ++ closed ∷ taken ∷ []) gives
       (rw (cast_null, cast_int (pos slot.day), cast_int (pos slot.hour), casts_closed, casts_taken) refl) (λ id.
       rw (cast_int id, cast_int (pos slot.day), cast_int (pos slot.hour), casts_closed, casts_taken) refl)
-      slot_values (λ (row : SlotRow). same_slot row.slot slot) (changed slot change) (unchanged slot change) (new_row_of slot change) (λ id x.
-      slots_conflict id (next_rowid (old.now.trees slots_tree)) x slot closed taken)
+      slot_values is_of_slot (changed slot change) (unchanged slot change) (new_row_of slot change)
+      (λ id x. slots_conflict id next x slot closed taken)
       (λ id x. rw (cast_int id, cast_int (pos x.slot.day), cast_int (pos x.slot.hour), cast_int (pos (truth x.held.closed)), cast_int (pos x.held.taken)) refl)
-      rows.slots holds_rows.held.slots (lone (λ (row : SlotRow). row.slot) same_slot same_slots same_itself slot rows.slots once)
-      (λ none. ap (λ vs. name_values slot ++ vs) (values none)) ids (each_yields rows.slots yields) count executed in
+      rows.slots holds_rows.held.slots alone (λ none. ap (λ vs. name_values slot ++ vs) (fresh (absent is_of_slot rows.slots none))) (λ there. ids there next)
+      (each_weaker (λ x only id there passes. yields x (only passes) id next there
+      ∙ ap (λ b. Int id ∷ Int id ∷ name_values x.slot ++ use_values (if b then change x.held else x.held)) (sym passes)) rows.slots
+      (only_found is_of_slot rows.slots (one_passes _ is_of_slot rows.slots (λ x y a b apart. apart (a, b)) alone))) count executed in
       (on_slots holds_rows left.0 left.1, left.2)
 
 -- ---- a slot is closed
@@ -227,11 +238,9 @@ close_use held = record held { closed = true }
 
 pub slot_closed : (rows : Rows) → AllPairs (λ (a : SlotRow) (b : SlotRow). a.slot ≢ b.slot) rows.slots → (slot : Slot)
     → Steps (CLOSE_SLOT.now, name_values slot) rows (record rows { slots = put_slot slot close_use rows.slots })
-slot_closed rows once slot old new count holds_rows executed =
-    slot_put CLOSE_SLOT.now close_terms close_sets 3 close_clause close_puts old new rows holds_rows once slot
-    (name_values slot)
-    (whole 1) (whole 0) refl (cast_int (pos 1)) (cast_int (pos 0))
-    close_use (λ _. refl) (λ there. refl) (each_of _ (λ x id there same. refl) rows.slots) count executed
+slot_closed rows once slot =
+    slot_put close_puts rows once slot (name_values slot) (whole 1) (whole 0) refl (cast_int (pos 1)) (cast_int (pos 0)) close_use (λ _. refl)
+    (λ there next. refl) (λ x is id next there. refl)
 
 -- ---- persons are added to a slot
 
@@ -251,30 +260,16 @@ taken_puts = record { is = refl; plain = (refl, refl); aims = refl; by = refl }
 abbrev pub take_use : (ℕ → ℕ) → SlotUse → SlotUse
 take_use next held = record held { taken = next held.taken }
 
--- what the sum is, of the slot's row
-abbrev pub Takes : Slot → ℤ → (ℕ → ℕ) → SlotRow → Type 0
-Takes slot persons next row = same_slot row.slot slot ≡ true → binary (Arith Add) (whole row.held.taken) (Int persons) ≡ whole (next row.held.taken)
-
-yields_there : (slot : Slot) (persons : ℤ) (next : ℕ → ℕ) (row : Row) (xs : List SlotRow) → AllByRecursion (Takes slot persons next) xs
-    → AllByRecursion (λ (x : SlotRow). (id : ℤ) (there : Row) → same_slot x.slot slot ≡ true
-    → eval_all taken_sets (((name_values slot ++ Int persons ∷ []) ++ rowid there ∷ shown slot_table row) ∷ (Int id ∷ slot_values x) ∷ [])
-    ≡ Int id ∷ Int id ∷ name_values x.slot ++ use_values (take_use next x.held)) xs
-yields_there slot persons next row [] h = tt
-yields_there slot persons next row (x ∷ xs) h = (
-  λ id there same. ap (λ v. Int id ∷ Int id ∷ name_values x.slot ++ flag x.held.closed ∷ v ∷ []) (h.0 same),
-  yields_there slot persons next row xs h.1,
-)
-
 pub slot_taken : (rows : Rows) → AllPairs (λ (a : SlotRow) (b : SlotRow). a.slot ≢ b.slot) rows.slots → (slot : Slot) (persons : ℤ) (next : ℕ → ℕ)
-    → AllByRecursion (Takes slot persons next) rows.slots → (list_any (λ (row : SlotRow). same_slot row.slot slot) rows.slots ≡ false → persons ≡ pos (next 0))
+    → let held : SlotUse = stored_slot_use slot rows.slots in (held ≡ no_slot_use → persons ≡ pos (next 0))
+    → binary (Arith Add) (whole held.taken) (Int persons) ≡ whole (next held.taken)
     → Steps (ADD_TAKEN.now, name_values slot ++ Int persons ∷ []) rows (record rows { slots = put_slot slot (take_use next) rows.slots })
-slot_taken rows once slot persons next sums fresh old new count holds_rows executed =
-    slot_put ADD_TAKEN.now taken_terms taken_sets 4 taken_clause taken_puts old new rows holds_rows once slot
-    (name_values slot
-    ++ Int persons ∷ []) (whole 0) (Int persons) refl (cast_int (pos 0)) (cast_int persons)
-    (take_use next) (λ none. ap (λ n. whole 0 ∷ Int n ∷ []) (fresh none)) (λ there.
-    refl) (yields_there slot persons next (Int (next_rowid (old.now.trees slots_tree)) ∷ name_values slot ++ whole 0 ∷ Int persons ∷ []) rows.slots sums)
-    count executed
+slot_taken rows once slot persons next fresh sum =
+    let use_by : Option SlotRow → SlotUse = λ found. unwrap_or (option_map (λ (row : SlotRow). row.held) found) no_slot_use in
+    slot_put taken_puts rows once slot (name_values slot ++ Int persons ∷ []) (whole 0) (Int persons) refl (cast_int (pos 0)) (cast_int persons)
+    (take_use next) (λ none. ap (λ n. whole 0 ∷ Int n ∷ []) (fresh (ap use_by none))) (λ there id. refl)
+    (λ x is id new there. ap (λ v. Int id ∷ Int id ∷ name_values x.slot ++ flag x.held.closed ∷ v ∷ [])
+    (subst (λ (held : SlotUse). binary (Arith Add) (whole held.taken) (Int persons) ≡ whole (next held.taken)) (ap use_by is) sum))
 
 -- ---- older roots
 

@@ -1,8 +1,8 @@
 -- What the statements that change a row of a member or of a key make of the tables.
-use Rattle.std.proofs.Common.{◌≡◌, ◌+◌, ◌≤◌, ℕ, ℤ, pos, Ok, Some, Bool, true, ◌&&◌, cond, if◌then◌else◌, List, [], ◌∷◌, length, map, ◌≢◌, refl, sym, ap, ◌∙◌}
-use Rattle.std.proofs.Common.{◌||◌}
+use Rattle.std.proofs.Common.{◌≡◌, ◌+◌, ◌≤◌, ℕ, ℤ, pos, Ok, Some, Bool, true, ◌&&◌, if◌then◌else◌, List, [], ◌∷◌, length, map, ◌≢◌, refl, sym, ap, ◌∙◌}
+use Rattle.std.proofs.Common.{false, subst}
 use Rattle.std.specs.Prelude.{filter, find, AllPairs}
-use Rattle.std.specs.List.{AllByRecursion, AllZip, list_all}
+use Rattle.std.specs.List.{list_all}
 use Rattle.std.specs.Str.{bytes_eq}
 use Rattle.std.proofs.lemmas.Bool.{and_parts}
 use Rattle.std.proofs.lemmas.Slice.Eq.{bytes_eq-Decides}
@@ -16,31 +16,78 @@ use Rattle.sqlite_sql.specs.declared.ops.CompareOp.TheVariants.{Eq}
 use Rattle.sqlite_sql.specs.Ops.{binary}
 use Rattle.sqlite.specs.Cast.{cast_row}
 use Rattle.sqlite.specs.Order.{Row}
+use Rattle.sqlite.specs.Table.{Table}
 use Rattle.sqlite.specs.Term.{Term, col, op2, holds, lit}
 use Rattle.sqlite.specs.Query.{Query, inner, end, counted}
 use Rattle.sqlite.specs.Command.TheVariants.{Update}
 use Rattle.sqlite.specs.Listing.{understood}
 use Rattle.sqlite.specs.State.{State, Executes}
 use Rattle.club_rows.specs.declared.key.Key.{Key}
-use Rattle.club_core.specs.After.{credited_member, revoked_key, good_until, rotated_key}
+use Rattle.club_core.specs.After.{credited_member, revoked_key, rotated_key}
 use Rattle.club_rows.specs.Columns.{truth}
 use Rattle.club_tables.specs.declared.row.MemberRow.{MemberRow}
 use Rattle.club_tables.specs.declared.texts.TheConstants.{ADD_CREDIT, ADD_USED, REVOKE_KEY, SET_ROOT}
 use Rattle.club_tables.specs.Schema.{club_schema}
 use Rattle.club_tables.specs.ChangeStatements.{used_values}
-use Rattle.club_tables.specs.Columns.{whole, member_values, key_values, flag}
+use Rattle.club_tables.specs.Columns.{whole, member_values, key_values}
 use Rattle.club_tables.specs.Statements.{select, is_given}
 use Rattle.club_tables.specs.Stored.{Rows}
+use Rattle.club_tables.specs.Transaction.{BoundStatement}
+use Rattle.club_tables.proofs.statements.MeansLemmas.{Wrote}
+use Rattle.club_tables.specs.Tables.{Holds}
 use Rattle.club_tables.specs.Tables.{HoldsRows, members_tree, keys_tree}
-use Rattle.club_tables.proofs.statements.MeansLemmas.{Means, on_members, on_keys}
+use Rattle.club_tables.proofs.statements.MeansLemmas.{Means, on_members, on_keys, Steps}
 use Rattle.club_tables.proofs.statements.InsertLemmas.{cast_int}
 use Rattle.club_tables.proofs.queries.KeyLemmas.{both_tests, one_named}
-use Rattle.club_tables.proofs.changes.AddLemmas.{member_table, key_table}
-use Rattle.club_tables.proofs.statements.PassLemmas.{contains_counts, found_counts, each_row, find_some, agree, found_by_both, found}
+use Rattle.club_tables.proofs.changes.AddLemmas.{member_table, key_table, only_found}
+use Rattle.club_tables.proofs.statements.PassLemmas.{contains_counts, each_row, find_some, agree, found_by_both, found, Implies}
 use Rattle.club_tables.proofs.statements.SelectLemmas.{text_equal, shows, blob_equal}
-use Rattle.club_tables.proofs.statements.UpdateLemmas.{Updates, updates, Finds, finds, passes_one, writes_one, changes_one, each_of}
-use Rattle.club_tables.proofs.statements.JoinLemmas.{is_counted, some_counted, counted_some, passes, shown, count_in, with_count, answered_counted}
+use Rattle.club_tables.proofs.statements.UpdateLemmas.{Updates, updates, Finds, finds, passes_one, writes_one, changes_one}
+use Rattle.club_tables.proofs.statements.JoinLemmas.{is_counted, some_counted, counted_some, passes, shown, with_count, answered_counted}
 use Rattle.club_tables.proofs.statements.JoinLemmas.{counts_elements}
+
+-- ---- an UPDATE of the one element that a test finds
+
+-- what a narrower test finds is what a wider one finds that one element passes at most
+narrowed : {X : Type 0} (p q : X → Bool) → Implies p q → (xs : List X) → length (filter q xs) ≤ 1 → (x : X) → find p xs ≡ Some x
+    → (find q xs ≡ Some x) × (p x ≡ true)
+narrowed p q wide xs low x is = (sym (found_by_both p q xs (agree p q wide xs x low is)) ∙ is, (found p xs x is).1)
+
+-- over tables that hold these rows a statement ran, and then it is so
+abbrev pub WhenRan : BoundStatement → Rows → (State → State → ℕ → Type 0) → Type 1
+WhenRan statement rows P =
+    (old new : State) (count : ℕ) → HoldsRows old.now rows → Executes statement.0 statement.1 old new (Ok count) → P old new count
+
+-- the elements that pass a test are hit, and that is at most the one that a wider test finds
+pub record FindsOne {X : Type 0} (values : X → Row) (p q : X → Bool) (xs : List X) (shown : Row → Row) (old new : State) (table : Table) (count : ℕ) : Type 0
+  where
+    pub finds : Finds values p xs shown old new table count
+    pub wide : Implies p q
+    pub low : length (filter q xs) ≤ 1
+
+module _ {X : Type 0} {values : X → Row} {p q : X → Bool} {xs : List X} {shown : Row → Row} {old new : State} {table : Table} {count : ℕ}
+    (it : FindsOne values p q xs shown old new table count) where
+  -- if a row is written, the element is there, and passes
+  pub one_found : 1 ≤ count → (x : X) × (find q xs ≡ Some x) × (p x ≡ true)
+  one_found some =
+      let one = passes_one it.finds some in
+      let is = narrowed p q it.wide xs it.low one.0 one.1 in
+      (one.0, is.0, is.1)
+
+  -- if it is there, and passes, its row is written, and no other is changed
+  pub one_changed : {next : Rows} (x : X) → find q xs ≡ Some x → p x ≡ true → (change : X → X) → ((y : X) → q y ≡ false → change y ≡ y)
+      → ((id : ℤ) → q x ≡ true → shown (Int id ∷ values x) ≡ Int id ∷ Int id ∷ values (change x))
+      → ((id : ℤ) (y : X) → cast_row table (Int id ∷ values y) ≡ Int id ∷ values y)
+      → (Wrote club_schema old.now new.now table.tree → Holds values (new.now.trees table.tree) (map change xs) → HoldsRows new.now next)
+      → HoldsRows new.now next × (1 ≤ count)
+  one_changed x is it_passes change kept sets casts on =
+      let some = writes_one it.finds (contains_counts p xs x (found q xs x is).0 it_passes) in
+      let one = passes_one it.finds some in
+      let held = changes_one it.finds q (agree p q it.wide xs one.0 it.low one.1) change kept (λ y. q y ≡ true → find q xs ≡ Some y)
+      (only_found q xs it.low) (λ id y only mine.
+      let same : x ≡ y = let e : Some x ≡ Some y = sym is ∙ only mine in cc in
+      subst (λ z. q z ≡ true → shown (Int id ∷ values z) ≡ Int id ∷ Int id ∷ values (change z)) same (sets id) mine) casts it.low in
+      (on it.finds.wrote held, some)
 
 -- ---- keys by their names
 
@@ -55,6 +102,13 @@ StoresKey name keys key = find (λ (key : Key). bytes_eq key.name name) keys ≡
 
 abbrev pub name_of : MemberRow → List ℕ
 name_of row = row.member.name
+
+abbrev pub AreNamedOnce : List MemberRow → Type 0
+AreNamedOnce = AllPairs (λ (a : MemberRow) (b : MemberRow). name_of a ≢ name_of b)
+
+-- a member of this name is stored
+abbrev pub StoresMember : List ℕ → List MemberRow → MemberRow → Type 0
+StoresMember name members row = find (λ (row : MemberRow). bytes_eq (name_of row) name) members ≡ Some row
 
 -- points are added to what a member of this name was credited, and `next` is applied to what the member's bookings have cost
 abbrev pub credited_row : List ℕ → ℕ → MemberRow → MemberRow
@@ -89,137 +143,98 @@ used_means = record { is = refl; plain = (refl, refl) }
 casts_member : (id : ℤ) (row : MemberRow) → cast_row member_table (Int id ∷ member_values row) ≡ Int id ∷ member_values row
 casts_member id row = rw (cast_int id, cast_int (pos row.member.credited), cast_int (pos row.member.quota), cast_int (pos row.used))
 
-abbrev pub AreNamedOnce : List MemberRow → Type 0
-AreNamedOnce = AllPairs (λ (a : MemberRow) (b : MemberRow). name_of a ≢ name_of b)
-
--- what the sum is, of each row of this name
-abbrev pub Credits : List ℕ → ℕ → MemberRow → Type 0
-Credits name points row = bytes_eq row.member.name name ≡ true → binary (Arith Add) (whole row.member.credited) (whole points)
-    ≡ whole (row.member.credited + points)
-
-abbrev pub Uses : List ℕ → ℤ → (ℕ → ℕ) → MemberRow → Type 0
-Uses name points next row = bytes_eq row.member.name name ≡ true → binary (Arith Add) (whole row.used) (Int points) ≡ whole (next row.used)
-
-module _ (old new : State) (rows : Rows) (holds_rows : HoldsRows old.now rows) (name : List ℕ) (points count : ℕ)
-    (ran : Executes ADD_CREDIT.now (Text name ∷ whole points ∷ []) old new (Ok count)) where
+module _ (rows : Rows) (once : AreNamedOnce rows.members) (name : List ℕ) where
   abbrev is_named : MemberRow → Bool
   is_named row = bytes_eq (name_of row) name
 
-  credit_finds : Finds member_values is_named rows.members (shows (Text name ∷ whole points ∷ []) (is_given 1 0 ∷ []) credit_terms) old new member_table count
-  credit_finds = finds member_values is_named rows.members (updates credit_means member_table refl holds_rows.schema ran) holds_rows.held.members
-      (λ id row. and-true _ ∙ text_equal row.member.name name)
+  low_named : length (filter is_named rows.members) ≤ 1
+  low_named = one_named name_of name rows.members once
 
-  -- the member is there
-  pub credit_found : 1 ≤ count → (row : MemberRow) × (find is_named rows.members ≡ Some row)
-  credit_found some = passes_one credit_finds some
+  module _ (points : ℕ) where
+    abbrev credit_params : Row
+    credit_params = Text name ∷ whole points ∷ []
 
-  -- if the member is there, its row is updated
-  pub credit_some : (row : MemberRow) → find is_named rows.members ≡ Some row → 1 ≤ count
-  credit_some row stores = writes_one credit_finds (found_counts is_named rows.members row stores)
+    pub credit_finds : WhenRan (ADD_CREDIT.now, credit_params) rows (λ old new count.
+        FindsOne member_values is_named is_named rows.members (shows credit_params (is_given 1 0 ∷ []) credit_terms) old new member_table count)
+    credit_finds old new count holds_rows ran = record {
+      finds = finds member_values is_named rows.members (updates credit_means member_table refl holds_rows.schema ran) holds_rows.held.members
+          (λ id row. and-true _ ∙ text_equal (name_of row) name);
+      wide = λ row passes. passes;
+      low = low_named;
+    }
 
-  pub member_credited : AreNamedOnce rows.members → AllByRecursion (Credits name points) rows.members
-      → HoldsRows new.now (record rows { members = map (credited_row name points) rows.members })
-  member_credited unique sums =
-      let members = changes_one credit_finds is_named (each_of _ (λ row. refl) rows.members) (credited_row name points) (λ row fails.
-      ap (λ b. let m : MemberRow = record row { member = record row.member { credited = cond b (row.member.credited + points) row.member.credited } } in
-      m) fails)
-      (Credits name points) sums (λ id row sum passes. ap (λ v. Int id ∷ Int id ∷ Text row.member.name ∷ v ∷ whole row.member.quota ∷ whole row.used ∷ [])
-      (sum passes ∙ ap (λ b. whole (cond b (row.member.credited + points) row.member.credited)) (sym passes)))
-      casts_member (one_named name_of name rows.members unique) in
-      on_members holds_rows credit_finds.wrote members
+    pub member_credited : (row : MemberRow) → StoresMember name rows.members row
+        → binary (Arith Add) (whole row.member.credited) (whole points) ≡ whole (row.member.credited + points)
+        → Steps (ADD_CREDIT.now, credit_params) rows (record rows { members = map (credited_row name points) rows.members })
+    member_credited row is sum old new count holds_rows ran =
+        one_changed (credit_finds old new count holds_rows ran) row is (found is_named rows.members row is).1
+        (credited_row name points) (λ row fails. rw fails refl) (λ id passes. rw (passes, sum) refl) casts_member
+        (λ wrote held. on_members holds_rows wrote held)
 
-module _ (old new : State) (rows : Rows) (holds_rows : HoldsRows old.now rows) (name : List ℕ) (points : ℤ) (key : List ℕ) (count : ℕ)
-    (ran : Executes ADD_USED.now (used_values name points key) old new (Ok count)) where
-  abbrev used_params : Row
-  used_params = used_values name points key
+  module _ (points : ℤ) (key : List ℕ) where
+    abbrev used_params : Row
+    used_params = used_values name points key
 
-  abbrev owns : Key → Bool
-  owns k = bytes_eq k.name key && bytes_eq k.member name
+    abbrev is_key : Key → Bool
+    is_key k = bytes_eq k.name key
 
-  abbrev is_owned : Bool
-  is_owned = is_counted (length (filter owns rows.keys))
+    abbrev owns : Key → Bool
+    owns k = is_key k && bytes_eq k.member name
 
-  abbrev is_member : MemberRow → Bool
-  is_member row = bytes_eq row.member.name name
+    abbrev is_owned : Bool
+    is_owned = is_counted (length (filter owns rows.keys))
 
-  abbrev is_owner : MemberRow → Bool
-  is_owner row = is_member row && is_owned
+    abbrev is_owner : MemberRow → Bool
+    is_owner row = is_named row && is_owned
 
-  abbrev others : List Row
-  others = old.now.trees keys_tree
+    used_finds : WhenRan (ADD_USED.now, used_params) rows (λ old new count. FindsOne member_values is_owner is_named rows.members
+        (shown used_params owner_tests used_tests used_terms (old.now.trees keys_tree)) old new member_table count)
+    used_finds old new count holds_rows ran =
+        let others = old.now.trees keys_tree in
+        let before = old.now.trees members_tree in
+        let hit = passes used_params owner_tests used_tests used_terms others in
+        let put : Updates old new member_table used_query used_params count = updates used_means member_table refl holds_rows.schema ran in
+        record {
+          finds = record {
+            rows = put.rows;
+            hit = hit;
+            held = holds_rows.held.members;
+            hits = each_row member_values hit is_owner (λ id row.
+                let as_row : Row = Int id ∷ member_values row in
+                ap (λ n. list_all (holds (with_count used_params owner_tests used_tests used_terms n as_row)) used_tests)
+                (counts_elements used_params owner_tests used_tests used_terms key_values owns
+                (λ id row k. both_tests _ _ _ _ (text_equal k.name key) (text_equal k.member name)) others rows.keys holds_rows.held.keys as_row)
+                ∙ both_tests _ _ _ _ (text_equal (name_of row) name) refl) before rows.members holds_rows.held.members.same;
+            answer = answered_counted used_params owner_tests used_tests used_terms members_tree keys_tree
+                (record { schema = club_schema; trees = old.now.trees }) put.rows put.answers;
+            wrote = put.wrote;
+            left = put.left;
+            counted = put.counted;
+          };
+          wide = λ row passes. (and_parts (is_named row) is_owned passes).0;
+          low = low_named;
+        }
 
-  abbrev used_hit : Row → Bool
-  used_hit = passes used_params owner_tests used_tests used_terms others
+    -- the key is the member's, if a row is written
+    pub owner_found : AreKeysOnce rows.keys
+        → WhenRan (ADD_USED.now, used_params) rows (λ old new count. 1 ≤ count → (k : Key) × StoresKey key rows.keys k × (k.member ≡ name))
+    owner_found unique old new count holds_rows ran some =
+        let row = one_found (used_finds old new count holds_rows ran) some in
+        let one = find_some owns rows.keys (some_counted (filter owns rows.keys) (and_parts (is_named row.0) is_owned row.2).1) in
+        let key_is = narrowed owns is_key (λ k h. (and_parts (is_key k) _ h).0) rows.keys (one_named (λ (k : Key). k.name) key rows.keys unique) one.0 one.1 in
+        (one.0, key_is.0, (bytes_eq-Decides one.0.member name).0 (and_parts (is_key one.0) _ key_is.1).1)
 
-  used_put : Updates old new member_table used_query used_params count
-  used_put = updates used_means member_table refl holds_rows.schema ran
+    pub member_used : (k : Key) → StoresKey key rows.keys k → k.member ≡ name → (row : MemberRow) → StoresMember name rows.members row → (next : ℕ → ℕ)
+        → binary (Arith Add) (whole row.used) (Int points) ≡ whole (next row.used)
+        → Steps (ADD_USED.now, used_params) rows (record rows { members = map (used_row name next) rows.members })
+    member_used k stores same row is next sum old new count holds_rows ran =
+        let key_is = found is_key rows.keys k stores in
+        let owned = counted_some (filter owns rows.keys) (contains_counts owns rows.keys k key_is.0
+        (rw (key_is.1, (bytes_eq-Decides k.member name).1 same) refl)) in
+        one_changed (used_finds old new count holds_rows ran) row is (rw (owned, (found is_named rows.members row is).1) refl)
+        (used_row name next) (λ row fails. rw fails refl) (λ id passes. rw (passes, sum) refl) casts_member (λ wrote held. on_members holds_rows wrote held)
 
-  used_count : (row : Row) → count_in used_params owner_tests used_tests used_terms others row ≡ length (filter owns rows.keys)
-  used_count = counts_elements used_params owner_tests used_tests used_terms key_values owns
-      (λ id row k. both_tests _ _ _ _ (text_equal k.name key) (text_equal k.member name)) others rows.keys holds_rows.held.keys
-
-  used_hits : AllZip (λ row x. used_hit row ≡ is_owner x) (old.now.trees members_tree) rows.members
-  used_hits = each_row member_values used_hit is_owner (λ id row.
-      let as_row : Row = Int id ∷ member_values row in
-      let counted_so : used_hit as_row ≡ list_all (holds (with_count used_params owner_tests used_tests used_terms (length (filter owns rows.keys)) as_row))
-      used_tests =
-      ap (λ n. list_all (holds (with_count used_params owner_tests used_tests used_terms n as_row)) used_tests) (used_count as_row) in
-      counted_so ∙ both_tests _ _ _ _ (text_equal row.member.name name) refl) (old.now.trees members_tree) rows.members holds_rows.held.members.same
-
-  used_finds : Finds member_values is_owner rows.members (shown used_params owner_tests used_tests used_terms others) old new member_table count
-  used_finds = record {
-    rows = used_put.rows;
-    hit = used_hit;
-    held = holds_rows.held.members;
-    hits = used_hits;
-    answer = answered_counted used_params owner_tests used_tests used_terms members_tree keys_tree (record { schema = club_schema; trees = old.now.trees })
-        used_put.rows used_put.answers;
-    wrote = used_put.wrote;
-    left = used_put.left;
-    counted = used_put.counted;
-  }
-
-  -- if the key is the member's, the member's row is updated
-  pub used_some : (k : Key) → StoresKey key rows.keys k → k.member ≡ name → (row : MemberRow) → find is_member rows.members ≡ Some row → 1 ≤ count
-  used_some k stores same row stored =
-      let is_key : Key → Bool = λ k. bytes_eq k.name key in
-      let it = found is_key rows.keys k stores in
-      let passes : owns k ≡ true = rw (it.1, (bytes_eq-Decides k.member name).1 same) refl in
-      let owned = counted_some (filter owns rows.keys) (contains_counts owns rows.keys k it.0 passes) in
-      let one = found is_member rows.members row stored in
-      let is_hit : is_owner row ≡ true = ap (λ b. is_member row && b) owned ∙ and-true (is_member row) ∙ one.1 in
-      writes_one used_finds (contains_counts is_owner rows.members row one.0 is_hit)
-
-  module _ (some : 1 ≤ count) where
-    used_passes : (row : MemberRow) × (find is_owner rows.members ≡ Some row)
-    used_passes = passes_one used_finds some
-
-    owned : is_owned ≡ true
-    owned = (and_parts (is_member used_passes.0) is_owned (found is_owner rows.members used_passes.0 used_passes.1).1).1
-
-    -- the key is the member's
-    pub owner_found : AreKeysOnce rows.keys → (k : Key) × StoresKey key rows.keys k × (k.member ≡ name)
-    owner_found unique =
-        let one = find_some owns rows.keys (some_counted (filter owns rows.keys) owned) in
-        let is_key : Key → Bool = λ k. bytes_eq k.name key in
-        let both = agree owns is_key (λ k h. (and_parts (is_key k) _ h).0) rows.keys one.0 (one_named (λ (k : Key). k.name) key rows.keys unique) one.1 in (
-          one.0,
-          sym (found_by_both owns is_key rows.keys both) ∙ one.1,
-          (bytes_eq-Decides one.0.member name).0 (and_parts (is_key one.0) (bytes_eq one.0.member name) (found owns rows.keys one.0 one.1).1).1,
-        )
-
-    pub member_used : AreNamedOnce rows.members → (next : ℕ → ℕ) → AllByRecursion (Uses name points next) rows.members
-        → HoldsRows new.now (record rows { members = map (used_row name next) rows.members })
-    member_used unique next sums =
-        let members = changes_one used_finds is_member (each_of _ (λ row. ap (λ b. is_member row && b) owned ∙ and-true (is_member row)) rows.members)
-        (used_row name next) (λ row fails. ap (λ b. let m : MemberRow = record row { used = cond b (next row.used) row.used } in m) fails)
-        (Uses name points next) sums
-        (λ id row sum passes. ap (λ v. Int id ∷ Int id ∷ Text row.member.name ∷ whole row.member.credited ∷ whole row.member.quota ∷ v ∷ [])
-        (sum passes ∙ ap (λ b. whole (cond b (next row.used) row.used)) (sym passes)))
-        casts_member (one_named name_of name rows.members unique) in
-        on_members holds_rows used_finds.wrote members
-
--- ---- a key is revoked
+-- ---- a key is revoked, or gets a new root
 
 abbrev revoke_terms : List Term
 revoke_terms = col 1 0 ∷ col 1 0 ∷ col 1 1 ∷ col 1 2 ∷ col 1 3 ∷ lit (Int (pos 1)) ∷ []
@@ -227,39 +242,6 @@ revoke_terms = col 1 0 ∷ col 1 0 ∷ col 1 1 ∷ col 1 2 ∷ col 1 3 ∷ lit (
 revoke_means : Means club_schema REVOKE_KEY.now (Update 3 (record { lets = []; body = select (inner keys_tree end) (is_given 1 0 ∷ []) revoke_terms }))
 unfolding understood everything
 revoke_means = record { is = refl; plain = (refl, refl) }
-
-casts_key : (id : ℤ) (key : Key) → cast_row key_table (Int id ∷ key_values key) ≡ Int id ∷ key_values key
-casts_key id key = rw (cast_int id, cast_int (pos (truth key.revoked)))
-
-module _ (old new : State) (rows : Rows) (holds_rows : HoldsRows old.now rows) (name : List ℕ) (count : ℕ)
-    (ran : Executes REVOKE_KEY.now (Text name ∷ []) old new (Ok count)) where
-  abbrev is_key : Key → Bool
-  is_key key = bytes_eq key.name name
-
-  revoke_finds : Finds key_values is_key rows.keys (shows (Text name ∷ []) (is_given 1 0 ∷ []) revoke_terms) old new key_table count
-  revoke_finds = finds key_values is_key rows.keys (updates revoke_means key_table refl holds_rows.schema ran) holds_rows.held.keys
-      (λ id key. and-true _ ∙ text_equal key.name name)
-
-  -- the key is there
-  pub revoke_found : 1 ≤ count → (key : Key) × StoresKey name rows.keys key
-  revoke_found some = passes_one revoke_finds some
-
-  -- if the key is there, its row is updated
-  pub revoke_some : (key : Key) → StoresKey name rows.keys key → 1 ≤ count
-  revoke_some key stores = writes_one revoke_finds (found_counts is_key rows.keys key stores)
-
-  pub key_revoked : AreKeysOnce rows.keys → HoldsRows new.now (record rows { keys = map (revoked_key name) rows.keys })
-  key_revoked unique =
-      let marked : (key : Key) → is_key key ≡ true → flag (revoked_key name key).revoked ≡ whole 1 = λ key passes.
-      ap (λ b. flag (key.revoked || b)) passes ∙ ap flag (or-true key.revoked) in
-      let keys = changes_one revoke_finds is_key (each_of _ (λ key. refl) rows.keys) (revoked_key name) (λ key fails.
-      ap (λ b. let k : Key = record key { revoked = key.revoked || b } in k) fails
-      ∙ ap (λ b. let k : Key = record key { revoked = b } in k) (or-false key.revoked)) (λ _. Unit {0}) (each_of _ (λ key. tt) rows.keys)
-      (λ id key _ passes. ap (λ v. Int id ∷ Int id ∷ Text key.name ∷ Text key.member ∷ Blob key.root ∷ v ∷ []) (sym (marked key passes)))
-      casts_key (one_named (λ (key : Key). key.name) name rows.keys unique) in
-      on_keys holds_rows revoke_finds.wrote keys
-
--- ---- a key gets a new root
 
 abbrev root_tests : List Term
 root_tests = is_given 1 0 ∷ is_given 3 2 ∷ []
@@ -271,53 +253,58 @@ root_means : Means club_schema SET_ROOT.now (Update 3 (record { lets = []; body 
 unfolding understood everything
 root_means = record { is = refl; plain = (refl, refl) }
 
-module _ (old new : State) (rows : Rows) (holds_rows : HoldsRows old.now rows) (unique : AreKeysOnce rows.keys) (name root was : List ℕ)
-    (count : ℕ) (ran : Executes SET_ROOT.now (Text name ∷ Blob root ∷ Blob was ∷ []) old new (Ok count)) where
-  abbrev root_params : Row
-  root_params = Text name ∷ Blob root ∷ Blob was ∷ []
+casts_key : (id : ℤ) (key : Key) → cast_row key_table (Int id ∷ key_values key) ≡ Int id ∷ key_values key
+casts_key id key = rw (cast_int id, cast_int (pos (truth key.revoked)))
 
+module _ (rows : Rows) (once : AreKeysOnce rows.keys) (name : List ℕ) where
   abbrev has_name : Key → Bool
   has_name key = bytes_eq key.name name
 
-  abbrev has_root : Key → Bool
-  has_root key = has_name key && bytes_eq key.root was
+  low_keys : length (filter has_name rows.keys) ≤ 1
+  low_keys = one_named (λ (key : Key). key.name) name rows.keys once
 
-  root_finds : Finds key_values has_root rows.keys (shows root_params root_tests root_terms) old new key_table count
-  root_finds = finds key_values has_root rows.keys (updates root_means key_table refl holds_rows.schema ran) holds_rows.held.keys
-      (λ id key. both_tests _ _ _ _ (text_equal key.name name) (blob_equal key.root was))
+  pub revoke_finds : WhenRan (REVOKE_KEY.now, Text name ∷ []) rows (λ old new count.
+      FindsOne key_values has_name has_name rows.keys (shows (Text name ∷ []) (is_given 1 0 ∷ []) revoke_terms) old new key_table count)
+  revoke_finds old new count holds_rows ran = record {
+    finds = finds key_values has_name rows.keys (updates revoke_means key_table refl holds_rows.schema ran) holds_rows.held.keys
+        (λ id key. and-true _ ∙ text_equal key.name name);
+    wide = λ key passes. passes;
+    low = low_keys;
+  }
 
-  -- if the key has the former root, its row is updated
-  pub root_some : (key : Key) → StoresKey name rows.keys key → key.root ≡ was → 1 ≤ count
-  root_some key stores same =
-      let it = found has_name rows.keys key stores in
-      let passes : has_root key ≡ true = rw (it.1, (bytes_eq-Decides key.root was).1 same) refl in
-      writes_one root_finds (contains_counts has_root rows.keys key it.0 passes)
+  pub key_revoked : (key : Key) → StoresKey name rows.keys key
+      → Steps (REVOKE_KEY.now, Text name ∷ []) rows (record rows { keys = map (revoked_key name) rows.keys })
+  key_revoked key is old new count holds_rows ran =
+      one_changed (revoke_finds old new count holds_rows ran) key is (found has_name rows.keys key is).1 (revoked_key name)
+      (λ key fails. rw (fails, or-false key.revoked) refl) (λ id passes. rw (passes, or-true key.revoked) refl)
+      casts_key (λ wrote held. on_keys holds_rows wrote held)
 
-  module _ (some : 1 ≤ count) where
-    root_passes : (key : Key) × (find has_root rows.keys ≡ Some key)
-    root_passes = passes_one root_finds some
+  module _ (root was : List ℕ) where
+    abbrev root_params : Row
+    root_params = Text name ∷ Blob root ∷ Blob was ∷ []
 
-    root_agree : AllByRecursion (λ (key : Key). has_root key ≡ has_name key) rows.keys
-    root_agree = agree has_root has_name (λ key h. (and_parts (has_name key) _ h).0) rows.keys root_passes.0
-        (one_named (λ (key : Key). key.name) name rows.keys unique) root_passes.1
+    abbrev has_root : Key → Bool
+    has_root key = has_name key && bytes_eq key.root was
 
-    -- the key has the former root
-    pub root_found : (key : Key) × StoresKey name rows.keys key × (key.root ≡ was)
-    root_found =
-        let key = root_passes.0 in
-        let passes = (found has_root rows.keys key root_passes.1).1 in (
-          key,
-          sym (found_by_both has_root has_name rows.keys root_agree) ∙ root_passes.1,
-          (bytes_eq-Decides key.root was).0 (and_parts (has_name key) (bytes_eq key.root was) passes).1,
-        )
+    root_finds : WhenRan (SET_ROOT.now, root_params) rows (λ old new count.
+        FindsOne key_values has_root has_name rows.keys (shows root_params root_tests root_terms) old new key_table count)
+    root_finds old new count holds_rows ran = record {
+      finds = finds key_values has_root rows.keys (updates root_means key_table refl holds_rows.schema ran) holds_rows.held.keys
+          (λ id key. both_tests _ _ _ _ (text_equal key.name name) (blob_equal key.root was));
+      wide = λ key passes. (and_parts (has_name key) _ passes).0;
+      low = low_keys;
+    }
+
+    -- the key has the former root, if a row is written
+    pub root_found : WhenRan (SET_ROOT.now, root_params) rows (λ old new count.
+        1 ≤ count → (key : Key) × StoresKey name rows.keys key × (key.root ≡ was))
+    root_found old new count holds_rows ran some =
+        let one = one_found (root_finds old new count holds_rows ran) some in
+        (one.0, one.1, (bytes_eq-Decides one.0.root was).0 (and_parts (has_name one.0) _ one.2).1)
 
     -- the columns don't hold the older root
-    pub root_set : (until : ℕ) → HoldsRows new.now (record rows { keys = map (rotated_key name root until) rows.keys })
-    root_set until =
-        let keys = changes_one root_finds has_name root_agree (rotated_key name root until) (λ key fails.
-        ap (λ b. let k : Key = record key { root = if b then root else key.root; older = if b then Some (good_until until key.root) else key.older } in
-        k) fails) (λ _. Unit {0}) (each_of _ (λ key. tt) rows.keys)
-        (λ id key _ passes.
-        ap (λ b. Int id ∷ Int id ∷ Text key.name ∷ Text key.member ∷ Blob (if b then root else key.root) ∷ flag key.revoked ∷ []) (sym passes))
-        casts_key (one_named (λ (key : Key). key.name) name rows.keys unique) in
-        on_keys holds_rows root_finds.wrote keys
+    pub root_set : (key : Key) → StoresKey name rows.keys key → key.root ≡ was → (until : ℕ)
+        → Steps (SET_ROOT.now, root_params) rows (record rows { keys = map (rotated_key name root until) rows.keys })
+    root_set key is same until old new count holds_rows ran =
+        one_changed (root_finds old new count holds_rows ran) key is (rw ((found has_name rows.keys key is).1, (bytes_eq-Decides key.root was).1 same) refl)
+        (rotated_key name root until) (λ key fails. rw fails refl) (λ id passes. rw passes refl) casts_key (λ wrote held. on_keys holds_rows wrote held)

@@ -1,19 +1,27 @@
 -- A change that was made is true of the club, and what the statements of one that fits do, one after the other.
-use Rattle.std.proofs.Common.{◌≡◌, ℕ, ◌≤◌, ℤ, pos, neg_ℤ, Bool, Ok, None, List, Option, Some, refl, sym, subst, ◌∙◌, ◌≢◌, ◌+◌, ◌-◌, true, false}
+use Rattle.std.proofs.Common.{◌≡◌, ℕ, ◌≤◌, ℤ, pos, neg_ℤ, Bool, Ok, None, List, Option, Some, refl, sym, subst, ◌∙◌, ◌≢◌, ◌+◌, ◌-◌, true}
 use Rattle.std.proofs.Common.{if◌then◌else◌, [], ◌∷◌, ◌++◌, map, Contains, ap, arith, zero, suc, IsTrue, inl, inr}
-use Rattle.std.proofs.lemmas.List.Elements.{recursion_from_All}
+use Rattle.std.proofs.lemmas.List.Elements.{recursion_from_All, All-contains}
 use Rattle.std.proofs.lemmas.Slice.Eq.{bytes_eq-Decides}
-use Rattle.std.specs.List.{AllByRecursion, list_any}
 use Rattle.std.specs.Prelude.{find, option_map, IsSome}
 use Rattle.std.specs.Str.{bytes_eq}
 use Rattle.sqlite.specs.Effect.{Database}
 use Rattle.sqlite.specs.Held.{Held, state}
 use Rattle.sqlite.specs.Order.{Row}
+use Rattle.sqlite_sql.specs.Ops.{binary}
+use Rattle.sqlite_sql.specs.declared.ops.BinaryOp.TheVariants.{Arith}
+use Rattle.sqlite_sql.specs.declared.ops.ArithOp.TheVariants.{Add}
+use Rattle.std.proofs.lemmas.Bool.{lt-ltb}
+use Rattle.std.proofs.lemmas.Int.{ints}
+use Rattle.std.proofs.Common.{◌<◌, ◌^◌, ◌+ℤ◌, cond}
+use Rattle.club_rows.specs.Limits.{places_limit}
+use Rattle.club_core.specs.declared.slot_use.SlotUse.{SlotUse}
+use Rattle.club_rows.specs.Rows.{IsMember, IsFacility}
 use Rattle.sqlite.specs.State.{Executes, State}
 use Rattle.sqlite.specs.Store.{Ghosts}
-use Rattle.sqlite_value.specs.declared.value.Value.TheVariants.{Int, Text, Blob}
-use Rattle.club_core.specs.After.{good_until, after, cancelled_booking, rotated_key, revoked_key}
-use Rattle.club_core.specs.Club.{Club, member_named, is_key_of, key_named}
+use Rattle.sqlite_value.specs.declared.value.Value.TheVariants.{Int}
+use Rattle.club_core.specs.After.{good_until, after, cancelled_booking, credited_member}
+use Rattle.club_core.specs.Club.{Club, member_named, is_key_of, key_named, IsSound}
 use Rattle.club_core.specs.Store.{IsOwnedBy, IsTrueOf, FitsClub}
 use Rattle.club_core.specs.Sums.{booking_under, cost_of, taken_in}
 use Rattle.club_core.specs.declared.change.Change.{Change}
@@ -21,7 +29,7 @@ use Rattle.club_core.specs.declared.change.Change.TheVariants.{InsertMember, Add
 use Rattle.club_core.specs.declared.change.Change.TheVariants.{InsertBooking, MarkCancelled}
 use Rattle.club_core.specs.declared.store.StoreFault.{StoreFault}
 use Rattle.club_rows.specs.Booking.{same_slot, persons_of}
-use Rattle.club_rows.specs.Limits.{charge_limit}
+use Rattle.club_rows.specs.Limits.{credited_limit}
 use Rattle.club_rows.specs.Rows.{IsBooking}
 use Rattle.club_rows.specs.declared.booking.Booking.{Booking}
 use Rattle.club_rows.specs.declared.facility.Facility.{Facility}
@@ -30,28 +38,26 @@ use Rattle.club_rows.specs.declared.key.OlderRoot.{OlderRoot}
 use Rattle.club_rows.specs.declared.member.Member.{Member}
 use Rattle.club_values.specs.declared.slot.Slot.{Slot}
 use Rattle.club_tables.specs.ChangeStatements.{used_values, statements_of, with_totals, adding_booking, cancelling}
-use Rattle.club_tables.specs.Columns.{whole, name_values, booking_values}
+use Rattle.club_tables.specs.Columns.{whole, name_values}
 use Rattle.club_tables.specs.Fault.{FailsInTurn}
 use Rattle.club_tables.specs.ReadsAndChanges.{HasOlderRoot}
-use Rattle.club_tables.specs.Stored.{Rows, member_row, SlotRow, used_by, stored_slot_use, persons_taken, IsStoredAs}
+use Rattle.club_tables.specs.Stored.{Rows, member_row, used_by, persons_taken, IsStoredAs}
 use Rattle.club_tables.specs.Tables.{HoldsClub, HoldsRows}
 use Rattle.club_tables.specs.Transaction.{Ran, transaction_start, BoundStatement, RanInTurn}
 use Rattle.club_tables.specs.declared.row.MemberRow.{MemberRow}
-use Rattle.club_tables.specs.declared.texts.TheConstants.{ADD_USED, CANCEL_BOOKING, SET_ROOT, ADD_CREDIT, REVOKE_KEY}
-use Rattle.club_tables.proofs.changes.AddLemmas.{booking_put, member_put, facility_put, key_put, slot_taken, Takes, slot_closed, older_represents, put_older}
-use Rattle.club_tables.proofs.changes.CancelLemmas.{booking_cancelled, cancel_found, cancel_some, there, used_back, taken_back, cancel_stored, cancel_rows}
-use Rattle.club_tables.proofs.changes.ChangeLemmas.{credit_found, owner_found, AreKeysOnce, StoresKey, name_of, member_used, AreNamedOnce, Uses, used_row}
-use Rattle.club_tables.proofs.changes.ChangeLemmas.{member_credited, Credits, credit_some, used_some, credited_row, revoke_found, root_found, key_revoked}
+use Rattle.club_tables.specs.declared.texts.TheConstants.{ADD_USED}
+use Rattle.club_tables.proofs.changes.AddLemmas.{booking_put, member_put, facility_put, key_put, slot_taken, slot_closed, older_represents, put_older}
+use Rattle.club_tables.proofs.changes.CancelLemmas.{booking_cancelled, cancel_found, there, used_back, taken_back, mapped_holds, used_less, taken_less}
+use Rattle.club_tables.proofs.changes.ChangeLemmas.{owner_found, AreKeysOnce, StoresKey, name_of, member_used, AreNamedOnce, used_row, StoresMember, one_found}
+use Rattle.club_tables.proofs.changes.ChangeLemmas.{member_credited, root_found, key_revoked, credit_finds, revoke_finds}
 use Rattle.club_tables.proofs.changes.StoredLemmas.{taken_more, member_stored, credit_stored, facility_stored, key_stored, revoke_stored, rotate_stored}
-use Rattle.club_tables.proofs.changes.StoredLemmas.{close_stored, booking_stored, totals_rows, book_rows}
-use Rattle.club_tables.proofs.changes.TotalsLemmas.{one_turn, named_once, few_used, uses_more, minus, uses_less, held_is, takes_of, no_row, few_taken}
-use Rattle.club_tables.proofs.changes.TotalsLemmas.{credits_of}
+use Rattle.club_tables.proofs.changes.StoredLemmas.{close_stored, used_more, bookings_stored}
 use Rattle.club_tables.proofs.lists.OwnerLemmas.{all_last, owner_is}
 use Rattle.club_tables.proofs.queries.KeyLemmas.{find_mapped, AreBookingsOnce}
 use Rattle.club_tables.proofs.queries.MemberLemmas.{total}
 use Rattle.club_tables.proofs.statements.PassLemmas.{contains_counts, find_some, found}
-use Rattle.club_tables.proofs.statements.SelectLemmas.{apart_from_pairs}
-use Rattle.club_tables.proofs.changes.ChangeLemmas.{root_set, revoke_some, root_some}
+use Rattle.club_tables.proofs.statements.SelectLemmas.{pairs_mapped}
+use Rattle.club_tables.proofs.changes.ChangeLemmas.{root_set}
 use Rattle.club_tables.proofs.lists.KeyedRows.{same_itself}
 use Rattle.club_tables.proofs.statements.MeansLemmas.{Steps}
 
@@ -95,6 +101,27 @@ contains_mapped f (x ∷ xs) y (suc k, low, is) =
     let later = contains_mapped f xs y (k, omega (arith, low), is) in
     (later.0, (suc later.1.0, omega (arith, later.1.1), later.1.2), later.2)
 
+mapped_some : {X Y : Type 0} (f : X → Y) (o : Option X) (y : Y) → option_map f o ≡ Some y → (x : X) × (o ≡ Some x)
+mapped_some f None y h = absurd cc
+mapped_some f (Some x) y h = (x, refl)
+
+-- what is less than was there can be taken away
+minus : (m r : ℕ) → r ≤ m → m < 2 ^ 63 → binary (Arith Add) (whole m) (Int (neg_ℤ (pos r))) ≡ whole (m - r)
+unfolding binary
+minus m r low small =
+    let sum : pos m +ℤ neg_ℤ (pos r) ≡ pos (m - r) = omega (arith, ints) in
+    let fits : m - r < 2 ^ 63 = omega arith in
+    rw (sum, lt-ltb (m - r) (2 ^ 63) fits) refl
+
+-- no slot of a facility has more persons than a facility has places
+few_taken : (club : Club) → IsSound club → (slot : Slot) → Contains (map (λ (f : Facility). f.name) club.facilities) slot.facility
+    → taken_in slot club.bookings ≤ places_limit
+few_taken club sound slot has =
+    let at = contains_mapped (λ (f : Facility). f.name) club.facilities slot.facility has in
+    let low = All-contains (λ (f : Facility). (s : Slot) → s.facility ≡ f.name → taken_in s club.bookings ≤ f.places) club.facilities at.0 sound.places at.1
+    slot (sym at.2) in
+    omega (arith, low, (All-contains IsFacility club.facilities at.0 sound.rows.facilities at.1).few_places)
+
 module _ {S : Type 0} (g : Ghosts S) (old : Held S) (club : Club) (tables : HoldsClub (state g old).now club) where
   keys_once : AreKeysOnce tables.rows.keys
   keys_once = subst AreKeysOnce (sym tables.storage.keys) tables.sound.unique.keys
@@ -103,18 +130,20 @@ module _ {S : Type 0} (g : Ghosts S) (old : Held S) (club : Club) (tables : Hold
   bookings_once = subst AreBookingsOnce (sym tables.storage.bookings) tables.sound.unique.bookings
 
   members_once : AreNamedOnce tables.rows.members
-  members_once = named_once club tables.rows.members tables.storage.members tables.sound
+  members_once = subst AreNamedOnce (sym tables.storage.members)
+      (pairs_mapped (λ (a : MemberRow) (b : MemberRow). name_of a ≢ name_of b) (member_row club) (λ row. row.member) club.members tables.sound.unique.members)
 
   -- ---- a change that was made
 
-  found_member : (name : List ℕ) (o : Option Member) (row : MemberRow) → option_map (member_row club) o ≡ Some row → (m : Member) × (o ≡ Some m)
-  found_member name None row h = absurd cc
-  found_member name (Some m) row h = (m, refl)
+  abbrev start : State
+  start = state g (transaction_start old)
 
-  owned_by : (at now : Held S) (rows : Rows) → HoldsRows (state g at).now rows → rows.keys ≡ club.keys → (member key : List ℕ) (points : ℤ) (count : ℕ)
+  owned_by : (at now : Held S) (rows : Rows) → HoldsRows (state g at).now rows → rows.keys ≡ club.keys → AreNamedOnce rows.members
+      → (member key : List ℕ) (points : ℤ) (count : ℕ)
       → Executes ADD_USED.now (used_values member points key) (state g at) (state g now) (Ok count) → 1 ≤ count → IsOwnedBy member key club
-  owned_by at now rows holds same member key points count ran some =
-      let one = owner_found (state g at) (state g now) rows holds member points key count ran some (subst AreKeysOnce (sym same) tables.sound.unique.keys) in
+  owned_by at now rows holds_rows same once member key points count ran some =
+      let one = owner_found rows once member points key (subst AreKeysOnce (sym same) tables.sound.unique.keys) (state g at) (state g now) count holds_rows ran
+      some in
       (one.0, subst (λ keys. StoresKey key keys one.0) same one.1, one.2)
 
   not_older : (older : Option OlderRoot) → ¬ IsSome older → older ≡ None
@@ -126,39 +155,34 @@ module _ {S : Type 0} (g : Ghosts S) (old : Held S) (club : Club) (tables : Hold
   is_true db (InsertFacility facility) new ran = tt
   is_true db (InsertKey key) new ran = not_older key.older new
   is_true db (AddCredit name points) new ran =
-      let t = one_turn g old db _ ran in
-      let row = credit_found (state g (transaction_start old)) (state g t.mid) tables.rows tables.holds_rows name points t.count t.ran t.some in
+      let t = ran.turns in
+      let row = one_found (credit_finds tables.rows members_once name points start (state g t.0) t.1 tables.holds_rows t.2) t.4 in
       let is_of : MemberRow → Bool = λ row. bytes_eq (name_of row) name in
-      found_member name (member_named name club) row.0 (sym (find_mapped is_of (member_row club) club.members)
+      mapped_some (member_row club) (member_named name club) row.0 (sym (find_mapped is_of (member_row club) club.members)
       ∙ subst (λ ms. find is_of ms ≡ Some row.0) tables.storage.members row.1)
   is_true db (MarkRevoked name) new ran =
-      let t = one_turn g old db _ ran in
-      let one = revoke_found (state g (transaction_start old)) (state g t.mid) tables.rows tables.holds_rows name t.count t.ran t.some in
+      let t = ran.turns in
+      let one = one_found (revoke_finds tables.rows keys_once name start (state g t.0) t.1 tables.holds_rows t.2) t.4 in
       (one.0, subst (λ keys. StoresKey name keys one.0) tables.storage.keys one.1)
   is_true db (ReplaceRoot name was root until) new ran =
       let t1 = ran.turns in
       let t2 = t1.3 in
-      let put = older_represents tables.rows tables.storage.olders_once name (good_until until was) (state g (transaction_start old)) (state g t1.0) t1.1
-      tables.holds_rows t1.2 in
-      let one = root_found (state g t1.0) (state g t2.0) _ put.0 keys_once name root was t2.1 t2.2 t2.4 in
+      let put = older_represents tables.rows tables.storage.olders_once name (good_until until was) start (state g t1.0) t1.1 tables.holds_rows t1.2 in
+      let one = root_found _ keys_once name root was (state g t1.0) (state g t2.0) t2.1 put.0 t2.2 t2.4 in
       (one.0, subst (λ keys. StoresKey name keys one.0) tables.storage.keys one.1, one.2)
   is_true db (MarkClosed slot) new ran = tt
   is_true db (InsertBooking booking member) new ran =
       let t1 = ran.turns in
       let t2 = t1.3 in
-      let first = booking_put tables.rows booking (state g (transaction_start old)) (state g t1.0) t1.1 tables.holds_rows t1.2 in
-      owned_by t1.0 t2.0 _ first.0 tables.storage.keys member booking.key (pos (cost_of booking)) t2.1 t2.2 t2.4
+      let first = booking_put tables.rows booking start (state g t1.0) t1.1 tables.holds_rows t1.2 in
+      owned_by t1.0 t2.0 _ first.0 tables.storage.keys members_once member booking.key (pos (cost_of booking)) t2.1 t2.2 t2.4
   is_true db (MarkCancelled booking member refund) new ran =
       let t1 = ran.turns in
       let t2 = t1.3 in
-      let start = state g (transaction_start old) in
-      let on_record = cancel_found start (state g t1.0) tables.rows tables.holds_rows bookings_once booking refund t1.1 t1.2 t1.4 in
-      let first = booking_cancelled start (state g t1.0) tables.rows tables.holds_rows bookings_once booking refund t1.1 t1.2 t1.4 in (
-        (
-          subst (λ bookings. booking_under booking.key booking.number bookings ≡ Some booking) tables.storage.bookings on_record.0,
-          on_record.1,
-        ),
-        owned_by t1.0 t2.0 _ first tables.storage.keys member booking.key (neg_ℤ (pos refund)) t2.1 t2.2 t2.4,
+      let on_record = cancel_found tables.rows bookings_once booking refund start (state g t1.0) t1.1 tables.holds_rows t1.2 t1.4 in
+      let first = booking_cancelled tables.rows bookings_once booking refund on_record.0 on_record.1 start (state g t1.0) t1.1 tables.holds_rows t1.2 in (
+        (subst (λ bookings. booking_under booking.key booking.number bookings ≡ Some booking) tables.storage.bookings on_record.0, on_record.1),
+        owned_by t1.0 t2.0 _ first.0 tables.storage.keys members_once member booking.key (neg_ℤ (pos refund)) t2.1 t2.2 t2.4,
       )
 
   -- ---- the statements of a change that fits
@@ -167,58 +191,70 @@ module _ {S : Type 0} (g : Ghosts S) (old : Held S) (club : Club) (tables : Hold
   abbrev LeaveRows : List BoundStatement → Club → Type 0
   LeaveRows all next = (last : Rows) × GoThrough g all tables.rows last × IsStoredAs next last
 
+  one_step : (statement : BoundStatement) {last : Rows} {next : Club} → Steps statement tables.rows last → IsStoredAs next last
+      → LeaveRows (statement ∷ []) next
+  one_step statement step stored = (_, (_, λ a b. step (state g a) (state g b), refl), stored)
+
   stored_key : (name : List ℕ) (key : Key) → key_named name club ≡ Some key → StoresKey name tables.rows.keys key
   stored_key name key h = subst (λ keys. StoresKey name keys key) (sym tables.storage.keys) h
 
-  stored_member : (name : List ℕ) (member : Member) → member_named name club ≡ Some member
-      → find (λ (row : MemberRow). bytes_eq (name_of row) name) tables.rows.members ≡ Some (member_row club member)
+  stored_member : (name : List ℕ) (member : Member) → member_named name club ≡ Some member → StoresMember name tables.rows.members (member_row club member)
   stored_member name member h =
-      let is_of : MemberRow → Bool = λ row. bytes_eq (name_of row) name in
-      subst (λ ms. find is_of ms ≡ Some (member_row club member)) (sym tables.storage.members)
-      (find_mapped is_of (member_row club) club.members ∙ ap (option_map (member_row club)) h)
+      subst (λ ms. StoresMember name ms (member_row club member)) (sym tables.storage.members)
+      (find_mapped (λ (row : MemberRow). bytes_eq (name_of row) name) (member_row club) club.members ∙ ap (option_map (member_row club)) h)
 
-  -- the member of a key is there
-  owned_some : (bookings : List Booking) (member key : List ℕ) (points : ℤ) → IsOwnedBy member key club → (before after : State) (count : ℕ)
-      → HoldsRows before.now (record tables.rows { bookings = bookings })
-      → Executes ADD_USED.now (used_values member points key) before after (Ok count) → 1 ≤ count
-  owned_some bookings member key points owns before after count holds ran =
-      let row = owns.0 in
-      let in_keys = (found (λ (k : Key). bytes_eq k.name key) club.keys row owns.1).0 in
-      let named = subst (λ (k : Key). Contains (map (λ (m : Member). m.name) club.members) k.member) in_keys.2
-      (tables.sound.references.keys in_keys.0 row in_keys.1) in
-      let of_member = contains_mapped (λ (m : Member). m.name) club.members row.member named in
-      let passes : bytes_eq of_member.0.name member ≡ true = (bytes_eq-Decides of_member.0.name member).1 (of_member.2 ∙ owns.2) in
-      let one = find_some (λ (m : Member). bytes_eq m.name member) club.members
-      (contains_counts (λ (m : Member). bytes_eq m.name member) club.members of_member.0 of_member.1 passes) in
-      used_some before after (record tables.rows { bookings = bookings }) holds member points key count ran row (stored_key key row owns.1) owns.2 _
-      (stored_member member one.0 one.1)
+  -- the member of a key is there, and its bookings have cost no more than a member is ever credited
+  owner_of : (member key : List ℕ) → IsOwnedBy member key club → (m : Member) × (member_named member club ≡ Some m) × (m.name ≡ member)
+      × (used_by club m.name ≤ credited_limit)
+  owner_of member key owns =
+      let is_of : Member → Bool = λ m. bytes_eq m.name member in
+      let named = All-contains (λ (k : Key). Contains (map (λ (m : Member). m.name) club.members) k.member) club.keys owns.0
+      tables.sound.references.keys (found (λ (k : Key). bytes_eq k.name key) club.keys owns.0 owns.1).0 in
+      let of_member = contains_mapped (λ (m : Member). m.name) club.members owns.0.member named in
+      let passes : is_of of_member.0 ≡ true = (bytes_eq-Decides of_member.0.name member).1 (of_member.2 ∙ owns.2) in
+      let one = find_some is_of club.members (contains_counts is_of club.members of_member.0 of_member.1 passes) in
+      let here = found is_of club.members one.0 one.1 in
+      let low = All-contains (λ (m : Member). used_by club m.name ≤ m.credited) club.members one.0 tables.sound.balances here.0 in (
+        one.0,
+        one.1,
+        (bytes_eq-Decides one.0.name member).0 here.1,
+        omega (arith, low, (All-contains IsMember club.members one.0 tables.sound.rows.members here.0).credited),
+      )
 
   -- a statement on the bookings, and what is added to the totals of a member and of a slot
-  totals_through : (text : List ℕ) (values : Row) (change : List Booking → List Booking) (member key : List ℕ) (points : ℤ) (used : ℕ → ℕ) (slot : Slot)
-      (persons : ℤ) (taken : ℕ → ℕ) → Steps (text, values) tables.rows (record tables.rows { bookings = change tables.rows.bookings })
-      → IsOwnedBy member key club → AllByRecursion (Uses member points used) tables.rows.members → AllByRecursion (Takes slot persons taken) tables.rows.slots
-      → (list_any (λ (row : SlotRow). same_slot row.slot slot) tables.rows.slots ≡ false → persons ≡ pos (taken 0))
-      → GoThrough g (with_totals text values (used_values member points key) (name_values slot ++ Int persons ∷ [])) tables.rows
-      (totals_rows tables.rows change member used slot taken)
-  totals_through text values change member key points used slot persons taken first owned uses takes fresh =
+  totals : (text : List ℕ) (values : Row) (change : List Booking → List Booking) (member key : List ℕ) (points : ℤ) (used : ℕ → ℕ) (slot : Slot) (persons : ℤ)
+      (taken : ℕ → ℕ) → Steps (text, values) tables.rows (record tables.rows { bookings = change tables.rows.bookings }) → IsOwnedBy member key club
+      → (used_by club member ≤ credited_limit → binary (Arith Add) (whole (used_by club member)) (Int points) ≡ whole (used (used_by club member)))
+      → (taken_in slot club.bookings ≡ 0 → persons ≡ pos (taken 0))
+      → binary (Arith Add) (whole (taken_in slot club.bookings)) (Int persons) ≡ whole (taken (taken_in slot club.bookings))
+      → ((m : Member) → used_row member used (member_row club m) ≡ member_row (record club { bookings = change club.bookings }) m)
+      → ((s : Slot) → taken_in s (change club.bookings) ≡ (if same_slot slot s then taken (taken_in s club.bookings) else taken_in s club.bookings))
+      → LeaveRows (with_totals text values (used_values member points key) (name_values slot ++ Int persons ∷ []))
+      (record club { bookings = change club.bookings })
+  totals text values change member key points used slot persons taken first owns uses fresh takes costs people =
       let booked : Rows = record tables.rows { bookings = change tables.rows.bookings } in
       let charged : Rows = record booked { members = map (used_row member used) tables.rows.members } in
-      let second : Steps (ADD_USED.now, used_values member points key) booked charged = λ before after count holds ran.
-      let some = owned_some (change tables.rows.bookings) member key points owned before after count holds ran in
-      (member_used before after booked holds member points key count ran some members_once used uses, some) in
-      let third = λ (a b : Held S). slot_taken charged tables.storage.once slot persons taken takes fresh (state g a) (state g b) in
-      (booked, λ a b. first (state g a) (state g b), (charged, λ a b. second (state g a) (state g b), (_, third, refl)))
-
-  all_held : AllByRecursion (λ (x : SlotRow). stored_slot_use x.slot tables.rows.slots ≡ x.held) tables.rows.slots
-  all_held = held_is tables.rows.slots (apart_from_pairs (λ (a : SlotRow) (b : SlotRow). a.slot ≢ b.slot) tables.rows.slots tables.storage.once)
+      let m = owner_of member key owns in
+      let sum = subst (λ name. used_by club name ≤ credited_limit → binary (Arith Add) (whole (used_by club name)) (Int points)
+      ≡ whole (used (used_by club name))) (sym m.2) uses m.3 in
+      let second = member_used booked members_once member points key owns.0 (stored_key key owns.0 owns.1) owns.2 (member_row club m.0)
+      (stored_member member m.0 m.1) used sum in
+      let held = tables.storage.slots slot in
+      let third = slot_taken charged tables.storage.once slot persons taken (λ none. fresh (ap (λ u. u.taken) (sym held ∙ none)))
+      (subst (λ (u : SlotUse). binary (Arith Add) (whole u.taken) (Int persons) ≡ whole (taken u.taken)) (sym held) takes) in (
+        _,
+        (
+          booked,
+          λ a b. first (state g a) (state g b),
+          (charged, λ a b. second (state g a) (state g b), (_, λ a b. third (state g a) (state g b), refl)),
+        ),
+        bookings_stored club tables.rows tables.storage change member used slot taken costs people,
+      )
 
   booking_through : (booking : Booking) (member : List ℕ) → FitsClub (InsertBooking booking member) club
-      → GoThrough g (adding_booking booking member) tables.rows (book_rows tables.rows member booking)
+      → LeaveRows (adding_booking booking member) (after (InsertBooking booking member) club)
   booking_through booking member fits =
       let limits = all_last IsBooking club.bookings booking (recursion_from_All IsBooking (club.bookings ++ booking ∷ []) fits.sound.rows.bookings) in
-      let cost_low : cost_of booking ≤ charge_limit = omega (arith, limits.charge) in
-      let uses = subst (AllByRecursion (Uses member (pos (cost_of booking)) (λ n. n + cost_of booking))) (sym tables.storage.members)
-      (uses_more club member (cost_of booking) cost_low club.members (few_used club tables.sound)) in
       let booked = all_last (λ (b : Booking). Contains (map (λ (f : Facility). f.name) club.facilities) b.slot.facility) club.bookings booking
       (recursion_from_All _ (club.bookings ++ booking ∷ []) fits.sound.references.facilities) in
       let few = few_taken (after (InsertBooking booking member) club) fits.sound booking.slot booked in
@@ -226,103 +262,62 @@ module _ {S : Type 0} (g : Ghosts S) (old : Held S) (club : Club) (tables : Hold
       let here : (if same_slot booking.slot booking.slot then taken_in booking.slot club.bookings + persons_taken booking else taken_in booking.slot
       club.bookings) ≡ taken_in booking.slot club.bookings + persons_taken booking =
       ap (λ b. if b then taken_in booking.slot club.bookings + persons_taken booking else taken_in booking.slot club.bookings) (same_itself booking.slot) in
-      let sum = total (taken_in booking.slot club.bookings) (persons_taken booking) (omega (arith, few, more, here)) in
-      totals_through _ _ (λ bs. bs ++ booking ∷ []) member booking.key (pos (cost_of booking)) (λ n. n + cost_of booking) booking.slot
-      (pos (persons_taken booking)) (λ n. n + persons_taken booking) (booking_put tables.rows booking) fits.carries uses
-      (takes_of club tables.rows.slots tables.storage.slots booking.slot (pos (persons_taken booking)) (λ n. n + persons_taken booking) sum tables.rows.slots
-      all_held) (λ none. let e : persons_taken booking ≡ 0 + persons_taken booking = omega arith in ap pos e)
+      totals _ _ (λ bs. bs ++ booking ∷ []) member booking.key (pos (cost_of booking)) (λ n. n + cost_of booking) booking.slot (pos (persons_taken booking))
+      (λ n. n + persons_taken booking) (booking_put tables.rows booking) fits.carries
+      (λ low. total (used_by club member) (cost_of booking) (omega (arith, low, limits.charge)))
+      (λ none. let e : persons_taken booking ≡ 0 + persons_taken booking = omega arith in ap pos e)
+      (total (taken_in booking.slot club.bookings) (persons_taken booking) (omega (arith, few, more, here)))
+      (used_more club tables.sound member booking fits.carries) (taken_more club booking)
 
   cancel_through : (booking : Booking) (member : List ℕ) (refund : ℕ) (fits : FitsClub (MarkCancelled booking member refund) club)
-      → GoThrough g (cancelling booking member refund) tables.rows
-      (cancel_rows club tables.sound booking fits.carries.0 refund fits.sound tables.rows member)
+      → LeaveRows (cancelling booking member refund) (after (MarkCancelled booking member refund) club)
   cancel_through booking member refund fits =
       let persons = persons_of booking in
-      let enough : (m : Member) → bytes_eq m.name member ≡ true → refund ≤ used_by club m.name = λ m passes.
-      let back = used_back club tables.sound booking fits.carries.0 refund fits.sound m.name in
-      let mine = owner_is club tables.sound booking.key member m.name fits.carries.1 ∙ passes in
-      let all : (if is_key_of m.name club booking.key then refund else 0) ≡ refund = ap (λ b. if b then refund else 0) mine in
-      omega (arith, back, all) in
-      let uses = subst (AllByRecursion (Uses member (neg_ℤ (pos refund)) (λ n. n - refund))) (sym tables.storage.members)
-      (uses_less club member refund club.members (few_used club tables.sound) enough) in
-      let back = taken_back club tables.sound booking fits.carries.0 refund fits.sound booking.slot in
+      let cancels = fits.carries.0 in
+      let back = used_back club tables.sound booking cancels refund fits.sound member in
+      let mine = owner_is club tables.sound booking.key member member fits.carries.1 ∙ (bytes_eq-Decides member member).1 refl in
+      let all : (if is_key_of member club booking.key then refund else 0) ≡ refund = ap (λ b. if b then refund else 0) mine in
+      let gone = taken_back club tables.sound booking cancels refund fits.sound booking.slot in
       let here : (if same_slot booking.slot booking.slot then persons else 0) ≡ persons = ap (λ b. if b then persons else 0) (same_itself booking.slot) in
-      let there_are : persons ≤ taken_in booking.slot club.bookings = omega (arith, back, here) in
-      let at = (there club tables.sound booking fits.carries.0 refund fits.sound).0 in
-      let booked = subst (λ (b : Booking). Contains (map (λ (f : Facility). f.name) club.facilities) b.slot.facility) at.2
-      (tables.sound.references.facilities at.0 booking at.1) in
+      let there_are : persons ≤ taken_in booking.slot club.bookings = omega (arith, gone, here) in
+      let booked = All-contains (λ (b : Booking). Contains (map (λ (f : Facility). f.name) club.facilities) b.slot.facility) club.bookings booking
+      tables.sound.references.facilities (there club tables.sound booking cancels refund fits.sound).0 in
       let few = few_taken club tables.sound booking.slot booked in
-      let sum = minus (taken_in booking.slot club.bookings) persons there_are (omega (arith, few)) in
-      let mark : Steps (CANCEL_BOOKING.now, booking_values booking ++ whole refund ∷ []) tables.rows (record tables.rows {
-        bookings = map (cancelled_booking booking.key booking.number refund) tables.rows.bookings;
-      }) = λ before after count holds ran.
-      let some = cancel_some before after tables.rows holds bookings_once booking refund count ran
-      (subst (λ bookings. booking_under booking.key booking.number bookings ≡ Some booking) (sym tables.storage.bookings) fits.carries.0.0) fits.carries.0.1 in
-      (booking_cancelled before after tables.rows holds bookings_once booking refund count ran some, some) in
-      totals_through _ _ (map (cancelled_booking booking.key booking.number refund)) member booking.key (neg_ℤ (pos refund)) (λ n. n - refund) booking.slot
-      (neg_ℤ (pos persons)) (λ n. n - persons) mark fits.carries.1 uses
-      (takes_of club tables.rows.slots tables.storage.slots booking.slot (neg_ℤ (pos persons)) (λ n. n - persons) sum tables.rows.slots all_held) (λ none.
-      let nothing : taken_in booking.slot club.bookings ≡ 0 = ap (λ u. u.taken) (sym (tables.storage.slots booking.slot)
-      ∙ no_row booking.slot tables.rows.slots none) in
-      absurd (omega (arith, nothing, there_are)))
+      totals _ _ (map (cancelled_booking booking.key booking.number refund)) member booking.key (neg_ℤ (pos refund)) (λ n. n - refund) booking.slot
+      (neg_ℤ (pos persons)) (λ n. n - persons)
+      (booking_cancelled tables.rows bookings_once booking refund
+      (subst (λ bookings. booking_under booking.key booking.number bookings ≡ Some booking) (sym tables.storage.bookings) cancels.0) cancels.1)
+      fits.carries.1 (λ low. minus (used_by club member) refund (omega (arith, back, all)) (omega (arith, low)))
+      (λ none. absurd (omega (arith, none, there_are))) (minus (taken_in booking.slot club.bookings) persons there_are (omega (arith, few)))
+      (used_less club tables.sound booking cancels refund fits.sound member fits.carries.1) (taken_less club tables.sound booking cancels refund fits.sound)
 
   pub plan : (change : Change) → FitsClub change club → LeaveRows (statements_of change) (after change club)
-  plan (InsertMember member) fits = (
-    _,
-    (_, λ a b. member_put tables.rows member (state g a) (state g b), refl),
-    member_stored club tables.rows tables.storage tables.sound member fits.sound,
-  )
-  plan (InsertFacility facility) fits =
-      (_, (_, λ a b. facility_put tables.rows facility (state g a) (state g b), refl), facility_stored club tables.rows tables.storage facility)
-  plan (InsertKey key) fits = (
-    _,
-    (_, λ a b. key_put tables.rows key (state g a) (state g b), refl),
-    key_stored club tables.rows tables.storage tables.sound key fits.carries fits.sound,
-  )
+  plan (InsertMember member) fits = one_step _ (member_put tables.rows member) (member_stored club tables.rows tables.storage tables.sound member fits.sound)
+  plan (InsertFacility facility) fits = one_step _ (facility_put tables.rows facility) (facility_stored club tables.rows tables.storage facility)
+  plan (InsertKey key) fits =
+      one_step _ (key_put tables.rows key) (key_stored club tables.rows tables.storage tables.sound key fits.carries fits.sound)
   plan (AddCredit name points) fits =
-      let sums = subst (AllByRecursion (Credits name points)) (sym tables.storage.members) (credits_of club name points fits.sound.rows.members) in
-      let step : Steps (ADD_CREDIT.now, Text name ∷ whole points ∷ []) tables.rows (record tables.rows {
-        members = map (credited_row name points) tables.rows.members;
-      }) = λ before after count holds ran. (
-        member_credited before after tables.rows holds name points count ran members_once sums,
-        credit_some before after tables.rows holds name points count ran _ (stored_member name fits.carries.0 fits.carries.1),
-      ) in
-      (_, (_, λ a b. step (state g a) (state g b), refl), credit_stored club tables.rows tables.storage name points)
+      let m = fits.carries.0 in
+      let next = mapped_holds IsMember (credited_member name points) club.members m fits.sound.rows.members
+      (found (λ (m : Member). bytes_eq m.name name) club.members m fits.carries.1).0 in
+      let low : m.credited + points ≤ credited_limit = subst (λ b. cond b (m.credited + points) m.credited ≤ credited_limit)
+      (found (λ (m : Member). bytes_eq m.name name) club.members m fits.carries.1).1 next.credited in
+      one_step _ (member_credited tables.rows members_once name points (member_row club m) (stored_member name m fits.carries.1)
+      (total m.credited points (omega (arith, low)))) (credit_stored club tables.rows tables.storage name points)
   plan (MarkRevoked name) fits =
-      let step : Steps (REVOKE_KEY.now, Text name ∷ []) tables.rows (record tables.rows { keys = map (revoked_key name) tables.rows.keys }) =
-      λ before after count holds ran. (
-        key_revoked before after tables.rows holds name count ran keys_once,
-        revoke_some before after tables.rows holds name count ran fits.carries.0 (stored_key name fits.carries.0 fits.carries.1),
-      ) in
-      (_, (_, λ a b. step (state g a) (state g b), refl), revoke_stored club tables.rows tables.storage name)
+      one_step _ (key_revoked tables.rows keys_once name fits.carries.0 (stored_key name fits.carries.0 fits.carries.1))
+      (revoke_stored club tables.rows tables.storage name)
   plan (ReplaceRoot name was root until) fits =
       let put : Rows = record tables.rows { olders = put_older name (good_until until was) tables.rows.olders } in
-      let set : Steps (SET_ROOT.now, Text name ∷ Blob root ∷ Blob was ∷ []) put (record put { keys = map (rotated_key name root until) put.keys }) =
-      λ before after count holds ran.
-      let some = root_some before after put holds keys_once name root was count ran fits.carries.0 (stored_key name fits.carries.0 fits.carries.1)
-      fits.carries.2 in
-      (root_set before after put holds keys_once name root was count ran some until, some) in (
+      let first = older_represents tables.rows tables.storage.olders_once name (good_until until was) in
+      let second = root_set put keys_once name root was fits.carries.0 (stored_key name fits.carries.0 fits.carries.1) fits.carries.2 until in (
         _,
-        (
-          put,
-          λ a b. older_represents tables.rows tables.storage.olders_once name (good_until until was) (state g a) (state g b),
-          (
-            _,
-            λ a b.
-                set (state g a) (state g b),
-            refl,
-          ),
-        ),
+        (put, λ a b. first (state g a) (state g b), (_, λ a b. second (state g a) (state g b), refl)),
         rotate_stored club tables.rows tables.storage name root was until fits.carries,
       )
-  plan (MarkClosed slot) fits =
-      (_, (_, λ a b. slot_closed tables.rows tables.storage.once slot (state g a) (state g b), refl), close_stored club tables.rows tables.storage slot)
-  plan (InsertBooking booking member) fits =
-      (_, booking_through booking member fits, booking_stored club tables.rows tables.storage tables.sound member booking fits.carries)
-  plan (MarkCancelled booking member refund) fits = (
-    _,
-    cancel_through booking member refund fits,
-    cancel_stored club tables.sound booking fits.carries.0 refund fits.sound tables.rows tables.storage member fits.carries.1,
-  )
+  plan (MarkClosed slot) fits = one_step _ (slot_closed tables.rows tables.storage.once slot) (close_stored club tables.rows tables.storage slot)
+  plan (InsertBooking booking member) fits = booking_through booking member fits
+  plan (MarkCancelled booking member refund) fits = cancel_through booking member refund fits
 
   -- what they leave holds the changed club
   pub made : (db : Database) (change : Change) → FitsClub change club → Ran g 1 (statements_of change) old db → HoldsClub db (after change club)

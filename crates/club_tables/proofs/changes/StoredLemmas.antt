@@ -286,11 +286,7 @@ totals_rows rows change member used slot taken = record rows {
   slots = put_slot slot (take_use taken) rows.slots;
 }
 
-abbrev pub book_rows : Rows → List ℕ → Booking → Rows
-book_rows rows member booking =
-    totals_rows rows (λ bs. bs ++ booking ∷ []) member (λ n. n + cost_of booking) booking.slot (λ n. n + persons_taken booking)
-
-used_more : (club : Club) → IsSound club → (member : List ℕ) (booking : Booking) → IsOwnedBy member booking.key club → (m : Member)
+pub used_more : (club : Club) → IsSound club → (member : List ℕ) (booking : Booking) → IsOwnedBy member booking.key club → (m : Member)
     → used_row member (λ n. n + cost_of booking) (member_row club m) ≡ member_row (after (InsertBooking booking member) club) m
 used_more club sound member booking owned m =
     let own : Booking → Bool = λ b. is_key_of m.name club b.key in
@@ -350,9 +346,3 @@ bookings_stored club rows stored change member used slot taken costs persons = r
   olders_once = stored.olders_once;
   once = slot_once slot (take_use taken) rows.slots stored.once;
 }
-
-pub booking_stored : (club : Club) (rows : Rows) → IsStoredAs club rows → IsSound club → (member : List ℕ) (booking : Booking)
-    → IsOwnedBy member booking.key club → IsStoredAs (after (InsertBooking booking member) club) (book_rows rows member booking)
-booking_stored club rows stored sound member booking owned =
-    bookings_stored club rows stored (λ bs. bs ++ booking ∷ []) member (λ n. n + cost_of booking) booking.slot (λ n. n + persons_taken booking)
-    (used_more club sound member booking owned) (taken_more club booking)
