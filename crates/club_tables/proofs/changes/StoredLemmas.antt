@@ -1,12 +1,13 @@
 -- The rows of the club after each change, as they are stored.
 use Rattle.std.proofs.Common.{◌≡◌, ◌≢◌, ℕ, ◌+◌, Bool, true, false, not, ◌&&◌, ◌||◌, cond, if◌then◌else◌, List, [], ◌∷◌, ◌++◌, map, Option, Some, None, Contains}
 use Rattle.std.proofs.Common.{refl, sym, ap, subst, ◌∙◌, arith, true≢false}
-use Rattle.std.specs.Prelude.{filter, find, sum_by, IfSome, option_and_then, AllPairs, option_map}
+use Rattle.std.specs.Prelude.{filter, find, sum_by, option_and_then, AllPairs, option_map}
 use Rattle.std.specs.List.{AllByRecursion, list_any}
 use Rattle.std.specs.Str.{bytes_eq}
-use Rattle.std.proofs.lemmas.Bool.{false_from_ne_true}
 use Rattle.std.proofs.lemmas.List.{map-append}
-use Rattle.std.proofs.lemmas.List.Folds.{list_any-append}
+use Rattle.std.proofs.lemmas.List.Folds.{list_any-append, find-append}
+use Rattle.std.proofs.lemmas.List.Elements.{filter-append}
+use Rattle.std.specs.Option.{option_or}
 use Rattle.std.proofs.lemmas.Slice.Eq.{bytes_eq-Decides}
 use Rattle.std.proofs.Math.Bool.{or-true, or-false}
 use Rattle.std.proofs.lemmas.List.Elements.{recursion_from_All}
@@ -49,16 +50,9 @@ used_none club name none =
 
 keys_of_none : (club : Club) → IsSound club → (name : List ℕ) → AllByRecursion (λ (m : Member). m.name ≢ name) club.members
     → AllByRecursion (λ (key : Key). bytes_eq key.member name ≡ false) club.keys
-keys_of_none club sound name apart = each club.keys (recursion_from_All _ club.keys sound.references.keys)
-  where
-    each : (keys : List Key) → AllByRecursion (λ (key : Key). Contains (map (λ (m : Member). m.name) club.members) key.member) keys
-        → AllByRecursion (λ (key : Key). bytes_eq key.member name ≡ false) keys
-    each [] h = tt
-    each (key ∷ keys) h = (
-      unequal key.member name (λ e. not_among (λ (m : Member). m.name) club.members name apart
-          (subst (Contains (map (λ (m : Member). m.name) club.members)) e h.0)),
-      each keys h.1,
-    )
+keys_of_none club sound name apart = recursion_from_All _ club.keys (λ k d low. unequal _ name (λ e.
+    not_among (λ (m : Member). m.name) club.members name apart
+    (subst (Contains (map (λ (m : Member). m.name) club.members)) e (sound.references.keys k d low))))
 
 pub member_stored : (club : Club) (rows : Rows) → IsStoredAs club rows → IsSound club → (member : Member) → IsSound (after (InsertMember member) club)
     → IsStoredAs (after (InsertMember member) club) (record rows { members = rows.members ++ new_row member ∷ [] })
@@ -128,25 +122,23 @@ keys_stored club rows stored change olders owned roots olders_once = record {
 
 owned_more : (names owns : Key → Bool) (keys : List Key) (key : Key) → names key ≡ false
     → list_any names (filter owns (keys ++ key ∷ [])) ≡ list_any names (filter owns keys)
-owned_more names owns [] key other = elim (owns key) as (λ b. list_any names (cond b (key ∷ []) []) ≡ false) [ true ↦ rw other refl | false ↦ refl ]
-owned_more names owns (k ∷ keys) key other =
-    elim (owns k) as (λ b. list_any names (cond b (k ∷ filter owns (keys ++ key ∷ [])) (filter owns (keys ++ key ∷ [])))
-    ≡ list_any names (cond b (k ∷ filter owns keys) (filter owns keys)))
-    [ true ↦ ap (λ b. names k || b) (owned_more names owns keys key other) | false ↦ owned_more names owns keys key other ]
+owned_more names owns keys key other =
+    ap (list_any names) (filter-append owns keys (key ∷ [])) ∙ list_any-append names (filter owns keys) (filter owns (key ∷ []))
+    ∙ (elim (owns key) as (λ b. (list_any names (filter owns keys) || list_any names (cond b (key ∷ []) [])) ≡ list_any names (filter owns keys))
+    [ true ↦ rw other (or-false _) | false ↦ or-false _ ])
 
 -- a key without an older root changes none, and of rows that keep their names it is that of the changed row
 older_pushed : (name : List ℕ) (keys : List Key) (key : Key) → key.older ≡ None
     → option_and_then (λ (k : Key). k.older) (find (λ (k : Key). bytes_eq k.name name) (keys ++ key ∷ []))
     ≡ option_and_then (λ (k : Key). k.older) (find (λ (k : Key). bytes_eq k.name name) keys)
-older_pushed name [] key new = elim (bytes_eq key.name name) as (λ b. option_and_then (λ (k : Key). k.older) (cond b (Some key) None) ≡ None) [
-  | true ↦
-      new
-  | false ↦ refl
-]
-older_pushed name (k ∷ keys) key new =
-    elim (bytes_eq k.name name) as (λ b. option_and_then (λ (j : Key). j.older) (cond b (Some k) (find (λ (j : Key). bytes_eq j.name name) (keys ++ key ∷ [])))
-    ≡ option_and_then (λ (j : Key). j.older) (cond b (Some k) (find (λ (j : Key). bytes_eq j.name name) keys)))
-    [ true ↦ refl | false ↦ older_pushed name keys key new ]
+older_pushed name keys key new =
+    let is_of : Key → Bool = λ k. bytes_eq k.name name in
+    ap (option_and_then (λ (k : Key). k.older)) (find-append is_of keys (key ∷ [])) ∙ go (find is_of keys) (is_of key)
+  where
+    go : (o : Option Key) (b : Bool) → option_and_then (λ (k : Key). k.older) (option_or o (cond b (Some key) None)) ≡ option_and_then (λ (k : Key). k.older) o
+    go (Some k) b = refl
+    go None true = new
+    go None false = refl
 
 older_mapped : (f : Key → Key) → ((key : Key) → (f key).name ≡ key.name) → (name : List ℕ) (keys : List Key)
     → option_and_then (λ (k : Key). k.older) (find (λ (k : Key). bytes_eq k.name name) (map f keys))
@@ -162,21 +154,13 @@ older_mapped f named name keys =
 pub key_stored : (club : Club) (rows : Rows) → IsStoredAs club rows → IsSound club → (key : Key) → key.older ≡ None → IsSound (after (InsertKey key) club)
     → IsStoredAs (after (InsertKey key) club) (record rows { keys = rows.keys ++ key ∷ [] })
 key_stored club rows stored sound key new fits =
-    keys_stored club rows stored (λ ks. ks ++ key ∷ []) rows.olders (λ name.
-    each name club.bookings (recursion_from_All _ club.bookings sound.references.bookings))
+    let R : Key → Key → Type 0 = λ a b. a.name ≢ b.name in
+    let apart = apart_last R club.keys key (apart_from_pairs R (club.keys ++ key ∷ []) fits.unique.keys) in
+    keys_stored club rows stored (λ ks. ks ++ key ∷ []) rows.olders (λ name. recursion_from_All _ club.bookings (λ k d low.
+    owned_more _ (λ (k : Key). bytes_eq k.member name) club.keys key (unequal key.name _ (λ e.
+    not_among (λ (k : Key). k.name) club.keys key.name apart
+    (subst (Contains (map (λ (k : Key). k.name) club.keys)) (sym e) (sound.references.bookings k d low))))))
     (λ name. stored.olders name ∙ sym (older_pushed name club.keys key new)) stored.olders_once
-  where
-    apart : AllByRecursion (λ (k : Key). k.name ≢ key.name) club.keys
-    apart = let R : Key → Key → Type 0 = λ a b. a.name ≢ b.name in apart_last R club.keys key (apart_from_pairs R (club.keys ++ key ∷ []) fits.unique.keys)
-
-    each : (name : List ℕ) (bookings : List Booking) → AllByRecursion (λ (b : Booking). Contains (map (λ (k : Key). k.name) club.keys) b.key) bookings
-        → AllByRecursion (λ (b : Booking). list_any (λ (k : Key). bytes_eq k.name b.key) (filter (λ (k : Key). bytes_eq k.member name) (club.keys ++ key ∷ []))
-        ≡ is_key_of name club b.key) bookings
-    each name [] h = tt
-    each name (b ∷ bookings) h =
-        let other : bytes_eq key.name b.key ≡ false = unequal key.name b.key (λ e.
-        not_among (λ (k : Key). k.name) club.keys key.name apart (subst (Contains (map (λ (k : Key). k.name) club.keys)) (sym e) h.0)) in
-        (owned_more (λ (k : Key). bytes_eq k.name b.key) (λ (k : Key). bytes_eq k.member name) club.keys key other, each name bookings h.1)
 
 owned_mapped : (names owns : Key → Bool) (f : Key → Key) → ((key : Key) → names (f key) ≡ names key) → ((key : Key) → owns (f key) ≡ owns key)
     → (keys : List Key) → list_any names (filter owns (map f keys)) ≡ list_any names (filter owns keys)
@@ -201,32 +185,6 @@ revoke_stored club rows stored name =
     keys_stored club rows stored (map (revoked_key name)) rows.olders (owned_still club (revoked_key name) (λ k. refl) (λ k. refl))
     (λ n. stored.olders n ∙ sym (older_mapped (revoked_key name) (λ k. refl) n club.keys)) stored.olders_once
 
--- of a key that was found under a name
-named_so : (name root n : List ℕ) (until : ℕ) (found : Option Key) → IfSome found (λ (k : Key). bytes_eq k.name n ≡ true)
-    → (bytes_eq name n ≡ true → (k : Key) × (found ≡ Some k) × (k.root ≡ root))
-    → option_and_then (λ (k : Key). if bytes_eq k.name name then Some (good_until until k.root) else k.older) found
-    ≡ (if bytes_eq name n then Some (good_until until root) else option_and_then (λ (k : Key). k.older) found)
-named_so name root n until None is has = go (bytes_eq name n) refl
-  where
-    go : (b : Bool) → bytes_eq name n ≡ b → ◌≡◌ {A = Option OlderRoot} None (if b then Some (good_until until root) else None)
-    go true same = absurd (let it = (has same).1 in cc)
-    go false other = refl
-named_so name root n until (Some k) is has = go (bytes_eq name n) refl
-  where
-    go : (b : Bool) → bytes_eq name n ≡ b → (if bytes_eq k.name name then Some (good_until until k.root) else k.older)
-        ≡ (if b then Some (good_until until root) else k.older)
-    go true same =
-        let it = has same in
-        let here : it.0 ≡ k = let e : Some it.0 ≡ Some k = sym it.1 in cc in
-        let rooted : k.root ≡ root = ap (λ (j : Key). j.root) (sym here) ∙ it.2 in
-        let named : bytes_eq k.name name ≡ true = (bytes_eq-Decides k.name name).1 ((bytes_eq-Decides k.name n).0 is
-        ∙ sym ((bytes_eq-Decides name n).0 same)) in
-        rw (named, rooted) refl
-    go false other =
-        let differs : bytes_eq k.name name ≡ false = false_from_ne_true (bytes_eq k.name name) (λ e.
-        true≢false (sym ((bytes_eq-Decides name n).1 (sym ((bytes_eq-Decides k.name name).0 e) ∙ (bytes_eq-Decides k.name n).0 is)) ∙ other)) in
-        rw differs refl
-
 pub rotate_stored : (club : Club) (rows : Rows) → IsStoredAs club rows → (name root was : List ℕ) (until : ℕ) → HasRoot name was club
     → IsStoredAs (after (ReplaceRoot name was root until) club) (record rows {
       keys = map (rotated_key name root until) rows.keys;
@@ -238,26 +196,29 @@ rotate_stored club rows stored name root was until has =
     (owned_still club (rotated_key name root until) (λ k. refl) (λ k. refl)) (λ n.
     older_put name (good_until until was) n rows.olders
     ∙ ap (λ o. let returned : Option OlderRoot = if bytes_eq name n then Some (good_until until was) else o in
-    returned) (stored.olders n)
-    ∙ sym (named_so name was n until (key_named n club) (found_named n) (of_name n)) ∙ sym (older_mapped (rotated_key name root until) (λ k. refl) n club.keys))
+    returned) (stored.olders n) ∙ by_name n (bytes_eq name n) refl ∙ sym (older_mapped (rotated_key name root until) (λ k. refl) n club.keys))
     (olders_once name (good_until until was) rows.olders stored.olders_once)
   where
-    found_named : (n : List ℕ) → IfSome (key_named n club) (λ (k : Key). bytes_eq k.name n ≡ true)
-    found_named n = go (key_named n club) refl
-      where
-        go : (o : Option Key) → key_named n club ≡ o → IfSome o (λ (k : Key). bytes_eq k.name n ≡ true)
-        go None is = tt
-        go (Some k) is = (found (λ (j : Key). bytes_eq j.name n) club.keys k is).1
+    other_name : (n : List ℕ) → bytes_eq name n ≡ false → (o : Option Key) → key_named n club ≡ o
+        → option_and_then (λ (k : Key). k.older) o ≡ option_and_then (λ (k : Key). (rotated_key name root until k).older) o
+    other_name n other None is = refl
+    other_name n other (Some k) is =
+        let named = (bytes_eq-Decides k.name n).0 (found (λ (j : Key). bytes_eq j.name n) club.keys k is).1 in
+        rw (unequal k.name name (λ e. true≢false (sym ((bytes_eq-Decides name n).1 (sym e ∙ named)) ∙ other))) refl
 
-    of_name : (n : List ℕ) → bytes_eq name n ≡ true → (k : Key) × (key_named n club ≡ Some k) × (k.root ≡ was)
-    of_name n same = (has.0, ap (λ m. key_named m club) (sym ((bytes_eq-Decides name n).0 same)) ∙ has.1, has.2)
+    by_name : (n : List ℕ) (b : Bool) → bytes_eq name n ≡ b → (if b then Some (good_until until was) else older_root_of n club)
+        ≡ option_and_then (λ (k : Key). (rotated_key name root until k).older) (key_named n club)
+    by_name n true same =
+        subst (λ m. Some (good_until until was) ≡ option_and_then (λ (k : Key). (rotated_key name root until k).older) (key_named m club))
+        ((bytes_eq-Decides name n).0 same) (rw (has.1, (found (λ (k : Key). bytes_eq k.name name) club.keys has.0 has.1).1, has.2) refl)
+    by_name n false other = other_name n other (key_named n club) refl
 
 -- ---- slots
 
 closed_use : (club : Club) (s : Slot) (b : Bool) → (if b then close_use (slot_use club s) else slot_use club s)
     ≡ record { taken = taken_in s club.bookings; closed = is_closed s club || (b || false) }
-closed_use club s true = ap (λ c. let u : SlotUse = record { taken = taken_in s club.bookings; closed = c } in u) (sym (or-true (is_closed s club)))
-closed_use club s false = ap (λ c. let u : SlotUse = record { taken = taken_in s club.bookings; closed = c } in u) (sym (or-false (is_closed s club)))
+closed_use club s true = rw (or-true (is_closed s club)) refl
+closed_use club s false = rw (or-false (is_closed s club)) refl
 
 pub close_stored : (club : Club) (rows : Rows) → IsStoredAs club rows → (slot : Slot)
     → IsStoredAs (after (MarkClosed slot) club) (record rows { slots = put_slot slot close_use rows.slots })
@@ -286,48 +247,35 @@ totals_rows rows change member used slot taken = record rows {
   slots = put_slot slot (take_use taken) rows.slots;
 }
 
+-- what is added where a test passes
+added_if : (b : Bool) (all one more : ℕ) → more ≡ all + cond b one 0 → (if b then all + one else all) ≡ more
+added_if true all one more is = omega (arith, is)
+added_if false all one more is = omega (arith, is)
+
 pub used_more : (club : Club) → IsSound club → (member : List ℕ) (booking : Booking) → IsOwnedBy member booking.key club → (m : Member)
     → used_row member (λ n. n + cost_of booking) (member_row club m) ≡ member_row (after (InsertBooking booking member) club) m
 used_more club sound member booking owned m =
-    let own : Booking → Bool = λ b. is_key_of m.name club b.key in
-    let more = sum_more cost_of own club.bookings booking in
-    let mine = owner_is club sound booking.key member m.name owned in
-    ap (λ n. let row : MemberRow = record { member = m; used = n } in row) (sum_is (bytes_eq m.name member) mine more)
-  where
-    sum_is : (b : Bool) → is_key_of m.name club booking.key ≡ b
-        → used_by (after (InsertBooking booking member) club) m.name ≡ used_by club m.name + cond (is_key_of m.name club booking.key) (cost_of booking) 0
-        → (if b then used_by club m.name + cost_of booking else used_by club m.name) ≡ used_by (after (InsertBooking booking member) club) m.name
-    sum_is true is more = let here : cond (is_key_of m.name club booking.key) (cost_of booking) 0 ≡ cost_of booking = ap (λ b. cond b (cost_of booking) 0) is in
-        omega (arith, more, here)
-    sum_is false is more = let here : cond (is_key_of m.name club booking.key) (cost_of booking) 0 ≡ 0 = ap (λ b. cond b (cost_of booking) 0) is in
-        omega (arith, more, here)
+    ap (λ n. let row : MemberRow = record { member = m; used = n } in row) (added_if (bytes_eq m.name member) (used_by club m.name) (cost_of booking) _
+    (sum_more cost_of (λ (b : Booking). is_key_of m.name club b.key) club.bookings booking
+    ∙ ap (λ b. used_by club m.name + cond b (cost_of booking) 0) (owner_is club sound booking.key member m.name owned)))
 
 pub taken_more : (club : Club) (booking : Booking) (s : Slot) → taken_in s (club.bookings ++ booking ∷ [])
     ≡ (if same_slot booking.slot s then taken_in s club.bookings + persons_taken booking else taken_in s club.bookings)
-taken_more club booking s = go booking.cancelled (same_slot booking.slot s) refl refl (sum_more persons_of (is_in s) club.bookings booking)
+taken_more club booking s =
+    sym (added_if (same_slot booking.slot s) (taken_in s club.bookings) (persons_taken booking) _ (sum_more persons_of (is_in s) club.bookings booking
+    ∙ ap (λ n. taken_in s club.bookings + n) (counted booking.cancelled (same_slot booking.slot s) (persons_of booking))))
   where
-    counts : (c b : Bool) → booking.cancelled ≡ c → same_slot booking.slot s ≡ b
-        → cond (is_in s booking) (persons_of booking) 0 ≡ cond (not c && b) (persons_of booking) 0
-    counts c b is same = ap (λ x. cond (not x && same_slot booking.slot s) (persons_of booking) 0) is ∙ ap (λ x. cond (not c && x) (persons_of booking) 0) same
-
-    go : (c b : Bool) → booking.cancelled ≡ c → same_slot booking.slot s ≡ b
-        → taken_in s (club.bookings ++ booking ∷ []) ≡ taken_in s club.bookings + cond (is_in s booking) (persons_of booking) 0
-        → taken_in s (club.bookings ++ booking ∷ []) ≡ (if b then taken_in s club.bookings + persons_taken booking else taken_in s club.bookings)
-    go true true is same more =
-        let none : cond (is_in s booking) (persons_of booking) 0 ≡ 0 = counts true true is same in
-        let taken : persons_taken booking ≡ 0 = ap (λ c. if c then 0 else persons_of booking) is in omega (arith, more, none, taken)
-    go true false is same more = let none : cond (is_in s booking) (persons_of booking) 0 ≡ 0 = counts true false is same in omega (arith, more, none)
-    go false true is same more =
-        let some : cond (is_in s booking) (persons_of booking) 0 ≡ persons_of booking = counts false true is same in
-        let taken : persons_taken booking ≡ persons_of booking = ap (λ c. if c then 0 else persons_of booking) is in omega (arith, more, some, taken)
-    go false false is same more = let none : cond (is_in s booking) (persons_of booking) 0 ≡ 0 = counts false false is same in omega (arith, more, none)
+    counted : (c b : Bool) (n : ℕ) → cond (not c && b) n 0 ≡ cond b (if c then 0 else n) 0
+    counted true true n = refl
+    counted true false n = refl
+    counted false b n = refl
 
 -- the use of a slot whose persons are recounted
 recounted_use : (club : Club) (s : Slot) (next : ℕ → ℕ) (b : Bool) (taken : ℕ)
     → taken ≡ (if b then next (taken_in s club.bookings) else taken_in s club.bookings)
     → (if b then take_use next (slot_use club s) else slot_use club s) ≡ record { taken = taken; closed = is_closed s club }
-recounted_use club s next true taken is = ap (λ n. let u : SlotUse = record { taken = n; closed = is_closed s club } in u) (sym is)
-recounted_use club s next false taken is = ap (λ n. let u : SlotUse = record { taken = n; closed = is_closed s club } in u) (sym is)
+recounted_use club s next true taken is = rw is refl
+recounted_use club s next false taken is = rw is refl
 
 pub bookings_stored : (club : Club) (rows : Rows) → IsStoredAs club rows → (change : List Booking → List Booking) (member : List ℕ) (used : ℕ → ℕ)
     (slot : Slot) (taken : ℕ → ℕ) → ((m : Member) → used_row member used (member_row club m) ≡ member_row (record club { bookings = change club.bookings }) m)
