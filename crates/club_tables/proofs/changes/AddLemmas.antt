@@ -1,5 +1,5 @@
 -- What the statements make of the tables that insert a row, or put the row of a slot or of an older root.
-use Rattle.std.proofs.Common.{pos, List, [], ◌∷◌, ◌++◌, refl, sym, subst, ◌≡◌, ◌≢◌, ◌≤◌, ℕ, ◌/◌, ℤ, true, false, if◌then◌else◌, Some, Option, length, ap}
+use Rattle.std.proofs.Common.{pos, List, [], map, ◌∷◌, ◌++◌, refl, sym, subst, ◌≡◌, ◌≢◌, ◌≤◌, ℕ, ◌/◌, ℤ, true, false, if◌then◌else◌, Some, Option, length, ap}
 use Rattle.std.proofs.Common.{◌∙◌, Bool, filter, slice_get, None, unwrap_or, find, cond}
 use Rattle.std.specs.Prelude.{AllPairs, option_map}
 use Rattle.std.specs.List.{AllByRecursion}
@@ -19,7 +19,6 @@ use Rattle.sqlite_sql.specs.declared.ops.ArithOp.TheVariants.{Add}
 use Rattle.sqlite_sql.specs.Ops.{binary}
 use Rattle.sqlite.specs.Order.{Row, column}
 use Rattle.sqlite.specs.Tree.{rowid}
-use Rattle.sqlite_schema.specs.declared.command.Upsert.{Upsert}
 use Rattle.sqlite.specs.Kind.TheVariants.{Integer}
 use Rattle.sqlite.specs.Cast.{cast, cast_row}
 use Rattle.sqlite.specs.Edit.{next_rowid}
@@ -103,10 +102,7 @@ added values means table listed uncounted unstamped still params x gives casts r
 abbrev pub member_table : Table
 member_table = record members_table { tree = members_tree }
 
-abbrev member_terms : List Term
-member_terms = lit Null ∷ col 0 0 ∷ col 0 1 ∷ col 0 2 ∷ lit (Int (pos 0)) ∷ []
-
-member_means : Means club_schema ADD_MEMBER.now (Insert 1 (Values member_terms 5))
+member_means : Means club_schema ADD_MEMBER.now (Insert 1 (Values (lit Null ∷ col 0 0 ∷ col 0 1 ∷ col 0 2 ∷ lit (Int (pos 0)) ∷ []) 5))
 unfolding understood everything
 member_means = record { is = refl; plain = (refl, refl) }
 
@@ -125,10 +121,7 @@ member_put rows member =
 abbrev facility_table : Table
 facility_table = record facilities_table { tree = facilities_tree }
 
-abbrev facility_terms : List Term
-facility_terms = lit Null ∷ col 0 0 ∷ col 0 1 ∷ col 0 2 ∷ col 0 3 ∷ col 0 4 ∷ col 0 5 ∷ []
-
-facility_means : Means club_schema ADD_FACILITY.now (Insert 2 (Values facility_terms 7))
+facility_means : Means club_schema ADD_FACILITY.now (Insert 2 (Values (lit Null ∷ col 0 0 ∷ col 0 1 ∷ col 0 2 ∷ col 0 3 ∷ col 0 4 ∷ col 0 5 ∷ []) 7))
 unfolding understood everything
 facility_means = record { is = refl; plain = (refl, refl) }
 
@@ -143,10 +136,7 @@ facility_put rows facility =
 abbrev pub key_table : Table
 key_table = record keys_table { tree = keys_tree }
 
-abbrev key_terms : List Term
-key_terms = lit Null ∷ col 0 0 ∷ col 0 1 ∷ col 0 2 ∷ col 0 3 ∷ []
-
-key_means : Means club_schema ADD_KEY.now (Insert 3 (Values key_terms 5))
+key_means : Means club_schema ADD_KEY.now (Insert 3 (Values (lit Null ∷ col 0 0 ∷ col 0 1 ∷ col 0 2 ∷ col 0 3 ∷ []) 5))
 unfolding understood everything
 key_means = record { is = refl; plain = (refl, refl) }
 
@@ -160,10 +150,7 @@ key_put rows key =
 abbrev pub booking_table : Table
 booking_table = record bookings_table { tree = bookings_tree }
 
-abbrev booking_terms : List Term
-booking_terms = lit Null ∷ col 0 0 ∷ col 0 1 ∷ col 0 2 ∷ col 0 3 ∷ col 0 4 ∷ col 0 5 ∷ col 0 6 ∷ col 0 7 ∷ col 0 8 ∷ col 0 9 ∷ []
-
-booking_means : Means club_schema ADD_BOOKING.now (Insert 5 (Values booking_terms 11))
+booking_means : Means club_schema ADD_BOOKING.now (Insert 5 (Values (lit Null ∷ map (col 0) (0 ∷ 1 ∷ 2 ∷ 3 ∷ 4 ∷ 5 ∷ 6 ∷ 7 ∷ 8 ∷ 9 ∷ [])) 11))
 unfolding understood everything
 booking_means = record { is = refl; plain = (refl, refl) }
 
@@ -178,13 +165,14 @@ booking_put rows booking =
 abbrev target : Option (List ℕ)
 target = Some (1 ∷ 2 ∷ 3 ∷ [])
 
-abbrev PutsSlot : List ℕ → List Term → List Term → ℕ → Upsert → Type 0
-PutsSlot text terms sets at clause =
-    PutsRow slots_table.name slots_table.columns slots_table.uniques slots_table.checks slots_table.references slots_tree target 4 text terms sets 6 at clause
+abbrev PutsSlot : List ℕ → List Term → List Term → ℕ → Type 0
+PutsSlot text terms sets at =
+    PutsRow slots_table.name slots_table.columns slots_table.uniques slots_table.checks slots_table.references slots_tree target 4 text terms sets 6 at
+    (first_clause (command_of (understood club_schema text)))
 
 -- ---- a statement of this form
 
-module _ {text : List ℕ} {terms sets : List Term} {at : ℕ} {clause : Upsert} (puts : PutsSlot text terms sets at clause) (rows : Rows)
+module _ {text : List ℕ} {terms sets : List Term} {at : ℕ} (puts : PutsSlot text terms sets at) (rows : Rows)
     (once : AllPairs (λ (a : SlotRow) (b : SlotRow). a.slot ≢ b.slot) rows.slots) (slot : Slot) (params : Row) (closed taken : Value)
     (gives : value_rows params 6 (length terms / 6) terms ≡ (Null ∷ name_values slot ++ closed ∷ taken ∷ []) ∷ [])
     (casts_closed : cast Integer closed ≡ closed) (casts_taken : cast Integer taken ≡ taken) (change : SlotUse → SlotUse) where
@@ -202,11 +190,10 @@ module _ {text : List ℕ} {terms sets : List Term} {at : ℕ} {clause : Upsert}
       ≡ Int id ∷ Int id ∷ name_values x.slot ++ use_values (change x.held))
       → Steps (text, params) rows (record rows { slots = put_slot slot change rows.slots })
   slot_put fresh ids yields old new count holds_rows executed =
-      let t = slots_table in
       let alone = lone (λ (row : SlotRow). row.slot) same_slot same_slots same_itself slot rows.slots once in
       let next = next_rowid (old.now.trees slots_tree) in
-      let left = row_put t.name t.columns t.uniques t.checks t.references slots_tree target 4 refl text terms sets 6 at clause puts old new
-      holds_rows.schema params (name_values slot ++ closed ∷ taken ∷ []) gives
+      let left = row_put _ _ _ _ _ slots_tree target 4 refl text terms sets 6 at _ puts old new holds_rows.schema params
+      (name_values slot ++ closed ∷ taken ∷ []) gives
       (rw (cast_null, cast_int (pos slot.day), cast_int (pos slot.hour), casts_closed, casts_taken) refl) (λ id.
       rw (cast_int id, cast_int (pos slot.day), cast_int (pos slot.hour), casts_closed, casts_taken) refl)
       slot_values is_of_slot (changed slot change) (unchanged slot change) (new_row_of slot change)
@@ -220,16 +207,8 @@ module _ {text : List ℕ} {terms sets : List Term} {at : ℕ} {clause : Upsert}
 
 -- ---- a slot is closed
 
-abbrev close_terms : List Term
-close_terms = lit Null ∷ col 0 0 ∷ col 0 1 ∷ col 0 2 ∷ lit (Int (pos 1)) ∷ lit (Int (pos 0)) ∷ []
-
-abbrev close_sets : List Term
-close_sets = col 1 0 ∷ col 1 0 ∷ col 1 1 ∷ col 1 2 ∷ col 1 3 ∷ lit (Int (pos 1)) ∷ col 1 5 ∷ []
-
-abbrev close_clause : Upsert
-close_clause = first_clause (command_of (understood club_schema CLOSE_SLOT.now))
-
-close_puts : PutsSlot CLOSE_SLOT.now close_terms close_sets 3 close_clause
+close_puts : PutsSlot CLOSE_SLOT.now (lit Null ∷ col 0 0 ∷ col 0 1 ∷ col 0 2 ∷ lit (Int (pos 1)) ∷ lit (Int (pos 0)) ∷ [])
+    (col 1 0 ∷ col 1 0 ∷ col 1 1 ∷ col 1 2 ∷ col 1 3 ∷ lit (Int (pos 1)) ∷ col 1 5 ∷ []) 3
 unfolding understood everything
 close_puts = record { is = refl; plain = (refl, refl); aims = refl; by = refl }
 
@@ -244,16 +223,8 @@ slot_closed rows once slot =
 
 -- ---- persons are added to a slot
 
-abbrev taken_terms : List Term
-taken_terms = lit Null ∷ col 0 0 ∷ col 0 1 ∷ col 0 2 ∷ lit (Int (pos 0)) ∷ col 0 3 ∷ []
-
-abbrev taken_sets : List Term
-taken_sets = col 1 0 ∷ col 1 0 ∷ col 1 1 ∷ col 1 2 ∷ col 1 3 ∷ col 1 4 ∷ op2 (Arith Add) (col 1 5) (col 0 3) ∷ []
-
-abbrev taken_clause : Upsert
-taken_clause = first_clause (command_of (understood club_schema ADD_TAKEN.now))
-
-taken_puts : PutsSlot ADD_TAKEN.now taken_terms taken_sets 4 taken_clause
+taken_puts : PutsSlot ADD_TAKEN.now (lit Null ∷ col 0 0 ∷ col 0 1 ∷ col 0 2 ∷ lit (Int (pos 0)) ∷ col 0 3 ∷ [])
+    (col 1 0 ∷ col 1 0 ∷ col 1 1 ∷ col 1 2 ∷ col 1 3 ∷ col 1 4 ∷ op2 (Arith Add) (col 1 5) (col 0 3) ∷ []) 4
 unfolding understood everything
 taken_puts = record { is = refl; plain = (refl, refl); aims = refl; by = refl }
 
@@ -285,17 +256,9 @@ olders_conflict : (id id' : ℤ) (row : OlderRow) (key : List ℕ) (older : Olde
 unfolding first_key
 olders_conflict id id' row key older = rw (text_equal row.key key) (or-false _ ∙ and-true _)
 
-abbrev put_terms : List Term
-put_terms = lit Null ∷ col 0 0 ∷ col 0 1 ∷ col 0 2 ∷ []
-
-abbrev put_sets : List Term
-put_sets = col 1 0 ∷ col 1 0 ∷ col 1 1 ∷ col 0 1 ∷ col 0 2 ∷ []
-
-abbrev put_clause : Upsert
-put_clause = first_clause (command_of (understood club_schema PUT_OLDER_ROOT.now))
-
 put_puts : PutsRow old_roots_table.name old_roots_table.columns old_roots_table.uniques old_roots_table.checks old_roots_table.references olders_tree
-    older_target 6 PUT_OLDER_ROOT.now put_terms put_sets 4 3 put_clause
+    older_target 6 PUT_OLDER_ROOT.now (lit Null ∷ col 0 0 ∷ col 0 1 ∷ col 0 2 ∷ []) (col 1 0 ∷ col 1 0 ∷ col 1 1 ∷ col 0 1 ∷ col 0 2 ∷ [])
+    4 3 (first_clause (command_of (understood club_schema PUT_OLDER_ROOT.now)))
 unfolding understood everything
 put_puts = record { is = refl; plain = (refl, refl); aims = refl; by = refl }
 
@@ -317,7 +280,7 @@ module _ (key : List ℕ) (older : OlderRoot) where
   put_older rows = put_among older_values is_of renewed (record { key = key; older = older }) rows
 
   same_older : (row : OlderRow) → is_of row ≡ false → renewed row ≡ row
-  same_older row fails = ap (λ b. let r : OlderRow = record row { older = if b then older else row.older } in r) fails
+  same_older row fails = rw fails refl
 
   -- the older root of each key once the row is put
   pub older_put : (name : List ℕ) (rows : List OlderRow) → older_by name (put_older rows) ≡ (if bytes_eq key name then Some older else older_by name rows)
@@ -338,9 +301,7 @@ pub older_represents : (rows : Rows) → AllPairs (λ (a : OlderRow) (b : OlderR
     → Steps (PUT_OLDER_ROOT.now, Text key ∷ older_root_values older) rows (record rows { olders = put_older key older rows.olders })
 older_represents rows once key older old new count holds_rows executed =
     let params = Text key ∷ older_root_values older in
-    let t = old_roots_table in
-    let put = row_put t.name t.columns t.uniques t.checks t.references olders_tree older_target 6 refl PUT_OLDER_ROOT.now put_terms put_sets 4 3 put_clause
-    put_puts old new holds_rows.schema params params refl
+    let put = row_put _ _ _ _ _ olders_tree older_target 6 refl _ _ _ 4 3 _ put_puts old new holds_rows.schema params params refl
     (rw (cast_null, cast_int (pos older.until)) refl) (λ id. rw (cast_int id, cast_int (pos older.until)) refl)
     older_values (is_of key older) (renewed key older) (same_older key older) (record { key = key; older = older }) (λ id row.
     olders_conflict id (next_rowid (old.now.trees olders_tree)) row key older) (casts key older) rows.olders holds_rows.held.olders

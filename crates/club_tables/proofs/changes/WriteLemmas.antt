@@ -1,5 +1,6 @@
 -- Which club is represented after statements that write, whether they succeed or fail.
-use Rattle.std.proofs.Common.{◌≡◌, ◌<◌, length, List, [], ◌∷◌, IsTrue, Result, Ok, Err, OnOk, OnErr, inl, inr, refl, sym, subst, ◌∙◌, arith}
+use Rattle.club_tables.proofs.crashes.RepresentsLemmas.{represents_by}
+use Rattle.std.proofs.Common.{◌≡◌, ◌<◌, length, List, [], ◌∷◌, IsTrue, Result, Ok, Err, OnOk, OnErr, inl, inr, refl, sym, subst, arith}
 use Rattle.std.specs.Prelude.{IsErr, MatchResult}
 use Rattle.std.proofs.lemmas.Result.{IfErr-weaker, on_err_weaker}
 use Rattle.sqlite.specs.Tree.{Trees}
@@ -37,14 +38,12 @@ module _ {S : Type 0} (g : Ghosts S) (all : List BoundStatement) (some : 0 < len
   kept_as : (clubs : List Club) → ((trees : Trees) (db : Database) → Ran g 1 all old db → trees ≡ db.trees → IsLeftOf trees (club ∷ clubs))
       → ((trees : Trees) → IsLeftOf trees (club ∷ others) → IsLeftOf trees (club ∷ clubs)) → IsKept (state g old) (state g new)
       → Represents (state g new) club clubs
-  kept_as clubs leaves was_left kept = record {
-    held = λ clean is_open. let k = kept clean is_open in subst (λ db. HoldsClub db club) (sym k.2) (represents.held earlier k.0);
-    idle = λ clean is_open. let k = kept clean is_open in k.1 ∙ sym k.2;
-    left = λ clean trees may. elim (survives.crash clean trees may) [
-      | inl was ↦ was_left trees (represents.left earlier trees was)
-      | inr new ↦ leaves trees new.0 new.1 new.2
-    ];
-  }
+  kept_as clubs leaves was_left kept =
+      represents_by HoldsClub (state g old) (state g new) kept (λ _. earlier) club others clubs represents (λ clean trees may.
+      elim (survives.crash clean trees may) [
+        | inl was ↦ was_left trees (represents.left earlier trees was)
+        | inr new ↦ leaves trees new.0 new.1 new.2
+      ])
 
   -- what a change leaves that isn't true of the club: nothing
   pub refused : {E : Type 0} (r : Result (Unit {0}) E) (IsTrueOfIt : Type 0) → ((db : Database) → HoldsClub (state g old).now club → Ran g 1 all old db
@@ -56,23 +55,15 @@ module _ {S : Type 0} (g : Ghosts S) (all : List BoundStatement) (some : 0 < len
 
   module _ (next : Club) (IsTrueOfIt : Type 0) (makes : (db : Database) → HoldsClub (state g old).now club → Ran g 1 all old db
       → IsTrueOfIt × HoldsClub db next) where
-    holds_next : (db : Database) → Ran g 1 all old db → IsTrueOfIt × HoldsClub db next
-    holds_next db ran = makes db (held db ran) ran
-
-    written : IsSettled (state g new) → IsTrue (state g new).is_open → Ran g 1 all old (state g new).committed → (state g new).now ≡ (state g new).committed
-        → IsTrueOfIt × Represents (state g new) next []
-    written settled is_open ran same = (
-      (holds_next (state g new).committed ran).0,
-      settles (state g new) next [] (λ _ _. (holds_next (state g new).committed ran).1) (λ _. is_open) same settled,
-    )
-
     pub wrote : {E : Type 0} (r : Result (Unit {0}) E) → OnOk r (IsTrue (state g new).is_open × Ran g 1 all old (state g new).committed
         × ((state g new).now ≡ (state g new).committed)) → OnErr r (IsKept (state g old) (state g new))
         → IsSettled (state g new)
         → MatchResult r (λ _. IsTrueOfIt × Represents (state g new) next []) (λ _. Represents (state g new) club (next ∷ others))
-    wrote (Ok done) ok err settled = written settled ok.0 ok.1 ok.2
-    wrote (Err e) ok err settled = kept_as (next ∷ others) (λ trees db ran is. inr (inl (db, sym is, inl (inl (holds_next db ran).1)))) (λ trees left.
-        elim left [ inl here ↦ inl here | inr there ↦ inr (inr there) ]) err
+    wrote (Ok done) ok err settled =
+        let it = makes (state g new).committed (held _ ok.1) ok.1 in
+        (it.0, settles (state g new) next [] (λ _ _. it.1) (λ _. ok.0) ok.2 settled)
+    wrote (Err e) ok err settled = kept_as (next ∷ others) (λ trees db ran is.
+        inr (inl (db, sym is, inl (inl (makes db (held db ran) ran).1)))) (λ trees left. elim left [ inl here ↦ inl here | inr there ↦ inr (inr there) ]) err
 
 some_statements : (change : Change) → 0 < length (statements_of change)
 some_statements (InsertMember member) = omega arith

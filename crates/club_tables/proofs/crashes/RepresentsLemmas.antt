@@ -1,4 +1,6 @@
 -- A call that changes nothing leaves the club that is represented.
+use Rattle.sqlite.specs.Tree.{Trees}
+use Rattle.club_tables.specs.Tables.{IsLeftOf}
 use Rattle.std.specs.Prelude.{filter, IsPermutation}
 use Rattle.std.specs.List.{list_all}
 use Rattle.std.proofs.Common.{◌≡◌, ℕ, ℤ, Bool, false, List, [], ◌∷◌, map, IsTrue, Option, Some, None, inl}
@@ -28,16 +30,22 @@ use Rattle.club_tables.specs.Statements.{select}
 use Rattle.club_tables.specs.Transaction.{BoundStatement, Asked, IsKept, transaction_start}
 use Rattle.club_tables.proofs.statements.SelectLemmas.{selected}
 
--- the state represents the same club, by whichever predicate a database holds it
+-- the state represents the same club, by whichever predicate a database holds it, if a crash leaves one of these
+pub represents_by : (IsHeld : Database → Club → Type 0) (old new : State) → IsKept old new → (HasCleanDisk new → HasCleanDisk old) → (club : Club)
+    (others next : List Club) → RepresentsBy IsHeld old club others
+    → (HasCleanDisk new → (trees : Trees) → new.may_leave trees → IsLeftOf trees (club ∷ next)) → RepresentsBy IsHeld new club next
+represents_by IsHeld old new kept earlier club others next before left = record {
+  held = λ clean is_open. let k = kept clean is_open in subst (λ db. IsHeld db club) (sym k.2) (before.held (earlier clean) k.0);
+  idle = λ clean is_open. let k = kept clean is_open in k.1 ∙ sym k.2;
+  left = left;
+}
+
 pub represents_on : (IsHeld : Database → Club → Type 0) (old new : State) → IsKept old new → Survives old new (λ _. ⊥) → (club : Club) (others : List Club)
     → RepresentsBy IsHeld old club others → RepresentsBy IsHeld new club others
-represents_on IsHeld old new kept quiet club others rests =
+represents_on IsHeld old new kept quiet club others before =
     let earlier = λ (clean : HasCleanDisk new). let e : HasCleanDisk old = omega (arith, quiet.clean) in e in
-    record {
-      held = λ clean is_open. let k = kept clean is_open in subst (λ db. IsHeld db club) (sym k.2) (rests.held (earlier clean) k.0);
-      idle = λ clean is_open. let k = kept clean is_open in k.1 ∙ sym k.2;
-      left = λ clean trees may. elim (quiet.crash clean trees may) [ inl was ↦ rests.left (earlier clean) trees was | inr none ↦ absurd none ];
-    }
+    represents_by IsHeld old new kept earlier club others others before (λ clean trees may.
+    elim (quiet.crash clean trees may) [ inl was ↦ before.left (earlier clean) trees was | inr none ↦ absurd none ])
 
 shown_open : (sql : List ℕ) (old new : State) (c : Compiled) (full : Row) (rows : List Row) (returning : Option Returning)
     → ShowsRows old new sql c full rows returning → IsTrue old.is_open

@@ -66,25 +66,13 @@ pub never_ran : {S : Type 0} {g : Ghosts S} {old : Held S} {db : Database} {text
 unfolding ExecutesIn
 never_ran {text = text} ran has refused = true≢false (sym (ap is_ok ran.turns.2.1.is) ∙ ap (λ s. is_ok (understood s text)) has ∙ refused)
 
--- the index is made once
-pub indexes_again : is_ok (understood club_schema MAKE_BOOKINGS_BY_KEY.now) ≡ false
+-- the index is made once, and if there is none, none can be dropped
+pub indexes_again : (is_ok (understood club_schema MAKE_BOOKINGS_BY_KEY.now) ≡ false) × (is_ok (understood unindexed_schema DROP_BOOKINGS_BY_KEY.now) ≡ false)
 unfolding understood everything
-indexes_again = refl
-
--- if there is none, none can be dropped
-pub drops_none : is_ok (understood unindexed_schema DROP_BOOKINGS_BY_KEY.now) ≡ false
-unfolding understood everything
-drops_none = refl
+indexes_again = (refl, refl)
 
 -- over the club's tables the first text is refused, over those without the index, and over those of version 1
-pub makes_again : is_ok (understood club_schema MAKE_DESK.now) ≡ false
+pub makes_again : (is_ok (understood club_schema MAKE_DESK.now) ≡ false) × (is_ok (understood unindexed_schema MAKE_DESK.now) ≡ false)
+    × (is_ok (understood first_schema MAKE_DESK.now) ≡ false)
 unfolding understood everything
-makes_again = refl
-
-pub makes_over_unindexed : is_ok (understood unindexed_schema MAKE_DESK.now) ≡ false
-unfolding understood everything
-makes_over_unindexed = refl
-
-pub makes_over_first : is_ok (understood first_schema MAKE_DESK.now) ≡ false
-unfolding understood everything
-makes_over_first = refl
+makes_again = (refl, refl, refl)

@@ -1,6 +1,8 @@
 -- The batches that make the tables, migrate those of version 1, and make the index of the bookings.
 use Rattle.std.proofs.Common.{◌≡◌, pos, List, [], ◌∷◌, refl, sym, ap, subst, ◌∙◌, arith, ℕ, true, inl, inr}
 use Rattle.std.specs.Prelude.{is_ok}
+use Rattle.std.proofs.Common.{rules}
+use Rattle.std.proofs.lemmas.List.Elements.{All-nil}
 use Rattle.sqlite_tied.specs.Compute.{everything}
 use Rattle.sqlite_value.specs.declared.value.Value.TheVariants.{Null, Int}
 use Rattle.sqlite.specs.Store.{Ghosts}
@@ -26,7 +28,7 @@ use Rattle.club_tables.specs.Statements.{select}
 use Rattle.club_tables.proofs.statements.MeansLemmas.{Means, but, others_kept, trees_kept}
 use Rattle.club_tables.proofs.statements.InsertLemmas.{creates, indexes, inserts, cast_null, cast_int}
 use Rattle.club_tables.proofs.lists.RowLemmas.{holds_more, holds_none}
-use Rattle.club_tables.proofs.opening.MakesLemmas.{makes_six, makes_keys_by_member, makes_old_roots, makes_bookings_by_key, indexes_again, drops_none}
+use Rattle.club_tables.proofs.opening.MakesLemmas.{makes_six, makes_keys_by_member, makes_old_roots, makes_bookings_by_key, indexes_again}
 use Rattle.club_tables.proofs.opening.MakesLemmas.{never_ran}
 use Rattle.club_tables.proofs.statements.UpdateLemmas.{updates, finds, changes_one}
 use Rattle.club_tables.proofs.crashes.RepresentsLemmas.{represents_on}
@@ -41,30 +43,11 @@ version_means = record { is = refl; plain = (refl, refl) }
 
 pub empty_is_sound : IsSound empty_club
 empty_is_sound = record {
-  rows = record {
-    members = λ k d low. absurd (omega arith);
-    facilities = λ k d low. absurd (omega arith);
-    keys = λ k d low. absurd (omega arith);
-    bookings =
-        λ k d low. absurd (omega arith);
-    closed = λ k d low. absurd (omega arith);
-  };
-  unique = record {
-    members = λ i j d less low. absurd (omega arith);
-    facilities = λ i j d less low. absurd (omega arith);
-    keys = λ i j d less low. absurd (omega arith);
-    bookings = λ i j d less low. absurd (omega arith);
-    closed = λ i j d less low. absurd (omega arith);
-  };
-  references = record {
-    keys = λ k d low. absurd (omega arith);
-    bookings = λ k d low. absurd (omega arith);
-    facilities = λ k d low. absurd (omega arith);
-    closed =
-        λ k d low. absurd (omega arith);
-  };
-  balances = λ k d low. absurd (omega arith);
-  places = λ k d low. absurd (omega arith);
+  rows = record { members = All-nil _; facilities = All-nil _; keys = All-nil _; bookings = All-nil _; closed = All-nil _ };
+  unique = record { members = search rules; facilities = search rules; keys = search rules; bookings = search rules; closed = search rules };
+  references = record { keys = All-nil _; bookings = All-nil _; facilities = All-nil _; closed = All-nil _ };
+  balances = All-nil _;
+  places = All-nil _;
 }
 
 abbrev no_rows : Rows
@@ -77,10 +60,9 @@ empty_is_stored = record {
   keys = refl;
   bookings = refl;
   slots = λ slot. refl;
-  once =
-      λ i j d less low. absurd (omega arith);
   olders = λ name. refl;
-  olders_once = λ i j d less low. absurd (omega arith);
+  olders_once = search rules;
+  once = search rules;
 }
 
 module _ {S : Type 0} (g : Ghosts S) (old : Held S) (db : Database) (ran : Ran g 0 table_batch old db) where
@@ -117,7 +99,6 @@ module _ {S : Type 0} (g : Ghosts S) (old : Held S) (db : Database) (ran : Ran g
       let bookings : (state g t9.0).now.trees 9 ≡ [] = kept.1.1.1.1.1.0 ∙ c8.3.1.1.1.1.1.0 ∙ c7.1.1.1.1.1.1.0 ∙ c6.2 in
       let olders : (state g t9.0).now.trees 12 ≡ [] = kept.1.1.1.1.1.1.0 ∙ c8.2 in
       let others = c10.0.others in
-      let is : db ≡ (state g t10.0).now = ran.is ∙ ap (λ h. (state g h).now) t10.3 in
       let before : Holds version_values ((state g t9.0).now.trees 0) [] = holds_none version_values _ desk in
       let holds_rows : HoldsRows (state g t10.0).now no_rows = record {
         schema = c10.0.schema;
@@ -132,9 +113,8 @@ module _ {S : Type 0} (g : Ghosts S) (old : Held S) (db : Database) (ran : Ran g
         };
         database = c10.0.sound;
       } in
-      let held : HoldsClub
-      (state g t10.0).now empty_club = record { rows = no_rows; holds_rows = holds_rows; storage = empty_is_stored; sound = empty_is_sound } in
-      subst (λ (d : Database). HoldsClub d empty_club) (sym is) held
+      subst (λ (d : Database). HoldsClub d empty_club) (sym (ran.is ∙ ap (λ h. (state g h).now) t10.3))
+      (record { rows = no_rows; holds_rows = holds_rows; storage = empty_is_stored; sound = empty_is_sound })
 
   -- it runs only if there is no version
   pub makes_free : HasNoDesk (state g old).now.schema
@@ -218,7 +198,7 @@ holds_second g old db ran clean club others second =
     let is_open = ran.was_open (omega arith) in
     let now = second.idle clean is_open in
     elim (second.held clean is_open) [
-      | inl tables ↦ absurd (never_ran ran (ap (λ (d : Database). d.schema) now ∙ tables.holds_rows.schema) indexes_again)
+      | inl tables ↦ absurd (never_ran ran (ap (λ (d : Database). d.schema) now ∙ tables.holds_rows.schema) indexes_again.0)
       | inr it ↦ indexed_tables g old db ran club (subst (λ (d : Database). HoldsClubUnindexed d club) (sym now) it)
     ]
 
@@ -236,7 +216,7 @@ named_represents g old new kept quiet named club others second =
             let k = kept clean is_open in
             let same : (state g old).now.schema ≡ unindexed_schema =
             ap (λ (d : Database). d.schema) (second.idle (earlier clean) k.0 ∙ sym k.2) ∙ it.holds_rows.schema in
-            absurd (let none = ap (λ s. is_ok (understood s DROP_BOOKINGS_BY_KEY.now)) same ∙ drops_none in cc)
+            absurd (let none = ap (λ s. is_ok (understood s DROP_BOOKINGS_BY_KEY.now)) same ∙ indexes_again.1 in cc)
       ];
       idle = next.idle;
       left = next.left;

@@ -1,4 +1,5 @@
 -- What an opening finds, and what it makes.
+use Rattle.club_tables.proofs.crashes.RepresentsLemmas.{represents_by}
 use Rattle.std.proofs.Common.{◌≡◌, ◌⊎◌, ℕ, List, [], ◌∷◌, Result, IsTrue, true, false, true≢false, codes, inl, inr, refl, sym, subst, ap, ◌∙◌, arith}
 use Rattle.std.specs.Prelude.{is_ok}
 use Rattle.std.proofs.lemmas.Result.{on_ok_weaker, on_err_weaker}
@@ -28,7 +29,7 @@ use Rattle.club_tables.proofs.statements.SelectLemmas.{selected, short_permutati
 use Rattle.club_tables.proofs.crashes.RepresentsLemmas.{Asks, asked_open, asked_reads}
 use Rattle.club_tables.proofs.crashes.SurviveLemmas.{may_commit, was_clean}
 use Rattle.club_tables.proofs.opening.MakingLemmas.{made_tables}
-use Rattle.club_tables.proofs.opening.MakesLemmas.{never_ran, makes_again, makes_over_unindexed, makes_over_first}
+use Rattle.club_tables.proofs.opening.MakesLemmas.{never_ran, makes_again}
 
 -- every crash leaves what was committed last
 abbrev pub IsSettled : State → Type 0
@@ -54,14 +55,12 @@ module _ {S : Type 0} (g : Ghosts S) (IsHeld : Database → Club → Type 0) (st
   -- if it is refused, the tables are as they were, and a crash leaves those or what the batch leaves
   refused : IsKept (state g old) (state g new) → (club : Club) (others : List Club) → RepresentsBy IsHeld (state g old) club others
       → RepresentsBy IsHeld (state g new) club others
-  refused kept club others before = record {
-    held = λ clean is_open. let k = kept clean is_open in subst (λ db. IsHeld db club) (sym k.2) (before.held (earlier clean) k.0);
-    idle = λ clean is_open. let k = kept clean is_open in k.1 ∙ sym k.2;
-    left = λ clean trees may. elim (commits.survives.crash clean trees may) [
-      | inl was ↦ before.left (earlier clean) trees was
-      | inr made ↦ inl (made.0, sym made.2, inl (inl (holds made.0 made.1 (earlier clean) club others before)))
-    ];
-  }
+  refused kept club others before =
+      represents_by IsHeld (state g old) (state g new) kept earlier club others others before (λ clean trees may.
+      elim (commits.survives.crash clean trees may) [
+        | inl was ↦ before.left (earlier clean) trees was
+        | inr made ↦ inl (made.0, sym made.2, inl (inl (holds made.0 made.1 (earlier clean) club others before)))
+      ])
 
   pub runs_batch : IsOpeningBatch statements → IsSettled (state g new) → RunsBatch g (λ held. RepresentsBy IsHeld (state g held)) statements old new result
   runs_batch are settled = record {
@@ -80,9 +79,9 @@ holds_found g old db ran clean club others found =
     let is_open = ran.was_open (omega arith) in
     let now = found.idle clean is_open in
     elim (found.held clean is_open) [
-      | inl (inl tables) ↦ absurd (never_ran ran (ap (λ (d : Database). d.schema) now ∙ tables.holds_rows.schema) makes_again)
-      | inl (inr unindexed) ↦ absurd (never_ran ran (ap (λ (d : Database). d.schema) now ∙ unindexed.holds_rows.schema) makes_over_unindexed)
-      | inr (inl first) ↦ absurd (never_ran ran (ap (λ (d : Database). d.schema) now ∙ first.holds_rows.schema) makes_over_first)
+      | inl (inl tables) ↦ absurd (never_ran ran (ap (λ (d : Database). d.schema) now ∙ tables.holds_rows.schema) makes_again.0)
+      | inl (inr unindexed) ↦ absurd (never_ran ran (ap (λ (d : Database). d.schema) now ∙ unindexed.holds_rows.schema) makes_again.1)
+      | inr (inl first) ↦ absurd (never_ran ran (ap (λ (d : Database). d.schema) now ∙ first.holds_rows.schema) makes_again.2)
       | inr (inr blank) ↦ subst (HoldsClub db) (sym blank.1) (made_tables g old db ran (ap (λ (d : Database). d.schema) now ∙ blank.0))
     ]
 
@@ -95,26 +94,23 @@ no_version = refl
 abbrev AsksVersion : Schema → Type 0
 AsksVersion schema = Asks schema VERSION.now (select (inner desk_tree end) [] (col 1 1 ∷ [])) (codes "version" ∷ [])
 
-asks_club : AsksVersion club_schema
+asks_version : AsksVersion club_schema × AsksVersion unindexed_schema × AsksVersion first_schema
 unfolding understood everything
-asks_club = record { is = refl; plain = (refl, refl); unlisted = refl }
-
-asks_unindexed : AsksVersion unindexed_schema
-unfolding understood everything
-asks_unindexed = record { is = refl; plain = (refl, refl); unlisted = refl }
-
-asks_first : AsksVersion first_schema
-unfolding understood everything
-asks_first = record { is = refl; plain = (refl, refl); unlisted = refl }
+asks_version = (
+  record { is = refl; plain = (refl, refl); unlisted = refl },
+  record { is = refl; plain = (refl, refl); unlisted = refl },
+  record { is = refl; plain = (refl, refl); unlisted = refl },
+)
 
 -- and that row is the version
 version_row : {S : Type 0} (g : Ghosts S) (old : Held S) (rows : List Row) → Asked g VERSION.now [] old rows → (schema : Schema) → AsksVersion schema
-    → (state g old).now.schema ≡ schema → (version : ℕ) → Holds version_values ((state g old).now.trees desk_tree) (version ∷ [])
+    → (db : Database) → (state g old).now ≡ db → db.schema ≡ schema → (version : ℕ) → Holds version_values (db.trees desk_tree) (version ∷ [])
     → rows ≡ version_values version ∷ []
-version_row g old rows asked schema asks over version held =
-    let reads = asked_reads asked asks over in
+version_row g old rows asked schema asks db now over version held =
     let same = selected version_values [] [] (col 1 1 ∷ []) (λ _. true) version_values (λ id n. refl) (λ id n.
-    refl) desk_tree (codes "version" ∷ []) (state g old).now (version ∷ []) rows held reads in
+    refl) desk_tree (codes "version" ∷ []) (state g old).now (version ∷ []) rows
+    (subst (λ (d : Database). Holds version_values (d.trees desk_tree) (version ∷ [])) (sym now) held)
+    (asked_reads asked asks (ap (λ (d : Database). d.schema) now ∙ over)) in
     short_permutation (version_values version ∷ []) rows (omega arith) same
 
 -- a database whose version was read has the tables of the club that was found
@@ -125,27 +121,25 @@ unfolding Shown
 version_returned g old rows clean asked club others found =
     let is_open = asked_open g VERSION.now [] old rows asked in
     let now = found.idle clean is_open in
-    let schema = ap (λ (d : Database). d.schema) now in
+    let read = version_row g old rows asked in
     let second : HoldsClubVersion2 (state g old).committed club → RepresentsVersion2 (state g old) club others = λ held.
     record { held = λ _ _. held; idle = found.idle; left = found.left } in
     elim (found.held clean is_open) [
       | inl (inl tables) ↦ inl (
         second (inl tables),
-        version_row g old rows asked club_schema asks_club (schema ∙ tables.holds_rows.schema) 2
-            (subst (λ (d : Database). Holds version_values (d.trees desk_tree) (2 ∷ [])) (sym now) tables.holds_rows.held.version),
+        read club_schema asks_version.0 _ now tables.holds_rows.schema 2 tables.holds_rows.held.version,
       )
       | inl (inr unindexed) ↦ inl (
         second (inr unindexed),
-        version_row g old rows asked unindexed_schema asks_unindexed (schema ∙ unindexed.holds_rows.schema) 2
-            (subst (λ (d : Database). Holds version_values (d.trees desk_tree) (2 ∷ [])) (sym now) unindexed.holds_rows.held.version),
+        read unindexed_schema asks_version.1 _ now unindexed.holds_rows.schema 2 unindexed.holds_rows.held.version,
       )
       | inr (inl first) ↦ inr (
         record { held = λ _ _. first; idle = found.idle; left = found.left },
-        version_row g old rows asked first_schema asks_first (schema ∙ first.holds_rows.schema) 1
-            (subst (λ (d : Database). Holds version_values (d.trees desk_tree) (1 ∷ [])) (sym now) first.holds_rows.held.version),
+        read first_schema asks_version.2 _ now first.holds_rows.schema 1 first.holds_rows.held.version,
       )
       | inr (inr blank) ↦
-          let none : is_ok (understood (state g old).now.schema VERSION.now) ≡ false = ap (λ s. is_ok (understood s VERSION.now)) (schema ∙ blank.0)
+          let none : is_ok (understood (state g old).now.schema VERSION.now) ≡ false =
+          ap (λ s. is_ok (understood s VERSION.now)) (ap (λ (d : Database). d.schema) now ∙ blank.0)
           ∙ no_version in
           absurd (true≢false (sym (ap is_ok asked.shown.1.is) ∙ none))
     ]
