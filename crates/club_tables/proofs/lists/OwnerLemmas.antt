@@ -13,14 +13,14 @@ use Rattle.club_rows.specs.declared.key.Key.{Key}
 use Rattle.club_core.specs.Club.{Club, IsSound, is_key_of}
 use Rattle.club_core.specs.Store.{IsOwnedBy}
 use Rattle.club_tables.proofs.queries.MemberLemmas.{any_filtered}
-use Rattle.club_tables.proofs.statements.SelectLemmas.{Apart, fail_beside}
+use Rattle.club_tables.proofs.statements.SelectLemmas.{Apart}
+use Rattle.sqlite_trees.proofs.ListLemmas.{all_weaker}
 use Rattle.club_tables.proofs.queries.KeyLemmas.{one_listed, one_named}
 
 -- ---- lists
 
 pub map_agree : {X Y : Type 0} (f g : X → Y) → ((x : X) → f x ≡ g x) → (xs : List X) → map f xs ≡ map g xs
-map_agree f g same [] = refl
-map_agree f g same (x ∷ xs) = let e = same x in let more = map_agree f g same xs in cc
+map_agree f g same xs = λ i. map (λ x. same x i) xs
 
 pub all_last : {X : Type 0} (P : X → Type 0) (xs : List X) (y : X) → AllByRecursion P (xs ++ y ∷ []) → P y
 all_last P [] y h = h.0
@@ -49,14 +49,10 @@ bytes_eq-sym a b = go (bytes_eq a b) refl
 
 sum_picked : {X : Type 0} (w : X → ℕ) (q : X → Bool) (xs : List X) → sum_by w (filter q xs) ≡ sum_by (λ x. cond (q x) (w x) 0) xs
 sum_picked w q [] = refl
-sum_picked {X} w q (x ∷ xs) = go (q x) refl (sum_picked w q xs)
-  where
-    c : X → ℕ
-    c y = cond (q y) (w y) 0
-
-    go : (b : Bool) → q x ≡ b → sum_by w (filter q xs) ≡ sum_by c xs → sum_by w (cond b (x ∷ filter q xs) (filter q xs)) ≡ sum_by c (x ∷ xs)
-    go true is more = let here : c x ≡ w x = ap (λ b. cond b (w x) 0) is in omega (arith, sum_by-cons w x (filter q xs), sum_by-cons c x xs, more, here)
-    go false is more = let here : c x ≡ 0 = ap (λ b. cond b (w x) 0) is in omega (arith, sum_by-cons c x xs, more, here)
+sum_picked w q (x ∷ xs) =
+    rw (sum_by-cons (λ y. cond (q y) (w y) 0) x xs, ← sum_picked w q xs)
+    (elim (q x) as (λ b. sum_by w (cond b (x ∷ filter q xs) (filter q xs)) ≡ cond b (w x) 0 + sum_by w (filter q xs))
+    [ true ↦ sum_by-cons w x (filter q xs) | false ↦ omega arith ])
 
 -- one more element
 pub sum_more : {X : Type 0} (w : X → ℕ) (q : X → Bool) (xs : List X) (x : X) → sum_by w (filter q (xs ++ x ∷ [])) ≡ sum_by w (filter q xs) + cond (q x) (w x) 0
@@ -72,9 +68,6 @@ module _ {X : Type 0} (p : X → Bool) (f : X → X) (kept : (x : X) → p x ≡
   none_changed [] h = refl
   none_changed (x ∷ xs) h = let e = kept x h.0 in let more = none_changed xs h.1 in cc
 
-  pub others_fail : (x : X) → p x ≡ true → (xs : List X) → AllByRecursion (IsAlone x) xs → AllByRecursion (λ y. p y ≡ false) xs
-  others_fail x is xs alone = fail_beside IsAlone p (λ a b pa pb apart. apart (pa, pb)) x is xs alone
-
   -- the sum once the one element that passes has changed
   sum_changed : (c : X → ℕ) (xs : List X) (x : X) → Apart IsAlone xs → find p xs ≡ Some x → sum_by c (map f xs) + c x ≡ sum_by c xs + c (f x)
   sum_changed c [] x alone is = absurd cc
@@ -84,7 +77,8 @@ module _ {X : Type 0} (p : X → Bool) (f : X → X) (kept : (x : X) → p x ≡
           → sum_by c (map f (y ∷ xs)) + c x ≡ sum_by c (y ∷ xs) + c (f x)
       go later true passes e =
           let same : y ≡ x = cc in
-          let rest : sum_by c (map f xs) ≡ sum_by c xs = ap (sum_by c) (none_changed xs (others_fail y passes xs alone.0)) in
+          let fail = all_weaker (IsAlone y) _ (λ z apart. false_from_ne_true (p z) (λ h. apart (passes, h))) xs alone.0 in
+          let rest : sum_by c (map f xs) ≡ sum_by c xs = ap (sum_by c) (none_changed xs fail) in
           omega (arith, sum_by-cons c (f y) (map f xs), sum_by-cons c y xs, rest, ap c same, ap (λ z. c (f z)) same)
       go later false fails e = omega (arith, sum_by-cons c (f y) (map f xs), sum_by-cons c y xs, later e, ap c (kept y fails))
 

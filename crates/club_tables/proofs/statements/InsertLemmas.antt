@@ -1,5 +1,5 @@
 -- An INSERT of one row, and CREATE TABLE.
-use Rattle.std.proofs.Common.{◌≡◌, ◌≢◌, ◌⊎◌, ◌≤◌, inl, inr, ℕ, ◌/◌, Bool, true, false, cond, None, Some, Ok, Err, Result, List, [], ◌∷◌, length, map}
+use Rattle.std.proofs.Common.{◌≡◌, ◌≢◌, ◌⊎◌, ◌≤◌, inl, inr, ℕ, ◌/◌, Bool, true, false, cond, None, Some, Option, Ok, Err, Result, List, [], ◌∷◌, length, map}
 use Rattle.std.proofs.Common.{slice_get, refl}
 use Rattle.std.proofs.Common.{sym, ap, subst, ◌∙◌, append-nil, arith}
 use Rattle.std.specs.Prelude.{MatchBool, drop, unwrap_or}
@@ -16,21 +16,24 @@ use Rattle.sqlite.specs.Schema.{Schema}
 use Rattle.sqlite.specs.Table.{Table}
 use Rattle.sqlite.specs.Kind.TheVariants.{Integer}
 use Rattle.sqlite.specs.Source.TheVariants.{Values}
+use Rattle.sqlite.specs.Command.{Command}
 use Rattle.sqlite.specs.Command.TheVariants.{Insert, CreateTable, CreateIndex}
 use Rattle.sqlite_schema.specs.declared.schema.Index.{Index}
 use Rattle.sqlite_catalog.specs.Change.{indexed}
 use Rattle.sqlite.specs.Change.{created, next_tree, is_used, KeepsRows}
 use Rattle.sqlite.specs.Cast.{cast, cast_row}
 use Rattle.sqlite.specs.Rowids.TheVariants.{Chosen, Above}
-use Rattle.sqlite.specs.Edit.{Edit, edit_of, next_rowid, with_rowid}
+use Rattle.sqlite.specs.Edit.{Edit, edit_of, edited, next_rowid, with_rowid}
+use Rattle.sqlite_rules.specs.Edit.{taken_by}
 use Rattle.sqlite_rules.specs.Action.{works, Writes as ActionWrites}
 use Rattle.sqlite.specs.Rowids.{Rowids}
 use Rattle.sqlite_schema.specs.declared.schema.Keys.TheVariants.{Enforced}
-use Rattle.sqlite.specs.Does.{Tally, Does, lacks_sequence}
-use Rattle.sqlite.specs.Rows.{Written, stamped, count_of, rowids_for}
+use Rattle.sqlite.specs.Does.{Tally, Does, OnTable, OnRows, WritesRows, lacks_sequence}
+use Rattle.sqlite.specs.Rows.{Written, Task, stamped, count_of, rowids_for}
+use Rattle.sqlite.specs.declared.error.Error.{Error}
 use Rattle.sqlite.specs.Effect.{Database, IsDatabase, value_rows}
 use Rattle.sqlite.specs.Listing.{understood}
-use Rattle.sqlite.specs.State.{State, mode_of, Writes, Executes}
+use Rattle.sqlite.specs.State.{State, mode_of, Runs, Writes, Executes}
 use Rattle.sqlite.proofs.Callers.{statement_of, runs_as, one_step}
 use Rattle.club_tables.proofs.statements.MeansLemmas.{Makes, MakesIndex, Means, Wrote}
 
@@ -102,6 +105,61 @@ indexes {schema = schema} {text = text} {at = at} {table = table} {index = index
       w.sound,
     )
 
+-- ---- a statement that writes rows of one table
+
+-- what it leaves
+pub record Leaves (schema : Schema) (new : State) (count : ℕ) (one : Written) : Type 0 where
+  pub schema_is : new.now.schema ≡ schema
+  pub trees_are : new.now.trees ≡ one.trees
+  pub counted : count ≡ length one.rows
+  pub sound : IsDatabase new.now
+
+abbrev pub task_of : Schema → Table → State → Row → Task
+task_of schema table old params = record { limit = old.step_limit; keys = Enforced; schema = schema; table = table; params = params }
+
+pub wrote_rows : {schema : Schema} {text : List ℕ} {command : Command} → Means schema text command → (at : ℕ) {table : Table}
+    → slice_get schema.tables at ≡ Some table → (old new : State) (params : Row) (count : ℕ)
+    → (Runs old new None command (statement_of text (understood schema text)) params count
+    → Writes old new None command (statement_of text (understood schema text)) params count)
+    → ((out : Result (Tally × Database) (Option Error))
+    → Does old.step_limit (mode_of old) params (record old.now { schema = schema }) (statement_of text (understood schema text)) None command out
+    → OnTable old.step_limit (mode_of old) params (record old.now { schema = schema }) at (λ task. OnRows task (mode_of old) None command old.now.trees) out)
+    → old.now.schema ≡ schema → Executes text params old new (Ok count)
+    → (one : Written) × Leaves schema new count one × WritesRows (task_of schema table old params) old.now.trees command (Ok one)
+wrote_rows {schema = schema} {text = text} {command = command} means at listed old new params count writes on has h =
+    let w = writes (runs_as text params old new schema has command means.is means.plain count h) in
+    let statement = statement_of text (understood schema text) in
+    let does = on (Ok (w.tally, new.now)) (subst (λ s. Does old.step_limit (mode_of old) params (record old.now { schema = s }) statement None command
+    (Ok (w.tally, new.now))) has w.changed) in
+    let done = went (rw listed at does) in
+    let noted = same_value (went (went done.2).2).2 in
+    let now = ap (λ (p : Tally × Database). p.1) noted in (
+      done.0,
+      record {
+        schema_is = ap (λ (d : Database). d.schema) now;
+        trees_are = ap (λ (d : Database). d.trees) now;
+        counted = w.counted ∙ ap (λ (p : Tally × Database). unwrap_or p.0.rows 0) noted;
+        sound = w.sound;
+      },
+      done.1,
+    )
+
+-- an edit on which no reference acts is the whole change
+pub edited_alone : {schema : Schema} (old : State) {new : State} {count : ℕ} {one : Written} → Leaves schema new count one → (edit : Edit) (next : Trees)
+    → works schema Enforced 0 edit.table.tree (taken_by old.now.trees edit) edit.news ≡ [] → ActionWrites schema Enforced old.now.trees edit (Ok next)
+    → one.trees ≡ next → Wrote schema old.now new.now edit.table.tree × (new.now.trees edit.table.tree ≡ edited old.now.trees edit)
+edited_alone {schema = schema} old left edit next still writes is =
+    let applied = one_step schema Enforced old.now.trees next edit still writes in
+    let whole = left.trees_are ∙ is in (
+      record {
+        schema = left.schema_is;
+        others = subst (λ (trees : Trees). AllByRecursion (λ t. t.tree ≢ edit.table.tree → trees t.tree ≡ old.now.trees t.tree) schema.tables) (sym whole)
+            applied.tables;
+        sound = left.sound;
+      },
+      ap (λ (t : Trees). t edit.table.tree) whole ∙ applied.rows,
+    )
+
 -- INSERT puts a row at the next rowid, and keeps the other tables
 pub inserts : {schema : Schema} {text : List ℕ} {at width : ℕ} {terms : List Term} → Means schema text (Insert at (Values terms width)) → (table : Table)
     → slice_get schema.tables at ≡ Some table → table.is_counted ≡ false → table.stamps ≡ record { places = []; terms = []; formats = [] }
@@ -113,30 +171,18 @@ pub inserts : {schema : Schema} {text : List ℕ} {at width : ℕ} {terms : List
 inserts {schema = schema} {text = text} {at = at} {width = width} {terms = terms} means table listed uncounted unstamped still old new has params values gives
     casts count h =
     let db = old.now.trees in
-    let command = Insert at (Values terms width) in
-    let w = runs_as text params old new schema has command means.is means.plain count h in
-    let statement = statement_of text (understood schema text) in
-    let does = subst (λ s. Does old.step_limit (mode_of old) params (record old.now { schema = s }) statement None command (Ok (w.tally, new.now))) has
-    w.changed in
-    let done = went (rw listed at does) in
-    let noted = same_value (went (went done.2).2).2 in
-    let now = ap (λ (p : Tally × Database). p.1) noted in
-    let given = went done.1 in
+    let it = wrote_rows means at listed old new params count (λ w. w) (λ out does. does) has h in
+    let given = went it.2 in
     let stamp : stamped table params ≡ params = rw unstamped (append-nil params) in
     let sourced : given.0 ≡ (Null ∷ values) ∷ [] = given.1.1 ∙ ap (λ p. value_rows p width (length terms / width) terms) stamp ∙ gives in
     let c1 = went given.2 in
     let written = went c1.2 in
     let written_count = went written.2 in
     let top : Ok written_count.0 ≡ Ok written.0 = uncounts table.is_counted _ _ _ uncounted written_count.1 in
-    let trees : done.0.trees ≡ written.0 = ap (λ (it : Written). it.trees) (same_value written_count.2) ∙ same_value top in
     let edit_from : Rowids → List Row → Edit = λ rowids rows. edit_of db table [] rowids 0 rows in
-    let news = (edit_from (rowids_for table (count_of c1.0)) given.0).news in
-    let rows : done.0.rows ≡ news = ap (λ (it : Written). it.rows) (same_value written_count.2) in
-    let counted : count ≡ length done.0.rows = w.counted ∙ ap (λ (p : Tally × Database). unwrap_or p.0.rows 0) noted in
-    let numbered : length news ≡ length given.0 =
+    let numbered : length (edit_from (rowids_for table (count_of c1.0)) given.0).news ≡ 1 =
     length-numbered (rowids_for table (count_of c1.0)) _ (map (λ (s : Row). cast_row table (drop 0 s)) given.0)
-    ∙ length-map given.0 (λ (s : Row). cast_row table (drop 0 s)) in
-    let one : length given.0 ≡ 1 = ap length sourced in
+    ∙ length-map given.0 (λ (s : Row). cast_row table (drop 0 s)) ∙ ap length sourced in
     let chosen : ActionWrites schema Enforced db (edit_from Chosen given.0) (Ok written.0) =
     subst (λ b. ActionWrites schema Enforced db (edit_from (cond b (Above (count_of c1.0)) Chosen) given.0) (Ok written.0)) uncounted written.1 in
     let edit : Edit = record { table = table; gone = []; news = (Int (next_rowid (db table.tree)) ∷ values) ∷ [] } in
@@ -144,13 +190,7 @@ inserts {schema = schema} {text = text} {at = at} {width = width} {terms = terms
     subst (λ rows. ActionWrites schema Enforced db (edit_from Chosen rows) (Ok written.0)) sourced chosen in
     let as_edit : Row → Edit = λ row. record { table = table; gone = []; news = with_rowid Chosen (db table.tree) row ∷ [] } in
     let put : ActionWrites schema Enforced db edit (Ok written.0) = subst (λ row. ActionWrites schema Enforced db (as_edit row) (Ok written.0)) casts wrote in
-    let applied = one_step schema Enforced db written.0 edit (still (Int (next_rowid (db table.tree)) ∷ values)) put in
-    let whole : new.now.trees ≡ written.0 = ap (λ (d : Database). d.trees) now ∙ trees in (
-      record {
-        schema = ap (λ (d : Database). d.schema) now;
-        others = subst (λ (trees : Trees). AllByRecursion (λ t. t.tree ≢ table.tree → trees t.tree ≡ db t.tree) schema.tables) (sym whole) applied.tables;
-        sound = w.sound;
-      },
-      ap (λ (t : Trees). t table.tree) whole ∙ applied.rows,
-      omega (arith, counted, ap length rows, numbered, one),
-    )
+    let left = same_value written_count.2 in
+    let whole = ap (λ (w : Written). w.trees) left ∙ same_value top in
+    let done = edited_alone old it.1 edit written.0 (still (Int (next_rowid (db table.tree)) ∷ values)) put whole in
+    (done.0, done.1, omega (arith, it.1.counted, ap (λ (w : Written). length w.rows) left, numbered))

@@ -1,6 +1,7 @@
 -- What an UPDATE found that wrote a row.
-use Rattle.std.proofs.Common.{◌≡◌, ◌≤◌, ℤ, Contains, Bool, true, false, ◌||◌, cond, Some, List, [], ◌∷◌, length, map, refl, sym, ap, subst, ◌∙◌, not, arith}
-use Rattle.std.proofs.Common.{true≢false, slice_get, suc}
+use Rattle.std.proofs.Common.{◌≡◌, ◌≤◌, ℤ, Contains, Bool, true, false, ◌||◌, cond, Some, List, [], ◌∷◌, length, map, refl, sym, ap, ◌∙◌, not, arith}
+use Rattle.std.proofs.Common.{true≢false, slice_get, suc, ◌==◌}
+use Rattle.std.proofs.lemmas.Bool.Decides.{nat_tests}
 use Rattle.std.specs.Prelude.{filter, find, IsPermutation, Contains}
 use Rattle.std.specs.List.{AllByRecursion, AllZip, list_any}
 use Rattle.std.proofs.lemmas.List.{length-map}
@@ -14,18 +15,6 @@ use Rattle.sqlite_trees.proofs.ListLemmas.{filter-filter}
 use Rattle.club_tables.specs.Tables.{IsRowOf}
 use Rattle.club_tables.proofs.statements.SelectLemmas.{find_first, filter_same}
 
--- as many rows pass as elements
-pub as_many : {X : Type 0} (hit : Row → Bool) (p : X → Bool) (rows : List Row) (xs : List X) → AllZip (λ row x. hit row ≡ p x) rows xs
-    → length (filter hit rows) ≡ length (filter p xs)
-as_many hit p [] [] same = refl
-as_many hit p [] (x ∷ xs) same = absurd same
-as_many hit p (r ∷ rows) [] same = absurd same
-as_many {X} hit p (r ∷ rows) (x ∷ xs) same =
-    let more = as_many hit p rows xs same.1 in
-    subst (λ b. length (cond b (r ∷ filter hit rows) (filter hit rows)) ≡ length (filter p (x ∷ xs))) (sym same.0)
-    (elim (p x) as (λ b. length (cond b (r ∷ filter hit rows) (filter hit rows)) ≡ length (cond b (x ∷ filter p xs) (filter p xs)))
-    [ true ↦ omega arith | false ↦ more ])
-
 -- a test of the columns passes if the element does
 pub each_row : {X : Type 0} (values : X → Row) (hit : Row → Bool) (p : X → Bool) → ((id : ℤ) (x : X) → hit (Int id ∷ values x) ≡ p x) → (rows : List Row)
     (xs : List X) → AllZip (λ row x. IsRowOf (values x) row) rows xs → AllZip (λ row x. hit row ≡ p x) rows xs
@@ -34,6 +23,16 @@ each_row values hit p tested [] (x ∷ xs) same = absurd same
 each_row values hit p tested (r ∷ rows) [] same = absurd same
 each_row values hit p tested (r ∷ rows) (x ∷ xs) same =
     (ap hit same.0.1 ∙ tested same.0.0 x, each_row values hit p tested rows xs same.1)
+
+-- as many rows pass as elements
+pub as_many : {X : Type 0} (hit : Row → Bool) (p : X → Bool) (rows : List Row) (xs : List X) → AllZip (λ row x. hit row ≡ p x) rows xs
+    → length (filter hit rows) ≡ length (filter p xs)
+as_many hit p [] [] same = refl
+as_many hit p [] (x ∷ xs) same = absurd same
+as_many hit p (r ∷ rows) [] same = absurd same
+as_many hit p (r ∷ rows) (x ∷ xs) same =
+    rw same.0 (elim (p x) as (λ b. length (cond b (r ∷ filter hit rows) (filter hit rows)) ≡ length (cond b (x ∷ filter p xs) (filter p xs)))
+    [ true ↦ ap suc (as_many hit p rows xs same.1) | false ↦ as_many hit p rows xs same.1 ])
 
 -- an element passes, and so the first that does is found
 pub find_some : {X : Type 0} (p : X → Bool) (xs : List X) → 1 ≤ length (filter p xs) → (x : X) × (find p xs ≡ Some x)
@@ -45,29 +44,19 @@ find_some {X} p (x ∷ xs) some = go (p x) refl some (find_some p xs)
     go true is some more = (x, refl)
     go false is some more = more some
 
--- if rows were written, an element passes
-pub some_found : {X : Type 0} (hit : Row → Bool) (shown : Row → Row) (p : X → Bool) (before rows : List Row) (xs : List X)
-    → AllZip (λ row x. hit row ≡ p x) before xs → IsPermutation (map shown (filter hit before)) rows → 1 ≤ length rows → (x : X) × (find p xs ≡ Some x)
-some_found hit shown p before rows xs same permuted some =
-    let lengths = length_permutation (map shown (filter hit before)) rows permuted in
-    let mapped = length-map (filter hit before) shown in
-    find_some p xs (omega (arith, lengths, mapped, as_many hit p before xs same, some))
+-- as many rows are written
+pub as_many_written : {X : Type 0} (hit : Row → Bool) (shown : Row → Row) (p : X → Bool) (before rows : List Row) (xs : List X)
+    → AllZip (λ row x. hit row ≡ p x) before xs → IsPermutation (map shown (filter hit before)) rows → length rows ≡ length (filter p xs)
+as_many_written hit shown p before rows xs same permuted =
+    length_permutation (map shown (filter hit before)) rows permuted ∙ length-map (filter hit before) shown ∙ as_many hit p before xs same
 
--- and if an element passes, rows were written
-pub rows_found : {X : Type 0} (hit : Row → Bool) (shown : Row → Row) (p : X → Bool) (before rows : List Row) (xs : List X)
-    → AllZip (λ row x. hit row ≡ p x) before xs → IsPermutation (map shown (filter hit before)) rows → 1 ≤ length (filter p xs) → 1 ≤ length rows
-rows_found hit shown p before rows xs same permuted some =
-    let lengths = length_permutation (map shown (filter hit before)) rows permuted in
-    let mapped = length-map (filter hit before) shown in
-    omega (arith, lengths, mapped, as_many hit p before xs same, some)
+pub any_filtered_is : {X : Type 0} (p : X → Bool) (xs : List X) → list_any p xs ≡ not (length (filter p xs) == 0)
+any_filtered_is p [] = refl
+any_filtered_is p (x ∷ xs) = elim (p x) as (λ b. (b || list_any p xs) ≡ not (length (cond b (x ∷ filter p xs) (filter p xs)) == 0))
+    [ true ↦ grind (arith, nat_tests) | false ↦ any_filtered_is p xs ]
 
 pub any_counts : {X : Type 0} (p : X → Bool) (xs : List X) → list_any p xs ≡ true → 1 ≤ length (filter p xs)
-any_counts p [] any = absurd cc
-any_counts {X} p (x ∷ xs) any = go (p x) any (any_counts p xs)
-  where
-    go : (b : Bool) → (b || list_any p xs) ≡ true → (list_any p xs ≡ true → 1 ≤ length (filter p xs)) → 1 ≤ length (cond b (x ∷ filter p xs) (filter p xs))
-    go true any more = omega arith
-    go false any more = more any
+any_counts p xs any = let is = any_filtered_is p xs in grind (arith, nat_tests)
 
 pub contains_counts : {X : Type 0} (p : X → Bool) (xs : List X) (one : X) → Contains xs one → p one ≡ true → 1 ≤ length (filter p xs)
 contains_counts p xs one has passes = any_counts p xs (list_any_at p xs has.0 one has.1 (ap p has.2 ∙ passes))
@@ -104,13 +93,6 @@ agree p q implies xs one low found = as_wide p q implies xs (omega (arith, low, 
 -- and both find the same
 pub found_by_both : {X : Type 0} (p q : X → Bool) (xs : List X) → AllByRecursion (λ x. p x ≡ q x) xs → find p xs ≡ find q xs
 found_by_both p q xs same = find_first p xs ∙ ap (λ ys. slice_get ys 0) (filter_same p q xs same) ∙ sym (find_first q xs)
-
-pub zip_agree : {X : Type 0} (hit : Row → Bool) (p q : X → Bool) (rows : List Row) (xs : List X) → AllZip (λ row x. hit row ≡ p x) rows xs
-    → AllByRecursion (λ x. p x ≡ q x) xs → AllZip (λ row x. hit row ≡ q x) rows xs
-zip_agree hit p q [] [] same both = tt
-zip_agree hit p q [] (x ∷ xs) same both = absurd same
-zip_agree hit p q (r ∷ rows) [] same both = absurd same
-zip_agree hit p q (r ∷ rows) (x ∷ xs) same both = (same.0 ∙ both.0, zip_agree hit p q rows xs same.1 both.1)
 
 -- what is found is an element, and passes
 pub found : {X : Type 0} (p : X → Bool) (xs : List X) (x : X) → find p xs ≡ Some x → Contains xs x × (p x ≡ true)

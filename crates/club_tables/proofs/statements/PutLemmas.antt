@@ -1,10 +1,18 @@
 -- What a statement leaves that puts a row by its key: an INSERT with ON CONFLICT DO UPDATE.
-use Rattle.std.proofs.Common.{◌≡◌, ◌≢◌, ◌≤◌, inl, inr, ℕ, ◌/◌, ℤ, Bool, true, false, None, Some, Option, Ok, List, [], ◌∷◌, ◌++◌, length, map, slice_get}
-use Rattle.std.proofs.Common.{if◌then◌else◌, refl, sym, ap, subst, ◌∙◌, append-nil, arith}
-use Rattle.std.specs.Prelude.{drop, unwrap_or}
+use Rattle.std.proofs.Common.{◌≡◌, ◌≤◌, inl, inr, ℕ, ◌/◌, ℤ, Bool, true, false, None, Some, Option, Ok, List, [], ◌∷◌, ◌++◌, length, map, slice_get}
+use Rattle.std.proofs.Common.{refl, sym, ap, subst, ◌∙◌, append-nil, arith}
+use Rattle.std.specs.Prelude.{filter, IsPermutation}
+use Rattle.std.specs.Ordering.{is_eq}
+use Rattle.std.proofs.lemmas.Cmp.{tied_itself}
+use Rattle.std.proofs.lemmas.List.Elements.{filter_agree}
+use Rattle.sqlite_value.proofs.OrderLemmas.{value_cmp_total}
+use Rattle.sqlite.specs.Tree.{has_rowid, IsTable}
+use Rattle.sqlite_trees.proofs.ListLemmas.{filter-map, all_from_map}
+use Rattle.sqlite_rules.proofs.ListLemmas.{all_has, has_kept, has_filtered}
+use Rattle.sqlite.proofs.Callers.{one_permutation}
+use Rattle.std.proofs.Common.{not, ◌==◌}
 use Rattle.std.proofs.lemmas.List.{length-map}
-use Rattle.sqlite_rules.proofs.RowLemmas.{length-numbered}
-use Rattle.std.specs.List.{AllByRecursion, AllZip, list_any, list_all}
+use Rattle.std.specs.List.{AllByRecursion, list_any}
 use Rattle.std.proofs.Math.Bool.{and-true}
 use Rattle.sqlite_value.specs.declared.value.Value.TheVariants.{Null, Int}
 use Rattle.sqlite_value.specs.declared.keys.Collation.TheVariants.{Binary}
@@ -12,7 +20,7 @@ use Rattle.sqlite_sql.specs.declared.ops.BinaryOp.TheVariants.{Compare}
 use Rattle.sqlite_sql.specs.declared.ops.CompareOp.TheVariants.{Eq}
 use Rattle.sqlite.specs.Order.{Row, column}
 use Rattle.sqlite.specs.Tree.{Trees, put_row, rowid}
-use Rattle.sqlite.specs.Term.{Term, col, op2, holds, eval_all}
+use Rattle.sqlite.specs.Term.{Term, col, op2, eval_all}
 use Rattle.sqlite.specs.Query.{inner, end}
 use Rattle.sqlite.specs.Source.TheVariants.{Values}
 use Rattle.sqlite.specs.Command.{Command}
@@ -23,33 +31,28 @@ use Rattle.sqlite_schema.specs.declared.program.Program.{Program}
 use Rattle.sqlite_schema.specs.declared.schema.Column.{Column}
 use Rattle.sqlite_schema.specs.declared.schema.Reference.{Reference}
 use Rattle.sqlite_rules.specs.Keys.{conflicts, AreConflicts}
-use Rattle.sqlite_rules.specs.Lists.{Has}
 use Rattle.sqlite.specs.Table.{Table}
 use Rattle.sqlite.specs.Cast.{cast_row}
-use Rattle.sqlite.specs.Edit.{Edit, edit_of, edited, next_rowid, with_rowid}
-use Rattle.sqlite.specs.Rowids.TheVariants.{Chosen, Given}
-use Rattle.sqlite_rules.specs.Edit.{taken_by}
-use Rattle.sqlite_rules.specs.Calls.{ids_of}
+use Rattle.sqlite.specs.Edit.{Edit, next_rowid, with_rowid}
+use Rattle.sqlite.specs.Rowids.TheVariants.{Chosen}
 use Rattle.sqlite_rules.specs.Action.{Writes as ActionWrites}
 use Rattle.sqlite_schema.specs.declared.schema.Keys.TheVariants.{Enforced}
-use Rattle.sqlite.specs.Does.{Tally, Does}
-use Rattle.sqlite_rules.specs.declared.error.Refusal.{Refusal}
-use Rattle.sqlite.specs.Rows.{Written, Task, nothing, shown, count_of, Judged, Upserts, Clears, Puts, Resolves, Updates, Tries, TriesEach, Meets}
-use Rattle.sqlite.specs.Effect.{Database, IsDatabase, Answers, value_rows}
-use Rattle.sqlite.specs.State.{State, mode_of, Executes}
+use Rattle.sqlite.specs.Rows.{Written, Task, nothing, shown, count_of, Upserts, Clears, Puts, Resolves, Tries, TriesEach, Meets}
+use Rattle.sqlite.specs.Effect.{value_rows}
+use Rattle.sqlite.specs.State.{State, Executes}
 use Rattle.sqlite.specs.Listing.{understood}
-use Rattle.sqlite.proofs.Callers.{IsPlain, command_of, statement_of, runs_as, one_step}
+use Rattle.sqlite.proofs.Callers.{IsPlain, command_of}
 use Rattle.club_tables.specs.Schema.{table_of, club_schema}
 use Rattle.club_tables.specs.Statements.{select}
 use Rattle.club_tables.specs.Tables.{Holds}
 use Rattle.club_tables.proofs.lists.RowLemmas.{holds_more}
-use Rattle.club_tables.proofs.statements.InsertLemmas.{went, same_value}
-use Rattle.club_tables.proofs.statements.MeansLemmas.{Wrote}
-use Rattle.club_tables.proofs.statements.UpdateLemmas.{no_works}
-use Rattle.club_tables.proofs.statements.PassLemmas.{any_counts, rows_found}
-use Rattle.club_tables.proofs.statements.SelectLemmas.{Apart, one_passes, test, shows, answered}
-use Rattle.club_tables.proofs.statements.ReplaceLemmas.{replaced_where}
-use Rattle.club_tables.proofs.lists.PutRows.{AreRows, IsLone, has_id, met_at, meets_one, meets_none, hits, put_among, id_equal}
+use Rattle.club_tables.proofs.statements.InsertLemmas.{Leaves, task_of, went, same_value, wrote_rows, edited_alone}
+use Rattle.club_tables.proofs.statements.MeansLemmas.{Means, Wrote}
+use Rattle.club_tables.proofs.statements.UpdateLemmas.{Updates, updated, no_works}
+use Rattle.club_tables.proofs.statements.PassLemmas.{any_filtered_is}
+use Rattle.club_tables.proofs.statements.SelectLemmas.{Apart, one_passes, test, shows, answered, row_of, paired}
+use Rattle.club_tables.proofs.statements.ReplaceLemmas.{replaced}
+use Rattle.club_tables.proofs.lists.PutRows.{IsLone, put_among, id_equal, one_at}
 
 -- the row whose rowid is a parameter
 abbrev pub is_there : ℕ → Term
@@ -75,113 +78,6 @@ module _ (name : List ℕ) (columns : List Column) (keys : List (List ℕ)) (che
       pub aims : clause.target ≡ target
       pub by : clause.update ≡ sets_by there_at sets
 
-    abbrev hit : Row → Row → Bool
-    hit new row = conflicts target club_schema.indexes table new row
-
-    no_conflicts : (new : Row) (rows found : List Row) → ((r : Row) → Has rows r → hit new r ≡ true → ⊥)
-        → AreConflicts target club_schema.indexes table rows new found → found ≡ []
-    no_conflicts new rows [] none h = refl
-    no_conflicts new rows (x ∷ found) none h = let it = h.sound x (inl refl) in absurd (none it.0 it.1 it.2)
-
-    abbrev task_of : Option ℕ → Row → Task
-    task_of limit params = record { limit = limit; keys = Enforced; schema = club_schema; table = table; params = params }
-
-    -- what the statement leaves in the table, and in the others
-    abbrev Leaves : Trees → Trees → List Row → Type 0
-    Leaves db next rows = (next tree ≡ rows) × AllByRecursion (λ (t : Table). t.tree ≢ tree → next t.tree ≡ db t.tree) club_schema.tables
-
-    module _ (limit : Option ℕ) (params : Row) (new : Row) (db : Trees) (one : Written) (clause : Upsert) where
-      abbrev task : Task
-      task = task_of limit params
-
-      checked : (verdict : Option Refusal) → Judged task Abort (clause ∷ []) new db verdict (Ok one) → Upserts task Abort new db (clause ∷ []) (Ok one)
-      checked None h = h
-      checked (Some why) h = absurd cc
-
-      -- which rows it meets, and what it makes of them
-      abbrev Met : Type 0
-      Met = (found : List Row) × AreConflicts clause.target club_schema.indexes table (db tree) new found
-          × Meets task (Upserts task Abort new db []) new db clause found (Ok one)
-
-      met : Tries task Abort (clause ∷ []) new db (Ok one) → Met
-      met (inl refused) = absurd (let e = refused.1 in cc)
-      met (inr tried) = checked tried.0 tried.2
-
-      cleared : (found : List Row) → Clears task Abort new db found (Ok one) → Puts task new db (Ok one)
-      cleared [] h = h
-      cleared (x ∷ found) h = h
-
-      put_alone : cast_row table new ≡ new → Puts task new db (Ok one) → Leaves db one.trees (put_row new (db tree)) × (1 ≤ length one.rows)
-      put_alone casts h =
-          let put = went h in
-          let edit : Row → Edit = λ row. record { table = table; gone = []; news = row ∷ [] } in
-          let wrote : ActionWrites club_schema Enforced db (edit new) (Ok put.0) =
-          subst (λ row. ActionWrites club_schema Enforced db (edit row) (Ok put.0)) casts put.1 in
-          let applied = one_step club_schema Enforced db put.0 (edit new) (no_works tree [] (new ∷ [])) wrote in
-          let is : one.trees ≡ put.0 = ap (λ (it : Written). it.trees) (same_value put.2) in
-          let rows : length one.rows ≡ 1 = ap (λ (it : Written). length it.rows) (same_value put.2) in (
-            (
-              ap (λ (t : Trees). t tree) is ∙ applied.rows,
-              subst (λ (trees : Trees). AllByRecursion (λ (t : Table). t.tree ≢ tree
-                  → trees t.tree ≡ db t.tree) club_schema.tables) (sym is) applied.tables,
-            ),
-            omega (arith, rows),
-          )
-
-      -- a row that meets none is put beside the others
-      made : cast_row table new ≡ new → clause.target ≡ target → ((r : Row) → Has (db tree) r → hit new r ≡ true → ⊥) → Met
-          → Leaves db one.trees (put_row new (db tree)) × (1 ≤ length one.rows)
-      made casts aims none met =
-          let found = subst (λ target. AreConflicts target club_schema.indexes table (db tree) new met.0) aims met.1 in
-          let empty = no_conflicts new (db tree) met.0 none found in
-          let otherwise : Upserts task Abort new db [] (Ok one) = subst (λ f. Meets task (Upserts task Abort new db []) new db clause f (Ok one)) empty met.2 in
-          put_alone casts (cleared otherwise.0 otherwise.2)
-
-      abbrev given : Row → Row
-      given there = params ++ rowid there ∷ shown table new
-
-      -- the row that it meets gets the values of the clause
-      abbrev Updated : Program → Type 0
-      Updated q = (there : Row) × (r : Row) × Has (db tree) r × (hit new r ≡ true) × (rowid there ≡ rowid r)
-          × (rows : List Row) × Answers (record { schema = club_schema; trees = db }) q (given there) rows
-          × Leaves db one.trees (edited db (edit_of db table (ids_of rows) Given 1 rows)) × (length one.rows ≡ length rows)
-
-      resolved : (q : Program) (there : Row) → Updates task q (given there) db (Ok one) → (rows : List Row)
-          × Answers (record { schema = club_schema; trees = db }) q (given there) rows
-          × Leaves db one.trees (edited db (edit_of db table (ids_of rows) Given 1 rows)) × (length one.rows ≡ length rows)
-      resolved q there h =
-          let asked = went h in
-          let written = went asked.2 in
-          let edit = edit_of db table (ids_of asked.0) Given 1 asked.0 in
-          let applied = one_step club_schema Enforced db written.0 edit (no_works tree (taken_by db edit) edit.news) written.1 in
-          let is : one.trees ≡ written.0 = ap (λ (it : Written). it.trees) (same_value written.2) in
-          let rows : one.rows ≡ edit.news = ap (λ (it : Written). it.rows) (same_value written.2) in
-          let numbered : length edit.news ≡ length asked.0 =
-          length-numbered Given _ (map (λ (s : Row). cast_row table (drop 1 s)) asked.0) ∙ length-map asked.0 (λ (s : Row). cast_row table (drop 1 s)) in (
-            asked.0,
-            asked.1,
-            (
-              ap (λ (t : Trees). t tree) is ∙ applied.rows,
-              subst (λ (trees : Trees). AllByRecursion (λ (t : Table). t.tree ≢ tree
-                  → trees t.tree ≡ db t.tree) club_schema.tables) (sym is) applied.tables,
-            ),
-            ap length rows ∙ numbered,
-          )
-
-      updated : (q : Program) → clause.target ≡ target → clause.update ≡ Some q → (r : Row) → Has (db tree) r → hit new r ≡ true → Met → Updated q
-      updated q aims by r has meets met = go met.0 (subst (λ target. AreConflicts target club_schema.indexes table (db tree) new met.0) aims met.1) met.2
-        where
-          go : (found : List Row) → AreConflicts target club_schema.indexes table (db tree) new found
-              → Meets task (Upserts task Abort new db []) new db clause found (Ok one) → Updated q
-          go [] are h = absurd (are.complete r has meets)
-          go (x ∷ found) are h =
-              let it = are.sound x (inl refl) in
-              let some : Resolves task new db x (Some q) (Ok one) = subst (λ u. Resolves task new db x u (Ok one)) by h in
-              let done = resolved q x some in
-              (x, it.0, it.1, it.2, ap rowid it.3, done.0, done.1, done.2, done.3)
-
-    -- ---- a statement of this form
-
     module _ (at : ℕ) (listed : slice_get club_schema.tables at ≡ Some table) (text : List ℕ) (terms sets : List Term) (width there_at : ℕ) (clause : Upsert)
         (puts : PutsRow at text terms sets width there_at clause)
         (old new : State) (has : old.now.schema ≡ club_schema) (params source : Row) (gives : value_rows params width (length terms / width) terms
@@ -196,116 +92,166 @@ module _ (name : List ℕ) (columns : List Column) (keys : List (List ℕ)) (che
       abbrev pub env : Row → Row
       env there = params ++ rowid there ∷ shown table new_row
 
+      abbrev task : Task
+      task = task_of club_schema table old params
+
+      abbrev hit : Row → Bool
+      hit row = conflicts target club_schema.indexes table new_row row
+
+      abbrev Meeting : List Row → Written → Type 0
+      Meeting found one = Meets task (Upserts task Abort new_row db []) new_row db clause found (Ok one)
+
       -- what the statement met, and what it left
       record Ran (count : ℕ) : Type 0 where
         one : Written
-        counted : count ≡ length one.rows
-        schema : new.now.schema ≡ club_schema
-        trees : new.now.trees ≡ one.trees
-        sound : IsDatabase new.now
-        meets : Met old.step_limit params new_row db one clause
+        leaves : Leaves club_schema new count one
+        found : List Row
+        conflict : AreConflicts target club_schema.indexes table (db tree) new_row found
+        meets : Meeting found one
+
+      met : (one : Written) → Tries task Abort (clause ∷ []) new_row db (Ok one)
+          → (found : List Row) × AreConflicts clause.target club_schema.indexes table (db tree) new_row found × Meeting found one
+      met one (inl refused) = absurd (let e = refused.1 in cc)
+      met one (inr (None, judged, tried)) = tried
+      met one (inr (Some why, judged, tried)) = absurd cc
 
       ran : (count : ℕ) → Executes text params old new (Ok count) → Ran count
       ran count h =
-          let command = InsertOr at Abort (Values terms width) (clause ∷ []) in
-          let w = runs_as text params old new club_schema has command puts.is puts.plain count h in
-          let statement = statement_of text (understood club_schema text) in
-          let does = subst (λ s. Does old.step_limit (mode_of old) params (record old.now { schema = s }) statement None command (Ok (w.tally, new.now))) has
-          w.changed in
-          let done = went (rw listed at does) in
-          let noted = same_value (went (went done.2).2).2 in
-          let now = ap (λ (p : Tally × Database). p.1) noted in
-          let given = went done.1 in
+          let means : Means club_schema text (InsertOr at Abort (Values terms width) (clause ∷ [])) = record { is = puts.is; plain = puts.plain } in
+          let w = wrote_rows means at listed old new params count (λ w. w) (λ out does. does) has h in
+          let given = went w.2 in
           let counter = went given.2 in
           let tried = went counter.2 in
           let written_count = went tried.2 in
           let sourced : given.0 ≡ (Null ∷ source) ∷ [] = given.1.1 ∙ ap (λ p. value_rows p width (length terms / width) terms) (append-nil params) ∙ gives in
-          let first = went (subst (λ rows. TriesEach (task_of old.step_limit params) Abort (clause ∷ []) rows (count_of counter.0) (nothing db) (Ok tried.0))
-          sourced tried.1) in
-          let alone : Tries (task_of old.step_limit params) Abort (clause ∷ []) new_row db (Ok first.0) =
-          subst (λ row. Tries (task_of old.step_limit params) Abort (clause ∷ []) (with_rowid Chosen (db tree) row) db (Ok first.0)) casts_source first.1 in
-          let last : tried.0.0.trees ≡ first.0.trees = ap (λ (p : Written × ℤ). p.0.trees) (same_value first.2) in
-          let trees : done.0.trees ≡ first.0.trees = ap (λ (it : Written). it.trees) (same_value written_count.2) ∙ same_value written_count.1 ∙ last in
-          let rows : done.0.rows ≡ first.0.rows = ap (λ (it : Written). it.rows) (same_value written_count.2)
-          ∙ ap (λ (p : Written × ℤ). p.0.rows) (same_value first.2) in
+          let first = went (subst (λ rows. TriesEach task Abort (clause ∷ []) rows (count_of counter.0) (nothing db) (Ok tried.0)) sourced tried.1) in
+          let alone : Tries task Abort (clause ∷ []) new_row db (Ok first.0) =
+          subst (λ row. Tries task Abort (clause ∷ []) (with_rowid Chosen (db tree) row) db (Ok first.0)) casts_source first.1 in
+          let last = same_value first.2 in
+          let is = same_value written_count.2 in
+          let it = met first.0 alone in
           record {
             one = first.0;
-            counted = w.counted ∙ ap (λ (p : Tally × Database). unwrap_or p.0.rows 0) noted ∙ ap length rows;
-            schema = ap (λ (d : Database). d.schema) now;
-            trees = ap (λ (d : Database). d.trees) now ∙ trees;
-            sound = w.sound;
-            meets = met old.step_limit params new_row db first.0 clause alone;
+            leaves = record {
+              schema_is = w.1.schema_is;
+              trees_are = w.1.trees_are ∙ ap (λ (w : Written). w.trees) is ∙ same_value written_count.1 ∙ ap (λ (p : Written × ℤ). p.0.trees) last;
+              counted = w.1.counted ∙ ap (λ (w : Written). length w.rows) is ∙ ap (λ (p : Written × ℤ). length p.0.rows) last;
+              sound = w.1.sound;
+            };
+            found = it.0;
+            conflict = subst (λ target. AreConflicts target club_schema.indexes table (db tree) new_row it.0) puts.aims it.1;
+            meets = it.2;
           }
 
-      others_left : (count : ℕ) (it : Ran count) (left : List Row) → Leaves db it.one.trees left → Leaves db new.now.trees left
-      others_left count it left h = subst (λ trees. Leaves db trees left) (sym it.trees) h
+      -- a row that meets none is put beside the others
+      put_new : filter hit (db tree) ≡ [] → (count : ℕ) → Ran count
+          → Wrote club_schema old.now new.now tree × (new.now.trees tree ≡ put_row new_row (db tree)) × (1 ≤ count)
+      put_new none count it = go it.found it.conflict it.meets
+        where
+          cleared : (found : List Row) → Clears task Abort new_row db found (Ok it.one) → Puts task new_row db (Ok it.one)
+          cleared [] h = h
+          cleared (x ∷ found) h = h
+
+          go : (found : List Row) → AreConflicts target club_schema.indexes table (db tree) new_row found → Meeting found it.one
+              → Wrote club_schema old.now new.now tree × (new.now.trees tree ≡ put_row new_row (db tree)) × (1 ≤ count)
+          go [] are h =
+              let put = went (cleared h.0 h.2) in
+              let edit : Row → Edit = λ row. record { table = table; gone = []; news = row ∷ [] } in
+              let wrote = subst (λ row. ActionWrites club_schema Enforced db (edit row) (Ok put.0)) (casts_new (next_rowid (db tree))) put.1 in
+              let is = same_value put.2 in
+              let done = edited_alone old it.leaves (edit new_row) put.0 (no_works tree [] (new_row ∷ [])) wrote (ap (λ (w : Written). w.trees) is) in
+              (done.0, done.1, omega (arith, it.leaves.counted, ap (λ (w : Written). length w.rows) is))
+          go (x ∷ found) are h =
+              let there = are.sound x (inl refl) in
+              absurd (rw none at (has_kept hit (db tree) there.0 there.1 there.2))
+
+      -- the row that it meets gets the values of the clause
+      put_old : (row : Row) → filter hit (db tree) ≡ row ∷ [] → (count : ℕ) → Ran count
+          → (there : Row) × (rowid there ≡ rowid row) × Updates old new table (select (inner tree end) (is_there there_at ∷ []) sets) (env there) count
+      put_old row lone count it = go it.found it.conflict it.meets
+        where
+          go : (found : List Row) → AreConflicts target club_schema.indexes table (db tree) new_row found → Meeting found it.one
+              → (there : Row) × (rowid there ≡ rowid row) × Updates old new table (select (inner tree end) (is_there there_at ∷ []) sets) (env there) count
+          go [] are h =
+              let has = has_filtered hit (db tree) row (rw lone (inl refl)) in
+              absurd (are.complete row has.0 has.1)
+          go (x ∷ found) are h =
+              let there = are.sound x (inl refl) in
+              let same : there.0 ≡ row = elim (rw lone at (has_kept hit (db tree) there.0 there.1 there.2)) [ inl is ↦ is | inr other ↦ absurd other ] in
+              let some = subst (λ u. Resolves task new_row db x u (Ok it.one)) puts.by h in
+              (x, ap rowid there.3 ∙ ap rowid same, updated old params table it.leaves some)
 
       module _ {X : Type 0} (values : X → Row) (p : X → Bool) (change : X → X) (kept : (x : X) → p x ≡ false
-          → change x ≡ x) (first : X) (hit_is : (id : ℤ) (x : X) → hit new_row (Int id ∷ values x) ≡ p x)
+          → change x ≡ x) (first : X) (hit_is : (id : ℤ) (x : X) → hit (Int id ∷ values x) ≡ p x)
           (casts : (id : ℤ) (x : X) → cast_row table (Int id ∷ values x) ≡ Int id ∷ values x) (xs : List X) (held : Holds values (db tree) xs)
           (lone : Apart (IsLone values p) xs) where
         -- what the clause yields for each element that passes
         abbrev pub Yields : X → Type 0
         Yields x = (id : ℤ) (there : Row) → p x ≡ true → eval_all sets (env there ∷ (Int id ∷ values x) ∷ []) ≡ Int id ∷ Int id ∷ values (change x)
 
-        -- a row is put after the others
-        put_new : source ≡ values first → list_any p xs ≡ false → (count : ℕ) (it : Ran count) → (left : List Row) × Leaves db new.now.trees left
-            × Holds values left (xs ++ first ∷ []) × (1 ≤ count)
-        put_new same none count it =
-            let left = made old.step_limit params new_row db it.one clause (casts_new (next_rowid (db tree))) puts.aims
-            (meets_none values p (hit new_row) hit_is (db tree) xs held.same none) it.meets in
-            let as_row : new_row ≡ Int (next_rowid (db tree)) ∷ values first = ap (λ vs. Int (next_rowid (db tree)) ∷ vs) same in (
-              _,
-              others_left count it _ left.0,
-              subst (λ row. Holds values (put_row row (db tree)) (xs ++ first ∷ [])) (sym as_row)
-                  (holds_more values (db tree) xs first held),
-              omega (arith, it.counted, left.1),
-            )
+        abbrev IsPut : ℕ → List X → Type 0
+        IsPut count left = Wrote club_schema old.now new.now tree × Holds values (new.now.trees tree) left × (1 ≤ count)
 
-        tests : (before : List Row) (ys : List X) → AreRows values p before ys → (there : Row) (id : ℤ) → column (env there) there_at ≡ Int id
-            → AllZip (λ row y. has_id id row ≡ p y) before ys
-            → AllZip (λ row y. list_all (holds (env there ∷ row ∷ [])) (is_there there_at ∷ []) ≡ p y) before ys
-        tests [] [] same there id of found = tt
-        tests [] (y ∷ ys) same there id of found = absurd same
-        tests (r ∷ before) [] same there id of found = absurd same
-        tests (r ∷ before) (y ∷ ys) same there id of found =
-            let one : list_all (holds (env there ∷ r ∷ [])) (is_there there_at ∷ []) ≡ has_id id r = rw (same.0.1, of) (and-true _ ∙ id_equal same.0.0 id) in
-            (one ∙ found.0, tests before ys same.1 there id of found.1)
-
-        -- the row that is met is changed
-        put_old : ((there : Row) → column (env there) there_at ≡ rowid there) → AllByRecursion Yields xs → list_any p xs ≡ true → (count : ℕ)
-            (it : Ran count) → (left : List Row) × Leaves db new.now.trees left × Holds values left (map change xs) × (1 ≤ count)
-        put_old ids yields any count it =
-            let q : Program = record { lets = []; body = select (inner tree end) (is_there there_at ∷ []) sets } in
-            let one = meets_one values p (hit new_row) hit_is (db tree) xs held.same any in
-            let up = updated old.step_limit params new_row db it.one clause q puts.aims puts.by one.0 one.1 one.2 it.meets in
+        -- the row of the element that passes is changed
+        change_old : ((there : Row) → column (env there) there_at ≡ rowid there) → (count : ℕ) → Ran count → (ps : List (ℤ × X))
+            → db tree ≡ map (row_of values) ps → AllByRecursion (λ q. Yields q.1) ps → (one : ℤ × X) → filter (λ q. p q.1) ps ≡ one ∷ []
+            → filter hit (db tree) ≡ row_of values one ∷ [] → IsPut count (map change (map (λ q. q.1) ps))
+        change_old ids count it ps is yields one alone hits =
+            let up = put_old (row_of values one) hits count it in
             let there = up.0 in
-            let place = met_at values p (hit new_row) hit_is (db tree) xs held.same up.1 up.2 up.3 in
-            let id_is : rowid there ≡ Int place.0 = up.4 ∙ place.1 in
-            let found = hits values p place.0 (db tree) xs held.rising held.same lone place.2 in
-            let low = one_passes (IsLone values p) p xs (λ x y a b apart. apart (a, b)) lone in
-            let tested = tests (db tree) xs held.same there place.0 (ids there ∙ id_is) found in
-            let after = replaced_where values p change kept (env there) (is_there there_at ∷ []) sets table
-            (record { schema = club_schema; trees = db }) xs up.5
-            Yields yields (λ id x yields_it passes. yields_it id there passes) casts tested held low up.6 in
-            let some = rows_found (test (env there) (is_there there_at ∷ []) sets) (shows (env there) (is_there there_at ∷ []) sets) p (db tree) up.5 xs tested
-            (answered (env there) (is_there there_at ∷ []) sets tree (record { schema = club_schema; trees = db }) up.5 up.6) (any_counts p xs any) in
-            (_, others_left count it _ up.7, after, omega (arith, it.counted, up.8, some))
+            let of : column (env there) there_at ≡ Int one.0 = ids there ∙ up.1 in
+            let has = has_filtered (λ (q : ℤ × X). p q.1) ps one (rw alone (inl refl)) in
+            let tests = is_there there_at ∷ [] in
+            let found : filter (test (env there) tests sets) (db tree) ≡ row_of values one ∷ [] =
+            ap (filter (test (env there) tests sets)) is ∙ filter-map _ (row_of values) ps
+            ∙ ap (map (row_of values)) (filter_agree _ (λ q. has_rowid one.0 (row_of values q)) (λ q. rw of (and-true _ ∙ id_equal q.0 one.0)) ps)
+            ∙ sym (ap (filter (has_rowid one.0)) is ∙ filter-map (has_rowid one.0) (row_of values) ps)
+            ∙ one_at one.0 (db tree) (row_of values one) held.rising (has_filtered hit (db tree) (row_of values one) (rw hits (inl refl))).0
+            (ap is_eq (tied_itself value_cmp_total (Int one.0))) in
+            let answer = subst (λ rs. IsPermutation (map (shows (env there) tests sets) rs) up.2.rows) found
+            (answered (env there) tests sets tree (record { schema = club_schema; trees = db }) up.2.rows up.2.answers) in
+            let row : up.2.rows ≡ (Int one.0 ∷ Int one.0 ∷ values (change one.1)) ∷ [] =
+            one_permutation _ up.2.rows answer ∙ ap (λ r. r ∷ []) (all_has (λ q. Yields q.1) ps one yields has.0 one.0 there has.1) in (
+              up.2.wrote,
+              subst (λ rs. Holds values rs (map change (map (λ q. q.1) ps))) (sym up.2.left)
+                  (replaced values p change kept table (record { schema = club_schema; trees = db }) up.2.rows ps is (subst IsTable is held.rising) one
+                  alone row (casts one.0 (change one.1))),
+              omega (arith, up.2.counted, ap length row),
+            )
 
         -- the row is put, if there was one and if there was none
         pub row_put : (list_any p xs ≡ false → source ≡ values first) → ((there : Row) → column (env there) there_at ≡ rowid there) → AllByRecursion Yields xs
             → (count : ℕ) → Executes text params old new (Ok count)
             → Wrote club_schema old.now new.now tree × Holds values (new.now.trees tree) (put_among values p change first xs) × (1 ≤ count)
-        row_put same ids yields count executed = let it = ran count executed in go it (list_any p xs) refl
+        row_put same ids yields count executed =
+            go (filter (λ q. p q.1) pairs) refl (ap (filter hit) is ∙ filter-map hit (row_of values) pairs
+            ∙ ap (map (row_of values)) (filter_agree _ _ (λ q. hit_is q.0 q.1) pairs))
+            (subst (λ n. n ≤ 1) few (one_passes (IsLone values p) p xs (λ x y a b apart. apart (a, b)) lone))
+            (any_filtered_is p xs ∙ ap (λ n. not (n == 0)) few)
           where
-            wrote : (it : Ran count) (left : List Row) → Leaves db new.now.trees left → Wrote club_schema old.now new.now tree
-            wrote it left leaves = record { schema = it.schema; others = leaves.1; sound = it.sound }
+            it : Ran count
+            it = ran count executed
 
-            go : (it : Ran count) (b : Bool) → list_any p xs ≡ b → Wrote club_schema old.now new.now tree
-                × Holds values (new.now.trees tree) (if b then map change xs else xs ++ first ∷ []) × (1 ≤ count)
-            go it true any =
-                let put = put_old ids yields any count it in
-                (wrote it put.0 put.1, subst (λ rows. Holds values rows (map change xs)) (sym put.1.0) put.2, put.3)
-            go it false none =
-                let put = put_new (same none) none count it in
-                (wrote it put.0 put.1, subst (λ rows. Holds values rows (xs ++ first ∷ [])) (sym put.1.0) put.2, put.3)
+            pairs : List (ℤ × X)
+            pairs = (paired values (db tree) xs held.same).pairs
+
+            is : db tree ≡ map (row_of values) pairs
+            is = (paired values (db tree) xs held.same).rows_are
+
+            elements : xs ≡ map (λ q. q.1) pairs
+            elements = (paired values (db tree) xs held.same).xs_are
+
+            few : length (filter p xs) ≡ length (filter (λ q. p q.1) pairs)
+            few = ap length (ap (filter p) elements ∙ filter-map p (λ (q : ℤ × X). q.1) pairs) ∙ length-map (filter (λ q. p q.1) pairs) (λ q. q.1)
+
+            go : (ones : List (ℤ × X)) → filter (λ q. p q.1) pairs ≡ ones → filter hit (db tree) ≡ map (row_of values) ones → length ones ≤ 1
+                → list_any p xs ≡ not (length ones == 0) → IsPut count (put_among values p change first xs)
+            go [] alone hits low any =
+                let put = put_new hits count it in
+                let grown = subst (λ vs. Holds values (put_row (Int (next_rowid (db tree)) ∷ vs) (db tree)) (xs ++ first ∷ [])) (sym (same any))
+                (holds_more values (db tree) xs first held) in
+                rw any (put.0, subst (λ rs. Holds values rs (xs ++ first ∷ [])) (sym put.1) grown, put.2)
+            go (one ∷ []) alone hits low any =
+                rw any (subst (λ ys. IsPut count (map change ys)) (sym elements) (change_old ids count it pairs is
+                (all_from_map Yields (λ (q : ℤ × X). q.1) pairs (subst (AllByRecursion Yields) elements yields)) one alone hits))
+            go (one ∷ other ∷ ones) alone hits low any = absurd (omega arith)

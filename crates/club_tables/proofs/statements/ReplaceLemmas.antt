@@ -1,222 +1,132 @@
 -- A list whose table had one row replaced.
-use Rattle.std.proofs.Common.{◌≡◌, ◌⊎◌, inl, inr, ◌≤◌, ℤ, Bool, true, false, not, cond, List, [], ◌∷◌, length, map, refl, sym, ap, subst, ◌∙◌, arith, Less}
-use Rattle.std.proofs.Common.{Greater}
+use Rattle.std.proofs.Common.{◌≡◌, ◌≤◌, ℤ, Bool, true, false, not, cond, List, [], ◌∷◌, length, map, refl, sym, ap, subst, subst₂, ◌∙◌, arith}
+use Rattle.std.proofs.Common.{inl, Less, Greater}
+use Rattle.std.proofs.Math.Path.{ap₂}
 use Rattle.std.specs.Prelude.{filter, IsPermutation}
-use Rattle.std.specs.List.{AllByRecursion, AllZip, list_any}
-use Rattle.std.specs.Ordering.{is_eq, match_ordering, ordering_reverse}
+use Rattle.std.specs.List.{AllByRecursion, AllZip}
+use Rattle.std.specs.Ordering.{is_eq, ordering_reverse}
 use Rattle.std.proofs.lemmas.Cmp.{tied_itself}
-use Rattle.std.proofs.lemmas.Bool.{or_from}
+use Rattle.std.proofs.lemmas.List.{length-map}
 use Rattle.sqlite_value.specs.declared.value.Value.{Value}
 use Rattle.sqlite_value.specs.declared.value.Value.TheVariants.{Int}
 use Rattle.sqlite.specs.Order.{Row, value_cmp}
 use Rattle.sqlite_value.proofs.OrderLemmas.{value_cmp_total}
 use Rattle.sqlite.specs.Tree.{rowid, has_rowid, put_row, without_rowid, IsTable}
-use Rattle.sqlite_trees.proofs.TreeLemmas.{IsTable-put_row}
-use Rattle.sqlite.specs.Term.{Term, eval_all}
-use Rattle.sqlite.specs.Query.{inner, end}
+use Rattle.sqlite_trees.proofs.ListLemmas.{filter-map, filter_all, filter_same, all_weaker, all_both, all_from_map, ascending-map, ascending_from_map}
+use Rattle.sqlite_rules.proofs.ListLemmas.{all_has, has_filtered}
 use Rattle.sqlite.specs.Table.{Table}
 use Rattle.sqlite.specs.Cast.{cast_row}
 use Rattle.sqlite.specs.Rowids.TheVariants.{Given}
 use Rattle.sqlite.specs.Edit.{edit_of, edited}
 use Rattle.sqlite_rules.specs.Calls.{ids_of}
-use Rattle.sqlite_rules.proofs.TableLemmas.{none_to_drop}
-use Rattle.sqlite.specs.Effect.{Database, Answers}
-use Rattle.club_tables.specs.Statements.{select}
+use Rattle.sqlite.specs.Effect.{Database}
+use Rattle.sqlite.proofs.Callers.{one_permutation}
 use Rattle.club_tables.specs.Tables.{IsRowOf, Holds}
-use Rattle.club_tables.proofs.statements.SelectLemmas.{test, shows, answered, short_permutation}
+use Rattle.club_tables.proofs.statements.SelectLemmas.{row_of, paired, short_permutation}
 
--- ---- order
+abbrev pub Below : Row → Row → Type 0
+Below r s = value_cmp (rowid r) (rowid s) ≡ Less
 
-abbrev Above : Row → Row → Type 0
-Above r s = value_cmp (rowid r) (rowid s) ≡ Less
-
-all_filter : {A : Type 0} (P : A → Type 0) (q : A → Bool) (xs : List A) → AllByRecursion P xs → AllByRecursion P (filter q xs)
-all_filter P q [] h = tt
-all_filter P q (x ∷ xs) h = elim (q x) as (λ b. AllByRecursion P (cond b (x ∷ filter q xs) (filter q xs))) [
-  | true ↦ (h.0, all_filter P q xs h.1)
-  | false ↦
-      all_filter P q xs h.1
-]
-
-IsTable-filter : (q : Row → Bool) (rows : List Row) → IsTable rows → IsTable (filter q rows)
-IsTable-filter q [] h = tt
-IsTable-filter q (r ∷ rows) h = elim (q r) as (λ b. IsTable (cond b (r ∷ filter q rows) (filter q rows))) [
-  | true ↦
-      (all_filter (Above r) q rows h.0, IsTable-filter q rows h.1)
-  | false ↦ IsTable-filter q rows h.1
-]
-
-pub flipped : (v w : Value) → value_cmp v w ≡ Less → value_cmp w v ≡ Greater
+flipped : (v w : Value) → value_cmp v w ≡ Less → value_cmp w v ≡ Greater
 flipped v w h = value_cmp_total.antisymm w v ∙ ap ordering_reverse h
 
--- rows above a rowid don't have it, and a row with it comes before them
-none_above : (id : ℤ) (rows : List Row) → AllByRecursion (λ s. value_cmp (Int id) (rowid s) ≡ Less) rows → list_any (has_rowid id) rows ≡ false
-none_above id [] h = refl
-none_above id (s ∷ rows) h = or_from (has_rowid id s) (list_any (has_rowid id) rows) (ap is_eq (flipped (Int id) (rowid s) h.0)) (none_above id rows h.1)
-
-put_first : (new : Row) (id : ℤ) (rows : List Row) → rowid new ≡ Int id → AllByRecursion (λ s. value_cmp (Int id) (rowid s) ≡ Less) rows
-    → put_row new rows ≡ new ∷ rows
-put_first new id [] keyed h = refl
-put_first new id (s ∷ rows) keyed h = rw (keyed, flipped (Int id) (rowid s) h.0)
+put_first : (new : Row) (rows : List Row) → AllByRecursion (Below new) rows → put_row new rows ≡ new ∷ rows
+put_first new [] h = refl
+put_first new (s ∷ rows) h = rw (flipped (rowid new) (rowid s) h.0)
 
 module _ {X : Type 0} (values : X → Row) (p : X → Bool) (change : X → X) (kept : (x : X) → p x ≡ false → change x ≡ x) where
-  -- the row of one element that changes, while no other does
-  abbrev pub IsOne : List Row → List X → ℤ → X → Type 0
-  IsOne [] xs id one = ⊥
-  IsOne (r ∷ rows) [] id one = ⊥
-  IsOne (r ∷ rows) (x ∷ xs) id one = ((r ≡ Int id ∷ values one) × (x ≡ one) × (map change xs ≡ xs)) ⊎ ((change x ≡ x) × IsOne rows xs id one)
+  abbrev pub passes : ℤ × X → Bool
+  passes q = p q.1
 
-  none_change : (xs : List X) → filter p xs ≡ [] → map change xs ≡ xs
+  -- the row of the changed element
+  abbrev pub next : ℤ × X → Row
+  next q = Int q.0 ∷ values (change q.1)
+
+  none_change : (ps : List (ℤ × X)) → filter passes ps ≡ [] → map (row_of values) ps ≡ map next ps
   none_change [] h = refl
-  none_change (x ∷ xs) h = go (p x) refl h (none_change xs)
+  none_change (q ∷ ps) h = go (p q.1) refl h (none_change ps)
     where
-      go : (b : Bool) → p x ≡ b → cond b (x ∷ filter p xs) (filter p xs) ≡ [] → (filter p xs ≡ [] → map change xs ≡ xs) → change x ∷ map change xs ≡ x ∷ xs
+      go : (b : Bool) → p q.1 ≡ b → cond b (q ∷ filter passes ps) (filter passes ps) ≡ [] → (filter passes ps ≡ [] → map (row_of values) ps ≡ map next ps)
+          → map (row_of values) (q ∷ ps) ≡ map next (q ∷ ps)
       go true is some more = absurd cc
-      go false is none more = let first = kept x is in let later = more none in cc
+      go false is none more = ap₂ ◌∷◌ (ap (λ x. Int q.0 ∷ values x) (sym (kept q.1 is))) (more none)
 
-  one_above : (v : Value) (rows : List Row) (xs : List X) (id : ℤ) (one : X) → AllByRecursion (λ s. value_cmp v (rowid s) ≡ Less) rows → IsOne rows xs id one
-      → value_cmp v (Int id) ≡ Less
-  one_above v [] xs id one h is = absurd is
-  one_above v (r ∷ rows) [] id one h is = absurd is
-  one_above v (r ∷ rows) (x ∷ xs) id one h (inl here) = subst (λ (s : Row). value_cmp v (rowid s) ≡ Less) here.0 h.0
-  one_above v (r ∷ rows) (x ∷ xs) id one h (inr there) = one_above v rows xs id one h.1 there.1
+  -- the row of the one element that changes is put again
+  put_again : (ps : List (ℤ × X)) (one : ℤ × X) → IsTable (map (row_of values) ps) → filter passes ps ≡ one ∷ []
+      → put_row (next one) (without_rowid one.0 (map (row_of values) ps)) ≡ map next ps
+  put_again [] one table is = absurd cc
+  put_again (q ∷ ps) one table is = go (p q.1) refl is (put_again ps one table.1)
+    where
+      rows : List Row
+      rows = map (row_of values) ps
 
-  swapped : (rows : List Row) (xs : List X) (id : ℤ) (one : X) → IsTable rows → AllZip (λ row x. IsRowOf (values x) row) rows xs → IsOne rows xs id one
-      → AllZip (λ row x. IsRowOf (values x) row) (put_row (Int id ∷ values (change one)) (without_rowid id rows)) (map change xs)
-  swapped [] xs id one table same is = absurd is
-  swapped (r ∷ rows) [] id one table same is = absurd is
-  swapped (r ∷ rows) (x ∷ xs) id one table same (inl here) =
-      let R = λ (row : Row) (x : X). IsRowOf (values x) row in
-      let new = Int id ∷ values (change one) in
-      let later : AllByRecursion (λ s. value_cmp (Int id) (rowid s) ≡ Less) rows =
-      subst (λ (t : Row). AllByRecursion (λ s. value_cmp (rowid t) (rowid s) ≡ Less) rows) here.0 table.0 in
-      let taken : has_rowid id r ≡ true = ap (λ t. has_rowid id t) here.0 ∙ ap is_eq (tied_itself value_cmp_total (Int id)) in
-      let left : without_rowid id (r ∷ rows) ≡ rows = ap (λ b. cond (not b) (r ∷ without_rowid id rows) (without_rowid id rows)) taken
-      ∙ none_to_drop id rows (none_above id rows later) in
-      let put : put_row new (without_rowid id (r ∷ rows)) ≡ new ∷ rows = ap (put_row new) left ∙ put_first new id rows refl later in
-      subst (λ ys. AllZip R ys (change x ∷ map change xs)) (sym put)
-      ((id, ap (λ y. Int id ∷ values (change y)) (sym here.1)), subst (AllZip R rows) (sym here.2) same.1)
-  swapped (r ∷ rows) (x ∷ xs) id one table same (inr there) =
-      let R = λ (row : Row) (x : X). IsRowOf (values x) row in
-      let new = Int id ∷ values (change one) in
-      let below : value_cmp (rowid r) (Int id) ≡ Less = one_above (rowid r) rows xs id one table.0 there.1 in
-      let stays : has_rowid id r ≡ false = ap is_eq below in
-      let rest = without_rowid id rows in
-      let left : without_rowid id (r ∷ rows) ≡ r ∷ rest = ap (λ b. cond (not b) (r ∷ rest) rest) stays in
-      let put : put_row new (without_rowid id (r ∷ rows)) ≡ r ∷ put_row new rest = ap (put_row new) left
-      ∙ ap (λ o. match_ordering o (r ∷ put_row new rest) (new ∷ rest) (new ∷ r ∷ rest)) below in
-      subst (λ ys. AllZip R ys (change x ∷ map change xs)) (sym put)
-      (subst (λ y. R r y) (sym there.0) same.0, swapped rows xs id one table.1 same.1 there.1)
+      go : (b : Bool) → p q.1 ≡ b → cond b (q ∷ filter passes ps) (filter passes ps) ≡ one ∷ []
+          → (filter passes ps ≡ one ∷ [] → put_row (next one) (without_rowid one.0 rows) ≡ map next ps)
+          → put_row (next one) (without_rowid one.0 (row_of values q ∷ rows)) ≡ next q ∷ map next ps
+      go true passes is more =
+          let same : q ≡ one = cc in
+          let later = subst (λ (o : ℤ × X). AllByRecursion (Below (row_of values o)) rows) same table.0 in
+          let left = filter_all (λ r. not (has_rowid one.0 r)) rows (all_weaker (Below (row_of values one)) _ (λ s below.
+          ap (λ o. not (is_eq o)) (flipped (Int one.0) (rowid s) below)) rows later) in
+          let taken : has_rowid one.0 (row_of values q) ≡ true =
+          ap (λ (o : ℤ × X). is_eq (value_cmp (Int o.0) (Int one.0))) same ∙ ap is_eq (tied_itself value_cmp_total (Int one.0)) in
+          rw (taken, left) (put_first (next one) rows later ∙ ap₂ ◌∷◌ (ap next (sym same)) (none_change ps cc))
+      go false fails is more =
+          let has = (has_filtered (λ (o : ℤ × X). p o.1) ps one (rw is (inl refl))).0 in
+          let below : value_cmp (Int q.0) (Int one.0) ≡ Less = all_has _ ps one (all_from_map (Below (row_of values q)) (row_of values) ps table.0) has in
+          rw (below, below) (ap₂ ◌∷◌ (ap (λ x. Int q.0 ∷ values x) (sym (kept q.1 fails))) (more is))
 
-  module _ (hit : Row → Bool) (shown : Row → Row) where
-    -- the row is the element's, and passes if it does
-    abbrev pub IsHit : Row → X → Type 0
-    IsHit row x = IsRowOf (values x) row × (hit row ≡ p x)
+  rows_next : (ps : List (ℤ × X)) → AllZip (λ row x. IsRowOf (values x) row) (map next ps) (map change (map (λ q. q.1) ps))
+  rows_next [] = tt
+  rows_next (q ∷ ps) = ((q.0, refl), rows_next ps)
 
-    none_left : (rows : List Row) (xs : List X) → AllZip IsHit rows xs → filter p xs ≡ [] → filter (hit) rows ≡ []
-    none_left [] xs h none = refl
-    none_left (r ∷ rows) [] h none = absurd h
-    none_left (r ∷ rows) (x ∷ xs) h none = go (p x) refl none (none_left rows xs h.1)
-      where
-        go : (b : Bool) → p x ≡ b → cond b (x ∷ filter p xs) (filter p xs) ≡ [] → (filter p xs ≡ [] → filter (hit) rows ≡ [])
-            → filter (hit) (r ∷ rows) ≡ []
-        go true is some more = absurd cc
-        go false is none more =
-            let fails : hit r ≡ false = h.0.1 ∙ is in
-            ap (λ b. cond b (r ∷ filter (hit) rows) (filter (hit) rows)) fails ∙ more none
+  holds_next : (ps : List (ℤ × X)) → IsTable (map (row_of values) ps) → Holds values (map next ps) (map change (map (λ q. q.1) ps))
+  holds_next ps table = record { rising = ascending-map Below next ps (ascending_from_map Below (row_of values) ps table); same = rows_next ps }
 
-    nothing_passes : (xs : List X) → length (filter p xs) ≤ 0 → filter p xs ≡ []
-    nothing_passes xs low = elim (filter p xs) as (λ ys. length ys ≤ 0 → ys ≡ []) [ [] ↦ λ _. refl | y ∷ ys ↦ λ l. absurd (omega arith) ] low
+  module _ (table : Table) (db : Database) (rows : List Row) (ps : List (ℤ × X)) (is : db.trees table.tree ≡ map (row_of values) ps)
+      (rising : IsTable (map (row_of values) ps)) where
+    abbrev Left : Type 0
+    Left = Holds values (edited db.trees (edit_of db.trees table (ids_of rows) Given 1 rows)) (map change (map (λ q. q.1) ps))
 
-    abbrev Found : List Row → List X → Type 0
-    Found rows xs = ((filter (hit) rows ≡ []) × (map change xs ≡ xs))
-        ⊎ ((id : ℤ) × (one : X) × (p one ≡ true) × (filter (hit) rows ≡ (Int id ∷ values one) ∷ []) × IsOne rows xs id one)
+    -- a statement whose terms compute `change` leaves the changed list
+    pub replaced : (one : ℤ × X) → filter passes ps ≡ one ∷ [] → rows ≡ (Int one.0 ∷ next one) ∷ [] → cast_row table (next one) ≡ next one → Left
+    replaced one lone row casts = rw (row, casts, is, put_again ps one rising lone) (holds_next ps rising)
 
-    find_one : (rows : List Row) (xs : List X) → AllZip IsHit rows xs → length (filter p xs) ≤ 1 → Found rows xs
-    find_one [] [] h low = inl (refl, refl)
-    find_one [] (x ∷ xs) h low = absurd h
-    find_one (r ∷ rows) [] h low = absurd h
-    find_one (r ∷ rows) (x ∷ xs) h low = go (p x) refl low (find_one rows xs h.1)
-      where
-        passes : hit r ≡ p x
-        passes = h.0.1
-
-        go : (b : Bool) → p x ≡ b → length (cond b (x ∷ filter p xs) (filter p xs)) ≤ 1 → (length (filter p xs) ≤ 1 → Found rows xs) → Found (r ∷ rows) (x ∷ xs)
-        go true is low more =
-            let none : filter p xs ≡ [] = nothing_passes xs (omega arith) in
-            let no_rows : filter (hit) rows ≡ [] = none_left rows xs h.1 none in
-            let row : r ≡ Int h.0.0.0 ∷ values x = h.0.0.1 in
-            inr (
-              h.0.0.0,
-              x,
-              is,
-              ap (λ b. cond b (r ∷ filter (hit) rows) (filter (hit) rows)) (passes ∙ is)
-                  ∙ cc (no_rows, row),
-              inl (row, refl, none_change xs none),
-            )
-        go false is low more =
-            let skip = ap (λ b. cond b (r ∷ filter (hit) rows) (filter (hit) rows)) (passes ∙ is) in
-            let stays : change x ≡ x = kept x is in
-            elim (more low) [
-              | inl none ↦ let same : map change xs ≡ xs = none.1 in inl (skip ∙ none.0, cc)
-              | inr some ↦ inr (some.0, some.1, some.2, skip ∙ some.3, inr (stays, some.4))
-            ]
-
-    -- what holds of each element holds of the one that changes
-    one_has : (Q : X → Type 0) (rows : List Row) (xs : List X) (id : ℤ) (one : X) → AllByRecursion Q xs → IsOne rows xs id one → Q one
-    one_has Q [] xs id one all is = absurd is
-    one_has Q (r ∷ rows) [] id one all is = absurd is
-    one_has Q (r ∷ rows) (x ∷ xs) id one all (inl here) = subst Q here.1 all.0
-    one_has Q (r ∷ rows) (x ∷ xs) id one all (inr there) = one_has Q rows xs id one all.1 there.1
-
-    both : (rows : List Row) (xs : List X) → AllZip (λ row x. IsRowOf (values x) row) rows xs → AllZip (λ row x. hit row ≡ p x) rows xs
-        → AllZip IsHit rows xs
-    both [] [] same hits = tt
-    both [] (x ∷ xs) same hits = absurd same
-    both (r ∷ rows) [] same hits = absurd same
-    both (r ∷ rows) (x ∷ xs) same hits = ((same.0, hits.0), both rows xs same.1 hits.1)
-
-    -- an UPDATE whose terms compute `change` leaves the changed list
-    pub replaced_by : (table : Table) (db : Database) (xs : List X) (rows : List Row) (Q : X → Type 0) → AllByRecursion Q xs
+    -- the same of the rows that are shown of those that pass, one at most
+    replaced_if_any : (shown : Row → Row) (Q : X → Type 0) → AllByRecursion (λ q. Q q.1) ps
         → ((id : ℤ) (x : X) → Q x → p x ≡ true → shown (Int id ∷ values x) ≡ Int id ∷ Int id ∷ values (change x))
         → ((id : ℤ) (x : X) → cast_row table (Int id ∷ values x) ≡ Int id ∷ values x)
-        → AllZip (λ row x. hit row ≡ p x) (db.trees table.tree) xs
-        → Holds values (db.trees table.tree) xs → length (filter p xs) ≤ 1
-        → IsPermutation (map shown (filter hit (db.trees table.tree))) rows
-        → Holds values (edited db.trees (edit_of db.trees table (ids_of rows) Given 1 rows)) (map change xs)
-    replaced_by table db xs rows Q all sets casts hits held low same =
-        let before = db.trees table.tree in
-        elim (find_one before xs (both before xs held.same hits) low) [
-          | inl none ↦
-              let no_rows : rows ≡ [] = short_permutation [] rows (omega arith)
-              (subst (λ ys. IsPermutation (map shown ys) rows) none.0 same) in
-              subst (λ ys. Holds values (edited db.trees (edit_of db.trees table (ids_of ys) Given 1 ys)) (map change xs)) (sym no_rows)
-              (subst (Holds values before) (sym none.1) held)
-          | inr some ↦
-              let id = some.0 in
-              let one = some.1 in
-              let new = Int id ∷ values (change one) in
-              let single : rows ≡ shown (Int id ∷ values one) ∷ [] =
-              short_permutation (shown (Int id ∷ values one) ∷ []) rows (omega arith)
-              (subst (λ ys. IsPermutation (map shown ys) rows) some.3 same) in
-              let one_row : rows ≡ (Int id ∷ new) ∷ [] = single ∙ ap (λ row. row ∷ []) (sets id one (one_has Q before xs id one all some.4) some.2) in
-              let put : Holds values (put_row new (without_rowid id before)) (map change xs) = record {
-                rising = IsTable-put_row new (without_rowid id before) (IsTable-filter (λ r. not (has_rowid id r)) before held.rising);
-                same = swapped before xs id one held.rising held.same some.4;
-              } in
-              subst (λ ys. Holds values (edited db.trees (edit_of db.trees table (ids_of ys) Given 1 ys)) (map change xs)) (sym one_row)
-              (subst (λ row. Holds values (put_row row (without_rowid id before)) (map change xs)) (sym (casts id (change one))) put)
-        ]
+        → (ones : List (ℤ × X)) → filter passes ps ≡ ones → length ones ≤ 1 → IsPermutation (map shown (map (row_of values) ones)) rows → Left
+    replaced_if_any shown Q all sets casts [] none few same =
+        rw (short_permutation [] rows (omega arith) same, is, none_change ps none) (holds_next ps rising)
+    replaced_if_any shown Q all sets casts (one ∷ []) lone few same =
+        let has = has_filtered passes ps one (rw lone (inl refl)) in
+        replaced one lone (one_permutation (shown (row_of values one)) rows same
+        ∙ ap (λ row. row ∷ []) (sets one.0 one.1 (all_has (λ q. Q q.1) ps one all has.0) has.1)) (casts one.0 (change one.1))
+    replaced_if_any shown Q all sets casts (one ∷ other ∷ ones) lone few same = absurd (omega arith)
 
-  module _ (params : Row) (tests project : List Term) where
-    -- the same of an UPDATE of one table
-    pub replaced_where : (table : Table) (db : Database) (xs : List X) (rows : List Row) (Q : X → Type 0) → AllByRecursion Q xs
-        → ((id : ℤ) (x : X) → Q x → p x ≡ true → eval_all project (params ∷ (Int id ∷ values x) ∷ []) ≡ Int id ∷ Int id ∷ values (change x))
-        → ((id : ℤ) (x : X) → cast_row table (Int id ∷ values x) ≡ Int id ∷ values x)
-        → AllZip (λ row x. test params tests project row ≡ p x) (db.trees table.tree) xs
-        → Holds values (db.trees table.tree) xs → length (filter p xs) ≤ 1
-        → Answers db (record { lets = []; body = select (inner table.tree end) tests project }) params rows
-        → Holds values (edited db.trees (edit_of db.trees table (ids_of rows) Given 1 rows)) (map change xs)
-    replaced_where table db xs rows Q all sets casts hits held low answers =
-        replaced_by (test params tests project) (shows params tests project) table db xs rows Q all sets casts hits held low
-        (answered params tests project table.tree db rows answers)
+  hits_of : (hit : Row → Bool) (wide : X → Bool) (ps : List (ℤ × X)) → AllZip (λ row x. hit row ≡ wide x) (map (row_of values) ps) (map (λ q. q.1) ps)
+      → AllByRecursion (λ q. hit (row_of values q) ≡ wide q.1) ps
+  hits_of hit wide [] h = tt
+  hits_of hit wide (q ∷ ps) h = (h.0, hits_of hit wide ps h.1)
+
+  -- an UPDATE of the rows of the same elements, one at most
+  pub replaced_by : (hit : Row → Bool) (wide : X → Bool) (shown : Row → Row) (table : Table) (db : Database) (xs : List X) (rows : List Row)
+      → AllByRecursion (λ x. wide x ≡ p x) xs → (Q : X → Type 0) → AllByRecursion Q xs
+      → ((id : ℤ) (x : X) → Q x → p x ≡ true → shown (Int id ∷ values x) ≡ Int id ∷ Int id ∷ values (change x))
+      → ((id : ℤ) (x : X) → cast_row table (Int id ∷ values x) ≡ Int id ∷ values x)
+      → AllZip (λ row x. hit row ≡ wide x) (db.trees table.tree) xs
+      → Holds values (db.trees table.tree) xs → length (filter p xs) ≤ 1
+      → IsPermutation (map shown (filter hit (db.trees table.tree))) rows
+      → Holds values (edited db.trees (edit_of db.trees table (ids_of rows) Given 1 rows)) (map change xs)
+  replaced_by hit wide shown table db xs rows agreed Q all sets casts hits held low same =
+      let it = paired values (db.trees table.tree) xs held.same in
+      let ps = it.pairs in
+      let each = λ (P : X → Type 0) (h : AllByRecursion P xs). all_from_map P (λ (q : ℤ × X). q.1) ps (subst (AllByRecursion P) it.xs_are h) in
+      let agree = all_both (λ q. hit (row_of values q) ≡ wide q.1) (λ q. wide q.1 ≡ p q.1) (λ q. hit (row_of values q) ≡ p q.1) (λ q h k. h ∙ k) ps
+      (hits_of hit wide ps (subst₂ (AllZip (λ row x. hit row ≡ wide x)) it.rows_are it.xs_are hits)) (each (λ x. wide x ≡ p x) agreed) in
+      let found = ap (filter hit) it.rows_are ∙ filter-map hit (row_of values) ps ∙ ap (map (row_of values)) (filter_same _ passes ps agree) in
+      let few = ap length (ap (filter p) it.xs_are ∙ filter-map p (λ (q : ℤ × X). q.1) ps) ∙ length-map (filter passes ps) (λ q. q.1) in
+      subst (λ ys. Holds values (edited db.trees (edit_of db.trees table (ids_of rows) Given 1 rows)) (map change ys)) (sym it.xs_are)
+      (replaced_if_any table db rows ps it.rows_are (subst IsTable it.rows_are held.rising) shown Q (each Q all) sets casts (filter passes ps) refl
+      (subst (λ n. n ≤ 1) few low) (subst (λ rs. IsPermutation (map shown rs) rows) found same))

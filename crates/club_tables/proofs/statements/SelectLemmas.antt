@@ -1,6 +1,7 @@
 -- What a SELECT over one table gives, if the table holds a list.
 use Rattle.std.proofs.Common.{◌≡◌, ◌≤◌, ℕ, suc, ◌-◌, ◌^◌, ℤ, pos, Bool, true, false, cond, ◌==◌, None, Some, List, [], ◌∷◌, ◌++◌, length, map, slice_get}
 use Rattle.std.proofs.Common.{refl, sym, ap, subst, ◌∙◌, arith}
+use Rattle.std.proofs.Math.Path.{ap₂}
 use Rattle.std.specs.Prelude.{filter, find, flat_map, AllPairs, IsPermutation, nat_le, unwrap_or}
 use Rattle.std.specs.List.{AllByRecursion, AllZip, list_all}
 use Rattle.std.specs.Str.{bytes_eq}
@@ -8,7 +9,7 @@ use Rattle.std.specs.Ordering.{is_eq, int_cmp}
 use Rattle.std.proofs.lemmas.Bool.Decides.{nat_tests}
 use Rattle.std.proofs.lemmas.Map.Text.{is_eq-slice_cmp}
 use Rattle.std.proofs.lemmas.List.Sorted.{IsPermutation-map, length_permutation}
-use Rattle.std.proofs.lemmas.List.Elements.{recursion_from_All}
+use Rattle.std.proofs.lemmas.List.Elements.{recursion_from_All, filter_passes}
 use Rattle.std.proofs.lemmas.List.{length-map, get_or-map}
 use Rattle.sqlite_value.specs.declared.value.Value.TheVariants.{Int, Text, Blob, Null}
 use Rattle.sqlite_value.specs.declared.keys.Collation.TheVariants.{Binary}
@@ -26,7 +27,9 @@ use Rattle.sqlite.specs.Effect.{Database, Reads, Answers}
 use Rattle.sqlite.proofs.Callers.{one_permutation}
 use Rattle.club_tables.specs.Tables.{IsRowOf, Holds}
 use Rattle.club_tables.specs.Statements.{select}
-use Rattle.sqlite_trees.proofs.ListLemmas.{map-map}
+use Rattle.sqlite_trees.specs.Tree.{IsAscending}
+use Rattle.sqlite_trees.proofs.ListLemmas.{map-map, filter-map, ascending-filter, all_of}
+pub use Rattle.sqlite_trees.proofs.ListLemmas.{filter_same, filter_none as none_pass}
 
 -- ---- tests
 
@@ -66,13 +69,8 @@ find_first p [] = refl
 find_first {X} p (x ∷ xs) =
     elim (p x) as (λ b. cond b (Some x) (find p xs) ≡ slice_get (cond b (x ∷ filter p xs) (filter p xs)) 0) [ true ↦ refl | false ↦ find_first p xs ]
 
-pub filter_same : {X : Type 0} (p q : X → Bool) (xs : List X) → AllByRecursion (λ x. p x ≡ q x) xs → filter p xs ≡ filter q xs
-filter_same p q [] h = refl
-filter_same p q (x ∷ xs) h = let e = h.0 in let more = filter_same p q xs h.1 in rw (e, more) refl
-
 pub none_of : {X : Type 0} (xs : List X) → filter (λ x. false) xs ≡ []
-none_of [] = refl
-none_of (x ∷ xs) = none_of xs
+none_of xs = none_pass (λ _. false) xs (all_of _ (λ _. refl) xs)
 
 -- ---- a query of one table
 
@@ -107,22 +105,35 @@ module _ (params : Row) (tests : List Term) (project : List Term) where
       subst (λ ys. IsPermutation ys rows) (map-map (λ env. (output query env).1) each (filter test (db.trees tree)))
       (shown_of a (map each (filter test (db.trees tree))) staged a.distinct a.shown)
 
-module _ {X B : Type 0} (values : X → Row) (p : X → Bool) (show : X → B) where
-  -- what is shown of the rows that pass is what is shown of the elements that do
-  pub picked : (passes : Row → Bool) (shown : Row → B) → ((id : ℤ) (x : X) → passes (Int id ∷ values x) ≡ p x)
-      → ((id : ℤ) (x : X) → shown (Int id ∷ values x) ≡ show x)
-      → (rows : List Row) (xs : List X) → AllZip (λ row x. IsRowOf (values x) row) rows xs → map shown (filter passes rows) ≡ map show (filter p xs)
-  picked passes shown tested yields [] [] h = refl
-  picked passes shown tested yields [] (x ∷ xs) h = absurd h
-  picked passes shown tested yields (r ∷ rows) [] h = absurd h
-  picked passes shown tested yields (r ∷ rows) (x ∷ xs) h =
-      let more = picked passes shown tested yields rows xs h.1 in
-      let first : passes r ≡ p x = ap passes h.0.1 ∙ tested h.0.0 x in
-      let one : shown r ≡ show x = ap shown h.0.1 ∙ yields h.0.0 x in
-      let rest = filter passes rows in
-      subst (λ b. map shown (cond b (r ∷ rest) rest) ≡ map show (filter p (x ∷ xs))) (sym first)
-      (elim (p x) as (λ b. map shown (cond b (r ∷ rest) rest) ≡ map show (cond b (x ∷ filter p xs) (filter p xs)))
-      [ true ↦ cc | false ↦ more ])
+-- ---- a table that holds a list
+
+-- the row of an element, with its rowid
+abbrev pub row_of : {X : Type 0} → (X → Row) → ℤ × X → Row
+row_of values q = Int q.0 ∷ values q.1
+
+-- the elements, with the rowids of their rows
+pub record Paired {X : Type 0} (values : X → Row) (rows : List Row) (xs : List X) : Type 0 where
+  pub pairs : List (ℤ × X)
+  pub rows_are : rows ≡ map (row_of values) pairs
+  pub xs_are : xs ≡ map (λ q. q.1) pairs
+
+pub paired : {X : Type 0} (values : X → Row) (rows : List Row) (xs : List X) → AllZip (λ row x. IsRowOf (values x) row) rows xs → Paired values rows xs
+paired values [] [] h = record { pairs = []; rows_are = refl; xs_are = refl }
+paired values [] (x ∷ xs) h = absurd h
+paired values (r ∷ rows) [] h = absurd h
+paired values (r ∷ rows) (x ∷ xs) h =
+    let more = paired values rows xs h.1 in
+    record { pairs = (h.0.0, x) ∷ more.pairs; rows_are = ap₂ ◌∷◌ h.0.1 more.rows_are; xs_are = ap (λ ys. x ∷ ys) more.xs_are }
+
+-- the rows that pass show what the elements do that pass
+pub picked : {X B : Type 0} (values : X → Row) (p : X → Bool) (show : X → B) (passes : Row → Bool) (shown : Row → B)
+    → ((id : ℤ) (x : X) → passes (Int id ∷ values x) ≡ p x) → ((id : ℤ) (x : X) → shown (Int id ∷ values x) ≡ show x) → (rows : List Row) (xs : List X)
+    → AllZip (λ row x. IsRowOf (values x) row) rows xs → map shown (filter passes rows) ≡ map show (filter p xs)
+picked values p show passes shown tested yields rows xs held =
+    let it = paired values rows xs held in
+    ap (λ rs. map shown (filter passes rs)) it.rows_are
+    ∙ simp (filter-map, map-map) (λ i. map (λ q. yields q.0 q.1 i) (filter (λ q. tested q.0 q.1 i) it.pairs))
+    ∙ sym (ap (λ ys. map show (filter p ys)) it.xs_are)
 
 module _ {X : Type 0} (values : X → Row) (params : Row) (tests : List Term) (project : List Term) (p : X → Bool) (show : X → Row)
     (tested : (id : ℤ) (x : X) → list_all (holds (params ∷ (Int id ∷ values x) ∷ [])) tests ≡ p x)
@@ -139,8 +150,7 @@ module _ {X : Type 0} (values : X → Row) (params : Row) (tests : List Term) (p
 
 -- R holds of each element and each later one
 abbrev pub Apart : {X : Type 0} → (X → X → Type 0) → List X → Type 0
-Apart R [] = Unit {0}
-Apart R (x ∷ xs) = AllByRecursion (R x) xs × Apart R xs
+Apart = IsAscending
 
 pub apart_from_pairs : {X : Type 0} (R : X → X → Type 0) (xs : List X) → AllPairs R xs → Apart R xs
 apart_from_pairs R [] h = tt
@@ -156,28 +166,15 @@ pairs_mapped R f back xs pairs i j d less low =
     rw (get_or-map f xs i (back d) d (omega (arith, as_long)), get_or-map f xs j (back d) d (omega (arith, as_long)))
     (pairs i j (back d) less (omega (arith, as_long)))
 
-pub none_pass : {X : Type 0} (p : X → Bool) (xs : List X) → AllByRecursion (λ x. p x ≡ false) xs → filter p xs ≡ []
-none_pass p [] h = refl
-none_pass p (x ∷ xs) h = rw (h.0, none_pass p xs h.1)
-
-pub fail_beside : {X : Type 0} (R : X → X → Type 0) (p : X → Bool) → ((x y : X) → p x ≡ true → p y ≡ true → ¬ R x y) → (x : X) → p x ≡ true → (xs : List X)
-    → AllByRecursion (R x) xs → AllByRecursion (λ y. p y ≡ false) xs
-fail_beside R p same x passes [] h = tt
-fail_beside R p same x passes (y ∷ xs) h = (go (p y) refl, fail_beside R p same x passes xs h.1)
-  where
-    go : (b : Bool) → p y ≡ b → b ≡ false
-    go false is = refl
-    go true is = absurd (same x y passes is h.0)
-
 -- a test that no two of the elements pass is passed by one at most
 pub one_passes : {X : Type 0} (R : X → X → Type 0) (p : X → Bool) (xs : List X) → ((x y : X) → p x ≡ true → p y ≡ true → ¬ R x y) → Apart R xs
     → length (filter p xs) ≤ 1
-one_passes R p [] same apart = omega arith
-one_passes {X} R p (x ∷ xs) same apart = go (p x) refl (one_passes R p xs same apart.1)
+one_passes {X} R p xs same apart = short (filter p xs) (recursion_from_All _ _ (filter_passes p xs)) (ascending-filter R p xs apart)
   where
-    go : (b : Bool) → p x ≡ b → length (filter p xs) ≤ 1 → length (cond b (x ∷ filter p xs) (filter p xs)) ≤ 1
-    go false is more = more
-    go true is more = let none : filter p xs ≡ [] = none_pass p xs (fail_beside R p same x is xs apart.0) in rw none (omega arith)
+    short : (ys : List X) → AllByRecursion (λ y. p y ≡ true) ys → Apart R ys → length ys ≤ 1
+    short [] pass apart = omega arith
+    short (y ∷ []) pass apart = omega arith
+    short (y ∷ z ∷ ys) pass apart = absurd (same y z pass.0 pass.1.0 apart.0.0)
 
 pub short_permutation : {X : Type 0} (xs ys : List X) → length xs ≤ 1 → IsPermutation xs ys → ys ≡ xs
 short_permutation [] [] low h = refl

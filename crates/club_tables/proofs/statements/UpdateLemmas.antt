@@ -1,7 +1,7 @@
 -- An UPDATE that changes one row at most.
-use Rattle.std.proofs.Common.{◌≡◌, ◌≢◌, ◌≤◌, ℕ, ℤ, ◌==◌, Bool, true, false, None, Some, Ok, List, [], ◌∷◌, length, map, slice_get, refl, sym, ap, subst}
+use Rattle.std.proofs.Common.{◌≡◌, ◌≤◌, ℕ, ℤ, ◌==◌, Bool, true, false, Some, Ok, List, [], ◌∷◌, length, map, slice_get, refl, sym, ap, subst}
 use Rattle.std.proofs.Common.{◌∙◌, arith}
-use Rattle.std.specs.Prelude.{flat_map, filter, find, drop, unwrap_or, IsPermutation}
+use Rattle.std.specs.Prelude.{flat_map, filter, find, drop, IsPermutation}
 use Rattle.std.proofs.lemmas.List.{length-map}
 use Rattle.sqlite.specs.Cast.{cast_row}
 use Rattle.sqlite_rules.proofs.RowLemmas.{length-numbered}
@@ -9,7 +9,6 @@ use Rattle.std.specs.List.{AllByRecursion, AllZip, filter_map}
 use Rattle.sqlite_value.specs.declared.value.Value.TheVariants.{Int}
 use Rattle.sqlite.specs.Term.{Term}
 use Rattle.sqlite.specs.Order.{Row}
-use Rattle.sqlite.specs.Tree.{Trees}
 use Rattle.sqlite.specs.Query.{Query, inner, end}
 use Rattle.sqlite.specs.Table.{Table}
 use Rattle.sqlite.specs.Command.TheVariants.{Update}
@@ -20,18 +19,16 @@ use Rattle.sqlite_rules.specs.Calls.{ids_of}
 use Rattle.sqlite_rules.specs.Action.{works, work_by, pairs, deed_for}
 use Rattle.sqlite_schema.specs.Rules.{parent_key}
 use Rattle.sqlite_schema.specs.declared.schema.Keys.TheVariants.{Enforced}
-use Rattle.sqlite.specs.Does.{Tally, Does}
-use Rattle.sqlite.specs.Rows.{Written}
-use Rattle.sqlite.specs.Effect.{Database, Answers}
-use Rattle.sqlite.specs.Listing.{understood}
-use Rattle.sqlite.specs.State.{State, mode_of, Executes}
-use Rattle.sqlite.proofs.Callers.{statement_of, runs_as, one_step}
+use Rattle.sqlite.specs.Rows.{Written, Updates as WritesUpdate}
+use Rattle.sqlite.specs.Effect.{Answers}
+use Rattle.sqlite.specs.State.{State, Executes}
+pub use Rattle.sqlite_trees.proofs.ListLemmas.{all_of as each_of}
 use Rattle.club_tables.specs.Schema.{club_schema}
 use Rattle.club_tables.specs.Statements.{select}
 use Rattle.club_tables.specs.Tables.{Holds}
-use Rattle.club_tables.proofs.statements.InsertLemmas.{went, same_value}
+use Rattle.club_tables.proofs.statements.InsertLemmas.{Leaves, task_of, went, same_value, wrote_rows, edited_alone}
 use Rattle.club_tables.proofs.statements.MeansLemmas.{Means, Wrote}
-use Rattle.club_tables.proofs.statements.PassLemmas.{each_row, rows_found, some_found, zip_agree}
+use Rattle.club_tables.proofs.statements.PassLemmas.{each_row, as_many_written, find_some}
 use Rattle.club_tables.proofs.statements.ReplaceLemmas.{replaced_by}
 use Rattle.club_tables.proofs.statements.SelectLemmas.{answered, shows, test}
 
@@ -50,40 +47,31 @@ pub record Updates (old new : State) (table : Table) (query : Query) (params : R
   pub left : new.now.trees table.tree ≡ edited old.now.trees (edit_of old.now.trees table (ids_of rows) Given 1 rows)
   pub counted : count ≡ length rows
 
-pub updates : {text : List ℕ} {at : ℕ} {query : Query} → Means club_schema text (Update at (record { lets = []; body = query })) → (table : Table)
-    → slice_get club_schema.tables at ≡ Some table → {old new : State} {params : Row} {count : ℕ} → old.now.schema ≡ club_schema
-    → Executes text params old new (Ok count) → Updates old new table query params count
-updates {text = text} {at = at} {query = query} means table listed {old = old} {new = new} {params = params} {count = count} has h =
-    let db = old.now.trees in
-    let command = Update at (record { lets = []; body = query }) in
-    let w = runs_as text params old new club_schema has command means.is means.plain count h in
-    let statement = statement_of text (understood club_schema text) in
-    let does = subst (λ s. Does old.step_limit (mode_of old) params (record old.now { schema = s }) statement None command (Ok (w.tally, new.now))) has
-    w.changed in
-    let done = went (rw listed at does) in
-    let noted = same_value (went (went done.2).2).2 in
-    let now = ap (λ (p : Tally × Database). p.1) noted in
-    let asked = went done.1 in
+pub updated : (old : State) {new : State} {count : ℕ} {one : Written} {query : Query} (params : Row) {given : Row} (table : Table)
+    → Leaves club_schema new count one
+    → WritesUpdate (task_of club_schema table old params) (record { lets = []; body = query }) given old.now.trees (Ok one)
+    → Updates old new table query given count
+updated old params table left h =
+    let asked = went h in
     let written = went asked.2 in
-    let trees : done.0.trees ≡ written.0 = ap (λ (it : Written). it.trees) (same_value written.2) in
-    let edit = edit_of db table (ids_of asked.0) Given 1 asked.0 in
-    let applied = one_step club_schema Enforced db written.0 edit (no_works table.tree (taken_by db edit) edit.news) written.1 in
-    let whole : new.now.trees ≡ written.0 = ap (λ (d : Database). d.trees) now ∙ trees in
-    let rows : done.0.rows ≡ edit.news = ap (λ (it : Written). it.rows) (same_value written.2) in
-    let counted : count ≡ length done.0.rows = w.counted ∙ ap (λ (p : Tally × Database). unwrap_or p.0.rows 0) noted in
-    let numbered : length edit.news ≡ length asked.0 =
-    length-numbered Given _ (map (λ (s : Row). cast_row table (drop 1 s)) asked.0) ∙ length-map asked.0 (λ (s : Row). cast_row table (drop 1 s)) in
+    let edit = edit_of old.now.trees table (ids_of asked.0) Given 1 asked.0 in
+    let is = same_value written.2 in
+    let still = no_works table.tree (taken_by old.now.trees edit) edit.news in
+    let done = edited_alone old left edit written.0 still written.1 (ap (λ (w : Written). w.trees) is) in
     record {
       rows = asked.0;
       answers = asked.1;
-      wrote = record {
-        schema = ap (λ (d : Database). d.schema) now;
-        others = subst (λ (trees : Trees). AllByRecursion (λ t. t.tree ≢ table.tree → trees t.tree ≡ db t.tree) club_schema.tables) (sym whole) applied.tables;
-        sound = w.sound;
-      };
-      left = ap (λ (t : Trees). t table.tree) whole ∙ applied.rows;
-      counted = counted ∙ ap length rows ∙ numbered;
+      wrote = done.0;
+      left = done.1;
+      counted = left.counted ∙ ap (λ (w : Written). length w.rows) is ∙ length-numbered Given _ (map (λ (s : Row). cast_row table (drop 1 s)) asked.0)
+          ∙ length-map asked.0 (λ (s : Row). cast_row table (drop 1 s));
     }
+
+pub updates : {text : List ℕ} {at : ℕ} {query : Query} → Means club_schema text (Update at (record { lets = []; body = query })) → (table : Table)
+    → slice_get club_schema.tables at ≡ Some table → {old new : State} {params : Row} {count : ℕ} → old.now.schema ≡ club_schema
+    → Executes text params old new (Ok count) → Updates old new table query params count
+updates {at = at} means table listed {old = old} {new = new} {params = params} {count = count} has h =
+    let it = wrote_rows means at listed old new params count (λ w. w) (λ out does. does) has h in updated old params table it.1 it.2
 
 -- an UPDATE of a table that holds a list, in which the elements that pass a test are hit
 pub record Finds {X : Type 0} (values : X → Row) (p : X → Bool) (xs : List X) (shown : Row → Row) (old new : State) (table : Table) (count : ℕ) : Type 0
@@ -115,15 +103,16 @@ finds values p xs {table = table} {tests = tests} {project = project} {old = old
 
 module _ {X : Type 0} {values : X → Row} {p : X → Bool} {xs : List X} {shown : Row → Row} {old new : State} {table : Table} {count : ℕ}
     (it : Finds values p xs shown old new table count) where
+  written : length it.rows ≡ length (filter p xs)
+  written = as_many_written it.hit shown p (old.now.trees table.tree) it.rows xs it.hits it.answer
+
   -- if a row is written, an element passes
   pub passes_one : 1 ≤ count → (x : X) × (find p xs ≡ Some x)
-  passes_one some = some_found it.hit shown p (old.now.trees table.tree) it.rows xs it.hits it.answer (omega (arith, some, it.counted))
+  passes_one some = find_some p xs (omega (arith, some, it.counted, written))
 
   -- and if an element passes, a row is written
   pub writes_one : 1 ≤ length (filter p xs) → 1 ≤ count
-  writes_one passing =
-      let some = rows_found it.hit shown p (old.now.trees table.tree) it.rows xs it.hits it.answer passing in
-      omega (arith, some, it.counted)
+  writes_one passing = omega (arith, passing, it.counted, written)
 
   -- the table holds the changed list, if the same elements pass another test, and one of them at most
   pub changes_one : (q : X → Bool) → AllByRecursion (λ x. p x ≡ q x) xs → (change : X → X) → ((x : X) → q x ≡ false → change x ≡ x) → (Q : X → Type 0)
@@ -132,10 +121,5 @@ module _ {X : Type 0} {values : X → Row} {p : X → Bool} {xs : List X} {shown
       → Holds values (new.now.trees table.tree) (map change xs)
   changes_one q agreed change kept Q all sets casts low =
       subst (λ rs. Holds values rs (map change xs)) (sym it.left)
-      (replaced_by values q change kept it.hit shown table (record { schema = club_schema; trees = old.now.trees }) xs it.rows Q all sets casts
-      (zip_agree it.hit p q (old.now.trees table.tree) xs it.hits agreed) it.held low it.answer)
-
--- of each element
-pub each_of : {X : Type 0} (P : X → Type 0) → ((x : X) → P x) → (xs : List X) → AllByRecursion P xs
-each_of P h [] = tt
-each_of P h (x ∷ xs) = (h x, each_of P h xs)
+      (replaced_by values q change kept it.hit p shown table (record { schema = club_schema; trees = old.now.trees }) xs it.rows agreed Q all sets casts
+      it.hits it.held low it.answer)
