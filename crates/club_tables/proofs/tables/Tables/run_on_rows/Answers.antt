@@ -1,15 +1,46 @@
-use Rattle.std.proofs.Common.{rules, arith, map, inl, inr, refl, ◌∙◌}
+use Rattle.std.proofs.Common.{rules, arith, map, inl, inr, refl, ◌∙◌, ℕ, ◌<◌, List, length, take, get_or, Err}
+use Rattle.club_core.specs.declared.store.StoreFault.{StoreFault}
 use Rattle.club_core.specs.declared.store.StoreFault.TheVariants.{Storage}
-use Rattle.sqlite.specs.State.{HasCleanDisk, Survives}
-use Rattle.sqlite.specs.Held.{state}
+use Rattle.sqlite.specs.Store.{Ghosts}
+use Rattle.sqlite.specs.State.{HasCleanDisk, Survives, IsRolledBack}
+use Rattle.sqlite.specs.Held.{Held, state}
 use Rattle.sqlite.proofs.StateLemmas.{survives_then}
 use Rattle.sqlite.proofs.Callers.{survives_begin}
+use Rattle.club_tables.specs.declared.transaction.Statement.{Statement}
 use Rattle.club_tables.specs.Transaction.{RanInTurn, transaction_start, bound_statement}
-use Rattle.club_tables.specs.Fault.{FailsInTurn}
+use Rattle.club_tables.specs.Fault.{Commits, FailsInTurn, StopsAt}
 use Rattle.club_tables.proofs.crashes.RepresentsLemmas.{survives_none}
-use Rattle.club_tables.proofs.crashes.SurviveLemmas.{survives_as, Keeps, commit_keeps, execute_keeps, then_rolled}
+use Rattle.club_tables.proofs.crashes.SurviveLemmas.{survives_as, was_clean, Keeps, commit_keeps, execute_keeps, then_rolled}
 use Rattle.club_tables.proofs.crashes.TurnLemmas.{turn_at, turn_all, fails_at, fails_last, commit_survives}
 use Rattle.club_tables.proofs.tables.Tables.run_on_rows.Goals as goal
+
+-- a statement stopped them, and the transaction was dropped
+stopped : {S : Type 0} (g : Ghosts S) (fewest : ℕ) (statements : List Statement) (at : ℕ) (d : Statement) (old was mid new : Held S) (fault : StoreFault)
+    → at < length statements → Survives (state g (transaction_start old)) (state g was) (λ _. ⊥)
+    → (HasCleanDisk (state g was) → RanInTurn g fewest (map bound_statement (take at statements)) (transaction_start old) was)
+    → (HasCleanDisk (state g was) → Keeps (state g (transaction_start old)) (state g was))
+    → Survives (state g was) (state g mid) (λ _. ⊥) → Survives (state g mid) (state g new) (λ _. ⊥)
+    → (HasCleanDisk (state g new) → IsRolledBack (state g mid) (state g new))
+    → (HasCleanDisk (state g mid) → StopsAt g fewest (bound_statement (get_or statements at d)) was mid fault × Keeps (state g was) (state g mid))
+    → Commits g fewest (map bound_statement statements) old new (Err fault)
+stopped g fewest statements at d old was mid new fault low begun ran inside step drop undone stops =
+    let earlier = λ (clean : HasCleanDisk (state g new)). was_clean (state g mid) (state g new) _ drop clean in
+    let first = λ (clean : HasCleanDisk (state g new)). was_clean (state g was) (state g mid) _ step (earlier clean) in
+    let quiet = survives_none (state g old) (state g was) (state g new) (survives_begin g old (state g was) _ begun)
+    (survives_none (state g was) (state g mid) (state g new) step drop) in
+    record {
+      ran = λ clean. tt;
+      kept = λ clean. then_rolled (state g (transaction_start old)) (state g mid) (state g new) (λ opened.
+          let now = (stops (earlier clean)).1 opened in
+          let before = inside (first clean) now.0 in
+          (before.0, now.1 ∙ before.1)) (undone clean);
+      survives = survives_as (state g old) (state g new) (λ _. ⊥) _ quiet (λ _ _ none. absurd none);
+      fault = λ clean. record {
+        mid = mid;
+        failure = fails_at g fewest statements at d (transaction_start old) was mid fault low (ran (first clean)) (stops (earlier clean)).0;
+        fault_count = drop.counts;
+      };
+    }
 
 pub loop-statement-preserved : goal.loop-statement-preserved
 loop-statement-preserved g c =
@@ -38,13 +69,11 @@ returns g c =
     let inv = c.loop-statement.invariant in
     let statements = c.args.statements.now in
     let fewest = c.args.fewest in
-    let all = map bound_statement statements in
     record {
       commits = record {
         ran = λ clean.
             let earlier : HasCleanDisk (state g.S.Store mid) = omega (arith, c.commit.ensures.survives.clean) in
-            let turn : RanInTurn g.S.Store fewest all (transaction_start old) mid =
-            turn_all g.S.Store fewest statements c.loop-statement.statement-index (transaction_start old) mid (omega arith) (inv.ran earlier) in
+            let turn = turn_all g.S.Store fewest statements c.loop-statement.statement-index (transaction_start old) mid (omega arith) (inv.ran earlier) in
             let ends = c.in-Ok-commit.ensures.ok clean in
             let was = (inv.inside earlier).2 ends.1.was_open in
             (ends.1.is_open, record { last = mid; was_open = λ _. was; turns = turn; is = ends.1.committed_is }, cc (ends.1.now_is, ends.1.committed_is));
@@ -63,7 +92,6 @@ returns-in-Err-commit g c =
     let inv = c.loop-statement.invariant in
     let statements = c.args.statements.now in
     let fewest = c.args.fewest in
-    let all = map bound_statement statements in
     let error = c.in-Err-commit.error in
     record {
       commits = record {
@@ -77,88 +105,37 @@ returns-in-Err-commit g c =
             (λ earlier some. (inv.inside earlier).2 (inv.opened earlier some)) c.commit.ensures.survives;
         fault = λ clean.
             let earlier : HasCleanDisk (state g.S.Store mid) = omega (arith, c.commit.ensures.survives.clean) in
-            let turn : RanInTurn g.S.Store fewest all (transaction_start old) mid =
-            turn_all g.S.Store fewest statements c.loop-statement.statement-index (transaction_start old) mid (omega arith) (inv.ran earlier) in
-            let failed : FailsInTurn g.S.Store fewest all (transaction_start old) end c.fault_of-in-Err-commit.result =
-            fails_last g.S.Store fewest all (transaction_start old) mid end error _ turn (c.in-Err-commit.ensures.err clean) c.fault_of-in-Err-commit.ensures in
+            let turn = turn_all g.S.Store fewest statements c.loop-statement.statement-index (transaction_start old) mid (omega arith) (inv.ran earlier) in
+            let failed = fails_last g.S.Store fewest (map bound_statement statements) (transaction_start old) mid end error _ turn (c.in-Err-commit.ensures.err clean) c.fault_of-in-Err-commit.ensures in
             record { mid = end; failure = failed; fault_count = omega arith };
       };
     }
 
 pub returns-in-Err : goal.returns-in-Err
 returns-in-Err g c =
-    let old = c.args.self.now in
     let was = c.loop-statement.tx.conn.now in
     let mid = c.execute.new.self.conn.now in
-    let end = c.drop-tx.new.self.0 in
     let inv = c.loop-statement.invariant in
-    let statements = c.args.statements.now in
-    let fewest = c.args.fewest in
-    let all = map bound_statement statements in
-    let error = c.in-Err.error in
-    let quiet : Survives (state g.S.Store old) (state g.S.Store end) (λ _. ⊥) =
-    survives_none (state g.S.Store old) (state g.S.Store was) (state g.S.Store end) (survives_begin g.S.Store old (state g.S.Store was) _ inv.survives)
-    (survives_none (state g.S.Store was) (state g.S.Store mid) (state g.S.Store end) c.execute.ensures.survives c.drop-tx.ensures.survives) in
     record {
-      commits = record {
-        ran = λ clean. tt;
-        kept = λ clean is_open.
-            let earlier : HasCleanDisk (state g.S.Store mid) = omega (arith, c.drop-tx.ensures.survives.clean) in
-            let first : HasCleanDisk (state g.S.Store was) = omega (arith, c.execute.ensures.survives.clean) in
-            let inside = inv.inside first in
-            let start = state g.S.Store (transaction_start old) in
-            let stays : Keeps start (state g.S.Store mid) = λ opened.
-            let k = execute_keeps _ _ (state g.S.Store was) (state g.S.Store mid) error (c.in-Err.ensures.runs earlier inside.0) opened in
-            (inside.2 k.0, k.1 ∙ inside.1) in
-            then_rolled start (state g.S.Store mid) (state g.S.Store end) stays (c.drop-tx.ensures.undone clean) is_open;
-        survives = survives_as (state g.S.Store old) (state g.S.Store end) (λ _. ⊥) _ quiet (λ _ _ none. absurd none);
-        fault = λ clean.
-            let earlier : HasCleanDisk (state g.S.Store mid) = omega (arith, c.drop-tx.ensures.survives.clean) in
-            let first : HasCleanDisk (state g.S.Store was) = omega (arith, c.execute.ensures.survives.clean) in
-            let failed : FailsInTurn g.S.Store fewest all (transaction_start old) mid c.fault_of.result =
-            fails_at g.S.Store fewest statements c.loop-statement.statement-index _ (transaction_start old) was mid _ c.loop-statement-test.true
-            (inv.ran first) (inl (error, c.in-Err.ensures.runs earlier (inv.inside first).0, c.fault_of.ensures)) in
-            record { mid = mid; failure = failed; fault_count = c.drop-tx.ensures.survives.counts };
-      };
+      commits = stopped g.S.Store c.args.fewest c.args.statements.now c.loop-statement.statement-index _ c.args.self.now was mid c.drop-tx.new.self.0
+          c.fault_of.result c.loop-statement-test.true inv.survives inv.ran (λ clean opened. ((inv.inside clean).2 opened, (inv.inside clean).1))
+          c.execute.ensures.survives c.drop-tx.ensures.survives c.drop-tx.ensures.undone (λ clean.
+          let fails = c.in-Err.ensures.runs clean (inv.inside (omega (arith, c.execute.ensures.survives.clean))).0 in (
+            inl (c.in-Err.error, fails, c.fault_of.ensures),
+            execute_keeps _ _ (state g.S.Store was) (state g.S.Store mid) c.in-Err.error fails,
+          ));
     }
 
 pub returns-then-count-fewest : goal.returns-then-count-fewest
 returns-then-count-fewest g c =
-    let old = c.args.self.now in
-    let was = c.loop-statement.tx.conn.now in
-    let mid = c.execute.new.self.conn.now in
-    let end = c.drop-tx-then-count-fewest.new.self.0 in
     let inv = c.loop-statement.invariant in
-    let statements = c.args.statements.now in
-    let fewest = c.args.fewest in
-    let all = map bound_statement statements in
-    let quiet : Survives (state g.S.Store old) (state g.S.Store end) (λ _. ⊥) =
-    survives_none (state g.S.Store old) (state g.S.Store was) (state g.S.Store end) (survives_begin g.S.Store old (state g.S.Store was) _ inv.survives)
-    (survives_none (state g.S.Store was) (state g.S.Store mid) (state g.S.Store end) c.execute.ensures.survives c.drop-tx-then-count-fewest.ensures.survives) in
+    let drop = c.drop-tx-then-count-fewest in
     record {
-      commits = record {
-        ran = λ clean. tt;
-        kept = λ clean is_open.
-            let earlier : HasCleanDisk (state g.S.Store mid) = omega (arith, c.drop-tx-then-count-fewest.ensures.survives.clean) in
-            let first : HasCleanDisk (state g.S.Store was) = omega (arith, c.execute.ensures.survives.clean) in
-            let inside = inv.inside first in
-            let start = state g.S.Store (transaction_start old) in
-            let one = (c.in-Ok.ensures.runs earlier inside.0).1 in
-            let stays : Keeps start (state g.S.Store mid) = λ opened. (inside.2 one.was_open, one.committed_is ∙ inside.1) in
-            then_rolled start (state g.S.Store mid) (state g.S.Store end) stays (c.drop-tx-then-count-fewest.ensures.undone clean) is_open;
-        survives = survives_as (state g.S.Store old) (state g.S.Store end) (λ _. ⊥) _ quiet (λ _ _ none. absurd none);
-        fault = λ clean.
-            let earlier : HasCleanDisk (state g.S.Store mid) = omega (arith, c.drop-tx-then-count-fewest.ensures.survives.clean) in
-            let first : HasCleanDisk (state g.S.Store was) = omega (arith, c.execute.ensures.survives.clean) in
-            let failed : FailsInTurn g.S.Store fewest all (transaction_start old) mid Storage =
-            fails_at g.S.Store fewest statements c.loop-statement.statement-index _ (transaction_start old) was mid _ c.loop-statement-test.true
-            (inv.ran first) (inr (
-              c.in-Ok.count,
-              (c.in-Ok.ensures.runs earlier (inv.inside first).0).0,
-              c.if-count-fewest.true,
-              refl,
-              (c.in-Ok.ensures.runs earlier (inv.inside first).0).1.was_open,
-            )) in
-            record { mid = mid; failure = failed; fault_count = c.drop-tx-then-count-fewest.ensures.survives.counts };
-      };
+      commits = stopped g.S.Store c.args.fewest c.args.statements.now c.loop-statement.statement-index _ c.args.self.now c.loop-statement.tx.conn.now
+          c.execute.new.self.conn.now drop.new.self.0 Storage c.loop-statement-test.true inv.survives inv.ran (λ clean opened.
+          ((inv.inside clean).2 opened, (inv.inside clean).1)) c.execute.ensures.survives drop.ensures.survives drop.ensures.undone (λ clean.
+          let runs = c.in-Ok.ensures.runs clean (inv.inside (omega (arith, c.execute.ensures.survives.clean))).0 in (
+            inr (c.in-Ok.count, runs.0, c.if-count-fewest.true, refl, runs.1.was_open),
+            λ opened. (runs.1.was_open, runs.1.committed_is),
+          ));
     }
