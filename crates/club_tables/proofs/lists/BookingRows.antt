@@ -1,10 +1,12 @@
 -- Rows, and the bookings and the use of a slot that are read from them.
-use Rattle.std.proofs.Common.{◌≡◌, ℕ, zero, suc, ◌+◌, ◌<◌, Bool, true, false, List, [], ◌∷◌, ◌++◌, length, take, map, refl, sym, subst, ◌∙◌, arith, inl, inr}
+use Rattle.std.proofs.Common.{ap, ◌≡◌, ℕ, zero, suc, ◌+◌, ◌<◌, Bool, true, false, List, [], ◌∷◌, ◌++◌, length, take, map, refl, sym, subst, ◌∙◌, arith, inl, inr}
 use Rattle.std.specs.Prelude.{All, slice_index_or}
 use Rattle.std.specs.List.{AllByRecursion}
 use Rattle.std.proofs.lemmas.List.{take_more}
 use Rattle.std.proofs.lemmas.List.Elements.{All-from_recursion}
-use Rattle.sqlite.specs.Order.{Row}
+use Rattle.sqlite_value.specs.declared.value.Value.{Value}
+use Rattle.sqlite_value.specs.declared.value.Value.TheVariants.{Text, Blob}
+use Rattle.sqlite.specs.Order.{Row, column}
 use Rattle.club_rows.specs.Columns.{truth}
 use Rattle.club_rows.specs.declared.booking.Booking.{Booking}
 use Rattle.club_core.specs.Club.{Club}
@@ -13,7 +15,7 @@ use Rattle.club_core.specs.Sheet.{AreRowsOf}
 use Rattle.club_values.specs.declared.slot.Slot.{Slot}
 use Rattle.club_core.specs.declared.slot_use.SlotUse.{SlotUse}
 use Rattle.club_core.specs.Basis.{slot_use}
-use Rattle.club_tables.specs.Columns.{booking_values, HasValues, use_values}
+use Rattle.club_tables.specs.Columns.{booking_values, HasValues, use_values, whole_in}
 use Rattle.club_tables.specs.Sheet.{ShowsDay, AreBookings}
 use Rattle.club_tables.specs.Answers.{IsUse}
 use Rattle.club_tables.specs.Use.{ShowsUse}
@@ -25,29 +27,26 @@ truths true false h = absurd (omega arith)
 truths false true h = absurd (omega arith)
 truths false false h = refl
 
+-- the text or the bytes of a value
+abbrev pub bytes : Value → List ℕ
+bytes (Text text) = text
+bytes (Blob blob) = blob
+bytes _ = []
+
 -- a row is of one booking
 pub one_booking : (a b : Booking) → HasValues (booking_values a) (booking_values b) → b ≡ a
 one_booking a b h =
-    let flags : truth b.cancelled ≡ truth a.cancelled = cc in
-    let key : b.key ≡ a.key = cc in
-    let number : b.number ≡ a.number = cc in
-    let facility : b.slot.facility ≡ a.slot.facility = cc in
-    let day : b.slot.day ≡ a.slot.day = cc in
-    let hour : b.slot.hour ≡ a.slot.hour = cc in
-    let guests : b.guests ≡ a.guests = cc in
-    let charge : b.charge ≡ a.charge = cc in
-    let left : b.left ≡ a.left = cc in
-    let cancelled = truths b.cancelled a.cancelled flags in
-    let refund : b.refund ≡ a.refund = cc in
+    let r : booking_values b ≡ booking_values a = cc in
+    let cancelled = truths b.cancelled a.cancelled (ap (λ row. whole_in (column row 8)) r) in
     λ i. record {
-      key = key i;
-      number = number i;
-      slot = record { facility = facility i; day = day i; hour = hour i };
-      guests = guests i;
-      charge = charge i;
-      left = left i;
+      key = bytes (column (r i) 0);
+      number = whole_in (column (r i) 1);
+      slot = record { facility = bytes (column (r i) 2); day = whole_in (column (r i) 3); hour = whole_in (column (r i) 4) };
+      guests = whole_in (column (r i) 5);
+      charge = whole_in (column (r i) 6);
+      left = whole_in (column (r i) 7);
       cancelled = cancelled i;
-      refund = refund i;
+      refund = whole_in (column (r i) 9);
     }
 
 pub bookings_of_rows : (bookings others : List Booking) → AreBookings (map booking_values bookings) others → others ≡ bookings
@@ -100,10 +99,9 @@ no_bookings rows k row low is none bookings are =
 -- a row holds one use
 one_use : (a b : SlotUse) → HasValues (use_values a) (use_values b) → b ≡ a
 one_use a b h =
-    let flags : truth b.closed ≡ truth a.closed = cc in
-    let taken : b.taken ≡ a.taken = cc in
-    let closed = truths b.closed a.closed flags in
-    λ i. record { taken = taken i; closed = closed i }
+    let r : use_values b ≡ use_values a = cc in
+    let closed = truths b.closed a.closed (ap (λ row. whole_in (column row 0)) r) in
+    λ i. record { taken = whole_in (column (r i) 1); closed = closed i }
 
 -- by rows that show what is taken of a slot
 pub use_is : (club : Club) (slot : Slot) (rows : List Row) (found : SlotUse) → ShowsUse club slot rows → IsUse rows found → found ≡ slot_use club slot

@@ -1,25 +1,25 @@
 -- A row is decoded to the value of which it was made.
-use Rattle.std.proofs.Common.{◌≡◌, ℕ, List, [], ◌∷◌, map, get_or, Option, Some, None, refl, ap, subst, ◌∙◌, arith}
+use Rattle.std.proofs.Common.{◌≡◌, ℕ, List, [], ◌∷◌, map, get_or, Option, Some, None, refl, sym, ap, subst, ◌∙◌, if◌then◌else◌, ◌==◌}
 use Rattle.std.specs.Prelude.{option_map}
 use Rattle.std.specs.Option.{option_to_list}
-use Rattle.sqlite.specs.Order.{Row}
+use Rattle.std.proofs.lemmas.Iterator.Adapters.{option_map_id}
+use Rattle.sqlite.specs.Order.{Row, column}
 use Rattle.club_values.specs.declared.kind.Kind.{Kind}
 use Rattle.club_values.specs.declared.kind.Kind.TheVariants.{Court, Boat, Room}
 use Rattle.club_values.specs.Kind.{kind_text}
-use Rattle.club_rows.specs.Columns.{truth}
 use Rattle.club_rows.specs.declared.facility.Facility.{Facility}
 use Rattle.club_rows.specs.declared.key.Key.{Key}
 use Rattle.club_rows.specs.declared.key.KeyRow.{KeyRow}
 use Rattle.club_rows.specs.declared.key.OlderRoot.{OlderRoot}
 use Rattle.club_rows.specs.declared.booking.Booking.{Booking}
 use Rattle.club_tables.specs.declared.row.MemberRow.{MemberRow}
-use Rattle.club_tables.specs.Answers.{IsFirst, IsKeyIn, IsOlderRootIn, IsMemberIn, IsFacilityIn, IsBookingIn, IsBookingNamed}
-use Rattle.club_tables.specs.Columns.{HasValues, key_values, older_root_values, member_values, facility_values, booking_values}
+use Rattle.club_tables.specs.Answers.{IsFirst, IsBookingIn, IsBookingNamed}
+use Rattle.club_tables.specs.Columns.{HasValues, key_values, older_root_values, member_values, facility_values, whole_in}
 use Rattle.club_rows.specs.Key.{key_of_row, row_of_key}
-use Rattle.club_tables.proofs.lists.BookingRows.{truths, one_booking}
+use Rattle.club_tables.proofs.lists.BookingRows.{bytes, truths}
 
 -- of the rows that are made of an option, the first yields its value
-first_of : {X A : Type 0} (values : X → Row) (into : X → A) (Yields : Row → A → Type 0) → ((x : X) (a : A) → Yields (values x) a → a ≡ into x)
+pub first_of : {X A : Type 0} (values : X → Row) (into : X → A) (Yields : Row → A → Type 0) → ((x : X) (a : A) → Yields (values x) a → a ≡ into x)
     → (held : Option X) (rows : List Row) (found : Option A) → rows ≡ map values (option_to_list held) → IsFirst Yields rows found
     → found ≡ option_map into held
 first_of {X} {A} values into Yields one held rows found is first = go held found (subst (λ rs. IsFirst Yields rs found) is first)
@@ -29,82 +29,54 @@ first_of {X} {A} values into Yields one held rows found is first = go held found
     go (Some x) None h = absurd h
     go (Some x) (Some a) h = ap Some (one x a h)
 
-same_option : {X : Type 0} (o : Option X) → option_map (λ (x : X). x) o ≡ o
-same_option None = refl
-same_option (Some x) = refl
+-- the same of rows that hold the whole value
+pub first_held : {X : Type 0} (values : X → Row) (Fits : X → Type 0) → ((a b : X) → HasValues (values a) (values b) → b ≡ a)
+    → (held : Option X) (rows : List Row) (found : Option X) → rows ≡ map values (option_to_list held)
+    → IsFirst (λ row x. Fits x × HasValues row (values x)) rows found → found ≡ held
+first_held {X} values Fits one held rows found is first =
+    first_of values (λ (x : X). x) (λ row x. Fits x × HasValues row (values x)) (λ a b yielded. one a b yielded.1) held rows found is first
+    ∙ option_map_id held
 
-key_values_are : (a : Key) (b : KeyRow) → HasValues (key_values a) (key_values (key_of_row b None)) → b ≡ row_of_key a
-key_values_are a b h =
-    let flags : truth b.revoked ≡ truth a.revoked = cc in
-    let name : b.name ≡ a.name = cc in
-    let member : b.member ≡ a.member = cc in
-    let root : b.root ≡ a.root = cc in
-    let revoked = truths b.revoked a.revoked flags in
-    λ i. record { name = name i; member = member i; root = root i; revoked = revoked i }
+pub one_key : (a : Key) (b : KeyRow) → HasValues (key_values a) (key_values (key_of_row b None)) → b ≡ row_of_key a
+one_key a b h =
+    let r : key_values (key_of_row b None) ≡ key_values a = cc in
+    let revoked = truths b.revoked a.revoked (ap (λ row. whole_in (column row 3)) r) in
+    λ i. record { name = bytes (column (r i) 0); member = bytes (column (r i) 1); root = bytes (column (r i) 2); revoked = revoked i }
 
-pub key_first : (held : Option Key) (rows : List Row) (found : Option KeyRow) → rows ≡ map key_values (option_to_list held) → IsFirst IsKeyIn rows found
-    → found ≡ option_map row_of_key held
-key_first held rows found is first = first_of key_values row_of_key IsKeyIn (λ a b yielded. key_values_are a b yielded.1) held rows found is first
+pub one_older : (a b : OlderRoot) → HasValues (older_root_values a) (older_root_values b) → b ≡ a
+one_older a b h =
+    let r : older_root_values b ≡ older_root_values a = cc in
+    λ i. record { root = bytes (column (r i) 0); until = whole_in (column (r i) 1) }
 
-older_values_are : (a b : OlderRoot) → HasValues (older_root_values a) (older_root_values b) → b ≡ a
-older_values_are a b h =
-    let root : b.root ≡ a.root = cc in
-    let until : b.until ≡ a.until = cc in
-    λ i. record { root = root i; until = until i }
-
-pub older_first : (held : Option OlderRoot) (rows : List Row) (found : Option OlderRoot) → rows ≡ map older_root_values (option_to_list held)
-    → IsFirst IsOlderRootIn rows found → found ≡ held
-older_first held rows found is first =
-    first_of older_root_values (λ (x : OlderRoot). x) IsOlderRootIn (λ a b yielded. older_values_are a b yielded.1) held rows found is first ∙ same_option held
-
-member_values_are : (a b : MemberRow) → HasValues (member_values a) (member_values b) → b ≡ a
-member_values_are a b h =
-    let name : b.member.name ≡ a.member.name = cc in
-    let credited : b.member.credited ≡ a.member.credited = cc in
-    let quota : b.member.quota ≡ a.member.quota = cc in
-    let used : b.used ≡ a.used = cc in
-    λ i. record { member = record { name = name i; credited = credited i; quota = quota i }; used = used i }
-
-pub member_first : (held : Option MemberRow) (rows : List Row) (found : Option MemberRow) → rows ≡ map member_values (option_to_list held)
-    → IsFirst IsMemberIn rows found → found ≡ held
-member_first held rows found is first =
-    first_of member_values (λ (x : MemberRow). x) IsMemberIn (λ a b yielded. member_values_are a b yielded.1) held rows found is first ∙ same_option held
-
-letters : (a b : List ℕ) → a ≡ b → get_or a 0 0 ≡ get_or b 0 0
-letters a b e = ap (λ (l : List ℕ). get_or l 0 0) e
+pub one_member : (a b : MemberRow) → HasValues (member_values a) (member_values b) → b ≡ a
+one_member a b h =
+    let r : member_values b ≡ member_values a = cc in
+    λ i. record {
+      member = record { name = bytes (column (r i) 0); credited = whole_in (column (r i) 1); quota = whole_in (column (r i) 2) };
+      used = whole_in (column (r i) 3);
+    }
 
 -- kinds differ in their first letters
-kinds : (a b : Kind) → kind_text a ≡ kind_text b → a ≡ b
-kinds Court Court e = refl
-kinds Court Boat e = absurd (let n : ◌≡◌ {A = ℕ} 99 98 = letters (kind_text Court) (kind_text Boat) e in omega (arith, n))
-kinds Court Room e = absurd (let n : ◌≡◌ {A = ℕ} 99 114 = letters (kind_text Court) (kind_text Room) e in omega (arith, n))
-kinds Boat Court e = absurd (let n : ◌≡◌ {A = ℕ} 98 99 = letters (kind_text Boat) (kind_text Court) e in omega (arith, n))
-kinds Boat Boat e = refl
-kinds Boat Room e = absurd (let n : ◌≡◌ {A = ℕ} 98 114 = letters (kind_text Boat) (kind_text Room) e in omega (arith, n))
-kinds Room Court e = absurd (let n : ◌≡◌ {A = ℕ} 114 99 = letters (kind_text Room) (kind_text Court) e in omega (arith, n))
-kinds Room Boat e = absurd (let n : ◌≡◌ {A = ℕ} 114 98 = letters (kind_text Room) (kind_text Boat) e in omega (arith, n))
-kinds Room Room e = refl
+abbrev kind_by : ℕ → Kind
+kind_by letter = if letter == 99 then Court else if letter == 98 then Boat else Room
 
-facility_values_are : (a b : Facility) → HasValues (facility_values a) (facility_values b) → b ≡ a
-facility_values_are a b h =
-    let texts : kind_text b.kind ≡ kind_text a.kind = cc in
-    let name : b.name ≡ a.name = cc in
-    let kind = kinds b.kind a.kind texts in
-    let places : b.places ≡ a.places = cc in
-    let price : b.price ≡ a.price = cc in
-    let opens : b.opens ≡ a.opens = cc in
-    let shuts : b.shuts ≡ a.shuts = cc in
-    λ i. record { name = name i; kind = kind i; places = places i; price = price i; opens = opens i; shuts = shuts i }
+kinds : (k : Kind) → kind_by (get_or (kind_text k) 0 0) ≡ k
+kinds Court = refl
+kinds Boat = refl
+kinds Room = refl
 
-pub facility_first : (held : Option Facility) (rows : List Row) (found : Option Facility) → rows ≡ map facility_values (option_to_list held)
-    → IsFirst IsFacilityIn rows found → found ≡ held
-facility_first held rows found is first =
-    first_of facility_values (λ (x : Facility). x) IsFacilityIn (λ a b yielded. facility_values_are a b yielded.1) held rows found is first ∙ same_option held
-
-pub booking_first : (held : Option Booking) (rows : List Row) (found : Option Booking) → rows ≡ map booking_values (option_to_list held)
-    → IsFirst IsBookingIn rows found → found ≡ held
-booking_first held rows found is first =
-    first_of booking_values (λ (x : Booking). x) IsBookingIn (λ a b yielded. one_booking a b yielded.1) held rows found is first ∙ same_option held
+pub one_facility : (a b : Facility) → HasValues (facility_values a) (facility_values b) → b ≡ a
+one_facility a b h =
+    let r : facility_values b ≡ facility_values a = cc in
+    let kind = sym (kinds b.kind) ∙ ap (λ row. kind_by (get_or (bytes (column row 1)) 0 0)) r ∙ kinds a.kind in
+    λ i. record {
+      name = bytes (column (r i) 0);
+      kind = kind i;
+      places = whole_in (column (r i) 2);
+      price = whole_in (column (r i) 3);
+      opens = whole_in (column (r i) 4);
+      shuts = whole_in (column (r i) 5);
+    }
 
 module _ (key : List ℕ) (number : ℕ) where
   -- a booking that was asked for is one

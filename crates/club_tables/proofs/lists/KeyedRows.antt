@@ -4,7 +4,7 @@ use Rattle.std.proofs.Common.{true≢false, ℤ, ◌==◌}
 use Rattle.std.specs.Prelude.{find, option_map, AllPairs, unwrap_or}
 use Rattle.std.specs.Option.{option_or}
 use Rattle.std.specs.List.{list_any}
-use Rattle.std.proofs.lemmas.Bool.{false_from_ne_true}
+use Rattle.std.proofs.lemmas.Bool.{false_from_ne_true, or_parts}
 use Rattle.std.proofs.lemmas.List.Folds.{find-append, list_any_at}
 use Rattle.std.specs.Str.{bytes_eq}
 use Rattle.std.specs.Cmp.{unsigned_Decides}
@@ -29,11 +29,7 @@ use Rattle.club_tables.proofs.queries.KeyLemmas.{same_slots, three}
 
 pub absent : {X : Type 0} (p : X → Bool) (xs : List X) → list_any p xs ≡ false → find p xs ≡ None
 absent p [] none = refl
-absent {X} p (x ∷ xs) none = go (p x) none (absent p xs)
-  where
-    go : (b : Bool) → (b || list_any p xs) ≡ false → (list_any p xs ≡ false → find p xs ≡ None) → cond b (Some x) (find p xs) ≡ None
-    go true none more = absurd cc
-    go false none more = more none
+absent p (x ∷ xs) none = let parts = or_parts (p x) (list_any p xs) none in rw parts.0 (absent p xs parts.1)
 
 or_none : {X : Type 0} (o : Option X) → option_or o None ≡ o
 or_none None = refl

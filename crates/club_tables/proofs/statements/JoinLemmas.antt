@@ -13,42 +13,37 @@ use Rattle.sqlite.specs.Query.{inner, end, IsAnswer, output, counted}
 use Rattle.sqlite.specs.Program.{overlay}
 use Rattle.sqlite.specs.Command.TheVariants.{Select}
 use Rattle.sqlite.specs.Effect.{Database, Reads, Answers}
-use Rattle.sqlite_trees.proofs.ListLemmas.{map-map, map-flat_map, flat_map_same_on}
+use Rattle.sqlite_trees.proofs.ListLemmas.{map-map, map-flat_map, flat_map-map, flat_map_same_on, filter-filter}
+use Rattle.std.proofs.lemmas.List.Elements.{filter_agree}
+use Rattle.std.proofs.lemmas.List.Sorted.{IsPermutation-filter_both}
+use Rattle.std.proofs.Math.Bool.{and-true}
+use Rattle.std.proofs.Common.{not, sym, subst₂}
 use Rattle.sqlite_sql.specs.Ops.{is_true}
 use Rattle.club_tables.specs.Tables.{IsRowOf, Holds}
 use Rattle.club_tables.specs.Statements.{select}
-use Rattle.club_tables.proofs.statements.SelectLemmas.{Apart, pick_by_if, no_overlay, picked, none_of, shown_of}
+use Rattle.club_tables.proofs.statements.SelectLemmas.{Apart, pick_by_if, no_overlay, picked, none_of, shown_of, row_of, paired as with_rowids}
 use Rattle.club_tables.proofs.statements.PassLemmas.{as_many, each_row}
 
 -- ---- lists
 
 pub filter_filter : {X : Type 0} (p q : X → Bool) (xs : List X) → filter p (filter q xs) ≡ filter (λ x. q x && p x) xs
 filter_filter p q [] = refl
-filter_filter {X} p q (x ∷ xs) = elim (q x) as (λ b. filter p (cond b (x ∷ filter q xs) (filter q xs))
-    ≡ cond (b && p x) (x ∷ filter (λ y. q y && p y) xs) (filter (λ y. q y && p y) xs)) [
-      | true ↦ elim (p x) as (λ b. cond b (x ∷ filter p (filter q xs)) (filter p (filter q xs))
-          ≡ cond b (x ∷ filter (λ y. q y && p y) xs) (filter (λ y. q y && p y) xs))
-          [ true ↦ ap (λ ys. x ∷ ys) (filter_filter p q xs) | false ↦ filter_filter p q xs ]
-      | false ↦ filter_filter p q xs
-    ]
+filter_filter p q (x ∷ xs) = elim (q x) as (λ b. filter p (cond b (x ∷ filter q xs) (filter q xs))
+    ≡ cond (b && p x) (x ∷ filter (λ y. q y && p y) xs) (filter (λ y. q y && p y) xs))
+    [ true ↦ ap (λ ys. cond (p x) (x ∷ ys) ys) (filter_filter p q xs) | false ↦ filter_filter p q xs ]
 
--- what passes a test passes one of two others, and never both
-pub in_two : {X : Type 0} (r p s : X → Bool) → ((x : X) → r x ≡ (p x || s x)) → ((x : X) → p x ≡ true → s x ≡ false) → (xs : List X)
-    → IsPermutation (filter r xs) (filter p xs ++ filter s xs)
-in_two r p s either apart [] = IsPermutation-refl []
-in_two {X} r p s either apart (x ∷ xs) = go (p x) (s x) refl refl (in_two r p s either apart xs)
-  where
-    go : (b c : Bool) → p x ≡ b → s x ≡ c → IsPermutation (filter r xs) (filter p xs ++ filter s xs)
-        → IsPermutation (cond (r x) (x ∷ filter r xs) (filter r xs)) (cond b (x ∷ filter p xs) (filter p xs) ++ cond c (x ∷ filter s xs) (filter s xs))
-    go true true hp hs more = absurd (let e = apart x hp in cc)
-    go true false hp hs more = rw (either x, hp) (IsPermutation-cons x (filter r xs) (filter p xs ++ filter s xs) more)
-    go false true hp hs more =
-        let front = filter p xs in
-        let back = filter s xs in
-        rw (either x, hp, hs) (IsPermutation-trans (x ∷ filter r xs) (x ∷ (front ++ back)) (front ++ x ∷ back)
-        (IsPermutation-cons x (filter r xs) (front ++ back) more) (IsPermutation-sym (front
-        ++ x ∷ back) (x ∷ (front ++ back)) (IsPermutation-middle front x back)))
-    go false false hp hs more = rw (either x, hp, hs) more
+only_second : (a b : Bool) → (a ≡ true → b ≡ false) → ((a || b) && not a) ≡ b
+only_second true b apart = sym (apart refl)
+only_second false b apart = and-true b
+
+-- what passes one of two tests, if nothing passes both
+in_two : {X : Type 0} (p s : X → Bool) → ((x : X) → p x ≡ true → s x ≡ false) → (xs : List X)
+    → IsPermutation (filter (λ x. p x || s x) xs) (filter p xs ++ filter s xs)
+in_two {X} p s apart xs =
+    let either = λ (x : X). p x || s x in
+    subst₂ (λ front back. IsPermutation (filter either xs) (front ++ back)) (filter-filter p either (λ x h. rw h refl) xs)
+    (filter_filter (λ x. not (p x)) either xs ∙ filter_agree _ s (λ x. only_second (p x) (s x) (apart x)) xs)
+    (IsPermutation-filter_both p (λ x. not (p x)) (λ x. refl) (filter either xs))
 
 -- if no two of the xs are paired with one y, the ys that are paired are those of the pairs
 module _ {X Y : Type 0} (paired : X → Y → Bool) where
@@ -66,7 +61,7 @@ module _ {X Y : Type 0} (paired : X → Y → Bool) where
       let others = λ (y : Y). list_any (λ other. paired other y) xs in
       IsPermutation-trans (filter (λ y. list_any (λ other. paired other y) (x ∷ xs)) ys) (filter (paired x) ys
       ++ filter others ys) (flat_map (λ other. filter (paired other) ys) (x ∷ xs))
-      (in_two (λ y. list_any (λ other. paired other y) (x ∷ xs)) (paired x) others (λ y. refl) (λ y h. none_else x y h xs apart.0) ys)
+      (in_two (paired x) others (λ y h. none_else x y h xs apart.0) ys)
       (IsPermutation-append_right (filter (paired x) ys) (filter others ys) (flat_map (λ other. filter (paired other) ys) xs) (pairs_of xs ys apart.1))
 
 -- ---- a query of two tables
@@ -106,17 +101,14 @@ module _ {X Y : Type 0} (outer_values : X → Row) (values : Y → Row) (params 
       → AllZip (λ row x. IsRowOf (outer_values x) row) outer xs
       → flat_map (λ a. map (shows_both params tests project a) (filter (joins params tests project a) inside)) outer
       ≡ flat_map (λ x. map show (filter (p x) ys)) xs
-  picked_both inside ys same [] [] h = refl
-  picked_both inside ys same [] (x ∷ xs) h = absurd h
-  picked_both inside ys same (a ∷ outer) [] h = absurd h
-  picked_both inside ys same (a ∷ outer) (x ∷ xs) h =
-      let row = h.0.1 in
-      let one : map (shows_both params tests project a) (filter (joins params tests project a) inside) ≡ map show (filter (p x) ys) =
-      picked values (p x) show (joins params tests project a) (shows_both params tests project a)
-      (λ id y. ap (λ r. joins params tests project r (Int id ∷ values y)) row ∙ tested h.0.0 id x y)
-      (λ id y. ap (λ r. shows_both params tests project r (Int id ∷ values y)) row ∙ shown h.0.0 id x y) inside ys same in
-      let more = picked_both inside ys same outer xs h.1 in
-      cc
+  picked_both inside ys same outer xs h =
+      let it = with_rowids outer_values outer xs h in
+      let shows_of = λ (a : Row). map (shows_both params tests project a) (filter (joins params tests project a) inside) in
+      let show_of = λ (x : X). map show (filter (p x) ys) in
+      ap (flat_map shows_of) it.rows_are ∙ flat_map-map shows_of (row_of outer_values) it.pairs
+      ∙ flat_map_same_on (λ q. shows_of (row_of outer_values q)) (λ q. show_of q.1) (λ q.
+      picked values (p q.1) show _ _ (λ id y. tested q.0 id q.1 y) (λ id y. shown q.0 id q.1 y) inside ys same) it.pairs
+      ∙ sym (ap (flat_map show_of) it.xs_are ∙ flat_map-map show_of (λ q. q.1) it.pairs)
 
   -- the answer has what is shown of each pair of elements that passes, in some order
   pub selected_both : (outer inside : ℕ) (names : List (List ℕ)) (db : Database) (xs : List X) (ys : List Y) (rows : List Row)

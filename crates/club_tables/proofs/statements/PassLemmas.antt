@@ -12,6 +12,7 @@ use Rattle.std.proofs.lemmas.Option.{slice_get_within}
 use Rattle.sqlite_value.specs.declared.value.Value.TheVariants.{Int}
 use Rattle.sqlite.specs.Order.{Row}
 use Rattle.sqlite_trees.proofs.ListLemmas.{filter-filter}
+use Rattle.sqlite_rules.proofs.ListLemmas.{has_found, contains_had}
 use Rattle.club_tables.specs.Tables.{IsRowOf}
 use Rattle.club_tables.proofs.statements.SelectLemmas.{find_first, filter_same}
 
@@ -36,13 +37,11 @@ as_many hit p (r ∷ rows) (x ∷ xs) same =
 
 -- an element passes, and so the first that does is found
 pub find_some : {X : Type 0} (p : X → Bool) (xs : List X) → 1 ≤ length (filter p xs) → (x : X) × (find p xs ≡ Some x)
-find_some p [] some = absurd (omega arith)
-find_some {X} p (x ∷ xs) some = go (p x) refl some (find_some p xs)
+find_some {X} p xs some = go (filter p xs) (find_first p xs) some
   where
-    go : (b : Bool) → p x ≡ b → 1 ≤ length (cond b (x ∷ filter p xs) (filter p xs)) → (1 ≤ length (filter p xs) → (y : X) × (find p xs ≡ Some y))
-        → (y : X) × (cond b (Some x) (find p xs) ≡ Some y)
-    go true is some more = (x, refl)
-    go false is some more = more some
+    go : (ys : List X) → find p xs ≡ slice_get ys 0 → 1 ≤ length ys → (x : X) × (find p xs ≡ Some x)
+    go [] is some = absurd (omega arith)
+    go (y ∷ ys) is some = (y, is)
 
 -- as many rows are written
 pub as_many_written : {X : Type 0} (hit : Row → Bool) (shown : Row → Row) (p : X → Bool) (before rows : List Row) (xs : List X)
@@ -96,9 +95,4 @@ found_by_both p q xs same = find_first p xs ∙ ap (λ ys. slice_get ys 0) (filt
 
 -- what is found is an element, and passes
 pub found : {X : Type 0} (p : X → Bool) (xs : List X) (x : X) → find p xs ≡ Some x → Contains xs x × (p x ≡ true)
-found p [] x h = absurd (cc)
-found {X} p (y ∷ xs) x h = go (p y) refl (λ e. found p xs x e) h
-  where
-    go : (b : Bool) → p y ≡ b → (find p xs ≡ Some x → Contains xs x × (p x ≡ true)) → cond b (Some y) (find p xs) ≡ Some x → Contains (y ∷ xs) x × (p x ≡ true)
-    go true passes more e = let same : y ≡ x = cc in ((0, omega arith, same), ap p (sym same) ∙ passes)
-    go false fails more e = let later = more e in ((suc later.0.0, omega (arith, later.0.1), later.0.2), later.1)
+found p xs x h = let it = has_found p xs x h in (contains_had xs x it.0, it.1)

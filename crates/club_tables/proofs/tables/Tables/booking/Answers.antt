@@ -8,7 +8,9 @@ use Rattle.club_core.specs.Sums.{booking_under}
 use Rattle.club_tables.specs.Answers.{Answers, OfBooking, FailsToRead, IsFirst, IsBookingIn, IsBookingNamed, reading_statement}
 use Rattle.club_tables.specs.ReadsAndChanges.{ReadsClub}
 use Rattle.club_tables.specs.Transaction.{BoundStatement, IsKept}
-use Rattle.club_tables.proofs.lists.FirstLemmas.{booking_first, unnamed}
+use Rattle.club_tables.proofs.lists.FirstLemmas.{first_held, unnamed}
+use Rattle.club_tables.proofs.lists.BookingRows.{one_booking}
+use Rattle.club_tables.specs.Columns.{booking_values}
 use Rattle.club_tables.proofs.queries.ReadLemmas.{read_answer, fewer_read}
 use Rattle.club_tables.proofs.queries.KeyLemmas.{booking_shown}
 use Rattle.club_tables.proofs.tables.Tables.booking.Goals as goal
@@ -27,7 +29,7 @@ read_booking : {S : Type 0} (g : Ghosts S) (key : List ℕ) (number : ℕ) {old 
     → Survives (state g old) (state g new) (λ _. ⊥) → ReadsClub g old new result (λ club found. found ≡ booking_under key number club.bookings)
 read_booking g key number {old = old} gives kept quiet =
     read_answer (OfBooking key number) gives kept quiet (λ rows can. can) (booking_shown g old key number) (λ club rows found shown first.
-    booking_first (booking_under key number club.bookings) rows found shown (unnamed key number rows found first))
+    first_held booking_values _ one_booking (booking_under key number club.bookings) rows found shown (unnamed key number rows found first))
 
 pub returns-in-Err-clause-gives : goal.returns-in-Err-clause-gives
 returns-in-Err-clause-gives g c =

@@ -1,6 +1,7 @@
 use Rattle.club_tables.specs.Answers.{OfFacility}
 use Rattle.club_core.specs.Club.{facility_named}
-use Rattle.club_tables.proofs.lists.FirstLemmas.{facility_first}
+use Rattle.club_tables.proofs.lists.FirstLemmas.{first_held, one_facility}
+use Rattle.club_tables.specs.Columns.{facility_values}
 use Rattle.club_tables.proofs.queries.KeyLemmas.{facility_shown}
 use Rattle.club_tables.proofs.queries.ReadLemmas.{read_answer}
 use Rattle.club_tables.proofs.tables.Tables.facility.Goals as goal
@@ -9,4 +10,4 @@ pub returns-clause-reads : goal.returns-clause-reads
 returns-clause-reads g c =
     let name = c.args.name.now in
     read_answer (OfFacility name) (rw c.as_bytes.ensures.value at c.answer.ensures.gives) c.answer.ensures.kept c.answer.ensures.survives (λ rows can. can)
-    (facility_shown g.S.Store c.args.self.now name) (λ club rows found. facility_first (facility_named name club) rows found)
+    (facility_shown g.S.Store c.args.self.now name) (λ club rows found. first_held facility_values _ one_facility (facility_named name club) rows found)

@@ -1,6 +1,8 @@
-use Rattle.club_tables.specs.Answers.{OfKey}
+use Rattle.club_tables.specs.Answers.{OfKey, IsKeyIn}
 use Rattle.club_core.specs.Club.{key_named}
-use Rattle.club_tables.proofs.lists.FirstLemmas.{key_first}
+use Rattle.club_tables.proofs.lists.FirstLemmas.{first_of, one_key}
+use Rattle.club_tables.specs.Columns.{key_values}
+use Rattle.club_rows.specs.Key.{row_of_key}
 use Rattle.club_tables.proofs.queries.KeyLemmas.{key_shown}
 use Rattle.club_tables.proofs.queries.ReadLemmas.{read_answer}
 use Rattle.club_tables.proofs.tables.Tables.key.Goals as goal
@@ -9,4 +11,5 @@ pub returns-clause-reads : goal.returns-clause-reads
 returns-clause-reads g c =
     let name = c.args.name.now in
     read_answer (OfKey name) (rw c.as_bytes.ensures.value at c.answer.ensures.gives) c.answer.ensures.kept c.answer.ensures.survives (λ rows can. can)
-    (key_shown g.S.Store c.args.self.now name) (λ club rows found. key_first (key_named name club) rows found)
+    (key_shown g.S.Store c.args.self.now name) (λ club rows found.
+    first_of key_values row_of_key IsKeyIn (λ a b yielded. one_key a b yielded.1) (key_named name club) rows found)

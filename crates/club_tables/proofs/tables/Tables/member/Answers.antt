@@ -2,7 +2,8 @@ use Rattle.club_tables.specs.Answers.{OfMember}
 use Rattle.std.specs.Prelude.{option_map}
 use Rattle.club_core.specs.Club.{member_named}
 use Rattle.club_tables.specs.Stored.{member_row}
-use Rattle.club_tables.proofs.lists.FirstLemmas.{member_first}
+use Rattle.club_tables.proofs.lists.FirstLemmas.{first_held, one_member}
+use Rattle.club_tables.specs.Columns.{member_values}
 use Rattle.club_tables.proofs.queries.KeyLemmas.{member_shown}
 use Rattle.club_tables.proofs.queries.ReadLemmas.{read_answer}
 use Rattle.club_tables.proofs.tables.Tables.member.Goals as goal
@@ -11,4 +12,5 @@ pub returns-clause-reads : goal.returns-clause-reads
 returns-clause-reads g c =
     let name = c.args.name.now in
     read_answer (OfMember name) (rw c.as_bytes.ensures.value at c.answer.ensures.gives) c.answer.ensures.kept c.answer.ensures.survives (λ rows can. can)
-    (member_shown g.S.Store c.args.self.now name) (λ club rows found. member_first (option_map (member_row club) (member_named name club)) rows found)
+    (member_shown g.S.Store c.args.self.now name) (λ club rows found.
+    first_held member_values _ one_member (option_map (member_row club) (member_named name club)) rows found)

@@ -1,6 +1,7 @@
 use Rattle.club_tables.specs.Answers.{OfOlderRoot}
 use Rattle.club_core.specs.KeyParts.{older_root_of}
-use Rattle.club_tables.proofs.lists.FirstLemmas.{older_first}
+use Rattle.club_tables.proofs.lists.FirstLemmas.{first_held, one_older}
+use Rattle.club_tables.specs.Columns.{older_root_values}
 use Rattle.club_tables.proofs.queries.KeyLemmas.{older_shown}
 use Rattle.club_tables.proofs.queries.ReadLemmas.{read_answer}
 use Rattle.club_tables.proofs.tables.Tables.older_root.Goals as goal
@@ -9,4 +10,4 @@ pub returns-clause-reads : goal.returns-clause-reads
 returns-clause-reads g c =
     let name = c.args.key.now in
     read_answer (OfOlderRoot name) (rw c.as_bytes.ensures.value at c.answer.ensures.gives) c.answer.ensures.kept c.answer.ensures.survives (λ rows can. can)
-    (older_shown g.S.Store c.args.self.now name) (λ club rows found. older_first (older_root_of name club) rows found)
+    (older_shown g.S.Store c.args.self.now name) (λ club rows found. first_held older_root_values _ one_older (older_root_of name club) rows found)
