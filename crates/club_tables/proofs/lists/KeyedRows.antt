@@ -25,7 +25,7 @@ use Rattle.club_tables.specs.Stored.{SlotRow, no_slot_use, stored_slot_use}
 use Rattle.club_tables.specs.Tables.{slots_tree}
 use Rattle.club_tables.proofs.statements.PassLemmas.{any_counts, find_some, found}
 use Rattle.club_tables.proofs.statements.SelectLemmas.{Apart, apart_from_pairs, text_equal, whole_equal, pairs_mapped}
-use Rattle.club_tables.proofs.queries.KeyLemmas.{same_slots, three}
+use Rattle.club_tables.proofs.queries.KeyLemmas.{same_slots, three, find_mapped}
 
 pub absent : {X : Type 0} (p : X → Bool) (xs : List X) → list_any p xs ≡ false → find p xs ≡ None
 absent p [] none = refl
@@ -69,11 +69,7 @@ module _ {X K : Type 0} (key_of : X → K) (same : K → K → Bool) (same_keys 
             true≢false (sym (list_any_at is_of rows k d low (ap (λ n. same n key) (e ∙ of_key) ∙ itself key)) ∙ none))
 
     found_changed : (name : K) (rows : List X) → named name (map changed rows) ≡ option_map changed (named name rows)
-    found_changed name [] = refl
-    found_changed name (x ∷ rows) =
-        let more = found_changed name rows in
-        rw (kept x) (elim (same (key_of x) name) as (λ b. cond b (Some (changed x)) (named name (map changed rows))
-        ≡ option_map changed (cond b (Some x) (named name rows))) [ true ↦ refl | false ↦ more ])
+    found_changed name rows = find_mapped (λ (x : X). same (key_of x) name) changed rows ∙ (λ i. option_map changed (find (λ x. same (kept x i) name) rows))
 
     -- what is shown of the row that is found, or of none, is changed for the key alone
     module _ {V : Type 0} (shown : Option X → V) (next : V → V) (shows : (x : X) → is_of x ≡ true → shown (Some (changed x)) ≡ next (shown (Some x)))

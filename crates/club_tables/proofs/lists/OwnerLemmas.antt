@@ -7,6 +7,7 @@ use Rattle.std.specs.Str.{bytes_eq}
 use Rattle.std.proofs.lemmas.Bool.{false_from_ne_true}
 use Rattle.std.proofs.lemmas.List.Sums.{sum_by-cons, sum_by_push}
 use Rattle.std.proofs.lemmas.Slice.Eq.{bytes_eq-Decides}
+use Rattle.std.proofs.lemmas.Cmp.{nat_list_eq_equiv}
 use Rattle.std.proofs.Math.Bool.{and_comm, or-false}
 use Rattle.std.specs.Option.{option_to_list}
 use Rattle.club_rows.specs.declared.key.Key.{Key}
@@ -39,11 +40,7 @@ pub unequal : (a b : List ℕ) → a ≢ b → bytes_eq a b ≡ false
 unequal a b apart = false_from_ne_true (bytes_eq a b) (λ h. apart ((bytes_eq-Decides a b).0 h))
 
 pub bytes_eq-sym : (a b : List ℕ) → bytes_eq a b ≡ bytes_eq b a
-bytes_eq-sym a b = go (bytes_eq a b) refl
-  where
-    go : (x : Bool) → bytes_eq a b ≡ x → x ≡ bytes_eq b a
-    go true h = sym ((bytes_eq-Decides b a).1 (sym ((bytes_eq-Decides a b).0 h)))
-    go false h = sym (unequal b a (λ e. true≢false (sym ((bytes_eq-Decides a b).1 (sym e)) ∙ h)))
+bytes_eq-sym = nat_list_eq_equiv.symm
 
 -- ---- sums
 

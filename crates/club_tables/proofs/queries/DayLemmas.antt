@@ -8,7 +8,9 @@ use Rattle.std.specs.Cmp.Lexicographic.{slice_cmp}
 use Rattle.std.proofs.lemmas.Bool.Decides.{nat_tests}
 use Rattle.std.proofs.lemmas.Cmp.{ranked, nat_cmp_total, nat_list_cmp_total, on_total, then_total}
 use Rattle.std.proofs.lemmas.List.Kept.{AllPairs-filter}
-use Rattle.std.proofs.lemmas.Map.Lookups.{exact_bytes}
+use Rattle.std.proofs.lemmas.Map.Lookups.{exact_bytes, exact_unsigned}
+use Rattle.std.proofs.Math.Bool.{and-true, and_comm}
+use Rattle.std.proofs.Common.{◌==◌, not}
 use Rattle.sqlite_tied.specs.Compute.{everything}
 use Rattle.sqlite_value.specs.declared.value.Value.TheVariants.{Text}
 use Rattle.sqlite_value.specs.declared.keys.Collation.TheVariants.{Binary}
@@ -48,11 +50,6 @@ sheet_total =
     (then_total (on_total (λ (b : Booking). b.slot.hour) nat_cmp_total)
     (then_total (on_total (λ (b : Booking). b.key) nat_list_cmp_total) (on_total (λ (b : Booking). b.number) nat_cmp_total)))
 
-then_less : (o p : Ordering) → ordering_then o p ≡ Less → (o ≡ Less) ⊎ ((o ≡ Equal) × (p ≡ Less))
-then_less Less p h = inl refl
-then_less Equal p h = inr (refl, h)
-then_less Greater p h = absurd cc
-
 then_equal : (o p : Ordering) → ordering_then o p ≡ Equal → (o ≡ Equal) × (p ≡ Equal)
 then_equal Less p h = absurd cc
 then_equal Equal p h = (refl, h)
@@ -61,24 +58,23 @@ then_equal Greater p h = absurd cc
 number_less : (m n : ℕ) → nat_cmp m n ≡ Less → m < n
 number_less m n h = ranked m n Less (sym h)
 
-number_equal : (m n : ℕ) → nat_cmp m n ≡ Equal → m ≡ n
-number_equal m n h = ranked m n Equal (sym h)
-
 -- by the first part, and if those are equal, by the others
 by_parts : {A B C : Type 0} (o p : Ordering) → (o ≡ Less → A) → (o ≡ Equal → B) → (p ≡ Less → C) → ordering_then o p ≡ Less → A ⊎ (B × C)
-by_parts {A} {B} {C} o p f g h less = elim (then_less o p less) [ inl first ↦ inl (f first) | inr both ↦ inr (g both.0, h both.1) ]
+by_parts Less p f g h less = inl (f refl)
+by_parts Equal p f g h less = inr (g refl, h less)
+by_parts Greater p f g h less = absurd cc
 
 precedes : (a b : Booking) → sheet_cmp a b ≡ Less → Precedes a b
 precedes a b =
     by_parts _ _ (λ h. h) (exact_bytes a.slot.facility b.slot.facility)
-    (by_parts _ _ (number_less a.slot.hour b.slot.hour) (number_equal a.slot.hour b.slot.hour)
+    (by_parts _ _ (number_less a.slot.hour b.slot.hour) (exact_unsigned a.slot.hour b.slot.hour)
     (by_parts _ _ (λ h. h) (exact_bytes a.key b.key) (number_less a.number b.number)))
 
 same_name : (a b : Booking) → sheet_cmp a b ≡ Equal → (a.key ≡ b.key) × (a.number ≡ b.number)
 same_name a b h =
     let later = (then_equal _ _ (then_equal _ _ h).1).1 in
     let names = then_equal _ _ later in
-    (exact_bytes a.key b.key names.0, number_equal a.number b.number names.1)
+    (exact_bytes a.key b.key names.0, exact_unsigned a.number b.number names.1)
 
 abbrev Differ : Booking → Booking → Type 0
 Differ a b = ¬ ((a.key ≡ b.key) × (a.number ≡ b.number))
@@ -114,24 +110,14 @@ whole_cmp m n = let same : int_cmp (pos m) (pos n) ≡ nat_cmp m n = grind (arit
 by_values : (a b : Booking) → key_cmp 0 (map (λ _. ascending Binary) sheet_terms) (sheet_key a) (sheet_key b) ≡ sheet_cmp a b
 by_values a b = simp (value_cmp-Text, whole_cmp, then-Equal)
 
-two_turned : (a a' b b' : Bool) → a ≡ a' → b ≡ b' → (a && (b && true)) ≡ (b' && a')
-two_turned a a' b b' p q = turned a b ∙ cc
-  where
-    turned : (a b : Bool) → (a && (b && true)) ≡ (b && a)
-    turned true true = refl
-    turned true false = refl
-    turned false true = refl
-    turned false false = refl
-
 pub day_shown : {S : Type 0} (g : Ghosts S) (old : Held S) (day : ℕ) → Shows g old (DAY.now, whole day ∷ []) (λ club. ShowsDay club day)
 day_shown g old day rows clean asked club others represents =
     let tables = asked_tables asked clean club others represents in
     let reads = asked_reads asked day_asks tables.holds_rows.schema in
-    let tests = λ (id : ℤ) (b : Booking). two_turned _ _ _ _ (whole_equal b.slot.day day) (whole_equal (truth b.cancelled) 0 ∙ no_truth b.cancelled) in
     let day_selection = selected_in_order booking_values (whole day
     ∷ []) day_tests booking_terms (map (λ term. (term, ascending Binary)) sheet_terms) (is_on day)
-    booking_values sheet_key
-    tests (λ id b. refl) (λ id b. refl) bookings_tree booking_names (state g old).now club.bookings rows (bookings_held _ club tables) reads in
+    booking_values sheet_key (λ id b. rw (whole_equal b.slot.day day, whole_equal (truth b.cancelled) 0, no_truth b.cancelled, and-true (not b.cancelled))
+    (and_comm (b.slot.day == day) (not b.cancelled))) (λ id b. refl) (λ id b. refl) bookings_tree booking_names (state g old).now club.bookings rows (bookings_held _ club tables) reads in
     let bookings = day_selection.ordered in
     let same_cmp : (λ (a b : Booking). key_cmp 0 (map (λ _. ascending Binary) sheet_terms) (sheet_key a) (sheet_key b)) ≡ sheet_cmp =
     λ i a b. by_values a b i in

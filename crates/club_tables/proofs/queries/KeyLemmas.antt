@@ -6,7 +6,7 @@ use Rattle.std.proofs.lemmas.List.{length-map}
 use Rattle.std.specs.Option.{option_to_list}
 use Rattle.std.specs.Str.{bytes_eq}
 use Rattle.std.proofs.lemmas.Slice.Eq.{bytes_eq-Decides}
-use Rattle.std.proofs.Math.Bool.{and-true}
+use Rattle.std.proofs.Math.Bool.{and-true, and_assoc}
 use Rattle.std.specs.Cmp.{unsigned_Decides}
 use Rattle.std.proofs.lemmas.Bool.{and_parts}
 use Rattle.sqlite_tied.specs.Compute.{everything}
@@ -156,13 +156,7 @@ unfolding understood everything
 slot_asks = record { is = refl; plain = (refl, refl); unlisted = refl }
 
 pub three : (a b c : Bool) → (a && (b && (c && true))) ≡ (a && b && c)
-three true true true = refl
-three true true false = refl
-three true false c = refl
-three false b c = refl
-
-three_tests : (a a' b b' c c' : Bool) → a ≡ a' → b ≡ b' → c ≡ c' → (a && (b && (c && true))) ≡ (a' && b' && c')
-three_tests a a' b b' c c' p q r = three a b c ∙ cc
+three a b c = ap (λ d. a && (b && d)) (and-true c) ∙ sym (and_assoc a b c)
 
 pub same_slots : (a b : Slot) → same_slot a b ≡ true → a ≡ b
 same_slots a b h =
@@ -184,8 +178,9 @@ slot_shown g old slot rows clean asked club others represents =
     let p : SlotRow → Bool = λ row. same_slot row.slot slot in
     let show : SlotRow → Row = λ row. use_values row.held in
     let R : SlotRow → SlotRow → Type 0 = λ a b. a.slot ≢ b.slot in
-    let same = asked_shows asked slot_asks tables slot_values p show (λ id row. three_tests _ _ _ _ _ _ (text_equal row.slot.facility slot.facility)
-    (whole_equal row.slot.day slot.day) (whole_equal row.slot.hour slot.hour)) (λ id row. refl) tables.rows.slots tables.holds_rows.held.slots in
+    let same = asked_shows asked slot_asks tables slot_values p show (λ id row.
+    rw (text_equal row.slot.facility slot.facility, whole_equal row.slot.day slot.day, whole_equal row.slot.hour slot.hour)
+    (three (bytes_eq row.slot.facility slot.facility) (row.slot.day == slot.day) (row.slot.hour == slot.hour))) (λ id row. refl) tables.rows.slots tables.holds_rows.held.slots in
     let low = one_passes R p tables.rows.slots (λ x y a b apart. apart (same_slots x.slot slot a ∙ sym (same_slots y.slot slot b)))
     (apart_from_pairs R tables.rows.slots tables.storage.once) in
     shows_by club slot (row_of slot tables.rows.slots) rows (first_returned show p tables.rows.slots rows low same) (tables.storage.slots slot)

@@ -193,18 +193,10 @@ open_shown g old member moment rows clean asked club others represents =
     let tables = asked_tables asked clean club others represents in
     let reads = asked_reads asked open_asks tables.holds_rows.schema in
     let number : Booking → Row = λ b. whole b.number ∷ [] in
-    let tests = λ (i j : ℤ) (k : Key) (b : Booking).
-    let e = text_equal k.name b.key in
-    let f = text_equal k.member member in
-    let t = whole_equal (truth b.cancelled) 0 ∙ no_truth b.cancelled in
-    let l = and-true (is_true (binary (Compare Ge Binary) (whole b.slot.day) (whole (moment / 1440)))) in
-    let h : (is_true (binary (Compare Eq Binary) (Text k.name) (Text b.key)) && (is_true (binary (Compare Eq Binary) (Text k.member) (Text member))
-    && (is_true (binary (Compare Eq Binary) (whole (truth b.cancelled)) (whole 0))
-    && (is_true (binary (Compare Gt Binary) (start_value b) (whole moment))
-    && (is_true (binary (Compare Ge Binary) (whole b.slot.day) (whole (moment / 1440))) && true)))))
-    ≡ is_owned member (comes moment) k b = cc in h in
     let both = selected_both key_values booking_values (Text member ∷ whole moment ∷ whole (moment / 1440) ∷ [])
-    open_tests (col 2 2 ∷ []) (is_owned member (comes moment)) number tests (λ i j k b. refl)
+    open_tests (col 2 2 ∷ []) (is_owned member (comes moment)) number (λ i j k b. rw (text_equal k.name b.key, text_equal k.member member,
+    whole_equal (truth b.cancelled) 0, no_truth b.cancelled, and-true (is_true (binary (Compare Ge Binary) (whole b.slot.day) (whole (moment / 1440))))) refl)
+    (λ i j k b. refl)
     keys_tree bookings_tree (codes "number" ∷ []) (state g old).now club.keys club.bookings rows (keys_held _ club tables) (bookings_held _ club tables)
     reads in
     let own = bookings_of member club in
