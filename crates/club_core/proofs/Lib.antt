@@ -3,4 +3,3 @@ pub mod Ordered
 pub mod SheetOrder
 pub mod SheetText
 pub mod AnswerLemmas
-pub mod LooksLemmas

@@ -32,11 +32,13 @@ pub fn closes_a_slot()
 {}
 
 /// Under a spend limit, refunded points can be spent again.
+#[tactic(auto, unfolding(pass_caveats::specs::Tests::permits))]
 pub fn keeps_a_spend_limit()
     ensures { KeepsASpendLimit }
 {}
 
 /// A refusal changes nothing.
+#[tactic(auto, using(crate::proofs::AnswerLemmas::refusals_change_nothing))]
 pub fn refusals_change_nothing()
     ensures { RefusalsChangeNothing }
 {}
