@@ -15,11 +15,13 @@ pub fn conserves_points()
 {}
 
 /// A slot has a place for each person who booked it.
+#[tactic(auto, using(crate::proofs::PointRuns::has_room))]
 pub fn never_overbooks()
     ensures { NeverOverbooks }
 {}
 
 /// Every sound club has a place for each person who booked a slot, whatever run led to it.
+#[tactic(auto, using(crate::proofs::PointRuns::has_places))]
 pub fn sound_clubs_have_places()
     ensures { SoundClubsHavePlaces }
 {}

@@ -5,32 +5,38 @@ ghost use Rattle.club_laws.specs.Failed.{CutsRuns, JoinsRuns, LeavesEvents, Leav
 ghost use Rattle.club_laws.specs.FailedExample.{LeavesOutFailedEvents};
 
 /// A run in which some events failed has the responses and the end of the list without them.
+#[tactic(auto, using(crate::proofs::FailedEvents::run_of_answered))]
 pub fn leaves_out_failed<O>()
     ensures { LeavesOutFailed O }
 {}
 
 /// If all events are within their limits, those that were answered are.
+#[tactic(auto, using(crate::proofs::FailedEvents::events_left))]
 pub fn leaves_events<O>()
     ensures { LeavesEvents O }
 {}
 
 /// A run can be cut in two: the second part begins with the club that the first leaves.
+#[tactic(auto, using(crate::proofs::FailedEvents::cut))]
 pub fn cuts_runs<O>()
     ensures { CutsRuns O }
 {}
 
 /// Two such runs can be joined to one.
+#[tactic(auto, using(crate::proofs::FailedEvents::joined))]
 pub fn joins_runs<O>()
     ensures { JoinsRuns O }
 {}
 
 /// If a desk presents no answer to the office as a fault, the machine's own run is a run without
 /// failures.
+#[tactic(auto, using(crate::proofs::FailedEvents::run_without_failures))]
 pub fn runs_without_failures<O>()
     ensures { RunsWithoutFailures O }
 {}
 
 /// The machine itself never replies that memory or storage was refused.
+#[tactic(auto, using(crate::proofs::MachineAnswers::never_unavailable))]
 pub fn never_unavailable()
     ensures { NeverUnavailable }
 {}

@@ -19,12 +19,14 @@ pub fn depends_on_the_basis_alone()
 {}
 
 /// Without a basis the reply is one fixed refusal, whatever else the club holds.
+#[tactic(auto, using(crate::proofs::ServedPasses::refused_blind))]
 pub fn refuses_without_a_basis()
     ensures { RefusesWithoutABasis }
 {}
 
 /// A pass that isn't signed under a root of its key that is good at the moment gets the reply of a
 /// pass that names no key.
+#[tactic(auto, using(crate::proofs::ServedPasses::unsigned_in))]
 pub fn refuses_the_unsigned()
     ensures { RefusesTheUnsigned }
 {
@@ -33,6 +35,7 @@ pub fn refuses_the_unsigned()
 
 /// A request is served only if the pass names a key of the club that isn't revoked, is signed
 /// under a root of its row that is good at the moment, and each caveat allows the request.
+#[tactic(auto, using(crate::proofs::ServedPasses::served_entitled))]
 pub fn serves_only_the_entitled()
     ensures { ServesOnlyTheEntitled }
 {
@@ -50,6 +53,7 @@ pub fn serves_no_revoked_key()
 
 /// If a request is served under a pass with added caveats, the pass without them gets the same
 /// reply.
+#[tactic(auto, using(crate::proofs::ServedPasses::wide_in))]
 pub fn more_caveats_never_open_more()
     ensures { MoreCaveatsNeverOpenMore }
 {

@@ -2,4 +2,4 @@ use Rattle.club_laws.proofs.FailureLemmas.{again_with_failures}
 use Rattle.club_laws.proofs.runs_with_failures.repeats_after_one_more.Goals as goal
 
 pub returns : goal.returns
-returns g c = λ presentation. again_with_failures presentation c.tests_the_set.ensures c.tests_the_signature.ensures
+returns g c = again_with_failures c.tests_the_set.ensures c.tests_the_signature.ensures
