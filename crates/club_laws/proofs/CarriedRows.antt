@@ -1,5 +1,5 @@
 -- What a change says of the club's rows is true, and so it fits.
-use Rattle.std.proofs.Common.{◌≡◌, ℕ, List, Option, Some, None, Ok, Err, refl, sym, subst}
+use Rattle.std.proofs.Common.{arith, ℕ, Option, Some, None, Ok, Err, refl, subst}
 use Rattle.std.specs.Prelude.{Result}
 use Rattle.club_core.specs.declared.change.Change.{Change}
 use Rattle.club_core.specs.declared.command.Command.{Command}
@@ -7,19 +7,19 @@ use Rattle.club_core.specs.declared.command.Command.TheVariants.{Credit, AddKey,
 use Rattle.club_core.specs.declared.command.OfficeFault.{OfficeFault}
 use Rattle.club_core.specs.declared.verdict.Verdict.{Verdict}
 use Rattle.club_core.specs.Answer.{verdict_in}
-use Rattle.club_core.specs.Club.{Club, IsSound, key_named}
+use Rattle.club_core.specs.Club.{Club, IsSound}
 use Rattle.club_core.specs.Events.{IsEvent}
 use Rattle.club_core.specs.Office.{office_verdict}
 use Rattle.club_core.specs.Pass.{Words}
 use Rattle.club_core.specs.Run.{Event, Asked, Commanded}
-use Rattle.club_core.specs.Store.{FitsClub, IsTrueOf, IsToCancel}
+use Rattle.club_core.specs.Store.{FitsClub, IsTrueOf}
 use Rattle.club_laws.specs.SoundRuns.{IsChangeBy}
 use Rattle.club_laws.proofs.AnswerCases.{answer_cases}
 use Rattle.club_laws.proofs.FittingAnswers.{fits_answer}
 use Rattle.club_laws.proofs.FittingChanges.{FitsIfAny}
 use Rattle.club_laws.proofs.FittingOffice.{FitsIfOk, fits_command}
 use Rattle.club_laws.proofs.FoundRows.{found_passes}
-use Rattle.club_laws.proofs.NamedRows.{is_numbered, numbered, found_by_own}
+use Rattle.club_laws.proofs.NamedRows.{numbered, found_by_own}
 use Rattle.club_laws.proofs.CommandCases.{CommandRestsOn, change_of, command_cases}
 use Rattle.club_laws.proofs.SoundSteps.{sound_after}
 
@@ -33,16 +33,7 @@ IsTrueIfOk club (Ok change) = IsTrueOf change club
 
 true_answer : (club : Club) (words : Words) (moment : ℕ) → IsTrueIfAny club (verdict_in club words moment).change
 true_answer club words moment =
-    answer_cases (λ (v : Verdict). IsTrueIfAny club v.change) club words moment (record {
-      silent = λ reply h. tt;
-      repeats_booking = λ key member slot number guests booking k e b. tt;
-      books = λ key member slot number guests facility k e b. (key, k.known, refl);
-      cancels_recorded = λ key member slot number booking k e b. tt;
-      cancels = λ key member slot number booking k e c.
-          let named = numbered key.name number booking (found_passes (is_numbered key.name number) club.bookings booking c.found) in
-          let found : IsToCancel booking club = (found_by_own key.name number booking club.bookings c.found, c.still_booked) in
-          (found, (key, subst (λ (n : List ℕ). key_named n club ≡ Some key) (sym named.0) k.known, refl));
-    })
+    answer_cases (λ (v : Verdict). IsTrueIfAny club v.change) club words moment (grind (arith, numbered, found_passes, found_by_own))
 
 true_command : (club : Club) (command : Command) → IsTrueIfOk club (office_verdict club command)
 true_command club command = command_cases (IsTrueIfOk club) club (λ fault. tt) command (done command)

@@ -37,7 +37,6 @@ abbrev pub HasKnownKeys : Club → Type 0
 HasKnownKeys club = All (λ (booking : Booking). Contains (map (λ (key : Key). key.name) club.keys) booking.key) club.bookings
 
 -- an edit of the rows of one name
--- an edit of the rows of one name
 key_edited : (root : Key → List ℕ) (older : Key → Option OlderRoot) (is_revoked : Key → Bool) (name : List ℕ) (club : Club) (other : List ℕ)
     → ((key : Key) → bytes_eq key.name other ≡ false → edited root older is_revoked key ≡ key)
     → part_of name (record club { keys = map (edited root older is_revoked) club.keys })

@@ -25,11 +25,8 @@ pub mod ServedPasses
 pub mod RevokedKeys
 pub mod ChangedParts
 pub mod KnownKeys
-pub mod ChangesUnderKeys
 pub mod MachineAnswers
 pub mod OwnBasis
-pub mod FollowedAsks
-pub mod OfficialChanges
 pub mod FollowedSteps
 pub mod FailedEvents
 pub mod SoloRuns

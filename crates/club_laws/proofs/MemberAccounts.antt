@@ -30,14 +30,7 @@ pub record KeepsPeople (club new : Club) : Type 0 where
   pub members : new.members ≡ club.members
 
 answer_keeps : (club : Club) (words : Words) (moment : ℕ) → KeepsPeople club (after_change (verdict_in club words moment).change club)
-answer_keeps club words moment =
-    answer_cases (λ (v : Verdict). KeepsPeople club (after_change v.change club)) club words moment (record {
-      silent = λ reply h. assumption;
-      repeats_booking = λ key member slot number guests booking k e b. assumption;
-      books = λ key member slot number guests facility k e b. assumption;
-      cancels_recorded = λ key member slot number booking k e b. assumption;
-      cancels = λ key member slot number booking k e c. assumption;
-    })
+answer_keeps club words moment = answer_cases (λ (v : Verdict). KeepsPeople club (after_change v.change club)) club words moment (grind arith)
 
 abbrev pub is_among : List (List ℕ) → List ℕ → Bool
 is_among keys key = list_any (λ (k : List ℕ). bytes_eq k key) keys

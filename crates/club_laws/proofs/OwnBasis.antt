@@ -1,24 +1,21 @@
 -- A request of the member's is answered by the member's part and what others hold.
-use Rattle.std.proofs.Common.{◌≡◌, ℕ, ◌+◌, Bool, List, Option, Some, None, option_map, option_and_then, refl, sym, ap, ◌∙◌}
+use Rattle.std.proofs.Common.{subst, ◌≡◌, ℕ, ◌+◌, Bool, List, Option, Some, None, option_map, refl, sym, ap}
 use Rattle.club_values.specs.declared.slot.Slot.{Slot}
-use Rattle.club_rows.specs.declared.member.Member.{Member}
 use Rattle.club_rows.specs.declared.facility.Facility.{Facility}
-use Rattle.club_rows.specs.declared.key.Key.{Key}
 use Rattle.club_rows.specs.declared.booking.Booking.{Booking}
-use Rattle.club_core.specs.declared.request.Request.{Request}
 use Rattle.club_rows.specs.Booking.{persons_of}
 use Rattle.club_core.specs.Sums.{is_in}
 use Rattle.club_core.specs.Request.{request_slot}
 use Rattle.club_core.specs.Pass.{Words}
 use Rattle.club_core.specs.Club.{Club, key_named, member_named, keys_of, is_key_of, bookings_of}
-use Rattle.club_core.specs.Basis.{Basis, SlotState, basis_of, basis_under, state_of, key_of}
+use Rattle.club_core.specs.Basis.{Basis, SlotState, basis_of, state_of}
 use Rattle.club_core.specs.declared.slot_use.SlotUse.{SlotUse}
 use Rattle.club_core.specs.Solo.{outside, part_of, with_others}
 use Rattle.club_laws.proofs.FoundRows.{found_passes, find_filtered, bytes_same, same_bytes_of}
 use Rattle.club_laws.proofs.Filtering.{filter_twice}
 use Rattle.club_laws.proofs.RowSums.{sum_in_parts}
 use Rattle.club_laws.proofs.ChangedParts.{is_named, is_owned, has_name, is_under_one}
-use Rattle.club_laws.proofs.BasisRows.{basis_with, RestsOn, rests_on_name}
+use Rattle.club_laws.proofs.BasisRows.{rests_on_name}
 
 abbrev state_with : Option Facility → ℕ → Bool → SlotState
 state_with facility taken closed = record { facility = facility; held = record { taken = taken; closed = closed } }
@@ -35,38 +32,17 @@ own_state : (name : List ℕ) (club : Club) (slot : Option Slot) → with_outsid
 own_state name club None = refl
 own_state name club (Some slot) = rw (sum_in_parts persons_of (is_in slot) (λ (booking : Booking). is_key_of name club booking.key) club.bookings)
 
--- the basis in the part, with what others hold, is the basis in the club
-own_basis_with : (club : Club) (request : Request) (key : Key) (member : Member)
-    → with_others (outside member.name club (request_slot request)) (basis_with (part_of member.name club) request key member)
-    ≡ basis_with club request key member
-own_basis_with club request key member = rw (own_bookings member.name club, own_state member.name club (request_slot request))
-
--- the rows of a member's key are in the member's part
-rests_in_part : (club : Club) (request : Request) (name : Option (List ℕ)) (basis : Basis) → RestsOn club request name basis
-    → option_and_then (basis_under (part_of basis.member.name club) request)
-    (option_and_then (λ (n : List ℕ). key_named n (part_of basis.member.name club)) name)
-    ≡ Some (basis_with (part_of basis.member.name club) request basis.key basis.member)
-rests_in_part club request name basis rests =
+-- the rows of a member's key are in the member's part: so with what others hold, it gives the basis of a request of the member's
+pub own_basis : (name : List ℕ) (club : Club) (words : Words) (basis : Basis) → basis_of club words ≡ Some basis → basis.member.name ≡ name
+    → option_map (with_others (outside name club (request_slot words.request))) (basis_of (part_of name club) words) ≡ Some basis
+own_basis name club words basis e same =
+    let rests = rests_on_name club words basis e in
     let own = basis.member.name in
     let part = part_of own club in
-    let member_name : own ≡ basis.key.member =
-    bytes_same own basis.key.member (found_passes (is_named basis.key.member) club.members basis.member rests.member)
-    in
+    let named = bytes_same own basis.key.member (found_passes (is_named basis.key.member) club.members basis.member rests.member) in
     let key_in : key_named basis.key.name part ≡ Some basis.key =
-    find_filtered (has_name basis.key.name) (is_owned own) club.keys basis.key rests.row (same_bytes_of basis.key.member own (sym member_name))
-    in
+    find_filtered (has_name basis.key.name) (is_owned own) club.keys basis.key rests.row (same_bytes_of basis.key.member own (sym named)) in
     let member_in : member_named basis.key.member part ≡ Some basis.member =
-    find_filtered (is_named basis.key.member) (is_named own) club.members basis.member rests.member (same_bytes_of own own refl)
-    in
-    ap (λ (n : Option (List ℕ)). option_and_then (basis_under part request) (option_and_then (λ (m : List ℕ). key_named m part) n)) rests.key_name
-    ∙ (ap (λ (key : Option Key). option_and_then (basis_under part request) key) key_in
-    ∙ ap (λ (member : Option Member). option_map (basis_with part request basis.key) member) member_in)
-
--- so the member's part gives the basis of a request of the member's
-pub own_basis : (club : Club) (words : Words) (basis : Basis) → basis_of club words ≡ Some basis
-    → option_map (with_others (outside basis.member.name club (request_slot words.request))) (basis_of (part_of basis.member.name club) words) ≡ Some basis
-own_basis club words basis e =
-    let rests = rests_on_name club words basis e in
-    let others = outside basis.member.name club (request_slot words.request) in
-    ap (λ (b : Option Basis). option_map (with_others others) b) (rests_in_part club words.request (key_of words.pass) basis rests)
-    ∙ ap Some (own_basis_with club words.request basis.key basis.member ∙ sym rests.whole)
+    find_filtered (is_named basis.key.member) (is_named own) club.members basis.member rests.member (same_bytes_of own own refl) in
+    subst (λ (n : List ℕ). option_map (with_others (outside n club (request_slot words.request))) (basis_of (part_of n club) words) ≡ Some basis) same
+    (rw (rests.key_name, key_in, member_in, own_bookings own club, own_state own club (request_slot words.request)) (ap Some (sym rests.whole)))

@@ -2,16 +2,15 @@
 use Rattle.std.proofs.Common.{◌≡◌, ℕ, cond, List, [], ◌∷◌, ◌++◌, map, refl, arith}
 use Rattle.std.proofs.lemmas.Simd.{map-map}
 use Rattle.club_core.specs.Club.{Club}
-use Rattle.club_core.specs.Run.{Event, step, replies_of, club_after, EventReply, ToMember, Response}
+use Rattle.club_core.specs.Run.{Event, step, replies_of, club_after, EventReply, ToMember}
 use Rattle.club_core.specs.Solo.{OwnEvent, OwnAsk, OwnChange, own_part, own_events, part_of, solo_replies}
+use Rattle.club_laws.specs.RunsWithFailures.{SoloLawWithFailures}
 use Rattle.club_laws.specs.SoloLaw.{is_ask, replies_to, solo_part}
-use Rattle.club_laws.proofs.KnownKeys.{IsKeyed}
-use Rattle.club_laws.proofs.FollowedAsks.{Follows}
-use Rattle.club_laws.specs.Failed.{Presentation, present_reply, IsRun, answered_events, answers}
+use Rattle.club_laws.proofs.KnownKeys.{IsKeyed, keyed_step, keyed_from_sound}
+use Rattle.club_laws.specs.Failed.{present_reply, answered_events}
 use Rattle.club_laws.proofs.FailedEvents.{run_of_answered}
-use Rattle.club_laws.proofs.FollowedSteps.{follows, keyed_step}
+use Rattle.club_laws.proofs.FollowedSteps.{Follows, follows}
 
--- one event of the run is its own entry in the solo machine
 -- one event of the run is its own entry in the solo machine
 one_more : (own : List OwnEvent) (part next last : Club) (reply : EventReply) (rest : List OwnEvent) (returned : List EventReply)
     → Follows part own reply next → (returned ≡ map ToMember (solo_replies next rest)) × (solo_part next rest ≡ last)
@@ -38,27 +37,12 @@ replies_mapped f name club [] replies = refl
 replies_mapped f name club (event ∷ events) [] = refl
 replies_mapped f name club (event ∷ events) (reply ∷ replies) = grind (arith, replies_mapped f name (step club event).club events replies)
 
-pub solo_with_failures : {O : Type 0} (presentation : Presentation O) (name : List ℕ) (club last : Club) (events : List Event) (replies : List (Response O))
-    → IsKeyed club
-    → IsRun presentation club events replies last → replies_to name club (answered_events presentation events replies) (answers presentation events replies)
-    ≡ map ToMember (solo_replies (part_of name club) (own_events name club (answered_events presentation events replies)))
-solo_with_failures presentation name club last events replies keyed run =
+pub solo_with_failures : {O : Type 0} → SoloLawWithFailures O
+solo_with_failures presentation name club last events replies sound run =
     let answered = answered_events presentation events replies in
     rw (
       (run_of_answered presentation club last events replies run).responses,
-      replies_mapped (present_reply presentation) name club answered
-          (replies_of club answered),
-      (solo name club answered keyed).0,
+      replies_mapped (present_reply presentation) name club answered (replies_of club answered),
+      (solo name club answered (keyed_from_sound club sound)).0,
     )
     (map-map (present_reply presentation) ToMember (solo_replies (part_of name club) (own_events name club answered)))
-
-pub solo_of_two_with_failures : {O : Type 0} (presentation : Presentation O) (name : List ℕ) (a b last end : Club) (events others : List Event)
-    (replies returned : List (Response O))
-    → IsKeyed a → IsKeyed b → IsRun presentation a events replies last → IsRun presentation b others returned end → part_of name a ≡ part_of name b
-    → own_events name a (answered_events presentation events replies) ≡ own_events name b (answered_events presentation others returned)
-    → replies_to name a (answered_events presentation events replies) (answers presentation events replies)
-    ≡ replies_to name b (answered_events presentation others returned) (answers presentation others returned)
-solo_of_two_with_failures presentation name a b last end events others replies returned keyed_a keyed_b run_a run_b parts own =
-    let in_a = solo_with_failures presentation name a last events replies keyed_a run_a in
-    let in_b = solo_with_failures presentation name b end others returned keyed_b run_b in
-    cc

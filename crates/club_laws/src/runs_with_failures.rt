@@ -49,12 +49,14 @@ pub fn repeats_after_one_more<O>()
 }
 
 /// The replies to a member's requests follow from the member's part and own events alone.
+#[tactic(auto, using(crate::proofs::SoloRuns::solo_with_failures))]
 pub fn solo_law<O>()
     ensures { SoloLawWithFailures O }
 {}
 
 /// If two clubs hold the same part of a member, and two lists the same events of its own, the
 /// member gets the same replies.
+#[tactic(auto, using(crate::proofs::SoloRuns::solo_with_failures))]
 pub fn solo_law_of_two<O>()
     ensures { SoloLawOfTwoWithFailures O }
 {}
