@@ -2,15 +2,11 @@ pub mod KeptByRuns
 pub mod FoundRows
 pub mod AnswerCases
 pub mod RowSums
-pub mod FittingChanges
 pub mod KeyOwners
 pub mod SoundOffice
 pub mod SoundBookings
 pub mod NamedRows
-pub mod FittingOffice
-pub mod FittingAnswers
 pub mod SoundSteps
-pub mod CarriedRows
 pub mod OnRecord
 pub mod RepeatAnswers
 pub mod FirstEntries

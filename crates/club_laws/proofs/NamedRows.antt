@@ -4,14 +4,14 @@ use Rattle.std.proofs.lemmas.Slice.Eq.{bytes_eq-Decides}
 use Rattle.std.specs.Prelude.{All, AllPairs, Contains, ◌&&◌, ◌==◌, find, is_some}
 use Rattle.std.specs.Str.{bytes_eq}
 use Rattle.std.specs.List.{list_any}
-use Rattle.std.proofs.lemmas.List.Elements.{All-nil, All-cons, Contains-append_left}
+use Rattle.std.proofs.lemmas.List.Elements.{All-nil, All-cons, All-contains, All-map, Contains-append_left}
 use Rattle.std.proofs.lemmas.List.{map-append}
 use Rattle.std.proofs.lemmas.Bool.{both_ways}
 use Rattle.club_values.specs.declared.slot.Slot.{Slot}
 use Rattle.club_rows.specs.declared.booking.Booking.{Booking}
 use Rattle.club_rows.specs.Booking.{same_slot}
 use Rattle.club_core.specs.Sums.{is_under}
-use Rattle.club_laws.proofs.FoundRows.{found_passes, found_is_there, Contains-map, none_found, only_found, All-each, bytes_same, same_bytes_of}
+use Rattle.club_laws.proofs.FoundRows.{other_bytes, found_passes, found_is_there, Contains-map, none_found, only_found, All-each, bytes_same, same_bytes_of}
 
 pub none_there : {X : Type 0} (o : Option X) → is_some o ≡ false → o ≡ None
 none_there o e = grind arith
@@ -32,6 +32,11 @@ pub named_there : {X : Type 0} (name : X → List ℕ) (n : List ℕ) (xs : List
 named_there name n xs x e =
     subst (λ (m : List ℕ). Contains (map name xs) m) (named name n xs x e)
     (Contains-map name xs x (found_is_there (λ y. bytes_eq (name y) n) xs x e))
+
+-- whatever name is among them differs from a new one
+pub fresh_differs : {X : Type 0} (name : X → List ℕ) (n m : List ℕ) (xs : List X) → All (λ x. name x ≢ n) xs → Contains (map name xs) m
+    → bytes_eq m n ≡ false
+fresh_differs name n m xs fresh there = other_bytes m n (All-contains (λ k. k ≢ n) (map name xs) m (All-map (λ k. k ≢ n) name xs fresh) there)
 
 -- a name is still among them when there is one more row
 pub still_there : {X : Type 0} (name : X → List ℕ) (rows : List X) (row : X) (n : List ℕ) → Contains (map name rows) n

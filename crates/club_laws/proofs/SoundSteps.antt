@@ -1,49 +1,65 @@
--- Steps and runs keep a sound club.
-use Rattle.std.proofs.Common.{List, [], ◌∷◌, Option, Some, None, Ok, Err}
-use Rattle.std.specs.Prelude.{Result, All}
+-- Steps and runs keep a sound club, and each change fits.
+use Rattle.std.proofs.Common.{[], ◌∷◌, Option, Some, None, Ok, Err, arith, ℕ, refl}
+use Rattle.std.specs.Prelude.{Result}
 use Rattle.std.proofs.lemmas.List.Elements.{All-head, All-tail}
 use Rattle.club_core.specs.declared.change.Change.{Change}
-use Rattle.club_core.specs.declared.change.Change.TheVariants.{InsertMember, AddCredit, InsertFacility, InsertKey, MarkRevoked, ReplaceRoot, MarkClosed}
-use Rattle.club_core.specs.declared.change.Change.TheVariants.{InsertBooking, MarkCancelled}
 use Rattle.club_core.specs.declared.command.Command.{Command}
 use Rattle.club_core.specs.declared.command.OfficeFault.{OfficeFault}
 use Rattle.club_core.specs.Club.{Club, IsSound}
 use Rattle.club_core.specs.Answer.{verdict_in}
-use Rattle.club_core.specs.After.{after}
 use Rattle.club_core.specs.Office.{office_verdict}
-use Rattle.club_core.specs.Run.{Event, Asked, Commanded, step, after_change, command_outcome, club_after}
+use Rattle.club_core.specs.Run.{Asked, Commanded, step, command_outcome}
 use Rattle.club_core.specs.Events.{IsEvent}
-use Rattle.club_laws.proofs.FittingChanges.{Fits, FitsIfAny}
-use Rattle.club_laws.proofs.FittingOffice.{FitsIfOk, fits_command}
-use Rattle.club_laws.proofs.FittingAnswers.{fits_answer}
-use Rattle.club_laws.proofs.SoundOffice.{sound_member, sound_credit, sound_facility, sound_key, sound_revoked, sound_rotated, sound_closed}
-use Rattle.club_laws.proofs.SoundBookings.{sound_booking, sound_cancellation}
+use Rattle.club_core.specs.declared.command.Command.TheVariants.{Credit, AddKey, RevokeKey, RotateKey}
+use Rattle.club_core.specs.declared.verdict.Verdict.{Verdict}
+use Rattle.club_core.specs.Pass.{Words}
+use Rattle.club_core.specs.Store.{IsTrueOf}
+use Rattle.club_laws.proofs.AnswerCases.{answer_cases}
+use Rattle.club_laws.proofs.FoundRows.{found_passes}
+use Rattle.club_laws.proofs.NamedRows.{numbered, found_by_own}
+use Rattle.club_laws.proofs.CommandCases.{CommandRestsOn, change_of, command_cases}
+use Rattle.club_laws.proofs.SoundOffice.{sound_command}
+use Rattle.club_laws.proofs.SoundBookings.{sound_answer}
+use Rattle.club_laws.specs.SoundRuns.{ChangesFit, RunsKeepSound, StepsKeepSound}
 
-pub sound_after : (club : Club) (change : Change) → IsSound club → Fits club change → IsSound (after change club)
-sound_after club (InsertMember member) s f = sound_member club member s f
-sound_after club (AddCredit name points) s f = sound_credit club name points s f
-sound_after club (InsertFacility facility) s f = sound_facility club facility s f
-sound_after club (InsertKey key) s f = sound_key club key s f
-sound_after club (MarkRevoked name) s f = sound_revoked club name s
-sound_after club (ReplaceRoot name former root until) s f = sound_rotated club name root until s f
-sound_after club (MarkClosed slot) s f = sound_closed club slot s f
-sound_after club (InsertBooking booking member) s f = sound_booking club booking s f
-sound_after club (MarkCancelled booking member refund) s f = sound_cancellation club booking.key booking.number refund s f
+pub sound_step : StepsKeepSound
+sound_step club (Asked words moment) s e = sound_answer club words moment s e
+sound_step club (Commanded command) s e =
+    command_cases (λ (v : Result Change OfficeFault). IsSound (command_outcome club command v).club) club (λ fault. s) command (sound_command club s command e)
 
-sound_after_any : (club : Club) (change : Option Change) → IsSound club → FitsIfAny club change → IsSound (after_change change club)
-sound_after_any club None s f = s
-sound_after_any club (Some change) s f = sound_after club change s f
-
-sound_commanded : (club : Club) (command : Command) (verdict : Result Change OfficeFault) → IsSound club → FitsIfOk club verdict
-    → IsSound (command_outcome club command verdict).club
-sound_commanded club command (Err fault) s f = s
-sound_commanded club command (Ok change) s f = sound_after club change s f
-
-pub sound_step : (club : Club) (event : Event) → IsSound club → IsEvent event → IsSound (step club event).club
-sound_step club (Asked words moment) s e = sound_after_any club (verdict_in club words moment).change s (fits_answer club words moment s e)
-sound_step club (Commanded command) s e = sound_commanded club command (office_verdict club command) s (fits_command club command s e)
-
-pub sound_run : (club : Club) (events : List Event) → IsSound club → All IsEvent events → IsSound (club_after club events)
+pub sound_run : RunsKeepSound
 sound_run club [] s h = s
 sound_run club (event ∷ events) s h =
     sound_run (step club event).club events (sound_step club event s (All-head IsEvent event events h)) (All-tail IsEvent event events h)
+
+abbrev IsTrueIfAny : Club → Option Change → Type 0
+IsTrueIfAny club None = Unit {0}
+IsTrueIfAny club (Some change) = IsTrueOf change club
+
+abbrev IsTrueIfOk : Club → Result Change OfficeFault → Type 0
+IsTrueIfOk club (Err fault) = Unit {0}
+IsTrueIfOk club (Ok change) = IsTrueOf change club
+
+true_answer : (club : Club) (words : Words) (moment : ℕ) → IsTrueIfAny club (verdict_in club words moment).change
+true_answer club words moment =
+    answer_cases (λ (v : Verdict). IsTrueIfAny club v.change) club words moment (grind (arith, numbered, found_passes, found_by_own))
+
+true_command : (club : Club) (command : Command) → IsTrueIfOk club (office_verdict club command)
+true_command club command = command_cases (IsTrueIfOk club) club (λ fault. tt) command (done command)
+  where
+    done : (c : Command) (r : CommandRestsOn club c) → IsTrueIfOk club (Ok (change_of club c r))
+    done (Credit name points) r = (r.0, r.1)
+    done (AddKey name member root) r = refl
+    done (RevokeKey name) r = (r.0, r.1)
+    done (RotateKey name root until) r = (r.0, r.1, refl)
+    done c r = tt
+
+pub fits_event : ChangesFit
+fits_event club (Asked words moment) change s e is = record {
+  carries = rw is at (true_answer club words moment);
+  sound = rw is at (sound_step club (Asked words moment) s e);
+}
+fits_event club (Commanded command) change s e is = record {
+  carries = rw is at (true_command club command);
+  sound = rw is at (sound_step club (Commanded command) s e);
+}

@@ -20,7 +20,7 @@ pub fn steps_keep_sound()
 
 /// The change that an event makes of a sound club fits it: what it carries of the club's rows is
 /// true, and the club after it is sound.
-#[tactic(auto, using(crate::proofs::CarriedRows::fits_event))]
+#[tactic(auto, using(crate::proofs::SoundSteps::fits_event))]
 pub fn changes_fit()
     ensures { ChangesFit }
 {}
