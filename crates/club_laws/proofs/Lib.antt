@@ -9,9 +9,7 @@ pub mod NamedRows
 pub mod SoundSteps
 pub mod OnRecord
 pub mod RepeatAnswers
-pub mod FirstEntries
-pub mod ChargeMoves
-pub mod RefundMoves
+pub mod PointMoves
 pub mod CommandCases
 pub mod MemberAccounts
 pub mod PointRuns

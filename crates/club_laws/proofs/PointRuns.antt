@@ -1,5 +1,5 @@
 -- Charges, refunds and places over a run from the empty club.
-use Rattle.std.proofs.Common.{◌≡◌, ℕ, ◌+◌, ◌≤◌, Bool, false, List, [], ◌∷◌, Option, Some, None, Ok, refl, sym, ap, ◌∙◌, arith, flat_map}
+use Rattle.std.proofs.Common.{◌≡◌, ℕ, ◌+◌, ◌≤◌, Bool, false, List, [], ◌∷◌, Option, Some, None, refl, sym, ap, ◌∙◌, arith, flat_map}
 use Rattle.club_core.specs.declared.command.OfficeAnswer.TheVariants.{NotDone}
 use Rattle.club_core.specs.After.{after}
 use Rattle.club_core.specs.Pass.{Words}
@@ -13,7 +13,6 @@ use Rattle.club_rows.specs.declared.member.Member.{Member}
 use Rattle.club_rows.specs.declared.facility.Facility.{Facility}
 use Rattle.club_rows.specs.declared.booking.Booking.{Booking}
 use Rattle.club_core.specs.declared.change.Change.{Change}
-use Rattle.club_core.specs.declared.command.Command.{Command}
 use Rattle.club_core.specs.declared.command.OfficeFault.{OfficeFault}
 use Rattle.club_rows.specs.Rows.{IsBooking}
 use Rattle.club_core.specs.Club.{Club, empty_club, member_named, facility_named, is_key_of, bookings_of, IsSound}
@@ -25,12 +24,10 @@ use Rattle.club_laws.specs.Points.{firsts}
 use Rattle.club_laws.specs.Conservation.{IsConserved}
 use Rattle.club_laws.proofs.FoundRows.{at_found}
 use Rattle.club_laws.proofs.NamedRows.{named, none_named}
-use Rattle.club_laws.proofs.CommandCases.{CommandRestsOn, change_of, command_cases}
+use Rattle.club_laws.proofs.CommandCases.{change_of, command_cases}
 use Rattle.club_laws.proofs.SoundOffice.{nobody_in}
 use Rattle.club_laws.proofs.SoundSteps.{sound_step, sound_run}
-use Rattle.club_laws.proofs.FirstEntries.{Seen, Stays, unseen_total, counts, points_of, moved, Moves}
-use Rattle.club_laws.proofs.ChargeMoves.{charged, has_number, charge_moves}
-use Rattle.club_laws.proofs.RefundMoves.{refunded, has_cancelled, refund_moves}
+use Rattle.club_laws.proofs.PointMoves.{Seen, unseen_total, counts, points_of, Moves, charged, has_number, charge_moves, refunded, has_cancelled, refund_moves}
 use Rattle.club_laws.proofs.MemberAccounts.{is_among, keys_of_run, credit_of, credit_of_run}
 
 -- a step moves a total of the bookings by the entries in its reply
@@ -47,21 +44,17 @@ module _ (p : List ℕ → Bool) (total : List Booking → ℕ) (seen : List Boo
   step_moves club (Asked words moment) s = asked club words moment s
   step_moves club (Commanded command) s =
       command_cases (λ (v : Result Change OfficeFault). MovesTo p total seen entries_of club (command_outcome club command v)) club
-      (λ fault. Stays (no_entry (NotDone fault)) refl (λ key number. refl)) command (done command)
-    where
-      done : (c : Command) (r : CommandRestsOn club c) → MovesTo p total seen entries_of club (command_outcome club c (Ok (change_of club c r)))
-      done c r =
-          let kept : (after (change_of club c r) club).bookings ≡ club.bookings = grind arith in
-          Stays (no_entry (done_answer c)) (ap total kept) (λ key number. rw kept)
+      (λ fault rest. rw (no_entry (NotDone fault)) refl) command
+      (λ r rest.
+      let kept : (after (change_of club command r) club).bookings ≡ club.bookings = grind arith in rw (no_entry (done_answer command), kept) refl)
 
   run_moves : (club : Club) (events : List Event) → IsSound club → All IsEvent events → total (club_after club events).bookings
       ≡ total club.bookings + unseen_total p (seen club.bookings) (flat_map entries_of (replies_of club events))
   run_moves club [] s h = omega arith
   run_moves club (event ∷ events) s h =
-      let next = step club event in
-      moved p (total club.bookings) (total next.club.bookings) (seen club.bookings) (seen next.club.bookings) (entries_of next.reply)
-      (flat_map entries_of (replies_of next.club events)) (total (club_after next.club events).bookings) (step_moves club event s)
-      (run_moves next.club events (sound_step club event s (All-head IsEvent event events h)) (All-tail IsEvent event events h))
+      let next = (step club event).club in
+      run_moves next events (sound_step club event s (All-head IsEvent event events h)) (All-tail IsEvent event events h)
+      ∙ step_moves club event s (flat_map entries_of (replies_of next events))
 
 -- if nothing is on record, all first entries count
 all_count : (keys : List (List ℕ)) (seen : Seen) (entries : List Entry) → ((key : List ℕ) (number : ℕ) → seen key number ≡ false)

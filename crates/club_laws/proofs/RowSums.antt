@@ -1,9 +1,9 @@
 -- Sums over the elements that a test keeps.
-use Rattle.std.proofs.Common.{◌≡◌, ℕ, ◌+◌, ◌≤◌, Bool, cond, List, [], ◌∷◌, map, refl, ap, arith}
+use Rattle.std.proofs.Common.{◌≡◌, ℕ, ◌+◌, ◌≤◌, Bool, cond, List, [], ◌∷◌, ◌++◌, map, refl, ap, ◌∙◌, arith}
 use Rattle.std.specs.Prelude.{All, filter, not, sum_by}
-use Rattle.std.proofs.lemmas.List.Elements.{All-head, All-tail}
+use Rattle.std.proofs.lemmas.List.Elements.{All-head, All-tail, filter-append}
 use Rattle.std.proofs.lemmas.List.Filters.{sum_by-filter_both}
-use Rattle.std.proofs.lemmas.List.Sums.{sum_by-cons}
+use Rattle.std.proofs.lemmas.List.Sums.{sum_by-cons, sum_by-append}
 use Rattle.club_laws.proofs.Filtering.{filters_swap}
 
 pub sum-filter : {X : Type 0} (f : X → ℕ) (p : X → Bool) (xs : List X) → sum_by f (filter p xs) ≡ sum_by (λ x. cond (p x) (f x) 0) xs
@@ -45,3 +45,14 @@ sum_in_parts {X} f q p xs =
     let first = ap (sum_by f) (filters_swap p q xs) in
     let second = ap (sum_by f) (filters_swap other q xs) in
     omega arith
+
+-- a sum with one element between others, and with one element more
+pub sum_middle : {X : Type 0} (f : X → ℕ) (p : X → Bool) (xs : List X) (x : X) (ys : List X)
+    → sum_by f (filter p (xs ++ x ∷ ys)) ≡ sum_by f (filter p xs) + cond (p x) (f x) 0 + sum_by f (filter p ys)
+sum_middle f p xs x ys =
+    ap (sum_by f) (filter-append p xs (x ∷ ys))
+    ∙ (sum_by-append f (filter p xs) (filter p (x ∷ ys)) ∙ grind (arith, sum_by-cons f x (filter p ys)))
+
+pub sum_one_more : {X : Type 0} (f : X → ℕ) (p : X → Bool) (xs : List X) (x : X)
+    → sum_by f (filter p (xs ++ x ∷ [])) ≡ sum_by f (filter p xs) + cond (p x) (f x) 0
+sum_one_more f p xs x = let parts = sum_middle f p xs x [] in omega arith

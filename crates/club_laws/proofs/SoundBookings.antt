@@ -1,9 +1,8 @@
 -- A club stays sound under bookings and cancellations.
-use Rattle.std.proofs.Common.{◌≡◌, ℕ, ◌+◌, ◌≤◌, Bool, true, false, cond, List, [], ◌∷◌, ◌++◌, get_or, map, ap, ◌∙◌, arith, All, subst}
-use Rattle.std.specs.Prelude.{Contains, ◌||◌, not, filter, sum_by}
-use Rattle.std.proofs.lemmas.List.Elements.{All-push, All-map, filter-append}
+use Rattle.std.proofs.Common.{◌≡◌, ℕ, ◌+◌, ◌≤◌, true, false, cond, List, [], ◌∷◌, ◌++◌, get_or, map, arith, All, subst}
+use Rattle.std.specs.Prelude.{Contains, ◌||◌, not, sum_by}
+use Rattle.std.proofs.lemmas.List.Elements.{All-push, All-map}
 use Rattle.std.proofs.lemmas.List.Quantifiers.{all_pairs_push}
-use Rattle.std.proofs.lemmas.List.Sums.{sum_by-append}
 use Rattle.std.proofs.lemmas.Bool.{and_parts, or_parts, not-true}
 use Rattle.club_values.specs.declared.slot.Slot.{Slot}
 use Rattle.club_rows.specs.declared.member.Member.{Member}
@@ -16,7 +15,7 @@ use Rattle.club_core.specs.Sums.{cost_of, is_in, taken_in}
 use Rattle.club_core.specs.After.{is_marked, cancelled_booking}
 use Rattle.club_core.specs.Club.{Club, is_key_of, bookings_of, IsSound}
 use Rattle.club_laws.proofs.FoundRows.{AllPairs-map, at_found, none_found, All-each}
-use Rattle.club_laws.proofs.RowSums.{sum_no_more}
+use Rattle.club_laws.proofs.RowSums.{sum_one_more, sum_no_more}
 use Rattle.std.proofs.lemmas.Slice.Eq.{bytes_eq-Decides}
 use Rattle.std.specs.Str.{bytes_eq}
 use Rattle.std.proofs.lemmas.Nat.{mul-le}
@@ -32,12 +31,6 @@ use Rattle.club_core.specs.declared.request.Request.TheVariants as asked
 use Rattle.std.proofs.lemmas.Bool.Decides.{nat_tests}
 use Rattle.club_core.specs.Run.{after_change}
 use Rattle.club_core.specs.Answer.{verdict_in}
-
--- the sum over what a test keeps, with one more element
-pub sum_one_more : {X : Type 0} (f : X → ℕ) (p : X → Bool) (xs : List X) (x : X)
-    → sum_by f (filter p (xs ++ x ∷ [])) ≡ sum_by f (filter p xs) + cond (p x) (f x) 0
-sum_one_more f p xs x =
-    ap (sum_by f) (filter-append p xs (x ∷ [])) ∙ (sum_by-append f (filter p xs) (filter p (x ∷ [])) ∙ grind arith)
 
 -- a row that was marked, or is unchanged
 module _ (key : List ℕ) (number refund : ℕ) (booking : Booking) (row : IsBooking booking) (small : is_marked key number booking ≡ true
