@@ -1,85 +1,112 @@
 -- Bytes have one frame.
-use Rattle.std.proofs.Common.{◌≡◌, ℕ, ◌<◌, ◌≤◌, inl, inr, false, List, ◌++◌, length, take, drop, nat_eq, Some, sym, ap, ◌∙◌, arith, length-append}
+use Rattle.std.proofs.Common.{◌≡◌, ℕ, ◌<◌, ◌≤◌, inl, inr, false, List, [], ◌++◌, length, take, drop, nat_eq, sym, ap, ◌∙◌, arith, length-append}
 use Rattle.std.specs.List.{ends_with}
-use Rattle.std.proofs.Math.Seq.{take-length, take-append_seam, drop-append_seam}
+use Rattle.std.proofs.Math.Seq.{take-append_seam, drop-append_seam}
 use Rattle.std.proofs.lemmas.Bool.{cases_order}
 use Rattle.std.proofs.lemmas.List.{take-append-le, take-append-drop, length-take-le}
 use Rattle.httparse.specs.declared.spans.HeaderSpan.{HeaderSpan}
 use Rattle.httparse.specs.Grammar.{RequestHead}
+use Rattle.httparse.proofs.GrammarLemmas.{request_unique}
 use Rattle.http_request.specs.declared.front.Head.{Head}
-use Rattle.http_request.specs.Head.{empty_line, IsPiece}
-use Rattle.http_request.specs.Length.{asked_length}
-use Rattle.http_request.specs.Frame.{AsksForBody, IsFramed, IsRefusedHead, HasNoPiece, header_fields}
+use Rattle.http_request.specs.Head.{empty_line, IsHeadOf, IsPiece}
+use Rattle.http_request.specs.Frame.{AsksForBody, IsFramed, IsOneRequest, IsRefusedHead, HasNoPiece}
 use Rattle.http_request.specs.Front.{IsHeadAt}
-use Rattle.http_request.proofs.FrontLemmas.{one_head}
 
--- two beginnings of the same bytes, the first no longer
-front_of : (p q r s : List ℕ) → p ++ r ≡ q ++ s → length p ≤ length q → take (length p) q ≡ p
-front_of p q r s same h =
-    sym (take-append-le (length p) q s h) ∙ ap (take (length p)) (sym same) ∙ take-append_seam p r
+-- the bytes are a piece and the rest
+pub record IsCut (bytes piece rest : List ℕ) : Type 0 where
+  pub cut : IsPiece piece
+  pub parts : bytes ≡ piece ++ rest
 
--- the shorter of two beginnings isn't the piece
-not_shorter : (p q r s : List ℕ) → p ++ r ≡ q ++ s → IsPiece p → IsPiece q → ¬ (length p < length q)
-not_shorter p q r s same piece other h =
-    let le : length p ≤ length q = omega arith in
-    let no : ends_with nat_eq p empty_line ≡ false = rw (front_of p q r s same le) at (other.shortest (length p) h) in
-    let yes = piece.ends in
-    cc
+-- and the piece is a head whose body has this length
+pub record Asks (bytes : List ℕ) (head : RequestHead) (body_len : ℕ) (rest : List ℕ) : Type 0 where
+  pub piece : List ℕ
+  pub cut : IsCut bytes piece rest
+  pub asks : AsksForBody piece head body_len
 
-pub one_piece : (p q r s : List ℕ) → p ++ r ≡ q ++ s → IsPiece p → IsPiece q → (p ≡ q) × (r ≡ s)
-one_piece p q r s same piece other = elim (cases_order (length p) (length q)) [
-  | inl equal ↦
-      let le : length p ≤ length q = omega arith in
-      let front : p ≡ q = sym (front_of p q r s same le) ∙ ap (λ (n : ℕ). take n q) equal ∙ take-length q in
-      (front, sym (drop-append_seam p r) ∙ ap (drop (length p)) same ∙ ap (λ (n : ℕ). drop n (q ++ s)) equal ∙ drop-append_seam q s)
-  | inr (inl less) ↦ absurd (not_shorter p q r s same piece other less)
-  | inr (inr more) ↦ absurd (not_shorter q p s r (sym same) other piece more)
-]
+pub framed : {bytes body : List ℕ} {head : RequestHead} (is : IsFramed bytes head body) → Asks bytes head (length body) (body ++ is.after)
+framed is = record { piece = is.piece; cut = record { cut = is.cut; parts = is.parts }; asks = is.asks }
 
--- what begins with a piece has one
-pub no_piece : (bytes piece rest : List ℕ) → IsPiece piece → bytes ≡ piece ++ rest → ¬ (HasNoPiece bytes)
-no_piece bytes piece rest cut parts none =
-    let within : length piece ≤ length bytes = rw parts (simp length-append (omega arith)) in
-    let front : take (length piece) bytes ≡ piece = rw parts (take-append_seam piece rest) in
-    let no : ends_with nat_eq piece empty_line ≡ false = rw front at (none (length piece) within cut.short) in
-    let yes = cut.ends in
-    cc
+pub only : {bytes : List ℕ} (is : IsOneRequest bytes) → Asks bytes is.head (length is.body) is.body
+only is = record { piece = is.piece; cut = record { cut = is.cut; parts = is.parts }; asks = is.asks }
 
--- no frame if no piece is
-pub no_frame : (bytes : List ℕ) → HasNoPiece bytes → (head : RequestHead) (body : List ℕ) → ¬ (IsFramed bytes head body)
-no_frame bytes none head body frame = no_piece bytes frame.piece (body ++ frame.after) frame.cut frame.parts none
+pub cut_at : (bytes : List ℕ) (n : ℕ) → IsPiece (take n bytes) → IsCut bytes (take n bytes) (drop n bytes)
+cut_at bytes n cut = record { cut = cut; parts = sym (take-append-drop n bytes) }
 
--- nor if the piece is refused
-pub refused_frame : (bytes : List ℕ) → IsRefusedHead bytes → (head : RequestHead) (body : List ℕ) → ¬ (IsFramed bytes head body)
-refused_frame bytes refused head body frame =
-    let same = one_piece frame.piece refused.piece (body ++ frame.after) refused.rest (sym frame.parts ∙ refused.parts) frame.cut refused.cut in
-    refused.refusal head (length body) (rw same.0 at frame.asks)
-
--- two answers about one piece
-pub same_asked : (piece : List ℕ) (head other : RequestHead) (n m : ℕ) → AsksForBody piece head n → AsksForBody piece other m → (other ≡ head) × (n ≡ m)
-same_asked piece head other n m asks again =
-    let same : other ≡ head = one_head piece head other asks.is again.is in
-    let requests : asked_length head.method (header_fields head) ≡ Some m = rw same at again.requests in
-    let first = asks.requests in
-    (same, cc)
-
--- nor if the body is cut
-pub cut_frame : (bytes piece rest : List ℕ) (head : RequestHead) (n : ℕ) → IsPiece piece → bytes ≡ piece ++ rest → AsksForBody piece head n → length rest < n
-    → (other : RequestHead) (body : List ℕ) → ¬ (IsFramed bytes other body)
-cut_frame bytes piece rest head n cut parts asks short other body frame =
-    let same = one_piece frame.piece piece (body ++ frame.after) rest (sym frame.parts ∙ parts) frame.cut cut in
-    let requests = same_asked piece head other n (length body) asks (rw same.0 at frame.asks) in
-    let long : length body ≤ length rest = rw (← same.1) (simp length-append (omega arith)) in
-    omega (arith, requests.1)
+pub asks_at : {bytes : List ℕ} {fields : List HeaderSpan} {found : Head} (at : IsHeadAt bytes fields found)
+    → Asks bytes at.head found.body_len (drop found.len bytes)
+asks_at {bytes} {found} at = record { piece = take found.len bytes; cut = cut_at bytes found.len at.cut; asks = at.asks }
 
 -- a head and its body
-pub whole_frame : (bytes : List ℕ) (fields : List HeaderSpan) (found : Head) (at : IsHeadAt bytes fields found)
+pub whole_frame : {bytes : List ℕ} {fields : List HeaderSpan} {found : Head} (at : IsHeadAt bytes fields found)
     → found.body_len ≤ length (drop found.len bytes)
     → IsFramed bytes at.head (take found.body_len (drop found.len bytes))
-whole_frame bytes fields found at long = record {
+whole_frame {bytes} {found} at long = record {
   piece = take found.len bytes;
   after = drop found.body_len (drop found.len bytes);
   cut = at.cut;
   parts = rw (take-append-drop found.body_len (drop found.len bytes)) (sym (take-append-drop found.len bytes));
   asks = rw (length-take-le found.body_len (drop found.len bytes) long) at.asks;
 }
+
+-- the shorter of two beginnings isn't the piece
+not_shorter : {bytes p q r s : List ℕ} → IsCut bytes p r → IsCut bytes q s → ¬ (length p < length q)
+not_shorter {p} {q} {r} {s} is other h =
+    let le : length p ≤ length q = omega arith in
+    let front : take (length p) q ≡ p =
+    sym (take-append-le (length p) q s le) ∙ ap (take (length p)) (sym other.parts ∙ is.parts) ∙ take-append_seam p r
+    in
+    let no : ends_with nat_eq p empty_line ≡ false = rw front at (other.cut.shortest (length p) h) in
+    let yes = is.cut.ends in
+    cc
+
+-- lists that are joined to the same list are the same if the first ones are as long
+pub same_parts : (p q r s : List ℕ) → length p ≡ length q → p ++ r ≡ q ++ s → (p ≡ q) × (r ≡ s)
+same_parts p q r s len same = (
+  sym (take-append_seam p r) ∙ ap (take (length p)) same ∙ ap (λ (n : ℕ). take n (q ++ s)) len ∙ take-append_seam q s,
+  sym (drop-append_seam p r) ∙ ap (drop (length p)) same ∙ ap (λ (n : ℕ). drop n (q ++ s)) len ∙ drop-append_seam q s,
+)
+
+one_piece : {bytes p q r s : List ℕ} → IsCut bytes p r → IsCut bytes q s → (p ≡ q) × (r ≡ s)
+one_piece {p} {q} {r} {s} is other = elim (cases_order (length p) (length q)) [
+  | inl len ↦ same_parts p q r s len (sym is.parts ∙ other.parts)
+  | inr (inl less) ↦ absurd (not_shorter is other less)
+  | inr (inr more) ↦ absurd (not_shorter other is more)
+]
+
+-- what begins with a piece has one
+pub no_piece : {bytes piece rest : List ℕ} → IsCut bytes piece rest → ¬ (HasNoPiece bytes)
+no_piece {piece} {rest} is none =
+    let front : take (length piece) (piece ++ rest) ≡ piece = take-append_seam piece rest in
+    let no : ends_with nat_eq piece empty_line ≡ false =
+    rw front at ((rw is.parts at none) (length piece) (simp length-append (omega arith)) is.cut.short) in
+    let yes = is.cut.ends in
+    cc
+
+-- no head that asks for a body is refused
+pub not_refused : {bytes rest : List ℕ} {head : RequestHead} {n : ℕ} → Asks bytes head n rest → ¬ (IsRefusedHead bytes)
+not_refused {head} {n} is refused =
+    let same = one_piece is.cut (record { cut = refused.cut; parts = refused.parts }) in
+    refused.refusal head n (rw same.0 at is.asks)
+
+-- a piece is one head
+pub one_head : {piece : List ℕ} {head other : RequestHead} → IsHeadOf piece head → IsHeadOf piece other → other ≡ head
+one_head {piece} {head} {other} is again = (request_unique piece other head [] [] again.reads is.reads).0
+
+-- bytes ask for one body
+pub same_asked : {bytes r s : List ℕ} {head other : RequestHead} {n m : ℕ} → Asks bytes head n r → Asks bytes other m s
+    → (other ≡ head) × (n ≡ m) × (r ≡ s)
+same_asked {head} {other} {n} {m} is again =
+    let same = one_piece is.cut again.cut in
+    let asks = rw same.0 at is.asks in
+    let same_head : other ≡ head = one_head asks.is again.asks.is in
+    let first = asks.requests in
+    let second = rw same_head at again.asks.requests in
+    (same_head, cc, same.1)
+
+-- no frame if the body is cut
+pub cut_frame : {bytes rest : List ℕ} {head : RequestHead} {n : ℕ} → Asks bytes head n rest → length rest < n
+    → (other : RequestHead) (body : List ℕ) → ¬ (IsFramed bytes other body)
+cut_frame {rest} {n} asks short other body frame =
+    let same = same_asked asks (framed frame) in
+    let long : length body ≤ length rest = rw same.2 (simp length-append (omega arith)) in
+    omega (arith, same.1)

@@ -1,11 +1,8 @@
-mod Pieces
 mod ScanLemmas
 mod FieldValues
 mod Segments
 mod Places
-mod FrontLemmas
 mod FrameLemmas
-mod ReadingLemmas
 mod WholeLemmas
 mod BodyLemmas
 mod LengthLemmas

@@ -81,38 +81,37 @@ some_day day = omega arith
 abbrev IsPart : List ℕ → Type 0
 IsPart part = (0 < length part) × (has_slash part ≡ false)
 
-has_slot : {K : Type 0} (account booking slot : K) (facility day hour : List ℕ) → IsPart facility → IsPart day → IsPart hour
-    → IsSome (first (routes account booking slot) (codes "/slots/" ++ (facility ++ (47 ∷ (day ++ (47 ∷ hour))))))
-has_slot account booking slot facility day hour f d h =
-    over_bytes (codes "/slots/") (routes account booking slot) (facility ++ (47 ∷ (day ++ (47 ∷ hour))))
-    (over_part _ _ _ facility (47 ∷ (day ++ (47 ∷ hour))) f.0 refl (takes_two _ _ _ _ facility (day ++ (47 ∷ hour)) f.0 f.1)
-    (over_bytes (codes "/") _ (day ++ (47 ∷ hour))
-    (over_part _ _ _ day (47 ∷ hour) d.0 refl (takes_two _ _ _ _ day hour d.0 d.1)
-    (over_bytes (codes "/") _ hour
-    (over_last _ _ _ hour h.0 refl (takes_last _ _ _ hour h.1) refl)))))
+-- after a slot's facility and day comes its hour, alone or with a booking
+hour_routes : {K : Type 0} → K → K → RowsOf K
+hour_routes booking slot = (param_token ∷ codes "/bookings/" ++ param_token ∷ [], booking) ∷ (param_token ∷ [], slot) ∷ []
 
-has_booking : {K : Type 0} (account booking slot : K) (facility day hour number : List ℕ) → IsPart facility → IsPart day → IsPart hour → IsPart number
-    → IsSome (first (routes account booking slot) (codes "/slots/" ++ (facility ++ (47 ∷ (day ++ (47 ∷ (hour ++ (codes "/bookings/" ++ number))))))))
-has_booking account booking slot facility day hour number f d h n =
-    over_bytes (codes "/slots/") (routes account booking slot) (facility ++ (47 ∷ (day ++ (47 ∷ (hour ++ (codes "/bookings/" ++ number))))))
-    (over_part _ _ _ facility (47 ∷ (day ++ (47 ∷ (hour ++ (codes "/bookings/" ++ number))))) f.0 refl
-    (takes_two _ _ _ _ facility (day ++ (47 ∷ (hour ++ (codes "/bookings/" ++ number)))) f.0 f.1)
-    (over_bytes (codes "/") _ (day ++ (47 ∷ (hour ++ (codes "/bookings/" ++ number))))
-    (over_part _ _ _ day (47 ∷ (hour ++ (codes "/bookings/" ++ number))) d.0 refl (takes_two _ _ _ _ day (hour ++ (codes "/bookings/" ++ number)) d.0 d.1)
-    (over_bytes (codes "/") _ (hour ++ (codes "/bookings/" ++ number))
-    (over_part _ _ _ hour (codes "/bookings/" ++ number) h.0 refl (takes_one _ _ _ hour (codes "bookings/" ++ number) h.0 h.1)
-    (over_bytes (codes "/bookings/") _ number
-    (over_last _ _ _ number n.0 refl (takes_end _ number n.1) refl)))))))
+at_hour : {K : Type 0} (account booking slot : K) (facility day rest : List ℕ) → IsPart facility → IsPart day
+    → IsSome (seek 0 (hour_routes booking slot) rest)
+    → IsSome (first (routes account booking slot) (codes "/slots/" ++ (facility ++ (47 ∷ (day ++ (47 ∷ rest))))))
+unfolding hour_routes
+at_hour account booking slot facility day rest f d is =
+    over_bytes (codes "/slots/") (routes account booking slot) (facility ++ (47 ∷ (day ++ (47 ∷ rest))))
+    (over_part _ _ _ facility (47 ∷ (day ++ (47 ∷ rest))) f.0 refl (takes_two _ _ _ _ facility (day ++ (47 ∷ rest)) f.0 f.1)
+    (over_bytes (codes "/") _ (day ++ (47 ∷ rest))
+    (over_part _ _ _ day (47 ∷ rest) d.0 refl (takes_two _ _ _ _ day rest d.0 d.1)
+    (over_bytes (codes "/") _ rest is))))
 
 -- the parts of a place's path, without slashes, have a route
 placed : {K : Type 0} (a b s : K) (place : Place) → HasRealValues place → AreParts (place_parts place)
     → IsSome (first (routes a b s) (47 ∷ glued (place_parts place)))
+unfolding hour_routes
 placed a b s (SlotPlace slot) real none =
-    has_slot a b s slot.facility (day_text slot.day) (two_digits slot.hour) (real.facility.nonempty, none.1.0) (some_day slot.day, none.1.1.0)
-    (omega arith, none.1.1.1.0)
+    let hour = two_digits slot.hour in
+    at_hour a b s slot.facility (day_text slot.day) hour (real.facility.nonempty, none.1.0) (some_day slot.day, none.1.1.0)
+    (over_last _ _ _ hour (omega arith) refl (takes_last _ _ _ hour none.1.1.1.0) refl)
 placed a b s (BookingPlace slot n) real none =
-    has_booking a b s slot.facility (day_text slot.day) (two_digits slot.hour) (decimal n) (real.0.facility.nonempty, none.1.0) (some_day slot.day, none.1.1.0)
-    (omega arith, none.1.1.1.0) (decimal_nonempty n (omega (arith, real.1)), none.1.1.1.1.1.0)
+    let hour = two_digits slot.hour in
+    let number = decimal n in
+    at_hour a b s slot.facility (day_text slot.day) (hour ++ (codes "/bookings/" ++ number)) (real.0.facility.nonempty, none.1.0)
+    (some_day slot.day, none.1.1.0)
+    (over_part _ _ _ hour (codes "/bookings/" ++ number) (omega arith) refl (takes_one _ _ _ hour (codes "bookings/" ++ number) (omega arith) none.1.1.1.0)
+    (over_bytes (codes "/bookings/") _ number
+    (over_last _ _ _ number (decimal_nonempty n (omega (arith, real.1))) refl (takes_end _ number none.1.1.1.1.1.0) refl)))
 placed a b s AccountPlace real none = has_account a b s
 
 pub knows_places : {K : Type 0} → ReadsPlaces → (account booking slot : K) → KnowsPlaces (routes account booking slot)

@@ -1,6 +1,16 @@
-use Rattle.std.proofs.Common.{take, sym, ◌∙◌}
-use Rattle.http_request.proofs.FrontLemmas.{asks_nothing, refused_at}
+use Rattle.std.proofs.Common.{ℕ, List, take, drop, sym, ◌∙◌}
+use Rattle.std.proofs.lemmas.List.{take-append-drop}
+use Rattle.httparse.specs.Grammar.{RequestHead}
+use Rattle.http_request.specs.Head.{IsPiece}
+use Rattle.http_request.specs.Frame.{AsksForBody, IsRefusedHead}
+use Rattle.http_request.proofs.FrameLemmas.{one_head}
 use Rattle.http_request.proofs.front.front_of.Goals as goal
+
+-- the piece at the front is refused
+refused_at : (bytes : List ℕ) (n : ℕ) → IsPiece (take n bytes) → ((head : RequestHead) (body_len : ℕ) → ¬ (AsksForBody (take n bytes) head body_len)) →
+    IsRefusedHead bytes
+refused_at bytes n cut refusal =
+    record { piece = take n bytes; rest = drop n bytes; cut = cut; parts = sym (take-append-drop n bytes); refusal = refusal }
 
 pub returns-in_default-read_head : goal.returns-in_default-read_head
 returns-in_default-read_head c =
@@ -9,6 +19,7 @@ returns-in_default-read_head c =
 pub returns-in_default-asked_length : goal.returns-in_default-asked_length
 returns-in_default-asked_length c =
     let found = c.in-Some-read_head.ensures.1 in
-    refused_at c.args.bytes.now c.in-Some.len c.in-Some.ensures.1
-    (asks_nothing (take c.in-Some.len c.args.bytes.now) c.of-method.result.now c.read_head.new.fields c.in-Some-read_head.spans found.0 found.1 found.2
-    c.of-method.ensures (sym c.asked_length.ensures ∙ c.in_default-asked_length.is))
+    let none = rw (c.of-method.ensures, found.2.method, found.2.fields) at (sym c.asked_length.ensures ∙ c.in_default-asked_length.is) in
+    refused_at c.args.bytes.now c.in-Some.len c.in-Some.ensures.1 (λ other body_len asks.
+    let some = rw (one_head found.1 asks.is) at asks.requests in
+    cc)

@@ -1,6 +1,5 @@
 use Rattle.std.proofs.Common.{arith, sym, ◌∙◌}
-use Rattle.http_request.proofs.Pieces.{piece_at}
-use Rattle.http_request.proofs.ScanLemmas.{ends_none}
+use Rattle.http_request.proofs.ScanLemmas.{ends_none, piece_at}
 use Rattle.http_request.proofs.head.piece_len.Goals as goal
 
 pub loop-end-init : goal.loop-end-init

@@ -1,9 +1,31 @@
-use Rattle.std.proofs.Common.{refl, sym, inr}
-use Rattle.std.proofs.lemmas.List.{take-append-drop}
-use Rattle.http_request.specs.Words.{lacks_frame}
-use Rattle.http_request.proofs.FrameLemmas.{cut_frame}
-use Rattle.http_request.proofs.ReadingLemmas.{unasked, reading_at}
+use Rattle.std.proofs.Common.{◌≡◌, List, ℕ, Result, Ok, Err, refl, inl, inr}
+use Rattle.httparse.specs.declared.spans.HeaderSpan.{HeaderSpan}
+use Rattle.httparse.specs.Grammar.{RequestHead}
+use Rattle.club_core.specs.declared.refusal.Refusal.{Refusal}
+use Rattle.club_core.specs.declared.sent_words.SentWords.{SentWords as Words}
+use Rattle.http_request.specs.declared.front.Head.{Head}
+use Rattle.http_request.specs.declared.front.Front.{Front}
+use Rattle.http_request.specs.declared.front.Front.TheVariants.{NoPiece, Refused, Asking}
+use Rattle.http_request.specs.Frame.{IsFramed}
+use Rattle.http_request.specs.Front.{IsFrontOf}
+use Rattle.http_request.specs.Words.{DecodedRequest, has_frame, HoldsBody, IsRequestReading, lacks_frame, OrUnavailable}
+use Rattle.http_request.specs.computed.Path.{place_of}
+use Rattle.http_request.proofs.FrameLemmas.{asks_at, cut_frame, framed, no_piece, not_refused, whole_frame}
 use Rattle.http_request.proofs.routes.words_by_scan.Goals as goal
+
+-- no frame if the bytes begin with no head
+unasked : (bytes : List ℕ) (fields : List HeaderSpan) (front : Front) → IsFrontOf bytes fields front → ((found : Head) → ¬ (front ≡ Asking found))
+    → (head : RequestHead) (body : List ℕ) → ¬ (IsFramed bytes head body)
+unasked bytes fields NoPiece is not head body frame = no_piece (framed frame).cut is
+unasked bytes fields Refused is not head body frame = not_refused (framed frame) is
+unasked bytes fields (Asking found) is not head body frame = not found refl
+
+-- what is so of the decoded request is so of the answer, unless memory was needed
+follows : {Needs More : Type 0} {found : Result DecodedRequest Refusal} (P : Result DecodedRequest Refusal → Type 0) (result : Result Words Refusal)
+    → (Needs → More) → P found → OrUnavailable Needs (λ answer. found ≡ answer) result → OrUnavailable More P result
+follows P (Ok words) needs so is = rw is at so
+follows P (Err refusal) needs so (inl memory) = inl (memory.0, needs memory.1)
+follows P (Err refusal) needs so (inr is) = inr (rw is at so)
 
 pub returns-in_default : goal.returns-in_default
 returns-in_default c = inr (lacks_frame (unasked c.args.bytes.now c.args.scan.now.fields c.args.scan.now.front c.requires c.in_default.not-Asking) refl)
@@ -12,12 +34,20 @@ pub returns-then-rest-head : goal.returns-then-rest-head
 returns-then-rest-head c =
     let at = rw c.in-Asking.is at c.requires in
     let short = rw c.split_at.ensures.back at c.if-rest-head.true in
-    let head = c.in-Asking.head in
-    inr (lacks_frame (cut_frame c.args.bytes.now _ _ at.head head.body_len at.cut (sym (take-append-drop head.len c.args.bytes.now)) at.asks short) refl)
+    inr (lacks_frame (cut_frame (asks_at at) short) refl)
 
 pub returns : goal.returns
 returns c =
     let at = rw c.in-Asking.is at c.requires in
-    let long = rw c.split_at.ensures.back at c.if-rest-head.false in
-    let decoded = rw (c.of-method.ensures, c.of-target.ensures, c.split_at.ensures.front, c.split_at.ensures.back) at c.decode_request.ensures in
-    reading_at c.reads_places.ensures c.args.bytes.now c.args.scan.now.fields c.in-Asking.head at long c.decode_request.result decoded
+    let frame = whole_frame at (rw c.split_at.ensures.back at c.if-rest-head.false) in
+    let decoded = rw (
+      c.of-method.ensures,
+      c.of-target.ensures,
+      c.split_at.ensures.front,
+      c.split_at.ensures.back,
+      at.spans.method,
+      at.spans.path,
+      at.spans.fields,
+    ) at c.decode_request.ensures in
+    follows {More = HoldsBody c.args.bytes.now} (IsRequestReading c.args.bytes.now) c.decode_request.result (λ needs. (at.head, _, frame, needs))
+    (has_frame at.head _ (place_of at.head.target) frame ((c.reads_places.ensures at.head.target _).1 refl) refl) decoded

@@ -1,6 +1,10 @@
-use Rattle.http_request.proofs.ScanLemmas.{still_front}
+use Rattle.std.proofs.Common.{take, drop}
+use Rattle.std.proofs.lemmas.List.{take-append-drop}
+use Rattle.http_request.proofs.WholeLemmas.{front_more}
 use Rattle.http_request.proofs.scan.HeadScan.go_on.Goals as goal
 
 pub returns-in-Refused : goal.returns-in-Refused
 returns-in-Refused c =
-    still_front c.args.bytes.now c.args.searched c.args.self.now.fields c.args.self.now.front c.in-Refused.is c.requires.before
+    let bytes = c.args.bytes.now in
+    let n = c.args.searched in
+    rw take-append-drop at (front_more (take n bytes) (drop n bytes) c.args.self.now.fields c.args.self.now.front c.in-Refused.is c.requires.before)

@@ -1,12 +1,13 @@
+use Rattle.http_request.proofs.FrameLemmas.{no_piece, not_refused, only}
 use Rattle.http_request.proofs.ScanLemmas.{tested_none, tested_same}
-use Rattle.http_request.proofs.WholeLemmas.{body_only, headless_is_none, refused_is_none}
+use Rattle.http_request.proofs.WholeLemmas.{body_only}
 use Rattle.http_request.proofs.scan.HeadScan.is_over.Goals as goal
 
 pub returns-in-NoPiece : goal.returns-in-NoPiece
-returns-in-NoPiece c = tested_none _ (headless_is_none c.args.bytes.now (rw c.in-NoPiece.is at c.requires))
+returns-in-NoPiece c = tested_none _ (λ one. no_piece (only one).cut (rw c.in-NoPiece.is at c.requires))
 
 pub returns-in-Refused : goal.returns-in-Refused
-returns-in-Refused c = tested_none _ (refused_is_none c.args.bytes.now (rw c.in-Refused.is at c.requires))
+returns-in-Refused c = tested_none _ (λ one. not_refused (only one) (rw c.in-Refused.is at c.requires))
 
 pub returns-in-Asking : goal.returns-in-Asking
 returns-in-Asking c =

@@ -1,17 +1,24 @@
 use Rattle.std.proofs.Common.{arith, ◌<◌, ◌-◌, length}
 use Rattle.std.proofs.lemmas.Bool.{OnFalse_from}
 use Rattle.std.proofs.lemmas.Bool.Decides.{nat_tests}
+use Rattle.std.proofs.lemmas.List.{length-drop}
+use Rattle.http_request.specs.Frame.{endless, has_frame}
+use Rattle.http_request.proofs.FrameLemmas.{asks_at, whole_frame}
 use Rattle.http_request.proofs.LengthLemmas.{room_for}
 use Rattle.http_request.proofs.ScanLemmas.{tested}
-use Rattle.http_request.proofs.WholeLemmas.{headless_whole, body_there}
+use Rattle.http_request.proofs.WholeLemmas.{open_head, open_body}
 use Rattle.http_request.proofs.scan.HeadScan.is_whole.Goals as goal
 
 pub returns-in-NoPiece-clause-whole : goal.returns-in-NoPiece-clause-whole
-returns-in-NoPiece-clause-whole c = tested _ _ _ (headless_whole c.args.bytes.now (rw c.in-NoPiece.is at c.requires))
+returns-in-NoPiece-clause-whole c =
+    let none = rw c.in-NoPiece.is at c.requires in
+    tested _ _ _ (λ long. endless none long) (λ short. open_head c.args.bytes.now none short)
 
 pub returns-in-Asking-clause-whole : goal.returns-in-Asking-clause-whole
 returns-in-Asking-clause-whole c =
-    tested _ _ _ (body_there c.args.bytes.now c.args.self.now.fields c.in-Asking.head (rw c.in-Asking.is at c.requires))
+    let at = rw c.in-Asking.is at c.requires in
+    let rest = length-drop c.in-Asking.head.len c.args.bytes.now in
+    tested _ _ _ (λ there. has_frame at.head _ (whole_frame at (omega arith))) (λ short. open_body (asks_at at) (omega arith))
 
 pub returns-in-Asking-clause-room : goal.returns-in-Asking-clause-room
 returns-in-Asking-clause-room c =
