@@ -12,4 +12,4 @@ pub mod Reading
 pub mod ShownTexts
 pub mod Spending
 pub mod KindScans
-pub mod ShortViews
+pub mod StoreReads

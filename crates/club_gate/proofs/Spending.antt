@@ -1,27 +1,26 @@
 -- What a key has spent is within what its member's account has used.
-use Rattle.std.proofs.Common.{◌≡◌, ℕ, ◌-◌, ◌≤◌, List, Some, Ok, ap, sym, subst, ◌∙◌, arith}
+use Rattle.std.proofs.Common.{◌≡◌, ℕ, ◌-◌, ◌≤◌, Some, Ok, sym, subst, arith}
 use Rattle.std.specs.Prelude.{sum_by}
 use Rattle.std.specs.Str.{bytes_eq}
 use Rattle.pass_forms.specs.Pass.{Plain}
 use Rattle.club_rows.specs.declared.key.Key.{Key}
 use Rattle.club_rows.specs.declared.key.KeyRow.{KeyRow}
 use Rattle.club_core.specs.declared.account.MemberAccount.{MemberAccount}
-use Rattle.club_core.specs.declared.request.Request.{Request}
 use Rattle.club_core.specs.Basis.{account_named}
-use Rattle.club_core.specs.Club.{Club, IsSound, bookings_of, key_named}
+use Rattle.club_core.specs.Club.{Club, IsSound, bookings_of}
 use Rattle.club_core.specs.Sums.{cost_of, spent_under}
 use Rattle.club_laws.specs.Spending.{AccountsShowWhatIsUsed, SpendsWithinItsMember}
 use Rattle.club_gate.specs.Identifier.{key_in}
 use Rattle.club_gate.specs.Reading.{IsOnRecord}
 use Rattle.club_gate.specs.Verify.{signer_of}
-use Rattle.club_gate.proofs.Signers.{found, is_signer, named}
+use Rattle.club_gate.proofs.Signers.{found, is_signer, key_there}
 
 -- the row by which a pass is signed is that of a key of the club
-pub on_record : (club : Club) (pass : Plain) (request : Request) (moment : ℕ) (row : KeyRow) → signer_of pass moment (key_in club pass.identifier) ≡ Ok row
+pub on_record : (club : Club) (pass : Plain) (moment : ℕ) (row : KeyRow) → signer_of pass moment (key_in club pass.identifier) ≡ Ok row
     → IsOnRecord club row
-on_record club pass request moment row e =
-    let its = is_signer club pass request moment row e in
-    (its.0, ap (λ (n : List ℕ). key_named n club) (named club its.1.named its.0 its.1.row) ∙ its.1.row, sym its.2)
+on_record club pass moment row e =
+    let its = is_signer club pass moment row e in
+    (its.key, key_there club pass.identifier its.key its.is, its.row_is)
 
 pub spent_within : SpendsWithinItsMember → AccountsShowWhatIsUsed → (club : Club) (row : KeyRow) (account : MemberAccount) (used most : ℕ) → IsSound club
     → IsOnRecord club row → account_named row.member club ≡ Some account → used ≡ account.member.credited - account.balance → used ≤ most

@@ -17,7 +17,7 @@ ghost use Rattle.club_gate.specs.Verify.{OfItsPass};
 
 use crate::desk::Desk;
 use crate::walk::{fault_after, has_kind, unspent_fault};
-use club_core::laws::{looks_no_further, own_bookings_suffice};
+use club_core::laws::own_bookings_suffice;
 use club_core::{ClubStore, Request, SlotUse, StoreFault, View};
 use club_laws::spending::{accounts_show_what_is_used, spends_within_its_member};
 use club_rows::KeyRow;
@@ -167,7 +167,6 @@ impl<S: ClubStore> Desk<S> {
             moment) }
     {
         own_bookings_suffice();
-        looks_no_further();
         match request {
             Request::View { slot } => {
                 let view = self.with_slot(view, slot)?;

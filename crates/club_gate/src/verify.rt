@@ -47,7 +47,7 @@ ghost use Rattle.club_gate.specs.Verify.{
 
 use crate::desk::{Desk, are_bytes};
 use crate::identifier::key_name_in;
-use club_core::laws::{looks_no_further, own_bookings_suffice};
+use club_core::laws::own_bookings_suffice;
 use club_core::{ClubStore, PassFault, Refusal, Request, SentWords, StoreFault, Verdict, answer};
 use club_rows::KeyRow;
 use club_values::Moment;
@@ -163,7 +163,6 @@ impl<S: ClubStore> Desk<S> {
             → verdict ≡ verdict_in club (words_with (machine_pass pass) request.now) moment)) }
     {
         own_bookings_suffice();
-        looks_no_further();
         let view = self.first_view(source, key, request)?;
         let fault = self.caveat_fault(source, key, &view.ask(request, moment))?;
         if fault.is_some() {

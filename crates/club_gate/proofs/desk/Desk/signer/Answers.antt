@@ -1,57 +1,40 @@
-use Rattle.std.proofs.Common.{◌≡◌, Bool, true, false, ap, ◌∙◌, sym, rules}
-use Rattle.club_gate.proofs.Signers.{by_tests, found_key, signer_by_tests}
+use Rattle.std.proofs.Common.{◌≡◌, List, true, false, Ok, Err, refl, ◌∙◌, sym, rules}
+use Rattle.pass_forms.specs.FieldSource.{pass_fields}
+use Rattle.pass_forms.specs.Pass.{Plain}
+use Rattle.club_core.specs.declared.refusal.Refusal.TheVariants.{KeyRevoked, NotVerified}
+use Rattle.club_core.specs.Club.{Club}
+use Rattle.club_gate.specs.Identifier.{key_in}
+use Rattle.club_gate.specs.Verify.{signer_of}
+use Rattle.club_gate.proofs.Signers.{by_tests, signer_by_tests}
+use Rattle.club_gate.proofs.StoreReads.{reads}
+use Rattle.club_gate.proofs.desk.Desk.signer.Given as given
 use Rattle.club_gate.proofs.desk.Desk.signer.Goals as goal
+use Rattle.club_gate.proofs.desk.Desk.signer.Goals.{In_ok-is_signed}
+
+-- the signer, by the tests of the row that was read
+by_row : (g : given.Over) (c : In_ok-is_signed g) → g.S.ClubStore.disk_is_clean c.is_signed.new.self → (club : Club) (others : List Club)
+    → g.S.ClubStore.represents c.args.self.now club others → (pass : Plain) → g.F.FieldSource.left c.args.source.now ≡ pass_fields pass
+    → signer_of pass c.args.moment (key_in club pass.identifier)
+    ≡ by_tests c.in_ok-is_signed.field-0 c.in-Some-2.row.revoked (Err NotVerified) (Err KeyRevoked) (Ok c.in-Some-2.row)
+by_row g c clean club others represents pass fields =
+    let between = c.is_signed.ensures.was_clean clean in
+    let after = c.key_row.ensures.kept between club others represents in
+    let source = c.in-Some.ensures pass (c.again-fields.ensures ∙ fields) in
+    let found = rw source.0 at (c.in_ok-row.ensures.returned between club others represents) in
+    signer_by_tests club pass c.args.moment c.in-Some-2.row c.in_ok-is_signed.field-0 (sym c.in-Some-2.is ∙ found) (λ key there same.
+    c.in_ok-is_signed.ensures.returned clean club others after pass key source.0 source.1 there same)
 
 pub returns-then-not-branch : goal.returns-then-not-branch
-returns-then-not-branch g c = record {
-  was_clean = search rules;
-  kept = search rules;
-  failed = search rules;
-  returned = λ clean club others represents pass fields.
-      let between = c.is_signed.ensures.was_clean clean in
-      let found = c.in_ok-row.ensures.returned between club others represents in
-      let after = c.key_row.ensures.kept between club others represents in
-      let its = found_key club c.in-Some.identifier.now c.in-Some-2.row (sym c.in-Some-2.is ∙ found) in
-      let source = c.in-Some.ensures pass (c.again-fields.ensures ∙ fields) in
-      let signed = c.in_ok-is_signed.ensures.returned clean club others after pass its.key source.0 source.1 its.named its.same in
-      let row = c.in-Some-2.row in
-      let fails : c.in_ok-is_signed.field-0 ≡ false = cc in
-      ap (λ (b : Bool). by_tests b row.revoked row) (sym fails)
-      ∙ signer_by_tests club pass c.args.moment c.in-Some.identifier.now row c.in_ok-is_signed.field-0 source.0 its signed;
-}
+returns-then-not-branch g c = reads g.met.S.ClubStore.sound (search rules) (λ clean club others represents sound pass fields.
+    let fails : c.in_ok-is_signed.field-0 ≡ false = cc in
+    rw (by_row g (goal.at.returns-then-not-branch g c).In_ok-is_signed clean club others represents pass fields, fails) refl)
 
 pub returns-then-row : goal.returns-then-row
-returns-then-row g c = record {
-  was_clean = search rules;
-  kept = search rules;
-  failed = search rules;
-  returned = λ clean club others represents pass fields.
-      let between = c.is_signed.ensures.was_clean clean in
-      let found = c.in_ok-row.ensures.returned between club others represents in
-      let after = c.key_row.ensures.kept between club others represents in
-      let its = found_key club c.in-Some.identifier.now c.in-Some-2.row (sym c.in-Some-2.is ∙ found) in
-      let source = c.in-Some.ensures pass (c.again-fields.ensures ∙ fields) in
-      let signed = c.in_ok-is_signed.ensures.returned clean club others after pass its.key source.0 source.1 its.named its.same in
-      let row = c.in-Some-2.row in
-      let passes : c.in_ok-is_signed.field-0 ≡ true = cc in
-      ap (λ (b : Bool). by_tests true b row) (sym c.if-row.true) ∙ ap (λ (b : Bool). by_tests b row.revoked row) (sym passes)
-      ∙ signer_by_tests club pass c.args.moment c.in-Some.identifier.now row c.in_ok-is_signed.field-0 source.0 its signed;
-}
+returns-then-row g c = reads g.met.S.ClubStore.sound (search rules) (λ clean club others represents sound pass fields.
+    let passes : c.in_ok-is_signed.field-0 ≡ true = cc in
+    rw (by_row g (goal.at.returns-then-row g c).In_ok-is_signed clean club others represents pass fields, passes, c.if-row.true) refl)
 
 pub returns : goal.returns
-returns g c = record {
-  was_clean = search rules;
-  kept = search rules;
-  failed = search rules;
-  returned = λ clean club others represents pass fields.
-      let between = c.is_signed.ensures.was_clean clean in
-      let found = c.in_ok-row.ensures.returned between club others represents in
-      let after = c.key_row.ensures.kept between club others represents in
-      let its = found_key club c.in-Some.identifier.now c.in-Some-2.row (sym c.in-Some-2.is ∙ found) in
-      let source = c.in-Some.ensures pass (c.again-fields.ensures ∙ fields) in
-      let signed = c.in_ok-is_signed.ensures.returned clean club others after pass its.key source.0 source.1 its.named its.same in
-      let row = c.in-Some-2.row in
-      let passes : c.in_ok-is_signed.field-0 ≡ true = cc in
-      ap (λ (b : Bool). by_tests true b row) (sym c.if-row.false) ∙ ap (λ (b : Bool). by_tests b row.revoked row) (sym passes)
-      ∙ signer_by_tests club pass c.args.moment c.in-Some.identifier.now row c.in_ok-is_signed.field-0 source.0 its signed;
-}
+returns g c = reads g.met.S.ClubStore.sound (search rules) (λ clean club others represents sound pass fields.
+    let passes : c.in_ok-is_signed.field-0 ≡ true = cc in
+    rw (by_row g (goal.at.returns g c).In_ok-is_signed clean club others represents pass fields, passes, c.if-row.false) refl)
