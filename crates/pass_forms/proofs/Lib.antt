@@ -17,9 +17,7 @@ pub mod WholeV2
 pub mod Checking
 pub mod Collecting
 pub mod TextExact
-pub mod PutVarints
 pub mod PutCaveats
-pub mod PutTogether
 pub mod WrittenBytes
 pub mod WrittenTexts
 pub mod WrittenForm

@@ -36,6 +36,7 @@ pub fn from_base64_is_base64()
 {}
 
 /// The function `unwrapping` computes the relation `IsUnwrapped`, in every case.
+#[tactic(auto, using(crate::proofs::EnvelopeLaws::unwrapped_is))]
 pub fn unwrapped_is_the_answer()
     ensures { UnwrappedIsTheAnswer }
 {}
@@ -51,6 +52,7 @@ pub fn computes_v1()
 {}
 
 /// The relation allows exactly one result for bytes of V1: the computed one.
+#[tactic(auto, using(crate::proofs::WholeV1::reads_v1))]
 pub fn reads_v1_exactly()
     ensures { ReadsExactly SpellsV1 v1.reading_v1 }
 {}
@@ -66,28 +68,33 @@ pub fn computes_v2()
 {}
 
 /// The relation allows exactly one result for bytes of V2: the computed one.
+#[tactic(auto, using(crate::proofs::WholeV2::reads_v2))]
 pub fn reads_v2_exactly()
     ensures { ReadsExactly SpellsV2 v2.reading_v2 }
 {}
 
 /// The same for any form, if the pass that bytes spell in it is computed.
+#[tactic(auto, using(crate::proofs::Checking::exactly))]
 pub fn answers_exactly()
     ensures { AnswersExactly }
 {}
 
 /// The relation allows exactly one result for a text: the computed one. The spelling of each form
 /// is a parameter.
+#[tactic(auto, using(crate::proofs::TextExact::text_reading_exact))]
 pub fn reads_texts_exactly()
     ensures { ReadsTextsExactly }
 {}
 
 /// The relation allows exactly one result of writing a pass in V1 and in V2: the computed one, a
 /// text or a fault.
+#[tactic(auto, using(crate::proofs::WrittenV1::exact_v1, crate::proofs::WrittenV2::exact_v2))]
 pub fn writes_exactly()
     ensures { WritesExactly }
 {}
 
 /// A text that is written in V1 or V2 is read back as the same form and the same pass.
+#[tactic(auto, using(crate::proofs::WrittenV1::law_v1, crate::proofs::WrittenV2::law_v2))]
 pub fn texts_read_back()
     ensures { TextsReadBack }
 {}
@@ -98,6 +105,7 @@ pub fn narrowed_stays_signed()
 {}
 
 /// The function `is_signed` decides whether a pass is signed under a root.
+#[tactic(auto, unfolding(crate::specs::computed::Pass::is_signed))]
 pub fn decides_signed()
     ensures { DecidesSigned }
 {}

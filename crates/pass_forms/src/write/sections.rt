@@ -13,7 +13,7 @@ use crate::write::buffer::Buffer;
 use crate::{FormFault, MAX_BYTES, Pass};
 
 // Appends a varint. Two bytes are enough for each length that fits the buffer.
-#[tactic(auto, using(crate::proofs::PutVarints::varint_of_one, crate::proofs::PutVarints::varint_of_two))]
+#[tactic(auto, using(crate::proofs::Fields::varint_small, crate::proofs::Fields::varint_of_two))]
 fn put_varint(buffer: &mut Buffer, n: usize) -> Result<(), FormFault>
     requires { n < 2 ^ 14 }
     ensures { Puts (spec.varint n) buffer.old buffer.new result }

@@ -1,21 +1,18 @@
-use Rattle.std.proofs.Common.{List, ℕ, ◌++◌, map}
-use Rattle.std.specs.List.{flat_map}
-use Rattle.pass_forms.specs.Pass.{widened_caveat}
-use Rattle.pass_forms.specs.V1.{caveat_packets, packet}
+use Rattle.std.proofs.Common.{◌≡◌, ◌++◌, ℕ, List, Result, Ok, Err, arith}
+use Rattle.std.proofs.lemmas.Grind.{common_steps}
+use Rattle.pass_forms.specs.declared.fault.FormFault.{FormFault}
+use Rattle.pass_forms.specs.Putting.{Puts}
 use Rattle.pass_forms.specs.Writing.{v1_bytes}
-use Rattle.pass_forms.proofs.FieldNames.{identifier_key, location_key, signature_key}
-use Rattle.pass_forms.proofs.PutTogether.{puts_others}
 use Rattle.pass_forms.proofs.write.packets.PacketsPutLayout.put_pass.Goals as goal
+
+-- Four parts are put, one after the other.
+puts_four : (a b c d old x y z new : List ℕ) (result : Result (Unit {0}) FormFault) → x ≡ old ++ a → y ≡ x ++ b → z ≡ y ++ c → Puts d z new result →
+    Puts (a ++ (b ++ (c ++ d))) old new result
+puts_four a b c d old x y z new (Ok _) p q r s = grind (arith, common_steps)
+puts_four a b c d old x y z new (Err fault) p q r s = grind (arith, common_steps)
 
 pub returns-clause-bytes : goal.returns-clause-bytes
 unfolding v1_bytes
 returns-clause-bytes c =
-    let pass = c.args.pass.now in
-    let location : List ℕ = packet location_key pass.location in
-    let identifier : List ℕ = packet identifier_key pass.identifier in
-    let caveats : List ℕ = flat_map caveat_packets (map widened_caveat pass.caveats) in
-    let signature : List ℕ = packet signature_key pass.signature in
-    puts_others location (identifier ++ (caveats ++ signature)) _ _ _ _ (rw c.location.ensures at c.in_ok-put_packet.ensures)
-    (puts_others identifier (caveats ++ signature) _ _ _ _ (rw c.identifier.ensures at c.in_ok-put_packet-2.ensures)
-    (puts_others caveats signature _ _ _ _ (rw c.caveats.ensures at c.in_ok-put_caveats.ensures)
-    (rw c.signature.ensures.value at c.put_packet-3.ensures)))
+    puts_four _ _ _ _ _ _ _ _ _ _ (rw c.location.ensures at c.in_ok-put_packet.ensures) (rw c.identifier.ensures at c.in_ok-put_packet-2.ensures)
+    (rw c.caveats.ensures at c.in_ok-put_caveats.ensures) (rw c.signature.ensures.value at c.put_packet-3.ensures)
