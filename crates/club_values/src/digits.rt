@@ -70,6 +70,7 @@ fn number_in(text: &[u8]) -> Option<u32>
 
 /// The number of decimal digits without leading zeros, up to 999,999,999; `None` for any other
 /// text.
+#[tactic(auto, using(crate::proofs::TextOfLemmas::reads_numbers))]
 pub fn read_number(text: &[u8]) -> Option<u32>
     ensures spelled { Reads (SpellsNumber text.now) result }
     ensures function { result ≡ decimal_of_text text.now }

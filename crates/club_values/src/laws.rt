@@ -25,11 +25,13 @@ pub fn reads_numbers()
 {}
 
 /// `kind_of_text` returns a kind exactly if the text spells that kind.
+#[tactic(auto, using(crate::proofs::TextOfLemmas::reads_kinds))]
 pub fn reads_kinds()
     ensures { ReadsKinds }
 {}
 
 /// `action_of_text` returns an action exactly if the text spells that action.
+#[tactic(auto, using(crate::proofs::TextOfLemmas::reads_actions))]
 pub fn reads_actions()
     ensures { ReadsActions }
 {}
@@ -65,6 +67,7 @@ pub fn distinct_day_texts()
 {}
 
 /// Different moments have different texts.
+#[tactic(auto, using(crate::proofs::MomentLemmas::moment_text_injective))]
 pub fn distinct_moment_texts()
     ensures { DistinctMomentTexts }
 {}
