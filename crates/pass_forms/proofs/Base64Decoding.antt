@@ -1,7 +1,7 @@
 -- The engines in turn: which bytes the first that decodes gives.
-use Rattle.std.proofs.Common.{◌≡◌, ℕ, Bool, true, false, cond, ltb, List, length, take, refl, ap, ◌∙◌, inl, inr, arith, ◌≤◌}
+use Rattle.std.proofs.Common.{◌≡◌, ℕ, Bool, true, false, cond, ltb, List, take, refl, ap, ◌∙◌, inl, inr, arith}
 use Rattle.std.specs.List.{list_all}
-use Rattle.std.specs.Option.{IfSome, option_map, option_or}
+use Rattle.std.specs.Option.{option_map, option_or}
 use Rattle.std.specs.Result.{IfErr, IfOk, result_ok}
 use Rattle.std.specs.declared.option.Option.{Option}
 use Rattle.std.specs.declared.option.Option.TheVariants.{None, Some}
@@ -9,74 +9,62 @@ use Rattle.std.specs.declared.result.Result.{Result}
 use Rattle.std.specs.declared.result.Result.TheVariants.{Ok, Err}
 use Rattle.base64.specs.declared.decode.DecodeError.{DecodeError}
 use Rattle.base64.specs.Engines.{standard, standard_no_pad, url_safe, url_safe_no_pad}
-use Rattle.base64.specs.GeneralPurpose.{IsBytes, IsConsistent, IsDecodedInto, IsStrict, decode_of, decoded_of, encode_of}
+use Rattle.base64.specs.GeneralPurpose.{IsBytes, IsConsistent, IsDecodedInto, decode_of, decoded_of, encode_of}
 use Rattle.base64.specs.declared.engine.general_purpose.GeneralPurpose.{GeneralPurpose}
 use Rattle.pass_forms.specs.Envelope.{IsBase64}
 use Rattle.pass_forms.specs.computed.Envelope.{by_decoders, from_base64}
 use Rattle.pass_forms.proofs.Base64Bytes.{bytes_from_passes, passes_from_bytes}
 use Rattle.pass_forms.proofs.Base64Spelling.{decoded-encode, decoded_spells, spelling_passes, spells_one}
+use Rattle.std.proofs.Common.{◌⊎◌}
 
--- what a decoder answers is what the text is base64 of
-abbrev IsSound : List ℕ → Option (List ℕ) → Type 0
-IsSound text answer = (b : List ℕ) → answer ≡ Some b → IsBase64 text b
+-- one of the four engines decodes the text to these bytes
+abbrev IsDecoded : List ℕ → List ℕ → Type 0
+IsDecoded text b = (decoded_of url_safe_no_pad text ≡ Some b) ⊎ (decoded_of url_safe text ≡ Some b) ⊎ (decoded_of standard_no_pad text ≡ Some b)
+    ⊎ (decoded_of standard text ≡ Some b)
 
--- each of the four engines is sound
-sound_by : (e : GeneralPurpose) (text : List ℕ) → IsStrict e → IsBytes text
-    → ((b : List ℕ) → text ≡ encode_of e b → IsBytes b → IsBase64 text b) → IsSound text (decoded_of e text)
-sound_by e text strict bytes spells b decoded =
-    let parts = decoded_spells e text b strict bytes decoded in
-    spells b parts.0 parts.1
-
-url_safe_no_pad_sound : (text : List ℕ) → IsBytes text → IsSound text (decoded_of url_safe_no_pad text)
-url_safe_no_pad_sound text bytes = sound_by url_safe_no_pad text (refl, refl) bytes (λ b e are. record { are_bytes = are; spelling = inl e })
-
-url_safe_sound : (text : List ℕ) → IsBytes text → IsSound text (decoded_of url_safe text)
-url_safe_sound text bytes = sound_by url_safe text (refl, refl) bytes (λ b e are. record { are_bytes = are; spelling = inr (inl e) })
-
-standard_no_pad_sound : (text : List ℕ) → IsBytes text → IsSound text (decoded_of standard_no_pad text)
-standard_no_pad_sound text bytes = sound_by standard_no_pad text (refl, refl) bytes (λ b e are. record { are_bytes = are; spelling = inr (inr (inl e)) })
-
-standard_sound : (text : List ℕ) → IsBytes text → IsSound text (decoded_of standard text)
-standard_sound text bytes = sound_by standard text (refl, refl) bytes (λ b e are. record { are_bytes = are; spelling = inr (inr (inr e)) })
-
--- the first answer of two
-or_sound : (text : List ℕ) (x y : Option (List ℕ)) → IsSound text x → IsSound text y → IsSound text (option_or x y)
-or_sound text None y first second = second
-or_sound text (Some c) y first second = first
-
--- the first that answers is the answer
-at_first : (x y : Option (List ℕ)) (b : List ℕ) → x ≡ Some b → option_or x y ≡ Some b
-at_first x y b found = rw found refl
-
--- so is the second, as both answer the same bytes
-at_second : (text : List ℕ) (x y : Option (List ℕ)) (b : List ℕ) → IsSound text x → IsBase64 text b → y ≡ Some b → option_or x y ≡ Some b
-at_second text None y b sound is found = found
-at_second text (Some c) y b sound is found = ap (λ (l : List ℕ). Some l) (spells_one text c b (sound c refl) is)
+-- then it is base64 of them
+decoded_is : (text b : List ℕ) → IsBytes text → IsDecoded text b → IsBase64 text b
+decoded_is text b bytes (inl e) = let s = decoded_spells url_safe_no_pad text b (refl, refl) bytes e in record { are_bytes = s.1; spelling = inl s.0 }
+decoded_is text b bytes (inr (inl e)) =
+    let s = decoded_spells url_safe text b (refl, refl) bytes e in record { are_bytes = s.1; spelling = inr (inl s.0) }
+decoded_is text b bytes (inr (inr (inl e))) =
+    let s = decoded_spells standard_no_pad text b (refl, refl) bytes e in record { are_bytes = s.1; spelling = inr (inr (inl s.0)) }
+decoded_is text b bytes (inr (inr (inr e))) =
+    let s = decoded_spells standard text b (refl, refl) bytes e in record { are_bytes = s.1; spelling = inr (inr (inr s.0)) }
 
 -- what decodes the text is what decodes the encoding
 decoded_by : (e : GeneralPurpose) (text b : List ℕ) → IsConsistent e → IsBytes b → text ≡ encode_of e b → decoded_of e text ≡ Some b
 decoded_by e text b consistent bytes spelling = rw spelling (decoded-encode e b consistent bytes)
 
+is_decoded : (text b : List ℕ) → IsBase64 text b → IsDecoded text b
+is_decoded text b is = elim is.spelling [
+  | inl e ↦ inl (decoded_by url_safe_no_pad text b refl is.are_bytes e)
+  | inr (inl e) ↦ inr (inl (decoded_by url_safe text b refl is.are_bytes e))
+  | inr (inr (inl e)) ↦ inr (inr (inl (decoded_by standard_no_pad text b refl is.are_bytes e)))
+  | inr (inr (inr e)) ↦ inr (inr (inr (decoded_by standard text b refl is.are_bytes e)))
+]
+
+-- the first of four that answers, if all answer the same
+first_answer : (w x y z : Option (List ℕ)) (b : List ℕ) → option_or (option_or w x) (option_or y z) ≡ Some b →
+    (w ≡ Some b) ⊎ (x ≡ Some b) ⊎ (y ≡ Some b) ⊎ (z ≡ Some b)
+first_answer w x y z b e = grind arith
+
+one_answer : (w x y z : Option (List ℕ)) (b : List ℕ) → (w ≡ Some b) ⊎ (x ≡ Some b) ⊎ (y ≡ Some b) ⊎ (z ≡ Some b) →
+    ((c : List ℕ) → (w ≡ Some c) ⊎ (x ≡ Some c) ⊎ (y ≡ Some c) ⊎ (z ≡ Some c) → c ≡ b) → option_or (option_or w x) (option_or y z) ≡ Some b
+one_answer (Some c) x y z b some one = ap (λ (l : List ℕ). Some l) (one c (inl refl))
+one_answer None (Some c) y z b some one = ap (λ (l : List ℕ). Some l) (one c (inr (inl refl)))
+one_answer None None (Some c) z b some one = ap (λ (l : List ℕ). Some l) (one c (inr (inr (inl refl))))
+one_answer None None None z b some one = grind arith
+
 -- The four engines in turn give the bytes that the text is base64 of.
 decoders_spell : (text b : List ℕ) → IsBytes text → by_decoders text ≡ Some b → IsBase64 text b
 unfolding by_decoders
-decoders_spell text b bytes found =
-    or_sound text _ _ (or_sound text _ _ (url_safe_no_pad_sound text bytes) (url_safe_sound text bytes))
-    (or_sound text _ _ (standard_no_pad_sound text bytes) (standard_sound text bytes)) b found
+decoders_spell text b bytes found = decoded_is text b bytes (first_answer _ _ _ _ b found)
 
--- If it is base64 of bytes, they give those.
 spells_to_decoders : (text b : List ℕ) → IsBytes text → IsBase64 text b → by_decoders text ≡ Some b
 unfolding by_decoders
-spells_to_decoders text b bytes is = elim is.spelling [
-  | inl e ↦ at_first _ _ b (at_first _ _ b (decoded_by url_safe_no_pad text b refl is.are_bytes e))
-  | inr other ↦ elim other [
-    | inl e ↦ at_first _ _ b (at_second text _ _ b (url_safe_no_pad_sound text bytes) is (decoded_by url_safe text b refl is.are_bytes e))
-    | inr other ↦ at_second text _ _ b (or_sound text _ _ (url_safe_no_pad_sound text bytes) (url_safe_sound text bytes)) is (elim other [
-      | inl e ↦ at_first _ _ b (decoded_by standard_no_pad text b refl is.are_bytes e)
-      | inr e ↦ at_second text _ _ b (standard_no_pad_sound text bytes) is (decoded_by standard text b refl is.are_bytes e)
-    ])
-  ]
-]
+spells_to_decoders text b bytes is =
+    one_answer _ _ _ _ b (is_decoded text b is) (λ c found. spells_one text c b (decoded_is text c bytes found) is)
 
 -- of a text that is tested to be bytes
 pub from_base64_is : (text : List ℕ) → IsBytes text → from_base64 text ≡ by_decoders text
@@ -103,9 +91,3 @@ pub decoded_into : (e : GeneralPurpose) (text old new : List ℕ) (r : Result �
 unfolding decoded_of
 decoded_into e text old new (Ok n) answer is ok err = rw (is, ok.0) refl
 decoded_into e text old new (Err error) answer is ok err = rw (is, err) refl
-
--- how many bytes it answers at most
-pub decoded_within : (e : GeneralPurpose) (text old new : List ℕ) (r : Result ℕ DecodeError) (answer : Option ℕ) (buffer : ℕ) → answer ≡ result_ok r
-    → IfOk r (λ n. IsDecodedInto e text n old new) → length old ≤ buffer → IfSome answer (λ n. n ≤ buffer)
-decoded_within e text old new (Ok n) answer buffer is ok fits = rw is (omega arith)
-decoded_within e text old new (Err error) answer buffer is ok fits = rw is tt

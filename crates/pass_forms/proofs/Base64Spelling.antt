@@ -19,6 +19,8 @@ use Rattle.base64.proofs.EngineFacts.{decode_of-encode_of, decode_of_strict}
 use Rattle.pass_forms.specs.Envelope.{IsBase64, starts_with_brace}
 use Rattle.pass_forms.proofs.Base64Bytes.{decode_of_are_bytes}
 use Rattle.pass_forms.proofs.Base64Symbols.{encode_map, encode_passes, standard_symbol}
+use Rattle.base64.specs.Engines.{url_safe_no_pad, standard_no_pad}
+use Rattle.std.proofs.Common.{◌⊎◌}
 
 -- the two alphabets
 abbrev standard_symbols : List ℕ
@@ -47,17 +49,19 @@ decoded-encode e b consistent bytes = rw (decode_of-encode_of e b consistent byt
 standard_decodes : (b : List ℕ) (padding : Bool) → IsBytes b → decoded_bytes standard.decode_table 61 (encode standard_symbols 61 padding b) ≡ b
 standard_decodes b padding are = (decode-encode standard.encode_table standard.decode_table b 61 false Indifferent padding standard.tables are tt).1
 
+-- what holds of each of the four encodings holds of base64
+spelled_by : (text b : List ℕ) (P : List ℕ → Type 0) → ((text ≡ encode_of url_safe_no_pad b) ⊎ (text ≡ encode_of url_safe b)
+    ⊎ (text ≡ encode_of standard_no_pad b) ⊎ (text ≡ encode_of standard b)) →
+    ((padding : Bool) → P (encode url_safe_symbols 61 padding b) × P (encode standard_symbols 61 padding b)) → P text
+spelled_by text b P (inl e) each = rw e (each false).0
+spelled_by text b P (inr (inl e)) each = rw e (each true).0
+spelled_by text b P (inr (inr (inl e))) each = rw e (each false).1
+spelled_by text b P (inr (inr (inr e))) each = rw e (each true).1
+
 spelled_decodes : (text b : List ℕ) → IsBase64 text b → decoded_bytes standard.decode_table 61 (map standard_symbol text) ≡ b
-spelled_decodes text b is = elim is.spelling [
-  | inl e ↦ rw (e, encode_map url_safe_symbols b false) (standard_decodes b false is.are_bytes)
-  | inr other ↦ elim other [
-    | inl e ↦ rw (e, encode_map url_safe_symbols b true) (standard_decodes b true is.are_bytes)
-    | inr other ↦ elim other [
-      | inl e ↦ rw (e, encode_map standard_symbols b false) (standard_decodes b false is.are_bytes)
-      | inr e ↦ rw (e, encode_map standard_symbols b true) (standard_decodes b true is.are_bytes)
-    ]
-  ]
-]
+spelled_decodes text b is = spelled_by text b (λ t. decoded_bytes standard.decode_table 61 (map standard_symbol t) ≡ b) is.spelling (λ padding.
+    let decodes = standard_decodes b padding is.are_bytes in
+    (rw (encode_map url_safe_symbols b padding) decodes, rw (encode_map standard_symbols b padding) decodes))
 
 -- A text is base64 of one list of bytes at most.
 pub spells_one : (text a b : List ℕ) → IsBase64 text a → IsBase64 text b → a ≡ b
@@ -66,16 +70,8 @@ spells_one text a b left right = sym (spelled_decodes text a left) ∙ spelled_d
 -- base64 passes a test that both alphabets, 0 and the padding pass
 pub spelling_passes : (p : ℕ → Bool) (text b : List ℕ) → p 0 ≡ true → p 61 ≡ true → list_all p standard_symbols ≡ true → list_all p url_safe_symbols ≡ true
     → IsBase64 text b → list_all p text ≡ true
-spelling_passes p text b past padded std url is = elim is.spelling [
-  | inl e ↦ rw e (encode_passes p url_safe_symbols b 61 false past padded url)
-  | inr other ↦ elim other [
-    | inl e ↦ rw e (encode_passes p url_safe_symbols b 61 true past padded url)
-    | inr other ↦ elim other [
-      | inl e ↦ rw e (encode_passes p standard_symbols b 61 false past padded std)
-      | inr e ↦ rw e (encode_passes p standard_symbols b 61 true past padded std)
-    ]
-  ]
-]
+spelling_passes p text b past padded std url is = spelled_by text b (λ t. list_all p t ≡ true) is.spelling (λ padding.
+    (encode_passes p url_safe_symbols b 61 padding past padded url, encode_passes p standard_symbols b 61 padding past padded std))
 
 -- No base64 starts with a brace.
 pub spelling_brace : (text b : List ℕ) → IsBase64 text b → starts_with_brace text ≡ true → ⊥

@@ -1,5 +1,5 @@
 -- What a text wraps, and the result of unwrapping it.
-use Rattle.std.proofs.Common.{◌≡◌, ◌↔◌, ◌⊎◌, ◌≤◌, ℕ, false, List, length, refl, sym, subst, ◌∙◌, inl, inr, Result, Ok, Err, Option, None, Some, arith, rules}
+use Rattle.std.proofs.Common.{◌≡◌, ◌↔◌, ◌≤◌, ℕ, false, List, length, refl, sym, subst, ◌∙◌, inl, inr, Result, Ok, Err, Option, None, Some, arith, rules}
 use Rattle.std.specs.Option.{ok_or, option_and_then}
 use Rattle.std.proofs.lemmas.Bool.{cases_Bool, cases_lt, lt-ltb, le-ltb}
 use Rattle.base64.specs.GeneralPurpose.{IsBytes}
@@ -11,6 +11,7 @@ use Rattle.pass_forms.specs.computed.Envelope.{from_base64, unwrapping, with_its
 use Rattle.pass_forms.specs.Reading.{max_text_len}
 use Rattle.pass_forms.proofs.Base64Decoding.{from_base64_spells, spells_from_base64}
 use Rattle.pass_forms.proofs.Base64Spelling.{spelling_brace, spells_one}
+use Rattle.std.proofs.Common.{option_map}
 
 -- A text wraps one form and one list of bytes at most.
 pub wraps_one : (text : List ℕ) (f g : Form) (a b : List ℕ) → Wraps text f a → Wraps text g b → (f ≡ g) × (a ≡ b)
@@ -30,39 +31,23 @@ wraps_bytes text form b bytes (inr content) = content.0.are_bytes
 abbrev pub Answer : Type 0
 Answer = Result (Form × List ℕ) FormFault
 
-option_cases : {A : Type 0} (o : Option A) → (o ≡ None) ⊎ ((x : A) × (o ≡ Some x))
-option_cases None = inl refl
-option_cases (Some x) = inr (x, refl)
-
 -- what a text answers that is no longer than it may be, and does not start with a brace
-decoded_answer : (text : List ℕ) → length text ≤ max_text_len → starts_with_brace text ≡ false
-    → IsUnwrapped text (ok_or (option_and_then with_its_form (from_base64 text)) Malformed)
-decoded_answer text short brace = elim (option_cases (from_base64 text)) [
-  | inl none ↦
-      rw none (
-        short,
-        λ form b wraps. elim wraps [
-          | inl plain ↦ cc (plain.0, brace)
-          | inr is ↦ cc (spells_from_base64 text b is.0, none)
-        ],
-      )
-  | inr some ↦
-      let b : List ℕ = some.0 in
-      let is : IsBase64 text b = from_base64_spells text b some.1 in
-      elim (option_cases (form_of b)) [
-        | inl none ↦
-            rw (some.1, none) (
-              short,
-              λ form other wraps. elim wraps [
-                | inl plain ↦ cc (plain.0, brace)
-                | inr content ↦
-                    let same : other ≡ b = spells_one text other b content.0 is in
-                    cc (rw same at content.1, none)
-              ],
-            )
-        | inr form ↦ rw (some.1, form.1) (short, inr (is, form.1))
-      ]
-]
+decoded_answer : (text : List ℕ) (found : Option (List ℕ)) → ((b : List ℕ) → (found ≡ Some b) ↔ IsBase64 text b) → length text ≤ max_text_len →
+    starts_with_brace text ≡ false → IsUnwrapped text (ok_or (option_and_then with_its_form found) Malformed)
+decoded_answer text None exact short brace = (short, none)
+  where
+    none : (form : Form) (b : List ℕ) → Wraps text form b → ⊥
+    none form b (inl plain) = cc (plain.0, brace)
+    none form b (inr is) = cc ((exact b).1 is.0)
+decoded_answer text (Some b) exact short brace = by_form (form_of b) refl
+  where
+    by_form : (found : Option Form) → form_of b ≡ found → IsUnwrapped text (ok_or (option_map (λ form. (form, b)) found) Malformed)
+    by_form None e = (short, none)
+      where
+        none : (form : Form) (other : List ℕ) → Wraps text form other → ⊥
+        none form other (inl plain) = cc (plain.0, brace)
+        none form other (inr is) = cc ((exact other).1 is.0, is.1, e)
+    by_form (Some form) e = (short, inr ((exact b).0 refl, e))
 
 -- `unwrapping` is what taking the text out of its envelope answers.
 pub unwrapped_answers : (text : List ℕ) → IsUnwrapped text (unwrapping text)
@@ -71,7 +56,7 @@ unwrapped_answers text = elim (cases_lt max_text_len (length text)) [
   | inl long ↦ rw (lt-ltb max_text_len (length text) long) long
   | inr short ↦ elim (cases_Bool (starts_with_brace text)) [
     | inl brace ↦ rw (le-ltb max_text_len (length text) short, brace) (short, inl (brace, refl, refl))
-    | inr brace ↦ rw (le-ltb max_text_len (length text) short, brace) (decoded_answer text short brace)
+    | inr brace ↦ rw (le-ltb max_text_len (length text) short, brace) (decoded_answer text (from_base64 text) (λ b. (from_base64_spells text b, spells_from_base64 text b)) short brace)
   ]
 ]
 

@@ -194,6 +194,7 @@ fn checked_fields<L: Layout>(bytes: &[u8]) -> Result<Fields<'_, L>, FormFault>
 
 impl<'a> Caveats<'a> {
     // Removes the first caveat and returns its identifier.
+    #[tactic(auto, using(crate::proofs::CaveatRuns::none_counted, crate::proofs::CaveatRuns::none_found))]
     fn next<L: Layout>(&mut self) -> Option<&'a [u8]>
         ensures some { IfSome result
             (λ caveat. identifiers_at L.caveat_at self.old.count self.old.bytes.now ≡ caveat.now

@@ -11,6 +11,7 @@ use pass_mac::{Chain, same};
 /// Whether a chain, extended by the caveats that a source has left, ends in the signature after
 /// them. A pass is signed if the chain is that of its identifier, and the source has yielded its
 /// location and its identifier.
+#[tactic(auto, using(crate::proofs::Verifying::signed_behind))]
 pub fn is_signed_by<'a, F: FieldSource<'a>>(mut chain: Chain, source: &mut F) -> bool
     ensures { (caveats : List (List ℕ)) (signature : List ℕ)
         → F.left source.old ≡ map caveat_field caveats ++ signature_field signature ∷ []

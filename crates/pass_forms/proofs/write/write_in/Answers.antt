@@ -15,14 +15,6 @@ returns-in_err-put_pass-clause-written g c =
     let long = c.in_err-put_pass.ensures.bytes in
     rw (p.1, p.2, long.0) (too_long (g.L.PutLayout.bytes_of c.args.pass.now) c.args.pass.now few (rw c.new-buffer.ensures at long.1))
 
-pub returns-in_err-put_pass-clause-real : goal.returns-in_err-put_pass-clause-real
-returns-in_err-put_pass-clause-real g c = λ some.
-    let few : length c.args.pass.now.caveats ≤ max_caveats =
-    omega (arith, ap length c.caveats.ensures, length-map c.caveats.result.now (λ caveat. caveat.items)) in
-    let fails = too_long (g.L.PutLayout.bytes_of c.args.pass.now) c.args.pass.now few (rw c.new-buffer.ensures at c.in_err-put_pass.ensures.bytes.1) in
-    let never = rw fails at some in
-    absurd (cc)
-
 pub returns-in_err-text_of-clause-written : goal.returns-in_err-text_of-clause-written
 returns-in_err-text_of-clause-written g c =
     let bytes = g.L.PutLayout.bytes_of c.args.pass.now in
