@@ -1,7 +1,6 @@
 -- Caveats that are read are the caveats that were written, and what was written is read.
 use Rattle.std.proofs.Common.{◌≡◌, ℕ, ◌≤◌, List, ◌++◌, length, Option, Some, None, refl, sym, ap, subst, ◌∙◌, append_assoc, arith}
 use Rattle.std.specs.Prelude.{IfSome}
-use Rattle.std.proofs.lemmas.List.{length-append}
 use Rattle.std.proofs.lemmas.Option.{same_Some}
 use Rattle.pass_forms.specs.Pass.{WideCaveat}
 use Rattle.pass_forms.specs.V1.{packet, optional_packet, caveat_packets, FitsPacket, FitsCaveat}
@@ -11,6 +10,8 @@ use Rattle.pass_forms.proofs.FieldNames.{caveat_key, verifier_id_key, caveat_loc
 use Rattle.pass_forms.proofs.CaveatTexts.{Exact}
 use Rattle.pass_forms.proofs.Digits.{bind_some}
 use Rattle.pass_forms.proofs.Packets.{packet_takes, packet_again, packet_other, length-packet}
+use Rattle.std.proofs.Common.{arith}
+use Rattle.std.proofs.lemmas.Grind.{common_steps}
 
 optional_takes : (key bytes : List ℕ) → (bytes ≡ optional_packet key (optional_at key bytes).0 ++ (optional_at key bytes).1)
     × IfSome (optional_at key bytes).0 (FitsPacket key)
@@ -23,11 +24,7 @@ optional_takes key bytes = by_read (packet_at key bytes) refl
 
 packets_assoc : (caveat : WideCaveat) (rest : List ℕ) → caveat_packets caveat ++ rest ≡ packet caveat_key caveat.identifier
     ++ (optional_packet verifier_id_key caveat.verifier_id ++ (optional_packet caveat_location_key caveat.location ++ rest))
-packets_assoc caveat rest =
-    let i = packet caveat_key caveat.identifier in
-    let v = optional_packet verifier_id_key caveat.verifier_id in
-    let l = optional_packet caveat_location_key caveat.location in
-    append_assoc i (v ++ l) rest ∙ ap (λ (x : List ℕ). i ++ x) (append_assoc v l rest)
+packets_assoc caveat rest = simp append_assoc
 
 caveat_takes : (bytes : List ℕ) (found : WideCaveat × List ℕ) → caveat_at bytes ≡ Some found → (bytes ≡ caveat_packets found.0 ++ found.1) × FitsCaveat found.0
 unfolding caveat_at
@@ -52,14 +49,12 @@ pub record EndsCaveat (rest : List ℕ) : Type 0 where
 
 optional_again : (key : List ℕ) (text : Option (List ℕ)) (rest : List ℕ) → IfSome text (FitsPacket key) → packet_at key rest ≡ None →
     optional_at key (optional_packet key text ++ rest) ≡ (text, rest)
-optional_again key None rest fits none = rw none refl
-optional_again key (Some text) rest fits none = rw (packet_again key text rest fits) refl
+optional_again key text rest fits none = grind (arith, packet_again)
 
 -- A location of a caveat is no verifier id.
 no_verifier_id : (location : Option (List ℕ)) (rest : List ℕ) → EndsCaveat rest →
     packet_at verifier_id_key (optional_packet caveat_location_key location ++ rest) ≡ None
-no_verifier_id None rest ends = ends.verifier_id
-no_verifier_id (Some location) rest ends = packet_other verifier_id_key caveat_location_key location rest (λ tail. refl)
+no_verifier_id location rest ends = grind (arith, ends.verifier_id, packet_other verifier_id_key caveat_location_key)
 
 caveat_again : (caveat : WideCaveat) (rest : List ℕ) → FitsCaveat caveat → EndsCaveat rest → caveat_at (caveat_packets caveat ++ rest) ≡ Some (caveat, rest)
 unfolding caveat_at
@@ -72,21 +67,13 @@ caveat_again caveat rest fits ends =
 
 -- A caveat ends the caveat before it.
 caveat_ends : (caveat : WideCaveat) (rest : List ℕ) → FitsCaveat caveat → EndsCaveat (caveat_packets caveat ++ rest)
-caveat_ends caveat rest fits =
-    let i = packet caveat_key caveat.identifier in
-    let optional = optional_packet verifier_id_key caveat.verifier_id ++ optional_packet caveat_location_key caveat.location in
-    let regrouped = append_assoc i optional rest in
-    record {
-      verifier_id =
-          ap (packet_at verifier_id_key) regrouped ∙ packet_other verifier_id_key caveat_key caveat.identifier (optional ++ rest) (λ tail. refl);
-      location = ap (packet_at caveat_location_key) regrouped ∙ packet_other caveat_location_key caveat_key caveat.identifier (optional ++ rest) (λ tail. refl);
-    }
+caveat_ends caveat rest fits = record {
+  verifier_id = rw append_assoc (packet_other verifier_id_key caveat_key caveat.identifier _ (λ tail. refl));
+  location = rw append_assoc (packet_other caveat_location_key caveat_key caveat.identifier _ (λ tail. refl));
+}
 
 pub exact_caveats : Exact caveat_at caveat_packets FitsCaveat EndsCaveat
 exact_caveats = record { takes = caveat_takes; again = caveat_again; next = caveat_ends }
 
 pub caveat_has_bytes : (caveat : WideCaveat) → 1 ≤ length (caveat_packets caveat)
-caveat_has_bytes caveat =
-    let i = packet caveat_key caveat.identifier in
-    let optional = optional_packet verifier_id_key caveat.verifier_id ++ optional_packet caveat_location_key caveat.location in
-    omega (arith, length-append i optional, length-packet caveat_key caveat.identifier)
+caveat_has_bytes caveat = grind (arith, common_steps, length-packet)

@@ -12,13 +12,14 @@ use Rattle.pass_forms.specs.Laws.{ComputesSpelled, OnePassEach}
 use Rattle.pass_forms.specs.Pass.{Plain, WideCaveat, WidePass, is_third_party, has_third_party, widened_caveat, as_wide_pass, first_party_caveat, first_party}
 use Rattle.pass_forms.specs.Reading.{max_text_len, max_caveats, IsReadAs}
 use Rattle.pass_forms.specs.computed.Reading.{checked_if_any, reading_of}
+use Rattle.std.proofs.Common.{arith}
+use Rattle.std.proofs.lemmas.Bool.Decides.{nat_tests}
 
 -- ---- a wide pass with no third party's caveat is a pass
 
 is_first_party : (identifier : List ℕ) (verifier_id location : Option (List ℕ)) → (is_some verifier_id || is_some location) ≡ false → ◌≡◌ {A = WideCaveat}
     (widened_caveat identifier) (record { identifier = identifier; verifier_id = verifier_id; location = location })
-is_first_party identifier None None e = refl
-is_first_party identifier verifier_id location e = absurd cc
+is_first_party identifier verifier_id location e = grind arith
 
 all_first_party : (caveats : List WideCaveat) → list_any is_third_party caveats ≡ false → map widened_caveat (map first_party_caveat caveats) ≡ caveats
 all_first_party [] e = refl
@@ -59,14 +60,11 @@ module _ (len : ℕ) (Spelled : WidePass → Type 0) where
       (within, subst Spelled (sym (widened-first_party wide et)) spelling, omega (arith, ltb-false _ _ em, length-map wide.caveats first_party_caveat))
 
   pub checked_if_any_is : (computed : Option WidePass) → Computes Spelled computed → len ≤ max_text_len → IsReadAs len Spelled (checked_if_any computed)
-  checked_if_any_is None exact within = (within, λ wide spelling. let e = (exact wide).0 spelling in absurd cc)
-  checked_if_any_is (Some wide) exact within =
-      checked_by wide (has_third_party wide) (ltb max_caveats (length wide.caveats)) refl refl within ((exact wide).1 refl)
+  checked_if_any_is computed exact within = grind (arith, nat_tests, checked_by)
 
   reading_by : (computed : Option WidePass) (long : Bool) → ltb max_text_len len ≡ long → Computes Spelled computed →
       IsReadAs len Spelled (cond long (Err TooLong) (checked_if_any computed))
-  reading_by computed true e exact = ltb-true _ _ e
-  reading_by computed false e exact = checked_if_any_is computed exact (ltb-false _ _ e)
+  reading_by computed long e exact = grind (arith, nat_tests, checked_if_any_is computed exact)
 
   pub checked_determined : (computed : Option WidePass) (answer : Result Plain FormFault) → Computes Spelled computed → len ≤ max_text_len →
       IsReadAs len Spelled answer → checked_if_any computed ≡ answer

@@ -1,10 +1,12 @@
 -- A digit that is read is the digit that was written, and so are four of them.
-use Rattle.std.proofs.Common.{◌≡◌, ℕ, ◌+◌, ◌*◌, ◌/◌, ◌%◌, ◌^◌, ◌<◌, List, [], ◌∷◌, ◌++◌, Option, Some, None, refl, sym, ap, ◌∙◌, arith}
+use Rattle.std.proofs.Common.{◌≡◌, ℕ, ◌+◌, ◌*◌, ◌/◌, ◌%◌, ◌^◌, ◌<◌, List, [], ◌∷◌, ◌++◌, Option, Some, None, refl, arith}
 use Rattle.std.proofs.lemmas.Bool.Decides.{nat_tests}
 use Rattle.std.proofs.lemmas.Option.{same_Some}
 use Rattle.pass_forms.specs.V1.{hex_digit, four_hex_digits}
 use Rattle.pass_forms.specs.computed.Parts.{◌>>=◌}
 use Rattle.pass_forms.specs.computed.V1Reading.{digit_value, len_at}
+use Rattle.std.proofs.Common.{arith}
+use Rattle.std.proofs.lemmas.Bool.Decides.{nat_tests}
 
 pub digit_again : (n : ℕ) → n < 16 → digit_value (hex_digit n) ≡ Some n
 digit_again n h = grind (arith, nat_tests)
@@ -31,10 +33,7 @@ bind_some (Some x) f y e = (x, refl, e)
 
 joined : (a b c d x y z w n : ℕ) (rest : List ℕ) → (x < 16) × (a ≡ hex_digit x) → (y < 16) × (b ≡ hex_digit y) → (z < 16) × (c ≡ hex_digit z) →
     (w < 16) × (d ≡ hex_digit w) → value x y z w ≡ n → (n < 2 ^ 16) × (a ∷ b ∷ c ∷ d ∷ rest ≡ four_hex_digits n ++ rest)
-joined a b c d x y z w n rest ha hb hc hd is_n =
-    let e : four_hex_digits n ≡ hex_digit x ∷ hex_digit y ∷ hex_digit z ∷ hex_digit w ∷ [] =
-    ap four_hex_digits (sym is_n) ∙ digits_of_value x y z w ha.0 hb.0 hc.0 hd.0 in
-    (omega arith, rw (ha.1, hb.1, hc.1, hd.1) (ap (λ (ds : List ℕ). ds ++ rest) (sym e)))
+joined a b c d x y z w n rest ha hb hc hd is_n = grind (arith, digits_of_value)
 
 pub len_takes : (bytes : List ℕ) (n : ℕ) → len_at bytes ≡ Some n → (n < 2 ^ 16) × (rest : List ℕ) × (bytes ≡ four_hex_digits n ++ rest)
 len_takes (a ∷ b ∷ c ∷ d ∷ rest) n e =
@@ -51,10 +50,4 @@ len_takes (a ∷ b ∷ c ∷ d ∷ rest) n e =
 len_takes bytes n e = absurd cc
 
 pub len_again : (n : ℕ) (rest : List ℕ) → n < 2 ^ 16 → len_at (four_hex_digits n ++ rest) ≡ Some n
-len_again n rest h =
-    let first : n / 4096 < 16 = omega arith in
-    let second : n / 256 % 16 < 16 = omega arith in
-    let third : n / 16 % 16 < 16 = omega arith in
-    let fourth : n % 16 < 16 = omega arith in
-    let sum : value (n / 4096) (n / 256 % 16) (n / 16 % 16) (n % 16) ≡ n = omega arith in
-    rw (digit_again (n / 4096) first, digit_again (n / 256 % 16) second, digit_again (n / 16 % 16) third, digit_again (n % 16) fourth, sum) refl
+len_again n rest h = grind (arith, digit_again)

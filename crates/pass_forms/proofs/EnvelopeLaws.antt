@@ -56,7 +56,9 @@ unwrapped_answers text = elim (cases_lt max_text_len (length text)) [
   | inl long ↦ rw (lt-ltb max_text_len (length text) long) long
   | inr short ↦ elim (cases_Bool (starts_with_brace text)) [
     | inl brace ↦ rw (le-ltb max_text_len (length text) short, brace) (short, inl (brace, refl, refl))
-    | inr brace ↦ rw (le-ltb max_text_len (length text) short, brace) (decoded_answer text (from_base64 text) (λ b. (from_base64_spells text b, spells_from_base64 text b)) short brace)
+    | inr brace ↦
+        rw (le-ltb max_text_len (length text) short, brace)
+        (decoded_answer text (from_base64 text) (λ b. (from_base64_spells text b, spells_from_base64 text b)) short brace)
   ]
 ]
 

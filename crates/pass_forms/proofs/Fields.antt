@@ -1,24 +1,25 @@
 -- A field that is read is the field that was written, and what was written is read, whatever follows.
-use Rattle.std.proofs.Common.{◌≡◌, ℕ, zero, suc, ◌+◌, ◌-◌, ◌*◌, ◌/◌, ◌%◌, ◌^◌, ◌<◌, ◌≤◌, true, false, leb, ltb, eqb, List, [], ◌∷◌, ◌++◌, length, take, drop}
-use Rattle.std.proofs.Common.{Option, Some, None, refl, sym, ap, subst, ◌∙◌, append_assoc, arith, inl, inr}
-use Rattle.std.proofs.lemmas.Bool.{cases_lt, leb-true, le-leb, lt-ltb, le-ltb}
+use Rattle.std.proofs.Common.{◌≡◌, ℕ, zero, suc, ◌+◌, ◌-◌, ◌*◌, ◌/◌, ◌%◌, ◌^◌, ◌<◌, ◌≤◌, false, ltb, eqb, List, [], ◌∷◌, ◌++◌, length}
+use Rattle.std.proofs.Common.{Option, Some, None, refl, sym, ap, ◌∙◌, append_assoc, arith, inl, inr}
+use Rattle.std.proofs.lemmas.Bool.{cases_lt, lt-ltb, le-ltb}
 use Rattle.std.proofs.lemmas.Bool.Decides.{nat_tests}
-use Rattle.std.proofs.lemmas.Option.{cond_some, some_pair_parts}
-use Rattle.std.proofs.lemmas.List.{take_at, drop_at, take-append-drop, length-append, length-take}
-use Rattle.pass_forms.specs.computed.Parts.{◌>>=◌, after_prefix, found_or_none}
+use Rattle.std.proofs.lemmas.Option.{some_pair_parts}
+use Rattle.std.proofs.lemmas.List.{take-append-drop, length-append}
+use Rattle.pass_forms.specs.computed.Parts.{◌>>=◌, after_prefix}
 use Rattle.pass_forms.specs.V2.{groups, varint, field, optional_field}
 use Rattle.pass_forms.specs.computed.V2Reading.{varint_up_to, counted_at, field_at, optional_at}
-use Rattle.pass_forms.proofs.Digits.{bind_some}
 use Rattle.pass_forms.proofs.Packets.{after_prefix_takes, after_prefix_again}
 use Rattle.pass_forms.proofs.Varints.{varint_last, varint_more, above_some}
+use Rattle.std.proofs.Common.{arith}
+use Rattle.std.proofs.lemmas.Grind.{common_steps}
+use Rattle.std.proofs.lemmas.Bool.Decides.{nat_tests}
 
 -- ---- numbers
 
 -- More groups than there are bits spell the same.
 groups_enough : (more n : ℕ) → n < 128 → groups more n ≡ n ∷ []
 unfolding groups
-groups_enough zero n small = refl
-groups_enough (suc more) n small = rw (lt-ltb n 128 small) refl
+groups_enough more n small = grind (arith, nat_tests)
 
 groups_more : (more n : ℕ) → 128 ≤ n → groups (suc more) n ≡ (128 + n % 128) ∷ groups more (n / 128)
 unfolding groups
@@ -105,27 +106,14 @@ varint_again n rest within = again_below n (length (varint n ++ rest)) n rest (o
 -- ---- fields
 
 counted_takes : (n : ℕ) (bytes text rest : List ℕ) → counted_at (n, bytes) ≡ Some (text, rest) → (bytes ≡ text ++ rest) × (length text ≡ n)
-counted_takes n bytes text rest e =
-    let g = cond_some (leb n (length bytes)) (take n bytes, drop n bytes) (text, rest) e in
-    let within = leb-true n (length bytes) g.0 in
-    subst (λ (x : List ℕ × List ℕ). (bytes ≡ x.0 ++ x.1) × (length x.0 ≡ n)) g.1 (sym (take-append-drop n bytes), omega (arith, length-take n bytes))
+counted_takes n bytes text rest e = grind (arith, common_steps, take-append-drop)
 
 counted_again : (text rest : List ℕ) → counted_at (length text, text ++ rest) ≡ Some (text, rest)
-counted_again text rest =
-    let within : leb (length text) (length (text ++ rest)) ≡ true = le-leb (length text) (length (text ++ rest)) (omega (arith, length-append text rest)) in
-    rw (within, take_at text rest (length text) refl, drop_at text rest (length text) refl) refl
+counted_again text rest = grind (arith, common_steps)
 
 pub field_takes : (type : ℕ) (bytes text rest : List ℕ) → field_at type bytes ≡ Some (text, rest) → bytes ≡ field type text ++ rest
 unfolding field_at
-field_takes type bytes text rest e =
-    let t = bind_some _ _ (text, rest) e in
-    let n = bind_some _ _ (text, rest) t.2 in
-    let c = counted_takes n.0.0 n.0.1 text rest n.2 in
-    let len : varint n.0.0 ≡ varint (length text) = ap varint (sym c.1) in
-    after_prefix_takes (type ∷ []) bytes t.0 t.1
-    ∙ ap (λ (x : List ℕ). type ∷ x)
-    (varint_takes (length t.0) t.0 n.0.0 n.0.1 n.1 ∙ ap (λ (x : List ℕ). x ++ n.0.1) len ∙ ap (λ (x : List ℕ). varint (length text) ++ x) c.0 ∙ sym
-    (append_assoc (varint (length text)) text rest))
+field_takes type bytes text rest e = grind (arith, common_steps, after_prefix_takes, varint_takes, counted_takes)
 
 pub field_again : (type : ℕ) (text rest : List ℕ) → field_at type (field type text ++ rest) ≡ Some (text, rest)
 unfolding field_at
@@ -141,14 +129,8 @@ field_again type text rest =
     ) refl
 
 pub optional_takes : (type : ℕ) (bytes : List ℕ) → bytes ≡ optional_field type (optional_at type bytes).0 ++ (optional_at type bytes).1
-optional_takes type bytes = by_read (field_at type bytes) refl
-  where
-    by_read : (read : Option (List ℕ × List ℕ)) → field_at type bytes ≡ read →
-        bytes ≡ optional_field type (found_or_none bytes read).0 ++ (found_or_none bytes read).1
-    by_read None e = refl
-    by_read (Some found) e = field_takes type bytes found.0 found.1 e
+optional_takes type bytes = grind (arith, field_takes type bytes)
 
 pub optional_again : (type : ℕ) (text : Option (List ℕ)) (rest : List ℕ) → field_at type rest ≡ None →
     optional_at type (optional_field type text ++ rest) ≡ (text, rest)
-optional_again type None rest none = rw none refl
-optional_again type (Some text) rest none = rw (field_again type text rest) refl
+optional_again type text rest none = grind (arith, field_again)

@@ -12,6 +12,7 @@ use Rattle.pass_forms.specs.Text.{SpellsText, IsTextReading}
 use Rattle.pass_forms.specs.computed.Text.{in_form, reading_in, text_reading}
 use Rattle.pass_forms.proofs.EnvelopeLaws.{wraps_one, unwrapped_answers}
 use Rattle.pass_forms.proofs.Checking.{Computes, checked_if_any_is, checked_determined}
+use Rattle.std.proofs.Common.{rules, arith}
 
 abbrev Reader : Type 0
 Reader = Form → List ℕ → Option WidePass
@@ -29,9 +30,7 @@ module _ (wide_at : Reader) (text : List ℕ) where
   -- What a text spells is what its bytes spell, in its form and in any.
   same_bytes : (form other : Form) (bytes : List ℕ) (wide : WidePass) → Wraps text form bytes → SpellsIn other wide →
       (other ≡ form) × (wide_at form bytes ≡ Some wide)
-  same_bytes form other bytes wide wraps h =
-      let same = wraps_one text other form h.0 bytes h.1 wraps in
-      (same.0, subst (λ (x : Form × List ℕ). wide_at x.0 x.1 ≡ Some wide) (rw (same.0, same.1) refl) h.2)
+  same_bytes form other bytes wide wraps h = grind (arith, wraps_one text other form h.0 bytes h.1 wraps)
 
   computes_in : (form : Form) (bytes : List ℕ) → Wraps text form bytes → Computes (SpellsIn form) (wide_at form bytes)
   computes_in form bytes wraps wide = (λ h. (same_bytes form form bytes wide wraps h).1, λ e. (bytes, wraps, e))

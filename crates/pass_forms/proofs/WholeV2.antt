@@ -3,12 +3,11 @@ use Rattle.std.proofs.Common.{◌≡◌, ℕ, ◌≤◌, List, [], ◌∷◌, �
 use Rattle.std.specs.Prelude.{unwrap_or}
 use Rattle.std.specs.List.{flat_map, AllByRecursion}
 use Rattle.std.proofs.lemmas.List.{append-nil, length-append}
-use Rattle.std.proofs.lemmas.Option.{same_Some}
 use Rattle.pass_forms.specs.computed.Caveats.{caveats_at}
 use Rattle.pass_forms.specs.Pass.{WideCaveat, WidePass}
 use Rattle.pass_forms.specs.V2.{field, optional_field, end_of_section, caveat_section, types}
 use Rattle.pass_forms.specs.V2.{sections, SpellsV2, types}
-use Rattle.pass_forms.specs.computed.V2Reading.{field_at, optional_at, caveat_at, header_at, footer_at, wide_at, reading_v2}
+use Rattle.pass_forms.specs.computed.V2Reading.{field_at, caveat_at, header_at, footer_at, wide_at, reading_v2}
 use Rattle.pass_forms.proofs.CaveatTexts.{Exact, caveats_take, caveats_again, caveats_fit}
 use Rattle.pass_forms.proofs.Digits.{bind_some}
 use Rattle.pass_forms.proofs.Fields.{field_takes, field_again, optional_takes, optional_again}
@@ -16,6 +15,8 @@ use Rattle.pass_forms.proofs.Packets.{after_prefix_takes}
 use Rattle.pass_forms.specs.Laws.{ComputesSpelled, ReadsExactly}
 use Rattle.pass_forms.proofs.Checking.{exactly}
 use Rattle.pass_forms.proofs.WholePass.{last_takes, made, whole_parts, whole_again}
+use Rattle.std.proofs.Common.{arith}
+use Rattle.std.proofs.lemmas.Grind.{common_steps}
 
 -- ---- caveats
 
@@ -24,22 +25,7 @@ section_assoc a b c rest = simp append_assoc
 
 caveat_takes : (bytes : List ℕ) (found : WideCaveat × List ℕ) → caveat_at bytes ≡ Some found → (bytes ≡ caveat_section found.0 ++ found.1) × Unit {0}
 unfolding caveat_at
-caveat_takes bytes found e =
-    let i = bind_some _ _ found e in
-    let r = bind_some _ _ found i.2 in
-    let l = optional_at types.location bytes in
-    let v = optional_at types.verifier_id i.0.1 in
-    let tl = optional_takes types.location bytes in
-    let ti = field_takes types.identifier l.1 i.0.0 i.0.1 i.1 in
-    let tv = optional_takes types.verifier_id i.0.1 in
-    let tr = after_prefix_takes end_of_section v.1 r.0 r.1 in
-    let lt = optional_field types.location l.0 in
-    let it = field types.identifier i.0.0 in
-    let vt = optional_field types.verifier_id v.0 in
-    let parts : bytes ≡ lt ++ (it ++ (vt ++ (end_of_section ++ r.0))) = cc in
-    let caveat : WideCaveat = record { identifier = i.0.0; verifier_id = v.0; location = l.0 } in
-    let whole : bytes ≡ caveat_section caveat ++ r.0 = parts ∙ sym (section_assoc lt it vt r.0) in
-    (whole ∙ ap (λ (x : WideCaveat × List ℕ). caveat_section x.0 ++ x.1) (same_Some (caveat, r.0) found r.2), tt)
+caveat_takes bytes found e = grind (arith, common_steps, optional_takes, field_takes, after_prefix_takes)
 
 -- A field of another type is no field of this one.
 not_location : (text rest : List ℕ) → field_at types.location (field types.identifier text ++ rest) ≡ None
@@ -67,11 +53,7 @@ exact_caveats : Exact caveat_at caveat_section (λ _. Unit {0}) (λ _. Unit {0})
 exact_caveats = record { takes = caveat_takes; again = caveat_again; next = λ _ _ _. tt }
 
 caveat_has_bytes : (caveat : WideCaveat) → 1 ≤ length (caveat_section caveat)
-caveat_has_bytes caveat =
-    let lt = optional_field types.location caveat.location in
-    let it = field types.identifier caveat.identifier in
-    let vt = optional_field types.verifier_id caveat.verifier_id in
-    omega (arith, length-append lt (it ++ (vt ++ end_of_section)), length-append it (vt ++ end_of_section), length-append vt end_of_section)
+caveat_has_bytes caveat = grind (arith, common_steps)
 
 -- ---- the signature
 
@@ -106,18 +88,7 @@ pub record Heads (bytes : List ℕ) (header : List ℕ × List ℕ × List ℕ) 
 
 header_takes : (bytes : List ℕ) (header : List ℕ × List ℕ × List ℕ) → header_at bytes ≡ Some header → Heads bytes header
 unfolding header_at
-header_takes bytes header e =
-    let f = bind_some _ _ header e in
-    let i = bind_some _ _ header f.2 in
-    let r = bind_some _ _ header i.2 in
-    let l = optional_at types.location f.0 in
-    let tf = after_prefix_takes (2 ∷ []) bytes f.0 f.1 in
-    let tl = optional_takes types.location f.0 in
-    let ti = field_takes types.identifier l.1 i.0.0 i.0.1 i.1 in
-    let tr = after_prefix_takes end_of_section i.0.1 r.0 r.1 in
-    let found : List ℕ × List ℕ × List ℕ = (unwrap_or l.0 [], i.0.0, r.0) in
-    let heads : Heads bytes found = record { location = l.0; is_location = refl; parts = cc } in
-    subst (λ (h : List ℕ × List ℕ × List ℕ). Heads bytes h) (same_Some found header r.2) heads
+header_takes bytes header e = grind (arith, common_steps, optional_takes, field_takes, after_prefix_takes)
 
 header_again : (location : Option (List ℕ)) (identifier rest : List ℕ) →
     header_at (2 ∷ optional_field types.location location ++ (field types.identifier identifier ++ (end_of_section ++ rest))) ≡ Some

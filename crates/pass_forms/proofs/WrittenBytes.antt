@@ -1,5 +1,5 @@
 -- The bytes that are written of a pass are bytes, where its parts are.
-use Rattle.std.proofs.Common.{◌≡◌, ℕ, zero, suc, ◌+◌, ◌/◌, ◌%◌, ◌^◌, ◌<◌, ◌≤◌, true, ltb, List, [], ◌∷◌, ◌++◌, length, map, refl, arith, inl, inr}
+use Rattle.std.proofs.Common.{◌≡◌, ℕ, zero, suc, ◌+◌, ◌/◌, ◌%◌, ◌^◌, ◌<◌, ◌≤◌, true, ltb, List, [], ◌∷◌, ◌++◌, map, refl, arith, inl, inr}
 use Rattle.std.specs.List.{AllByRecursion, flat_map, list_all}
 use Rattle.std.proofs.lemmas.Bool.{cases_lt, lt-ltb, le-ltb}
 use Rattle.std.proofs.lemmas.Bool.Decides.{nat_tests}
@@ -7,11 +7,12 @@ use Rattle.base64.specs.GeneralPurpose.{IsBytes}
 use Rattle.pass_forms.specs.Pass.{Plain, as_wide_pass, widened_caveat}
 use Rattle.pass_forms.specs.V1.{FitsPackets, FitsCaveat, FitsPacket, caveat_packets, four_hex_digits, hex_digit}
 use Rattle.pass_forms.specs.V1.{packet}
-use Rattle.pass_forms.specs.V1.{packet_len}
 use Rattle.pass_forms.specs.V2.{caveat_section, end_of_section, field, groups, optional_field, varint, types}
 use Rattle.pass_forms.specs.Writing.{HasBytes, nonempty_location, v1_bytes, v2_bytes}
 use Rattle.pass_forms.proofs.FieldNames.{caveat_key, identifier_key, location_key, signature_key}
 use Rattle.pass_forms.proofs.Base64Bytes.{append_is_bytes, bytes_from_passes, nil_is_bytes, one_more}
+use Rattle.std.proofs.Common.{rules, arith}
+use Rattle.std.proofs.lemmas.Bool.Decides.{nat_tests}
 
 -- ---- V1
 
@@ -19,7 +20,7 @@ digit_is_byte : (n : ℕ) → n < 16 → hex_digit n < 256
 digit_is_byte n h = grind (arith, nat_tests)
 
 four_bytes : (a b c d : ℕ) → a < 256 → b < 256 → c < 256 → d < 256 → IsBytes (a ∷ b ∷ c ∷ d ∷ [])
-four_bytes a b c d ha hb hc hd = one_more a (b ∷ c ∷ d ∷ []) ha (one_more b (c ∷ d ∷ []) hb (one_more c (d ∷ []) hc (one_more d [] hd nil_is_bytes)))
+four_bytes a b c d ha hb hc hd = search (rules, one_more, nil_is_bytes)
 
 digits_are_bytes : (n : ℕ) → n < 2 ^ 16 → IsBytes (four_hex_digits n)
 digits_are_bytes n h =
@@ -28,10 +29,7 @@ digits_are_bytes n h =
     (digit_is_byte (n % 16) (omega arith))
 
 packet_is_bytes : (key bytes : List ℕ) → list_all (λ byte. ltb byte 256) key ≡ true → FitsPacket key bytes → IsBytes bytes → IsBytes (packet key bytes)
-packet_is_bytes key bytes passes fits are =
-    append_is_bytes (four_hex_digits (packet_len key bytes)) (key ++ (bytes ++ 10 ∷ [])) (digits_are_bytes (packet_len key bytes) fits)
-    (append_is_bytes key (bytes ++ 10 ∷ []) (bytes_from_passes key passes)
-    (append_is_bytes bytes (10 ∷ []) are (one_more 10 [] (omega arith) nil_is_bytes)))
+packet_is_bytes key bytes passes fits are = search (rules, append_is_bytes, one_more, nil_is_bytes, digits_are_bytes, bytes_from_passes)
 
 packets_are_bytes : (caveats : List (List ℕ)) → AllByRecursion FitsCaveat (map widened_caveat caveats) → AllByRecursion IsBytes caveats →
     IsBytes (flat_map caveat_packets (map widened_caveat caveats))
@@ -67,9 +65,7 @@ groups_are_bytes (suc more) n h = elim (cases_lt n 128) [
 
 field_is_bytes : (type : ℕ) (bytes : List ℕ) → type < 256 → IsBytes bytes → IsBytes (field type bytes)
 unfolding varint
-field_is_bytes type bytes small are =
-    let len : ℕ = length bytes in
-    one_more type (varint len ++ bytes) small (append_is_bytes (varint len) bytes (groups_are_bytes len len (omega arith)) are)
+field_is_bytes type bytes small are = search (rules, append_is_bytes, one_more, groups_are_bytes)
 
 location_is_bytes : (location : List ℕ) → IsBytes location → IsBytes (optional_field types.location (nonempty_location location))
 location_is_bytes [] are = nil_is_bytes

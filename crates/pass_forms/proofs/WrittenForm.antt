@@ -1,5 +1,5 @@
 -- The base64 text of a pass, in either form of its bytes.
-use Rattle.std.proofs.Common.{◌≡◌, ◌↔◌, ℕ, ◌≤◌, Bool, true, false, cond, ltb, List, length, Some, Result, Ok, Err, refl, sym, ap, subst, ◌∙◌, arith, rules}
+use Rattle.std.proofs.Common.{◌≡◌, ◌↔◌, ℕ, ◌≤◌, Bool, true, false, cond, ltb, List, length, Some, Result, Ok, Err, refl, subst, arith}
 use Rattle.std.specs.Prelude.{IfErr, IfOk, IsOk, MatchResult}
 use Rattle.std.proofs.lemmas.Bool.{ltb-false, ltb-true}
 use Rattle.base64.specs.GeneralPurpose.{IsBytes}
@@ -13,6 +13,7 @@ use Rattle.pass_forms.specs.Reading.{max_caveats, max_text_len}
 use Rattle.pass_forms.specs.Writing.{FailsAs, IsReadBack, IsWriteFault, IsWriting, IsTextBy, IsWritableText, in_base64}
 use Rattle.pass_forms.specs.computed.Writing.{writing_of}
 use Rattle.pass_forms.proofs.WrittenTexts.{bytes_fit, unwraps}
+use Rattle.std.proofs.Common.{arith}
 
 -- A form: the bytes of a pass, and which bytes spell a pass.
 pub record BytesForm : Type 1 where
@@ -54,12 +55,7 @@ module _ (f : BytesForm) (pass : Plain) where
 
   -- the relation allows one result
   one_result : (one other : Result (List ℕ) FormFault) → IsWriting (IsTextIn f) pass one → IsWriting (IsTextIn f) pass other → one ≡ other
-  one_result (Ok text) (Ok other) h k = ap (λ (t : List ℕ). Ok t) (h.is_text.encoding ∙ sym k.is_text.encoding)
-  one_result (Ok text) (Err TooLong) h k = absurd (omega (arith, h.short, k.1 text h.is_text))
-  one_result (Err TooLong) (Ok other) h k = absurd (omega (arith, k.short, h.1 other k.is_text))
-  one_result (Err TooLong) (Err TooLong) h k = refl
-  one_result (Err TooMany) (Err TooMany) h k = refl
-  one_result one other h k = first_of (search rules, omega arith)
+  one_result one other h k = grind arith
 
   pub exact : (answer : Result (List ℕ) FormFault) → (IsOk (writing_of (f.bytes_of pass) pass) → length pass.signature ≡ 32)
       → (writing_of (f.bytes_of pass) pass ≡ answer) ↔ IsWriting (IsTextIn f) pass answer

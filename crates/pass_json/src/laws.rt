@@ -37,6 +37,7 @@ pub fn computes_json()
 }
 
 /// The relation allows exactly one result for bytes of JSON: the computed one.
+#[tactic(auto, using(crate::proofs::JsonExact::reading_json_exact))]
 pub fn reads_json_exactly()
     ensures { ReadsExactly SpellsJson reading_json }
 {
@@ -45,6 +46,7 @@ pub fn reads_json_exactly()
 }
 
 /// The relation allows exactly one result for a text in any form: the computed one.
+#[tactic(auto, using(crate::proofs::AnyExact::reading_exact))]
 pub fn reads_any_form_exactly()
     ensures { ReadsAnyFormExactly }
 {
@@ -55,6 +57,7 @@ pub fn reads_any_form_exactly()
 }
 
 /// The reading of a text is the reading of the bytes that it wraps, in their form.
+#[tactic(auto, using(crate::proofs::Wrapped::reads_wrapped))]
 pub fn reads_what_is_wrapped()
     ensures { ReadsWhatIsWrapped }
 {
@@ -62,6 +65,7 @@ pub fn reads_what_is_wrapped()
 }
 
 /// A text that wraps nothing has the fault of its envelope.
+#[tactic(auto, using(crate::proofs::Wrapped::refused_wrapping))]
 pub fn refuses_what_wraps_nothing()
     ensures { RefusesWhatWrapsNothing }
 {}
@@ -73,6 +77,7 @@ pub fn json_reads_back()
 
 /// The relation allows exactly one result of writing a pass in JSON: the computed one, a text or a
 /// fault.
+#[tactic(auto, using(crate::proofs::WritingJson::exact_json))]
 pub fn writes_json_exactly()
     ensures { WritesJsonExactly }
 {
@@ -80,11 +85,13 @@ pub fn writes_json_exactly()
 }
 
 /// A pass has at most one text in each form that a writer may write.
+#[tactic(auto, using(crate::proofs::InEachForm::one_text))]
 pub fn one_text_for_each_form()
     ensures { OneTextEachForm }
 {}
 
 /// A written text, in any form, is read back as the same form and the same pass.
+#[tactic(auto, using(crate::proofs::InEachForm::in_any_form))]
 pub fn any_form_reads_back()
     ensures { AnyFormReadsBack }
 {
@@ -94,6 +101,7 @@ pub fn any_form_reads_back()
 
 /// The relation allows exactly one result of writing a pass, in any form: the computed one, a text
 /// or a fault.
+#[tactic(auto, using(crate::proofs::InEachForm::exact_in_any_form))]
 pub fn writes_any_form_exactly()
     ensures { WritesAnyFormExactly }
 {
@@ -102,6 +110,7 @@ pub fn writes_any_form_exactly()
 }
 
 /// A text has one reading: its form and its pass, or its fault.
+#[tactic(auto, using(crate::proofs::AnyExact::one_reading))]
 pub fn one_reading_for_each_text()
     ensures { OneReadingEachText }
 {

@@ -5,23 +5,9 @@ use Rattle.pass_forms.specs.declared.fault.FormFault.TheVariants.{Memory}
 use Rattle.pass_forms.specs.Envelope.{IsUnwrapped}
 use Rattle.pass_forms.specs.Reading.{max_text_len}
 use Rattle.pass_json.specs.AnyForm.{IsAnyReading, IsReadingInForm}
-use Rattle.pass_json.proofs.SameReading.{holds_of, unless_memory}
-use Rattle.pass_json.proofs.Wrapped.{may_run_out, never_out_of_memory, reads_back}
+use Rattle.pass_json.proofs.SameReading.{unless_memory}
+use Rattle.pass_json.proofs.Wrapped.{may_run_out}
 use Rattle.pass_json.proofs.any.unwrapping.Goals as goal
-
-pub returns-in_err-unwrapping-clause-spelling : goal.returns-in_err-unwrapping-clause-spelling
-returns-in_err-unwrapping-clause-spelling c =
-    let text = c.args.text.now in
-    let fault = c.in_err-unwrapping.field-0.0 in
-    let h = holds_of (IsAnyReading text) (Err fault) (c.refuses_what_wraps_nothing.ensures text fault c.in_err-unwrapping.ensures.reading) in
-    search rules
-
-pub returns-in_err-unwrapping-clause-memory : goal.returns-in_err-unwrapping-clause-memory
-returns-in_err-unwrapping-clause-memory c =
-    let p = err_from_is_err_and c.from_residual.result c.from_residual.ensures.1 in
-    λ e.
-    let is : c.in_err-unwrapping.field-0.0 ≡ Memory = cc (p.1, p.2) in
-    never_out_of_memory c.args.text.now c.in_err-unwrapping.field-0.0 c.in_err-unwrapping.ensures.reading is
 
 pub returns-in_err-pass-clause-spelling : goal.returns-in_err-pass-clause-spelling
 returns-in_err-pass-clause-spelling c =
@@ -44,9 +30,3 @@ returns-in_err-pass-clause-memory c =
     let fault : c.in_err-pass.field-0.0 ≡ Memory = cc (p.1, p.2) in
     may_run_out c.args.text.now c.in_ok-unwrapping.unwrapping.form c.bytes.result.now content
     (c.in_err-pass.ensures.memory (ap (λ (f : FormFault). Err f) fault))
-
-pub returns-clause-spelling : goal.returns-clause-spelling
-returns-clause-spelling c =
-    let content : IsUnwrapped c.args.text.now (Ok (c.in_ok-unwrapping.unwrapping.form, c.bytes.result.now)) =
-    rw c.bytes.ensures c.in_ok-unwrapping.ensures.reading in
-    reads_back c.args.text.now c.in_ok-unwrapping.unwrapping.form c.bytes.result.now c.in_ok-pass.pass content c.in_ok-pass.ensures.spelling
