@@ -1,15 +1,15 @@
 -- Readings in turn, and a change after a reading.
-use Rattle.std.proofs.Common.{◌≡◌, Result, Ok, Err, IfOk, IfErr, IsErrAnd, subst, refl, inl, inr, sym, ◌∙◌, arith}
+use Rattle.std.proofs.Common.{◌≡◌, Result, Ok, Err, IfOk, IsErrAnd, refl, inl, inr, sym, ◌∙◌, arith}
+use Rattle.std.proofs.lemmas.Result.{IfOk-weaker, IfErr-weaker, err_from_is_err_and}
 use Rattle.sqlite.specs.Store.{Ghosts}
-use Rattle.sqlite.specs.State.{State, HasCleanDisk, Survives}
+use Rattle.sqlite.specs.State.{State, HasCleanDisk}
 use Rattle.sqlite.specs.Held.{Held, state}
 use Rattle.sqlite.proofs.StateLemmas.{survives_then}
 use Rattle.club_core.specs.declared.change.Change.{Change}
 use Rattle.club_core.specs.Club.{Club}
 use Rattle.club_core.specs.declared.store.StoreFault.{StoreFault}
-use Rattle.club_tables.specs.Transaction.{IsUntouched, MayCommit}
+use Rattle.club_tables.specs.Transaction.{IsUntouched}
 use Rattle.club_tables.specs.Answers.{IsAfterReadings, IsReadFault}
-use Rattle.club_tables.specs.Opening.{IsOpeningBatch}
 use Rattle.club_store.specs.Opening.{SurvivesOpening}
 use Rattle.club_store.specs.Failing.{FailsToChange}
 use Rattle.club_tables.specs.ReadsAndChanges.{ReadsClub}
@@ -20,24 +20,6 @@ untouched_then a b c earlier first next rest clean is_open =
     let after = next (λ opened. let k = kept opened in k.1 ∙ sym k.2) clean is_open in
     let before = kept after.0 in
     (before.0, after.1 ∙ before.2, after.2 ∙ before.2)
-
-survives_same : (s : State) → Survives s s (λ _. ⊥)
-survives_same s = record {
-  clean = omega arith;
-  shield = λ h. h;
-  counts = omega arith;
-  limit = refl;
-  closes = λ _ is_open. inl is_open;
-  crash =
-      λ _ db may. inl may;
-}
-
-survives_none : (a b c : State) → Survives a b (λ _. ⊥) → Survives b c (λ _. ⊥) → Survives a c (λ _. ⊥)
-survives_none a b c p q = survives_then a b c (λ _. ⊥) (λ _. ⊥) (λ _. ⊥) (λ _ db none. none) (λ _ db none. none) p q
-
-fault_if : {A E : Type 0} (P Q : E → Type 0) (r : Result A E) → IfErr r P → ((e : E) → P e → Q e) → IfErr r Q
-fault_if P Q (Ok x) p f = tt
-fault_if P Q (Err e) p f = f e p
 
 -- readings after a reading
 after_reading : {S A : Type 0} (g : Ghosts S) (a b c : Held S) (first : Result A StoreFault) (IsFirst : Club → A → Type 0) → HasCleanDisk (state g b)
@@ -54,10 +36,6 @@ pub later_fault : {S A : Type 0} (g : Ghosts S) (a b c : Held S) (first : Result
 later_fault g a b c first IsFirst fault clean reads it =
     record { from = it.from; after = after_reading g a b it.from first IsFirst clean reads it.after; reading = it.reading; failure = it.failure }
 
-paired : {A : Type 0} (P : Type 0) (Q : A → Type 0) (r : Result A StoreFault) → P → IfOk r Q → IfOk r (λ x. P × Q x)
-paired P Q (Ok x) p q = (p, q)
-paired P Q (Err fault) p q = tt
-
 -- two readings, one after the other
 pub both_read : {S A B : Type 0} {g : Ghosts S} {a b c : Held S} {one : Result A StoreFault} {two : Result B StoreFault} {IsOne : Club → A → Type 0}
     {IsTwo : Club → B → Type 0} → ReadsClub g a b one IsOne → ReadsClub g b c two IsTwo
@@ -65,13 +43,12 @@ pub both_read : {S A B : Type 0} {g : Ghosts S} {a b c : Held S} {one : Result A
 both_read {g = g} {a = a} {b = b} {c = c} {one = one} {two = two} {IsOne = IsOne} {IsTwo = IsTwo} first next =
     let earlier = λ (clean : HasCleanDisk (state g c)). let e : HasCleanDisk (state g b) = omega (arith, next.survives.clean) in e in
     record {
-      returns = λ clean club others represents. paired (IfOk one (IsOne club)) (IsTwo club) two (first.returns (earlier clean) club others represents)
+      returns = λ clean club others represents. IfOk-weaker two _ _ (λ answer is. (first.returns (earlier clean) club others represents, is))
           (next.returns clean club others (first.kept (earlier clean) club others represents));
       kept = λ clean club others represents. next.kept clean club others (first.kept (earlier clean) club others represents);
       no_change = untouched_then (state g a) (state g b) (state g c) earlier first.no_change next.no_change;
-      survives = survives_none (state g a) (state g b) (state g c) first.survives next.survives;
-      fault = λ clean. fault_if (IsReadFault g b c) (IsReadFault g a c) two (next.fault clean) (λ fault it.
-          later_fault g a b c one IsOne fault (earlier clean) first it);
+      survives = survives_then _ _ _ _ _ _ (λ _ db none. none) (λ _ db none. none) first.survives next.survives;
+      fault = λ clean. IfErr-weaker two _ _ (λ fault it. later_fault g a b c one IsOne fault (earlier clean) first it) (next.fault clean);
     }
 
 -- what is returned by what was read
@@ -85,25 +62,16 @@ read_as reads returned = record {
   fault = λ clean. tt;
 }
 
-passed_on : {C : Type 0} (P : StoreFault → Type 0) (fault : StoreFault) (result : Result C StoreFault) → IsErrAnd result (λ other. other ≡ fault) → P fault
-    → IfErr result P
-passed_on P fault (Ok x) is p = absurd is
-passed_on P fault (Err other) is p = subst P (sym is) p
-
-never_ok : {C : Type 0} (Q : C → Type 0) (fault : StoreFault) (result : Result C StoreFault) → IsErrAnd result (λ other. other ≡ fault) → IfOk result Q
-never_ok Q fault (Ok x) is = absurd is
-never_ok Q fault (Err other) is = tt
-
 -- the fault of a reading is passed on
 pub read_failed : {S A C : Type 0} {g : Ghosts S} {a b : Held S} {fault : StoreFault} {result : Result C StoreFault} {Is : Club → A → Type 0}
     {IsReturned : Club → C → Type 0} → ReadsClub g a b (Err fault) Is → IsErrAnd result (λ other. other ≡ fault) → ReadsClub g a b result IsReturned
-read_failed {g = g} {a = a} {b = b} {fault = fault} {result = result} {IsReturned = IsReturned} reads is = record {
-  returns = λ clean club others represents. never_ok (IsReturned club) fault result is;
+read_failed {result = result} reads is = let failed = err_from_is_err_and result is in rw (failed.1, failed.2) (record {
+  returns = λ clean club others represents. tt;
   kept = reads.kept;
   no_change = reads.no_change;
   survives = reads.survives;
-  fault = λ clean. passed_on (IsReadFault g a b) fault result is (reads.fault clean);
-}
+  fault = reads.fault;
+})
 
 -- a change that failed after a reading
 pub change_fault : {S A : Type 0} (g : Ghosts S) (a b c : Held S) (first : Result A StoreFault) (IsFirst : Club → A → Type 0) (change : Change)
@@ -120,7 +88,11 @@ change_fault g a b c first IsFirst change fault clean reads it = record {
 
 -- nothing is opened
 pub opens_nothing : {S : Type 0} (g : Ghosts S) (held : Held S) → SurvivesOpening g held held
-opens_nothing g held =
-    survives_then (state g held) (state g held) (state g held) (λ _. ⊥) (λ _. ⊥) (MayCommit g 0 IsOpeningBatch held) (λ _ db none. absurd none) (λ _ db none.
-    absurd none)
-    (survives_same (state g held)) (survives_same (state g held))
+opens_nothing g held = record {
+  clean = omega arith;
+  shield = λ h. h;
+  counts = omega arith;
+  limit = refl;
+  closes = λ _ is_open. inl is_open;
+  crash = λ _ db may. inl may;
+}

@@ -1,8 +1,9 @@
 -- What the parts of a view make together.
-use Rattle.std.proofs.Common.{◌≡◌, ℕ, suc, Bool, true, false, cond, List, [], ◌∷◌, Option, Some, None, refl, sym, ap, subst, ◌∙◌, arith}
+use Rattle.std.proofs.Common.{◌≡◌, ℕ, suc, Bool, true, List, [], ◌∷◌, Option, Some, None, refl, sym, ap, subst, ◌∙◌, arith, inl, inr}
 use Rattle.std.specs.Prelude.{find, Contains, option_map, option_and_then}
 use Rattle.std.specs.Str.{bytes_eq}
 use Rattle.std.proofs.lemmas.Slice.Eq.{bytes_eq-Decides}
+use Rattle.std.proofs.lemmas.Bool.{cases_Bool}
 use Rattle.club_rows.specs.declared.key.Key.{Key}
 use Rattle.club_rows.specs.declared.key.KeyRow.{KeyRow}
 use Rattle.club_rows.specs.declared.key.OlderRoot.{OlderRoot}
@@ -19,11 +20,10 @@ use Rattle.club_rows.specs.Key.{key_of_row, row_of_key}
 -- what is found is an element, and passes
 pub found : {X : Type 0} (p : X → Bool) (xs : List X) (x : X) → find p xs ≡ Some x → Contains xs x × (p x ≡ true)
 found p [] x h = absurd (cc)
-found {X} p (y ∷ xs) x h = go (p y) refl (λ e. found p xs x e) h
-  where
-    go : (b : Bool) → p y ≡ b → (find p xs ≡ Some x → Contains xs x × (p x ≡ true)) → cond b (Some y) (find p xs) ≡ Some x → Contains (y ∷ xs) x × (p x ≡ true)
-    go true passes more e = let same : y ≡ x = cc in ((0, omega arith, same), ap p (sym same) ∙ passes)
-    go false fails more e = let later = more e in ((suc later.0.0, omega (arith, later.0.1), later.0.2), later.1)
+found p (y ∷ xs) x h = elim (cases_Bool (p y)) [
+  | inl passes ↦ let here = rw passes at h in let same : y ≡ x = cc in ((0, omega arith, same), ap p (sym same) ∙ passes)
+  | inr fails ↦ let later = found p xs x (rw fails at h) in ((suc later.0.0, omega (arith, later.0.1), later.0.2), later.1)
+]
 
 at_number : (club : Club) (key : Key) → HasOwnBookings club key → (number : Option ℕ)
     → option_and_then (λ (n : ℕ). booking_under key.name n (bookings_of key.member club)) number
@@ -62,9 +62,7 @@ seen_is law club name key account request moment named owned =
     let booked = subst (λ (m : List ℕ). option_and_then (λ (n : ℕ). booking_under key.name n (bookings_of m club)) (request_number request)
     ≡ option_and_then (λ (n : ℕ). booking_under key.name n club.bookings) (request_number request)) same
     (at_number club key own (request_number request)) in
-    let found_member = member.0 in
-    let balance = member.1 in
-    rw (named, found_member) (cc)
+    rw (named, member.0) cc
 
 -- the row that was found, with the older root that was found, is the key
 pub with_older : (found : Option Key) (row : KeyRow) (older : Option OlderRoot) → Some row ≡ option_map row_of_key found

@@ -1,4 +1,5 @@
-use Rattle.std.proofs.Common.{ℕ, List, [], ◌∷◌, Option, Some, None, IfSome, inl, refl, subst, sym, ap, ap₂, ◌∙◌}
+use Rattle.std.proofs.Common.{ℕ, List, [], ◌∷◌, inl, refl, subst, sym, ap, ap₂, ◌∙◌}
+use Rattle.std.proofs.lemmas.Option.{IfSome_then}
 use Rattle.sqlite.specs.State.{HasCleanDisk}
 use Rattle.sqlite.specs.Files.{file_state}
 use Rattle.sqlite.specs.Recovery.{Image}
@@ -33,17 +34,13 @@ returns-in-Ok-adopt-clause-opened g c clean =
 abbrev image : List ℕ → List ℕ → Image
 image log db = record { log = log; db = db }
 
-weaker : {A : Type 0} (P Q : A → Type 0) (o : Option A) → IfSome o P → ((x : A) → P x → Q x) → IfSome o Q
-weaker P Q None p f = tt
-weaker P Q (Some x) p f = f x p
-
 pub returns-in-Err-clause-fault : goal.returns-in-Err-clause-fault
 returns-in-Err-clause-fault g c = by_left (λ left. FailsFrom (image g.Q.Start.log g.Q.Start.db) left c.fault_of.result) _ _ _ c.remains_of-remains.ensures
     (λ is. c.fault_of.ensures ∙ ap fault_by is)
     (λ other. record {
       error = c.in-Err.error;
       without_files = λ none. first_two (c.in-Err.ensures.unopened none) (other none);
-      cause = weaker _ _ c.in-Err.left c.in-Err.ensures.cause (λ left it. (
+      cause = IfSome_then c.in-Err.left c.in-Err.ensures.cause (λ left it. (
         it.0,
         ap₂ image (ap₂ (seen_bytes g.Q.Start.log g.Q.Start.db) it.1.0 it.1.1) (ap₂ (seen_bytes g.Q.Start.log g.Q.Start.db) it.2.0 it.2.1),
         λ clean. (it.3 clean).0,
@@ -54,7 +51,7 @@ returns-in-Err-clause-fault g c = by_left (λ left. FailsFrom (image g.Q.Start.l
 pub returns-in-Err-clause-refused : goal.returns-in-Err-clause-refused
 returns-in-Err-clause-refused g c = by_left (LeavesFrom (image g.Q.Start.log g.Q.Start.db)) _ _ _ c.remains_of-remains.ensures
     (λ is. tt)
-    (λ other. weaker _ _ c.in-Err.left c.in-Err.ensures.cause (λ left it. record {
+    (λ other. IfSome_then c.in-Err.left c.in-Err.ensures.cause (λ left it. record {
       files = it.0;
       held = ap₂ image (ap₂ (seen_bytes g.Q.Start.log g.Q.Start.db) it.1.0 it.1.1) (ap₂ (seen_bytes g.Q.Start.log g.Q.Start.db) it.2.0 it.2.1);
       one_outcome = λ left may. ap₂ image

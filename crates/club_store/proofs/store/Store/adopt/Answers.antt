@@ -1,4 +1,5 @@
-use Rattle.std.proofs.Common.{◌≡◌, Bool, true, false, not, [], ◌∷◌, IsTrue, inl, inr, refl, sym, ap, ◌∙◌, arith}
+use Rattle.std.proofs.Common.{[], ◌∷◌, inl, inr, refl, sym, ap, ◌∙◌, arith}
+use Rattle.std.proofs.lemmas.Bool.{not-true}
 use Rattle.sqlite.specs.Effect.{Database}
 use Rattle.sqlite.specs.Held.{state}
 use Rattle.club_core.specs.Club.{empty_club}
@@ -45,11 +46,6 @@ returns-then-not-is_autocommit-clause-refused g c =
           g.met.S.Store.settled was.store trees is_open may) _ (λ club others found. found) clubs on.left;
     }
 
--- a connection that was in no transaction is in none
-still_idle : (was now tested : Bool) → tested ≡ not was → IsTrue tested → now ≡ false → now ≡ was
-still_idle false now tested is test idle = idle
-still_idle true now tested is test idle = absurd cc
-
 pub returns-in-Err-clause-refused : goal.returns-in-Err-clause-refused
 returns-in-Err-clause-refused g c =
     let was = c.args.connection in
@@ -57,7 +53,7 @@ returns-in-Err-clause-refused g c =
     record {
       clean = λ clean. omega (arith, opens.survives.clean);
       kept = opens.keeps_club;
-      mode = still_idle _ _ _ c.is_autocommit.ensures.value c.if-not-is_autocommit.false c.into_connection.ensures.idle;
+      mode = c.into_connection.ensures.idle ∙ sym (not-true _ (sym c.is_autocommit.ensures.value ∙ c.if-not-is_autocommit.false));
       same_database = λ idle. rw (c.over-tables.ensures, ← c.into_connection.ensures.same) at c.in-Err.ensures.untouched;
       survives = opens.survives;
       again = λ clean clubs on. one_found (state g.S.Store was) on.opening on.live (λ is_open trees may.

@@ -9,14 +9,8 @@ returns-clause-reads g c =
     c.in_ok-open_count.ensures.reads in
     let all = both_read (both_read (both_read sums c.in_ok-facility.ensures.reads) c.in_ok-taken.ensures.reads) c.in_ok-booking.ensures.reads in
     read_as all (λ club read.
-    let named = sym read.0.0.0.0.0.0 ∙ c.in-Some.is in
-    let owned = sym c.in-Some-2.is ∙ read.0.0.0.0.0.1 in
-    let spent = read.0.0.0.0.1 in
-    let open_count = read.0.0.0.1 in
-    let facility = read.0.0.1 in
-    let held = read.0.1 in
-    let booking = read.1 in
-    let seen = seen_is c.own_bookings_suffice.ensures club c.args.key.now c.in-Some.key c.in-Some-2.account c.args.request.now c.args.moment named owned in
+    let seen = seen_is c.own_bookings_suffice.ensures club c.args.key.now c.in-Some.key c.in-Some-2.account c.args.request.now c.args.moment
+    (sym read.0.0.0.0.0.0 ∙ c.in-Some.is) (sym c.in-Some-2.is ∙ read.0.0.0.0.0.1) in
     cc)
 
 pub returns-in_err-account-clause-reads : goal.returns-in_err-account-clause-reads
