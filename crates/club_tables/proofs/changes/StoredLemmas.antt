@@ -1,6 +1,6 @@
 -- The rows of the club after each change, as they are stored.
 use Rattle.std.proofs.Common.{◌≡◌, ◌≢◌, ℕ, ◌+◌, Bool, true, false, not, ◌&&◌, ◌||◌, cond, if◌then◌else◌, List, [], ◌∷◌, ◌++◌, map, Option, Some, None, Contains}
-use Rattle.std.proofs.Common.{refl, sym, ap, subst, ◌∙◌, arith, true≢false}
+use Rattle.std.proofs.Common.{refl, sym, ap, subst, ◌∙◌, arith, true≢false, rules}
 use Rattle.std.specs.Prelude.{filter, find, sum_by, option_and_then, AllPairs, option_map}
 use Rattle.std.specs.List.{AllByRecursion, list_any}
 use Rattle.std.specs.Str.{bytes_eq}
@@ -60,44 +60,20 @@ member_stored club rows stored sound member fits =
     let R : Member → Member → Type 0 = λ a b. a.name ≢ b.name in
     let apart = apart_last R club.members member (apart_from_pairs R (club.members ++ member ∷ []) fits.unique.members) in
     let none = used_none club member.name (keys_of_none club sound member.name apart) in
-    record {
-      members = ap (λ ms. ms ++ new_row member ∷ []) stored.members ∙ ap (λ n. map (member_row club) club.members
-          ++ record { member = member; used = n } ∷ []) (sym none) ∙ sym (map-append (member_row club) club.members (member ∷ []));
-      facilities = stored.facilities;
-      keys = stored.keys;
-      bookings = stored.bookings;
-      slots = stored.slots;
-      olders = stored.olders;
-      olders_once = stored.olders_once;
-      once = stored.once;
-    }
+    let members = ap (λ ms. ms ++ new_row member ∷ []) stored.members ∙ ap (λ n. map (member_row club) club.members
+    ++ record { member = member; used = n } ∷ []) (sym none) ∙ sym (map-append (member_row club) club.members (member ∷ [])) in
+    search rules
 
 pub credit_stored : (club : Club) (rows : Rows) → IsStoredAs club rows → (name : List ℕ) (points : ℕ)
     → IsStoredAs (after (AddCredit name points) club) (record rows { members = map (credited_row name points) rows.members })
-credit_stored club rows stored name points = record {
-  members = ap (map (credited_row name points)) stored.members ∙ map-map (credited_row name points) (member_row club) club.members
-      ∙ sym (map-map (member_row (after (AddCredit name points) club)) (credited_member name points) club.members);
-  facilities = stored.facilities;
-  keys = stored.keys;
-  bookings = stored.bookings;
-  slots = stored.slots;
-  olders = stored.olders;
-  olders_once = stored.olders_once;
-  once = stored.once;
-}
+credit_stored club rows stored name points =
+    let members = ap (map (credited_row name points)) stored.members ∙ map-map (credited_row name points) (member_row club) club.members
+    ∙ sym (map-map (member_row (after (AddCredit name points) club)) (credited_member name points) club.members) in
+    search rules
 
 pub facility_stored : (club : Club) (rows : Rows) → IsStoredAs club rows → (facility : Facility)
     → IsStoredAs (after (InsertFacility facility) club) (record rows { facilities = rows.facilities ++ facility ∷ [] })
-facility_stored club rows stored facility = record {
-  members = stored.members;
-  facilities = ap (λ fs. fs ++ facility ∷ []) stored.facilities;
-  keys = stored.keys;
-  bookings = stored.bookings;
-  slots = stored.slots;
-  olders = stored.olders;
-  olders_once = stored.olders_once;
-  once = stored.once;
-}
+facility_stored club rows stored facility = let facilities = ap (λ fs. fs ++ facility ∷ []) stored.facilities in search rules
 
 -- other keys, under which each booking has the owners that it had
 keys_stored : (club : Club) (rows : Rows) → IsStoredAs club rows → (change : List Key → List Key) (olders : List OlderRow)
@@ -107,18 +83,12 @@ keys_stored : (club : Club) (rows : Rows) → IsStoredAs club rows → (change :
     → ((name : List ℕ) → older_by name olders ≡ older_root_of name (record club { keys = change club.keys }))
     → AllPairs (λ (a : OlderRow) (b : OlderRow). a.key ≢ b.key) olders
     → IsStoredAs (record club { keys = change club.keys }) (record rows { keys = change rows.keys; olders = olders })
-keys_stored club rows stored change olders owned roots olders_once = record {
-  members = stored.members ∙ map_agree (member_row club) (member_row (record club { keys = change club.keys })) (λ (m : Member).
-      ap (λ n. let row : MemberRow = record { member = m; used = n } in row) (sym (ap (sum_by cost_of) (filter_same _ _ club.bookings (owned m.name)))))
-      club.members;
-  facilities = stored.facilities;
-  keys = ap change stored.keys;
-  bookings = stored.bookings;
-  slots = stored.slots;
-  olders = roots;
-  olders_once = olders_once;
-  once = stored.once;
-}
+keys_stored club rows stored change olders owned roots olders_once =
+    let members = stored.members ∙ map_agree (member_row club) (member_row (record club { keys = change club.keys })) (λ (m : Member).
+    ap (λ n. let row : MemberRow = record { member = m; used = n } in row) (sym (ap (sum_by cost_of) (filter_same _ _ club.bookings (owned m.name)))))
+    club.members in
+    let keys = ap change stored.keys in
+    search rules
 
 owned_more : (names owns : Key → Bool) (keys : List Key) (key : Key) → names key ≡ false
     → list_any names (filter owns (keys ++ key ∷ [])) ≡ list_any names (filter owns keys)
@@ -222,20 +192,13 @@ closed_use club s false = rw (or-false (is_closed s club)) refl
 
 pub close_stored : (club : Club) (rows : Rows) → IsStoredAs club rows → (slot : Slot)
     → IsStoredAs (after (MarkClosed slot) club) (record rows { slots = put_slot slot close_use rows.slots })
-close_stored club rows stored slot = record {
-  members = stored.members;
-  facilities = stored.facilities;
-  keys = stored.keys;
-  bookings = stored.bookings;
-  slots = λ s.
-      use_put slot close_use s rows.slots ∙ ap (λ u. let v : SlotUse = if same_slot slot s then close_use u else u in v) (stored.slots s)
-      ∙ closed_use club s (same_slot slot s)
-      ∙ ap (λ c. let u : SlotUse = record { taken = taken_in s club.bookings; closed = c } in
-      u) (sym (list_any-append (λ other. same_slot other s) club.closed (slot ∷ [])));
-  olders = stored.olders;
-  olders_once = stored.olders_once;
-  once = slot_once slot close_use rows.slots stored.once;
-}
+close_stored club rows stored slot =
+    let slots = λ (s : Slot). use_put slot close_use s rows.slots
+    ∙ ap (λ u. let v : SlotUse = if same_slot slot s then close_use u else u in v) (stored.slots s) ∙ closed_use club s (same_slot slot s)
+    ∙ ap (λ c. let u : SlotUse = record { taken = taken_in s club.bookings; closed = c } in u)
+    (sym (list_any-append (λ other. same_slot other s) club.closed (slot ∷ []))) in
+    let once = slot_once slot close_use rows.slots stored.once in
+    search rules
 
 -- ---- bookings
 
@@ -281,16 +244,12 @@ pub bookings_stored : (club : Club) (rows : Rows) → IsStoredAs club rows → (
     (slot : Slot) (taken : ℕ → ℕ) → ((m : Member) → used_row member used (member_row club m) ≡ member_row (record club { bookings = change club.bookings }) m)
     → ((s : Slot) → taken_in s (change club.bookings) ≡ (if same_slot slot s then taken (taken_in s club.bookings) else taken_in s club.bookings))
     → IsStoredAs (record club { bookings = change club.bookings }) (totals_rows rows change member used slot taken)
-bookings_stored club rows stored change member used slot taken costs persons = record {
-  members = ap (map (used_row member used)) stored.members ∙ map-map (used_row member used) (member_row club) club.members
-      ∙ map_agree _ (member_row (record club { bookings = change club.bookings })) costs club.members;
-  facilities = stored.facilities;
-  keys = stored.keys;
-  bookings = ap change stored.bookings;
-  slots = λ s.
-      use_put slot (take_use taken) s rows.slots ∙ ap (λ u. let v : SlotUse = if same_slot slot s then take_use taken u else u in v) (stored.slots s)
-      ∙ recounted_use club s taken (same_slot slot s) (taken_in s (change club.bookings)) (persons s);
-  olders = stored.olders;
-  olders_once = stored.olders_once;
-  once = slot_once slot (take_use taken) rows.slots stored.once;
-}
+bookings_stored club rows stored change member used slot taken costs persons =
+    let members = ap (map (used_row member used)) stored.members ∙ map-map (used_row member used) (member_row club) club.members
+    ∙ map_agree _ (member_row (record club { bookings = change club.bookings })) costs club.members in
+    let bookings = ap change stored.bookings in
+    let slots = λ (s : Slot). use_put slot (take_use taken) s rows.slots
+    ∙ ap (λ u. let v : SlotUse = if same_slot slot s then take_use taken u else u in v) (stored.slots s)
+    ∙ recounted_use club s taken (same_slot slot s) (taken_in s (change club.bookings)) (persons s) in
+    let once = slot_once slot (take_use taken) rows.slots stored.once in
+    search rules
