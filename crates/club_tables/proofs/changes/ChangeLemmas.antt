@@ -1,4 +1,5 @@
 -- What the statements that change a row of a member or of a key make of the tables.
+use Rattle.std.proofs.Common.{rules}
 use Rattle.std.proofs.Common.{◌≡◌, ◌+◌, ◌≤◌, ℕ, ℤ, pos, Ok, Some, Bool, true, ◌&&◌, if◌then◌else◌, List, [], ◌∷◌, length, map, ◌≢◌, refl, sym, ap, ◌∙◌}
 use Rattle.std.proofs.Common.{false, subst}
 use Rattle.std.specs.Prelude.{filter, find, AllPairs}
@@ -156,12 +157,10 @@ module _ (rows : Rows) (once : AreNamedOnce rows.members) (name : List ℕ) wher
 
     pub credit_finds : WhenRan (ADD_CREDIT.now, credit_params) rows (λ old new count.
         FindsOne member_values is_named is_named rows.members (shows credit_params (is_given 1 0 ∷ []) credit_terms) old new member_table count)
-    credit_finds old new count holds_rows ran = record {
-      finds = finds member_values is_named rows.members (updates credit_means member_table refl holds_rows.schema ran) holds_rows.held.members
-          (λ id row. and-true _ ∙ text_equal (name_of row) name);
-      wide = λ row passes. passes;
-      low = low_named;
-    }
+    credit_finds old new count holds_rows ran =
+        let hit = finds member_values is_named rows.members (updates credit_means member_table refl holds_rows.schema ran) holds_rows.held.members
+        (λ id row. and-true _ ∙ text_equal (name_of row) name) in
+        search (rules, low_named)
 
     pub member_credited : (row : MemberRow) → StoresMember name rows.members row
         → binary (Arith Add) (whole row.member.credited) (whole points) ≡ whole (row.member.credited + points)
@@ -194,26 +193,16 @@ module _ (rows : Rows) (once : AreNamedOnce rows.members) (name : List ℕ) wher
         let before = old.now.trees members_tree in
         let hit = passes used_params owner_tests used_tests used_terms others in
         let put : Updates old new member_table used_query used_params count = updates used_means member_table refl holds_rows.schema ran in
-        record {
-          finds = record {
-            rows = put.rows;
-            hit = hit;
-            held = holds_rows.held.members;
-            hits = each_row member_values hit is_owner (λ id row.
-                let as_row : Row = Int id ∷ member_values row in
-                ap (λ n. list_all (holds (with_count used_params owner_tests used_tests used_terms n as_row)) used_tests)
-                (counts_elements used_params owner_tests used_tests used_terms key_values owns
-                (λ id row k. both_tests _ _ _ _ (text_equal k.name key) (text_equal k.member name)) others rows.keys holds_rows.held.keys as_row)
-                ∙ both_tests _ _ _ _ (text_equal (name_of row) name) refl) before rows.members holds_rows.held.members.same;
-            answer = answered_counted used_params owner_tests used_tests used_terms members_tree keys_tree
-                (record { schema = club_schema; trees = old.now.trees }) put.rows put.answers;
-            wrote = put.wrote;
-            left = put.left;
-            counted = put.counted;
-          };
-          wide = λ row passes. (and_parts (is_named row) is_owned passes).0;
-          low = low_named;
-        }
+        let hits = each_row member_values hit is_owner (λ id row.
+        let as_row : Row = Int id ∷ member_values row in
+        ap (λ n. list_all (holds (with_count used_params owner_tests used_tests used_terms n as_row)) used_tests)
+        (counts_elements used_params owner_tests used_tests used_terms key_values owns
+        (λ id row k. both_tests _ _ _ _ (text_equal k.name key) (text_equal k.member name)) others rows.keys holds_rows.held.keys as_row)
+        ∙ both_tests _ _ _ _ (text_equal (name_of row) name) refl) before rows.members holds_rows.held.members.same in
+        let answer = answered_counted used_params owner_tests used_tests used_terms members_tree keys_tree
+        (record { schema = club_schema; trees = old.now.trees }) put.rows put.answers in
+        let wide : Implies is_owner is_named = λ row passes. (and_parts (is_named row) is_owned passes).0 in
+        search (rules, low_named)
 
     -- the key is the member's, if a row is written
     pub owner_found : AreKeysOnce rows.keys
@@ -265,12 +254,10 @@ module _ (rows : Rows) (once : AreKeysOnce rows.keys) (name : List ℕ) where
 
   pub revoke_finds : WhenRan (REVOKE_KEY.now, Text name ∷ []) rows (λ old new count.
       FindsOne key_values has_name has_name rows.keys (shows (Text name ∷ []) (is_given 1 0 ∷ []) revoke_terms) old new key_table count)
-  revoke_finds old new count holds_rows ran = record {
-    finds = finds key_values has_name rows.keys (updates revoke_means key_table refl holds_rows.schema ran) holds_rows.held.keys
-        (λ id key. and-true _ ∙ text_equal key.name name);
-    wide = λ key passes. passes;
-    low = low_keys;
-  }
+  revoke_finds old new count holds_rows ran =
+      let hit = finds key_values has_name rows.keys (updates revoke_means key_table refl holds_rows.schema ran) holds_rows.held.keys
+      (λ id key. and-true _ ∙ text_equal key.name name) in
+      search (rules, low_keys)
 
   pub key_revoked : (key : Key) → StoresKey name rows.keys key
       → Steps (REVOKE_KEY.now, Text name ∷ []) rows (record rows { keys = map (revoked_key name) rows.keys })
@@ -288,12 +275,11 @@ module _ (rows : Rows) (once : AreKeysOnce rows.keys) (name : List ℕ) where
 
     root_finds : WhenRan (SET_ROOT.now, root_params) rows (λ old new count.
         FindsOne key_values has_root has_name rows.keys (shows root_params root_tests root_terms) old new key_table count)
-    root_finds old new count holds_rows ran = record {
-      finds = finds key_values has_root rows.keys (updates root_means key_table refl holds_rows.schema ran) holds_rows.held.keys
-          (λ id key. both_tests _ _ _ _ (text_equal key.name name) (blob_equal key.root was));
-      wide = λ key passes. (and_parts (has_name key) _ passes).0;
-      low = low_keys;
-    }
+    root_finds old new count holds_rows ran =
+        let hit = finds key_values has_root rows.keys (updates root_means key_table refl holds_rows.schema ran) holds_rows.held.keys
+        (λ id key. both_tests _ _ _ _ (text_equal key.name name) (blob_equal key.root was)) in
+        let wide : Implies has_root has_name = λ key passes. (and_parts (has_name key) _ passes).0 in
+        search (rules, low_keys)
 
     -- the key has the former root, if a row is written
     pub root_found : WhenRan (SET_ROOT.now, root_params) rows (λ old new count.

@@ -1,5 +1,5 @@
 -- What a crash may leave of statements in a transaction, and what a call in it leaves unchanged.
-use Rattle.std.proofs.Common.{◌≡◌, ℕ, List, inl, inr, refl, sym, ◌∙◌, arith, Option, Some, None, Err, IsTrue, true, true≢false}
+use Rattle.std.proofs.Common.{◌≡◌, ℕ, List, inl, inr, refl, sym, ◌∙◌, arith, Option, Some, None, Err, IsTrue, true, true≢false, rules, ◌⊎◌}
 use Rattle.sqlite.specs.Store.{Ghosts}
 use Rattle.sqlite.specs.Tree.{Trees}
 use Rattle.sqlite.specs.Effect.{Database}
@@ -21,14 +21,10 @@ pub was_clean : (old new : State) (P : Trees → Type 0) → Survives old new P 
 was_clean old new P survives clean = omega (arith, survives.clean)
 
 pub survives_as : (old new : State) (P Q : Trees → Type 0) → Survives old new P → (HasCleanDisk new → (trees : Trees) → P trees → Q trees) → Survives old new Q
-survives_as old new P Q s leaves = record {
-  clean = s.clean;
-  shield = s.shield;
-  counts = s.counts;
-  limit = s.limit;
-  closes = s.closes;
-  crash = λ clean trees may. elim (s.crash clean trees may) [ inl was ↦ inl was | inr left ↦ inr (leaves clean trees left) ];
-}
+survives_as old new P Q s leaves =
+    let crash : HasCleanDisk new → (trees : Trees) → new.may_leave trees → old.may_leave trees ⊎ Q trees = λ clean trees may.
+    elim (s.crash clean trees may) [ inl was ↦ inl was | inr left ↦ inr (leaves clean trees left) ] in
+    search rules
 
 pub kept_when_idle : (s : State) → IsUntouched s s
 kept_when_idle s rest clean is_open = (is_open, rest is_open, refl)
@@ -48,16 +44,10 @@ module _ {S : Type 0} (g : Ghosts S) (fewest : ℕ) where
   may_commit all AreStatements are old new survives =
       survives_as (state g old) (state g new) (λ trees. (db : Database) × Ran g fewest all old db × (trees ≡ db.trees))
       (MayCommit g fewest AreStatements old) survives
-      (λ clean trees left. record {
-        from = old;
-        same = kept_when_idle (state g old);
-        clean = was_clean (state g old) (state g new) _ survives clean;
-        statements = all;
-        are = are;
-        db = left.0;
-        ran = left.1;
-        left = left.2;
-      })
+      (λ clean trees left.
+      let same = kept_when_idle (state g old) in
+      let earlier = was_clean (state g old) (state g new) _ survives clean in
+      search rules)
 
   -- none
   pub commits_nothing : (AreStatements : List BoundStatement → Type 0) (old new : Held S) → Survives (state g old) (state g new) (λ _. ⊥)
@@ -73,16 +63,11 @@ module _ {S : Type 0} (g : Ghosts S) (fewest : ℕ) where
   commits_after AreStatements a b c untouched first next =
       let P = MayCommit g fewest AreStatements a in
       survives_then (state g a) (state g b) (state g c) (λ _. ⊥) (MayCommit g fewest AreStatements b) P (λ _ db none. absurd none)
-      (λ clean db may. let earlier : HasCleanDisk (state g b) = omega (arith, next.clean) in let p : P db = record {
-        from = may.from;
-        same = untouched_then (state g a) (state g b) (state g may.from) (λ _. earlier) untouched may.same;
-        clean = may.clean;
-        statements = may.statements;
-        are = may.are;
-        db = may.db;
-        ran = may.ran;
-        left = may.left;
-      } in p) first next
+      (λ clean db may.
+      let earlier : HasCleanDisk (state g b) = omega (arith, next.clean) in
+      let same = untouched_then (state g a) (state g b) (state g may.from) (λ _. earlier) untouched may.same in
+      let p : P db = search rules in
+      p) first next
 
 module _ {S : Type 0} (g : Ghosts S) where
   -- readings after readings
