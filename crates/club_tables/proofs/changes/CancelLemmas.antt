@@ -1,4 +1,5 @@
 -- What the statement that cancels a booking makes of the tables, and the rows of the club after it, as they are stored.
+use Rattle.std.proofs.Common.{rules}
 use Rattle.std.proofs.Common.{◌≡◌, ℕ, ◌≤◌, pos, Some, Bool, true, false, ◌||◌, cond, List, [], ◌∷◌, ◌++◌, map, refl, sym, ap, subst, ◌∙◌, All}
 use Rattle.std.proofs.Common.{arith, ◌+◌, ◌-◌, not, ◌&&◌, if◌then◌else◌, Contains}
 use Rattle.std.specs.Prelude.{filter, sum_by}
@@ -39,7 +40,7 @@ use Rattle.club_tables.specs.Tables.{bookings_tree}
 use Rattle.club_tables.specs.declared.row.MemberRow.{MemberRow}
 use Rattle.club_tables.proofs.statements.MeansLemmas.{Means, on_bookings, Steps}
 use Rattle.club_tables.proofs.statements.InsertLemmas.{cast_int}
-use Rattle.club_tables.proofs.statements.PassLemmas.{found}
+use Rattle.club_tables.proofs.statements.PassLemmas.{found, Implies}
 use Rattle.club_tables.proofs.statements.SelectLemmas.{text_equal, whole_equal, test, shows, Apart, apart_from_pairs}
 use Rattle.club_tables.proofs.statements.UpdateLemmas.{updates, finds}
 use Rattle.club_tables.proofs.changes.AddLemmas.{booking_table}
@@ -127,12 +128,12 @@ module _ (rows : Rows) (once : AreBookingsOnce rows.bookings) (booking : Booking
 
   cancel_finds : WhenRan (CANCEL_BOOKING.now, params) rows (λ old new count.
       FindsOne booking_values is_as_given is_here rows.bookings (shows params cancel_tests cancel_terms) old new booking_table count)
-  cancel_finds old new count holds_rows ran = record {
-    finds = finds booking_values is_as_given rows.bookings (updates cancel_means booking_table refl holds_rows.schema ran) holds_rows.held.bookings
-        (λ id b. refl);
-    wide = λ b passes. subst (λ (x : Booking). is_here x ≡ true) (sym (as_given b passes).0) here_itself;
-    low = one_numbered booking.key booking.number rows.bookings once;
-  }
+  cancel_finds old new count holds_rows ran =
+      let hit = finds booking_values is_as_given rows.bookings (updates cancel_means booking_table refl holds_rows.schema ran) holds_rows.held.bookings
+      (λ id b. refl) in
+      let wide : Implies is_as_given is_here = λ b passes. subst (λ (x : Booking). is_here x ≡ true) (sym (as_given b passes).0) here_itself in
+      let low = one_numbered booking.key booking.number rows.bookings once in
+      search rules
 
   -- the booking is on record as it was given, if its row is written
   pub cancel_found : WhenRan (CANCEL_BOOKING.now, params) rows (λ old new count.

@@ -323,9 +323,6 @@ module _ {S : Type 0} (g : Ghosts S) (old : Held S) (club : Club) (tables : Hold
   pub made : (db : Database) (change : Change) → FitsClub change club → Ran g 1 (statements_of change) old db → HoldsClub db (after change club)
   made db change fits ran =
       let it = plan change fits in
-      subst (λ (d : Database). HoldsClub d (after change club)) (sym ran.is) (record {
-        rows = it.0;
-        holds_rows = left_by g (statements_of change) tables.rows it.0 it.1 (transaction_start old) ran.last tables.holds_rows ran.turns;
-        storage = it.2;
-        sound = fits.sound;
-      })
+      let holds_rows = left_by g (statements_of change) tables.rows it.0 it.1 (transaction_start old) ran.last tables.holds_rows ran.turns in
+      subst (λ (d : Database). HoldsClub d (after change club)) (sym ran.is)
+      (record { rows = it.0; holds_rows = holds_rows; storage = it.2; sound = fits.sound })

@@ -1,10 +1,11 @@
 -- A call that changes nothing leaves the club that is represented.
+use Rattle.std.proofs.Common.{rules}
 use Rattle.sqlite.specs.Tree.{Trees}
 use Rattle.club_tables.specs.Tables.{IsLeftOf}
 use Rattle.std.specs.Prelude.{filter, IsPermutation}
 use Rattle.std.specs.List.{list_all}
 use Rattle.std.proofs.Common.{◌≡◌, ℕ, ℤ, Bool, false, List, [], ◌∷◌, map, IsTrue, Option, Some, None, inl}
-use Rattle.std.proofs.Common.{inr, refl, sym, subst}
+use Rattle.std.proofs.Common.{inr, sym, subst}
 use Rattle.std.proofs.Common.{◌∙◌, arith}
 use Rattle.sqlite_value.specs.declared.value.Value.TheVariants.{Int}
 use Rattle.sqlite.specs.Order.{Row}
@@ -97,15 +98,7 @@ Shows g old statement IsShown =
     → Represents (state g old) club others → IsShown club rows
 
 pub survives_same : (s : State) → Survives s s (λ _. ⊥)
-survives_same s = record {
-  clean = omega arith;
-  shield = λ h. h;
-  counts = omega arith;
-  limit = refl;
-  closes = λ _ is_open. inl is_open;
-  crash =
-      λ _ db may. inl may;
-}
+survives_same s = search rules
 
 pub survives_none : (a b c : State) → Survives a b (λ _. ⊥) → Survives b c (λ _. ⊥) → Survives a c (λ _. ⊥)
 survives_none a b c p q = survives_then a b c (λ _. ⊥) (λ _. ⊥) (λ _. ⊥) (λ _ db none. none) (λ _ db none. none) p q

@@ -2,7 +2,6 @@
 use Rattle.std.proofs.Common.{◌≡◌, pos, List, [], ◌∷◌, refl, sym, ap, subst, ◌∙◌, arith, ℕ, true, inl, inr}
 use Rattle.std.specs.Prelude.{is_ok}
 use Rattle.std.proofs.Common.{rules}
-use Rattle.std.proofs.lemmas.List.Elements.{All-nil}
 use Rattle.sqlite_tied.specs.Compute.{everything}
 use Rattle.sqlite_value.specs.declared.value.Value.TheVariants.{Null, Int}
 use Rattle.sqlite.specs.Store.{Ghosts}
@@ -42,28 +41,13 @@ unfolding understood everything
 version_means = record { is = refl; plain = (refl, refl) }
 
 pub empty_is_sound : IsSound empty_club
-empty_is_sound = record {
-  rows = record { members = All-nil _; facilities = All-nil _; keys = All-nil _; bookings = All-nil _; closed = All-nil _ };
-  unique = record { members = search rules; facilities = search rules; keys = search rules; bookings = search rules; closed = search rules };
-  references = record { keys = All-nil _; bookings = All-nil _; facilities = All-nil _; closed = All-nil _ };
-  balances = All-nil _;
-  places = All-nil _;
-}
+empty_is_sound = search rules
 
 abbrev no_rows : Rows
 no_rows = record { members = []; facilities = []; keys = []; slots = []; bookings = []; olders = [] }
 
 empty_is_stored : IsStoredAs empty_club no_rows
-empty_is_stored = record {
-  members = refl;
-  facilities = refl;
-  keys = refl;
-  bookings = refl;
-  slots = λ slot. refl;
-  olders = λ name. refl;
-  olders_once = search rules;
-  once = search rules;
-}
+empty_is_stored = search rules
 
 module _ {S : Type 0} (g : Ghosts S) (old : Held S) (db : Database) (ran : Ran g 0 table_batch old db) where
   -- over no tables it makes those of the empty club
@@ -161,9 +145,8 @@ module _ {S : Type 0} (g : Ghosts S) (old : Held S) (db : Database) (ran : Ran g
       let two = changes_one found (λ _. true) (refl, tt) (λ _. 2) (λ n fails. absurd cc) (λ _. Unit {0}) (tt, tt) (λ id n _ passes. refl)
       (λ id n. rw (cast_int id, cast_int (pos n)) refl) (omega arith) in
       let k = trees_kept {new = but desk_tree mid.trees next.trees} (others_kept desk_tree mid.trees next.trees club_schema.tables put.wrote.others) was in
-      let held : HoldsTrees 2 next.trees rows =
-      record { version = two; members = k.members; facilities = k.facilities; keys = k.keys; slots = k.slots; bookings = k.bookings; olders = k.olders } in
-      let left : HoldsRows next rows = record { schema = put.wrote.schema; held = held; database = put.wrote.sound } in
+      let schema = put.wrote.schema in
+      let left : HoldsRows next rows = search rules in
       subst (λ (d : Database). HoldsRows d rows) (sym is) left
 
   pub migrated_tables : (club : Club) → HoldsClubVersion1 (state g old).now club → HoldsClub db club
