@@ -4,9 +4,8 @@ use Rattle.sqlite.specs.Tree.{Trees}
 use Rattle.club_tables.specs.Tables.{IsLeftOf}
 use Rattle.std.specs.Prelude.{filter, IsPermutation}
 use Rattle.std.specs.List.{list_all}
-use Rattle.std.proofs.Common.{◌≡◌, ℕ, ℤ, Bool, false, List, [], ◌∷◌, map, IsTrue, Option, Some, None, inl}
-use Rattle.std.proofs.Common.{inr, sym, subst}
-use Rattle.std.proofs.Common.{◌∙◌, arith}
+use Rattle.std.proofs.Common.{◌≡◌, ℕ, ℤ, Bool, false, List, [], ◌∷◌, map, IsTrue, Option, Some, None}
+use Rattle.std.proofs.Common.{sym, subst}
 use Rattle.sqlite_value.specs.declared.value.Value.TheVariants.{Int}
 use Rattle.sqlite.specs.Order.{Row}
 use Rattle.sqlite.specs.Schema.{Schema}
@@ -35,18 +34,11 @@ use Rattle.club_tables.proofs.statements.SelectLemmas.{selected}
 pub represents_by : (IsHeld : Database → Club → Type 0) (old new : State) → IsKept old new → (HasCleanDisk new → HasCleanDisk old) → (club : Club)
     (others next : List Club) → RepresentsBy IsHeld old club others
     → (HasCleanDisk new → (trees : Trees) → new.may_leave trees → IsLeftOf trees (club ∷ next)) → RepresentsBy IsHeld new club next
-represents_by IsHeld old new kept earlier club others next before left = record {
-  held = λ clean is_open. let k = kept clean is_open in subst (λ db. IsHeld db club) (sym k.2) (before.held (earlier clean) k.0);
-  idle = λ clean is_open. let k = kept clean is_open in k.1 ∙ sym k.2;
-  left = left;
-}
+represents_by IsHeld old new kept earlier club others next before left = search rules
 
 pub represents_on : (IsHeld : Database → Club → Type 0) (old new : State) → IsKept old new → Survives old new (λ _. ⊥) → (club : Club) (others : List Club)
     → RepresentsBy IsHeld old club others → RepresentsBy IsHeld new club others
-represents_on IsHeld old new kept quiet club others before =
-    let earlier = λ (clean : HasCleanDisk new). let e : HasCleanDisk old = omega (arith, quiet.clean) in e in
-    represents_by IsHeld old new kept earlier club others others before (λ clean trees may.
-    elim (quiet.crash clean trees may) [ inl was ↦ before.left (earlier clean) trees was | inr none ↦ absurd none ])
+represents_on IsHeld old new kept quiet club others before = search rules
 
 shown_open : (sql : List ℕ) (old new : State) (c : Compiled) (full : Row) (rows : List Row) (returning : Option Returning)
     → ShowsRows old new sql c full rows returning → IsTrue old.is_open
@@ -57,8 +49,7 @@ shown_open sql old new c full rows (Some what) h = h.1.shown.was_open
 pub asked_open : {S : Type 0} (g : Ghosts S) (sql : List ℕ) (params : Row) (old : Held S) (rows : List Row) → Asked g sql params old rows
     → IsTrue (state g old).is_open
 unfolding Shown
-asked_open g sql params old rows asked = shown_open sql (state g (transaction_start old))
-    (state g asked.mid) asked.shown.0 _ rows asked.shown.0.returning asked.shown.2
+asked_open g sql params old rows asked = search rules
 
 -- the tables at the time of a query
 pub asked_tables : {S : Type 0} {g : Ghosts S} {sql : List ℕ} {params : Row} {old : Held S} {rows : List Row} → Asked g sql params old rows

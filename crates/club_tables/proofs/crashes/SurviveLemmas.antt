@@ -1,5 +1,5 @@
 -- What a crash may leave of statements in a transaction, and what a call in it leaves unchanged.
-use Rattle.std.proofs.Common.{◌≡◌, ℕ, List, inl, inr, refl, sym, ◌∙◌, arith, Option, Some, None, Err, IsTrue, true, true≢false, rules, ◌⊎◌}
+use Rattle.std.proofs.Common.{◌≡◌, ℕ, List, inl, inr, refl, sym, ◌∙◌, arith, Option, Some, None, Err, IsTrue, true, true≢false, rules}
 use Rattle.sqlite.specs.Store.{Ghosts}
 use Rattle.sqlite.specs.Tree.{Trees}
 use Rattle.sqlite.specs.Effect.{Database}
@@ -21,20 +21,13 @@ pub was_clean : (old new : State) (P : Trees → Type 0) → Survives old new P 
 was_clean old new P survives clean = omega (arith, survives.clean)
 
 pub survives_as : (old new : State) (P Q : Trees → Type 0) → Survives old new P → (HasCleanDisk new → (trees : Trees) → P trees → Q trees) → Survives old new Q
-survives_as old new P Q s leaves =
-    let crash : HasCleanDisk new → (trees : Trees) → new.may_leave trees → old.may_leave trees ⊎ Q trees = λ clean trees may.
-    elim (s.crash clean trees may) [ inl was ↦ inl was | inr left ↦ inr (leaves clean trees left) ] in
-    search rules
+survives_as old new P Q s leaves = search rules
 
 pub kept_when_idle : (s : State) → IsUntouched s s
 kept_when_idle s rest clean is_open = (is_open, rest is_open, refl)
 
 pub untouched_then : (a b c : State) → (HasCleanDisk c → HasCleanDisk b) → IsUntouched a b → IsUntouched b c → IsUntouched a c
-untouched_then a b c earlier first next rest clean is_open =
-    let kept = first rest (earlier clean) in
-    let after = next (λ opened. let k = kept opened in k.1 ∙ sym k.2) clean is_open in
-    let before = kept after.0 in
-    (before.0, after.1 ∙ before.2, after.2 ∙ before.2)
+untouched_then a b c earlier first next rest clean is_open = search rules
 
 module _ {S : Type 0} (g : Ghosts S) (fewest : ℕ) where
   -- these statements
@@ -52,8 +45,7 @@ module _ {S : Type 0} (g : Ghosts S) (fewest : ℕ) where
   -- none
   pub commits_nothing : (AreStatements : List BoundStatement → Type 0) (old new : Held S) → Survives (state g old) (state g new) (λ _. ⊥)
       → Survives (state g old) (state g new) (MayCommit g fewest AreStatements old)
-  commits_nothing AreStatements old new survives = survives_as (state g old) (state g new) (λ _. ⊥) (MayCommit g fewest AreStatements old) survives
-      (λ _ _ none. absurd none)
+  commits_nothing AreStatements old new survives = search rules
 
   -- some, after a reading
   pub commits_after : (AreStatements : List BoundStatement → Type 0) (a b c : Held S) → IsUntouched (state g a) (state g b)
@@ -72,11 +64,7 @@ module _ {S : Type 0} (g : Ghosts S) (fewest : ℕ) where
 module _ {S : Type 0} (g : Ghosts S) where
   -- readings after readings
   pub after_then : (a b c : Held S) → IsAfterReadings g a b → IsAfterReadings g b c → IsAfterReadings g a c
-  after_then a b c first next = record {
-    same = untouched_then (state g a) (state g b) (state g c) (λ _. first.clean) first.same next.same;
-    clean = next.clean;
-    fault_count = omega (arith, first.fault_count, next.fault_count);
-  }
+  after_then a b c first next = search rules
 
   -- a reading
   pub after_one : (old new : Held S) → HasCleanDisk (state g new) → IsUntouched (state g old) (state g new) → Survives (state g old) (state g new) (λ _. ⊥)
@@ -138,10 +126,7 @@ module _ (sql : List ℕ) (params : Row) (old new : State) where
 -- the drop or the rollback of the transaction
 pub then_rolled : (old mid new : State) → Keeps old mid → IsRolledBack mid new → IsTrue new.is_open → IsTrue old.is_open × (new.now ≡ old.committed)
     × (new.committed ≡ old.committed)
-then_rolled old mid new kept back is_open =
-    let was = kept (back.was_open is_open) in
-    let undone = back.undone is_open in
-    (was.0, undone.0 ∙ was.1, undone.1 ∙ was.1)
+then_rolled old mid new kept back is_open = search rules
 
 -- a commit that fails
 pub commit_keeps : (old mid new : State) (e : Error) → Keeps old mid → IsTrue mid.in_transaction → FailsToCommit mid new e → IsTrue new.is_open

@@ -1,16 +1,17 @@
 -- What an opening finds, and what it makes.
+use Rattle.std.proofs.Common.{rules}
 use Rattle.club_tables.proofs.crashes.RepresentsLemmas.{represents_by}
 use Rattle.std.proofs.Common.{◌≡◌, ◌⊎◌, ℕ, List, [], ◌∷◌, Result, IsTrue, true, false, true≢false, codes, inl, inr, refl, sym, subst, ap, ◌∙◌, arith}
 use Rattle.std.specs.Prelude.{is_ok}
 use Rattle.std.proofs.lemmas.Result.{on_ok_weaker, on_err_weaker}
 use Rattle.sqlite_tied.specs.Compute.{everything}
-use Rattle.sqlite.specs.Order.{Row, column}
+use Rattle.sqlite.specs.Order.{Row}
 use Rattle.sqlite.specs.Schema.{Schema}
 use Rattle.sqlite.specs.Term.{col}
 use Rattle.sqlite.specs.Query.{inner, end}
 use Rattle.sqlite.specs.Listing.{understood, listing_schema}
 use Rattle.club_tables.specs.declared.texts.TheConstants.{VERSION}
-use Rattle.club_tables.specs.Columns.{whole, HasValues, version_values}
+use Rattle.club_tables.specs.Columns.{HasValues, version_values}
 use Rattle.club_tables.specs.Statements.{select}
 use Rattle.sqlite.specs.Store.{Ghosts}
 use Rattle.sqlite.specs.Tree.{Trees}
@@ -38,11 +39,7 @@ IsSettled state = IsTrue state.is_open → (trees : Trees) → state.may_leave t
 -- a store that holds the club, and of which each crash leaves what was committed
 pub settles : (now : State) (club : Club) (others : List Club) → (HasCleanDisk now → IsTrue now.is_open → HoldsClub now.committed club)
     → (HasCleanDisk now → IsTrue now.is_open) → now.now ≡ now.committed → IsSettled now → Represents now club others
-settles now club others held opens same settled = record {
-  held = held;
-  idle = λ clean is_open. same;
-  left = λ clean trees may. inl (now.committed, sym (settled (opens clean) trees may), inl (inl (held clean (opens clean))));
-}
+settles now club others held opens same settled = search rules
 
 -- a batch that leaves the club that was there
 module _ {S : Type 0} (g : Ghosts S) (IsHeld : Database → Club → Type 0) (statements : List BoundStatement) (old new : Held S)
@@ -96,11 +93,7 @@ AsksVersion schema = Asks schema VERSION.now (select (inner desk_tree end) [] (c
 
 asks_version : AsksVersion club_schema × AsksVersion unindexed_schema × AsksVersion first_schema
 unfolding understood everything
-asks_version = (
-  record { is = refl; plain = (refl, refl); unlisted = refl },
-  record { is = refl; plain = (refl, refl); unlisted = refl },
-  record { is = refl; plain = (refl, refl); unlisted = refl },
-)
+asks_version = search rules
 
 -- and that row is the version
 version_row : {S : Type 0} (g : Ghosts S) (old : Held S) (rows : List Row) → Asked g VERSION.now [] old rows → (schema : Schema) → AsksVersion schema
@@ -146,10 +139,7 @@ version_returned g old rows clean asked club others found =
 
 -- rows hold one version
 pub one_version : (rows : List Row) (m n : ℕ) → rows ≡ version_values m ∷ [] → (row : Row) × (rows ≡ row ∷ []) × HasValues row (version_values n) → m ≡ n
-one_version rows m n is one =
-    let same : one.0 ≡ version_values m = let e : one.0 ∷ [] ≡ version_values m ∷ [] = sym one.1 ∙ is in cc in
-    let values : whole m ≡ whole n = subst (λ (row : Row). column row 0 ≡ whole n) same one.2.0 in
-    cc
+one_version rows m n is one = search rules
 
 pub second_found : (s : State) (club : Club) (others : List Club) → RepresentsVersion2 s club others → IsFound s club others
 second_found s club others second = record { held = λ clean is_open. inl (second.held clean is_open); idle = second.idle; left = second.left }

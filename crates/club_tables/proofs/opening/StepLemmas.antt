@@ -1,4 +1,5 @@
 -- Steps of an opening that follow a read, tables that are ready for one, and statements that are prepared in turn.
+use Rattle.std.proofs.Common.{rules}
 use Rattle.std.proofs.Common.{List, Result, Err, inl, inr, ◌≡◌, ℕ, [], ◌∷◌, IsTrue, All, sym, subst, ◌∙◌, ◌+◌, ◌<◌, ◌≤◌, ◌++◌, length, map, take, get_or}
 use Rattle.std.proofs.Common.{zero, suc, Bor, add-one, arith}
 use Rattle.std.proofs.lemmas.Result.{IfErr-weaker, on_ok_weaker, on_err_weaker}
@@ -19,8 +20,7 @@ use Rattle.club_tables.specs.Tables.{RepresentsBy}
 use Rattle.club_tables.specs.Transaction.{BoundStatement, IsUntouched, IsKept, IsIdle, IsUnderstood}
 use Rattle.club_tables.specs.declared.texts.TheConstants.{VERSION}
 use Rattle.club_tables.specs.Columns.{HasValues, version_values}
-use Rattle.club_tables.proofs.crashes.RepresentsLemmas.{represents_on}
-use Rattle.club_tables.proofs.crashes.SurviveLemmas.{after_one, commits_after, commits_nothing, was_clean}
+use Rattle.club_tables.proofs.crashes.SurviveLemmas.{after_one, commits_after, was_clean}
 
 -- a batch that is refused after a read
 pub batch_failed : {S : Type 0} (g : Ghosts S) (statements : List BoundStatement) → IsOpeningBatch statements → (old mid new : Held S) (fault : StoreFault)
@@ -32,20 +32,13 @@ module _ {S : Type 0} (g : Ghosts S) (old mid : Held S) (untouched : IsUntouched
   -- the read leaves the club that was there
   pub keeps_after : (IsHeld : Database → Club → Type 0) → HasCleanDisk (state g mid) → (club : Club) (others : List Club)
       → RepresentsBy IsHeld (state g old) club others → RepresentsBy IsHeld (state g mid) club others
-  keeps_after IsHeld clean club others before =
-      represents_on IsHeld (state g old) (state g mid) (untouched (before.idle (was_clean (state g old) (state g mid) _ quiet clean))) quiet club others before
+  keeps_after IsHeld clean club others before = search rules
 
   -- the read fails
   pub opens_not : (IsHeld : Database → Club → Type 0) {Done : Held S → Held S → Type 0} {Fails : Held S → Held S → StoreFault → Type 0} {fault : StoreFault}
       → (HasCleanDisk (state g mid) → Fails old mid fault)
       → Opens g (λ held. RepresentsBy IsHeld (state g held)) Done Fails old mid (Err fault)
-  opens_not IsHeld failed = record {
-    represents = λ clean. tt;
-    done = λ clean. tt;
-    keeps_club = λ clean club others before. keeps_after IsHeld clean club others before;
-    fault = failed;
-    survives = commits_nothing g 0 IsOpeningBatch old mid quiet;
-  }
+  opens_not IsHeld failed = search rules
 
   -- a step follows the read
   pub opens_after : {Before Between : Held S → Club → List Club → Type 0} {Done Next : Held S → Held S → Type 0}
@@ -76,18 +69,7 @@ module _ (old mid new : State) (earlier : HasCleanDisk mid) (clean : HasCleanDis
   pub found_ready : (version : ℕ) (texts : List (List ℕ)) (rows : List Row) → (row : Row) × (rows ≡ row ∷ []) × HasValues row (version_values version)
       → YieldsRows VERSION.now old.now rows
       → (IsIdle mid → All (IsUnderstood new.committed.schema) texts) → FoundReady version texts old new
-  found_ready version texts rows one answered known =
-      let after = prepared mid_is_idle clean is_open in
-      let before = read earlier after.0 in
-      let same : new.committed ≡ old.committed = after.2 ∙ before.2 in
-      let here : old.now ≡ new.committed = rest before.0 ∙ sym same in
-      record {
-        ready = record {
-          version_row = (one.0, subst (λ db. YieldsRows VERSION.now db (one.0 ∷ [])) here (subst (YieldsRows VERSION.now old.now) one.1 answered), one.2);
-          by_key = known mid_is_idle;
-        };
-        same = same;
-      }
+  found_ready version texts rows one answered known = search rules
 
 -- ---- statements that are prepared in turn
 
@@ -95,10 +77,7 @@ abbrev pub text_at : Bor (List ℕ) → List ℕ
 text_at text = text.now
 
 pub kept_then : (a b c : State) → (HasCleanDisk c → HasCleanDisk b) → IsKept a b → IsKept b c → IsKept a c
-kept_then a b c earlier first next clean is_open =
-    let after = next clean is_open in
-    let before = first (earlier clean) after.0 in
-    (before.0, after.1 ∙ before.2, after.2 ∙ before.2)
+kept_then a b c earlier first next clean is_open = search rules
 
 -- of texts, that at a place
 pub one_at : (P : List ℕ → Type 0) (texts : List (Bor (List ℕ))) (at : ℕ) (d : Bor (List ℕ)) → at < length texts → P (get_or texts at d).now
