@@ -1,5 +1,5 @@
 -- Rows that are found by their keys, and those of slots, once the row of one key is put.
-use Rattle.std.proofs.Common.{◌≡◌, ◌≢◌, Bool, true, false, ◌||◌, cond, if◌then◌else◌, Option, Some, None, List, [], ◌∷◌, ◌++◌, map, refl, sym, ap, subst, ◌∙◌}
+use Rattle.std.proofs.Common.{◌≡◌, ◌≢◌, Bool, true, false, cond, if◌then◌else◌, Option, Some, None, List, [], ◌∷◌, ◌++◌, map, refl, sym, ap, subst, ◌∙◌}
 use Rattle.std.proofs.Common.{true≢false, ℤ, ◌==◌}
 use Rattle.std.specs.Prelude.{find, option_map, AllPairs, unwrap_or}
 use Rattle.std.specs.Option.{option_or}

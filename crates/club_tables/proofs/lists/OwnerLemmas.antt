@@ -1,6 +1,6 @@
 -- Lists, sums over parts of them, and whose a booking is.
-use Rattle.std.proofs.Common.{◌≡◌, ◌≢◌, ℕ, zero, suc, ◌+◌, Bool, true, false, cond, List, [], ◌∷◌, ◌++◌, map, Some, Contains, refl, sym, ap, ◌∙◌}
-use Rattle.std.proofs.Common.{arith, true≢false}
+use Rattle.std.proofs.Common.{◌≡◌, ◌≢◌, ℕ, ◌+◌, Bool, true, false, cond, List, [], ◌∷◌, ◌++◌, map, Some, Contains, refl, sym, ap, ◌∙◌}
+use Rattle.std.proofs.Common.{arith}
 use Rattle.std.specs.Prelude.{filter, find, sum_by}
 use Rattle.std.specs.List.{AllByRecursion, list_any}
 use Rattle.std.specs.Str.{bytes_eq}
@@ -15,7 +15,8 @@ use Rattle.club_core.specs.Club.{Club, IsSound, is_key_of}
 use Rattle.club_core.specs.Store.{IsOwnedBy}
 use Rattle.club_tables.proofs.queries.MemberLemmas.{any_filtered}
 use Rattle.club_tables.proofs.statements.SelectLemmas.{Apart}
-use Rattle.sqlite_trees.proofs.ListLemmas.{all_weaker}
+use Rattle.sqlite_trees.proofs.ListLemmas.{all_weaker, all-map}
+use Rattle.sqlite_rules.proofs.ListLemmas.{all_has, has_last, has_contained}
 use Rattle.club_tables.proofs.queries.KeyLemmas.{one_listed, one_named}
 
 -- ---- lists
@@ -24,17 +25,14 @@ pub map_agree : {X Y : Type 0} (f g : X → Y) → ((x : X) → f x ≡ g x) →
 map_agree f g same xs = λ i. map (λ x. same x i) xs
 
 pub all_last : {X : Type 0} (P : X → Type 0) (xs : List X) (y : X) → AllByRecursion P (xs ++ y ∷ []) → P y
-all_last P [] y h = h.0
-all_last P (x ∷ xs) y h = all_last P xs y h.1
+all_last P xs y h = all_has P (xs ++ y ∷ []) y h (has_last (xs ++ y ∷ []) xs y refl)
 
 pub apart_last : {X : Type 0} (R : X → X → Type 0) (xs : List X) (y : X) → Apart R (xs ++ y ∷ []) → AllByRecursion (λ x. R x y) xs
 apart_last R [] y h = tt
 apart_last R (x ∷ xs) y h = (all_last (R x) xs y h.0, apart_last R xs y h.1)
 
 pub not_among : {X : Type 0} (f : X → List ℕ) (xs : List X) (y : List ℕ) → AllByRecursion (λ x. f x ≢ y) xs → Contains (map f xs) y → ⊥
-not_among f [] y apart has = absurd (omega (arith, has.1))
-not_among f (x ∷ xs) y apart (zero, low, is) = apart.0 is
-not_among f (x ∷ xs) y apart (suc k, low, is) = not_among f xs y apart.1 (k, omega (arith, low), is)
+not_among f xs y apart has = all_has (λ z. z ≢ y) (map f xs) y (all-map (λ z. z ≢ y) f xs apart) (has_contained (map f xs) y has) refl
 
 pub unequal : (a b : List ℕ) → a ≢ b → bytes_eq a b ≡ false
 unequal a b apart = false_from_ne_true (bytes_eq a b) (λ h. apart ((bytes_eq-Decides a b).0 h))

@@ -1,5 +1,5 @@
 -- Rows of which one is put by its key.
-use Rattle.std.proofs.Common.{◌≡◌, ◌≤◌, inl, inr, ℤ, Bool, true, List, [], ◌∷◌, ◌++◌, length, map, if◌then◌else◌, sym, ap, arith}
+use Rattle.std.proofs.Common.{◌≡◌, ℤ, Bool, true, List, [], ◌∷◌, ◌++◌, map, if◌then◌else◌, ap}
 use Rattle.std.specs.Prelude.{filter}
 use Rattle.std.specs.List.{list_any}
 use Rattle.std.specs.Cmp.{Equal-is}
@@ -14,20 +14,13 @@ use Rattle.sqlite.specs.Order.{Row, value_cmp}
 use Rattle.sqlite.specs.Tree.{rowid, has_rowid, IsTable}
 use Rattle.sqlite_rules.specs.Lists.{Has}
 use Rattle.sqlite_rules.proofs.ListLemmas.{has_kept}
-use Rattle.club_tables.proofs.statements.SelectLemmas.{one_passes, from_truth_is}
+use Rattle.club_tables.proofs.statements.SelectLemmas.{one_passes, only, from_truth_is}
 use Rattle.club_tables.proofs.statements.ReplaceLemmas.{Below}
 
 -- `=` of two rowids
 pub id_equal : (a b : ℤ) → is_true (binary (Compare Eq Binary) (Int a) (Int b)) ≡ is_eq (value_cmp (Int a) (Int b))
 unfolding binary
 id_equal a b = from_truth_is _
-
--- a list of one element at most, which this one is
-pub only : {X : Type 0} (xs : List X) (x : X) → length xs ≤ 1 → Has xs x → xs ≡ x ∷ []
-only [] x low has = absurd has
-only (y ∷ []) x low (inl is) = ap (λ z. z ∷ []) (sym is)
-only (y ∷ []) x low (inr has) = absurd has
-only (y ∷ z ∷ xs) x low has = absurd (omega arith)
 
 -- a rowid is that of no other row
 pub one_at : (id : ℤ) (rows : List Row) (row : Row) → IsTable rows → Has rows row → has_rowid id row ≡ true → filter (has_rowid id) rows ≡ row ∷ []

@@ -1,5 +1,5 @@
 -- The bookings of a day, as they are asked for.
-use Rattle.std.proofs.Common.{◌≡◌, ℕ, ◌<◌, ◌⊎◌, inl, inr, pos, ℤ, Bool, true, false, ◌&&◌, List, [], ◌∷◌, map, refl, sym, ap, subst, ◌∙◌, arith}
+use Rattle.std.proofs.Common.{◌≡◌, ℕ, ◌<◌, ◌⊎◌, inl, inr, pos, true, false, List, [], ◌∷◌, map, refl, sym, ap, subst, ◌∙◌, arith}
 use Rattle.std.proofs.Common.{Ordering, Less, Equal, Greater, nat_cmp, int_cmp}
 use Rattle.std.specs.Prelude.{filter, IsSorted, slice_index_or}
 use Rattle.std.specs.Ordering.{on, then_cmp, is_lt, ordering_then, ordering_reverse}
@@ -31,9 +31,9 @@ use Rattle.club_tables.specs.Columns.{whole, booking_values}
 use Rattle.club_tables.specs.Sheet.{ShowsDay}
 use Rattle.club_tables.specs.Tables.{bookings_tree}
 use Rattle.club_tables.specs.Statements.{select, in_order, is_given}
-use Rattle.club_tables.proofs.statements.SelectLemmas.{whole_equal, apart_from_pairs}
+use Rattle.club_tables.proofs.statements.SelectLemmas.{whole_equal, apart_from_pairs, pairs_from_apart}
 use Rattle.club_tables.proofs.crashes.RepresentsLemmas.{Asks, Shows, asked_tables, asked_reads, bookings_held}
-use Rattle.club_tables.proofs.statements.OrderLemmas.{selected_in_order, none_less, apart-permutation, pairs_from_apart}
+use Rattle.club_tables.proofs.statements.OrderLemmas.{selected_in_order, none_less, apart-permutation}
 use Rattle.club_tables.proofs.queries.KeyLemmas.{booking_terms, booking_names, is_uncancelled, no_truth}
 
 -- ---- the order of the sheet
@@ -117,7 +117,8 @@ day_shown g old day rows clean asked club others represents =
     let day_selection = selected_in_order booking_values (whole day
     ∷ []) day_tests booking_terms (map (λ term. (term, ascending Binary)) sheet_terms) (is_on day)
     booking_values sheet_key (λ id b. rw (whole_equal b.slot.day day, whole_equal (truth b.cancelled) 0, no_truth b.cancelled, and-true (not b.cancelled))
-    (and_comm (b.slot.day == day) (not b.cancelled))) (λ id b. refl) (λ id b. refl) bookings_tree booking_names (state g old).now club.bookings rows (bookings_held _ club tables) reads in
+    (and_comm (b.slot.day == day) (not b.cancelled))) (λ id b. refl) (λ id b. refl) bookings_tree booking_names (state g old).now
+    club.bookings rows (bookings_held _ club tables) reads in
     let bookings = day_selection.ordered in
     let same_cmp : (λ (a b : Booking). key_cmp 0 (map (λ _. ascending Binary) sheet_terms) (sheet_key a) (sheet_key b)) ≡ sheet_cmp =
     λ i a b. by_values a b i in

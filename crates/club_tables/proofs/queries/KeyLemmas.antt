@@ -180,7 +180,8 @@ slot_shown g old slot rows clean asked club others represents =
     let R : SlotRow → SlotRow → Type 0 = λ a b. a.slot ≢ b.slot in
     let same = asked_shows asked slot_asks tables slot_values p show (λ id row.
     rw (text_equal row.slot.facility slot.facility, whole_equal row.slot.day slot.day, whole_equal row.slot.hour slot.hour)
-    (three (bytes_eq row.slot.facility slot.facility) (row.slot.day == slot.day) (row.slot.hour == slot.hour))) (λ id row. refl) tables.rows.slots tables.holds_rows.held.slots in
+    (three (bytes_eq row.slot.facility slot.facility) (row.slot.day == slot.day) (row.slot.hour == slot.hour))) (λ id row. refl) tables.rows.slots
+    tables.holds_rows.held.slots in
     let low = one_passes R p tables.rows.slots (λ x y a b apart. apart (same_slots x.slot slot a ∙ sym (same_slots y.slot slot b)))
     (apart_from_pairs R tables.rows.slots tables.storage.once) in
     shows_by club slot (row_of slot tables.rows.slots) rows (first_returned show p tables.rows.slots rows low same) (tables.storage.slots slot)

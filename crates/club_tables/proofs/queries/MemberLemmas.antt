@@ -1,5 +1,5 @@
 -- What is asked of the bookings of all keys of a member.
-use Rattle.std.proofs.Common.{◌≡◌, ◌≢◌, ℕ, ◌+◌, ◌*◌, ◌/◌, ◌<◌, ◌≤◌, ◌^◌, pos, ℤ, Bool, true, false}
+use Rattle.std.proofs.Common.{◌≡◌, ◌≢◌, ℕ, ◌+◌, ◌*◌, ◌/◌, ◌<◌, ◌≤◌, ◌^◌, pos, Bool, true, false}
 use Rattle.std.proofs.Common.{not, cond, ◌&&◌, ◌||◌, List, [], ◌∷◌, map, codes, length, refl}
 use Rattle.std.proofs.Common.{sym, ap, subst, ◌∙◌, arith}
 use Rattle.std.specs.Prelude.{filter, flat_map, slice_index_or, nat_lt, nat_le, AllPairs, IsPermutation}
@@ -194,8 +194,13 @@ open_shown g old member moment rows clean asked club others represents =
     let reads = asked_reads asked open_asks tables.holds_rows.schema in
     let number : Booking → Row = λ b. whole b.number ∷ [] in
     let both = selected_both key_values booking_values (Text member ∷ whole moment ∷ whole (moment / 1440) ∷ [])
-    open_tests (col 2 2 ∷ []) (is_owned member (comes moment)) number (λ i j k b. rw (text_equal k.name b.key, text_equal k.member member,
-    whole_equal (truth b.cancelled) 0, no_truth b.cancelled, and-true (is_true (binary (Compare Ge Binary) (whole b.slot.day) (whole (moment / 1440))))) refl)
+    open_tests (col 2 2 ∷ []) (is_owned member (comes moment)) number (λ i j k b. rw (
+      text_equal k.name b.key,
+      text_equal k.member member,
+      whole_equal (truth b.cancelled) 0,
+      no_truth b.cancelled,
+      and-true (is_true (binary (Compare Ge Binary) (whole b.slot.day) (whole (moment / 1440)))),
+    ) refl)
     (λ i j k b. refl)
     keys_tree bookings_tree (codes "number" ∷ []) (state g old).now club.keys club.bookings rows (keys_held _ club tables) (bookings_held _ club tables)
     reads in

@@ -25,11 +25,6 @@ fewer_read g statement P Q old new fault through (inl failed) = inl failed
 fewer_read g statement P Q old new fault through (inr it) =
     inr (record { rows = it.rows; query = it.query; unread = λ q. it.unread (through it.rows q); fault_is = it.fault_is })
 
--- the fault of one reading
-pub one_failed : {S : Type 0} (g : Ghosts S) (reading : Reading) (old new : Held S) (fault : StoreFault) → HasCleanDisk (state g old)
-    → FailsAtReading g reading old new fault → IsReadFault g old new fault
-one_failed g reading old new fault clean failed = record { from = old; after = at_once g old clean; reading = reading; failure = failed }
-
 -- a result that is true of the current club, by what the rows of its statement show
 pub read_by : {S A : Type 0} (g : Ghosts S) (reading : Reading) (IsAnswer : List Row → A → Type 0) (old new : Held S) (result : Result A StoreFault)
     {IsShown : Club → List Row → Type 0} {IsReturned : Club → A → Type 0} → IsKept (state g old) (state g new)
@@ -49,7 +44,7 @@ read_by {A = A} g reading IsAnswer old new result {IsReturned = IsReturned} kept
       no_change = λ rest. kept;
       survives = quiet;
       fault = λ clean. IfErr-weaker result (FailsAtReading g reading old new) (IsReadFault g old new) (λ fault failed.
-          one_failed g reading old new fault (earlier clean) failed) (fails clean);
+          record { from = old; after = at_once g old (earlier clean); reading = reading; failure = failed }) (fails clean);
     }
 
 -- the same of an answer by its rows

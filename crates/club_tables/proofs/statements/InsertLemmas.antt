@@ -1,7 +1,7 @@
 -- An INSERT of one row, and CREATE TABLE.
 use Rattle.std.proofs.Common.{◌≡◌, ◌≢◌, ◌⊎◌, ◌≤◌, inl, inr, ℕ, ◌/◌, Bool, true, false, cond, None, Some, Option, Ok, Err, Result, List, [], ◌∷◌, length, map}
 use Rattle.std.proofs.Common.{slice_get, refl}
-use Rattle.std.proofs.Common.{sym, ap, subst, ◌∙◌, append-nil, arith}
+use Rattle.std.proofs.Common.{sym, ap, subst, subst₂, ◌∙◌, append-nil, arith}
 use Rattle.std.specs.Prelude.{MatchBool, drop, unwrap_or}
 use Rattle.std.proofs.lemmas.List.{length-map}
 use Rattle.sqlite_rules.proofs.RowLemmas.{length-numbered}
@@ -75,10 +75,8 @@ creates {schema = schema} {text = text} {table = table} makes old new has count 
     let same : made.table ≡ table = cc in
     let after : first.0.schema ≡ created schema table = made.is ∙ ap (λ s. created s made.table) has ∙ ap (created schema) same in
     let none : lacks_sequence first.0.schema ≡ false = ap lacks_sequence after ∙ makes.uncounted in
-    let now : new.now ≡ first.0 = ap (λ (p : Tally × Database). p.1) (same_value all.2) ∙ same_value (rw none at first.2) in
-    let free : is_used schema table.name ≡ false = subst (λ (t : Table). is_used schema t.name
-    ≡ false) same (subst (λ s. is_used s made.table.name ≡ false) has made.free) in (
-      free,
+    let now : new.now ≡ first.0 = ap (λ (p : Tally × Database). p.1) (same_value all.2) ∙ same_value (rw none at first.2) in (
+      subst₂ (λ (s : Schema) (t : Table). is_used s t.name ≡ false) has same made.free,
       ap (λ (d : Database). d.schema) now ∙ after,
       ap (λ (d : Database). d.trees (next_tree schema)) now ∙ subst (λ s. first.0.trees (next_tree s) ≡ []) has made.empty,
       subst (λ (d : Database). KeepsRows schema.tables old.now.trees d.trees) (sym now)

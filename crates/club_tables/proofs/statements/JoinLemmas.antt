@@ -3,14 +3,13 @@ use Rattle.std.proofs.Common.{◌≡◌, ℕ, ℤ, Bool, true, false, cond, ◌|
 use Rattle.std.proofs.Common.{arith}
 use Rattle.std.specs.Prelude.{filter, flat_map, IsPermutation}
 use Rattle.std.specs.List.{AllByRecursion, AllZip, list_all, list_any}
-use Rattle.std.proofs.lemmas.List.Sorted.{IsPermutation-refl, IsPermutation-sym, IsPermutation-cons, IsPermutation-trans}
-use Rattle.std.proofs.lemmas.List.Sorted.{IsPermutation-middle, IsPermutation-append_right}
+use Rattle.std.proofs.lemmas.List.Sorted.{IsPermutation-refl, IsPermutation-trans}
+use Rattle.std.proofs.lemmas.List.Sorted.{IsPermutation-append_right}
 use Rattle.std.proofs.lemmas.List.{length-map}
-use Rattle.sqlite_value.specs.declared.value.Value.TheVariants.{Int, Null}
+use Rattle.sqlite_value.specs.declared.value.Value.TheVariants.{Int}
 use Rattle.sqlite.specs.Order.{Row}
 use Rattle.sqlite.specs.Term.{Term, Env, holds, eval_all}
 use Rattle.sqlite.specs.Query.{inner, end, IsAnswer, output, counted}
-use Rattle.sqlite.specs.Program.{overlay}
 use Rattle.sqlite.specs.Command.TheVariants.{Select}
 use Rattle.sqlite.specs.Effect.{Database, Reads, Answers}
 use Rattle.sqlite_trees.proofs.ListLemmas.{map-map, map-flat_map, flat_map-map, flat_map_same_on, filter-filter}
@@ -21,7 +20,7 @@ use Rattle.std.proofs.Common.{not, sym, subst₂}
 use Rattle.sqlite_sql.specs.Ops.{is_true}
 use Rattle.club_tables.specs.Tables.{IsRowOf, Holds}
 use Rattle.club_tables.specs.Statements.{select}
-use Rattle.club_tables.proofs.statements.SelectLemmas.{Apart, pick_by_if, no_overlay, picked, none_of, shown_of, row_of, paired as with_rowids}
+use Rattle.club_tables.proofs.statements.SelectLemmas.{Apart, pick_by_if, plain_answer, picked, none_of, shown_of, row_of, paired as with_rowids}
 use Rattle.club_tables.proofs.statements.PassLemmas.{as_many, each_row}
 
 -- ---- lists
@@ -79,14 +78,11 @@ module _ (params : Row) (tests : List Term) (project : List Term) where
       → IsPermutation (flat_map (λ a. map (shows_both a) (filter (joins a) (db.trees inside))) (db.trees outer)) rows
   answered_both outer inside db rows h =
       let query = select (inner outer (inner inside end)) tests project in
-      let a : IsAnswer query (overlay db.trees []) params rows = h.answer Null in
+      let a : IsAnswer query db.trees params rows = plain_answer h in
       let pair : Row → Row → Env = λ x y. params ∷ x ∷ y ∷ [] in
       let below : Row → List Env = λ x. map (pair x) (filter (joins x) (db.trees inside)) in
-      let ways : List Row → Row → List Env = λ ys x. flat_map (λ y. cond (joins x y) (pair x y ∷ []) []) ys in
       let staged : a.staged ≡ flat_map below (db.trees outer) =
-      a.grouped ∙ ap (λ xs. flat_map (ways (overlay db.trees [] inside)) xs) (no_overlay db.trees outer)
-      ∙ ap (λ ys. flat_map (ways ys) (db.trees outer)) (no_overlay db.trees inside)
-      ∙ flat_map_same_on (ways (db.trees inside)) below (λ x. pick_by_if (joins x) (pair x) (db.trees inside)) (db.trees outer) in
+      a.grouped ∙ flat_map_same_on _ below (λ x. pick_by_if (joins x) (pair x) (db.trees inside)) (db.trees outer) in
       let shown : Env → Row = λ env. (output query env).1 in
       let all : map shown (flat_map below (db.trees outer)) ≡ flat_map (λ x. map (shows_both x) (filter (joins x) (db.trees inside))) (db.trees outer) =
       map-flat_map shown below (db.trees outer)
@@ -156,18 +152,16 @@ module _ (params : Row) (inside_tests tests project : List Term) where
   answered_counted outer inside db rows h =
       let query = select (inner outer (counted 1 (inner inside end) inside_tests end)) tests project in
       let others = db.trees inside in
-      let a : IsAnswer query (overlay db.trees []) params rows = h.answer Null in
+      let a : IsAnswer query db.trees params rows = plain_answer h in
       let inner_env : Row → Row → Env = λ row other. params ∷ row ∷ other ∷ [] in
-      let found : List Row → Row → ℕ = λ ys row. length (flat_map (λ other. cond (passes_inside row other) (inner_env row other ∷ []) []) ys) in
+      let found : Row → ℕ = λ row. length (flat_map (λ other. cond (passes_inside row other) (inner_env row other ∷ []) []) others) in
       let one : ℕ → Row → List Env = λ n row. cond (list_all (holds (with_count n row)) tests) (with_count n row ∷ []) [] in
-      let ways : List Row → Row → List Env = λ ys row. one (found ys row) row in
-      let counts : (row : Row) → found others row ≡ count_in others row = λ row.
+      let counts : (row : Row) → found row ≡ count_in others row = λ row.
       ap length (pick_by_if (passes_inside row) (inner_env row) others) ∙ length-map (filter (passes_inside row) others) (inner_env row) in
       let each : Row → Env = λ row. with_count (count_in others row) row in
       let staged : a.staged ≡ map each (filter (passes others) (db.trees outer)) =
-      a.grouped ∙ ap (λ xs. flat_map (ways (overlay db.trees [] inside)) xs) (no_overlay db.trees outer)
-      ∙ ap (λ ys. flat_map (ways ys) (db.trees outer)) (no_overlay db.trees inside)
-      ∙ flat_map_same_on (ways others) (λ row. one (count_in others row) row) (λ row. ap (λ n. one n row) (counts row)) (db.trees outer)
+      a.grouped
+      ∙ flat_map_same_on (λ row. one (found row) row) (λ row. one (count_in others row) row) (λ row. ap (λ n. one n row) (counts row)) (db.trees outer)
       ∙ pick_by_if (passes others) each (db.trees outer) in
       subst (λ ys. IsPermutation ys rows) (map-map (λ env. (output query env).1) each (filter (passes others) (db.trees outer)))
       (shown_of a (map each (filter (passes others) (db.trees outer))) staged a.distinct a.shown)

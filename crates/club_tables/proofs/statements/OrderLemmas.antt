@@ -1,26 +1,23 @@
 -- What a SELECT over one table with ORDER BY gives, if the table holds a list.
-use Rattle.std.proofs.Common.{◌≡◌, ℕ, ◌+◌, ℤ, Bool, false, cond, List, [], ◌∷◌, map, ap, subst, ◌∙◌, arith}
-use Rattle.std.specs.Prelude.{filter, flat_map, AllPairs, IsPermutation, IsSorted}
+use Rattle.std.proofs.Common.{◌≡◌, ℕ, ◌+◌, ℤ, Bool, false, List, [], ◌∷◌, map, ap, subst, ◌∙◌, arith}
+use Rattle.std.specs.Prelude.{filter, AllPairs, IsPermutation, IsSorted}
 use Rattle.std.specs.declared.cmp.Ordering.{Ordering}
 use Rattle.std.specs.Ordering.{is_lt}
 use Rattle.std.specs.Cmp.{IsTotalOrder}
 use Rattle.std.specs.List.{list_all}
 use Rattle.std.proofs.lemmas.List.{length-map, get_or-map}
-use Rattle.std.proofs.lemmas.List.Elements.{All-from_recursion}
-use Rattle.std.proofs.lemmas.List.Kept.{AllPairs-cons}
 use Rattle.std.proofs.lemmas.List.Sorted.{sorted_far, ranks_by, IsPermutation-refl, IsPermutation-cons, IsPermutation-middle, IsPermutation-trans}
-use Rattle.sqlite_value.specs.declared.value.Value.TheVariants.{Int, Null}
+use Rattle.sqlite_value.specs.declared.value.Value.TheVariants.{Int}
 use Rattle.sqlite_value.specs.declared.keys.Key.{Key}
 use Rattle.sqlite_trees.proofs.ListLemmas.{map-map, pull_back, all-permutation, along_permutation}
 use Rattle.sqlite.specs.Order.{Row}
 use Rattle.sqlite.specs.Term.{Term, Env, holds, eval_all}
 use Rattle.sqlite.specs.Query.{Query, inner, end, IsAnswer, Output, output, output_cmp, key_cmp}
-use Rattle.sqlite.specs.Program.{overlay}
 use Rattle.sqlite.specs.Command.TheVariants.{Select}
 use Rattle.sqlite.specs.Effect.{Database, Reads}
 use Rattle.club_tables.specs.Tables.{Holds}
 use Rattle.club_tables.specs.Statements.{select}
-use Rattle.club_tables.proofs.statements.SelectLemmas.{test, pick_by_if, no_overlay, picked, Apart}
+use Rattle.club_tables.proofs.statements.SelectLemmas.{test, pick_by_if, plain_answer, picked, Apart}
 
 -- ---- sorted lists
 
@@ -46,10 +43,6 @@ module _ {X : Type 0} (R : X → X → Type 0) (symmetric : (x y : X) → R x y 
   -- elements that are apart stay so in another order
   pub apart-permutation : (xs ys : List X) → IsPermutation xs ys → Apart R xs → Apart R ys
   apart-permutation xs ys same = (stays xs ys same).1
-
-pub pairs_from_apart : {X : Type 0} (R : X → X → Type 0) (xs : List X) → Apart R xs → AllPairs R xs
-pairs_from_apart R [] apart = λ i j d less low. absurd (omega arith)
-pairs_from_apart R (x ∷ xs) apart = AllPairs-cons R x xs (All-from_recursion (R x) xs apart.0) (pairs_from_apart R xs apart.1)
 
 -- ---- a query of one table
 
@@ -82,10 +75,9 @@ module _ {X : Type 0} (values : X → Row) (params : Row) (tests project : List 
       → InOrder show (λ x y. key_cmp 0 (map (λ k. k.1) order) (sort x) (sort y)) (filter p xs) rows
   selected_in_order tree names db xs rows held h =
       let q = query tree in
-      let a : IsAnswer q (overlay db.trees []) params rows = h.answer Null in
+      let a : IsAnswer q db.trees params rows = plain_answer h in
       let passes = test params tests project in
-      let staged : a.staged ≡ map each (filter passes (db.trees tree)) =
-      a.grouped ∙ ap (flat_map (λ row. cond (passes row) (each row ∷ []) [])) (no_overlay db.trees tree) ∙ pick_by_if passes each (db.trees tree) in
+      let staged : a.staged ≡ map each (filter passes (db.trees tree)) = a.grouped ∙ pick_by_if passes each (db.trees tree) in
       let kept : a.kept ≡ map out (filter p xs) =
       a.distinct ∙ ap (map (output q)) staged ∙ map-map (output q) each (filter passes (db.trees tree))
       ∙ picked values p out passes (λ row. output q (each row)) tested (yields tree) (db.trees tree) xs held.same in

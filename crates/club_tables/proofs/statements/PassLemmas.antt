@@ -12,9 +12,12 @@ use Rattle.std.proofs.lemmas.Option.{slice_get_within}
 use Rattle.sqlite_value.specs.declared.value.Value.TheVariants.{Int}
 use Rattle.sqlite.specs.Order.{Row}
 use Rattle.sqlite_trees.proofs.ListLemmas.{filter-filter}
-use Rattle.sqlite_rules.proofs.ListLemmas.{has_found, contains_had}
+use Rattle.sqlite_rules.proofs.ListLemmas.{has_found, has_kept, contains_had, all_from}
+use Rattle.sqlite_rules.specs.Lists.{Has}
+use Rattle.std.proofs.lemmas.Bool.{false_from_ne_true}
+use Rattle.std.proofs.Common.{inl, inr}
 use Rattle.club_tables.specs.Tables.{IsRowOf}
-use Rattle.club_tables.proofs.statements.SelectLemmas.{find_first, filter_same}
+use Rattle.club_tables.proofs.statements.SelectLemmas.{find_first, filter_same, only}
 
 -- a test of the columns passes if the element does
 pub each_row : {X : Type 0} (values : X → Row) (hit : Row → Bool) (p : X → Bool) → ((id : ℤ) (x : X) → hit (Int id ∷ values x) ≡ p x) → (rows : List Row)
@@ -72,22 +75,17 @@ fewer p q implies xs =
     let parts = length-filter_both p (λ x. not (p x)) (λ x. refl) (filter q xs) in
     omega (arith, parts, ap length (filter-filter p q implies xs))
 
--- a narrower test that as many elements pass is passed by the same
-as_wide : {X : Type 0} (p q : X → Bool) → Implies p q → (xs : List X) → length (filter q xs) ≤ length (filter p xs) → AllByRecursion (λ x. p x ≡ q x) xs
-as_wide p q implies [] low = tt
-as_wide {X} p q implies (x ∷ xs) low = go (p x) (q x) refl refl low (as_wide p q implies xs)
-  where
-    go : (b c : Bool) → p x ≡ b → q x ≡ c → length (cond c (x ∷ filter q xs) (filter q xs)) ≤ length (cond b (x ∷ filter p xs) (filter p xs))
-        → (length (filter q xs) ≤ length (filter p xs) → AllByRecursion (λ y. p y ≡ q y) xs) → AllByRecursion (λ y. p y ≡ q y) (x ∷ xs)
-    go true true is also low more = (is ∙ sym also, more (omega arith))
-    go true false is fails low more = absurd (true≢false (sym (implies x is) ∙ fails))
-    go false false is fails low more = (is ∙ sym fails, more low)
-    go false true is also low more = absurd (omega (arith, low, fewer p q implies xs))
-
 -- if one element passes at most, and one passes a narrower test, both tests are passed by the same elements
 pub agree : {X : Type 0} (p q : X → Bool) → Implies p q → (xs : List X) (one : X) → length (filter q xs) ≤ 1 → find p xs ≡ Some one
     → AllByRecursion (λ x. p x ≡ q x) xs
-agree p q implies xs one low found = as_wide p q implies xs (omega (arith, low, found_counts p xs one found))
+agree {X} p q implies xs one low is = all_from (λ x. p x ≡ q x) xs (λ x has. go x has (q x) refl)
+  where
+    go : (x : X) → Has xs x → (b : Bool) → q x ≡ b → p x ≡ b
+    go x has false fails = false_from_ne_true (p x) (λ passes. true≢false (sym (implies x passes) ∙ fails))
+    go x has true passes =
+        let it = has_found p xs one is in
+        let lone = only (filter q xs) one low (has_kept q xs one it.0 (implies one it.1)) in
+        elim (rw lone at (has_kept q xs x has passes)) [ inl same ↦ ap p same ∙ it.1 | inr other ↦ absurd other ]
 
 -- and both find the same
 pub found_by_both : {X : Type 0} (p q : X → Bool) (xs : List X) → AllByRecursion (λ x. p x ≡ q x) xs → find p xs ≡ find q xs

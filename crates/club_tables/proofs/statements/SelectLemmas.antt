@@ -9,8 +9,8 @@ use Rattle.std.specs.Ordering.{is_eq, int_cmp}
 use Rattle.std.proofs.lemmas.Bool.Decides.{nat_tests}
 use Rattle.std.proofs.lemmas.Map.Text.{is_eq-slice_cmp}
 use Rattle.std.proofs.lemmas.List.Sorted.{IsPermutation-map, length_permutation}
-use Rattle.std.proofs.lemmas.List.Elements.{recursion_from_All, filter_passes}
-use Rattle.std.proofs.lemmas.List.{length-map, get_or-map}
+use Rattle.std.proofs.lemmas.List.Elements.{recursion_from_All, All-from_recursion, filter_passes}
+use Rattle.std.proofs.lemmas.List.Kept.{AllPairs-cons}
 use Rattle.sqlite_value.specs.declared.value.Value.TheVariants.{Int, Text, Blob, Null}
 use Rattle.sqlite_value.specs.declared.keys.Collation.TheVariants.{Binary}
 use Rattle.sqlite_value.proofs.OrderLemmas.{value_cmp-Int, value_cmp-Text, value_cmp-Blob}
@@ -27,8 +27,10 @@ use Rattle.sqlite.specs.Effect.{Database, Reads, Answers}
 use Rattle.sqlite.proofs.Callers.{one_permutation}
 use Rattle.club_tables.specs.Tables.{IsRowOf, Holds}
 use Rattle.club_tables.specs.Statements.{select}
+use Rattle.std.proofs.Common.{inl, inr}
+use Rattle.sqlite_rules.specs.Lists.{Has}
 use Rattle.sqlite_trees.specs.Tree.{IsAscending}
-use Rattle.sqlite_trees.proofs.ListLemmas.{map-map, filter-map, ascending-filter, all_of}
+use Rattle.sqlite_trees.proofs.ListLemmas.{map-map, filter-map, ascending-filter, ascending-map, all_of}
 pub use Rattle.sqlite_trees.proofs.ListLemmas.{filter_same, filter_none as none_pass}
 
 -- ---- tests
@@ -74,9 +76,14 @@ none_of xs = none_pass (λ _. false) xs (all_of _ (λ _. refl) xs)
 
 -- ---- a query of one table
 
-pub no_overlay : (db : Trees) (tree : ℕ) → overlay db [] tree ≡ db tree
+no_overlay : (db : Trees) (tree : ℕ) → overlay db [] tree ≡ db tree
 no_overlay db tree = elim (nat_le (2 ^ 31) tree) as (λ b. unwrap_or (cond b (slice_get (let none : List (List Row) = [] in none) (tree - 2 ^ 31)) None)
     (db tree) ≡ db tree) [ true ↦ refl | false ↦ refl ]
+
+pub plain_answer : {query : Query} {db : Database} {params : Row} {rows : List Row} → Answers db (record { lets = []; body = query }) params rows
+    → IsAnswer query db.trees params rows
+plain_answer {query = query} {db = db} {params = params} {rows = rows} h =
+    subst (λ trees. IsAnswer query trees params rows) (λ i tree. no_overlay db.trees tree i) (h.answer Null)
 
 -- what an answer has of the environments that passed, in some order
 pub shown_of : {query : Query} {trees : Trees} {params : Row} {rows : List Row} (a : IsAnswer query trees params rows) (staged : List Env) → a.staged ≡ staged
@@ -98,10 +105,9 @@ module _ (params : Row) (tests : List Term) (project : List Term) where
       → IsPermutation (map shows (filter test (db.trees tree))) rows
   answered tree db rows h =
       let query = select (inner tree end) tests project in
-      let a : IsAnswer query (overlay db.trees []) params rows = h.answer Null in
+      let a : IsAnswer query db.trees params rows = plain_answer h in
       let each : Row → Env = λ row. params ∷ row ∷ [] in
-      let staged : a.staged ≡ map each (filter test (db.trees tree)) =
-      a.grouped ∙ ap (flat_map (λ row. cond (test row) (each row ∷ []) [])) (no_overlay db.trees tree) ∙ pick_by_if test each (db.trees tree) in
+      let staged : a.staged ≡ map each (filter test (db.trees tree)) = a.grouped ∙ pick_by_if test each (db.trees tree) in
       subst (λ ys. IsPermutation ys rows) (map-map (λ env. (output query env).1) each (filter test (db.trees tree)))
       (shown_of a (map each (filter test (db.trees tree))) staged a.distinct a.shown)
 
@@ -159,12 +165,13 @@ apart_from_pairs R (x ∷ xs) h = (
   apart_from_pairs R xs (λ i j d less low. h (suc i) (suc j) d (omega arith) (omega arith)),
 )
 
+pub pairs_from_apart : {X : Type 0} (R : X → X → Type 0) (xs : List X) → Apart R xs → AllPairs R xs
+pairs_from_apart R [] apart = λ i j d less low. absurd (omega arith)
+pairs_from_apart R (x ∷ xs) apart = AllPairs-cons R x xs (All-from_recursion (R x) xs apart.0) (pairs_from_apart R xs apart.1)
+
 -- R holds of what is made of each element and each later one
 pub pairs_mapped : {X Y : Type 0} (R : Y → Y → Type 0) (f : X → Y) (back : Y → X) (xs : List X) → AllPairs (λ a b. R (f a) (f b)) xs → AllPairs R (map f xs)
-pairs_mapped R f back xs pairs i j d less low =
-    let as_long = length-map xs f in
-    rw (get_or-map f xs i (back d) d (omega (arith, as_long)), get_or-map f xs j (back d) d (omega (arith, as_long)))
-    (pairs i j (back d) less (omega (arith, as_long)))
+pairs_mapped R f back xs pairs = pairs_from_apart R (map f xs) (ascending-map R f xs (apart_from_pairs (λ a b. R (f a) (f b)) xs pairs))
 
 -- a test that no two of the elements pass is passed by one at most
 pub one_passes : {X : Type 0} (R : X → X → Type 0) (p : X → Bool) (xs : List X) → ((x y : X) → p x ≡ true → p y ≡ true → ¬ R x y) → Apart R xs
@@ -175,6 +182,13 @@ one_passes {X} R p xs same apart = short (filter p xs) (recursion_from_All _ _ (
     short [] pass apart = omega arith
     short (y ∷ []) pass apart = omega arith
     short (y ∷ z ∷ ys) pass apart = absurd (same y z pass.0 pass.1.0 apart.0.0)
+
+-- a list of one element at most, which this one is
+pub only : {X : Type 0} (xs : List X) (x : X) → length xs ≤ 1 → Has xs x → xs ≡ x ∷ []
+only [] x low has = absurd has
+only (y ∷ []) x low (inl is) = ap (λ z. z ∷ []) (sym is)
+only (y ∷ []) x low (inr has) = absurd has
+only (y ∷ z ∷ xs) x low has = absurd (omega arith)
 
 pub short_permutation : {X : Type 0} (xs ys : List X) → length xs ≤ 1 → IsPermutation xs ys → ys ≡ xs
 short_permutation [] [] low h = refl

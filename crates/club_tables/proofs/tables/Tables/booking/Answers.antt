@@ -5,24 +5,15 @@ use Rattle.sqlite.specs.Held.{Held, state}
 use Rattle.club_rows.specs.declared.booking.Booking.{Booking}
 use Rattle.club_core.specs.declared.store.StoreFault.{StoreFault}
 use Rattle.club_core.specs.Sums.{booking_under}
-use Rattle.club_tables.specs.Answers.{Answers, OfBooking, FailsToRead, IsFirst, IsBookingIn, IsBookingNamed, reading_statement}
+use Rattle.club_tables.specs.Answers.{Answers, OfBooking, IsFirst, IsBookingNamed, reading_statement}
 use Rattle.club_tables.specs.ReadsAndChanges.{ReadsClub}
-use Rattle.club_tables.specs.Transaction.{BoundStatement, IsKept}
+use Rattle.club_tables.specs.Transaction.{IsKept}
 use Rattle.club_tables.proofs.lists.FirstLemmas.{first_held, unnamed}
 use Rattle.club_tables.proofs.lists.BookingRows.{one_booking}
 use Rattle.club_tables.specs.Columns.{booking_values}
 use Rattle.club_tables.proofs.queries.ReadLemmas.{read_answer, fewer_read}
 use Rattle.club_tables.proofs.queries.KeyLemmas.{booking_shown}
 use Rattle.club_tables.proofs.tables.Tables.booking.Goals as goal
-
--- rows that yield no booking yield none of this key and number
-unread_named : {S : Type 0} (g : Ghosts S) (key : List ℕ) (number : ℕ) (statement : BoundStatement) (old new : Held S) (fault : StoreFault)
-    → FailsToRead g statement (λ rows. (found : Option Booking) × IsFirst IsBookingIn rows found) old new fault
-    → FailsToRead g statement (λ rows. (found : Option Booking) × IsFirst (IsBookingNamed key number) rows found) old new fault
-unread_named g key number statement old new fault failed =
-    fewer_read g statement (λ rows. (found : Option Booking) × IsFirst IsBookingIn rows found)
-    (λ rows. (found : Option Booking) × IsFirst (IsBookingNamed key number) rows found) old new fault
-    (λ rows can. (can.0, unnamed key number rows can.0 can.1)) failed
 
 read_booking : {S : Type 0} (g : Ghosts S) (key : List ℕ) (number : ℕ) {old new : Held S} {result : Result (Option Booking) StoreFault}
     → Answers g (reading_statement (OfBooking key number)) (IsFirst (IsBookingNamed key number)) old new result → IsKept (state g old) (state g new)
@@ -36,7 +27,9 @@ returns-in-Err-clause-gives g c =
     let gives = rw (c.params-to_sql.ensures, c.params-to_sql-2.ensures, c.as_str.ensures.value, c.get.ensures.value) at c.in-Err.ensures.gives in
     record {
       success = λ clean. tt;
-      failure = λ clean. unread_named g.S.Store c.args.key.now c.args.number _ c.args.self.now c.answer.new.self _ (gives.failure clean);
+      -- rows that yield no booking yield none of this key and number
+      failure = λ clean. fewer_read g.S.Store _ _ _ c.args.self.now c.answer.new.self _ (λ rows can.
+          (can.0, unnamed c.args.key.now c.args.number rows can.0 can.1)) (gives.failure clean);
     }
 
 pub returns-in-Err-clause-reads : goal.returns-in-Err-clause-reads

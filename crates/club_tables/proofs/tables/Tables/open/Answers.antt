@@ -1,16 +1,15 @@
-use Rattle.std.proofs.Common.{◌≡◌, ◌≢◌, ℕ, List, [], ◌∷◌, All, IsTrue, inl, inr, refl, sym, subst, ◌∙◌, arith}
+use Rattle.std.proofs.Common.{◌≡◌, ◌≢◌, ◌⊎◌, ℕ, List, [], ◌∷◌, All, IsTrue, inl, inr, refl, sym, subst, ◌∙◌, arith}
 use Rattle.sqlite.specs.Order.{Row}
 use Rattle.sqlite.specs.Store.{Ghosts}
 use Rattle.sqlite.specs.Effect.{Database}
 use Rattle.sqlite.specs.State.{HasCleanDisk}
 use Rattle.sqlite.specs.Held.{Held, state}
-use Rattle.club_core.specs.Club.{Club}
 use Rattle.club_tables.specs.Transaction.{BoundStatement, IsIdle, IsKept, IsUnderstood}
 use Rattle.club_tables.specs.declared.texts.TheConstants.{VERSION}
 use Rattle.club_tables.specs.Columns.{HasValues, version_values}
-use Rattle.club_tables.specs.Opening.{HasNoDesk, AcceptsTables, YieldsRows, YieldsVersion, HasRunOver, Upgrade, EnsuresIndex}
+use Rattle.club_tables.specs.Opening.{HasNoDesk, AcceptsTables, YieldsRows, HasRunOver, Upgrade, EnsuresIndex}
 use Rattle.club_tables.specs.Opening.{first_texts, texts_by_key, indexed_texts, table_batch, migration, index_batch}
-use Rattle.club_tables.specs.Tables.{HoldsClubAnyVersion, IsFound, RepresentsVersion1, RepresentsVersion2}
+use Rattle.club_tables.specs.Tables.{HoldsClubAnyVersion}
 use Rattle.club_tables.proofs.crashes.SurviveLemmas.{opened_after, was_clean}
 use Rattle.club_tables.proofs.opening.MakingLemmas.{makes_free}
 use Rattle.club_tables.proofs.opening.OpenLemmas.{one_version, first_found, second_found}
@@ -52,22 +51,16 @@ ensured g old mid new rows earlier clean is_open rest kept one answered (inr it)
 rests : {S : Type 0} (g : Ghosts S) (old new : Held S) → HasCleanDisk (state g new) → IsKept (state g old) (state g new) → IsIdle (state g new)
 rests g old new clean kept opened = let k = kept clean opened in k.1 ∙ sym k.2
 
--- the rows hold version 2, or version 1
-is_second : {S : Type 0} (g : Ghosts S) (old mid : Held S) (rows : List Row) → YieldsVersion g old mid rows
-    → (row : Row) × (rows ≡ row ∷ []) × HasValues row (version_values 2)
-    → (club : Club) (others : List Club) → IsFound (state g old) club others → RepresentsVersion2 (state g mid) club others
-is_second g old mid rows read one club others found = elim (read.version_of_club club others found) [
-  | inl second ↦ second.0
-  | inr first ↦ absurd (let e : ◌≡◌ {A = ℕ} 1 2 = one_version rows 1 2 first.1 one in omega (arith, e))
-]
+abbrev HoldsVersion : List Row → ℕ → Type 0
+HoldsVersion rows version = (row : Row) × (rows ≡ row ∷ []) × HasValues row (version_values version)
 
-is_first : {S : Type 0} (g : Ghosts S) (old mid : Held S) (rows : List Row) → YieldsVersion g old mid rows
-    → (row : Row) × (rows ≡ row ∷ []) × HasValues row (version_values 1)
-    → (club : Club) (others : List Club) → IsFound (state g old) club others → RepresentsVersion1 (state g mid) club others
-is_first g old mid rows read one club others found = elim (read.version_of_club club others found) [
-  | inl second ↦ absurd (let e : ◌≡◌ {A = ℕ} 2 1 = one_version rows 2 1 second.1 one in omega (arith, e))
-  | inr first ↦ first.0
-]
+-- the rows hold version 2, or version 1
+by_version : {Second First : Type 0} (rows : List Row) → (Second × (rows ≡ version_values 2 ∷ [])) ⊎ (First × (rows ≡ version_values 1 ∷ []))
+    → (HoldsVersion rows 2 → Second) × (HoldsVersion rows 1 → First)
+by_version rows (inl second) =
+    (λ one. second.0, λ one. absurd (let e : ◌≡◌ {A = ℕ} 2 1 = one_version rows 2 1 second.1 one in omega (arith, e)))
+by_version rows (inr first) =
+    (λ one. absurd (let e : ◌≡◌ {A = ℕ} 1 2 = one_version rows 1 2 first.1 one in omega (arith, e)), λ one. first.0)
 
 pub returns-in-Err-Memory-clause-opens : goal.returns-in-Err-Memory-clause-opens
 returns-in-Err-Memory-clause-opens g c =
@@ -101,7 +94,7 @@ returns-then-is_version-clause-opens g c =
     let read = c.in-Ok.ensures.ok in
     let one = rw c.as_slice-rows.ensures.value at (c.is_version.ensures.only c.if-is_version.true) in
     opens_after g.S.Store old mid (λ rest. c.version.ensures.kept) c.version.ensures.survives c.complete.ensures.opens
-    (λ earlier. is_second g.S.Store old mid rows (read earlier) one) (second_found (state g.S.Store new))
+    (λ earlier club others found. (by_version rows ((read earlier).version_of_club club others found)).0 one) (second_found (state g.S.Store new))
     (λ earlier clean it is_open rest. ensured g.S.Store old mid new rows earlier clean is_open rest c.version.ensures.kept one
     (read earlier).version_rows (it is_open (rests g.S.Store old mid earlier c.version.ensures.kept)))
     (opened_after g.S.Store old mid new)
@@ -115,7 +108,7 @@ returns-then-is_version-2-clause-opens g c =
     let read = c.in-Ok.ensures.ok in
     let one = rw c.as_slice-rows.ensures.value at (c.is_version-2.ensures.only c.if-is_version-2.true) in
     opens_after g.S.Store old mid (λ rest. c.version.ensures.kept) c.version.ensures.survives c.migrate.ensures.opens
-    (λ earlier. is_first g.S.Store old mid rows (read earlier) one) (first_found (state g.S.Store new))
+    (λ earlier club others found. (by_version rows ((read earlier).version_of_club club others found)).1 one) (first_found (state g.S.Store new))
     (λ earlier clean it is_open rest. inr (inr (inl (upgraded g.S.Store old mid new 1 first_texts migration rows earlier rest c.version.ensures.kept one
     (read earlier).version_rows (it (rests g.S.Store old mid earlier c.version.ensures.kept))))))
     (opened_after g.S.Store old mid new)

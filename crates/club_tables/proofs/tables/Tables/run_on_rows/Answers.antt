@@ -8,7 +8,7 @@ use Rattle.sqlite.proofs.StateLemmas.{survives_then}
 use Rattle.sqlite.proofs.Callers.{survives_begin}
 use Rattle.club_tables.specs.declared.transaction.Statement.{Statement}
 use Rattle.club_tables.specs.Transaction.{RanInTurn, transaction_start, bound_statement}
-use Rattle.club_tables.specs.Fault.{Commits, FailsInTurn, StopsAt}
+use Rattle.club_tables.specs.Fault.{Commits, StopsAt}
 use Rattle.club_tables.proofs.crashes.RepresentsLemmas.{survives_none}
 use Rattle.club_tables.proofs.crashes.SurviveLemmas.{survives_as, was_clean, Keeps, commit_keeps, execute_keeps, then_rolled}
 use Rattle.club_tables.proofs.crashes.TurnLemmas.{turn_at, turn_all, fails_at, fails_last, commit_survives}
@@ -106,7 +106,8 @@ returns-in-Err-commit g c =
         fault = λ clean.
             let earlier : HasCleanDisk (state g.S.Store mid) = omega (arith, c.commit.ensures.survives.clean) in
             let turn = turn_all g.S.Store fewest statements c.loop-statement.statement-index (transaction_start old) mid (omega arith) (inv.ran earlier) in
-            let failed = fails_last g.S.Store fewest (map bound_statement statements) (transaction_start old) mid end error _ turn (c.in-Err-commit.ensures.err clean) c.fault_of-in-Err-commit.ensures in
+            let failed = fails_last g.S.Store fewest (map bound_statement statements) (transaction_start old) mid end error _ turn
+            (c.in-Err-commit.ensures.err clean) c.fault_of-in-Err-commit.ensures in
             record { mid = end; failure = failed; fault_count = omega arith };
       };
     }
