@@ -78,24 +78,17 @@ one_named {X} name_of name xs unique =
     let R : X → X → Type 0 = λ a b. name_of a ≢ name_of b in
     one_passes R (λ x. bytes_eq (name_of x) name) xs (λ x y a b apart. apart (same_names name (name_of x) (name_of y) a b)) (apart_from_pairs R xs unique)
 
-key_asks : Asks club_schema KEY.now (select (inner keys_tree end) (is_given 1 0 ∷ []) (map (col 1) (1 ∷ 2 ∷ 3 ∷ 4 ∷ [])))
-    (map codes ("name" ∷ "member" ∷ "root" ∷ "revoked" ∷ []))
-unfolding understood everything
-key_asks = record { is = refl; plain = (refl, refl); unlisted = refl }
-
 pub key_shown : {S : Type 0} (g : Ghosts S) (old : Held S) (name : List ℕ)
     → Shows g old (KEY.now, Text name ∷ []) (λ club rows. rows ≡ map key_values (option_to_list (key_named name club)))
+unfolding understood everything
 key_shown g old name rows clean asked club others represents =
     let tables = asked_tables asked clean club others represents in
+    let asks : Asks club_schema KEY.now (select (inner keys_tree end) (is_given 1 0 ∷ []) (map (col 1) (1 ∷ 2 ∷ 3 ∷ 4 ∷ [])))
+    (map codes ("name" ∷ "member" ∷ "root" ∷ "revoked" ∷ [])) = record { is = refl; plain = (refl, refl); unlisted = refl } in
     let p : Key → Bool = λ key. bytes_eq key.name name in
-    let same = asked_shows asked key_asks tables key_values p key_values (λ id key. and-true _ ∙ text_equal key.name name) (λ id key. refl) club.keys
+    let same = asked_shows asked asks tables key_values p key_values (λ id key. and-true _ ∙ text_equal key.name name) (λ id key. refl) club.keys
     (keys_held _ club tables) in
     first_returned key_values p club.keys rows (one_named (λ (key : Key). key.name) name club.keys tables.sound.unique.keys) same
-
-older_asks : Asks club_schema OLDER_ROOT.now (select (inner olders_tree end) (is_given 1 0 ∷ []) (map (col 1) (2 ∷ 3 ∷ [])))
-    (map codes ("root" ∷ "until" ∷ []))
-unfolding understood everything
-older_asks = record { is = refl; plain = (refl, refl); unlisted = refl }
 
 shown_again : (found : Option OlderRow) → map (λ (row : OlderRow). older_root_values row.older) (option_to_list found)
     ≡ map older_root_values (option_to_list (option_map (λ (row : OlderRow). row.older) found))
@@ -104,27 +97,28 @@ shown_again (Some row) = refl
 
 pub older_shown : {S : Type 0} (g : Ghosts S) (old : Held S) (name : List ℕ)
     → Shows g old (OLDER_ROOT.now, Text name ∷ []) (λ club rows. rows ≡ map older_root_values (option_to_list (older_root_of name club)))
+unfolding understood everything
 older_shown g old name rows clean asked club others represents =
     let tables = asked_tables asked clean club others represents in
+    let asks : Asks club_schema OLDER_ROOT.now (select (inner olders_tree end) (is_given 1 0 ∷ []) (map (col 1) (2 ∷ 3 ∷ [])))
+    (map codes ("root" ∷ "until" ∷ [])) = record { is = refl; plain = (refl, refl); unlisted = refl } in
     let p : OlderRow → Bool = λ row. bytes_eq row.key name in
     let show : OlderRow → Row = λ row. older_root_values row.older in
     let olders = tables.rows.olders in
-    let same = asked_shows asked older_asks tables older_values p show (λ id row. and-true _ ∙ text_equal row.key name) (λ id row. refl) olders
+    let same = asked_shows asked asks tables older_values p show (λ id row. and-true _ ∙ text_equal row.key name) (λ id row. refl) olders
     tables.holds_rows.held.olders in
     first_returned show p olders rows (one_named (λ (row : OlderRow). row.key) name olders tables.storage.olders_once) same
     ∙ shown_again (find p olders) ∙ ap (λ o. map older_root_values (option_to_list o)) (tables.storage.olders name)
 
-member_asks : Asks club_schema MEMBER.now (select (inner members_tree end) (is_given 1 0 ∷ []) (map (col 1) (1 ∷ 2 ∷ 3 ∷ 4 ∷ [])))
-    (map codes ("name" ∷ "credited" ∷ "quota" ∷ "used" ∷ []))
-unfolding understood everything
-member_asks = record { is = refl; plain = (refl, refl); unlisted = refl }
-
 pub member_shown : {S : Type 0} (g : Ghosts S) (old : Held S) (name : List ℕ) → Shows g old (MEMBER.now, Text name ∷ [])
     (λ club rows. rows ≡ map member_values (option_to_list (option_map (member_row club) (member_named name club))))
+unfolding understood everything
 member_shown g old name rows clean asked club others represents =
     let tables = asked_tables asked clean club others represents in
+    let asks : Asks club_schema MEMBER.now (select (inner members_tree end) (is_given 1 0 ∷ []) (map (col 1) (1 ∷ 2 ∷ 3 ∷ 4 ∷ [])))
+    (map codes ("name" ∷ "credited" ∷ "quota" ∷ "used" ∷ [])) = record { is = refl; plain = (refl, refl); unlisted = refl } in
     let p : MemberRow → Bool = λ row. bytes_eq row.member.name name in
-    let same = asked_shows asked member_asks tables member_values p member_values (λ id row. and-true _ ∙ text_equal row.member.name name) (λ id row. refl)
+    let same = asked_shows asked asks tables member_values p member_values (λ id row. and-true _ ∙ text_equal row.member.name name) (λ id row. refl)
     (map (member_row club) club.members) (subst (Holds member_values _) tables.storage.members tables.holds_rows.held.members) in
     let low = one_named (λ (member : Member). member.name) name club.members tables.sound.unique.members in
     let fewer = filter-map p (member_row club) club.members in
@@ -135,25 +129,18 @@ member_shown g old name rows clean asked club others represents =
     ))) same
     ∙ ap (λ o. map member_values (option_to_list o)) (find_mapped p (member_row club) club.members)
 
-facility_asks : Asks club_schema FACILITY.now (select (inner facilities_tree end) (is_given 1 0 ∷ []) (map (col 1) (1 ∷ 2 ∷ 3 ∷ 4 ∷ 5 ∷ 6 ∷ [])))
-    (map codes ("name" ∷ "kind" ∷ "places" ∷ "price" ∷ "opens" ∷ "shuts" ∷ []))
-unfolding understood everything
-facility_asks = record { is = refl; plain = (refl, refl); unlisted = refl }
-
 pub facility_shown : {S : Type 0} (g : Ghosts S) (old : Held S) (name : List ℕ)
     → Shows g old (FACILITY.now, Text name ∷ []) (λ club rows. rows ≡ map facility_values (option_to_list (facility_named name club)))
+unfolding understood everything
 facility_shown g old name rows clean asked club others represents =
     let tables = asked_tables asked clean club others represents in
+    let asks : Asks club_schema FACILITY.now (select (inner facilities_tree end) (is_given 1 0 ∷ []) (map (col 1) (1 ∷ 2 ∷ 3 ∷ 4 ∷ 5 ∷ 6 ∷ [])))
+    (map codes ("name" ∷ "kind" ∷ "places" ∷ "price" ∷ "opens" ∷ "shuts" ∷ [])) = record { is = refl; plain = (refl, refl); unlisted = refl } in
     let p : Facility → Bool = λ facility. bytes_eq facility.name name in
-    let same = asked_shows asked facility_asks tables facility_values p facility_values (λ id facility. and-true _ ∙ text_equal facility.name name)
+    let same = asked_shows asked asks tables facility_values p facility_values (λ id facility. and-true _ ∙ text_equal facility.name name)
     (λ id facility. refl) club.facilities (subst (Holds facility_values _) tables.storage.facilities tables.holds_rows.held.facilities) in
     first_returned facility_values p club.facilities rows
     (one_named (λ (facility : Facility). facility.name) name club.facilities tables.sound.unique.facilities) same
-
-slot_asks : Asks club_schema SLOT.now (select (inner slots_tree end) (is_given 1 0 ∷ is_given 2 1 ∷ is_given 3 2 ∷ []) (col 1 4 ∷ col 1 5 ∷ []))
-    (codes "closed" ∷ codes "taken" ∷ [])
-unfolding understood everything
-slot_asks = record { is = refl; plain = (refl, refl); unlisted = refl }
 
 pub three : (a b c : Bool) → (a && (b && (c && true))) ≡ (a && b && c)
 three a b c = ap (λ d. a && (b && d)) (and-true c) ∙ sym (and_assoc a b c)
@@ -173,12 +160,15 @@ shows_by club slot (Some row) rows is same = inl (is ∙ ap (λ held. use_values
 shows_by club slot None rows is same = inr (is, sym same)
 
 pub slot_shown : {S : Type 0} (g : Ghosts S) (old : Held S) (slot : Slot) → Shows g old (SLOT.now, name_values slot) (λ club. ShowsUse club slot)
+unfolding understood everything
 slot_shown g old slot rows clean asked club others represents =
     let tables = asked_tables asked clean club others represents in
+    let asks : Asks club_schema SLOT.now (select (inner slots_tree end) (is_given 1 0 ∷ is_given 2 1 ∷ is_given 3 2 ∷ []) (col 1 4 ∷ col 1 5 ∷ []))
+    (codes "closed" ∷ codes "taken" ∷ []) = record { is = refl; plain = (refl, refl); unlisted = refl } in
     let p : SlotRow → Bool = λ row. same_slot row.slot slot in
     let show : SlotRow → Row = λ row. use_values row.held in
     let R : SlotRow → SlotRow → Type 0 = λ a b. a.slot ≢ b.slot in
-    let same = asked_shows asked slot_asks tables slot_values p show (λ id row.
+    let same = asked_shows asked asks tables slot_values p show (λ id row.
     rw (text_equal row.slot.facility slot.facility, whole_equal row.slot.day slot.day, whole_equal row.slot.hour slot.hour)
     (three (bytes_eq row.slot.facility slot.facility) (row.slot.day == slot.day) (row.slot.hour == slot.hour))) (λ id row. refl) tables.rows.slots
     tables.holds_rows.held.slots in
@@ -211,16 +201,14 @@ one_numbered key number bookings unique =
     ))
     (apart_from_pairs R bookings unique)
 
-booking_asks : Asks club_schema BOOKING.now (select (inner bookings_tree end) (is_given 1 0 ∷ is_given 2 1 ∷ []) booking_terms) booking_names
-unfolding understood everything
-booking_asks = record { is = refl; plain = (refl, refl); unlisted = refl }
-
 pub booking_shown : {S : Type 0} (g : Ghosts S) (old : Held S) (key : List ℕ) (number : ℕ) → Shows g old (BOOKING.now, Text key ∷ whole number ∷ [])
     (λ club rows. rows ≡ map booking_values (option_to_list (booking_under key number club.bookings)))
+unfolding understood everything
 booking_shown g old key number rows clean asked club others represents =
     let tables = asked_tables asked clean club others represents in
+    let asks : Asks club_schema BOOKING.now (select (inner bookings_tree end) (is_given 1 0 ∷ is_given 2 1 ∷ []) booking_terms) booking_names = record { is = refl; plain = (refl, refl); unlisted = refl } in
     let p = is_numbered key number in
-    let same = asked_shows asked booking_asks tables booking_values p booking_values (λ id b.
+    let same = asked_shows asked asks tables booking_values p booking_values (λ id b.
     both_tests _ _ _ _ (text_equal b.key key) (whole_equal b.number number)) (λ id b. refl) club.bookings (bookings_held _ club tables) in
     first_returned booking_values p club.bookings rows (one_numbered key number club.bookings tables.sound.unique.bookings) same
 
@@ -231,14 +219,12 @@ pub no_truth : (b : Bool) → (truth b == 0) ≡ not b
 no_truth true = refl
 no_truth false = refl
 
-costs_asks : Asks club_schema COSTS_UNDER_KEY.now (select (inner bookings_tree end) (is_given 1 0 ∷ []) (col 1 7 ∷ col 1 10 ∷ []))
-    (map codes ("charge" ∷ "refund" ∷ []))
-unfolding understood everything
-costs_asks = record { is = refl; plain = (refl, refl); unlisted = refl }
-
 pub costs_shown : {S : Type 0} (g : Ghosts S) (old : Held S) (key : List ℕ) → Shows g old (COSTS_UNDER_KEY.now, Text key ∷ [])
     (λ club. IsPermutation (map cost_values (filter (is_under key) club.bookings)))
+unfolding understood everything
 costs_shown g old key rows clean asked club others represents =
     let tables = asked_tables asked clean club others represents in
-    asked_shows asked costs_asks tables booking_values (is_under key) cost_values (λ id b. and-true _ ∙ text_equal b.key key) (λ id b. refl) club.bookings
+    let asks : Asks club_schema COSTS_UNDER_KEY.now (select (inner bookings_tree end) (is_given 1 0 ∷ []) (col 1 7 ∷ col 1 10 ∷ []))
+    (map codes ("charge" ∷ "refund" ∷ [])) = record { is = refl; plain = (refl, refl); unlisted = refl } in
+    asked_shows asked asks tables booking_values (is_under key) cost_values (λ id b. and-true _ ∙ text_equal b.key key) (λ id b. refl) club.bookings
     (bookings_held _ club tables)
