@@ -100,10 +100,6 @@ sheet_terms = map (col 1) (3 ∷ 5 ∷ 1 ∷ 2 ∷ [])
 abbrev day_tests : List Term
 day_tests = is_given 4 0 ∷ is_uncancelled ∷ []
 
-day_asks : Asks club_schema DAY.now (in_order sheet_terms (select (inner bookings_tree end) day_tests booking_terms)) booking_names
-unfolding understood everything
-day_asks = record { is = refl; plain = (refl, refl); unlisted = refl }
-
 whole_cmp : (m n : ℕ) → value_cmp (whole m) (whole n) ≡ nat_cmp m n
 whole_cmp m n = let same : int_cmp (pos m) (pos n) ≡ nat_cmp m n = grind (arith, nat_tests) in value_cmp-Int (pos m) (pos n) ∙ same
 
@@ -111,9 +107,12 @@ by_values : (a b : Booking) → key_cmp 0 (map (λ _. ascending Binary) sheet_te
 by_values a b = simp (value_cmp-Text, whole_cmp, then-Equal)
 
 pub day_shown : {S : Type 0} (g : Ghosts S) (old : Held S) (day : ℕ) → Shows g old (DAY.now, whole day ∷ []) (λ club. ShowsDay club day)
+unfolding understood everything
 day_shown g old day rows clean asked club others represents =
     let tables = asked_tables asked clean club others represents in
-    let reads = asked_reads asked day_asks tables.holds_rows.schema in
+    let asks : Asks club_schema DAY.now (in_order sheet_terms (select (inner bookings_tree end) day_tests booking_terms)) booking_names =
+    record { is = refl; plain = (refl, refl); unlisted = refl } in
+    let reads = asked_reads asked asks tables.holds_rows.schema in
     let day_selection = selected_in_order booking_values (whole day
     ∷ []) day_tests booking_terms (map (λ term. (term, ascending Binary)) sheet_terms) (is_on day)
     booking_values sheet_key (λ id b. rw (whole_equal b.slot.day day, whole_equal (truth b.cancelled) 0, no_truth b.cancelled, and-true (not b.cancelled))

@@ -64,27 +64,19 @@ from_day = op2 (Compare Ge Binary) (col 2 4) (col 0 2)
 abbrev open_tests : List Term
 open_tests = under_it ∷ is_given 2 0 ∷ is_uncancelled ∷ begins_later ∷ from_day ∷ []
 
-open_asks : Asks club_schema OPEN.now (select (inner keys_tree (inner bookings_tree end)) open_tests (col 2 2 ∷ [])) (codes "number" ∷ [])
-unfolding understood everything
-open_asks = record { is = refl; plain = (refl, refl); unlisted = refl }
-
 -- ---- numbers
 
 -- `>` of two whole numbers
-int_gt : (m n : ℕ) → is_gt (int_cmp (pos m) (pos n)) ≡ nat_lt n m
-int_gt m n = grind (arith, nat_tests)
-
 whole_above : (m n : ℕ) → is_true (binary (Compare Gt Binary) (Int (pos m)) (Int (pos n))) ≡ nat_lt n m
 unfolding binary
-whole_above m n = from_truth_is _ ∙ ap is_gt (value_cmp-Int (pos m) (pos n)) ∙ int_gt m n
+whole_above m n =
+    let same : is_gt (int_cmp (pos m) (pos n)) ≡ nat_lt n m = grind (arith, nat_tests) in from_truth_is _ ∙ ap is_gt (value_cmp-Int (pos m) (pos n)) ∙ same
 
 -- `>=` of two whole numbers
-int_ge : (m n : ℕ) → is_ge (int_cmp (pos m) (pos n)) ≡ nat_le n m
-int_ge m n = grind (arith, nat_tests)
-
 whole_from : (m n : ℕ) → is_true (binary (Compare Ge Binary) (Int (pos m)) (Int (pos n))) ≡ nat_le n m
 unfolding binary
-whole_from m n = from_truth_is _ ∙ ap is_ge (value_cmp-Int (pos m) (pos n)) ∙ int_ge m n
+whole_from m n =
+    let same : is_ge (int_cmp (pos m) (pos n)) ≡ nat_le n m = grind (arith, nat_tests) in from_truth_is _ ∙ ap is_ge (value_cmp-Int (pos m) (pos n)) ∙ same
 
 -- what begins after a moment is on its day or a later one
 day_after : (moment day hour : ℕ) → hour < 24 → nat_lt moment (day * 1440 + hour * 60) ≡ true → nat_le (moment / 1440) day ≡ true
@@ -125,44 +117,31 @@ any_filtered p q [] = refl
 any_filtered {X} p q (x ∷ xs) = elim (q x) as (λ b. list_any p (cond b (x ∷ filter q xs) (filter q xs)) ≡ ((b && p x) || list_any (λ y. q y && p y) xs))
     [ true ↦ ap (λ any. p x || any) (any_filtered p q xs) | false ↦ any_filtered p q xs ]
 
-any_and : {X : Type 0} (p : X → Bool) (b : Bool) (xs : List X) → list_any (λ x. p x && b) xs ≡ (list_any p xs && b)
-any_and p true xs = ap (λ test. list_any test xs) (λ i x. and-true (p x) i) ∙ sym (and-true (list_any p xs))
-any_and p false xs = list_any_none (λ x. p x && false) xs (λ k x low. and-false (p _)) ∙ sym (and-false (list_any p xs))
-
 any_owned : (names owns : Key → Bool) (b : Bool) (keys : List Key) → list_any (λ key. names key && (owns key && b)) keys
     ≡ (list_any names (filter owns keys) && b)
-any_owned names owns b keys =
-    ap (λ test. list_any test keys) (λ i key. (sym (and_assoc (names key) (owns key) b) ∙ ap (λ both. both && b) (and_comm (names key) (owns key))) i)
-    ∙ any_and (λ key. owns key && names key) b keys ∙ ap (λ any. any && b) (sym (any_filtered names owns keys))
+any_owned names owns true keys = simp (and-true, any_filtered) (λ i. list_any (λ key. and_comm (names key) (owns key) i) keys)
+any_owned names owns false keys = simp and-false (list_any_none (λ _. false) keys (λ k x low. refl))
 
 other_key : (member : List ℕ) (test : Booking → Bool) (a b : Key) → a.name ≢ b.name → IsElsewhere (is_owned member test) a b
 other_key member test a b apart booking h =
     let mine = (bytes_eq-Decides a.name booking.key).0 (and_parts _ _ h).0 in
     false_from_ne_true _ (λ k. apart (mine ∙ sym ((bytes_eq-Decides b.name booking.key).0 (and_parts _ _ k).0)))
 
-owned_rows : (member : List ℕ) (test : Booking → Bool) (club : Club) → AllPairs (λ (a : Key) (b : Key). a.name ≢ b.name) club.keys
-    → IsPermutation (filter test (bookings_of member club)) (flat_map (λ key. filter (is_owned member test key) club.bookings) club.keys)
-owned_rows member test club unique =
-    let among : Booking → Bool = λ booking. is_key_of member club booking.key in
-    let same : filter (λ booking. list_any (λ key. is_owned member test key booking) club.keys) club.bookings ≡ filter test (bookings_of member club) =
-    filter_agree _ (λ booking. among booking && test booking) (λ booking.
-    any_owned (λ key. bytes_eq key.name booking.key) (λ key. bytes_eq key.member member) (test booking) club.keys) club.bookings
-    ∙ sym (filter_filter test among club.bookings) in
-    subst (λ bookings. IsPermutation bookings (flat_map (λ key. filter (is_owned member test key) club.bookings) club.keys)) same
-    (pairs_of (is_owned member test) club.keys club.bookings
-    (apart_from_pairs (IsElsewhere (is_owned member test)) club.keys (λ i j d less low.
-    other_key member test (slice_index_or club.keys i d) (slice_index_or club.keys j d) (unique i j d less low))))
-
--- what is shown of each pair of a key of the member and a booking under it is what is shown of the member's bookings
-owned_shown : (member : List ℕ) (test : Booking → Bool) (show : Booking → Row) (club : Club) (rows : List Row)
+-- the pairs of a key of the member and a booking under it are as many as the member's bookings
+owned_count : (member : List ℕ) (test : Booking → Bool) (show : Booking → Row) (club : Club) (rows : List Row)
     → AllPairs (λ (a : Key) (b : Key). a.name ≢ b.name) club.keys
     → IsPermutation (flat_map (λ key. map show (filter (is_owned member test key) club.bookings)) club.keys) rows
-    → IsPermutation (map show (filter test (bookings_of member club))) rows
-owned_shown member test show club rows unique h =
+    → length rows ≡ length (filter test (bookings_of member club))
+owned_count member test show club rows unique h =
     let pairs : Key → List Booking = λ key. filter (is_owned member test key) club.bookings in
-    IsPermutation-trans (map show (filter test (bookings_of member club))) (flat_map (λ key. map show (pairs key)) club.keys) rows
-    (subst (IsPermutation (map show (filter test (bookings_of member club)))) (map-flat_map show pairs club.keys)
-    (IsPermutation-map show _ _ (owned_rows member test club unique))) h
+    let among : Booking → Bool = λ booking. is_key_of member club booking.key in
+    let each = filter_agree _ (λ booking. among booking && test booking) (λ booking.
+    any_owned (λ key. bytes_eq key.name booking.key) (λ key. bytes_eq key.member member) (test booking) club.keys) club.bookings in
+    length_permutation _ rows h ∙ ap length (sym (map-flat_map show pairs club.keys)) ∙ length-map (flat_map pairs club.keys) show
+    ∙ length_permutation _ _ (pairs_of (is_owned member test) club.keys club.bookings
+    (apart_from_pairs (IsElsewhere (is_owned member test)) club.keys (λ i j d less low.
+    other_key member test (slice_index_or club.keys i d) (slice_index_or club.keys j d) (unique i j d less low))))
+    ∙ ap length (each ∙ sym (filter_filter test among club.bookings))
 
 -- ---- the statements
 
@@ -189,9 +168,12 @@ comes_is moment b row =
 pub open_shown : {S : Type 0} (g : Ghosts S) (old : Held S) (member : List ℕ) (moment : ℕ)
     → Shows g old (OPEN.now, Text member ∷ whole moment ∷ whole (moment / 1440) ∷ [])
     (λ club rows. length rows ≡ count_to_come moment (bookings_of member club))
+unfolding understood everything
 open_shown g old member moment rows clean asked club others represents =
     let tables = asked_tables asked clean club others represents in
-    let reads = asked_reads asked open_asks tables.holds_rows.schema in
+    let asks : Asks club_schema OPEN.now (select (inner keys_tree (inner bookings_tree end)) open_tests (col 2 2 ∷ [])) (codes "number" ∷ []) =
+    record { is = refl; plain = (refl, refl); unlisted = refl } in
+    let reads = asked_reads asked asks tables.holds_rows.schema in
     let number : Booking → Row = λ b. whole b.number ∷ [] in
     let both = selected_both key_values booking_values (Text member ∷ whole moment ∷ whole (moment / 1440) ∷ [])
     open_tests (col 2 2 ∷ []) (is_owned member (comes moment)) number (λ i j k b. rw (
@@ -205,7 +187,6 @@ open_shown g old member moment rows clean asked club others represents =
     keys_tree bookings_tree (codes "number" ∷ []) (state g old).now club.keys club.bookings rows (keys_held _ club tables) (bookings_held _ club tables)
     reads in
     let own = bookings_of member club in
-    let same = owned_shown member (comes moment) number club rows tables.sound.unique.keys both in
-    length_permutation (map number (filter (comes moment) own)) rows same ∙ length-map (filter (comes moment) own) number
+    owned_count member (comes moment) number club rows tables.sound.unique.keys both
     ∙ ap length (filter_same (comes moment) (is_to_come moment) own (recursion_from_All _ own (All-weaker IsBooking _ (comes_is moment) own
     (All-filter (λ b. is_key_of member club b.key) IsBooking club.bookings tables.sound.rows.bookings))))

@@ -49,13 +49,11 @@ pub blob_equal : (a b : List ℕ) → is_true (binary (Compare Eq Binary) (Blob 
 unfolding binary
 blob_equal a b = from_truth_is _ ∙ ap is_eq (value_cmp-Blob a b) ∙ is_eq-slice_cmp a b
 
-int_eq : (m n : ℕ) → is_eq (int_cmp (pos m) (pos n)) ≡ (m == n)
-int_eq m n = grind (arith, nat_tests)
-
 -- `=` of two whole numbers
 pub whole_equal : (m n : ℕ) → is_true (binary (Compare Eq Binary) (Int (pos m)) (Int (pos n))) ≡ (m == n)
 unfolding binary
-whole_equal m n = from_truth_is _ ∙ ap is_eq (value_cmp-Int (pos m) (pos n)) ∙ int_eq m n
+whole_equal m n =
+    let same : is_eq (int_cmp (pos m) (pos n)) ≡ (m == n) = grind (arith, nat_tests) in from_truth_is _ ∙ ap is_eq (value_cmp-Int (pos m) (pos n)) ∙ same
 
 -- ---- lists
 
