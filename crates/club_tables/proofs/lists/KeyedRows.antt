@@ -74,20 +74,6 @@ module _ {X K : Type 0} (key_of : X → K) (same : K → K → Bool) (same_keys 
     -- what is shown of the row that is found, or of none, is changed for the key alone
     module _ {V : Type 0} (shown : Option X → V) (next : V → V) (shows : (x : X) → is_of x ≡ true → shown (Some (changed x)) ≡ next (shown (Some x)))
         (stays : (x : X) → is_of x ≡ false → changed x ≡ x) (makes : shown (Some first) ≡ next (shown None)) where
-      by_key : (rows : List X) → shown (named key (put (list_any is_of rows) rows)) ≡ next (shown (named key rows))
-      by_key rows = go (list_any is_of rows) refl
-        where
-          go : (any : Bool) → list_any is_of rows ≡ any → shown (named key (put any rows)) ≡ next (shown (named key rows))
-          go true any =
-              let one = find_some is_of rows (any_counts is_of rows any) in
-              ap shown (found_changed key rows) ∙ subst (λ o. shown (option_map changed o) ≡ next (shown o)) (sym one.1)
-              (shows one.0 (found is_of rows one.0 one.1).1)
-          go false none =
-              let empty : named key rows ≡ None = absent is_of rows none in
-              let mine : is_of first ≡ true = ap (λ k. same k key) of_key ∙ itself key in
-              ap shown (find-append is_of rows (first ∷ [])) ∙ ap (λ o. shown (option_or o (cond (is_of first) (Some first) None))) empty
-              ∙ ap (λ b. shown (cond b (Some first) None)) mine ∙ makes ∙ ap (λ o. next (shown o)) (sym empty)
-
       unchanged : (name : K) (rows : List X) → same key name ≡ false → (o : Option X) → named name rows ≡ o → shown (option_map changed o) ≡ shown o
       unchanged name rows other None is = refl
       unchanged name rows other (Some x) is =
@@ -95,24 +81,27 @@ module _ {X K : Type 0} (key_of : X → K) (same : K → K → Bool) (same_keys 
           ap (λ y. shown (Some y)) (stays x (false_from_ne_true (is_of x) (λ h.
           true≢false (sym (ap (λ k. same k name) (sym (same_keys (key_of x) key h)) ∙ of_name) ∙ other))))
 
-      by_other : (name : K) → same key name ≡ false → (rows : List X) → shown (named name (put (list_any is_of rows) rows)) ≡ shown (named name rows)
-      by_other name other rows = go (list_any is_of rows)
-        where
-          go : (any : Bool) → shown (named name (put any rows)) ≡ shown (named name rows)
-          go true = ap shown (found_changed name rows) ∙ unchanged name rows other (named name rows) refl
-          go false =
-              let misses : same (key_of first) name ≡ false = ap (λ k. same k name) of_key ∙ other in
-              ap shown (find-append (λ (x : X). same (key_of x) name) rows (first ∷ [])
-              ∙ ap (λ b. option_or (named name rows) (cond b (Some first) None)) misses ∙ or_none (named name rows))
-
       pub by_put : (name : K) (rows : List X) → shown (named name (put (list_any is_of rows) rows))
           ≡ (if same key name then next (shown (named name rows)) else shown (named name rows))
-      by_put name rows = go (same key name) refl
+      by_put name rows = go (list_any is_of rows) refl (same key name) refl
         where
-          go : (b : Bool) → same key name ≡ b → shown (named name (put (list_any is_of rows) rows))
+          pushed : named name (rows ++ first ∷ []) ≡ option_or (named name rows) (cond (same key name) (Some first) None)
+          pushed = find-append (λ (x : X). same (key_of x) name) rows (first ∷ [])
+              ∙ ap (λ k. option_or (named name rows) (cond (same k name) (Some first) None)) of_key
+
+          go : (any : Bool) → list_any is_of rows ≡ any → (b : Bool) → same key name ≡ b → shown (named name (put any rows))
               ≡ (if b then next (shown (named name rows)) else shown (named name rows))
-          go true is = subst (λ n. shown (named n (put (list_any is_of rows) rows)) ≡ next (shown (named n rows))) (same_keys key name is) (by_key rows)
-          go false other = by_other name other rows
+          go true any true is =
+              let mine : is_of ≡ (λ x. same (key_of x) name) = ap (λ k x. same (key_of x) k) (same_keys key name is) in
+              let one = find_some is_of rows (any_counts is_of rows any) in
+              ap shown (found_changed name rows) ∙ subst (λ o. shown (option_map changed o) ≡ next (shown o)) (sym one.1 ∙ ap (λ p. find p rows) mine)
+              (shows one.0 (found is_of rows one.0 one.1).1)
+          go true any false other = ap shown (found_changed name rows) ∙ unchanged name rows other (named name rows) refl
+          go false none true is =
+              let empty = ap (λ k. named k rows) (sym (same_keys key name is)) ∙ absent is_of rows none in
+              ap shown (pushed ∙ ap (λ o. option_or o (cond (same key name) (Some first) None)) empty ∙ ap (λ b. cond b (Some first) None) is)
+              ∙ makes ∙ ap (λ o. next (shown o)) (sym empty)
+          go false none false other = ap shown (pushed ∙ ap (λ b. option_or (named name rows) (cond b (Some first) None)) other ∙ or_none (named name rows))
 
 -- ---- rows of slots
 
