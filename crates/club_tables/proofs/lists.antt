@@ -1,7 +1,6 @@
 -- Lists of rows, and the values that are read from them.
 
 pub mod RowLemmas
-pub mod FirstLemmas
 pub mod BookingRows
 pub mod PutRows
 pub mod KeyedRows

@@ -3,9 +3,7 @@
 pub mod MeansLemmas
 pub mod SelectLemmas
 pub mod JoinLemmas
-pub mod OrderLemmas
 pub mod InsertLemmas
 pub mod PassLemmas
 pub mod UpdateLemmas
-pub mod ReplaceLemmas
 pub mod PutLemmas

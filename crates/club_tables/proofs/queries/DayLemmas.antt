@@ -1,6 +1,6 @@
 -- The bookings of a day, as they are asked for.
-use Rattle.std.proofs.Common.{◌≡◌, ℕ, ◌<◌, ◌⊎◌, inl, inr, pos, true, false, List, [], ◌∷◌, map, refl, sym, ap, subst, ◌∙◌, arith}
-use Rattle.std.proofs.Common.{Ordering, Less, Equal, Greater, nat_cmp, int_cmp}
+use Rattle.std.proofs.Common.{◌≡◌, ℕ, ◌<◌, ◌⊎◌, inl, inr, pos, true, false, List, [], ◌∷◌, map, refl, sym, ap, subst, ◌∙◌, arith, Ordering, Less, Equal}
+use Rattle.std.proofs.Common.{Greater, nat_cmp, int_cmp, ◌==◌, not}
 use Rattle.std.specs.Prelude.{filter, IsSorted, slice_index_or}
 use Rattle.std.specs.Ordering.{on, then_cmp, is_lt, ordering_then, ordering_reverse}
 use Rattle.std.specs.Cmp.{IsTotalOrder}
@@ -10,7 +10,6 @@ use Rattle.std.proofs.lemmas.Cmp.{ranked, nat_cmp_total, nat_list_cmp_total, on_
 use Rattle.std.proofs.lemmas.List.Kept.{AllPairs-filter}
 use Rattle.std.proofs.lemmas.Map.Lookups.{exact_bytes, exact_unsigned}
 use Rattle.std.proofs.Math.Bool.{and-true, and_comm}
-use Rattle.std.proofs.Common.{◌==◌, not}
 use Rattle.sqlite_tied.specs.Compute.{everything}
 use Rattle.sqlite_value.specs.declared.value.Value.TheVariants.{Text}
 use Rattle.sqlite_value.specs.declared.keys.Collation.TheVariants.{Binary}
@@ -31,9 +30,8 @@ use Rattle.club_tables.specs.Columns.{whole, booking_values}
 use Rattle.club_tables.specs.Sheet.{ShowsDay}
 use Rattle.club_tables.specs.Tables.{bookings_tree}
 use Rattle.club_tables.specs.Statements.{select, in_order, is_given}
-use Rattle.club_tables.proofs.statements.SelectLemmas.{whole_equal, apart_from_pairs, pairs_from_apart}
+use Rattle.club_tables.proofs.statements.SelectLemmas.{whole_equal, apart_from_pairs, pairs_from_apart, selected_in_order, none_less, apart-permutation}
 use Rattle.club_tables.proofs.crashes.RepresentsLemmas.{Asks, Shows, asked_tables, asked_reads, bookings_held}
-use Rattle.club_tables.proofs.statements.OrderLemmas.{selected_in_order, none_less, apart-permutation}
 use Rattle.club_tables.proofs.queries.KeyLemmas.{booking_terms, booking_names, is_uncancelled, no_truth}
 
 -- ---- the order of the sheet

@@ -206,7 +206,8 @@ pub booking_shown : {S : Type 0} (g : Ghosts S) (old : Held S) (key : List ℕ) 
 unfolding understood everything
 booking_shown g old key number rows clean asked club others represents =
     let tables = asked_tables asked clean club others represents in
-    let asks : Asks club_schema BOOKING.now (select (inner bookings_tree end) (is_given 1 0 ∷ is_given 2 1 ∷ []) booking_terms) booking_names = record { is = refl; plain = (refl, refl); unlisted = refl } in
+    let asks : Asks club_schema BOOKING.now (select (inner bookings_tree end) (is_given 1 0 ∷ is_given 2 1 ∷ []) booking_terms) booking_names =
+    record { is = refl; plain = (refl, refl); unlisted = refl } in
     let p = is_numbered key number in
     let same = asked_shows asked asks tables booking_values p booking_values (λ id b.
     both_tests _ _ _ _ (text_equal b.key key) (whole_equal b.number number)) (λ id b. refl) club.bookings (bookings_held _ club tables) in

@@ -1,16 +1,15 @@
 -- What a statement leaves that puts a row by its key: an INSERT with ON CONFLICT DO UPDATE.
-use Rattle.std.proofs.Common.{◌≡◌, ◌≤◌, inl, inr, ℕ, ◌/◌, ℤ, Bool, true, false, None, Some, Option, Ok, List, [], ◌∷◌, ◌++◌, length, map, slice_get}
-use Rattle.std.proofs.Common.{refl, sym, ap, subst, ◌∙◌, append-nil, arith}
+use Rattle.std.proofs.Common.{◌≡◌, ◌≤◌, inl, inr, ℕ, ◌/◌, ℤ, Bool, true, false, None, Some, Option, Ok, List, [], ◌∷◌, ◌++◌, length, map, slice_get, refl, sym}
+use Rattle.std.proofs.Common.{ap, subst, ◌∙◌, append-nil, arith, not, ◌==◌}
 use Rattle.std.specs.Prelude.{filter, IsPermutation}
-use Rattle.std.specs.Ordering.{is_eq}
+use Rattle.std.specs.Ordering.{is_eq, ordering_reverse}
 use Rattle.std.proofs.lemmas.Cmp.{tied_itself}
 use Rattle.std.proofs.lemmas.List.Elements.{filter_agree}
 use Rattle.sqlite_value.proofs.OrderLemmas.{value_cmp_total}
-use Rattle.sqlite.specs.Tree.{has_rowid, IsTable}
+use Rattle.sqlite.specs.Tree.{has_rowid, IsTable, Trees, put_row, rowid}
 use Rattle.sqlite_trees.proofs.ListLemmas.{filter-map, all_from_map}
 use Rattle.sqlite_rules.proofs.ListLemmas.{all_has, has_kept, has_filtered}
-use Rattle.sqlite.proofs.Callers.{one_permutation}
-use Rattle.std.proofs.Common.{not, ◌==◌}
+use Rattle.sqlite.proofs.Callers.{one_permutation, IsPlain, command_of}
 use Rattle.std.proofs.lemmas.List.{length-map}
 use Rattle.std.specs.List.{AllByRecursion, list_any}
 use Rattle.std.proofs.Math.Bool.{and-true}
@@ -18,8 +17,7 @@ use Rattle.sqlite_value.specs.declared.value.Value.TheVariants.{Null, Int}
 use Rattle.sqlite_value.specs.declared.keys.Collation.TheVariants.{Binary}
 use Rattle.sqlite_sql.specs.declared.ops.BinaryOp.TheVariants.{Compare}
 use Rattle.sqlite_sql.specs.declared.ops.CompareOp.TheVariants.{Eq}
-use Rattle.sqlite.specs.Order.{Row, column}
-use Rattle.sqlite.specs.Tree.{Trees, put_row, rowid}
+use Rattle.sqlite.specs.Order.{Row, column, value_cmp}
 use Rattle.sqlite.specs.Term.{Term, col, op2, eval_all}
 use Rattle.sqlite.specs.Query.{inner, end}
 use Rattle.sqlite.specs.Source.TheVariants.{Values}
@@ -41,18 +39,33 @@ use Rattle.sqlite.specs.Rows.{Written, Task, nothing, shown, count_of, Upserts, 
 use Rattle.sqlite.specs.Effect.{value_rows}
 use Rattle.sqlite.specs.State.{State, Executes}
 use Rattle.sqlite.specs.Listing.{understood}
-use Rattle.sqlite.proofs.Callers.{IsPlain, command_of}
 use Rattle.club_tables.specs.Schema.{table_of, club_schema}
 use Rattle.club_tables.specs.Statements.{select}
 use Rattle.club_tables.specs.Tables.{Holds}
 use Rattle.club_tables.proofs.lists.RowLemmas.{holds_more}
 use Rattle.club_tables.proofs.statements.InsertLemmas.{Leaves, task_of, went, same_value, wrote_rows, edited_alone}
 use Rattle.club_tables.proofs.statements.MeansLemmas.{Means, Wrote}
-use Rattle.club_tables.proofs.statements.UpdateLemmas.{Updates, updated, no_works}
+use Rattle.club_tables.proofs.statements.UpdateLemmas.{Updates, updated, no_works, replaced, Below}
 use Rattle.club_tables.proofs.statements.PassLemmas.{any_filtered_is}
-use Rattle.club_tables.proofs.statements.SelectLemmas.{Apart, one_passes, test, shows, answered, row_of, paired}
-use Rattle.club_tables.proofs.statements.ReplaceLemmas.{replaced}
-use Rattle.club_tables.proofs.lists.PutRows.{IsLone, put_among, id_equal, one_at}
+use Rattle.club_tables.proofs.statements.SelectLemmas.{Apart, one_passes, test, shows, answered, row_of, paired, only, from_truth_is}
+use Rattle.club_tables.proofs.lists.PutRows.{IsLone, put_among}
+use Rattle.std.specs.Cmp.{Equal-is}
+use Rattle.sqlite_sql.specs.Ops.{binary, is_true}
+use Rattle.sqlite_rules.specs.Lists.{Has}
+
+-- `=` of two rowids
+pub id_equal : (a b : ℤ) → is_true (binary (Compare Eq Binary) (Int a) (Int b)) ≡ is_eq (value_cmp (Int a) (Int b))
+unfolding binary
+id_equal a b = from_truth_is _
+
+-- a rowid is that of no other row
+pub one_at : (id : ℤ) (rows : List Row) (row : Row) → IsTable rows → Has rows row → has_rowid id row ≡ true → filter (has_rowid id) rows ≡ row ∷ []
+one_at id rows row rising has is =
+    only (filter (has_rowid id) rows) row (one_passes Below (has_rowid id) rows (λ r s p q less.
+    let tied = value_cmp_total.congr (rowid r) (Int id) (rowid s) ((Equal-is _).0 p) in
+    let turned = value_cmp_total.antisymm (Int id) (rowid s) in
+    let other = ap ordering_reverse ((Equal-is (value_cmp (rowid s) (Int id))).0 q) in
+    absurd cc) rising) (has_kept (has_rowid id) rows row has is)
 
 -- the row whose rowid is a parameter
 abbrev pub is_there : ℕ → Term

@@ -8,8 +8,7 @@ use Rattle.club_core.specs.Sums.{booking_under}
 use Rattle.club_tables.specs.Answers.{Answers, OfBooking, IsFirst, IsBookingNamed, reading_statement}
 use Rattle.club_tables.specs.ReadsAndChanges.{ReadsClub}
 use Rattle.club_tables.specs.Transaction.{IsKept}
-use Rattle.club_tables.proofs.lists.FirstLemmas.{first_held, unnamed}
-use Rattle.club_tables.proofs.lists.BookingRows.{one_booking}
+use Rattle.club_tables.proofs.lists.BookingRows.{first_held, unnamed, one_booking}
 use Rattle.club_tables.specs.Columns.{booking_values}
 use Rattle.club_tables.proofs.queries.ReadLemmas.{read_answer, fewer_read}
 use Rattle.club_tables.proofs.queries.KeyLemmas.{booking_shown}

@@ -2,7 +2,7 @@ use Rattle.club_tables.specs.Answers.{OfMember}
 use Rattle.std.specs.Prelude.{option_map}
 use Rattle.club_core.specs.Club.{member_named}
 use Rattle.club_tables.specs.Stored.{member_row}
-use Rattle.club_tables.proofs.lists.FirstLemmas.{first_held, one_member}
+use Rattle.club_tables.proofs.lists.BookingRows.{first_held, one_member}
 use Rattle.club_tables.specs.Columns.{member_values}
 use Rattle.club_tables.proofs.queries.KeyLemmas.{member_shown}
 use Rattle.club_tables.proofs.queries.ReadLemmas.{read_answer}
