@@ -223,7 +223,7 @@ module _ {X : Type 0} (R : X → X → Type 0) (symmetric : (x y : X) → R x y 
   pub apart-permutation : (xs ys : List X) → IsPermutation xs ys → Apart R xs → Apart R ys
   apart-permutation xs ys same = (stays xs ys same).1
 
--- ---- a query of one table
+-- ---- a query of one table with ORDER BY
 
 -- the rows are those of the elements, in some order that is sorted
 pub record InOrder {X : Type 0} (show : X → Row) (cmp : X → X → Ordering) (xs : List X) (rows : List Row) : Type 0 where

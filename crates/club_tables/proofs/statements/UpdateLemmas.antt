@@ -126,27 +126,6 @@ module _ {X : Type 0} (values : X → Row) (p : X → Bool) (change : X → X) (
   hits_of hit wide [] h = tt
   hits_of hit wide (q ∷ ps) h = (h.0, hits_of hit wide ps h.1)
 
-  -- an UPDATE of the rows of the same elements, one at most
-  pub replaced_by : (hit : Row → Bool) (wide : X → Bool) (shown : Row → Row) (table : Table) (db : Database) (xs : List X) (rows : List Row)
-      → AllByRecursion (λ x. wide x ≡ p x) xs → (Q : X → Type 0) → AllByRecursion Q xs
-      → ((id : ℤ) (x : X) → Q x → p x ≡ true → shown (Int id ∷ values x) ≡ Int id ∷ Int id ∷ values (change x))
-      → ((id : ℤ) (x : X) → cast_row table (Int id ∷ values x) ≡ Int id ∷ values x)
-      → AllZip (λ row x. hit row ≡ wide x) (db.trees table.tree) xs
-      → Holds values (db.trees table.tree) xs → length (filter p xs) ≤ 1
-      → IsPermutation (map shown (filter hit (db.trees table.tree))) rows
-      → Holds values (edited db.trees (edit_of db.trees table (ids_of rows) Given 1 rows)) (map change xs)
-  replaced_by hit wide shown table db xs rows agreed Q all sets casts hits held low same =
-      let it = paired values (db.trees table.tree) xs held.same in
-      let ps = it.pairs in
-      let each = λ (P : X → Type 0) (h : AllByRecursion P xs). all_from_map P (λ (q : ℤ × X). q.1) ps (subst (AllByRecursion P) it.xs_are h) in
-      let agree = all_both (λ q. hit (row_of values q) ≡ wide q.1) (λ q. wide q.1 ≡ p q.1) (λ q. hit (row_of values q) ≡ p q.1) (λ q h k. h ∙ k) ps
-      (hits_of hit wide ps (subst₂ (AllZip (λ row x. hit row ≡ wide x)) it.rows_are it.xs_are hits)) (each (λ x. wide x ≡ p x) agreed) in
-      let found = ap (filter hit) it.rows_are ∙ filter-map hit (row_of values) ps ∙ ap (map (row_of values)) (filter_same _ passes ps agree) in
-      let few = ap length (ap (filter p) it.xs_are ∙ filter-map p (λ (q : ℤ × X). q.1) ps) ∙ length-map (filter passes ps) (λ q. q.1) in
-      subst (λ ys. Holds values (edited db.trees (edit_of db.trees table (ids_of rows) Given 1 rows)) (map change ys)) (sym it.xs_are)
-      (replaced_if_any table db rows ps it.rows_are (subst IsTable it.rows_are held.rising) shown Q (each Q all) sets casts (filter passes ps) refl
-      (subst (λ n. n ≤ 1) few low) (subst (λ rs. IsPermutation (map shown rs) rows) found same))
-
 -- no reference of the club acts on other rows
 pub no_works : (tree : ℕ) (olds news : List Row) → works club_schema Enforced 0 tree olds news ≡ []
 no_works tree olds news =
@@ -235,6 +214,15 @@ module _ {X : Type 0} {values : X → Row} {p : X → Bool} {xs : List X} {shown
       → ((id : ℤ) (x : X) → cast_row table (Int id ∷ values x) ≡ Int id ∷ values x) → length (filter q xs) ≤ 1
       → Holds values (new.now.trees table.tree) (map change xs)
   changes_one q agreed change kept Q all sets casts low =
-      subst (λ rs. Holds values rs (map change xs)) (sym it.left)
-      (replaced_by values q change kept it.hit p shown table (record { schema = club_schema; trees = old.now.trees }) xs it.rows agreed Q all sets casts
-      it.hits it.held low it.answer)
+      let with_ids = paired values (old.now.trees table.tree) xs it.held.same in
+      let ps = with_ids.pairs in
+      let each = λ (P : X → Type 0) (h : AllByRecursion P xs). all_from_map P (λ (r : ℤ × X). r.1) ps (subst (AllByRecursion P) with_ids.xs_are h) in
+      let same = all_both (λ r. it.hit (row_of values r) ≡ p r.1) (λ r. p r.1 ≡ q r.1) (λ r. it.hit (row_of values r) ≡ q r.1) (λ r h k. h ∙ k) ps
+      (hits_of values q change kept it.hit p ps (subst₂ (AllZip (λ row x. it.hit row ≡ p x)) with_ids.rows_are with_ids.xs_are it.hits))
+      (each (λ x. p x ≡ q x) agreed) in
+      let found = ap (filter it.hit) with_ids.rows_are ∙ filter-map it.hit (row_of values) ps ∙ ap (map (row_of values)) (filter_same _ (λ r. q r.1) ps same) in
+      let few = ap length (ap (filter q) with_ids.xs_are ∙ filter-map q (λ (r : ℤ × X). r.1) ps) ∙ length-map (filter (λ r. q r.1) ps) (λ r. r.1) in
+      subst₂ (λ rs ys. Holds values rs (map change ys)) (sym it.left) (sym with_ids.xs_are)
+      (replaced_if_any values q change kept table (record { schema = club_schema; trees = old.now.trees }) it.rows ps with_ids.rows_are
+      (subst IsTable with_ids.rows_are it.held.rising) shown Q (each Q all) sets casts (filter (λ r. q r.1) ps) refl
+      (subst (λ n. n ≤ 1) few low) (subst (λ rs. IsPermutation (map shown rs) it.rows) found it.answer))
