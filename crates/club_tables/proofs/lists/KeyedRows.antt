@@ -7,8 +7,7 @@ use Rattle.std.specs.List.{list_any}
 use Rattle.std.proofs.lemmas.Bool.{false_from_ne_true, or_parts}
 use Rattle.std.proofs.lemmas.List.Folds.{find-append, list_any_at}
 use Rattle.std.specs.Str.{bytes_eq}
-use Rattle.std.specs.Cmp.{unsigned_Decides}
-use Rattle.std.proofs.lemmas.Slice.Eq.{bytes_eq-Decides}
+use Rattle.std.proofs.lemmas.Cmp.{nat_list_eq_equiv, nat_eq_equiv}
 use Rattle.std.proofs.Math.Bool.{or-false}
 use Rattle.std.proofs.lemmas.List.Quantifiers.{all_pairs_push}
 use Rattle.sqlite_value.specs.declared.value.Value.{Value}
@@ -120,11 +119,7 @@ slots_conflict id id' a b v w =
     (or-false _ ∙ three (bytes_eq a.slot.facility b.facility) (a.slot.day == b.day) (a.slot.hour == b.hour))
 
 pub same_itself : (slot : Slot) → same_slot slot slot ≡ true
-same_itself slot =
-    let name = (bytes_eq-Decides slot.facility slot.facility).1 refl in
-    let day = (unsigned_Decides slot.day slot.day).1 refl in
-    let hour = (unsigned_Decides slot.hour slot.hour).1 refl in
-    rw (name, day, hour) refl
+same_itself slot = rw (nat_list_eq_equiv.refl slot.facility, nat_eq_equiv.refl slot.day, nat_eq_equiv.refl slot.hour) refl
 
 pub not_same : (a b : Slot) → a ≢ b → same_slot a b ≡ false
 not_same a b apart = false_from_ne_true (same_slot a b) (λ same. apart (same_slots a b same))

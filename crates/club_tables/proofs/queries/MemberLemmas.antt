@@ -42,7 +42,7 @@ use Rattle.club_tables.specs.Columns.{whole, key_values, booking_values}
 use Rattle.club_tables.specs.Tables.{keys_tree, bookings_tree}
 use Rattle.club_tables.specs.Statements.{select, is_given}
 use Rattle.club_tables.proofs.statements.SelectLemmas.{apart_from_pairs, from_truth_is, text_equal, whole_equal, filter_same}
-use Rattle.club_tables.proofs.statements.JoinLemmas.{filter_filter, IsElsewhere, pairs_of, selected_both}
+use Rattle.club_tables.proofs.statements.JoinLemmas.{filter_filter, IsElsewhere, pairs_counted, selected_both}
 use Rattle.club_tables.proofs.crashes.RepresentsLemmas.{Asks, Shows, asked_tables, asked_reads, keys_held, bookings_held}
 use Rattle.club_tables.proofs.queries.KeyLemmas.{no_truth}
 use Rattle.sqlite_trees.proofs.ListLemmas.{map-flat_map}
@@ -138,9 +138,9 @@ owned_count member test show club rows unique h =
     let each = filter_agree _ (λ booking. among booking && test booking) (λ booking.
     any_owned (λ key. bytes_eq key.name booking.key) (λ key. bytes_eq key.member member) (test booking) club.keys) club.bookings in
     length_permutation _ rows h ∙ ap length (sym (map-flat_map show pairs club.keys)) ∙ length-map (flat_map pairs club.keys) show
-    ∙ length_permutation _ _ (pairs_of (is_owned member test) club.keys club.bookings
+    ∙ pairs_counted (is_owned member test) club.keys club.bookings
     (apart_from_pairs (IsElsewhere (is_owned member test)) club.keys (λ i j d less low.
-    other_key member test (slice_index_or club.keys i d) (slice_index_or club.keys j d) (unique i j d less low))))
+    other_key member test (slice_index_or club.keys i d) (slice_index_or club.keys j d) (unique i j d less low)))
     ∙ ap length (each ∙ sym (filter_filter test among club.bookings))
 
 -- ---- the statements

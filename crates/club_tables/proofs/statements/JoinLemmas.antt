@@ -1,10 +1,8 @@
 -- What a query over two tables gives: both joined, or one with EXISTS over the other.
-use Rattle.std.proofs.Common.{◌≡◌, ℕ, ℤ, Bool, true, false, cond, ◌||◌, ◌&&◌, List, [], ◌∷◌, ◌++◌, map, refl, ap, subst, ◌∙◌, ◌≤◌, pos, min, length}
+use Rattle.std.proofs.Common.{◌≡◌, ℕ, ℤ, Bool, true, false, cond, ◌||◌, ◌&&◌, List, [], ◌∷◌, map, refl, ap, subst, ◌∙◌, ◌≤◌, pos, min, length}
 use Rattle.std.proofs.Common.{arith}
 use Rattle.std.specs.Prelude.{filter, flat_map, IsPermutation}
-use Rattle.std.specs.List.{AllByRecursion, AllZip, list_all, list_any}
-use Rattle.std.proofs.lemmas.List.Sorted.{IsPermutation-refl, IsPermutation-trans}
-use Rattle.std.proofs.lemmas.List.Sorted.{IsPermutation-append_right}
+use Rattle.std.specs.List.{AllByRecursion, list_all, list_any}
 use Rattle.std.proofs.lemmas.List.{length-map}
 use Rattle.sqlite_value.specs.declared.value.Value.TheVariants.{Int}
 use Rattle.sqlite.specs.Order.{Row}
@@ -14,11 +12,11 @@ use Rattle.sqlite.specs.Command.TheVariants.{Select}
 use Rattle.sqlite.specs.Effect.{Database, Reads, Answers}
 use Rattle.sqlite_trees.proofs.ListLemmas.{map-map, map-flat_map, flat_map-map, flat_map_same_on, filter-filter}
 use Rattle.std.proofs.lemmas.List.Elements.{filter_agree}
-use Rattle.std.proofs.lemmas.List.Sorted.{IsPermutation-filter_both}
 use Rattle.std.proofs.Math.Bool.{and-true}
-use Rattle.std.proofs.Common.{not, sym, subst₂}
+use Rattle.std.proofs.Common.{not, sym, ◌+◌, length-append}
+use Rattle.std.proofs.lemmas.List.Filters.{length-filter_both}
 use Rattle.sqlite_sql.specs.Ops.{is_true}
-use Rattle.club_tables.specs.Tables.{IsRowOf, Holds}
+use Rattle.club_tables.specs.Tables.{Holds}
 use Rattle.club_tables.specs.Statements.{select}
 use Rattle.club_tables.proofs.statements.SelectLemmas.{Apart, pick_by_if, plain_answer, picked, none_of, shown_of, row_of, paired as with_rowids}
 use Rattle.club_tables.proofs.statements.PassLemmas.{as_many, each_row}
@@ -36,15 +34,15 @@ only_second true b apart = sym (apart refl)
 only_second false b apart = and-true b
 
 -- what passes one of two tests, if nothing passes both
-in_two : {X : Type 0} (p s : X → Bool) → ((x : X) → p x ≡ true → s x ≡ false) → (xs : List X)
-    → IsPermutation (filter (λ x. p x || s x) xs) (filter p xs ++ filter s xs)
-in_two {X} p s apart xs =
+either_counts : {X : Type 0} (p s : X → Bool) → ((x : X) → p x ≡ true → s x ≡ false) → (xs : List X)
+    → length (filter (λ x. p x || s x) xs) ≡ length (filter p xs) + length (filter s xs)
+either_counts {X} p s apart xs =
     let either = λ (x : X). p x || s x in
-    subst₂ (λ front back. IsPermutation (filter either xs) (front ++ back)) (filter-filter p either (λ x h. rw h refl) xs)
-    (filter_filter (λ x. not (p x)) either xs ∙ filter_agree _ s (λ x. only_second (p x) (s x) (apart x)) xs)
-    (IsPermutation-filter_both p (λ x. not (p x)) (λ x. refl) (filter either xs))
+    let rest = filter_filter (λ x. not (p x)) either xs ∙ filter_agree _ s (λ x. only_second (p x) (s x) (apart x)) xs in
+    let first = filter-filter p either (λ x h. rw h refl) xs in
+    omega (arith, length-filter_both p (λ x. not (p x)) (λ x. refl) (filter either xs), ap length first, ap length rest)
 
--- if no two of the xs are paired with one y, the ys that are paired are those of the pairs
+-- if no two of the xs are paired with one y, there are as many pairs as ys that are paired
 module _ {X Y : Type 0} (paired : X → Y → Bool) where
   abbrev pub IsElsewhere : X → X → Type 0
   IsElsewhere a b = (y : Y) → paired a y ≡ true → paired b y ≡ false
@@ -53,15 +51,12 @@ module _ {X Y : Type 0} (paired : X → Y → Bool) where
   none_else x y h [] apart = refl
   none_else x y h (other ∷ xs) apart = let here = apart.0 y h in rw here (none_else x y h xs apart.1)
 
-  pub pairs_of : (xs : List X) (ys : List Y) → Apart IsElsewhere xs → IsPermutation (filter (λ y. list_any (λ x. paired x y) xs) ys)
-      (flat_map (λ x. filter (paired x) ys) xs)
-  pairs_of [] ys apart = rw (none_of ys) (IsPermutation-refl [])
-  pairs_of (x ∷ xs) ys apart =
-      let others = λ (y : Y). list_any (λ other. paired other y) xs in
-      IsPermutation-trans (filter (λ y. list_any (λ other. paired other y) (x ∷ xs)) ys) (filter (paired x) ys
-      ++ filter others ys) (flat_map (λ other. filter (paired other) ys) (x ∷ xs))
-      (in_two (paired x) others (λ y h. none_else x y h xs apart.0) ys)
-      (IsPermutation-append_right (filter (paired x) ys) (filter others ys) (flat_map (λ other. filter (paired other) ys) xs) (pairs_of xs ys apart.1))
+  pub pairs_counted : (xs : List X) (ys : List Y) → Apart IsElsewhere xs
+      → length (flat_map (λ x. filter (paired x) ys) xs) ≡ length (filter (λ y. list_any (λ x. paired x y) xs) ys)
+  pairs_counted [] ys apart = ap length (sym (none_of ys))
+  pairs_counted (x ∷ xs) ys apart =
+      let either = either_counts (paired x) (λ y. list_any (λ other. paired other y) xs) (λ y h. none_else x y h xs apart.0) ys in
+      omega (arith, length-append (filter (paired x) ys) (flat_map (λ other. filter (paired other) ys) xs), either, pairs_counted xs ys apart.1)
 
 -- ---- a query of two tables
 
@@ -93,27 +88,20 @@ module _ (params : Row) (tests : List Term) (project : List Term) where
 module _ {X Y : Type 0} (outer_values : X → Row) (values : Y → Row) (params : Row) (tests : List Term) (project : List Term) (p : X → Y → Bool) (show : Y → Row)
     (tested : (i j : ℤ) (x : X) (y : Y) → list_all (holds (params ∷ (Int i ∷ outer_values x) ∷ (Int j ∷ values y) ∷ [])) tests ≡ p x y)
     (shown : (i j : ℤ) (x : X) (y : Y) → eval_all project (params ∷ (Int i ∷ outer_values x) ∷ (Int j ∷ values y) ∷ []) ≡ show y) where
-  picked_both : (inside : List Row) (ys : List Y) → AllZip (λ row y. IsRowOf (values y) row) inside ys → (outer : List Row) (xs : List X)
-      → AllZip (λ row x. IsRowOf (outer_values x) row) outer xs
-      → flat_map (λ a. map (shows_both params tests project a) (filter (joins params tests project a) inside)) outer
-      ≡ flat_map (λ x. map show (filter (p x) ys)) xs
-  picked_both inside ys same outer xs h =
-      let it = with_rowids outer_values outer xs h in
-      let shows_of = λ (a : Row). map (shows_both params tests project a) (filter (joins params tests project a) inside) in
-      let show_of = λ (x : X). map show (filter (p x) ys) in
-      ap (flat_map shows_of) it.rows_are ∙ flat_map-map shows_of (row_of outer_values) it.pairs
-      ∙ flat_map_same_on (λ q. shows_of (row_of outer_values q)) (λ q. show_of q.1) (λ q.
-      picked values (p q.1) show _ _ (λ id y. tested q.0 id q.1 y) (λ id y. shown q.0 id q.1 y) inside ys same) it.pairs
-      ∙ sym (ap (flat_map show_of) it.xs_are ∙ flat_map-map show_of (λ q. q.1) it.pairs)
-
   -- the answer has what is shown of each pair of elements that passes, in some order
   pub selected_both : (outer inside : ℕ) (names : List (List ℕ)) (db : Database) (xs : List X) (ys : List Y) (rows : List Row)
       → Holds outer_values (db.trees outer) xs → Holds values (db.trees inside) ys
       → Reads (Select (record { lets = []; body = select (inner outer (inner inside end)) tests project }) names) db params rows
       → IsPermutation (flat_map (λ x. map show (filter (p x) ys)) xs) rows
   selected_both outer inside names db xs ys rows held_outer held h =
-      subst (λ zs. IsPermutation zs rows) (picked_both (db.trees inside) ys held.same (db.trees outer) xs held_outer.same)
-      (answered_both params tests project outer inside db rows h)
+      let it = with_rowids outer_values (db.trees outer) xs held_outer.same in
+      let shows_of = λ (a : Row). map (shows_both params tests project a) (filter (joins params tests project a) (db.trees inside)) in
+      let show_of = λ (x : X). map show (filter (p x) ys) in
+      let all = ap (flat_map shows_of) it.rows_are ∙ flat_map-map shows_of (row_of outer_values) it.pairs
+      ∙ flat_map_same_on (λ q. shows_of (row_of outer_values q)) (λ q. show_of q.1) (λ q.
+      picked values (p q.1) show _ _ (λ id y. tested q.0 id q.1 y) (λ id y. shown q.0 id q.1 y) (db.trees inside) ys held.same) it.pairs
+      ∙ sym (ap (flat_map show_of) it.xs_are ∙ flat_map-map show_of (λ q. q.1) it.pairs) in
+      subst (λ zs. IsPermutation zs rows) all (answered_both params tests project outer inside db rows h)
 
 -- ---- EXISTS over the other
 
