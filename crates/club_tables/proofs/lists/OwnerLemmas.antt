@@ -37,9 +37,6 @@ not_among f xs y apart has = all_has (λ z. z ≢ y) (map f xs) y (all-map (λ z
 pub unequal : (a b : List ℕ) → a ≢ b → bytes_eq a b ≡ false
 unequal a b apart = false_from_ne_true (bytes_eq a b) (λ h. apart ((bytes_eq-Decides a b).0 h))
 
-pub bytes_eq-sym : (a b : List ℕ) → bytes_eq a b ≡ bytes_eq b a
-bytes_eq-sym = nat_list_eq_equiv.symm
-
 -- ---- sums
 
 sum_picked : {X : Type 0} (w : X → ℕ) (q : X → Bool) (xs : List X) → sum_by w (filter q xs) ≡ sum_by (λ x. cond (q x) (w x) 0) xs
@@ -95,4 +92,4 @@ owner_is club sound key member name owned =
     one_listed names club.keys (one_named (λ (k : Key). k.name) key club.keys sound.unique.keys) ∙ ap option_to_list owned.1 in
     any_filtered names owns club.keys ∙ ap (λ test. list_any test club.keys) (λ i k. and_comm (owns k) (names k) i)
     ∙ sym (any_filtered owns names club.keys) ∙ ap (list_any owns) one ∙ or-false (owns row)
-    ∙ ap (λ m. bytes_eq m name) owned.2 ∙ bytes_eq-sym member name
+    ∙ ap (λ m. bytes_eq m name) owned.2 ∙ nat_list_eq_equiv.symm member name

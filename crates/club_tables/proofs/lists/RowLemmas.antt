@@ -17,9 +17,6 @@ use Rattle.club_tables.specs.Tables.{IsRowOf, Holds}
 abbrev pub IsKeyed : Row → Type 0
 IsKeyed row = (id : ℤ) × (rowid row ≡ Int id)
 
-pub next_is_more : (id : ℤ) → int_cmp id (id +ℤ pos 1) ≡ Less
-next_is_more id = sym (int_cmp_is id (id +ℤ pos 1) Less (omega (arith, ints)))
-
 pub keyed_of : {X : Type 0} (values : X → Row) (rows : List Row) (xs : List X) → AllZip (λ row x. IsRowOf (values x) row) rows xs → AllByRecursion IsKeyed rows
 keyed_of values [] [] h = tt
 keyed_of values [] (x ∷ xs) h = absurd h
@@ -30,7 +27,7 @@ abbrev after : ℤ → List Row → ℤ
 after = fold (λ _ r. id_in (rowid r) +ℤ pos 1)
 
 one_below : (r : Row) → IsKeyed r → value_cmp (rowid r) (Int (id_in (rowid r) +ℤ pos 1)) ≡ Less
-one_below r h = rw h.1 (value_cmp-Int h.0 (h.0 +ℤ pos 1) ∙ next_is_more h.0)
+one_below r h = rw h.1 (value_cmp-Int h.0 (h.0 +ℤ pos 1) ∙ sym (int_cmp_is h.0 (h.0 +ℤ pos 1) Less (omega (arith, ints))))
 
 -- each rowid is below the next one
 all_below : (z : ℤ) (rows : List Row) → IsTable rows → AllByRecursion IsKeyed rows → AllByRecursion (λ r. value_cmp (rowid r) (Int (after z rows)) ≡ Less) rows
@@ -44,11 +41,6 @@ put_above : (new : Row) (rows : List Row) → AllByRecursion (λ r. value_cmp (r
 put_above new [] h = refl
 put_above new (r ∷ rows) h = rw (h.0, put_above new rows h.1)
 
--- a row at the next rowid comes last
-pub put_last : (values : Row) (rows : List Row) → IsTable rows → AllByRecursion IsKeyed rows
-    → put_row (Int (next_rowid rows) ∷ values) rows ≡ rows ++ (Int (next_rowid rows) ∷ values) ∷ []
-put_last values rows table keyed = put_above (Int (next_rowid rows) ∷ values) rows (all_below (pos 1) rows table keyed)
-
 pub zip_more : {X : Type 0} (R : Row → X → Type 0) (rows : List Row) (xs : List X) (row : Row) (x : X) → AllZip R rows xs → R row x
     → AllZip R (rows ++ row ∷ []) (xs ++ x ∷ [])
 zip_more R [] [] row x h one = (one, tt)
@@ -56,14 +48,14 @@ zip_more R [] (y ∷ xs) row x h one = absurd h
 zip_more R (r ∷ rows) [] row x h one = absurd h
 zip_more R (r ∷ rows) (y ∷ xs) row x h one = (h.0, zip_more R rows xs row x h.1 one)
 
--- an inserted row
+-- an inserted row, at the next rowid, comes last
 pub holds_more : {X : Type 0} (values : X → Row) (rows : List Row) (xs : List X) (x : X) → Holds values rows xs
     → Holds values (put_row (Int (next_rowid rows) ∷ values x) rows) (xs ++ x ∷ [])
 holds_more values rows xs x held =
     let new = Int (next_rowid rows) ∷ values x in
     record {
       rising = IsTable-put_row new rows held.rising;
-      same = rw (put_last (values x) rows held.rising (keyed_of values rows xs held.same))
+      same = rw (put_above new rows (all_below (pos 1) rows held.rising (keyed_of values rows xs held.same)))
           (zip_more (λ row y. IsRowOf (values y) row) rows xs new x held.same (next_rowid rows, refl));
     }
 

@@ -46,12 +46,6 @@ find_some {X} p xs some = go (filter p xs) (find_first p xs) some
     go [] is some = absurd (omega arith)
     go (y ∷ ys) is some = (y, is)
 
--- as many rows are written
-pub as_many_written : {X : Type 0} (hit : Row → Bool) (shown : Row → Row) (p : X → Bool) (before rows : List Row) (xs : List X)
-    → AllZip (λ row x. hit row ≡ p x) before xs → IsPermutation (map shown (filter hit before)) rows → length rows ≡ length (filter p xs)
-as_many_written hit shown p before rows xs same permuted =
-    length_permutation (map shown (filter hit before)) rows permuted ∙ length-map (filter hit before) shown ∙ as_many hit p before xs same
-
 pub any_filtered_is : {X : Type 0} (p : X → Bool) (xs : List X) → list_any p xs ≡ not (length (filter p xs) == 0)
 any_filtered_is p [] = refl
 any_filtered_is p (x ∷ xs) = elim (p x) as (λ b. (b || list_any p xs) ≡ not (length (cond b (x ∷ filter p xs) (filter p xs)) == 0))

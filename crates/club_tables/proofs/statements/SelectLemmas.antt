@@ -212,16 +212,13 @@ module _ {X : Type 0} (R : X → X → Type 0) (symmetric : (x y : X) → R x y 
   abbrev Stays : List X → List X → Type 0
   Stays xs ys = IsPermutation xs ys × (Apart R xs → Apart R ys)
 
-  stays : (xs ys : List X) → IsPermutation xs ys → Stays xs ys
-  stays = along_permutation Stays
+  -- elements that are apart stay so in another order
+  pub apart-permutation : (xs ys : List X) → IsPermutation xs ys → Apart R xs → Apart R ys
+  apart-permutation xs ys same = (along_permutation Stays
       (λ xs. (IsPermutation-refl xs, λ apart. apart))
       (λ x xs ys h. (IsPermutation-cons x xs ys h.0, λ apart. (all-permutation (R x) xs ys h.0 apart.0, h.1 apart.1)))
       (λ x y xs. (IsPermutation-middle (x ∷ []) y xs, λ apart. ((symmetric x y apart.0.0, apart.1.0), (apart.0.1, apart.1.1))))
-      (λ xs ys zs h k. (IsPermutation-trans xs ys zs h.0 k.0, λ apart. k.1 (h.1 apart)))
-
-  -- elements that are apart stay so in another order
-  pub apart-permutation : (xs ys : List X) → IsPermutation xs ys → Apart R xs → Apart R ys
-  apart-permutation xs ys same = (stays xs ys same).1
+      (λ xs ys zs h k. (IsPermutation-trans xs ys zs h.0 k.0, λ apart. k.1 (h.1 apart))) xs ys same).1
 
 -- ---- a query of one table with ORDER BY
 

@@ -3,6 +3,7 @@ use Rattle.std.proofs.Common.{◌≡◌, ◌≤◌, ℕ, ℤ, ◌==◌, Bool, tr
 use Rattle.std.proofs.Common.{cond, subst₂, inl, Less, Greater}
 use Rattle.std.specs.Prelude.{flat_map, filter, find, drop, IsPermutation}
 use Rattle.std.proofs.lemmas.List.{length-map}
+use Rattle.std.proofs.lemmas.List.Sorted.{length_permutation}
 use Rattle.sqlite.specs.Cast.{cast_row}
 use Rattle.sqlite_rules.proofs.RowLemmas.{length-numbered}
 use Rattle.std.specs.List.{AllByRecursion, AllZip, filter_map}
@@ -28,7 +29,7 @@ use Rattle.club_tables.specs.Statements.{select}
 use Rattle.club_tables.specs.Tables.{Holds, IsRowOf}
 use Rattle.club_tables.proofs.statements.InsertLemmas.{Leaves, task_of, went, same_value, wrote_rows, edited_alone}
 use Rattle.club_tables.proofs.statements.MeansLemmas.{Means, Wrote}
-use Rattle.club_tables.proofs.statements.PassLemmas.{each_row, as_many_written, find_some}
+use Rattle.club_tables.proofs.statements.PassLemmas.{each_row, as_many, find_some}
 use Rattle.club_tables.proofs.statements.SelectLemmas.{answered, shows, test, row_of, paired, short_permutation}
 use Rattle.std.proofs.Math.Path.{ap₂}
 use Rattle.std.specs.Ordering.{is_eq, ordering_reverse}
@@ -198,7 +199,8 @@ finds values p xs {table = table} {tests = tests} {project = project} {old = old
 module _ {X : Type 0} {values : X → Row} {p : X → Bool} {xs : List X} {shown : Row → Row} {old new : State} {table : Table} {count : ℕ}
     (it : Finds values p xs shown old new table count) where
   written : length it.rows ≡ length (filter p xs)
-  written = as_many_written it.hit shown p (old.now.trees table.tree) it.rows xs it.hits it.answer
+  written = length_permutation _ it.rows it.answer ∙ length-map (filter it.hit (old.now.trees table.tree)) shown
+      ∙ as_many it.hit p (old.now.trees table.tree) xs it.hits
 
   -- if a row is written, an element passes
   pub passes_one : 1 ≤ count → (x : X) × (find p xs ≡ Some x)
