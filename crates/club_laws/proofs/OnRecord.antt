@@ -1,9 +1,7 @@
 -- What the bookings of a club hold of a booking or a cancellation that was served, and that it stays there.
-use Rattle.std.proofs.Common.{◌≡◌, ℕ, true, List, [], ◌∷◌, ◌++◌, map, Some, refl, arith}
-use Rattle.club_rows.specs.declared.facility.Facility.{Facility}
+use Rattle.std.proofs.Common.{◌≡◌, ℕ, true, List, [], ◌∷◌, Some, refl, arith}
 use Rattle.club_rows.specs.declared.member.Member.{Member}
 use Rattle.std.specs.Prelude.{◌&&◌, ◌==◌}
-use Rattle.club_values.specs.declared.slot.Slot.{Slot}
 use Rattle.club_rows.specs.declared.key.Key.{Key}
 use Rattle.club_rows.specs.declared.booking.Booking.{Booking}
 use Rattle.club_core.specs.declared.verdict.Verdict.{Verdict}
@@ -12,7 +10,6 @@ use Rattle.club_core.specs.declared.change.Change.TheVariants.{InsertBooking, Ma
 use Rattle.club_core.specs.declared.reply.Reply.{Reply}
 use Rattle.club_core.specs.declared.reply.Reply.TheVariants.{Booked, Cancelled}
 use Rattle.club_core.specs.declared.request.Request.{Request}
-use Rattle.club_core.specs.declared.request.Request.TheVariants as asked
 use Rattle.club_rows.specs.Booking.{same_slot, refund_at}
 use Rattle.club_core.specs.Sums.{booking_under}
 use Rattle.club_core.specs.Pass.{Words}
@@ -24,133 +21,92 @@ use Rattle.club_core.specs.Run.{Event, after_change, club_after}
 use Rattle.club_laws.specs.Repeats.{IsBookedOrCancelled}
 use Rattle.club_laws.proofs.FoundRows.{found_before, found_last, found_edited}
 use Rattle.club_laws.proofs.NamedRows.{is_numbered, same_slots, self_numbered}
-use Rattle.club_laws.proofs.AnswerCases.{Cancels, written, answer_cases, Books}
+use Rattle.club_laws.proofs.AnswerCases.{written, answer_cases}
 use Rattle.club_laws.proofs.KeptByRuns.{kept_by_run}
+use Rattle.club_core.specs.declared.request.Request.TheVariants as asked
+use Rattle.std.proofs.Common.{find, ap}
+use Rattle.club_core.specs.Request.{request_number}
+use Rattle.club_laws.proofs.BasisRows.{Knows}
 
-pub record HasBooked (bookings : List Booking) (key : List ℕ) (slot : Slot) (number guests : ℕ) (reply : Reply) : Type 0 where
-  pub booking : Booking
-  pub found : booking_under key number bookings ≡ Some booking
-  pub same : (same_slot booking.slot slot && booking.guests == guests) ≡ true
-  pub returned : reply ≡ Booked booking.key booking.number booking.charge booking.left
-
-pub record HasCancelled (bookings : List Booking) (key : List ℕ) (slot : Slot) (number : ℕ) (reply : Reply) : Type 0 where
-  pub booking : Booking
-  pub found : booking_under key number bookings ≡ Some booking
-  pub same : same_slot booking.slot slot ≡ true
-  pub before : booking.cancelled ≡ true
-  pub returned : reply ≡ Cancelled booking.key booking.number booking.refund
-
--- the request of this key is on record, with the reply that it got
-abbrev pub OnRecord : List Booking → List ℕ → Request → Reply → Type 0
-OnRecord bookings key (asked.View slot) reply = ⊥
-OnRecord bookings key (asked.Book slot number guests) reply = HasBooked bookings key slot number guests reply
-OnRecord bookings key (asked.Cancel slot number) reply = HasCancelled bookings key slot number reply
-OnRecord bookings key asked.Account reply = ⊥
-
--- a new booking loses nothing
-stays_behind : (bookings : List Booking) (new : Booking) (key : List ℕ) (request : Request) (reply : Reply) → OnRecord bookings key request reply
-    → OnRecord (bookings ++ new ∷ []) key request reply
-stays_behind bookings new key (asked.Book slot number guests) reply h =
-    record { booking = h.booking; found = found_before (is_numbered key number) bookings (new ∷ []) h.booking h.found; same = h.same; returned = h.returned }
-stays_behind bookings new key (asked.Cancel slot number) reply h =
-    record {
-      booking = h.booking;
-      found = found_before (is_numbered key number) bookings (new ∷ []) h.booking h.found;
-      same = h.same;
-      before = h.before;
-      returned = h.returned;
-    }
-stays_behind bookings new key request reply h = absurd h
-
--- nor does a cancellation, which doesn't change what was cancelled before
-stays_marked : (bookings : List Booking) (name : List ℕ) (n refund : ℕ) (key : List ℕ) (request : Request) (reply : Reply) → OnRecord bookings key request reply
-    → OnRecord (map (cancelled_booking name n refund) bookings) key request reply
-stays_marked bookings name n refund key (asked.Book slot number guests) reply h =
-    record {
-      booking = cancelled_booking name n refund h.booking;
-      found = found_edited (cancelled_booking name n refund) (is_numbered key number) (λ b. refl) bookings h.booking h.found;
-      same = h.same;
-      returned = h.returned;
-    }
-stays_marked bookings name n refund key (asked.Cancel slot number) reply h =
-    let before = h.before in
-    let returned = h.returned in
-    record {
-      booking = cancelled_booking name n refund h.booking;
-      found = found_edited (cancelled_booking name n refund) (is_numbered key number) (λ b. refl) bookings h.booking h.found;
-      same = h.same;
-      before = grind arith;
-      returned = grind arith;
-    }
-stays_marked bookings name n refund key request reply h = absurd h
-
-stays_after : (club : Club) (change : Change) (key : List ℕ) (request : Request) (reply : Reply) → OnRecord club.bookings key request reply
-    → OnRecord (after change club).bookings key request reply
-stays_after club (InsertBooking booking member) key request reply h = stays_behind club.bookings booking key request reply h
-stays_after club (MarkCancelled booking member refund) key request reply h =
-    stays_marked club.bookings booking.key booking.number refund key request reply h
-stays_after club change key request reply h = h
-
-pub stays_on_record : (club : Club) (events : List Event) (key : List ℕ) (request : Request) (reply : Reply) → OnRecord club.bookings key request reply
-    → OnRecord (club_after club events).bookings key request reply
-stays_on_record club events key request reply =
-    kept_by_run (λ (c : Club). OnRecord c.bookings key request reply) (λ c change. stays_after c change key request reply) club events
+-- the booking is what the request asked for, and the reply that it got
+abbrev pub IsAgain : Booking → Request → Reply → Type 0
+IsAgain booking (asked.Book slot number guests) reply =
+    ((same_slot booking.slot slot && booking.guests == guests) ≡ true) × (reply ≡ Booked booking.key booking.number booking.charge booking.left)
+IsAgain booking (asked.Cancel slot number) reply =
+    (same_slot booking.slot slot ≡ true) × (booking.cancelled ≡ true) × (reply ≡ Cancelled booking.key booking.number booking.refund)
+IsAgain booking request reply = ⊥
 
 -- what was served is on record, under the key that the words name
 pub record IsRecorded (bookings : List Booking) (words : Words) (reply : Reply) : Type 0 where
   pub key : List ℕ
   pub key_name : key_of words.pass ≡ Some key
-  pub on_record : OnRecord bookings key words.request reply
+  pub number : ℕ
+  pub number_is : request_number words.request ≡ Some number
+  pub booking : Booking
+  pub found : booking_under key number bookings ≡ Some booking
+  pub again : IsAgain booking words.request reply
 
-module _ (club : Club) (words : Words) (moment : ℕ) where
-  as_served : (key : List ℕ) (request : Request) (bookings : List Booking) (reply : Reply) → key_of words.pass ≡ Some key → words.request ≡ request
-      → OnRecord bookings key request reply → IsRecorded bookings words reply
-  as_served key request bookings reply n e h = record { key = key; key_name = n; on_record = rw e h }
+-- a cancellation doesn't change what was cancelled before
+still_again : (booking : Booking) (name : List ℕ) (n refund : ℕ) (request : Request) (reply : Reply) → IsAgain booking request reply
+    → IsAgain (cancelled_booking name n refund booking) request reply
+still_again booking name n refund (asked.Book slot number guests) reply h = h
+still_again booking name n refund (asked.Cancel slot number) reply h = grind arith
+still_again booking name n refund request reply h = absurd h
 
-  new_on_record : (key : Key) (member : Member) (slot : Slot) (number guests : ℕ) (facility : Facility) → Books club key member slot number guests facility
-      → let new = written club key slot number guests facility in
-      HasBooked (club.bookings ++ new ∷ []) key.name slot number guests (Booked new.key new.number new.charge new.left)
-  new_on_record key member slot number guests facility b =
-      let new = written club key slot number guests facility in
-      record {
-        booking = new;
-        found = found_last (is_numbered key.name number) club.bookings new b.new (self_numbered new);
-        same = grind (arith, same_slots slot);
-        returned = refl;
-      }
+-- a new booking loses nothing, nor does a cancellation
+stays_after : (club : Club) (change : Change) (words : Words) (reply : Reply) → IsRecorded club.bookings words reply
+    → IsRecorded (after change club).bookings words reply
+stays_after club (InsertBooking booking member) words reply h = record {
+  key = h.key;
+  key_name = h.key_name;
+  number = h.number;
+  number_is = h.number_is;
+  booking = h.booking;
+  found = found_before (is_numbered h.key h.number) club.bookings (booking ∷ []) h.booking h.found;
+  again = h.again;
+}
+stays_after club (MarkCancelled booking member refund) words reply h =
+    let mark = cancelled_booking booking.key booking.number refund in
+    record {
+      key = h.key;
+      key_name = h.key_name;
+      number = h.number;
+      number_is = h.number_is;
+      booking = mark h.booking;
+      found = found_edited mark (is_numbered h.key h.number) (λ b. refl) club.bookings h.booking h.found;
+      again = still_again h.booking booking.key booking.number refund words.request reply h.again;
+    }
+stays_after club change words reply h = h
 
-  now_cancelled : (key : Key) (slot : Slot) (number : ℕ) (booking : Booking) (refund : ℕ) → Cancels club key slot number booking
-      → HasCancelled (map (cancelled_booking booking.key booking.number refund) club.bookings) key.name slot number
-      (Cancelled booking.key booking.number refund)
-  now_cancelled key slot number booking refund c =
-      let mark = cancelled_booking booking.key booking.number refund in
-      let it = self_numbered booking in
-      let live = c.still_booked in
-      record {
-        booking = mark booking;
-        found = found_edited mark (is_numbered key.name number) (λ b. refl) club.bookings booking c.found;
-        same = c.same;
-        before = grind arith;
-        returned = grind arith;
-      }
+pub stays_on_record : (club : Club) (events : List Event) (words : Words) (reply : Reply) → IsRecorded club.bookings words reply
+    → IsRecorded (club_after club events).bookings words reply
+stays_on_record club events words reply =
+    kept_by_run (λ (c : Club). IsRecorded c.bookings words reply) (λ c change. stays_after c change words reply) club events
 
-  pub recorded_when_served : IsBookedOrCancelled (verdict_in club words moment).reply
-      → IsRecorded (after_change (verdict_in club words moment).change club).bookings words (verdict_in club words moment).reply
-  recorded_when_served =
-      answer_cases (λ (v : Verdict). IsBookedOrCancelled v.reply → IsRecorded (after_change v.change club).bookings words v.reply) club words moment (record {
-        silent = λ reply h k. absurd (grind arith);
-        repeats_booking = λ key member slot number guests booking k e b s.
-            as_served key.name (asked.Book slot number guests) club.bookings (Booked booking.key booking.number booking.charge booking.left) k.key_name e
-            (record { booking = booking; found = b.found; same = b.same; returned = refl });
-        books = λ key member slot number guests facility k e b s.
-            let new = written club key slot number guests facility in
-            as_served key.name (asked.Book slot number guests) (club.bookings ++ new ∷ []) (Booked new.key new.number new.charge new.left) k.key_name e
-            (new_on_record key member slot number guests facility b);
-        cancels_recorded = λ key member slot number booking k e b s.
-            as_served key.name (asked.Cancel slot number) club.bookings (Cancelled booking.key booking.number booking.refund) k.key_name e
-            (record { booking = booking; found = b.found; same = b.same; before = b.before; returned = refl });
-        cancels = λ key member slot number booking k e c s.
-            let refund = refund_at booking moment in
-            as_served key.name (asked.Cancel slot number) (map (cancelled_booking booking.key booking.number refund) club.bookings)
-            (Cancelled booking.key booking.number refund) k.key_name e (now_cancelled key slot number booking refund c);
-      })
+-- the record of a request under the key that the words name
+recorded : (club : Club) (words : Words) (bookings : List Booking) (reply : Reply) (key : Key) (member : Member) (number : ℕ) (booking : Booking)
+    → Knows club words key member → request_number words.request ≡ Some number → find (is_numbered key.name number) bookings ≡ Some booking
+    → IsAgain booking words.request reply → IsRecorded bookings words reply
+recorded club words bookings reply key member number booking k n found again =
+    record { key = key.name; key_name = k.key_name; number = number; number_is = n; booking = booking; found = found; again = again }
+
+pub recorded_when_served : (club : Club) (words : Words) (moment : ℕ) → IsBookedOrCancelled (verdict_in club words moment).reply
+    → IsRecorded (after_change (verdict_in club words moment).change club).bookings words (verdict_in club words moment).reply
+recorded_when_served club words moment =
+    answer_cases (λ (v : Verdict). IsBookedOrCancelled v.reply → IsRecorded (after_change v.change club).bookings words v.reply) club words moment (record {
+      silent = λ reply h s. absurd (grind arith);
+      repeats_booking = λ key member slot number guests booking k e b s.
+          recorded club words _ _ key member number booking k (ap request_number e) b.found (rw e (b.same, refl));
+      books = λ key member slot number guests facility k e b s.
+          let new = written club key slot number guests facility in
+          recorded club words _ _ key member number new k (ap request_number e)
+          (found_last (is_numbered key.name number) club.bookings new b.new (self_numbered new)) (rw e (grind (arith, same_slots slot)));
+      cancels_recorded = λ key member slot number booking k e b s.
+          recorded club words _ _ key member number booking k (ap request_number e) b.found (rw e (b.same, b.before, refl));
+      cancels = λ key member slot number booking k e c s.
+          let mark = cancelled_booking booking.key booking.number (refund_at booking moment) in
+          let same = c.same in
+          let live = c.still_booked in
+          recorded club words _ _ key member number (mark booking) k (ap request_number e)
+          (found_edited mark (is_numbered key.name number) (λ b. refl) club.bookings booking c.found) (rw e (grind (arith, self_numbered booking)));
+    })

@@ -1,5 +1,5 @@
 -- What is on record is answered by the record.
-use Rattle.std.proofs.Common.{◌≡◌, ℕ, List, ◌∷◌, ◌++◌, Option, Some, sym, ap, ◌∙◌, subst, arith}
+use Rattle.std.proofs.Common.{◌≡◌, ℕ, List, ◌∷◌, ◌++◌, Option, Some, sym, ap, ◌∙◌, arith}
 use Rattle.std.specs.Prelude.{option_and_then}
 use Rattle.pass_caveats.specs.Laws.{TestsTheSet}
 use Rattle.club_rows.specs.declared.booking.Booking.{Booking}
@@ -17,12 +17,12 @@ use Rattle.club_core.specs.Verdict as verdicts
 use Rattle.club_core.specs.Answer.{verdict_in}
 use Rattle.club_core.specs.Run.{Event, Asked, Outcome, step, verdict_outcome, replies_of, club_after, ToMember}
 use Rattle.club_core.specs.Acceptance.{IsAcceptedIn}
-use Rattle.club_laws.specs.Repeats.{IsBookedOrCancelled, WasServed, MayBeLeftOut}
+use Rattle.club_laws.specs.Repeats.{RepeatsReturnTheSame, RepeatsMayBeLeftOut, WasServed}
 use Rattle.club_laws.proofs.AnswerCases.{own_booking}
 use Rattle.club_laws.proofs.BasisRows.{rests_on_name, known_rows}
 use Rattle.club_laws.proofs.ServedPasses.{accepted_under}
 use Rattle.club_laws.proofs.KeptByRuns.{club_after-append, replies_of-append}
-use Rattle.club_laws.proofs.OnRecord.{OnRecord, IsRecorded, recorded_when_served, stays_on_record}
+use Rattle.club_laws.proofs.OnRecord.{IsAgain, IsRecorded, recorded_when_served, stays_on_record}
 
 same_lookups : {A : Type 0} (f g : ℕ → Option A) → ((n : ℕ) → f n ≡ g n) → (o : Option ℕ) → option_and_then f o ≡ option_and_then g o
 same_lookups f g h o = grind (arith, h)
@@ -40,21 +40,13 @@ seen_booking club words moment basis key is named =
     ∙ ap (λ (name : List ℕ). booking_under name number club.bookings) same))
     (request_number words.request)
 
-decides_by_record : (bookings : List Booking) (key : List ℕ) (request : Request) (reply : Reply) (view : View) (moment : ℕ)
-    → OnRecord bookings key request reply → view.booking ≡ option_and_then (λ (number : ℕ). booking_under key number bookings) (request_number request)
+decides_by_record : (bookings : List Booking) (key : List ℕ) (number : ℕ) (booking : Booking) (request : Request) (reply : Reply) (view : View) (moment : ℕ)
+    → request_number request ≡ Some number → booking_under key number bookings ≡ Some booking → IsAgain booking request reply
+    → view.booking ≡ option_and_then (λ (n : ℕ). booking_under key n bookings) (request_number request)
     → verdicts.verdict_of view request moment ≡ verdicts.reply_only reply
-decides_by_record bookings key (asked.Book slot number guests) reply view moment h e =
-    let found = h.found in
-    let same = h.same in
-    let returned = h.returned in
-    grind arith
-decides_by_record bookings key (asked.Cancel slot number) reply view moment h e =
-    let found = h.found in
-    let same = h.same in
-    let before = h.before in
-    let returned = h.returned in
-    grind arith
-decides_by_record bookings key request reply view moment h e = absurd h
+decides_by_record bookings key number booking (asked.Book slot n guests) reply view moment is found again e = grind arith
+decides_by_record bookings key number booking (asked.Cancel slot n) reply view moment is found again e = grind arith
+decides_by_record bookings key number booking request reply view moment is found again e = absurd again
 
 -- an accepted request is answered by the decision
 accepted_answer : TestsTheSet → TestsTheSignature → (club : Club) (words : Words) (moment : ℕ) (a : IsAcceptedIn club words moment)
@@ -68,7 +60,7 @@ step_by_record : TestsTheSet → TestsTheSignature → (club : Club) (words : Wo
 step_by_record set signature club words moment reply r a =
     ap (verdict_outcome club)
     (accepted_answer set signature club words moment a
-    ∙ decides_by_record club.bookings r.key words.request reply (view_of a.basis words.request moment) moment r.on_record
+    ∙ decides_by_record club.bookings r.key r.number r.booking words.request reply (view_of a.basis words.request moment) moment r.number_is r.found r.again
     (seen_booking club words moment a.basis r.key a.known r.key_name))
 
 -- what was served within a history is on record after it
@@ -77,34 +69,26 @@ pub recorded_since : (club : Club) (history : List Event) (words : Words) (reply
 recorded_since club history words reply w =
     let start = club_after club w.front in
     let then = (step start (Asked w.first w.moment)).club in
-    let verdict = verdict_in start w.first w.moment in
-    let returned : verdict.reply ≡ reply = let e : ToMember verdict.reply ≡ ToMember reply = w.reply_is in cc in
-    let first : IsRecorded then.bookings w.first verdict.reply = recorded_when_served start w.first w.moment
-    (subst IsBookedOrCancelled (sym returned) w.success) in
-    let later = stays_on_record then w.rest first.key w.first.request verdict.reply first.on_record in
-    let end : club_after club history ≡ club_after then w.rest = ap (club_after club) w.place
-    ∙ club_after-append club w.front (Asked w.first w.moment ∷ w.rest) in
+    let returned : (verdict_in start w.first w.moment).reply ≡ reply = let e = w.reply_is in cc in
+    let first = recorded_when_served start w.first w.moment (rw returned w.success) in
+    let later : IsRecorded (club_after then w.rest).bookings w.first reply = stays_on_record then w.rest w.first reply (rw returned at first) in
+    let end : club_after club history ≡ club_after then w.rest = rw w.place (club_after-append club w.front (Asked w.first w.moment ∷ w.rest)) in
     record {
-      key = first.key;
-      key_name = w.same_key ∙ first.key_name;
-      on_record =
-          subst (λ (c : Club). OnRecord c.bookings first.key words.request reply) (sym end)
-          (subst (λ (r : Request). OnRecord (club_after then w.rest).bookings first.key r reply) (sym w.same_request)
-          (subst (λ (r : Reply). OnRecord (club_after then w.rest).bookings first.key w.first.request r) returned later));
+      key = later.key;
+      key_name = w.same_key ∙ later.key_name;
+      number = later.number;
+      number_is = rw w.same_request later.number_is;
+      booking = later.booking;
+      found = rw end later.found;
+      again = rw w.same_request later.again;
     }
 
-pub step_of_repeat : TestsTheSet → TestsTheSignature → (club : Club) (history : List Event) (words : Words) (moment : ℕ) (reply : Reply)
-    → WasServed club history words reply
-    → IsAcceptedIn (club_after club history) words moment → step (club_after club history) (Asked words moment)
-    ≡ record { reply = ToMember reply; club = club_after club history }
+pub step_of_repeat : TestsTheSet → TestsTheSignature → RepeatsReturnTheSame
 step_of_repeat set signature club history words moment reply w a =
     step_by_record set signature (club_after club history) words moment reply (recorded_since club history words reply w) a
 
-pub left_out : TestsTheSet → TestsTheSignature → (club : Club) (history : List Event) (words : Words) (moment : ℕ) (reply : Reply) (rest : List Event)
-    → WasServed club history words reply
-    → IsAcceptedIn (club_after club history) words moment → MayBeLeftOut club history (Asked words moment) rest (ToMember reply)
+pub left_out : TestsTheSet → TestsTheSignature → RepeatsMayBeLeftOut
 left_out set signature club history words moment reply rest w a =
-    let end = club_after club history in
     let again = step_of_repeat set signature club history words moment reply w a in
     record {
       replies =
