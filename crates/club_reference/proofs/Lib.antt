@@ -1,8 +1,5 @@
-pub mod SumLemmas
+pub mod RowLemmas
 pub mod EditLemmas
-pub mod NameLemmas
 pub mod WidthLemmas
 pub mod KeptLemmas
-pub mod CommandLemmas
-pub mod PartLemmas
 pub mod WordLemmas

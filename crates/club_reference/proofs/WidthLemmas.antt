@@ -1,11 +1,11 @@
--- Changes that keep a club's numbers within their widths.
+-- Changes keep a club's numbers within their widths, and so does taking a member's part.
 use Rattle.std.proofs.Common.{◌≡◌, ℕ, ◌+◌, ◌<◌, ◌≤◌, Bool, true, false, List, [], ◌∷◌, ◌++◌, length, get_or, refl, arith, ◌∙◌, sym, ap, subst}
 use Rattle.std.proofs.lemmas.Slice.Eq.{bytes_eq-Decides}
 use Rattle.std.proofs.lemmas.Option.{same_Some}
-use Rattle.std.specs.Prelude.{Some, None, find, filter, map, sum_by, All, option_map, not}
+use Rattle.std.specs.Prelude.{Some, None, find, filter, map, All, option_map, not}
 use Rattle.std.specs.Str.{bytes_eq}
-use Rattle.std.proofs.lemmas.Bool.{and_parts}
-use Rattle.std.proofs.lemmas.List.Elements.{All-push}
+use Rattle.std.proofs.lemmas.Bool.{and_parts, cond_both}
+use Rattle.std.proofs.lemmas.List.Elements.{All-filter, All-push, All-tail, All-cons, All-head}
 use Rattle.std.proofs.lemmas.List.Folds.{find-append}
 use Rattle.std.proofs.lemmas.List.{get_or-map, length-map}
 use Rattle.club_values.specs.declared.slot.Slot.{Slot}
@@ -14,12 +14,12 @@ use Rattle.club_rows.specs.declared.facility.Facility.{Facility}
 use Rattle.club_rows.specs.declared.booking.Booking.{Booking}
 use Rattle.club_core.specs.declared.change.Change.TheVariants.{InsertMember, AddCredit, InsertFacility}
 use Rattle.club_rows.specs.Booking.{same_slot, persons_of}
-use Rattle.club_core.specs.Club.{Club, member_named}
+use Rattle.club_core.specs.Club.{Club, member_named, is_key_of}
 use Rattle.club_core.specs.Sums.{is_in, taken_in, cost_of, is_under, spent_under}
 use Rattle.club_core.specs.After.{after, credited_member, cancelled_booking}
 use Rattle.club_reference.specs.Widths.{FitsWidths}
-use Rattle.club_reference.proofs.SumLemmas.{part, total_is, total_push, total-map_le}
-use Rattle.club_reference.proofs.NameLemmas.{bytes_eq_refl, bytes_eq_true, find-map}
+use Rattle.club_core.specs.Solo.{part_of}
+use Rattle.club_reference.proofs.RowLemmas.{bytes_eq_refl, bytes_eq_true, find-map, find_filtered, sum_more, sum_map_le, sum-filter_le}
 
 abbrev named : List ℕ → Member → Bool
 named name member = bytes_eq member.name name
@@ -75,9 +75,6 @@ same_slot_is a b e =
     let hour : a.hour ≡ b.hour = grind arith in
     λ i. record { facility = facility i; day = day i; hour = hour i }
 
-more : {X : Type 0} (f : X → ℕ) (p : X → Bool) (xs : List X) (y : X) → sum_by f (filter p (xs ++ y ∷ [])) ≡ sum_by f (filter p xs) + part f p y
-more f p xs y = total_is f p (xs ++ y ∷ []) ∙ (total_push f p xs y ∙ ap (λ n. n + part f p y) (sym (total_is f p xs)))
-
 pub fits_insert_booking : (club : Club) (booking : Booking) → FitsWidths club → taken_in booking.slot club.bookings + persons_of booking ≤ 50
     → spent_under booking.key club.bookings + cost_of booking ≤ 999_999_999 → (booking.cancelled ≡ false → booking.refund ≡ 0)
     → FitsWidths (record club { bookings = club.bookings ++ booking ∷ [] })
@@ -88,10 +85,10 @@ fits_insert_booking club booking h persons cost kept =
     let few = h.taken slot in
     let same : is_in slot booking ≡ true → booking.slot ≡ slot =
     λ e. same_slot_is booking.slot slot (and_parts (not booking.cancelled) (same_slot booking.slot slot) e).1 in
-    grind (arith, more persons_of (is_in slot) club.bookings booking)
+    grind (arith, sum_more persons_of (is_in slot) club.bookings booking)
     in
     let spent : (key : List ℕ) → spent_under key new.bookings ≤ 999_999_999 =
-    λ key. let few = h.spent key in grind (arith, more cost_of (is_under key) club.bookings booking, bytes_eq-Decides booking.key key) in
+    λ key. let few = h.spent key in grind (arith, sum_more cost_of (is_under key) club.bookings booking, bytes_eq-Decides booking.key key) in
     let live = All-push (λ (b : Booking). b.cancelled ≡ false → b.refund ≡ 0) club.bookings booking h.kept kept in
     assumption
 
@@ -104,22 +101,44 @@ fits_mark_cancelled club key number refund h =
     let taken : (slot : Slot) → taken_in slot new.bookings ≤ 50 =
     λ slot.
     let few = h.taken slot in
-    omega (
-      arith,
-      total_is persons_of (is_in slot) club.bookings,
-      total_is persons_of (is_in slot) new.bookings,
-      total-map_le persons_of (is_in slot) edit club.bookings (λ k d lt. grind arith),
-    )
+    omega (arith, sum_map_le persons_of (is_in slot) edit club.bookings (λ k d lt. grind arith))
     in
     let spent : (name : List ℕ) → spent_under name new.bookings ≤ 999_999_999 =
     λ name.
     let few = h.spent name in
-    omega (
-      arith,
-      total_is cost_of (is_under name) club.bookings,
-      total_is cost_of (is_under name) new.bookings,
-      total-map_le cost_of (is_under name) edit club.bookings (λ k d lt. let none = h.kept k d lt in grind arith),
-    )
+    omega (arith, sum_map_le cost_of (is_under name) edit club.bookings (λ k d lt. let none = h.kept k d lt in grind arith))
     in
     let live = all_map (λ (b : Booking). b.cancelled ≡ false → b.refund ≡ 0) edit club.bookings (λ k d lt. let none = h.kept k d lt in grind arith) in
     assumption
+
+-- a member's part
+all_filter : {X : Type 0} (P : X → Type 0) (p : X → Bool) (xs : List X) → All (λ x. p x ≡ true → P x) xs → All P (filter p xs)
+all_filter P p [] h = λ k d lt. absurd (omega arith)
+all_filter P p (x ∷ xs) h =
+    let rest = all_filter P p xs (All-tail (λ y. p y ≡ true → P y) x xs h) in
+    cond_both (p x) (x ∷ filter p xs) (filter p xs) (All P) (λ e. All-cons P x (filter p xs) (All-head (λ y. p y ≡ true → P y) x xs h e) rest) (λ _. rest)
+
+pub fits_part : (name : List ℕ) (club : Club) → FitsWidths club → FitsWidths (part_of name club)
+fits_part name club h =
+    let own = λ (member : Member). bytes_eq member.name name in
+    let held = λ (booking : Booking). is_key_of name club booking.key in
+    record {
+      credited = All-filter own (λ (m : Member). m.credited ≤ 999_999_999) club.members h.credited;
+      unique = all_filter (IsNamed (filter own club.members)) own club.members (λ k d lt e.
+          find_filtered (named (get_or club.members k d).name) own club.members (get_or club.members k d) (h.unique k d lt) e);
+      places = h.places;
+      taken = λ slot. let few = h.taken slot in omega (arith, sum-filter_le persons_of (is_in slot) held club.bookings);
+      spent = λ key. let few = h.spent key in omega (arith, sum-filter_le cost_of (is_under key) held club.bookings);
+      kept = All-filter held (λ (b : Booking). b.cancelled ≡ false → b.refund ≡ 0) club.bookings h.kept;
+    }
+
+-- the numbers are in members, facilities and bookings
+pub fits_same : (a b : Club) → a.members ≡ b.members → a.facilities ≡ b.facilities → a.bookings ≡ b.bookings → FitsWidths b → FitsWidths a
+fits_same a b members facilities bookings h = record {
+  credited = rw members h.credited;
+  unique = rw members h.unique;
+  places = rw facilities h.places;
+  taken = λ slot. rw bookings (h.taken slot);
+  spent = λ key. rw bookings (h.spent key);
+  kept = rw bookings h.kept;
+}

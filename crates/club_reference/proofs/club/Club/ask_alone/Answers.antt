@@ -1,17 +1,17 @@
-use Rattle.std.proofs.Common.{◌∙◌, rules, sym, ap, arith}
+use Rattle.std.proofs.Common.{◌∙◌, rules, sym, ap, subst, arith}
 use Rattle.std.proofs.lemmas.Grind.{common_steps}
 use Rattle.std.proofs.lemmas.Result.{err_from_is_err_and}
 use Rattle.club_core.specs.declared.verdict.Verdict.{Verdict}
 use Rattle.club_reference.specs.computed.Words.{words_model}
 use Rattle.club_reference.proofs.WordLemmas.{their_model}
-use Rattle.club_reference.proofs.KeptLemmas.{keeps_solo}
+use Rattle.club_reference.proofs.KeptLemmas.{Keeps, keeps_solo}
 use Rattle.club_reference.proofs.club.Club.ask_alone.Goals as goal
 
 pub apply-requires : goal.apply-requires
 apply-requires c =
     let answer = c.answer_alone-reply in
-    (keeps_solo c.args.self.now (words_model c.args.words.now) c.args.moment c.args.others answer.ensures.fits).kept c.in-Some.change
-    (ap (λ (verdict : Verdict). verdict.change) (sym answer.ensures.value) ∙ c.in-Some.is)
+    subst (Keeps c.args.self.now) (ap (λ (verdict : Verdict). verdict.change) (sym answer.ensures.value) ∙ c.in-Some.is)
+    (keeps_solo c.args.self.now (words_model c.args.words.now) c.args.moment c.args.others answer.ensures.fits)
 
 pub returns-in-None-clause-reply : goal.returns-in-None-clause-reply
 returns-in-None-clause-reply c = (words_model c.args.words.now, their_model c.models_words.ensures c.args.words.now, search rules)

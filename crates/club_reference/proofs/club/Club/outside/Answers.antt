@@ -6,7 +6,7 @@ use Rattle.club_rows.specs.Booking.{persons_of}
 use Rattle.club_core.specs.Sums.{is_in, taken_in}
 use Rattle.club_rows.specs.declared.booking.Booking.{Booking}
 use Rattle.club_reference.specs.Held.{is_held, others_under}
-use Rattle.club_reference.proofs.SumLemmas.{sum-filter_le}
+use Rattle.club_reference.proofs.RowLemmas.{sum-filter_le}
 use Rattle.club_reference.proofs.club.Club.outside.Goals as goal
 
 -- others book no more of a slot than all do

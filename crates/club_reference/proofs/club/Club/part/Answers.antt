@@ -7,7 +7,7 @@ use Rattle.club_rows.specs.declared.booking.Booking.{Booking}
 use Rattle.club_core.specs.Solo.{part_of}
 use Rattle.club_reference.specs.Held.{held_under}
 use Rattle.club_reference.specs.Rows.{rows_of}
-use Rattle.club_reference.proofs.PartLemmas.{fits_part, fits_same}
+use Rattle.club_reference.proofs.WidthLemmas.{fits_part, fits_same}
 use Rattle.club_reference.proofs.club.Club.part.Goals as goal
 
 pub invariant_of-result : goal.invariant_of-result

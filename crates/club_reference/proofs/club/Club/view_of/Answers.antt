@@ -2,7 +2,7 @@ use Rattle.std.proofs.Common.{◌<◌, ◌≤◌, ◌^◌, arith}
 use Rattle.club_core.specs.Sums.{cost_of, is_under, spent_under}
 use Rattle.club_rows.specs.declared.booking.Booking.{Booking}
 use Rattle.club_reference.specs.Held.{is_held, held_under}
-use Rattle.club_reference.proofs.SumLemmas.{sum-filter_le}
+use Rattle.club_reference.proofs.RowLemmas.{sum-filter_le}
 use Rattle.club_reference.proofs.club.Club.view_of.Goals as goal
 
 pub spent-requires : goal.spent-requires
