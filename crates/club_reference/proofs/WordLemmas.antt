@@ -1,5 +1,5 @@
 -- The computed model of words is their model; and what is answered by a key's view is answered by its basis.
-use Rattle.std.proofs.Common.{◌≡◌, ℕ, List, [], ◌∷◌, map, Option, Some, None, refl, sym, ap, subst, Decides}
+use Rattle.std.proofs.Common.{arith, ◌≡◌, ℕ, List, [], ◌∷◌, map, Option, Some, None, refl, sym, ap, subst, Decides}
 use Rattle.std.proofs.Math.Path.{fun_ext}
 use Rattle.std.specs.Prelude.{Contains, Result, Ok, Err, option_map}
 use Rattle.std.specs.List.{list_any}
@@ -41,11 +41,8 @@ module _ (reads : ReadsWhatIsUnderstood) where
 
   one_reading : (text : List ℕ) (one : Option Caveat) → Reads (Understood text) one → caveat_of text ≡ one
   one_reading text (Some caveat) h = (reads text caveat).0 h
-  one_reading text None h = go (caveat_of text) refl
-    where
-      go : (found : Option Caveat) → caveat_of text ≡ found → found ≡ None
-      go None e = refl
-      go (Some caveat) e = absurd (h caveat ((reads text caveat).1 e))
+  one_reading text None h =
+      let never = λ (caveat : Caveat) (e : caveat_of text ≡ Some caveat). h caveat ((reads text caveat).1 e) in grind (arith, never)
 
   all_read : (texts : List (List ℕ)) → AreUnderstoodAs texts (map caveat_of texts)
   all_read [] = tt
@@ -101,12 +98,9 @@ their_model law words = (law words (words_model words)).1 refl
 -- a key's view answers as its basis does
 pub answers_seen : (pass : Result Pass PassFault) (request : Request) (moment : ℕ) (basis : Option Basis)
     → answer_seen pass request moment (option_map (seen_of request moment) basis) ≡ answer_to pass request moment basis
-answers_seen (Err fault) request moment basis = refl
-answers_seen (Ok pass) request moment None = refl
-answers_seen (Ok pass) request moment (Some basis) = refl
+answers_seen pass request moment basis = grind arith
 
 -- a view with what others hold is that of the basis with it
 pub seen_with_others : (request : Request) (moment : ℕ) (others : SlotUse) (basis : Option Basis)
     → option_map (with_outside others) (option_map (seen_of request moment) basis) ≡ option_map (seen_of request moment) (option_map (with_others others) basis)
-seen_with_others request moment others None = refl
-seen_with_others request moment others (Some basis) = refl
+seen_with_others request moment others basis = grind arith

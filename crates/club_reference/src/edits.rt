@@ -20,6 +20,7 @@ fn credit_row(member: &Member, name: &Name, points: u32) -> Member
 }
 
 /// Adds points to the member of the name.
+#[tactic(auto, using(crate::proofs::EditLemmas::edited_more))]
 pub(crate) fn credit(members: &mut [Member], name: &Name, points: u32)
     requires { All (λ (member : MemberRow). member.credited ≤ credited_limit)
         (map (after.credited_member name.now points) members.old) }
@@ -39,6 +40,7 @@ fn revoke_row(key: &Key, name: &Name) -> Key
 }
 
 /// Marks the key of the name revoked.
+#[tactic(auto, using(crate::proofs::EditLemmas::edited_more))]
 pub(crate) fn revoke(keys: &mut [Key], name: &Name)
     ensures { keys.new ≡ map (after.revoked_key name.now) keys.old }
 {
@@ -64,6 +66,7 @@ fn rotate_row(key: &Key, name: &Name, root: &Root, until: Moment) -> Key
 
 /// Gives the key of the name a new root. The root that it had becomes its older root, good until
 /// the moment.
+#[tactic(auto, using(crate::proofs::EditLemmas::edited_more))]
 pub(crate) fn rotate(keys: &mut [Key], name: &Name, root: &Root, until: Moment)
     ensures { keys.new ≡ map (after.rotated_key name.now root.now until) keys.old }
 {
@@ -85,6 +88,7 @@ fn cancel_row(booking: &Booking, key: &Name, number: BookingNumber, refund: u32)
 
 /// Marks the booking under the key and number cancelled, with its refund. A booking that is already
 /// cancelled is unchanged.
+#[tactic(auto, using(crate::proofs::EditLemmas::edited_more))]
 pub(crate) fn cancel(bookings: &mut [Booking], key: &Name, number: BookingNumber, refund: u32)
     ensures { bookings.new ≡ map (after.cancelled_booking key.now number refund) bookings.old }
 {

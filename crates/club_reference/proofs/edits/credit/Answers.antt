@@ -1,13 +1,8 @@
 use Rattle.std.proofs.Common.{◌≤◌, arith}
 use Rattle.club_rows.specs.declared.member.Member.{Member}
 use Rattle.club_core.specs.After as after
-use Rattle.club_reference.proofs.EditLemmas.{edited_more, holds_next}
+use Rattle.club_reference.proofs.EditLemmas.{holds_next}
 use Rattle.club_reference.proofs.edits.credit.Goals as goal
-
-pub loop-member-preserved : goal.loop-member-preserved
-loop-member-preserved c =
-    edited_more (after.credited_member c.args.name.now c.args.points) c.loop-member.member-index c.args.members.now c.loop-member.members c.member-item.result
-    c.credit_row.result (omega arith) c.loop-member.invariant c.credit_row.ensures
 
 pub credit_row-requires : goal.credit_row-requires
 credit_row-requires c =
