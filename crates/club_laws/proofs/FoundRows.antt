@@ -1,6 +1,6 @@
 -- What `find` finds, and lists whose elements a test distinguishes.
 use Rattle.std.proofs.Common.{◌≡◌, ℕ, suc, Bool, true, false, ◌&&◌, ◌||◌, List, [], ◌∷◌, ◌++◌, get_or, map, Some, None, refl, ap, ◌∙◌}
-use Rattle.std.proofs.Common.{arith}
+use Rattle.std.proofs.Common.{arith, option_map}
 use Rattle.std.specs.Prelude.{All, AllPairs, Contains, find, filter}
 use Rattle.std.specs.List.{list_any}
 use Rattle.std.proofs.lemmas.List.{length-map, get_or-map}
@@ -96,8 +96,7 @@ found_before p xs ys x e = find-append p xs ys ∙ rw e
 pub found_last : {X : Type 0} (p : X → Bool) (xs : List X) (x : X) → find p xs ≡ None → p x ≡ true → find p (xs ++ x ∷ []) ≡ Some x
 found_last p xs x none e = find-append p xs (x ∷ []) ∙ rw (none, e)
 
--- an edit that the test doesn't see keeps what is found, edited
-pub found_edited : {X : Type 0} (f : X → X) (p : X → Bool) → ((x : X) → p (f x) ≡ p x) → (xs : List X) (x : X) → find p xs ≡ Some x
-    → find p (map f xs) ≡ Some (f x)
-found_edited f p blind [] x e = absurd (cc)
-found_edited f p blind (y ∷ ys) x e = grind (arith, found_edited f p blind ys x, blind y)
+-- an edit that the test doesn't see finds what was found, edited
+pub find-map : {X : Type 0} (p : X → Bool) (f : X → X) → ((x : X) → p (f x) ≡ p x) → (xs : List X) → find p (map f xs) ≡ option_map f (find p xs)
+find-map p f blind [] = refl
+find-map p f blind (x ∷ xs) = grind (arith, find-map p f blind xs, blind x)

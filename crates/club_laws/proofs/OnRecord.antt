@@ -19,12 +19,12 @@ use Rattle.club_core.specs.Answer.{verdict_in}
 use Rattle.club_core.specs.After.{after, cancelled_booking}
 use Rattle.club_core.specs.Run.{Event, after_change, club_after}
 use Rattle.club_laws.specs.Repeats.{IsBookedOrCancelled}
-use Rattle.club_laws.proofs.FoundRows.{found_before, found_last, found_edited}
+use Rattle.club_laws.proofs.FoundRows.{found_before, found_last, find-map}
 use Rattle.club_laws.proofs.NamedRows.{is_numbered, same_slots, self_numbered}
 use Rattle.club_laws.proofs.AnswerCases.{written, answer_cases}
 use Rattle.club_laws.proofs.KeptByRuns.{kept_by_run}
 use Rattle.club_core.specs.declared.request.Request.TheVariants as asked
-use Rattle.std.proofs.Common.{find, ap}
+use Rattle.std.proofs.Common.{find, ap, option_map, ◌∙◌}
 use Rattle.club_core.specs.Request.{request_number}
 use Rattle.club_laws.proofs.BasisRows.{Knows}
 
@@ -73,7 +73,7 @@ stays_after club (MarkCancelled booking member refund) words reply h =
       number = h.number;
       number_is = h.number_is;
       booking = mark h.booking;
-      found = found_edited mark (is_numbered h.key h.number) (λ b. refl) club.bookings h.booking h.found;
+      found = find-map (is_numbered h.key h.number) mark (λ b. refl) club.bookings ∙ ap (option_map mark) h.found;
       again = still_again h.booking booking.key booking.number refund words.request reply h.again;
     }
 stays_after club change words reply h = h
@@ -108,5 +108,6 @@ recorded_when_served club words moment =
           let same = c.same in
           let live = c.still_booked in
           recorded club words _ _ key member number (mark booking) k (ap request_number e)
-          (found_edited mark (is_numbered key.name number) (λ b. refl) club.bookings booking c.found) (rw e (grind (arith, self_numbered booking)));
+          (find-map (is_numbered key.name number) mark (λ b. refl) club.bookings ∙ ap (option_map mark) c.found)
+          (rw e (grind (arith, self_numbered booking)));
     })

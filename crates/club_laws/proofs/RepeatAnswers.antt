@@ -75,7 +75,7 @@ recorded_since club history words reply w =
     let end : club_after club history ≡ club_after then w.rest = rw w.place (club_after-append club w.front (Asked w.first w.moment ∷ w.rest)) in
     record {
       key = later.key;
-      key_name = w.same_key ∙ later.key_name;
+      key_name = rw w.same_key later.key_name;
       number = later.number;
       number_is = rw w.same_request later.number_is;
       booking = later.booking;

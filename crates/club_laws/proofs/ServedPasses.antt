@@ -1,6 +1,6 @@
 -- What a served request shows of its pass.
-use Rattle.std.proofs.Common.{◌≡◌, ℕ, ◌+◌, true, false, List, [], ◌∷◌, ◌++◌, Option, Some, None, Result, Ok, Err, option_and_then, arith}
-use Rattle.std.proofs.Common.{All, refl, sym, ap, ◌∙◌, subst}
+use Rattle.std.proofs.Common.{◌≡◌, ℕ, ◌+◌, true, false, List, [], ◌∷◌, ◌++◌, Option, Some, None, Result, Ok, Err, arith}
+use Rattle.std.proofs.Common.{All, refl, sym, ap, ◌∙◌}
 use Rattle.std.proofs.lemmas.Bool.{false_from_ne_true}
 use Rattle.std.proofs.lemmas.Option.{same_Some}
 use Rattle.std.proofs.lemmas.List.Elements.{All-nil, All-cons, All-head, All-tail}
@@ -13,13 +13,13 @@ use Rattle.club_rows.specs.declared.key.Key.{Key}
 use Rattle.club_core.specs.declared.refusal.Refusal.TheVariants.{NotVerified, KeyRevoked, CaveatNotUnderstood, CaveatDenies}
 use Rattle.club_core.specs.declared.request.Request.{Request}
 use Rattle.club_core.specs.declared.pass_fault.PassFault.{PassFault}
-use Rattle.club_core.specs.Pass.{Pass, Words, IsSignedUnder, is_signed_under}
+use Rattle.club_core.specs.Pass.{Pass, Words, is_signed_under}
 use Rattle.club_core.specs.Club.{Club, key_named}
-use Rattle.club_core.specs.Basis.{Basis, basis_of, basis_under, key_of, view_of}
-use Rattle.club_core.specs.Answer.{answer_to, ask_of, form_refusal, verdict_in}
+use Rattle.club_core.specs.Basis.{Basis, basis_of, key_of, view_of}
+use Rattle.club_core.specs.Answer.{answer_to, ask_of, form_refusal}
 use Rattle.club_core.specs.Verdict.{refusal_verdict, verdict_of}
 use Rattle.club_core.specs.Acceptance.{IsServed, IsAllowedBy, IsAcceptedPass, IsEntitled}
-use Rattle.club_laws.specs.SingleRequest.{blind_refusal, words_with}
+use Rattle.club_laws.specs.SingleRequest.{RefusesTheUnsigned, MoreCaveatsNeverOpenMore, blind_refusal, words_with}
 use Rattle.club_laws.proofs.BasisRows.{rests_on_name}
 
 -- the pass passes the tests of the answer
@@ -37,11 +37,6 @@ served_under pass request moment basis h =
     let understood = λ (n : ℕ). h (CaveatNotUnderstood n) in
     let permitted = λ (n : ℕ). h (CaveatDenies n) in
     grind arith
-
--- and what passes them, the decision answers
-passing_under : (pass : Pass) (request : Request) (moment : ℕ) (basis : Basis) → PassesTests pass request moment basis
-    → answer_to (Ok pass) request moment (Some basis) ≡ verdict_of (view_of basis request moment) request moment
-passing_under pass request moment basis h = grind arith
 
 pub all_allowed : TestsTheSet → (n : ℕ) (caveats : List (Option Caveat)) (ask : Ask) → first_fault_from n caveats ask ≡ None → All (IsAllowedBy ask) caveats
 all_allowed tests n [] ask e = All-nil (IsAllowedBy ask)
@@ -61,11 +56,10 @@ none_at_fault tests n (Some caveat ∷ caveats) ask h =
 pub accepted_under : TestsTheSet → TestsTheSignature → (pass : Pass) (request : Request) (moment : ℕ) (basis : Basis)
     → IsAcceptedPass pass request moment basis → answer_to (Ok pass) request moment (Some basis) ≡ verdict_of (view_of basis request moment) request moment
 accepted_under set signature pass request moment basis h =
-    passing_under pass request moment basis (record {
-      signed = (signature pass basis.key moment).1 h.signed;
-      not_revoked = h.not_revoked;
-      faultless = none_at_fault set 1 pass.caveats (ask_of (view_of basis request moment) request moment) h.permission;
-    })
+    let signed = (signature pass basis.key moment).1 h.signed in
+    let valid = h.not_revoked in
+    let faultless = none_at_fault set 1 pass.caveats (ask_of (view_of basis request moment) request moment) h.permission in
+    grind arith
 
 -- a list without a fault has none with its end cut off
 pub faultless_front : (n : ℕ) (caveats more : List (Option Caveat)) (ask : Ask) → first_fault_from n (caveats ++ more) ask ≡ None
@@ -96,14 +90,7 @@ served_entitled set signature words moment club (Ok pass) (Some basis) e f h =
 
 -- without a basis
 pub refused_blind : (pass : Result Pass PassFault) (request : Request) (moment : ℕ) → answer_to pass request moment None ≡ refusal_verdict (blind_refusal pass)
-refused_blind (Err fault) request moment = refl
-refused_blind (Ok pass) request moment = refl
-
--- under a key without a signature, whether its member is known or not
-refused_unsigned : (pass : Pass) (request : Request) (moment : ℕ) (basis : Option Basis)
-    → ((b : Basis) → basis ≡ Some b → is_signed_under pass b.key moment ≡ false) → answer_to (Ok pass) request moment basis ≡ refusal_verdict NotVerified
-refused_unsigned pass request moment None unsigned = refl
-refused_unsigned pass request moment (Some basis) unsigned = let e = unsigned basis refl in grind arith
+refused_blind pass request moment = grind arith
 
 -- the key of the basis is the one that the pass names
 seen_key : (club : Club) (words : Words) (key : Key) → key_of words.pass ≡ Some key.name → key_named key.name club ≡ Some key
@@ -113,42 +100,31 @@ seen_key club words key n row basis e =
     let named = same_Some key.name basis.key.name (sym n ∙ rests.key_name) in
     same_Some key basis.key (sym row ∙ rw named rests.row)
 
-pub unsigned_in : TestsTheSignature → (words : Words) (moment : ℕ) (club : Club) (pass : Pass) (key : Key) → words.pass ≡ Ok pass → pass.key ≡ Some key.name
-    → key_named key.name club ≡ Some key → ¬ IsSignedUnder pass key moment → verdict_in club words moment ≡ refusal_verdict NotVerified
+pub unsigned_in : TestsTheSignature → RefusesTheUnsigned
 unsigned_in signature words moment club pass key e n row unsigned =
     let is_false : is_signed_under pass key moment ≡ false =
-    false_from_ne_true (is_signed_under pass key moment) (λ signed. unsigned ((signature pass key moment).0 signed))
-    in
-    ap (λ (p : Result Pass PassFault). answer_to p words.request moment (basis_of club words)) e
-    ∙ refused_unsigned pass words.request moment (basis_of club words)
-    (λ b is. subst (λ (k : Key). is_signed_under pass k moment ≡ false) (seen_key club words key (ap key_of e ∙ n) row b is) is_false)
+    false_from_ne_true (is_signed_under pass key moment) (λ signed. unsigned ((signature pass key moment).0 signed)) in
+    let seen = seen_key club words key (ap key_of e ∙ n) row in
+    grind arith
 
 -- a pass with more caveats, under one basis
 wide_under : (wide narrow : Pass) (more : List (Option Caveat)) (request : Request) (moment : ℕ) (basis : Option Basis)
     → narrow.caveats ≡ wide.caveats ++ more → ((b : Basis) → basis ≡ Some b → is_signed_under wide b.key moment ≡ true)
     → IsServed (answer_to (Ok narrow) request moment basis).reply → answer_to (Ok wide) request moment basis ≡ answer_to (Ok narrow) request moment basis
-wide_under wide narrow more request moment None e signed h = absurd (h NotVerified refl)
+wide_under wide narrow more request moment None e signed h = refl
 wide_under wide narrow more request moment (Some basis) e signed h =
     let accepted = served_under narrow request moment basis h in
     let ask = ask_of (view_of basis request moment) request moment in
-    let faultless = subst (λ (caveats : List (Option Caveat)). first_fault_from 1 caveats ask ≡ None) e accepted.faultless in
-    let wider : PassesTests wide request moment basis =
-    record { signed = signed basis refl; not_revoked = accepted.not_revoked; faultless = faultless_front 1 wide.caveats more ask faultless }
-    in
-    passing_under wide request moment basis wider ∙ sym (passing_under narrow request moment basis accepted)
+    let faultless = faultless_front 1 wide.caveats more ask (rw e at accepted.faultless) in
+    let is_signed = signed basis refl in
+    grind arith
 
 -- the same in a club: both passes have one basis, which rests on the row of their key
-pub wide_in : TestsTheSignature → (wide narrow : Pass) (more : List (Option Caveat)) (key : Key) (request : Request) (moment : ℕ) (club : Club)
-    → wide.key ≡ Some key.name → narrow.key ≡ Some key.name → narrow.caveats ≡ wide.caveats ++ more → key_named key.name club ≡ Some key
-    → IsSignedUnder wide key moment → IsServed (verdict_in club (words_with narrow request) moment).reply
-    → verdict_in club (words_with wide request) moment ≡ verdict_in club (words_with narrow request) moment
+pub wide_in : TestsTheSignature → MoreCaveatsNeverOpenMore
 wide_in signature wide narrow more key request moment club w n e row signed h =
     let words = words_with narrow request in
-    let same : basis_of club (words_with wide request) ≡ basis_of club words =
-    ap (λ (name : Option (List ℕ)). option_and_then (basis_under club request) (option_and_then (λ (x : List ℕ). key_named x club) name)) (w ∙ sym n)
-    in
+    let same : basis_of club (words_with wide request) ≡ basis_of club words = rw (w, n) refl in
     let of_row : (b : Basis) → basis_of club words ≡ Some b → is_signed_under wide b.key moment ≡ true =
-    λ b is. subst (λ (k : Key). is_signed_under wide k moment ≡ true) (seen_key club words key n row b is) ((signature wide key moment).1 signed)
-    in
+    λ b is. rw (← seen_key club words key n row b is) ((signature wide key moment).1 signed) in
     ap (λ (b : Option Basis). answer_to (Ok wide) request moment b) same
     ∙ wide_under wide narrow more request moment (basis_of club words) e of_row h
