@@ -24,44 +24,29 @@ use Rattle.club_laws.proofs.ServedPasses.{accepted_under}
 use Rattle.club_laws.proofs.KeptByRuns.{club_after-append, replies_of-append}
 use Rattle.club_laws.proofs.OnRecord.{IsAgain, IsRecorded, recorded_when_served, stays_on_record}
 
-same_lookups : {A : Type 0} (f g : ℕ → Option A) → ((n : ℕ) → f n ≡ g n) → (o : Option ℕ) → option_and_then f o ≡ option_and_then g o
-same_lookups f g h o = grind (arith, h)
-
--- the view of an accepted request holds the booking that the club has under the key and the number
-pub seen_booking : (club : Club) (words : Words) (moment : ℕ) (basis : Basis) (key : List ℕ) → basis_of club words ≡ Some basis → key_of words.pass ≡ Some key
-    → (view_of basis words.request moment).booking ≡ option_and_then (λ (number : ℕ). booking_under key number club.bookings) (request_number words.request)
-seen_booking club words moment basis key is named =
+-- the view of an accepted request holds the booking that is on record
+seen_on_record : (club : Club) (words : Words) (moment : ℕ) (basis : Basis) (reply : Reply) (r : IsRecorded club.bookings words reply)
+    → basis_of club words ≡ Some basis → (view_of basis words.request moment).booking ≡ Some r.booking
+seen_on_record club words moment basis reply r is =
     let rests = rests_on_name club words basis is in
-    let same : basis.key.name ≡ key = let e : Some basis.key.name ≡ Some key = sym rests.key_name ∙ named in cc in
-    same_lookups (λ (number : ℕ). booking_under basis.key.name number basis.bookings) (λ (number : ℕ). booking_under key number club.bookings)
-    (λ number.
-    ap (λ (b : Basis). booking_under basis.key.name number b.bookings) rests.whole
-    ∙ (own_booking club words basis.key basis.member number (known_rows club words basis is)
-    ∙ ap (λ (name : List ℕ). booking_under name number club.bookings) same))
-    (request_number words.request)
+    let own = own_booking club words basis.key basis.member r.number (known_rows club words basis is) in
+    let number = r.number_is in
+    let named = r.key_name in
+    let found = r.found in
+    grind arith
 
-decides_by_record : (bookings : List Booking) (key : List ℕ) (number : ℕ) (booking : Booking) (request : Request) (reply : Reply) (view : View) (moment : ℕ)
-    → request_number request ≡ Some number → booking_under key number bookings ≡ Some booking → IsAgain booking request reply
-    → view.booking ≡ option_and_then (λ (n : ℕ). booking_under key n bookings) (request_number request)
-    → verdicts.verdict_of view request moment ≡ verdicts.reply_only reply
-decides_by_record bookings key number booking (asked.Book slot n guests) reply view moment is found again e = grind arith
-decides_by_record bookings key number booking (asked.Cancel slot n) reply view moment is found again e = grind arith
-decides_by_record bookings key number booking request reply view moment is found again e = absurd again
-
--- an accepted request is answered by the decision
-accepted_answer : TestsTheSet → TestsTheSignature → (club : Club) (words : Words) (moment : ℕ) (a : IsAcceptedIn club words moment)
-    → verdict_in club words moment ≡ verdicts.verdict_of (view_of a.basis words.request moment) words.request moment
-accepted_answer set signature club words moment a =
-    rw (a.known, a.read) (accepted_under set signature a.pass words.request moment a.basis a.acceptance)
+decides_by_record : (booking : Booking) (request : Request) (reply : Reply) (view : View) (moment : ℕ) → view.booking ≡ Some booking
+    → IsAgain booking request reply → verdicts.verdict_of view request moment ≡ verdicts.reply_only reply
+decides_by_record booking request reply view moment e again = grind arith
 
 step_by_record : TestsTheSet → TestsTheSignature → (club : Club) (words : Words) (moment : ℕ) (reply : Reply) → IsRecorded club.bookings words reply
     → IsAcceptedIn club words moment
     → step club (Asked words moment) ≡ record { reply = ToMember reply; club = club }
 step_by_record set signature club words moment reply r a =
-    ap (verdict_outcome club)
-    (accepted_answer set signature club words moment a
-    ∙ decides_by_record club.bookings r.key r.number r.booking words.request reply (view_of a.basis words.request moment) moment r.number_is r.found r.again
-    (seen_booking club words moment a.basis r.key a.known r.key_name))
+    let accepted = accepted_under set signature a.pass words.request moment a.basis a.acceptance in
+    let seen = seen_on_record club words moment a.basis reply r a.known in
+    let decided = decides_by_record r.booking words.request reply (view_of a.basis words.request moment) moment seen r.again in
+    rw (a.known, a.read) (ap (verdict_outcome club) (accepted ∙ decided))
 
 -- what was served within a history is on record after it
 pub recorded_since : (club : Club) (history : List Event) (words : Words) (reply : Reply) → WasServed club history words reply
