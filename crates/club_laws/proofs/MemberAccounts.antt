@@ -7,6 +7,8 @@ use Rattle.std.specs.List.{list_any}
 use Rattle.std.proofs.lemmas.List.Folds.{list_any-append, find-append}
 use Rattle.club_rows.specs.declared.member.Member.{Member}
 use Rattle.club_rows.specs.declared.key.Key.{Key}
+use Rattle.club_core.specs.After.{after}
+use Rattle.club_core.specs.Run.{ToOffice, done_answer}
 use Rattle.club_core.specs.declared.verdict.Verdict.{Verdict}
 use Rattle.club_core.specs.declared.change.Change.{Change}
 use Rattle.club_core.specs.declared.command.Command.{Command}
@@ -36,30 +38,23 @@ abbrev pub is_among : List (List ℕ) → List ℕ → Bool
 is_among keys key = list_any (λ (k : List ℕ). bytes_eq k key) keys
 
 module _ (member : List ℕ) where
-  -- after the command, the member's keys are those before and the one that was given
-  abbrev GivesKey : Club → List ℕ → Command → Result Change OfficeFault → Type 0
-  GivesKey club key command verdict =
-      is_key_of member (command_outcome club command verdict).club key ≡ (is_key_of member club key
-      || is_among (key_given member (Commanded command) (command_outcome club command verdict).reply) key)
-
-  gives_key : (club : Club) (key : List ℕ) (command : Command) → GivesKey club key command (office_verdict club command)
-  gives_key club key command = command_cases (GivesKey club key command) club (λ fault. grind arith) command (given command)
+  keys_of_step : (club : Club) (key : List ℕ) (event : Event) → is_key_of member (step club event).club key
+      ≡ (is_key_of member club key || is_among (key_given member event (step club event).reply) key)
+  keys_of_step club key (Asked words moment) = let kept = (answer_keeps club words moment).keys in grind arith
+  keys_of_step club key (Commanded command) =
+      command_cases (λ (v : Result Change OfficeFault). is_key_of member (command_outcome club command v).club key ≡ (is_key_of member club key
+      || is_among (key_given member (Commanded command) (command_outcome club command v).reply) key)) club (λ fault. grind arith) command (given command)
     where
-      given : (c : Command) (r : CommandRestsOn club c) → GivesKey club key c (Ok (change_of club c r))
+      given : (c : Command) (r : CommandRestsOn club c) → is_key_of member (after (change_of club c r) club) key
+          ≡ (is_key_of member club key || is_among (key_given member (Commanded c) (ToOffice (done_answer c))) key)
       given (AddKey name owner root) r =
-          let new : Key = record { name = name; member = owner; root = root; older = None; revoked = false } in
-          grind (arith, is_key_of-added member club new key)
+          grind (arith, is_key_of-added member club (record { name = name; member = owner; root = root; older = None; revoked = false }) key)
       given (RevokeKey name) r =
           grind (arith, is_key_of-edited (λ row. row.root) (λ row. row.older) (λ row. (revoked_key name row).revoked) member club key)
       given (RotateKey name root until) r =
           let edit = rotated_key name root until in
           grind (arith, is_key_of-edited (λ row. (edit row).root) (λ row. (edit row).older) (λ row. row.revoked) member club key)
       given c r = grind arith
-
-  keys_of_step : (club : Club) (key : List ℕ) (event : Event) → is_key_of member (step club event).club key
-      ≡ (is_key_of member club key || is_among (key_given member event (step club event).reply) key)
-  keys_of_step club key (Asked words moment) = let kept = (answer_keeps club words moment).keys in grind arith
-  keys_of_step club key (Commanded command) = gives_key club key command
 
   -- a member's keys after a run are those before and those that the run gave
   pub keys_of_run : (club : Club) (key : List ℕ) (events : List Event) → is_key_of member (club_after club events) key
@@ -88,15 +83,16 @@ credit_grown name other points (m ∷ members) known =
     grind (arith, credit_grown name other points members)
 
 module _ (name : List ℕ) where
-  abbrev Credits : Club → Command → Result Change OfficeFault → Type 0
-  Credits club command verdict =
-      credit_of (member_named name (command_outcome club command verdict).club) ≡ credit_of (member_named name club) + credit_accepted name (Commanded command)
-      (command_outcome club command verdict).reply
-
-  credits : (club : Club) (command : Command) → Credits club command (office_verdict club command)
-  credits club command = command_cases (Credits club command) club (λ fault. grind arith) command (credited command)
+  credit_of_step : (club : Club) (event : Event) → credit_of (member_named name (step club event).club)
+      ≡ credit_of (member_named name club) + credit_accepted name event (step club event).reply
+  credit_of_step club (Asked words moment) = let kept = (answer_keeps club words moment).members in grind arith
+  credit_of_step club (Commanded command) =
+      command_cases (λ (v : Result Change OfficeFault). credit_of (member_named name (command_outcome club command v).club)
+      ≡ credit_of (member_named name club) + credit_accepted name (Commanded command) (command_outcome club command v).reply) club (λ fault. grind arith)
+      command (credited command)
     where
-      credited : (c : Command) (r : CommandRestsOn club c) → Credits club c (Ok (change_of club c r))
+      credited : (c : Command) (r : CommandRestsOn club c) → credit_of (member_named name (after (change_of club c r) club))
+          ≡ credit_of (member_named name club) + credit_accepted name (Commanded c) (ToOffice (done_answer c))
       credited (AddMember other quota) r =
           let new : Member = record { name = other; credited = 0; quota = quota } in
           grind (arith, find-append (λ (m : Member). bytes_eq m.name name) club.members (new ∷ []))
@@ -104,11 +100,6 @@ module _ (name : List ℕ) where
           credit_grown name other points club.members (λ e. subst (λ (n : List ℕ). is_some (find (λ (m : Member). bytes_eq m.name n) club.members)
           ≡ true) (bytes_same other name e) (ap (λ (o : Option Member). is_some o) r.1))
       credited c r = grind arith
-
-  credit_of_step : (club : Club) (event : Event) → credit_of (member_named name (step club event).club)
-      ≡ credit_of (member_named name club) + credit_accepted name event (step club event).reply
-  credit_of_step club (Asked words moment) = let kept = (answer_keeps club words moment).members in grind arith
-  credit_of_step club (Commanded command) = credits club command
 
   -- a member's credit after a run is that before and what the run credited
   pub credit_of_run : (club : Club) (events : List Event) → credit_of (member_named name (club_after club events))
