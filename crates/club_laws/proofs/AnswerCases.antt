@@ -25,8 +25,34 @@ use Rattle.club_core.specs.Sums.{taken_in, balance_of, booking_under}
 use Rattle.club_core.specs.Basis.{Basis, basis_of, view_of}
 use Rattle.club_core.specs.Verdict as verdicts
 use Rattle.club_core.specs.Answer.{answer_to, verdict_in}
-use Rattle.club_laws.proofs.BasisRows.{Knows, basis_with, rests_on_name, known_rows}
 use Rattle.club_laws.proofs.FoundRows.{found_passes, found_is_there, find-filter, any_passes, any-filter}
+use Rattle.std.proofs.Common.{List}
+use Rattle.club_core.specs.Request.{request_slot}
+use Rattle.club_core.specs.Club.{key_named, member_named}
+use Rattle.club_core.specs.Basis.{state_of, key_of}
+use Rattle.club_laws.proofs.NamedRows.{named}
+
+abbrev pub basis_with : Club → Request → Key → Member → Basis
+basis_with club request key member =
+    record { key = key; member = member; bookings = bookings_of member.name club; state = state_of club (request_slot request) }
+
+-- the key that the words name, and its member
+pub record Knows (club : Club) (words : Words) (key : Key) (member : Member) : Type 0 where
+  pub key_name : key_of words.pass ≡ Some key.name
+  pub known : key_named key.name club ≡ Some key
+  pub owned : member_named key.member club ≡ Some member
+
+key_is_named : (club : Club) (name : List ℕ) (key : Key) → key_named name club ≡ Some key → key.name ≡ name
+key_is_named club name key = named (λ (k : Key). k.name) name club.keys key
+
+-- the rows of a basis, and all that it is made of
+pub known_rows : (club : Club) (words : Words) (basis : Basis) → basis_of club words ≡ Some basis → Knows club words basis.key basis.member
+known_rows club words basis e =
+    record { key_name = grind (arith, key_is_named club); known = grind (arith, key_is_named club); owned = grind arith }
+
+pub whole_basis : (club : Club) (words : Words) (basis : Basis) → basis_of club words ≡ Some basis
+    → basis ≡ basis_with club words.request basis.key basis.member
+whole_basis club words basis e = grind arith
 
 -- a reply that names no booking, and doesn't say that memory or storage was refused
 abbrev pub IsSilent : Reply → Type 0
@@ -121,7 +147,7 @@ module _ (P : Verdict → Type 0) (club : Club) (words : Words) (moment : ℕ) (
   text_cases : (pass : Result Pass PassFault) (basis : Option Basis) → basis_of club words ≡ basis
       → P (answer_to pass words.request moment basis)
   text_cases (Ok pass) (Some basis) e =
-      subst (λ (b : Basis). P (answer_to (Ok pass) words.request moment (Some b))) (sym (rests_on_name club words basis e).whole)
+      subst (λ (b : Basis). P (answer_to (Ok pass) words.request moment (Some b))) (sym (whole_basis club words basis e))
       (known_cases basis.key basis.member (known_rows club words basis e) pass)
   text_cases pass basis e = grind (arith, w.silent)
 

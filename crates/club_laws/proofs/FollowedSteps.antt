@@ -18,7 +18,7 @@ use Rattle.club_core.specs.Request.{request_slot}
 use Rattle.club_core.specs.Run.{Event, Asked, Commanded, step, after_change, command_outcome, EventReply, ToMember}
 use Rattle.club_core.specs.Solo.{OwnEvent, OwnAsk, OwnChange, outside, own_ask, own_change, own_part, part_of, solo_verdict}
 use Rattle.club_laws.proofs.AnswerCases.{is_own_key, answer_cases, written}
-use Rattle.club_laws.proofs.BasisRows.{known_rows}
+use Rattle.club_laws.proofs.AnswerCases.{known_rows}
 use Rattle.club_laws.proofs.ChangedParts.{IsFresh, is_named, part_changed}
 use Rattle.club_laws.proofs.CommandCases.{CommandRestsOn, change_of, command_cases}
 use Rattle.club_laws.proofs.FoundRows.{found_passes, bytes_same}

@@ -76,9 +76,6 @@ any-filter p q (y ∷ ys) = grind (arith, any-filter p q ys)
 pub bytes_same : (xs ys : List ℕ) → bytes_eq xs ys ≡ true → xs ≡ ys
 bytes_same xs ys = (bytes_eq-Decides xs ys).0
 
-pub same_bytes : (xs : List ℕ) → bytes_eq xs xs ≡ true
-same_bytes xs = (bytes_eq-Decides xs xs).1 refl
-
 pub same_bytes_of : (xs ys : List ℕ) → xs ≡ ys → bytes_eq xs ys ≡ true
 same_bytes_of xs ys = (bytes_eq-Decides xs ys).1
 

@@ -4,14 +4,13 @@ use Rattle.std.proofs.lemmas.Slice.Eq.{bytes_eq-Decides}
 use Rattle.std.specs.Prelude.{All, AllPairs, Contains, ◌&&◌, ◌||◌}
 use Rattle.std.specs.Str.{bytes_eq}
 use Rattle.std.specs.List.{list_any}
-use Rattle.std.proofs.lemmas.List.Elements.{All-map, All-contains}
 use Rattle.std.proofs.lemmas.List.Folds.{list_any-append, Any-from_list_any}
 use Rattle.club_rows.specs.declared.key.Key.{Key}
 use Rattle.club_rows.specs.declared.key.OlderRoot.{OlderRoot}
 use Rattle.club_rows.specs.declared.booking.Booking.{Booking}
 use Rattle.club_core.specs.Club.{Club, key_named, is_key_of, bookings_of}
-use Rattle.club_laws.proofs.FoundRows.{any-filter, any-map, other_bytes}
-use Rattle.club_laws.proofs.NamedRows.{only_named}
+use Rattle.club_laws.proofs.FoundRows.{any-filter, any-map}
+use Rattle.club_laws.proofs.NamedRows.{fresh_differs, only_named}
 use Rattle.club_laws.proofs.Filtering.{filter_same}
 
 -- whether the key has this name and this member
@@ -48,16 +47,10 @@ pub bookings_of-added : (member : List ℕ) (club : Club) (key : Key) → All (�
 bookings_of-added member club key fresh known =
     filter_same (λ (booking : Booking). is_key_of member (record club { keys = club.keys ++ key ∷ [] }) booking.key) (λ (booking : Booking).
     is_key_of member club booking.key) club.bookings
-    (λ k d short. same (get_or club.bookings k d) (known k d short))
-  where
-    same : (booking : Booking) → Contains (map (λ (k : Key). k.name) club.keys) booking.key
-        → is_key_of member (record club { keys = club.keys ++ key ∷ [] }) booking.key ≡ is_key_of member club booking.key
-    same booking there =
-        let other : booking.key ≢ key.name = All-contains (λ (name : List ℕ).
-        name ≢ key.name) (map (λ (k : Key). k.name) club.keys) booking.key
-        (All-map (λ (name : List ℕ). name ≢ key.name) (λ (k : Key). k.name) club.keys fresh) there in
-        let differs = other_bytes key.name booking.key (λ e. other (sym e)) in
-        grind (arith, is_key_of-added member club key booking.key)
+    (λ k d short.
+    let name = (get_or club.bookings k d).key in
+    let differs = fresh_differs (λ (k : Key). k.name) key.name name club.keys fresh (known k d short) in
+    grind (arith, is_key_of-added member club key name, bytes_eq-Decides name key.name, bytes_eq-Decides key.name name))
 
 pub bookings_of-edited : (root : Key → List ℕ) (older : Key → Option OlderRoot) (is_revoked : Key → Bool) (member : List ℕ) (club : Club)
     → bookings_of member (record club { keys = map (edited root older is_revoked) club.keys }) ≡ bookings_of member club

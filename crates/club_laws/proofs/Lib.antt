@@ -14,7 +14,6 @@ pub mod CommandCases
 pub mod MemberAccounts
 pub mod PointRuns
 pub mod Filtering
-pub mod BasisRows
 pub mod ServedPasses
 pub mod RevokedKeys
 pub mod ChangedParts

@@ -1,7 +1,7 @@
 -- Rows found by their names, and slots that differ.
-use Rattle.std.proofs.Common.{◌≡◌, ◌≢◌, ℕ, Bool, true, false, List, [], ◌∷◌, ◌++◌, map, Option, Some, None, sym, ◌∙◌, subst, arith, ap}
+use Rattle.std.proofs.Common.{◌≡◌, ◌≢◌, ℕ, Bool, true, false, List, [], ◌∷◌, ◌++◌, map, Some, None, sym, ◌∙◌, subst, arith, ap}
 use Rattle.std.proofs.lemmas.Slice.Eq.{bytes_eq-Decides}
-use Rattle.std.specs.Prelude.{All, AllPairs, Contains, ◌&&◌, ◌==◌, find, is_some}
+use Rattle.std.specs.Prelude.{All, AllPairs, Contains, ◌&&◌, ◌==◌, find}
 use Rattle.std.specs.Str.{bytes_eq}
 use Rattle.std.specs.List.{list_any}
 use Rattle.std.proofs.lemmas.List.Elements.{All-nil, All-cons, All-contains, All-map, Contains-append_left}
@@ -12,12 +12,6 @@ use Rattle.club_rows.specs.declared.booking.Booking.{Booking}
 use Rattle.club_rows.specs.Booking.{same_slot}
 use Rattle.club_core.specs.Sums.{is_under}
 use Rattle.club_laws.proofs.FoundRows.{other_bytes, found_passes, found_is_there, Contains-map, none_found, only_found, All-each, bytes_same, same_bytes_of}
-
-pub none_there : {X : Type 0} (o : Option X) → is_some o ≡ false → o ≡ None
-none_there o e = grind arith
-
-pub some_there : {X : Type 0} (o : Option X) → is_some o ≡ true → (x : X) × (o ≡ Some x)
-some_there o e = grind arith
 
 -- nobody has this name
 pub none_named : {X : Type 0} (name : X → List ℕ) (n : List ℕ) (xs : List X) → find (λ x. bytes_eq (name x) n) xs ≡ None → All (λ x. name x ≢ n) xs
@@ -84,9 +78,6 @@ pub only_numbered : (key : List ℕ) (number : ℕ) (bookings : List Booking) (b
 only_numbered key number bookings booking unique e =
     only_found (λ (a : Booking) (b : Booking). ¬ ((a.key ≡ b.key) × (a.number ≡ b.number))) (is_numbered key number)
     (λ a b h k other. let l = numbered key number a h in let r = numbered key number b k in other (l.0 ∙ sym r.0, l.1 ∙ sym r.1)) bookings booking unique e
-
-pub tests_same : (a b : Bool) → (a ≡ true → b ≡ true) → (b ≡ true → a ≡ true) → a ≡ b
-tests_same a b h k = grind arith
 
 -- a key and number are the booking's, whichever side names them
 pub numbered_back : (key : List ℕ) (number : ℕ) (booking : Booking) → is_numbered key number booking ≡ (bytes_eq key booking.key && number == booking.number)

@@ -26,7 +26,7 @@ use Rattle.club_laws.proofs.KeptByRuns.{kept_by_run}
 use Rattle.club_core.specs.declared.request.Request.TheVariants as asked
 use Rattle.std.proofs.Common.{find, ap, option_map, ◌∙◌}
 use Rattle.club_core.specs.Request.{request_number}
-use Rattle.club_laws.proofs.BasisRows.{Knows}
+use Rattle.club_laws.proofs.AnswerCases.{Knows}
 
 -- the booking is what the request asked for, and the reply that it got
 abbrev pub IsAgain : Booking → Request → Reply → Type 0

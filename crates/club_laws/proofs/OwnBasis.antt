@@ -15,7 +15,7 @@ use Rattle.club_laws.proofs.FoundRows.{found_passes, find_filtered, bytes_same, 
 use Rattle.club_laws.proofs.Filtering.{filter_twice}
 use Rattle.club_laws.proofs.RowSums.{sum_in_parts}
 use Rattle.club_laws.proofs.ChangedParts.{is_named, is_owned, has_name, is_under_one}
-use Rattle.club_laws.proofs.BasisRows.{rests_on_name}
+use Rattle.club_laws.proofs.AnswerCases.{known_rows, whole_basis}
 
 abbrev state_with : Option Facility → ℕ → Bool → SlotState
 state_with facility taken closed = record { facility = facility; held = record { taken = taken; closed = closed } }
@@ -36,13 +36,14 @@ own_state name club (Some slot) = rw (sum_in_parts persons_of (is_in slot) (λ (
 pub own_basis : (name : List ℕ) (club : Club) (words : Words) (basis : Basis) → basis_of club words ≡ Some basis → basis.member.name ≡ name
     → option_map (with_others (outside name club (request_slot words.request))) (basis_of (part_of name club) words) ≡ Some basis
 own_basis name club words basis e same =
-    let rests = rests_on_name club words basis e in
+    let rests = known_rows club words basis e in
     let own = basis.member.name in
     let part = part_of own club in
-    let named = bytes_same own basis.key.member (found_passes (is_named basis.key.member) club.members basis.member rests.member) in
+    let named = bytes_same own basis.key.member (found_passes (is_named basis.key.member) club.members basis.member rests.owned) in
     let key_in : key_named basis.key.name part ≡ Some basis.key =
-    find_filtered (has_name basis.key.name) (is_owned own) club.keys basis.key rests.row (same_bytes_of basis.key.member own (sym named)) in
+    find_filtered (has_name basis.key.name) (is_owned own) club.keys basis.key rests.known (same_bytes_of basis.key.member own (sym named)) in
     let member_in : member_named basis.key.member part ≡ Some basis.member =
-    find_filtered (is_named basis.key.member) (is_named own) club.members basis.member rests.member (same_bytes_of own own refl) in
+    find_filtered (is_named basis.key.member) (is_named own) club.members basis.member rests.owned (same_bytes_of own own refl) in
     subst (λ (n : List ℕ). option_map (with_others (outside n club (request_slot words.request))) (basis_of (part_of n club) words) ≡ Some basis) same
-    (rw (rests.key_name, key_in, member_in, own_bookings own club, own_state own club (request_slot words.request)) (ap Some (sym rests.whole)))
+    (rw (rests.key_name, key_in, member_in, own_bookings own club, own_state own club (request_slot words.request))
+    (ap Some (sym (whole_basis club words basis e))))

@@ -21,7 +21,7 @@ use Rattle.club_core.specs.Run.{Event, Asked, Commanded, step, command_outcome, 
 use Rattle.club_core.specs.Events.{IsEvent}
 use Rattle.club_laws.specs.Points.{Entry, charge_of_reply, charges_of_replies, refund_of_reply, refunds_of_replies, keys_given, credits_accepted, total_under}
 use Rattle.club_laws.specs.Points.{firsts}
-use Rattle.club_laws.specs.Conservation.{IsConserved}
+use Rattle.club_laws.specs.Conservation.{ConservesPoints, SoundClubsHavePlaces, NeverOverbooks}
 use Rattle.club_laws.proofs.FoundRows.{at_found}
 use Rattle.club_laws.proofs.NamedRows.{named, none_named}
 use Rattle.club_laws.proofs.CommandCases.{change_of, command_cases}
@@ -81,8 +81,7 @@ cost_and_refund (b ∷ bookings) h =
 pub sound_empty : IsSound empty_club
 sound_empty = search arith
 
-pub conserved : (events : List Event) (name : List ℕ) (member : Member) → All IsEvent events → member_named name (club_after empty_club events) ≡ Some member
-    → IsConserved (club_after empty_club events) events (replies_of empty_club events) member
+pub conserved : ConservesPoints
 conserved events name member h e =
     let club = club_after empty_club events in
     let replies = replies_of empty_club events in
@@ -111,8 +110,7 @@ conserved events name member h e =
     record { balance_adds_up = omega arith; coverage = covered }
 
 -- who booked a slot of a sound club has a place in it
-pub has_places : (club : Club) (slot : Slot) → IsSound club → MatchOption (facility_named slot.facility club) (taken_in slot club.bookings
-    ≡ 0) (λ (facility : Facility). taken_in slot club.bookings ≤ facility.places)
+pub has_places : SoundClubsHavePlaces
 has_places club slot sound = go (facility_named slot.facility club) refl
   where
     go : (o : Option Facility) → facility_named slot.facility club ≡ o → MatchOption o (taken_in slot club.bookings ≡ 0) (λ (facility : Facility).
@@ -123,7 +121,5 @@ has_places club slot sound = go (facility_named slot.facility club) refl
         bytes_eq f.name slot.facility) club.facilities facility
         sound.places e slot (sym (named (λ (f : Facility). f.name) slot.facility club.facilities facility e))
 
-pub has_room : (events : List Event) (slot : Slot) → All IsEvent events → MatchOption (facility_named slot.facility (club_after empty_club events))
-    (taken_in slot (club_after empty_club events).bookings ≡ 0) (λ (facility : Facility).
-    taken_in slot (club_after empty_club events).bookings ≤ facility.places)
+pub has_room : NeverOverbooks
 has_room events slot h = has_places (club_after empty_club events) slot (sound_run empty_club events sound_empty h)

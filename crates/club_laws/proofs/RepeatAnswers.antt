@@ -1,25 +1,21 @@
 -- What is on record is answered by the record.
-use Rattle.std.proofs.Common.{◌≡◌, ℕ, List, ◌∷◌, ◌++◌, Option, Some, sym, ap, ◌∙◌, arith}
-use Rattle.std.specs.Prelude.{option_and_then}
+use Rattle.std.proofs.Common.{◌≡◌, ℕ, List, ◌∷◌, ◌++◌, Some, sym, ap, ◌∙◌, arith}
 use Rattle.pass_caveats.specs.Laws.{TestsTheSet}
 use Rattle.club_rows.specs.declared.booking.Booking.{Booking}
 use Rattle.club_core.specs.declared.view.View.{View}
 use Rattle.club_core.specs.declared.reply.Reply.{Reply}
 use Rattle.club_core.specs.declared.request.Request.{Request}
-use Rattle.club_core.specs.declared.request.Request.TheVariants as asked
-use Rattle.club_core.specs.Sums.{booking_under}
-use Rattle.club_core.specs.Request.{request_number}
 use Rattle.club_core.specs.Pass.{Words}
 use Rattle.club_core.specs.Club.{Club}
 use Rattle.club_core.specs.Laws.{TestsTheSignature}
-use Rattle.club_core.specs.Basis.{Basis, key_of, basis_of, view_of}
+use Rattle.club_core.specs.Basis.{Basis, basis_of, view_of}
 use Rattle.club_core.specs.Verdict as verdicts
 use Rattle.club_core.specs.Answer.{verdict_in}
 use Rattle.club_core.specs.Run.{Event, Asked, Outcome, step, verdict_outcome, replies_of, club_after, ToMember}
 use Rattle.club_core.specs.Acceptance.{IsAcceptedIn}
 use Rattle.club_laws.specs.Repeats.{RepeatsReturnTheSame, RepeatsMayBeLeftOut, WasServed}
 use Rattle.club_laws.proofs.AnswerCases.{own_booking}
-use Rattle.club_laws.proofs.BasisRows.{rests_on_name, known_rows}
+use Rattle.club_laws.proofs.AnswerCases.{known_rows, whole_basis}
 use Rattle.club_laws.proofs.ServedPasses.{accepted_under}
 use Rattle.club_laws.proofs.KeptByRuns.{club_after-append, replies_of-append}
 use Rattle.club_laws.proofs.OnRecord.{IsAgain, IsRecorded, recorded_when_served, stays_on_record}
@@ -28,8 +24,9 @@ use Rattle.club_laws.proofs.OnRecord.{IsAgain, IsRecorded, recorded_when_served,
 seen_on_record : (club : Club) (words : Words) (moment : ℕ) (basis : Basis) (reply : Reply) (r : IsRecorded club.bookings words reply)
     → basis_of club words ≡ Some basis → (view_of basis words.request moment).booking ≡ Some r.booking
 seen_on_record club words moment basis reply r is =
-    let rests = rests_on_name club words basis is in
-    let own = own_booking club words basis.key basis.member r.number (known_rows club words basis is) in
+    let k = known_rows club words basis is in
+    let own = own_booking club words basis.key basis.member r.number k in
+    let whole = whole_basis club words basis is in
     let number = r.number_is in
     let named = r.key_name in
     let found = r.found in

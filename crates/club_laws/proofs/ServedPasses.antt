@@ -20,7 +20,7 @@ use Rattle.club_core.specs.Answer.{answer_to, ask_of, form_refusal}
 use Rattle.club_core.specs.Verdict.{refusal_verdict, verdict_of}
 use Rattle.club_core.specs.Acceptance.{IsServed, IsAllowedBy, IsAcceptedPass, IsEntitled}
 use Rattle.club_laws.specs.SingleRequest.{RefusesTheUnsigned, MoreCaveatsNeverOpenMore, blind_refusal, words_with}
-use Rattle.club_laws.proofs.BasisRows.{rests_on_name}
+use Rattle.club_laws.proofs.AnswerCases.{known_rows}
 
 -- the pass passes the tests of the answer
 pub record PassesTests (pass : Pass) (request : Request) (moment : ℕ) (basis : Basis) : Type 0 where
@@ -75,13 +75,13 @@ served_entitled set signature words moment club (Err fault) basis e f h = absurd
 served_entitled set signature words moment club (Ok pass) None e f h = absurd (h NotVerified refl)
 served_entitled set signature words moment club (Ok pass) (Some basis) e f h =
     let accepted = served_under pass words.request moment basis h in
-    let rests = rests_on_name club words basis f in
+    let rests = known_rows club words basis f in
     record {
       pass = pass;
       basis = basis;
       read = e;
       key_name = ap key_of (sym e) ∙ rests.key_name;
-      row = rests.row;
+      row = rests.known;
       known = f;
       not_revoked = accepted.not_revoked;
       signed = (signature pass basis.key moment).0 accepted.signed;
@@ -96,9 +96,9 @@ refused_blind pass request moment = grind arith
 seen_key : (club : Club) (words : Words) (key : Key) → key_of words.pass ≡ Some key.name → key_named key.name club ≡ Some key
     → (basis : Basis) → basis_of club words ≡ Some basis → key ≡ basis.key
 seen_key club words key n row basis e =
-    let rests = rests_on_name club words basis e in
+    let rests = known_rows club words basis e in
     let named = same_Some key.name basis.key.name (sym n ∙ rests.key_name) in
-    same_Some key basis.key (sym row ∙ rw named rests.row)
+    same_Some key basis.key (sym row ∙ rw named rests.known)
 
 pub unsigned_in : TestsTheSignature → RefusesTheUnsigned
 unsigned_in signature words moment club pass key e n row unsigned =

@@ -25,7 +25,7 @@ use Rattle.club_core.specs.Answer.{verdict_in}
 use Rattle.club_core.specs.Events.{IsRequest}
 use Rattle.club_laws.proofs.NamedRows.{named_there, only_named, slots_same, is_numbered, only_numbered, found_by_own}
 use Rattle.club_laws.proofs.KeyOwners.{owner}
-use Rattle.club_laws.proofs.BasisRows.{Knows}
+use Rattle.club_laws.proofs.AnswerCases.{Knows}
 use Rattle.club_laws.proofs.AnswerCases.{Books, Cancels, written, answer_cases}
 use Rattle.club_core.specs.declared.request.Request.TheVariants as asked
 use Rattle.std.proofs.lemmas.Bool.Decides.{nat_tests}
