@@ -1,5 +1,5 @@
 -- Lists in a strict order: two of the same elements are equal, and different elements have such a list.
-use Rattle.std.proofs.Common.{◌≡◌, ℕ, zero, suc, ◌<◌, List, [], ◌∷◌, length, get_or, refl, sym, ap, subst, ◌∙◌, ◌⊎◌, inl, inr, arith}
+use Rattle.std.proofs.Common.{◌≡◌, ℕ, zero, suc, ◌<◌, List, [], ◌∷◌, length, get_or, refl, sym, ap, ◌∙◌, ◌⊎◌, inl, inr, arith}
 use Rattle.std.specs.Prelude.{All, AllPairs, Contains, IsPermutation}
 use Rattle.std.proofs.lemmas.List.Elements.{All-cons, All-contains, All-tail, All-weaker}
 use Rattle.std.proofs.lemmas.List.Kept.{AllPairs-cons}
@@ -30,22 +30,18 @@ Asymmetric {X} R = (x y : X) → R x y → R y x → ⊥
 module _ {X : Type 0} (R : X → X → Type 0) (asymmetric : Asymmetric R) where
   heads : (x y : X) (xs ys : List X) → AllPairs R (x ∷ xs) → AllPairs R (y ∷ ys) → Contains (y ∷ ys) x → Contains (x ∷ xs) y → x ≡ y
   heads x y xs ys p q x_there y_there =
-      elim (Contains-cons_cases y ys x x_there) [
-        | inl e ↦ sym e
-        | inr x_later ↦ elim (Contains-cons_cases x xs y y_there) [
-          | inl e ↦ e
-          | inr y_later ↦ absurd (asymmetric x y (All-contains (R x) xs y (later R x xs p) y_later) (All-contains (R y) ys x (later R y ys q) x_later))
-        ]
-      ]
+      let in_ys = Contains-cons_cases y ys x x_there in
+      let in_xs = Contains-cons_cases x xs y y_there in
+      let above = All-contains (R x) xs y (later R x xs p) in
+      let below = All-contains (R y) ys x (later R y ys q) in
+      let once = asymmetric x y in
+      elim in_ys [ inl e ↦ sym e | inr x_later ↦ elim in_xs [ inl e ↦ e | inr y_later ↦ absurd (once (above y_later) (below x_later)) ] ]
 
   tails : (x y : X) (xs ys : List X) → x ≡ y → AllPairs R (x ∷ xs) → ((z : X) → Contains (x ∷ xs) z → Contains (y ∷ ys) z) → (z : X) → Contains xs z →
       Contains ys z
   tails x y xs ys same p to z h =
       elim (Contains-cons_cases y ys z (to z (Contains-there x xs z h))) [
-        | inl e ↦
-            (let below : R x z = All-contains (R x) xs z (later R x xs p) h in
-            let itself : R z z = subst (λ v. R v z) (same ∙ e) below in
-            absurd (asymmetric z z itself itself))
+        | inl e ↦ let itself = rw (same ∙ e) at (All-contains (R x) xs z (later R x xs p) h) in absurd (asymmetric z z itself itself)
         | inr there ↦ there
       ]
 
