@@ -69,6 +69,6 @@ sum_le f p q (x ∷ xs) le =
     let here = le x in grind (arith, sum_le f p q xs le, sum_by-cons f x (filter p xs), sum_by-cons f x (filter q xs))
 
 -- fewer elements have a smaller sum
-pub sum-filter_le : {X : Type 0} (f : X → ℕ) (p q : X → Bool) (xs : List X) → sum_by f (filter p (filter q xs)) ≤ sum_by f (filter p xs)
-sum-filter_le f p q [] = omega arith
-sum-filter_le f p q (x ∷ xs) = grind (arith, sum-filter_le f p q xs, sum_by-cons f x (filter p xs), sum_by-cons f x (filter p (filter q xs)))
+pub sum_filtered_le : {X : Type 0} (f : X → ℕ) (p q : X → Bool) (xs : List X) → sum_by f (filter p (filter q xs)) ≤ sum_by f (filter p xs)
+sum_filtered_le f p q [] = omega arith
+sum_filtered_le f p q (x ∷ xs) = grind (arith, sum_filtered_le f p q xs, sum_by-cons f x (filter p xs), sum_by-cons f x (filter p (filter q xs)))

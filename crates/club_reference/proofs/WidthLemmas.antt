@@ -19,7 +19,7 @@ use Rattle.club_core.specs.Sums.{is_in, taken_in, cost_of, is_under, spent_under
 use Rattle.club_core.specs.After.{after, credited_member, cancelled_booking}
 use Rattle.club_reference.specs.Widths.{FitsWidths}
 use Rattle.club_core.specs.Solo.{part_of}
-use Rattle.club_reference.proofs.RowLemmas.{bytes_eq_refl, bytes_eq_true, find-map, find_filtered, sum_more, sum_map_le, sum-filter_le}
+use Rattle.club_reference.proofs.RowLemmas.{bytes_eq_refl, bytes_eq_true, find-map, find_filtered, sum_more, sum_map_le, sum_filtered_le}
 
 abbrev named : List ℕ → Member → Bool
 named name member = bytes_eq member.name name
@@ -127,8 +127,8 @@ fits_part name club h =
       unique = all_filter (IsNamed (filter own club.members)) own club.members (λ k d lt e.
           find_filtered (named (get_or club.members k d).name) own club.members (get_or club.members k d) (h.unique k d lt) e);
       places = h.places;
-      taken = λ slot. let few = h.taken slot in omega (arith, sum-filter_le persons_of (is_in slot) held club.bookings);
-      spent = λ key. let few = h.spent key in omega (arith, sum-filter_le cost_of (is_under key) held club.bookings);
+      taken = λ slot. let few = h.taken slot in omega (arith, sum_filtered_le persons_of (is_in slot) held club.bookings);
+      spent = λ key. let few = h.spent key in omega (arith, sum_filtered_le cost_of (is_under key) held club.bookings);
       kept = All-filter held (λ (b : Booking). b.cancelled ≡ false → b.refund ≡ 0) club.bookings h.kept;
     }
 
