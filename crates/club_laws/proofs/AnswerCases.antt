@@ -1,7 +1,7 @@
--- The ways in which a request is answered, each with what it rests on.
-use Rattle.std.proofs.Common.{◌≡◌, ℕ, ◌+◌, ◌-◌, true, false, Option, Some, None, Ok, refl, sym, ◌∙◌, subst, arith}
+-- The ways in which a request is answered and a command is decided, each with what it rests on.
+use Rattle.std.proofs.Common.{◌≡◌, ℕ, ◌+◌, ◌-◌, true, false, Option, Some, None, Ok, refl, sym, ◌∙◌, subst, arith, List, ◌≤◌, Err}
 use Rattle.std.proofs.lemmas.Slice.Eq.{bytes_eq-Decides}
-use Rattle.club_laws.proofs.NamedRows.{is_numbered, numbered}
+use Rattle.club_laws.proofs.FoundRows.{is_numbered, numbered, found_passes, found_is_there, find-filter, any_passes, any-filter, named}
 use Rattle.std.specs.Prelude.{Result, ◌&&◌, ◌==◌, nat_lt}
 use Rattle.std.specs.Str.{bytes_eq}
 use Rattle.club_values.specs.declared.slot.Slot.{Slot}
@@ -11,26 +11,28 @@ use Rattle.club_rows.specs.declared.key.Key.{Key}
 use Rattle.club_rows.specs.declared.booking.Booking.{Booking}
 use Rattle.club_core.specs.declared.view.View.{View}
 use Rattle.club_core.specs.declared.verdict.Verdict.{Verdict}
-use Rattle.club_core.specs.declared.refusal.Refusal.TheVariants as refusals
 use Rattle.club_core.specs.declared.reply.Reply.{Reply}
 use Rattle.club_core.specs.declared.reply.Reply.TheVariants.{Booked, Cancelled, Refused}
 use Rattle.club_core.specs.declared.request.Request.{Request}
-use Rattle.club_core.specs.declared.request.Request.TheVariants as asked
 use Rattle.club_rows.specs.Booking.{same_slot, refund_at}
 use Rattle.club_rows.specs.Facility.{charge_of}
 use Rattle.club_core.specs.declared.pass_fault.PassFault.{PassFault}
 use Rattle.club_core.specs.Pass.{Pass, Words}
-use Rattle.club_core.specs.Club.{Club, facility_named, is_key_of, bookings_of, is_closed}
+use Rattle.club_core.specs.Club.{Club, facility_named, is_key_of, bookings_of, is_closed, key_named, member_named}
 use Rattle.club_core.specs.Sums.{taken_in, balance_of, booking_under}
-use Rattle.club_core.specs.Basis.{Basis, basis_of, view_of}
-use Rattle.club_core.specs.Verdict as verdicts
+use Rattle.club_core.specs.Basis.{Basis, basis_of, view_of, state_of, key_of}
 use Rattle.club_core.specs.Answer.{answer_to, verdict_in}
-use Rattle.club_laws.proofs.FoundRows.{found_passes, found_is_there, find-filter, any_passes, any-filter}
-use Rattle.std.proofs.Common.{List}
 use Rattle.club_core.specs.Request.{request_slot}
-use Rattle.club_core.specs.Club.{key_named, member_named}
-use Rattle.club_core.specs.Basis.{state_of, key_of}
-use Rattle.club_laws.proofs.NamedRows.{named}
+use Rattle.club_core.specs.declared.change.Change.{Change}
+use Rattle.club_core.specs.declared.change.Change.TheVariants.{InsertMember, AddCredit, InsertFacility, InsertKey, MarkRevoked, ReplaceRoot, MarkClosed}
+use Rattle.club_core.specs.declared.command.Command.{Command}
+use Rattle.club_core.specs.declared.command.Command.TheVariants.{AddMember, Credit, AddFacility, AddKey, RevokeKey, RotateKey, CloseSlot}
+use Rattle.club_core.specs.declared.command.OfficeFault.{OfficeFault}
+use Rattle.club_core.specs.Office.{office_verdict, are_limits}
+use Rattle.std.proofs.lemmas.Bool.Decides.{nat_tests}
+use Rattle.club_core.specs.declared.refusal.Refusal.TheVariants as refusals
+use Rattle.club_core.specs.declared.request.Request.TheVariants as asked
+use Rattle.club_core.specs.Verdict as verdicts
 
 abbrev pub basis_with : Club → Request → Key → Member → Basis
 basis_with club request key member =
@@ -153,3 +155,50 @@ module _ (P : Verdict → Type 0) (club : Club) (words : Words) (moment : ℕ) (
 
   pub answer_cases : P (verdict_in club words moment)
   answer_cases = text_cases words.pass (basis_of club words) refl
+
+-- ---- what a command of the office comes to: a fault, or the change that it asks for
+
+-- what a command that is carried out rests on
+abbrev pub CommandRestsOn : Club → Command → Type 0
+CommandRestsOn club (AddMember name quota) = (quota ≤ 99) × (member_named name club ≡ None)
+CommandRestsOn club (Credit name points) = (member : Member) × (member_named name club ≡ Some member) × (member.credited + points ≤ 999_999_999)
+CommandRestsOn club (AddFacility name kind places price opens shuts) = (are_limits places price opens shuts ≡ true) × (facility_named name club ≡ None)
+CommandRestsOn club (AddKey name member root) = (owner : Member) × (member_named member club ≡ Some owner) × (key_named name club ≡ None)
+CommandRestsOn club (RevokeKey name) = (key : Key) × (key_named name club ≡ Some key)
+CommandRestsOn club (RotateKey name root until) = (key : Key) × (key_named name club ≡ Some key)
+CommandRestsOn club (CloseSlot slot) = (facility : Facility) × (facility_named slot.facility club ≡ Some facility) × (is_closed slot club ≡ false)
+
+-- the change that such a command makes
+abbrev pub change_of : (club : Club) (command : Command) → CommandRestsOn club command → Change
+change_of club (AddMember name quota) r = InsertMember (record { name = name; credited = 0; quota = quota })
+change_of club (Credit name points) r = AddCredit name points
+change_of club (AddFacility name kind places price opens shuts) r = InsertFacility (record {
+  name = name;
+  kind = kind;
+  places = places;
+  price = price;
+  opens =
+      opens;
+  shuts = shuts;
+})
+change_of club (AddKey name member root) r = InsertKey (record { name = name; member = member; root = root; older = None; revoked = false })
+change_of club (RevokeKey name) r = MarkRevoked name
+change_of club (RotateKey name root until) r = ReplaceRoot name r.0.root root until
+change_of club (CloseSlot slot) r = MarkClosed slot
+
+module _ (P : Result Change OfficeFault → Type 0) (club : Club) (fails : (fault : OfficeFault) → P (Err fault)) where
+  pub command_cases : (command : Command) → ((r : CommandRestsOn club command) → P (Ok (change_of club command r))) → P (office_verdict club command)
+  command_cases (AddMember name quota) done =
+      let ok = λ (few : quota ≤ 99) (new : member_named name club ≡ None). done (few, new) in grind (arith, nat_tests, fails)
+  command_cases (Credit name points) done =
+      let ok = λ (m : Member) (found : member_named name club ≡ Some m) (few : m.credited + points ≤ 999_999_999). done (m, found, few) in
+      grind (arith, nat_tests, fails)
+  command_cases (AddFacility name kind places price opens shuts) done =
+      let ok = λ (fit : are_limits places price opens shuts ≡ true) (new : facility_named name club ≡ None). done (fit, new) in grind (arith, fails)
+  command_cases (AddKey name member root) done =
+      let ok = λ (m : Member) (found : member_named member club ≡ Some m) (new : key_named name club ≡ None). done (m, found, new) in grind (arith, fails)
+  command_cases (RevokeKey name) done = let ok = λ (k : Key) (found : key_named name club ≡ Some k). done (k, found) in grind (arith, fails)
+  command_cases (RotateKey name root until) done = let ok = λ (k : Key) (found : key_named name club ≡ Some k). done (k, found) in grind (arith, fails)
+  command_cases (CloseSlot slot) done =
+      let ok = λ (f : Facility) (found : facility_named slot.facility club ≡ Some f) (new : is_closed slot club ≡ false). done (f, found, new) in
+      grind (arith, fails)

@@ -15,9 +15,9 @@ use Rattle.club_core.specs.Club.{Club, key_named, keys_of, is_key_of, bookings_o
 use Rattle.club_core.specs.After.{after, credited_member, revoked_key, rotated_key, cancelled_booking}
 use Rattle.club_core.specs.Solo.{part_of}
 use Rattle.club_laws.specs.Frame.{part_after}
-use Rattle.club_laws.proofs.Filtering.{filter_fixed, fixed_where_none, filter-map}
+use Rattle.club_laws.proofs.FilteredRows.{filter_fixed, fixed_where_none, filter-map}
 use Rattle.club_laws.proofs.KeyOwners.{edited, bookings_of-added, bookings_of-edited}
-use Rattle.club_laws.proofs.NamedRows.{none_named}
+use Rattle.club_laws.proofs.FoundRows.{none_named}
 
 abbrev pub is_named : List ℕ → Member → Bool
 is_named name member = bytes_eq member.name name

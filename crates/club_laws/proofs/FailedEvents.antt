@@ -1,13 +1,27 @@
--- Failed events are left out of a run, one by one; runs are cut and joined.
-use Rattle.std.proofs.Common.{◌≡◌, inl, false, List, [], ◌∷◌, ◌++◌, refl, arith}
-use Rattle.std.proofs.lemmas.List.Elements.{All-nil, All-cons, All-head, All-tail}
+-- Runs in which events failed: these are left out, one by one; runs are cut and joined. The machine itself never fails.
+use Rattle.std.proofs.Common.{◌≡◌, ◌≢◌, ℕ, false, arith, inl, List, [], ◌∷◌, ◌++◌, refl}
+use Rattle.club_core.specs.declared.refusal.Refusal.TheVariants.{Unavailable}
+use Rattle.club_core.specs.declared.reply.Reply.TheVariants.{Refused}
+use Rattle.club_core.specs.declared.verdict.Verdict.{Verdict}
+use Rattle.club_core.specs.Answer.{verdict_in}
 use Rattle.club_core.specs.Club.{Club}
+use Rattle.club_core.specs.Pass.{Words}
+use Rattle.club_core.specs.Run.{Event, Asked, Commanded, step, ToMember, Response}
+use Rattle.club_laws.specs.Failed.{is_unavailable, CutsRuns, JoinsRuns, LeavesEvents, LeavesOutFailed, RunsWithoutFailures, Presentation, present_reply}
+use Rattle.club_laws.specs.Failed.{has_failed, IsRun, answered_events}
+use Rattle.club_laws.proofs.AnswerCases.{answer_cases}
+use Rattle.std.proofs.lemmas.List.Elements.{All-nil, All-cons, All-head, All-tail}
 use Rattle.club_core.specs.declared.command.OfficeAnswer.{OfficeAnswer}
-use Rattle.club_core.specs.Run.{Event, Asked, Commanded, step, Response}
 use Rattle.club_core.specs.Events.{IsEvent}
-use Rattle.club_laws.specs.Failed.{CutsRuns, JoinsRuns, LeavesEvents, LeavesOutFailed, RunsWithoutFailures, Presentation, present_reply, has_failed, IsRun}
-use Rattle.club_laws.specs.Failed.{answered_events}
-use Rattle.club_laws.proofs.MachineAnswers.{answers_requests}
+
+pub answers_requests : (club : Club) (words : Words) (moment : ℕ) → is_unavailable (verdict_in club words moment).reply ≡ false
+answers_requests club words moment = answer_cases (λ (v : Verdict). is_unavailable v.reply ≡ false) club words moment (grind arith)
+
+pub never_unavailable : (club : Club) (event : Event) → (step club event).reply ≢ ToMember (Refused Unavailable)
+never_unavailable club (Asked words moment) e = let answers = answers_requests club words moment in grind arith
+never_unavailable club (Commanded command) e = grind arith
+
+-- ---- failed events are left out of a run, one by one; runs are cut and joined
 
 -- a run has the responses and the end of the run of the answered events alone
 pub run_of_answered : {O : Type 0} → LeavesOutFailed O

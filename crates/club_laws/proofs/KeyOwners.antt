@@ -9,9 +9,8 @@ use Rattle.club_rows.specs.declared.key.Key.{Key}
 use Rattle.club_rows.specs.declared.key.OlderRoot.{OlderRoot}
 use Rattle.club_rows.specs.declared.booking.Booking.{Booking}
 use Rattle.club_core.specs.Club.{Club, key_named, is_key_of, bookings_of}
-use Rattle.club_laws.proofs.FoundRows.{any-filter, any-map}
-use Rattle.club_laws.proofs.NamedRows.{fresh_differs, only_named}
-use Rattle.club_laws.proofs.Filtering.{filter_same}
+use Rattle.club_laws.proofs.FoundRows.{any-filter, any-map, fresh_differs, only_named}
+use Rattle.club_laws.proofs.FilteredRows.{filter_same}
 
 -- whether the key has this name and this member
 abbrev pub is_own : List ℕ → List ℕ → Key → Bool

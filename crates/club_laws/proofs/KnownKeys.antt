@@ -12,9 +12,8 @@ use Rattle.club_core.specs.declared.change.Change.{Change}
 use Rattle.club_core.specs.declared.change.Change.TheVariants.{InsertKey}
 use Rattle.club_core.specs.Club.{Club, IsSound}
 use Rattle.club_core.specs.After.{after, revoked_key, rotated_key, cancelled_booking}
-use Rattle.club_laws.proofs.FoundRows.{other_bytes, AllPairs-map}
+use Rattle.club_laws.proofs.FoundRows.{other_bytes, AllPairs-map, none_named, still_there, named_there}
 use Rattle.club_laws.proofs.KeyOwners.{edited}
-use Rattle.club_laws.proofs.NamedRows.{none_named, still_there}
 use Rattle.club_laws.proofs.ChangedParts.{HasKnownKeys, IsFresh, has_name}
 use Rattle.std.proofs.Common.{Result, false, arith}
 use Rattle.club_core.specs.declared.verdict.Verdict.{Verdict}
@@ -22,9 +21,7 @@ use Rattle.club_core.specs.declared.command.Command.{Command}
 use Rattle.club_core.specs.declared.command.Command.TheVariants.{AddKey, RevokeKey, RotateKey}
 use Rattle.club_core.specs.declared.command.OfficeFault.{OfficeFault}
 use Rattle.club_core.specs.Run.{Event, Asked, Commanded, step, after_change, command_outcome}
-use Rattle.club_laws.proofs.AnswerCases.{answer_cases, written}
-use Rattle.club_laws.proofs.CommandCases.{CommandRestsOn, change_of, command_cases}
-use Rattle.club_laws.proofs.NamedRows.{named_there}
+use Rattle.club_laws.proofs.AnswerCases.{answer_cases, written, CommandRestsOn, change_of, command_cases}
 
 -- what the laws of a member's part need of a club
 pub record IsKeyed (club : Club) : Type 0 where

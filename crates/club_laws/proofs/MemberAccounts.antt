@@ -21,8 +21,7 @@ use Rattle.club_core.specs.Run.{Event, Asked, Commanded, step, after_change, com
 use Rattle.club_laws.specs.Points.{key_given, keys_given, credit_accepted, credits_accepted}
 use Rattle.club_laws.proofs.FoundRows.{bytes_same}
 use Rattle.club_laws.proofs.KeyOwners.{is_key_of-added, is_key_of-edited}
-use Rattle.club_laws.proofs.AnswerCases.{answer_cases}
-use Rattle.club_laws.proofs.CommandCases.{command_cases, CommandRestsOn, change_of}
+use Rattle.club_laws.proofs.AnswerCases.{answer_cases, command_cases, CommandRestsOn, change_of}
 
 -- requests change only bookings
 pub record KeepsPeople (club new : Club) : Type 0 where

@@ -6,8 +6,9 @@ use Rattle.std.proofs.lemmas.List.Elements.{filter_agree}
 use Rattle.std.proofs.lemmas.List.Sums.{sum_by-cons}
 use Rattle.std.proofs.lemmas.Bool.{false_from_ne_true}
 use Rattle.club_laws.specs.Points.{Entry, is_entry_of, firsts, charge_of_reply, refund_of_reply}
-use Rattle.club_laws.proofs.FoundRows.{found_is_there, none_found, any_passes, any-map, at_found, AllPairs-head, AllPairs-tail, All-each}
-use Rattle.club_laws.proofs.Filtering.{filter-filter, filter-map}
+use Rattle.club_laws.proofs.FoundRows.{found_is_there, none_found, any_passes, any-map, at_found, AllPairs-head, AllPairs-tail, All-each, is_numbered}
+use Rattle.club_laws.proofs.FoundRows.{self_numbered, numbered_back, numbered, only_numbered, found_by_own}
+use Rattle.club_laws.proofs.FilteredRows.{filter-filter, filter-map, sum-map, sum_middle, sum_one_more, fixed_where_none}
 use Rattle.std.specs.List.{list_any}
 use Rattle.std.proofs.lemmas.List.Folds.{list_any-append, list_any_none}
 use Rattle.club_rows.specs.declared.booking.Booking.{Booking}
@@ -19,12 +20,8 @@ use Rattle.club_core.specs.Club.{Club, IsSound}
 use Rattle.club_core.specs.Answer.{verdict_in}
 use Rattle.club_core.specs.After.{cancelled_booking}
 use Rattle.club_core.specs.Run.{after_change, EventReply, ToMember}
-use Rattle.club_laws.proofs.NamedRows.{is_numbered, self_numbered, numbered_back, numbered, only_numbered, found_by_own}
-use Rattle.club_laws.proofs.RowSums.{sum-map}
-use Rattle.club_laws.proofs.RowSums.{sum_middle, sum_one_more}
 use Rattle.club_laws.proofs.AnswerCases.{written, answer_cases}
 use Rattle.club_rows.specs.Rows.{IsBooking}
-use Rattle.club_laws.proofs.Filtering.{fixed_where_none}
 
 -- which keys and numbers are on record
 abbrev pub Seen : Type 0

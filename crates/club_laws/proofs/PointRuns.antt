@@ -22,11 +22,9 @@ use Rattle.club_core.specs.Events.{IsEvent}
 use Rattle.club_laws.specs.Points.{Entry, charge_of_reply, charges_of_replies, refund_of_reply, refunds_of_replies, keys_given, credits_accepted, total_under}
 use Rattle.club_laws.specs.Points.{firsts}
 use Rattle.club_laws.specs.Conservation.{ConservesPoints, SoundClubsHavePlaces, NeverOverbooks}
-use Rattle.club_laws.proofs.FoundRows.{at_found}
-use Rattle.club_laws.proofs.NamedRows.{named, none_named}
-use Rattle.club_laws.proofs.CommandCases.{change_of, command_cases}
-use Rattle.club_laws.proofs.SoundOffice.{nobody_in}
-use Rattle.club_laws.proofs.SoundSteps.{sound_step, sound_run}
+use Rattle.club_laws.proofs.FoundRows.{at_found, named, none_named}
+use Rattle.club_laws.proofs.AnswerCases.{change_of, command_cases}
+use Rattle.club_laws.proofs.SoundSteps.{nobody_in, sound_step, sound_run}
 use Rattle.club_laws.proofs.PointMoves.{Seen, unseen_total, counts, points_of, Moves, charged, has_number, charge_moves, refunded, has_cancelled, refund_moves}
 use Rattle.club_laws.proofs.MemberAccounts.{is_among, keys_of_run, credit_of, credit_of_run}
 

@@ -19,7 +19,7 @@ use Rattle.club_laws.proofs.FoundRows.{find-map, found_passes}
 use Rattle.club_laws.proofs.ChangedParts.{has_name}
 use Rattle.std.proofs.lemmas.List.Folds.{find-append}
 use Rattle.std.proofs.Common.{option_map, arith}
-use Rattle.club_laws.proofs.CommandCases.{command_cases}
+use Rattle.club_laws.proofs.AnswerCases.{command_cases}
 use Rattle.club_laws.proofs.KeptByRuns.{kept_by_run, club_after-append}
 use Rattle.club_laws.proofs.ServedPasses.{served_entitled}
 

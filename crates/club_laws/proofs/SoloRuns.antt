@@ -1,15 +1,152 @@
--- The solo law, by an induction over the two runs.
-use Rattle.std.proofs.Common.{◌≡◌, ℕ, cond, List, [], ◌∷◌, ◌++◌, map, refl, arith}
+-- The solo law: a member's part follows each event of the club by the member's own entry for it.
+use Rattle.std.proofs.Common.{subst, ◌≡◌, ℕ, ◌+◌, Bool, List, Option, Some, None, option_map, refl, sym, ap, true, false, cond, [], ◌∷◌, Result, bytes_eq, ◌∙◌}
+use Rattle.std.proofs.Common.{arith, ◌++◌, map}
+use Rattle.club_values.specs.declared.slot.Slot.{Slot}
+use Rattle.club_rows.specs.declared.facility.Facility.{Facility}
+use Rattle.club_rows.specs.declared.booking.Booking.{Booking}
+use Rattle.club_rows.specs.Booking.{persons_of, refund_at}
+use Rattle.club_core.specs.Sums.{is_in}
+use Rattle.club_core.specs.Request.{request_slot}
+use Rattle.club_core.specs.Pass.{Words}
+use Rattle.club_core.specs.Club.{Club, key_named, member_named, keys_of, is_key_of, bookings_of}
+use Rattle.club_core.specs.Basis.{Basis, SlotState, basis_of, state_of, key_of}
+use Rattle.club_core.specs.declared.slot_use.SlotUse.{SlotUse}
+use Rattle.club_core.specs.Solo.{outside, part_of, with_others, OwnEvent, OwnAsk, OwnChange, own_ask, own_change, own_part, solo_verdict, own_events}
+use Rattle.club_core.specs.Solo.{solo_replies}
+use Rattle.club_laws.proofs.FoundRows.{found_passes, find_filtered, bytes_same, same_bytes_of, numbered, is_numbered}
+use Rattle.club_laws.proofs.FilteredRows.{filter_twice, sum_in_parts}
+use Rattle.club_laws.proofs.ChangedParts.{is_named, is_owned, has_name, is_under_one, IsFresh, part_changed}
+use Rattle.club_laws.proofs.AnswerCases.{known_rows, whole_basis, is_own_key, answer_cases, written, CommandRestsOn, change_of, command_cases}
+use Rattle.std.proofs.lemmas.Slice.Eq.{bytes_eq-Decides}
+use Rattle.club_core.specs.declared.change.Change.{Change}
+use Rattle.club_core.specs.declared.change.Change.TheVariants.{InsertBooking, MarkCancelled}
+use Rattle.club_core.specs.declared.verdict.Verdict.{Verdict}
+use Rattle.club_core.specs.declared.command.Command.{Command}
+use Rattle.club_core.specs.declared.command.Command.TheVariants.{AddKey}
+use Rattle.club_core.specs.declared.command.OfficeFault.{OfficeFault}
+use Rattle.club_core.specs.After.{after}
+use Rattle.club_core.specs.Answer.{answer_by_basis, verdict_in}
+use Rattle.club_core.specs.Office.{office_verdict}
+use Rattle.club_core.specs.Run.{Event, Asked, Commanded, step, after_change, command_outcome, EventReply, ToMember, replies_of, club_after}
+use Rattle.club_laws.proofs.KeyOwners.{owner}
+use Rattle.club_laws.proofs.KnownKeys.{IsKeyed, keyed_step, keyed_from_sound}
 use Rattle.std.proofs.lemmas.Simd.{map-map}
-use Rattle.club_core.specs.Club.{Club}
-use Rattle.club_core.specs.Run.{Event, step, replies_of, club_after, EventReply, ToMember}
-use Rattle.club_core.specs.Solo.{OwnEvent, OwnAsk, OwnChange, own_part, own_events, part_of, solo_replies}
 use Rattle.club_laws.specs.RunsWithFailures.{SoloLawWithFailures}
 use Rattle.club_laws.specs.SoloLaw.{is_ask, replies_to, solo_part}
-use Rattle.club_laws.proofs.KnownKeys.{IsKeyed, keyed_step, keyed_from_sound}
 use Rattle.club_laws.specs.Failed.{present_reply, answered_events}
 use Rattle.club_laws.proofs.FailedEvents.{run_of_answered}
-use Rattle.club_laws.proofs.FollowedSteps.{Follows, follows}
+
+abbrev state_with : Option Facility → ℕ → Bool → SlotState
+state_with facility taken closed = record { facility = facility; held = record { taken = taken; closed = closed } }
+
+abbrev with_outside : SlotUse → SlotState → SlotState
+with_outside others state = state_with state.facility (state.held.taken + others.taken) others.closed
+
+-- the bookings of the part are those of the member
+own_bookings : (name : List ℕ) (club : Club) → bookings_of name (part_of name club) ≡ bookings_of name club
+own_bookings name club = rw (filter_twice (is_owned name) club.keys) (filter_twice (is_under_one (keys_of name club)) club.bookings)
+
+-- the state of a slot is that in the part, with what others hold
+own_state : (name : List ℕ) (club : Club) (slot : Option Slot) → with_outside (outside name club slot) (state_of (part_of name club) slot) ≡ state_of club slot
+own_state name club None = refl
+own_state name club (Some slot) = rw (sum_in_parts persons_of (is_in slot) (λ (booking : Booking). is_key_of name club booking.key) club.bookings)
+
+-- the rows of a member's key are in the member's part: so with what others hold, it gives the basis of a request of the member's
+pub own_basis : (name : List ℕ) (club : Club) (words : Words) (basis : Basis) → basis_of club words ≡ Some basis → basis.member.name ≡ name
+    → option_map (with_others (outside name club (request_slot words.request))) (basis_of (part_of name club) words) ≡ Some basis
+own_basis name club words basis e same =
+    let rests = known_rows club words basis e in
+    let own = basis.member.name in
+    let part = part_of own club in
+    let named = bytes_same own basis.key.member (found_passes (is_named basis.key.member) club.members basis.member rests.owned) in
+    let key_in : key_named basis.key.name part ≡ Some basis.key =
+    find_filtered (has_name basis.key.name) (is_owned own) club.keys basis.key rests.known (same_bytes_of basis.key.member own (sym named)) in
+    let member_in : member_named basis.key.member part ≡ Some basis.member =
+    find_filtered (is_named basis.key.member) (is_named own) club.members basis.member rests.owned (same_bytes_of own own refl) in
+    subst (λ (n : List ℕ). option_map (with_others (outside n club (request_slot words.request))) (basis_of (part_of n club) words) ≡ Some basis) same
+    (rw (rests.key_name, key_in, member_in, own_bookings own club, own_state own club (request_slot words.request))
+    (ap Some (sym (whole_basis club words basis e))))
+
+-- ---- the member's part follows each event of the club by the member's own entry for it
+
+-- what the member's own entry for an event makes of the part, and what it replies
+abbrev pub Follows : Club → List OwnEvent → EventReply → Club → Type 0
+Follows part [] reply next = next ≡ part
+Follows part (OwnChange change ∷ []) reply next = next ≡ after change part
+Follows part (OwnAsk words moment others ∷ []) reply next =
+    (reply ≡ ToMember (solo_verdict part words moment others).reply)
+    × (next ≡ after_change (solo_verdict part words moment others).change part)
+Follows part own reply next = ⊥
+
+module _ (name : List ℕ) (club : Club) (keyed : IsKeyed club) where
+  -- a request under a key of the member makes the same change in the part, and one under another's key none
+  asked_in_part : (words : Words) (moment : ℕ) (key : List ℕ) → key_of words.pass ≡ Some key
+      → part_of name (after_change (verdict_in club words moment).change club)
+      ≡ cond (is_key_of name club key) (after_change (verdict_in club words moment).change (part_of name club)) (part_of name club)
+  asked_in_part words moment key n =
+      answer_cases (λ (v : Verdict). part_of name (after_change v.change club)
+      ≡ cond (is_key_of name club key) (after_change v.change (part_of name club)) (part_of name club)) club words moment (record {
+        silent = λ reply h. grind arith;
+        repeats_booking = λ row member slot number guests booking k e b. grind arith;
+        books = λ row member slot number guests facility k e b.
+            let changed = part_changed name club (InsertBooking (written club row slot number guests facility) row.member) keyed.known tt in
+            let named = k.key_name in grind arith;
+        cancels_recorded = λ row member slot number booking k e b. grind arith;
+        cancels = λ row member slot number booking k e c.
+            let changed = part_changed name club (MarkCancelled booking row.member (refund_at booking moment)) keyed.known tt in
+            let named = k.key_name in
+            grind (arith, numbered row.name number booking (found_passes (is_numbered row.name number) club.bookings booking c.found));
+      })
+
+  not_own_key : (words : Words) (basis : Basis) → basis_of club words ≡ Some basis → bytes_eq basis.member.name name ≡ false
+      → is_key_of name club basis.key.name ≡ false
+  not_own_key words basis e other =
+      let k = known_rows club words basis e in
+      let named = found_passes (is_named basis.key.member) club.members basis.member k.owned in
+      let theirs = owner club keyed.unique basis.key k.known name in
+      grind (arith, bytes_eq-Decides basis.member.name name, bytes_eq-Decides basis.member.name basis.key.member)
+
+  -- what an answer makes of the part
+  abbrev FollowsAnswer : Verdict → List OwnEvent → Type 0
+  FollowsAnswer verdict own = Follows (part_of name club) own (ToMember verdict.reply) (part_of name (after_change verdict.change club))
+
+  asked_follows : (words : Words) (moment : ℕ) (basis : Basis) (is_own : Bool) → basis_of club words ≡ Some basis → bytes_eq basis.member.name name ≡ is_own
+      → FollowsAnswer (answer_by_basis words moment (Some basis))
+      (cond is_own (OwnAsk words moment (outside name club (request_slot words.request)) ∷ []) [])
+  asked_follows words moment basis true e own =
+      let itself = bytes_same basis.member.name name own in
+      let k = known_rows club words basis e in
+      let changed = rw e at (asked_in_part words moment basis.key.name k.key_name) in
+      let mine = rw itself at (is_own_key club words basis.key basis.member k) in
+      let same = ap (answer_by_basis words moment) (own_basis name club words basis e itself) in
+      (ap (λ (v : Verdict). ToMember v.reply) (sym same), changed ∙ rw mine (ap (λ (v : Verdict). after_change v.change (part_of name club)) (sym same)))
+  asked_follows words moment basis false e other =
+      let changed = rw e at (asked_in_part words moment basis.key.name (known_rows club words basis e).key_name) in
+      changed ∙ rw (not_own_key words basis e other) refl
+
+  ask_follows : (words : Words) (moment : ℕ) (basis : Option Basis) → basis_of club words ≡ basis
+      → FollowsAnswer (answer_by_basis words moment basis) (own_ask name club words moment basis)
+  ask_follows words moment None e = grind arith
+  ask_follows words moment (Some basis) e = asked_follows words moment basis (bytes_eq basis.member.name name) e refl
+
+  command_follows : (command : Command) → Follows (part_of name club) (own_change name club (office_verdict club command))
+      (command_outcome club command (office_verdict club command)).reply (part_of name (command_outcome club command (office_verdict club command)).club)
+  command_follows command =
+      command_cases (λ (v : Result Change OfficeFault). Follows (part_of name club) (own_change name club v) (command_outcome club command v).reply
+      (part_of name (command_outcome club command v).club)) club (λ fault. refl) command
+      (λ r. let changed = part_changed name club (change_of club command r) keyed.known (fresh command r) in grind arith)
+    where
+      fresh : (c : Command) (r : CommandRestsOn club c) → IsFresh club (change_of club c r)
+      fresh (AddKey name member root) r = r.2
+      fresh c r = tt
+
+-- the member's part follows each event
+pub follows : (name : List ℕ) (club : Club) (event : Event) → IsKeyed club
+    → Follows (part_of name club) (own_part name club event) (step club event).reply (part_of name (step club event).club)
+follows name club (Asked words moment) keyed = ask_follows name club keyed words moment (basis_of club words) refl
+follows name club (Commanded command) keyed = command_follows name club keyed command
+
+-- ---- the solo law, by an induction over the two runs
 
 -- one event of the run is its own entry in the solo machine
 one_more : (own : List OwnEvent) (part next last : Club) (reply : EventReply) (rest : List OwnEvent) (returned : List EventReply)

@@ -1,6 +1,6 @@
 -- What a member has used, by the bookings of its keys and by its account.
 use Rattle.std.proofs.Common.{◌≡◌, ◌-◌, ◌≤◌, not, Option, Some, None, refl, arith}
-use Rattle.club_laws.proofs.NamedRows.{named}
+use Rattle.club_laws.proofs.FoundRows.{named, at_found}
 use Rattle.club_rows.specs.declared.booking.Booking.{Booking}
 use Rattle.std.specs.Prelude.{option_map, sum_by}
 use Rattle.std.specs.Str.{bytes_eq}
@@ -11,7 +11,6 @@ use Rattle.club_core.specs.Club.{bookings_of, member_named}
 use Rattle.club_laws.specs.Spending.{AccountsShowWhatIsUsed, SpendsWithinItsMember}
 use Rattle.club_core.specs.Laws.{OwnBookings}
 use Rattle.club_core.specs.Sums.{cost_of, is_under}
-use Rattle.club_laws.proofs.FoundRows.{at_found}
 
 pub spent_within : OwnBookings → SpendsWithinItsMember
 spent_within own club key here =

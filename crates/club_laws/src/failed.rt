@@ -36,7 +36,7 @@ pub fn runs_without_failures<O>()
 {}
 
 /// The machine itself never replies that memory or storage was refused.
-#[tactic(auto, using(crate::proofs::MachineAnswers::never_unavailable))]
+#[tactic(auto, using(crate::proofs::FailedEvents::never_unavailable))]
 pub fn never_unavailable()
     ensures { NeverUnavailable }
 {}

@@ -14,7 +14,7 @@ pub fn leaves_the_part()
 {}
 
 /// The persons in a slot are the member's own plus those of others.
-#[tactic(auto, using(crate::proofs::RowSums::sum_in_parts))]
+#[tactic(auto, using(crate::proofs::FilteredRows::sum_in_parts))]
 pub fn taken_is_own_and_others()
     ensures { TakenIsOwnAndOthers }
 {}

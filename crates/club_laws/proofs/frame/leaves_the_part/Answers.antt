@@ -2,7 +2,7 @@ use Rattle.std.proofs.Common.{List, subst}
 use Rattle.club_core.specs.Run.{step}
 use Rattle.club_core.specs.Solo.{OwnEvent, part_of}
 use Rattle.club_laws.proofs.KnownKeys.{keyed_from_sound}
-use Rattle.club_laws.proofs.FollowedSteps.{Follows, follows}
+use Rattle.club_laws.proofs.SoloRuns.{Follows, follows}
 use Rattle.club_laws.proofs.frame.leaves_the_part.Goals as goal
 
 pub returns : goal.returns
