@@ -4,7 +4,6 @@ pub mod AnswerCases
 pub mod KeyOwners
 pub mod SoundSteps
 pub mod RepeatAnswers
-pub mod PointMoves
 pub mod MemberAccounts
 pub mod PointRuns
 pub mod ServedPasses

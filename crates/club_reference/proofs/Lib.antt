@@ -1,5 +1,3 @@
-pub mod RowLemmas
 pub mod EditLemmas
 pub mod WidthLemmas
-pub mod KeptLemmas
 pub mod WordLemmas

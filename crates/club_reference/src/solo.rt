@@ -106,7 +106,7 @@ impl Club {
     }
 
     /// What others than the member hold of the requested slot; nothing if there is no slot.
-    #[tactic(auto, using(crate::proofs::RowLemmas::sum_filtered_le))]
+    #[tactic(auto, using(crate::proofs::WidthLemmas::sum_filtered_le))]
     pub fn outside(&self, member: &Name, slot: Option<Slot>) -> SlotUse
         ensures { result ≡ solo.outside member.now self.now slot }
     {

@@ -48,7 +48,7 @@ impl Club {
     }
 
     /// The view of a request under a key; `None` if the key's member is unknown.
-    #[tactic(auto, using(crate::proofs::RowLemmas::sum_filtered_le))]
+    #[tactic(auto, using(crate::proofs::WidthLemmas::sum_filtered_le))]
     fn view_of(&self, key: &Key, request: &Request, moment: Moment) -> Option<KeyView>
         ensures few { IfSome result (λ seen. seen.view.taken ≤ 50) }
         ensures value { result

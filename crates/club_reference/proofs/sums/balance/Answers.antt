@@ -1,7 +1,7 @@
 use Rattle.std.proofs.Common.{◌∙◌}
 use Rattle.club_core.specs.Sums.{cost_of}
 use Rattle.club_reference.specs.Held.{held_under}
-use Rattle.club_reference.proofs.RowLemmas.{fold_less}
+use Rattle.club_reference.proofs.WidthLemmas.{fold_less}
 use Rattle.club_reference.proofs.sums.balance.Goals as goal
 
 pub returns : goal.returns

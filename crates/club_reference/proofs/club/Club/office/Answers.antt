@@ -1,5 +1,5 @@
 use Rattle.std.proofs.Common.{◌∙◌, sym, subst}
-use Rattle.club_reference.proofs.KeptLemmas.{KeepsIfOk, keeps_command}
+use Rattle.club_reference.proofs.WidthLemmas.{KeepsIfOk, keeps_command}
 use Rattle.club_reference.proofs.club.Club.office.Goals as goal
 
 pub apply-requires : goal.apply-requires
