@@ -1,51 +1,18 @@
 -- One event more after a list of events that was followed.
-use Rattle.std.proofs.Common.{◌≡◌, ℕ, ◌+◌, ◌<◌, ◌∙◌, take, get_or, add-one, inl, inr, Bool, true, false, cond, List, [], ◌∷◌, ◌++◌, length, All, Contains}
+use Rattle.std.proofs.Common.{◌≡◌, ◌+◌, ◌∙◌, inl, inr, Bool, true, false, cond, List, [], ◌∷◌, ◌++◌, length, All, Contains}
 use Rattle.std.proofs.Common.{Option, Some, None, Result, Ok, Err, refl, sym, ap, subst, arith, append_assoc}
-use Rattle.std.proofs.Math.Seq.{take-suc}
-use Rattle.std.proofs.lemmas.List.{map-append, length-append, length-map, length-take}
-use Rattle.std.proofs.lemmas.List.Elements.{All-nil, All-cons, All-push, All-append, All-weaker, All-contains_itself}
+use Rattle.std.proofs.lemmas.List.{length-append}
+use Rattle.std.proofs.lemmas.List.Elements.{All-nil, All-cons, All-append, All-weaker, All-contains_itself}
 use Rattle.club_core.specs.declared.change.Change.{Change}
 use Rattle.club_core.specs.declared.command.OfficeFault.{OfficeFault}
-use Rattle.club_core.specs.declared.store.StoreFault.{StoreFault}
 use Rattle.club_core.specs.Club.{Club}
 use Rattle.club_core.specs.Office.{office_verdict}
 use Rattle.club_core.specs.Run.{Event, Asked, Commanded, after_change, command_outcome, step}
 use Rattle.club_laws.specs.Failed.{has_failed, IsStep, IsRun}
 use Rattle.club_gate.specs.Desk.{IsAnsweredBy, IsRefusedBy, Steps, change_by, change_of, others_after}
-use Rattle.club_gate.specs.declared.event.Event.{Event as DeskEvent}
-use Rattle.club_gate.specs.declared.event.EventReply.{EventReply}
-use Rattle.club_gate.specs.Runs.AreHandled.{one_event}
-use Rattle.club_gate.specs.Runs.{AreHandled, FailedLast, IsFollowed, IsHandled, MakesNoChange, MayBeLeft}
-use Rattle.club_gate.specs.Runs.{DeskResponse, events_answered, responses_of}
-use Rattle.club_gate.specs.computed.DecodedPass.{machine_events, machine_event}
-use Rattle.club_gate.specs.Events.{IsEventOf, IsEventOfBytes}
-use Rattle.club_gate.specs.Laws.{Decodes}
-use Rattle.club_gate.specs.Response.{response_of, desk_presentation}
-use Rattle.club_gate.proofs.Decoding.{event_is}
-
--- the first events of a list, and the next one
-pub one_more : (events : List DeskEvent) (i : ℕ) (event : DeskEvent) → i < length events → event ≡ get_or events i event
-    → machine_events (take (i + 1) events) ≡ machine_events (take i events) ++ machine_event event ∷ []
-one_more events i event h e =
-    rw (add-one, take-suc events i event)
-    (map-append machine_event (take i events) (get_or events i event ∷ [])
-    ∙ ap (λ (one : DeskEvent). machine_events (take i events) ++ machine_event one ∷ []) (sym e))
-
--- what holds of the first events and of the next one
-pub one_more_item : (P : DeskEvent → Type 0) (events : List DeskEvent) (i : ℕ) (event : DeskEvent) → i < length events → event ≡ get_or events i event
-    → All P (take i events) → P event → All P (take (i + 1) events)
-one_more_item P events i event h e before one =
-    rw (add-one, take-suc events i event h) (All-push P (take i events) (get_or events i event) before (subst P e one))
-
--- one event of the desk more
-pub handled_one : {S : Type 0} (IsClean : S → Type 0) (Represents : S → Club → List Club → Type 0) (Fails : Option Change → S → StoreFault → S → Type 0)
-    (old now new : S) (events : List DeskEvent) (i : ℕ) (event : DeskEvent) (replies all : List EventReply) (reply : EventReply) → i < length events
-    → event ≡ get_or events i event → all ≡ replies ++ reply ∷ [] → AreHandled IsClean Represents Fails old (take i events) replies now
-    → IsHandled IsClean Represents Fails now event reply new → AreHandled IsClean Represents Fails old (take (i + 1) events) all new
-handled_one IsClean Represents Fails old now new events i event replies all reply h e same before one =
-    let first : take (i + 1) events ≡ take i events ++ event ∷ [] =
-    rw (add-one, take-suc events i event) (ap (λ (it : DeskEvent). take i events ++ it ∷ []) (sym e)) in
-    rw (first, same) (one_event (take i events) replies event reply now new before one)
+use Rattle.club_gate.specs.Runs.{FailedLast, IsFollowed, MakesNoChange, MayBeLeft}
+use Rattle.club_gate.specs.Runs.{DeskResponse, events_answered}
+use Rattle.club_gate.specs.Response.{desk_presentation}
 
 -- an event that changes nothing keeps the club
 kept_by : (club : Club) (event : Event) → change_of club event ≡ None → (step club event).club ≡ club
@@ -108,97 +75,7 @@ rest_beside events front rest event responses before since response place among 
     let returned : length responses ≡ length before + (1 + length since) = ap length among ∙ simp length-append (omega arith) in
     omega arith
 
--- the possible crash states after one event more that makes no change
-module _ (club : Club) (others : List Club) (last : Club) (events : List Event) (responses : List DeskResponse) (event : Event) (one : DeskResponse)
-    (e : length responses ≡ length events) (none : MakesNoChange last (event ∷ []) (one ∷ [])) where
-  failed_before : (other : Event) → FailedLast club last events responses other
-      → FailedLast club last (events ++ event ∷ []) (responses ++ one ∷ []) other
-  failed_before other f = record {
-    front = f.front;
-    rest = f.rest ++ event ∷ [];
-    before = f.before;
-    response = f.response;
-    since = f.since ++ one ∷ [];
-    place = ap (λ (es : List Event). es ++ event ∷ []) f.place ∙ append_assoc f.front (other ∷ f.rest) (event ∷ []);
-    response_place = ap (λ (rs : List DeskResponse). rs ++ one ∷ []) f.response_place ∙ append_assoc f.before (f.response ∷ f.since) (one ∷ []);
-    beside = f.beside;
-    ran = f.ran;
-    failure = f.failure;
-    no_change =
-        no_change_more last f.rest f.since event one
-        (rest_beside events f.front f.rest other responses f.before f.since f.response f.place f.response_place f.beside e) f.no_change none;
-  }
-
-  left_with_more : (left : Club) → MayBeLeft club others last events responses left
-      → MayBeLeft club others last (events ++ event ∷ []) (responses ++ one ∷ []) left
-  left_with_more left (inl h) = inl (h.0, no_change_more last events responses event one e h.1 none, h.2)
-  left_with_more left (inr h) = inr (h.0, failed_before h.0 h.1, h.2)
-
-  all_with_more : (left : List Club) → All (MayBeLeft club others last events responses) left
-      → All (MayBeLeft club others last (events ++ event ∷ []) (responses ++ one ∷ [])) left
-  all_with_more left h = All-weaker (MayBeLeft club others last events responses)
-      (MayBeLeft club others last (events ++ event ∷ []) (responses ++ one ∷ [])) left_with_more left h
-
--- the possible crash states after an event that was answered
-left_by_answer : (club : Club) (others : List Club) (last : Club) (events : List Event) (responses : List DeskResponse) (event : Event) (one : DeskResponse)
-    (left : List Club) (change : Option Change) → length responses ≡ length events → has_failed desk_presentation event one ≡ false
-    → change_of last event ≡ change → All (MayBeLeft club others last events responses) left
-    → All (MayBeLeft club others (step last event).club (events ++ event ∷ []) (responses ++ one ∷ [])) (others_after change left)
-left_by_answer club others last events responses event one left None e success is h =
-    subst (λ (c : Club). All (MayBeLeft club others c (events ++ event ∷ []) (responses ++ one ∷ [])) left) (sym (kept_by last event is))
-    (all_with_more club others last events responses event one e (none_by_answer last event one success is) left h)
-left_by_answer club others last events responses event one left (Some change) e success is h =
-    All-nil (MayBeLeft club others (step last event).club (events ++ event ∷ []) (responses ++ one ∷ []))
-
 module _ {S : Type 0} (Represents : S → Club → List Club → Type 0) where
-  answered_more : (new : S) (now : S) (club : Club) (others : List Club) (events : List Event) (responses : List DeskResponse) (event : Event)
-      (one : DeskResponse)
-      → length responses ≡ length events → (f : IsFollowed Represents now club others events responses) → IsAnsweredBy Represents new f.last f.left event one
-      → IsFollowed Represents new club others (events ++ event ∷ []) (responses ++ one ∷ [])
-  answered_more new now club others events responses event one e f a =
-      let next = (step f.last event).club in
-      record {
-        last = next;
-        ran = ran_more club f.last next events responses event one f.ran (inl (record { success = a.success; reply = a.reply; steps_club = refl }));
-        left = others_after (change_of f.last event) f.left;
-        represents = a.represents;
-        each = left_by_answer club others f.last events responses event one f.left (change_of f.last event) e a.success refl f.each;
-      }
-
-  refused_more : (new : S) (now : S) (club : Club) (others : List Club) (events : List Event) (responses : List DeskResponse) (event : Event)
-      (one : DeskResponse)
-      → length responses ≡ length events → (f : IsFollowed Represents now club others events responses) → IsRefusedBy Represents new f.last f.left event one
-      → IsFollowed Represents new club others (events ++ event ∷ []) (responses ++ one ∷ [])
-  refused_more new now club others events responses event one e f r =
-      let all = events ++ event ∷ [] in
-      let returned = responses ++ one ∷ [] in
-      let Left : Club → Type 0 = MayBeLeft club others f.last all returned in
-      let ran = ran_more club f.last f.last events responses event one f.ran (inr (record { failure = r.failure; kept = refl })) in
-      let each = all_with_more club others f.last events responses event one e (none_by_failure f.last event one r.failure) f.left f.each in
-      let failed : FailedLast club f.last all returned event = record {
-        front = events;
-        rest = [];
-        before = responses;
-        response = one;
-        since = [];
-        place = refl;
-        response_place = refl;
-        beside = e;
-        ran = f.ran;
-        failure = r.failure;
-        no_change = All-nil (Keeps f.last);
-      } in
-      elim r.represents [
-        | inl same ↦ record { last = f.last; ran = ran; left = f.left; represents = same; each = each }
-        | inr changed ↦ record {
-          last = f.last;
-          ran = ran;
-          left = (step f.last event).club ∷ f.left;
-          represents = changed;
-          each = All-cons Left (step f.last event).club f.left (inr (event, failed, refl)) each;
-        }
-      ]
-
   -- before the first event
   pub followed_none : (now : S) (club : Club) (others : List Club) → Represents now club others → IsFollowed Represents now club others [] []
   followed_none now club others h = record {
@@ -211,23 +88,90 @@ module _ {S : Type 0} (Represents : S → Club → List Club → Type 0) where
         (All-contains_itself others);
   }
 
-  pub followed_more : (new : S) (now : S) (club : Club) (others : List Club) (events : List Event) (responses : List DeskResponse) (event : Event)
-      (one : DeskResponse)
-      → length responses ≡ length events → IsFollowed Represents now club others events responses → Steps Represents now new event one
-      → IsFollowed Represents new club others (events ++ event ∷ []) (responses ++ one ∷ [])
-  followed_more new now club others events responses event one e f steps = elim (steps f.last f.left f.represents) [
-    | inl a ↦ answered_more new now club others events responses event one e f a
-    | inr r ↦ refused_more new now club others events responses event one e f r
-  ]
+  -- one event after those that were followed
+  module _ (now new : S) (club : Club) (others : List Club) (events : List Event) (responses : List DeskResponse) (event : Event) (one : DeskResponse)
+      (e : length responses ≡ length events) (f : IsFollowed Represents now club others events responses) where
+    abbrev all : List Event
+    all = events ++ event ∷ []
 
-  -- one event of the desk more
-  pub followed_one : (new now : S) (club : Club) (others : List Club) (events : List DeskEvent) (i : ℕ) (event : DeskEvent) (replies all : List EventReply)
-      (reply : EventReply) → i < length events → event ≡ get_or events i event → length replies ≡ i → all ≡ replies ++ reply ∷ []
-      → IsFollowed Represents now club others (machine_events (take i events)) (responses_of replies)
-      → Decodes → IsEventOfBytes event → (seen : Event) × IsEventOf event seen × Steps Represents now new seen (response_of reply)
-      → IsFollowed Represents new club others (machine_events (take (i + 1) events)) (responses_of all)
-  followed_one new now club others events i event replies all reply h e count same f law bytes seen =
-      let steps = subst (λ (one : Event). Steps Represents now new one (response_of reply)) (sym (event_is law event seen.0 bytes seen.1)) seen.2 in
-      let beside : length (responses_of replies) ≡ length (machine_events (take i events)) = simp (length-map, length-take) (omega arith) in
-      rw (one_more events i event h e, same, map-append response_of replies (reply ∷ []))
-      (followed_more new now club others (machine_events (take i events)) (responses_of replies) (machine_event event) (response_of reply) beside f steps)
+    abbrev returned : List DeskResponse
+    returned = responses ++ one ∷ []
+
+    -- the possible crash states if it makes no change
+    failed_before : MakesNoChange f.last (event ∷ []) (one ∷ []) → (other : Event) → FailedLast club f.last events responses other
+        → FailedLast club f.last all returned other
+    failed_before none other h = record {
+      front = h.front;
+      rest = h.rest ++ event ∷ [];
+      before = h.before;
+      response = h.response;
+      since = h.since ++ one ∷ [];
+      place = ap (λ (es : List Event). es ++ event ∷ []) h.place ∙ append_assoc h.front (other ∷ h.rest) (event ∷ []);
+      response_place = ap (λ (rs : List DeskResponse). rs ++ one ∷ []) h.response_place ∙ append_assoc h.before (h.response ∷ h.since) (one ∷ []);
+      beside = h.beside;
+      ran = h.ran;
+      failure = h.failure;
+      no_change =
+          no_change_more f.last h.rest h.since event one
+          (rest_beside events h.front h.rest other responses h.before h.since h.response h.place h.response_place h.beside e) h.no_change none;
+    }
+
+    left_with_more : MakesNoChange f.last (event ∷ []) (one ∷ []) → (left : Club) → MayBeLeft club others f.last events responses left
+        → MayBeLeft club others f.last all returned left
+    left_with_more none left (inl h) = inl (h.0, no_change_more f.last events responses event one e h.1 none, h.2)
+    left_with_more none left (inr h) = inr (h.0, failed_before none h.0 h.1, h.2)
+
+    all_with_more : MakesNoChange f.last (event ∷ []) (one ∷ []) → All (MayBeLeft club others f.last all returned) f.left
+    all_with_more none = All-weaker (MayBeLeft club others f.last events responses) (MayBeLeft club others f.last all returned) (left_with_more none)
+        f.left f.each
+
+    -- if it was answered
+    left_by_answer : has_failed desk_presentation event one ≡ false → (change : Option Change) → change_of f.last event ≡ change
+        → All (MayBeLeft club others (step f.last event).club all returned) (others_after change f.left)
+    left_by_answer success None is =
+        subst (λ (c : Club). All (MayBeLeft club others c all returned) f.left) (sym (kept_by f.last event is))
+        (all_with_more (none_by_answer f.last event one success is))
+    left_by_answer success (Some change) is = All-nil (MayBeLeft club others (step f.last event).club all returned)
+
+    answered_more : IsAnsweredBy Represents new f.last f.left event one → IsFollowed Represents new club others all returned
+    answered_more a =
+        let next = (step f.last event).club in
+        record {
+          last = next;
+          ran = ran_more club f.last next events responses event one f.ran (inl (record { success = a.success; reply = a.reply; steps_club = refl }));
+          left = others_after (change_of f.last event) f.left;
+          represents = a.represents;
+          each = left_by_answer a.success (change_of f.last event) refl;
+        }
+
+    refused_more : IsRefusedBy Represents new f.last f.left event one → IsFollowed Represents new club others all returned
+    refused_more r =
+        let Left : Club → Type 0 = MayBeLeft club others f.last all returned in
+        let ran = ran_more club f.last f.last events responses event one f.ran (inr (record { failure = r.failure; kept = refl })) in
+        let each = all_with_more (none_by_failure f.last event one r.failure) in
+        let failed : FailedLast club f.last all returned event = record {
+          front = events;
+          rest = [];
+          before = responses;
+          response = one;
+          since = [];
+          place = refl;
+          response_place = refl;
+          beside = e;
+          ran = f.ran;
+          failure = r.failure;
+          no_change = All-nil (Keeps f.last);
+        } in
+        elim r.represents [
+          | inl same ↦ record { last = f.last; ran = ran; left = f.left; represents = same; each = each }
+          | inr changed ↦ record {
+            last = f.last;
+            ran = ran;
+            left = (step f.last event).club ∷ f.left;
+            represents = changed;
+            each = All-cons Left (step f.last event).club f.left (inr (event, failed, refl)) each;
+          }
+        ]
+
+    pub followed_more : Steps Represents now new event one → IsFollowed Represents new club others all returned
+    followed_more steps = elim (steps f.last f.left f.represents) [ inl a ↦ answered_more a | inr r ↦ refused_more r ]

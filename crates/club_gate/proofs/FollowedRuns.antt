@@ -1,8 +1,8 @@
 -- The laws of runs, for a list of events that was followed.
-use Rattle.std.proofs.Common.{◌≡◌, inl, inr, List, ◌∷◌, ◌++◌, All, Some, Result, Ok, Err, IfOk, OnOk, sym, subst}
+use Rattle.std.proofs.Common.{◌≡◌, inl, inr, List, All, Some, Result, Ok, Err, IfOk, OnOk, sym, subst}
 use Rattle.club_core.specs.Club.{Club, empty_club, member_named, IsSound}
 use Rattle.club_core.specs.Events.{IsEvent}
-use Rattle.club_core.specs.Run.{Event, Asked, replies_of}
+use Rattle.club_core.specs.Run.{Event, replies_of}
 use Rattle.club_laws.specs.RunsWithFailures.{ConservesWithFailures, SoloLawWithFailures, SoloLawOfTwoWithFailures, SoundWithFailures, RepeatsServedReplies}
 use Rattle.club_laws.specs.RunsWithFailures.{RepeatsAfterOneMore}
 use Rattle.club_laws.specs.RunsWithFailures.{RepeatsWithFailures}
@@ -13,7 +13,7 @@ use Rattle.club_gate.specs.declared.event.OfficeReply.{OfficeReply}
 use Rattle.club_gate.specs.Events.{AreEventsOf, IsEventOfBytes}
 use Rattle.club_gate.specs.Laws.{SeesEvents}
 use Rattle.club_gate.specs.computed.DecodedPass.{machine_events}
-use Rattle.club_gate.specs.Runs.{Conserves, IsAnsweredRun, IsAsInAnother, IsFollowed, IsNeverNegative, IsNeverOverbooked, IsOnce, IsSolo}
+use Rattle.club_gate.specs.Runs.{Conserves, IsAnsweredRun, IsFollowed, IsLawfulRun, IsOnce}
 use Rattle.club_gate.specs.Runs.{LeavesClub, MayBeLeft, DeskResponse, events_answered, club_left}
 use Rattle.club_gate.specs.Response.{desk_presentation}
 
@@ -38,7 +38,7 @@ module _ {S : Type 0} (Represents : S → Club → List Club
   left_by : f.last ≡ club_left club events responses
   left_by = (leaves desk_presentation club f.last events responses f.ran).left
 
-  pub answered_by : IsAnsweredRun club events responses
+  answered_by : IsAnsweredRun club events responses
   answered_by = subst (IsRun desk_presentation club events responses) left_by f.ran
 
   pub leaves_club : RepeatsAfterOneMore OfficeReply → LeavesClub Represents new club others events responses
@@ -53,24 +53,11 @@ module _ {S : Type 0} (Represents : S → Club → List Club
         again = λ now near. elim near [ inl same ↦ subst At (sym same) again.0 | inr one ↦ subst At (sym one.1) (again.1 one.0) ];
       }
 
-  pub solo_by : SoloLawWithFailures OfficeReply → IsSound club → IsSolo club events responses
-  solo_by law sound = λ name. law desk_presentation name club f.last events responses sound f.ran
-
-  pub as_in_another : SoloLawOfTwoWithFailures OfficeReply → IsSound club → IsAsInAnother club events responses
-  as_in_another law sound = λ name other end elsewhere replies sound_other run parts own.
-      law desk_presentation name club other f.last end events elsewhere responses replies sound sound_other f.ran run parts own
-
-  pub once_by : RepeatsWithFailures OfficeReply → IsOnce club events responses
+  once_by : RepeatsWithFailures OfficeReply → IsOnce club events responses
   once_by law = λ history rest before since words moment reply again place among beside was accepted.
-      let last = club_left club events responses in
-      let whole = history ++ Asked words moment ∷ rest in
-      let run : IsRun desk_presentation club whole (before ++ again ∷ since) last =
-      subst (λ (ts : List DeskResponse). IsRun desk_presentation club whole ts last) among
-      (subst (λ (es : List Event). IsRun desk_presentation club es responses last) place answered_by)
-      in
-      law desk_presentation club last history rest before since words moment again reply beside run was accepted
+      rw left_by at (law desk_presentation club f.last history rest before since words moment again reply beside (rw (place, among) at f.ran) was accepted)
 
-  pub conserved_by : ConservesWithFailures OfficeReply → All IsEvent events → Conserves club events responses
+  conserved_by : ConservesWithFailures OfficeReply → All IsEvent events → Conserves club events responses
   conserved_by law within = λ name member empty named.
       let From : Club → Type 0 =
       λ c.
@@ -81,12 +68,19 @@ module _ {S : Type 0} (Represents : S → Club → List Club
       let from_empty : From empty_club = λ run is. law desk_presentation (club_left empty_club events responses) events responses name member within run is in
       subst From (sym empty) from_empty answered_by named
 
-  sound_left : SoundWithFailures OfficeReply → All IsEvent events → IsSound club → IsSound (club_left club events responses)
-  sound_left law within sound = law desk_presentation club (club_left club events responses) events responses sound within answered_by
-
-  pub never_negative_by : SoundWithFailures OfficeReply → All IsEvent events → IsSound club → IsNeverNegative (club_left club events responses)
-  never_negative_by law within sound = (sound_left law within sound).balances
-
-  pub never_overbooked_by : SoundWithFailures OfficeReply → SoundClubsHavePlaces → All IsEvent events → IsSound club
-      → IsNeverOverbooked (club_left club events responses)
-  never_overbooked_by law places within sound = λ slot. places (club_left club events responses) slot (sound_left law within sound)
+  pub lawful : SoloLawWithFailures OfficeReply → SoloLawOfTwoWithFailures OfficeReply → RepeatsWithFailures OfficeReply
+      → ConservesWithFailures OfficeReply → SoundWithFailures OfficeReply → SoundClubsHavePlaces → All IsEvent events → IsSound club
+      → IsLawfulRun club events responses
+  lawful solo two repeats conserves keeps places within sound =
+      let last = club_left club events responses in
+      let sound_left = keeps desk_presentation club last events responses sound within answered_by in
+      record {
+        run = answered_by;
+        solo = λ name. solo desk_presentation name club f.last events responses sound f.ran;
+        solo_of_two = λ name other end elsewhere replies sound_other run parts own.
+            two desk_presentation name club other f.last end events elsewhere responses replies sound sound_other f.ran run parts own;
+        once = once_by repeats;
+        conserves = conserved_by conserves within;
+        never_negative = sound_left.balances;
+        never_overbooked = λ slot. places last slot sound_left;
+      }

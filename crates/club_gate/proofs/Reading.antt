@@ -1,5 +1,6 @@
 -- What is read for a signed pass gives the answer by its key's whole view.
-use Rattle.std.proofs.Common.{◌≡◌, inl, inr, ℕ, true, List, Ok, map, refl, sym, ap, ◌∙◌, Option, Some, None, is_some, option_map, option_and_then, if◌then◌else◌}
+use Rattle.std.proofs.Common.{◌≡◌, inl, inr, ℕ, true, List, Ok, map, refl, sym, ap, ◌∙◌, Option, Some, None, is_some, option_map, option_and_then}
+use Rattle.std.proofs.Common.{if◌then◌else◌}
 use Rattle.std.proofs.lemmas.Option.{same_Some}
 use Rattle.pass_caveats.specs.declared.fault.CaveatFault.{CaveatFault}
 use Rattle.pass_caveats.specs.declared.fault.CaveatFault.TheVariants.{Denied, NotUnderstood}
@@ -18,7 +19,7 @@ use Rattle.club_core.specs.declared.request.Request.{Request}
 use Rattle.club_core.specs.declared.request.Request.TheVariants as asked
 use Rattle.club_core.specs.declared.view.View.{View}
 use Rattle.club_core.specs.Answer.{answer_by_view, ask_of, owed_at, verdict_in}
-use Rattle.club_core.specs.Basis.{account_named, slot_use, state_of, view_in, view_of}
+use Rattle.club_core.specs.Basis.{Basis, account_named, slot_use, state_of, view_in, view_of}
 use Rattle.club_core.specs.Club.{Club, IsSound, bookings_of, key_named}
 use Rattle.club_core.specs.Laws.{OwnBookings}
 use Rattle.club_core.specs.Looks.{bare_view, books_anew}
@@ -91,7 +92,8 @@ module _ (club : Club) (key : Key) (moment : ℕ) (its : IsOwned club key) where
   -- the whole view of a key of the club
   abbrev whole : Request → View
   whole request =
-      view_of (record { key = key; member = its.member; bookings = bookings_of its.member.name club; state = state_of club (request_slot request) }) request moment
+      let basis : Basis = record { key = key; member = its.member; bookings = bookings_of its.member.name club; state = state_of club (request_slot request) } in
+      view_of basis request moment
 
   seen : (request : Request) (name : List ℕ) → key_named name club ≡ Some key → view_in club name request moment ≡ Some (whole request)
   seen request name row = rw (row, its.is) refl

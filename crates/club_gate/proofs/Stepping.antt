@@ -4,7 +4,7 @@ use Rattle.std.specs.Prelude.{IsErr}
 use Rattle.base64.specs.GeneralPurpose.{IsBytes}
 use Rattle.club_core.specs.declared.change.Change.{Change}
 use Rattle.club_core.specs.declared.command.Command.{Command}
-use Rattle.club_core.specs.declared.command.Command.TheVariants.{AddMember, Credit, AddFacility, AddKey, RevokeKey, RotateKey, CloseSlot}
+use Rattle.club_core.specs.declared.command.Command.TheVariants.{AddKey}
 use Rattle.club_core.specs.declared.command.OfficeFault.{OfficeFault}
 use Rattle.club_core.specs.declared.command.OfficeAnswer.{OfficeAnswer}
 use Rattle.club_core.specs.declared.refusal.Refusal.TheVariants.{Unavailable}
@@ -32,13 +32,8 @@ use Rattle.club_gate.specs.Response.{answer_or_fault, is_failure, reply_or_unava
 
 -- a command that is done is no failure
 done_is_no_failure : (command : Command) → is_failure (office_reply_of (done_answer command)) ≡ false
-done_is_no_failure (AddMember name quota) = refl
-done_is_no_failure (Credit name points) = refl
-done_is_no_failure (AddFacility name kind places price opens shuts) = refl
 done_is_no_failure (AddKey name member root) = refl
-done_is_no_failure (RevokeKey name) = refl
-done_is_no_failure (RotateKey name root until) = refl
-done_is_no_failure (CloseSlot slot) = refl
+done_is_no_failure command = refl
 
 answer_fails : (result : Result OfficeAnswer StoreFault) → IsErr result → is_failure (answer_or_fault result) ≡ true
 answer_fails (Ok answer) h = absurd (cc)

@@ -1,14 +1,15 @@
 -- From the pass that a source yields to the text that spells it.
-use Rattle.std.proofs.Common.{◌≡◌, ◌≢◌, inl, inr, ℕ, ◌≤◌, length, List, Option, Result, Ok, Err, refl, sym, ap, ◌∙◌, subst}
+use Rattle.std.proofs.Common.{◌≡◌, ◌≢◌, inl, inr, ℕ, ◌≤◌, length, List, Option, Result, Ok, Err, refl, ap, ◌∙◌, subst}
 use Rattle.std.specs.Prelude.{IfOk}
 use Rattle.base64.specs.GeneralPurpose.{IsBytes}
 use Rattle.pass_forms.specs.declared.fault.FormFault.{FormFault}
 use Rattle.pass_forms.specs.declared.form.Form.{Form}
 use Rattle.pass_forms.specs.declared.form.Form.TheVariants.{V1, V2, Json}
+use Rattle.pass_forms.specs.FieldSource.{PassField, pass_fields}
 use Rattle.pass_forms.specs.Envelope.{IsUnwrapped}
 use Rattle.pass_forms.specs.Laws.{ReadsExactly}
 use Rattle.pass_forms.specs.Pass.{Plain}
-use Rattle.pass_forms.specs.Reading.{IsReadAs, max_text_len}
+use Rattle.pass_forms.specs.Reading.{IsReadAs, max_caveats, max_text_len}
 use Rattle.pass_forms.specs.V1.{SpellsV1}
 use Rattle.pass_forms.specs.V2.{SpellsV2}
 use Rattle.pass_forms.specs.computed.Text.{in_form}
@@ -26,21 +27,20 @@ use Rattle.club_core.specs.declared.verdict.Verdict.{Verdict}
 use Rattle.club_core.specs.Answer.{verdict_in}
 use Rattle.club_core.specs.Club.{Club}
 use Rattle.club_laws.specs.SingleRequest.{words_with}
-use Rattle.club_gate.specs.computed.DecodedPass.{machine_pass, decoded_or_fault, without_form, decoded_words, words_in_form}
+use Rattle.club_gate.specs.computed.DecodedPass.{machine_pass, without_form, decoded_words, words_in_form}
 use Rattle.club_gate.specs.Served.{IsJson}
-use Rattle.club_gate.specs.Verify.{ReadsOrLacksMemory}
+use Rattle.club_gate.specs.Verify.{OfItsPass, ReadsOrLacksMemory}
 
 abbrev IsVerdict : Result Verdict StoreFault → Verdict → Type 0
 IsVerdict result verdict = IfOk result (λ found. found ≡ verdict)
 
 -- the verdict on the pass is the verdict on the bytes that spell it
-pub verdict_by_bytes : (club : Club) (request : Request) (moment : ℕ) (form : Form) (bytes : List ℕ) (pass : Plain)
-    (result : Result Verdict StoreFault) → reading_in_form form bytes ≡ Ok pass
-    → IsVerdict result (verdict_in club (words_with (machine_pass pass) request) moment)
+pub verdict_by_bytes : {fields : List PassField} (club : Club) (request : Request) (moment : ℕ) (form : Form) (bytes : List ℕ) (pass : Plain)
+    (result : Result Verdict StoreFault) → reading_in_form form bytes ≡ Ok pass → fields ≡ pass_fields pass → length pass.caveats ≤ max_caveats
+    → IfOk result (λ found. OfItsPass fields (λ it. found ≡ verdict_in club (words_with (machine_pass it) request) moment))
     → IsVerdict result (verdict_in club (words_in_form form bytes request) moment)
-verdict_by_bytes club request moment form bytes pass result read h =
-    let P : Result Plain FormFault → Type 0 = λ r. IsVerdict result (verdict_in club (record { pass = decoded_or_fault r; request = request }) moment) in
-    subst P (sym read) h
+verdict_by_bytes club request moment form bytes pass (Ok verdict) read are short h = rw read (h pass are short)
+verdict_by_bytes club request moment form bytes pass (Err fault) read are short h = tt
 
 formless : (form : Form) (read : Result Plain FormFault) → without_form (in_form form read) ≡ read
 formless form (Ok pass) = refl
@@ -52,9 +52,8 @@ pub verdict_by_text : (club : Club) (request : Request) (moment : ℕ) (text : L
     → IsVerdict result (verdict_in club (words_in_form form bytes request) moment)
     → IsVerdict result (verdict_in club (decoded_words text request) moment)
 verdict_by_text club request moment text form bytes result wrapped h =
-    let P : Result Plain FormFault → Type 0 = λ r. IsVerdict result (verdict_in club (record { pass = decoded_or_fault r; request = request }) moment) in
     let same : without_form (reading text) ≡ reading_in_form form bytes = ap without_form wrapped ∙ formless form (reading_in_form form bytes) in
-    subst P (sym same) h
+    rw same h
 
 -- a fault of the text is one of the bytes
 pub fault_in : (form : Form) (read : Result Plain FormFault) (text : List ℕ) (fault : FormFault)

@@ -274,10 +274,8 @@ impl<S: ClubStore> Desk<S> {
         decodes();
         are_bytes(words.pass);
         reads_what_is_understood();
-        match self.reply_to(moment, words) {
-            Ok(reply) => reply,
-            Err(_) => Reply::Refused(Refusal::Unavailable),
-        }
+        self.reply_to(moment, words)
+            .unwrap_or(Reply::Refused(Refusal::Unavailable))
     }
 
     /// Carries out a command of the office. When `office` returns, the change of a command that is

@@ -1,39 +1,37 @@
-use Rattle.std.proofs.Common.{inl, inr, sym, ap, ◌∙◌, subst}
+use Rattle.std.proofs.Common.{◌≡◌, List, Ok, inl, inr, sym}
 use Rattle.std.proofs.lemmas.List.Elements.{All-head}
-use Rattle.club_core.specs.declared.command_view.CommandView.{CommandView}
-use Rattle.club_core.specs.declared.command.OfficeAnswer.{OfficeAnswer}
-use Rattle.club_core.specs.Club.{IsSound}
-use Rattle.club_core.specs.Office.{command_verdict}
-use Rattle.club_core.specs.Run.{Commanded, ToOffice}
-use Rattle.club_gate.specs.Desk.{IsAnsweredBy}
-use Rattle.club_gate.specs.Response.{office_reply_of}
+use Rattle.club_core.specs.Club.{Club, IsSound}
+use Rattle.club_core.specs.Office.{office_verdict}
+use Rattle.club_core.specs.Run.{Commanded}
+use Rattle.club_core.specs.Store.{FitsClub}
 use Rattle.club_gate.proofs.Stepping.{command_done, command_failed}
+use Rattle.club_gate.proofs.desk.Desk.answer_to.Given as given
 use Rattle.club_gate.proofs.desk.Desk.answer_to.Goals as goal
+use Rattle.club_gate.proofs.desk.Desk.answer_to.Goals.{After-settle}
+
+-- what was decided of the club, and that the store may settle it
+decided : (g : given.Over) (c : After-settle g) → g.S.ClubStore.disk_is_clean c.settle.new.self → (club : Club) (others : List Club)
+    → g.S.ClubStore.represents c.args.self.now club others
+    → (office_verdict club c.args.command.now ≡ Ok c.in-Ok.change) × g.S.ClubStore.represents c.command_view.new.self club others
+    × FitsClub c.in-Ok.change club
+decided g c was_clean club others represents =
+    let before = c.settle.ensures.was_clean was_clean in
+    let is = sym (rw (c.in_ok-view.ensures.returned before club others represents) at c.in-Ok.ensures) in
+    let sound = All-head IsSound club others (g.met.S.ClubStore.sound c.args.self.now club others represents) in (
+      is,
+      c.command_view.ensures.kept before club others represents,
+      c.changes_fit.ensures club (Commanded c.args.command.now) c.in-Ok.change sound c.within.ensures is,
+    )
 
 pub returns-in_err-settle-in-Ok-clause-steps : goal.returns-in_err-settle-in-Ok-clause-steps
 returns-in_err-settle-in-Ok-clause-steps g c = λ was_clean club others represents.
-    let before = c.settle.ensures.was_clean was_clean in
-    let command = c.args.command.now in
-    let change = c.in-Ok.change in
-    let decided = sym (c.in-Ok.ensures ∙ ap (λ (v : CommandView). command_verdict v command) (c.in_ok-view.ensures.returned before club others represents)) in
-    let sound = All-head IsSound club others (g.met.S.ClubStore.sound c.args.self.now club others represents) in
-    let fits = c.changes_fit.ensures club (Commanded command) change sound c.within.ensures decided in
-    inr (command_failed g.S.ClubStore.represents c.settle.new.self club others command change c.from_residual-in_err-settle-in-Ok.result
-    c.from_residual-in_err-settle-in-Ok.ensures.0 decided
-    (c.in_err-settle-in-Ok.ensures.settled was_clean club others (c.command_view.ensures.kept before club others represents) fits))
+    let is = decided g (goal.at.returns-in_err-settle-in-Ok-clause-steps g c).After-settle was_clean club others represents in
+    inr (command_failed g.S.ClubStore.represents c.settle.new.self club others c.args.command.now c.in-Ok.change
+    c.from_residual-in_err-settle-in-Ok.result c.from_residual-in_err-settle-in-Ok.ensures.0 is.0
+    (c.in_err-settle-in-Ok.ensures.settled was_clean club others is.1 is.2))
 
 pub returns-in_ok-settle-in-Ok-clause-steps : goal.returns-in_ok-settle-in-Ok-clause-steps
 returns-in_ok-settle-in-Ok-clause-steps g c = λ was_clean club others represents.
-    let before = c.settle.ensures.was_clean was_clean in
-    let command = c.args.command.now in
-    let change = c.in-Ok.change in
-    let decided = sym (c.in-Ok.ensures ∙ ap (λ (v : CommandView). command_verdict v command) (c.in_ok-view.ensures.returned before club others represents)) in
-    let sound = All-head IsSound club others (g.met.S.ClubStore.sound c.args.self.now club others represents) in
-    let fits = c.changes_fit.ensures club (Commanded command) change sound c.within.ensures decided in
-    let returned = subst
-    (λ (answer : OfficeAnswer). IsAnsweredBy g.S.ClubStore.represents c.settle.new.self club others (Commanded command) (ToOffice (office_reply_of answer)))
-    (sym c.done.ensures)
-    (command_done g.S.ClubStore.represents c.settle.new.self club others command change decided
-    (c.in_ok-settle-in-Ok.ensures.settled was_clean club others (c.command_view.ensures.kept before club others represents) fits))
-    in
-    inl returned
+    let is = decided g (goal.at.returns-in_ok-settle-in-Ok-clause-steps g c).After-settle was_clean club others represents in
+    inl (rw c.done.ensures (command_done g.S.ClubStore.represents c.settle.new.self club others c.args.command.now c.in-Ok.change is.0
+    (c.in_ok-settle-in-Ok.ensures.settled was_clean club others is.1 is.2)))

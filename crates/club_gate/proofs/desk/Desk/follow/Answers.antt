@@ -1,11 +1,17 @@
-use Rattle.std.proofs.Common.{[], ◌∷◌, length, take, ap, arith}
+use Rattle.std.proofs.Common.{◌≡◌, [], ◌∷◌, ◌++◌, ◌+◌, ◌∙◌, length, take, ap, sym, subst, arith}
 use Rattle.std.proofs.lemmas.Grind.{common_steps}
-use Rattle.std.proofs.lemmas.List.Elements.{All-nil, All-cons, All-append}
+use Rattle.std.proofs.lemmas.List.{length-map, length-take, map-append, take_more}
+use Rattle.std.proofs.lemmas.List.Elements.{All-nil, All-push}
 use Rattle.club_core.specs.Events.{IsEvent}
-use Rattle.club_gate.specs.Runs.AreHandled.{no_event}
+use Rattle.club_core.specs.Run as machine
+use Rattle.club_gate.specs.Desk.{Steps}
+use Rattle.club_gate.specs.Response.{response_of}
+use Rattle.club_gate.specs.Runs.{responses_of}
+use Rattle.club_gate.specs.Runs.AreHandled.{no_event, one_event}
 use Rattle.club_gate.specs.Events.{IsEventOfBytes}
 use Rattle.club_gate.specs.computed.DecodedPass.{machine_events, machine_event}
-use Rattle.club_gate.proofs.FollowedEvents.{one_more, one_more_item, handled_one, followed_none, followed_one}
+use Rattle.club_gate.proofs.Decoding.{event_is}
+use Rattle.club_gate.proofs.FollowedEvents.{followed_none, followed_more}
 use Rattle.club_gate.proofs.desk.Desk.follow.Goals as goal
 
 pub loop-event-init : goal.loop-event-init
@@ -22,27 +28,30 @@ loop-event-init g c = record {
 
 pub loop-event-preserved : goal.loop-event-preserved
 loop-event-preserved g c =
-    let next = one_more c.args.events.now c.loop-event.event-index c.event-item.result c.loop-event-test.true c.event-item.is in
+    let i = c.loop-event.event-index in
+    let first = take i c.args.events.now in
+    let event = c.event-item.result in
+    let replies = c.loop-event.replies.items in
+    let next : take (i + 1) c.args.events.now ≡ first ++ event ∷ [] = rw (← c.event-item.is) at (take_more c.args.events.now i event c.loop-event-test.true) in
+    let next_seen : machine_events (take (i + 1) c.args.events.now) ≡ machine_events first ++ machine_event event ∷ [] =
+    ap machine_events next ∙ map-append machine_event first (event ∷ [])
+    in
     record {
       was_clean = λ h. c.loop-event.invariant.was_clean (c.event.ensures.was_clean h);
       room = omega arith;
       count = grind (arith, common_steps);
       each = grind (arith, common_steps);
-      within =
-          rw next
-          (All-append IsEvent (machine_events (take c.loop-event.event-index c.args.events.now)) (machine_event c.event-item.result ∷ [])
-          c.loop-event.invariant.within
-          (All-cons IsEvent (machine_event c.event-item.result) [] c.event_within.ensures.within (All-nil IsEvent)));
-      bytes =
-          one_more_item IsEventOfBytes c.args.events.now c.loop-event.event-index c.event-item.result c.loop-event-test.true c.event-item.is
-          c.loop-event.invariant.bytes c.event_within.ensures.bytes;
-      handled =
-          handled_one g.S.ClubStore.disk_is_clean g.S.ClubStore.represents g.S.ClubStore.fails c.args.self.now c.loop-event.self c.event.new.self
-          c.args.events.now c.loop-event.event-index c.event-item.result c.loop-event.replies.items c.push.new.self.items c.event.result
-          c.loop-event-test.true c.event-item.is c.in_ok-push.ensures.items c.loop-event.invariant.handled c.event.ensures;
+      within = rw next_seen (All-push IsEvent (machine_events first) (machine_event event) c.loop-event.invariant.within c.event_within.ensures.within);
+      bytes = rw next (All-push IsEventOfBytes first event c.loop-event.invariant.bytes c.event_within.ensures.bytes);
+      handled = rw (next, c.in_ok-push.ensures.items)
+          (one_event first replies event c.event.result c.loop-event.self c.event.new.self c.loop-event.invariant.handled c.event.ensures);
       followed = λ h club others s.
-          followed_one g.S.ClubStore.represents c.event.new.self c.loop-event.self club others c.args.events.now c.loop-event.event-index c.event-item.result
-          c.loop-event.replies.items c.push.new.self.items c.event.result c.loop-event-test.true c.event-item.is c.loop-event.invariant.each
-          c.in_ok-push.ensures.items (c.loop-event.invariant.followed (c.event.ensures.was_clean h) club others s) c.decodes.ensures
-          c.event_within.ensures.bytes (c.event.ensures.steps h);
+          let did = c.event.ensures.steps h in
+          let Stepped : machine.Event → Type 0 = λ seen. Steps g.S.ClubStore.represents c.loop-event.self c.event.new.self seen (response_of c.event.result) in
+          let steps = subst Stepped (sym (event_is c.decodes.ensures event did.0 c.event_within.ensures.bytes did.1)) did.2 in
+          let each = c.loop-event.invariant.each in
+          rw (next_seen, c.in_ok-push.ensures.items, map-append response_of replies (c.event.result ∷ []))
+          (followed_more g.S.ClubStore.represents c.loop-event.self c.event.new.self club others (machine_events first) (responses_of replies)
+          (machine_event event) (response_of c.event.result) (simp (length-map, length-take) (omega arith))
+          (c.loop-event.invariant.followed (c.event.ensures.was_clean h) club others s) steps);
     }

@@ -1,32 +1,40 @@
-use Rattle.std.proofs.Common.{inl, inr, ◌∙◌}
+use Rattle.std.proofs.Common.{◌≡◌, List, inl, inr, ◌∙◌}
 use Rattle.std.proofs.lemmas.List.Elements.{All-head}
-use Rattle.club_core.specs.Club.{IsSound}
+use Rattle.club_core.specs.Answer.{verdict_in}
+use Rattle.club_core.specs.Club.{Club, IsSound}
+use Rattle.club_gate.specs.Desk.{FitsIfAny}
 use Rattle.club_gate.specs.computed.DecodedPass.{decoded_words}
 use Rattle.club_gate.proofs.Stepping.{always_decided, ask_done, ask_failed, ask_fits, changed_fault, fails_at_its_words}
+use Rattle.club_gate.proofs.desk.Desk.reply_to.Given as given
 use Rattle.club_gate.proofs.desk.Desk.reply_to.Goals as goal
+use Rattle.club_gate.proofs.desk.Desk.reply_to.Goals.{After-settle}
+
+-- what was decided of the club, and that the store may settle it
+decided : (g : given.Over) (c : After-settle g) → g.S.ClubStore.disk_is_clean c.settle.new.self → (club : Club) (others : List Club)
+    → g.S.ClubStore.represents c.args.self.now club others
+    → (c.in_ok-verdict.verdict ≡ verdict_in club (decoded_words c.args.words.now.pass.now c.args.words.now.request) c.args.moment)
+    × g.S.ClubStore.represents c.verdict.new.self club others × FitsIfAny c.in_ok-verdict.verdict.change club
+decided g c was_clean club others represents =
+    let before = c.settle.ensures.was_clean was_clean in
+    let words = decoded_words c.args.words.now.pass.now c.args.words.now.request in
+    let is = c.in_ok-verdict.ensures.returned before club others represents in
+    let sound = All-head IsSound club others (g.met.S.ClubStore.sound c.args.self.now club others represents) in (
+      is,
+      c.verdict.ensures.kept before club others represents,
+      ask_fits c.changes_fit.ensures club words c.args.moment c.in_ok-verdict.verdict sound c.within.ensures is,
+    )
 
 pub returns-in_err-settle-clause-steps : goal.returns-in_err-settle-clause-steps
 returns-in_err-settle-clause-steps g c = λ was_clean club others represents.
-    let before = c.settle.ensures.was_clean was_clean in
-    let words = decoded_words c.args.words.now.pass.now c.args.words.now.request in
-    let verdict = c.in_ok-verdict.verdict in
-    let decided = c.in_ok-verdict.ensures.returned before club others represents in
-    let sound = All-head IsSound club others (g.met.S.ClubStore.sound c.args.self.now club others represents) in
-    let fits = ask_fits c.changes_fit.ensures club words c.args.moment verdict sound c.within.ensures decided in
-    inr (ask_failed g.S.ClubStore.represents c.settle.new.self club others words c.args.moment verdict c.from_residual-in_err-settle.result
-    c.from_residual-in_err-settle.ensures.0 decided
-    (c.in_err-settle.ensures.settled was_clean club others (c.verdict.ensures.kept before club others represents) fits))
+    let is = decided g (goal.at.returns-in_err-settle-clause-steps g c).After-settle was_clean club others represents in
+    inr (ask_failed g.S.ClubStore.represents c.settle.new.self club others _ c.args.moment c.in_ok-verdict.verdict c.from_residual-in_err-settle.result
+    c.from_residual-in_err-settle.ensures.0 is.0 (c.in_err-settle.ensures.settled was_clean club others is.1 is.2))
 
 pub returns-clause-steps : goal.returns-clause-steps
 returns-clause-steps g c = λ was_clean club others represents.
-    let before = c.settle.ensures.was_clean was_clean in
-    let words = decoded_words c.args.words.now.pass.now c.args.words.now.request in
-    let verdict = c.in_ok-verdict.verdict in
-    let decided = c.in_ok-verdict.ensures.returned before club others represents in
-    let sound = All-head IsSound club others (g.met.S.ClubStore.sound c.args.self.now club others represents) in
-    let fits = ask_fits c.changes_fit.ensures club words c.args.moment verdict sound c.within.ensures decided in
-    inl (ask_done g.S.ClubStore.represents c.settle.new.self club others c.never_unavailable.ensures words c.args.moment verdict decided
-    (c.in_ok-settle.ensures.settled was_clean club others (c.verdict.ensures.kept before club others represents) fits))
+    let is = decided g (goal.at.returns-clause-steps g c).After-settle was_clean club others represents in
+    inl (ask_done g.S.ClubStore.represents c.settle.new.self club others c.never_unavailable.ensures _ c.args.moment c.in_ok-verdict.verdict is.0
+    (c.in_ok-settle.ensures.settled was_clean club others is.1 is.2))
 
 pub returns-in_err-verdict-clause-untouched : goal.returns-in_err-verdict-clause-untouched
 returns-in_err-verdict-clause-untouched g c = λ fault e. (c.verdict.ensures.refused fault e).same_store
@@ -47,11 +55,9 @@ returns-in_err-verdict-clause-failed g c = λ was_clean club others represents i
 
 pub returns-in_err-settle-clause-failed : goal.returns-in_err-settle-clause-failed
 returns-in_err-settle-clause-failed g c = λ was_clean club others represents is.
-    let before = c.settle.ensures.was_clean was_clean in
-    let words = decoded_words c.args.words.now.pass.now c.args.words.now.request in
-    let decided = c.in_ok-verdict.ensures.returned before club others represents in
-    let failed = changed_fault g.S.ClubStore.fails c.args.self.now c.verdict.new.self c.settle.new.self club words c.args.moment c.in_ok-verdict.verdict
-    decided _ (c.in_ok-verdict.ensures.failed before) (c.in_err-settle.ensures.failed was_clean) in
+    let its = decided g (goal.at.returns-in_err-settle-clause-failed g c).After-settle was_clean club others represents in
+    let failed = changed_fault g.S.ClubStore.fails c.args.self.now c.verdict.new.self c.settle.new.self club _ c.args.moment c.in_ok-verdict.verdict
+    its.0 _ (c.in_ok-verdict.ensures.failed (c.settle.ensures.was_clean was_clean)) (c.in_err-settle.ensures.failed was_clean) in
     inl (
       _,
       fails_at_its_words g.S.ClubStore.fails c.args.self.now c.settle.new.self club c.args.words.now.pass.now c.args.words.now.request c.args.moment _
@@ -60,7 +66,5 @@ returns-in_err-settle-clause-failed g c = λ was_clean club others represents is
 
 pub returns-clause-failed : goal.returns-clause-failed
 returns-clause-failed g c = λ was_clean club others represents is.
-    let before = c.settle.ensures.was_clean was_clean in
-    let words = decoded_words c.args.words.now.pass.now c.args.words.now.request in
-    let decided = c.in_ok-verdict.ensures.returned before club others represents in
-    absurd (always_decided c.never_unavailable.ensures club words c.args.moment c.in_ok-verdict.verdict decided is)
+    let its = decided g (goal.at.returns-clause-failed g c).After-settle was_clean club others represents in
+    absurd (always_decided c.never_unavailable.ensures club _ c.args.moment c.in_ok-verdict.verdict its.0 is)

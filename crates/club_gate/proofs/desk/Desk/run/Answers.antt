@@ -2,8 +2,7 @@ use Rattle.std.proofs.lemmas.List.Elements.{All-head}
 use Rattle.club_core.specs.Club.{IsSound}
 use Rattle.club_gate.specs.Runs.{IsLawfulRun, LeavesClub, responses_of}
 use Rattle.club_gate.specs.computed.DecodedPass.{machine_events}
-use Rattle.club_gate.proofs.FollowedRuns.{answered_by, leaves_club, solo_by, as_in_another, once_by, conserved_by, never_negative_by, never_overbooked_by}
-use Rattle.club_gate.proofs.FollowedRuns.{for_seen}
+use Rattle.club_gate.proofs.FollowedRuns.{for_seen, lawful, leaves_club}
 use Rattle.club_gate.proofs.desk.Desk.run.Goals as goal
 
 pub returns-clause-lawful : goal.returns-clause-lawful
@@ -11,21 +10,13 @@ returns-clause-lawful g c = λ h club others s.
     let Represents = g.S.ClubStore.represents in
     let new = c.follow.new.self in
     let events = machine_events c.args.events.now in
-    let leaves_out = c.leaves_out_failed.ensures in
     let sound = All-head IsSound club others (g.met.S.ClubStore.sound c.args.self.now club others s) in
     for_seen Represents new club others c.args.events.now c.follow.result (λ replies. responses_of replies.items) (IsLawfulRun club)
     c.sees_events.ensures c.follow.ensures.bytes c.follow.ensures.within
     (c.follow.ensures.followed h club others s)
-    (λ responses within f. record {
-      run = answered_by Represents new club others events responses leaves_out f;
-      solo = solo_by Represents new club others events responses leaves_out f c.solo_law.ensures sound;
-      solo_of_two = as_in_another Represents new club others events responses leaves_out f c.solo_law_of_two.ensures sound;
-      once = once_by Represents new club others events responses leaves_out f c.repeats_return_the_same.ensures;
-      conserves = conserved_by Represents new club others events responses leaves_out f c.conserves_points.ensures within;
-      never_negative = never_negative_by Represents new club others events responses leaves_out f c.keeps_sound.ensures within sound;
-      never_overbooked =
-          never_overbooked_by Represents new club others events responses leaves_out f c.keeps_sound.ensures c.sound_clubs_have_places.ensures within sound;
-    })
+    (λ responses within f.
+    lawful Represents new club others events responses c.leaves_out_failed.ensures f c.solo_law.ensures c.solo_law_of_two.ensures
+    c.repeats_return_the_same.ensures c.conserves_points.ensures c.keeps_sound.ensures c.sound_clubs_have_places.ensures within sound)
 
 pub returns-clause-represents : goal.returns-clause-represents
 returns-clause-represents g c = λ h club others s.

@@ -1,5 +1,4 @@
-use Rattle.std.proofs.Common.{◌∙◌, ap, Ok}
-use Rattle.std.proofs.lemmas.Result.{IfOk-weaker}
+use Rattle.std.proofs.Common.{◌∙◌, Ok, ap}
 use Rattle.pass_forms.specs.declared.form.Form.{Form}
 use Rattle.pass_json.specs.computed.AnyForm.{reading_in_form}
 use Rattle.club_gate.proofs.Verifying.{verdict_by_bytes}
@@ -8,26 +7,20 @@ use Rattle.club_gate.proofs.desk.Desk.verdict_on.Goals as goal
 pub returns-in-Ok-clause-returned : goal.returns-in-Ok-clause-returned
 returns-in-Ok-clause-returned g c = λ was_clean club others represents.
     let read = c.in-Ok.ensures.spelling in
-    let bytes = c.args.bytes.now in
-    let found = ap (λ (f : Form). reading_in_form f bytes) c.in-V1.is ∙ (c.reads_v1_exactly.ensures bytes (Ok read.0)).0 read.1 in
-    verdict_by_bytes club c.args.request.now c.args.moment c.args.form bytes read.0 c.verdict_of.result found
-    (IfOk-weaker c.verdict_of.result _ _ (λ verdict answered. answered read.0 read.2 read.1.2)
-    (c.verdict_of.ensures.returned was_clean club others represents))
+    let found = ap (λ (f : Form). reading_in_form f c.args.bytes.now) c.in-V1.is ∙ (c.reads_v1_exactly.ensures c.args.bytes.now (Ok read.0)).0 read.1 in
+    verdict_by_bytes club c.args.request.now c.args.moment c.args.form c.args.bytes.now read.0 c.verdict_of.result found read.2 read.1.2
+    (c.verdict_of.ensures.returned was_clean club others represents)
 
 pub returns-in-Ok-open-clause-returned : goal.returns-in-Ok-open-clause-returned
 returns-in-Ok-open-clause-returned g c = λ was_clean club others represents.
     let read = c.in-Ok-open.ensures.spelling in
-    let bytes = c.args.bytes.now in
-    let found = ap (λ (f : Form). reading_in_form f bytes) c.in-V2.is ∙ (c.reads_v2_exactly.ensures bytes (Ok read.0)).0 read.1 in
-    verdict_by_bytes club c.args.request.now c.args.moment c.args.form bytes read.0 c.verdict_of-in-Ok-open.result found
-    (IfOk-weaker c.verdict_of-in-Ok-open.result _ _ (λ verdict answered. answered read.0 read.2 read.1.2)
-    (c.verdict_of-in-Ok-open.ensures.returned was_clean club others represents))
+    let found = ap (λ (f : Form). reading_in_form f c.args.bytes.now) c.in-V2.is ∙ (c.reads_v2_exactly.ensures c.args.bytes.now (Ok read.0)).0 read.1 in
+    verdict_by_bytes club c.args.request.now c.args.moment c.args.form c.args.bytes.now read.0 c.verdict_of-in-Ok-open.result found read.2 read.1.2
+    (c.verdict_of-in-Ok-open.ensures.returned was_clean club others represents)
 
 pub returns-in-Ok-read_json-clause-returned : goal.returns-in-Ok-read_json-clause-returned
 returns-in-Ok-read_json-clause-returned g c = λ was_clean club others represents.
-    let bytes = c.args.bytes.now in
-    let pass = c.in-Ok-read_json.pass in
-    let found = ap (λ (f : Form). reading_in_form f bytes) c.in-Json.is ∙ c.in-Ok-read_json.ensures.computed in
-    verdict_by_bytes club c.args.request.now c.args.moment c.args.form bytes pass c.verdict_of-in-Ok-read_json.result found
-    (IfOk-weaker c.verdict_of-in-Ok-read_json.result _ _ (λ verdict answered. answered pass c.fields.ensures c.in-Ok-read_json.ensures.spelling.2)
-    (c.verdict_of-in-Ok-read_json.ensures.returned was_clean club others represents))
+    let json = c.in-Ok-read_json in
+    let found = ap (λ (f : Form). reading_in_form f c.args.bytes.now) c.in-Json.is ∙ json.ensures.computed in
+    verdict_by_bytes club c.args.request.now c.args.moment c.args.form c.args.bytes.now json.pass c.verdict_of-in-Ok-read_json.result found c.fields.ensures
+    json.ensures.spelling.2 (c.verdict_of-in-Ok-read_json.ensures.returned was_clean club others represents)
