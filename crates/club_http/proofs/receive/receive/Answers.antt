@@ -1,20 +1,31 @@
-use Rattle.std.proofs.Common.{◌≡◌, ◌<◌, ◌≤◌, ◌+◌, ◌-◌, [], length, take, inl, inr, arith, refl}
+use Rattle.std.proofs.Common.{◌≡◌, ◌<◌, ◌≤◌, ◌+◌, ◌-◌, [], length, take, inl, inr, append-nil, arith, refl}
+use Rattle.std.proofs.KnownBytes.{Consumes-kept, Consumes-nil, Consumes-trans}
 use Rattle.std.proofs.lemmas.Grind.{common_steps}
 use Rattle.std.proofs.lemmas.List.{take-take}
 use Rattle.std.proofs.lemmas.Slice.{take-put_mid_below}
+use borrow.Rule.Slice.PartMut.{put_mid}
 use Rattle.club_http.specs.Calls.{nothing, more}
-use Rattle.club_http.proofs.Known.{consumes_nothing, consumes_kept, consumes_more, consumes_none_more}
 use Rattle.club_http.proofs.ReceivedLemmas.{filled, within_request, not_so}
+use Rattle.club_http.proofs.receive.receive.Given as given
 use Rattle.club_http.proofs.receive.receive.Goals as goal
+use Rattle.club_http.proofs.receive.receive.Goals.{After-fill}
 
 pub loop-reader-init : goal.loop-reader-init
 loop-reader-init g c = record {
   within = omega arith;
-  came = consumes_nothing _;
+  came = Consumes-nil _;
   covers = c.requires.begins;
   gave = nothing;
   counted = refl;
 }
+
+-- a call leaves the bytes that came before
+before : (g : given.Over) (c : After-fill g)
+    → take c.loop-reader.len (put_mid c.loop-reader.len (length c.loop-reader.room - c.loop-reader.len) c.loop-reader.room c.fill.new.room)
+    ≡ take c.loop-reader.len c.loop-reader.room
+before g c =
+    take-put_mid_below c.loop-reader.len (length c.loop-reader.room - c.loop-reader.len) c.loop-reader.room c.fill.new.room c.loop-reader.len
+    (omega arith) (grind (arith, common_steps))
 
 pub returns-clause-received : goal.returns-clause-received
 returns-clause-received g c = let inv = c.loop-reader.invariant in (
@@ -30,13 +41,10 @@ returns-clause-received g c = let inv = c.loop-reader.invariant in (
 pub returns-in-None-clause-cut_off : goal.returns-in-None-clause-cut_off
 returns-in-None-clause-cut_off g c =
     let inv = c.loop-reader.invariant in
-    let len = c.loop-reader.len in
-    let room = c.loop-reader.room in
-    let within : len ≤ length room = grind (arith, common_steps) in
-    rw (take-put_mid_below len (length room - len) room c.fill.new.room len (omega arith) within) (
+    rw (before g (goal.at.returns-in-None-clause-cut_off g c).After-fill) (
       inv.within,
       record {
-        came = consumes_kept _ _ _ _ inv.came c.in-None.ensures.bytes;
+        came = Consumes-kept _ _ _ _ inv.came c.in-None.ensures.bytes;
         within = within_request _ _ inv.within;
         cut = not_so _ _ c.loop-reader-test.true c.is_whole.ensures.whole;
       },
@@ -45,10 +53,7 @@ returns-in-None-clause-cut_off g c =
 pub returns-in-None-clause-calls : goal.returns-in-None-clause-calls
 returns-in-None-clause-calls g c =
     let inv = c.loop-reader.invariant in
-    let len = c.loop-reader.len in
-    let room = c.loop-reader.room in
-    let within : len ≤ length room = grind (arith, common_steps) in
-    rw (take-put_mid_below len (length room - len) room c.fill.new.room len (omega arith) within) (record {
+    rw (before g (goal.at.returns-in-None-clause-calls g c).After-fill) (record {
       within = within_request _ _ inv.within;
       calls =
           inr (record {
@@ -63,30 +68,24 @@ returns-in-None-clause-calls g c =
 pub returns-in-Some-eq0-clause-received : goal.returns-in-Some-eq0-clause-received
 returns-in-Some-eq0-clause-received g c =
     let inv = c.loop-reader.invariant in
-    let len = c.loop-reader.len in
-    let room = c.loop-reader.room in
-    let more = c.in-Some-eq0.ensures.bytes in
-    let within : len ≤ length room = grind (arith, common_steps) in
-    let short : length (take len room) < 16640 = c.loop-reader-test.ensures.room in
+    let bytes = c.in-Some-eq0.ensures.bytes in
+    let short : length (take c.loop-reader.len c.loop-reader.room) < 16640 = c.loop-reader-test.ensures.room in
     let left : 0 < length c.fill.new.room = grind (arith, common_steps) in
     let none : take c.in-Some-eq0.field-0 c.fill.new.room ≡ [] = rw c.in-Some-eq0.field-0-test refl in
-    rw (take-put_mid_below len (length room - len) room c.fill.new.room len (omega arith) within) (
+    rw (before g (goal.at.returns-in-Some-eq0-clause-received g c).After-fill) (
       inv.within,
       inv.covers,
       record {
-        came = consumes_none_more _ _ _ _ _ inv.came more.0 none;
+        came = rw (none, append-nil) at (Consumes-trans _ _ _ _ _ inv.came bytes.0);
         within = within_request _ _ inv.within;
-        ends = inr (more.1 c.in-Some-eq0.field-0-test left);
+        ends = inr (bytes.1 c.in-Some-eq0.field-0-test left);
       },
     )
 
 pub returns-in-Some-eq0-clause-calls : goal.returns-in-Some-eq0-clause-calls
 returns-in-Some-eq0-clause-calls g c =
     let inv = c.loop-reader.invariant in
-    let len = c.loop-reader.len in
-    let room = c.loop-reader.room in
-    let within : len ≤ length room = grind (arith, common_steps) in
-    rw (take-put_mid_below len (length room - len) room c.fill.new.room len (omega arith) within) (record {
+    rw (before g (goal.at.returns-in-Some-eq0-clause-calls g c).After-fill) (record {
       within = within_request _ _ inv.within;
       calls =
           inr (record {
@@ -100,11 +99,8 @@ returns-in-Some-eq0-clause-calls g c =
 
 pub go_on-requires-clause-before : goal.go_on-requires-clause-before
 go_on-requires-clause-before g c =
-    let len = c.loop-reader.len in
-    let room = c.loop-reader.room in
-    let within : len ≤ length room = grind (arith, common_steps) in
-    let upto : len ≤ len + c.in-Some.came = omega arith in
-    rw (take-take, take-put_mid_below len (length room - len) room c.fill.new.room len (omega arith) within) c.loop-reader.invariant.covers
+    let upto : c.loop-reader.len ≤ c.loop-reader.len + c.in-Some.came = omega arith in
+    rw (take-take, before g (goal.at.go_on-requires-clause-before g c).After-fill) c.loop-reader.invariant.covers
 
 pub loop-reader-preserved : goal.loop-reader-preserved
 loop-reader-preserved g c =
@@ -113,12 +109,11 @@ loop-reader-preserved g c =
     let room = c.loop-reader.room in
     let within : len ≤ length room = grind (arith, common_steps) in
     let all = filled room c.fill.new.room len c.in-Some.came (length room - len) within c.in-Some.ensures.within in
-    let covers = rw all at c.go_on.ensures in
     let not = not_so _ _ c.loop-reader-test.true c.is_whole.ensures.whole in
     rw all (record {
       within = grind (arith, common_steps);
-      came = consumes_more _ _ _ _ _ inv.came c.in-Some.ensures.bytes.0;
-      covers = covers;
+      came = Consumes-trans _ _ _ _ _ inv.came c.in-Some.ensures.bytes.0;
+      covers = rw all at c.go_on.ensures;
       gave = more _ _ c.in-Some.came _ _ inv.gave not (omega arith) c.in-Some.ensures.called;
       counted = grind (arith, common_steps);
     })

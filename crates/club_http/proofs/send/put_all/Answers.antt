@@ -2,7 +2,7 @@ use Rattle.std.proofs.Common.{◌≡◌, ◌-◌, take, drop, length, arith}
 use Rattle.std.proofs.Math.Seq.{take-add}
 use Rattle.std.proofs.lemmas.Grind.{common_steps}
 use Rattle.std.proofs.lemmas.List.{take_all}
-use Rattle.club_http.proofs.Known.{appends_more}
+use Rattle.std.proofs.KnownBytes.{Appends-trans}
 use Rattle.club_http.proofs.send.put_all.Goals as goal
 
 pub loop-sent-preserved : goal.loop-sent-preserved
@@ -13,6 +13,6 @@ loop-sent-preserved g c =
     let more = rw rest at c.in-Some.ensures.bytes in
     record {
       within = grind (arith, common_steps);
-      put = rw (take-add sent c.in-Some.taken bytes) (appends_more _ _ _ _ _ c.loop-sent.invariant.put more);
+      put = rw (take-add sent c.in-Some.taken bytes) (Appends-trans _ _ _ _ _ c.loop-sent.invariant.put more);
       counted = grind (arith, common_steps);
     }
