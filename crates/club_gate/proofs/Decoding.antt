@@ -54,8 +54,7 @@ same_caveats reads [] [] h = refl
 same_caveats reads [] (one ∷ seen) h = absurd h
 same_caveats reads (text ∷ texts) [] h = absurd h
 same_caveats reads (text ∷ texts) (one ∷ seen) h =
-    ap (λ (c : Option Caveat). c ∷ map caveat_of texts) (same_found (caveat_of text) one (Understood text) (seen_caveat reads text) h.0)
-    ∙ ap (λ (cs : List (Option Caveat)). one ∷ cs) (same_caveats reads texts seen h.1)
+    rw (same_found (caveat_of text) one (Understood text) (seen_caveat reads text) h.0, same_caveats reads texts seen h.1) refl
 
 -- ---- a pass
 
@@ -74,18 +73,13 @@ module _ (finds : FindsNames) (understood : ReadsWhatIsUnderstood) (signed : Dec
 
   machine_alike : (pass : Plain) (seen : Pass) → IsSeenAs pass seen → machine_pass pass ≡ seen
   machine_alike pass seen h =
-      let made : Option (List ℕ) → List (Option Caveat) → (List ℕ → Bool) → Pass =
-      λ key caveats is_signed. record { key = key; caveats = caveats; is_signed = is_signed }
-      in
       let machine = machine_seen pass in
+      let names = same_found (key_name_in pass.identifier) seen.key (λ (name : List ℕ). IsName name × (pass.identifier ≡ identifier_of name)) machine.names
+      h.names in
       let roots : (λ (root : List ℕ). is_signed root pass) ≡ seen.is_signed =
       fun_ext (λ (root : List ℕ). same_test (is_signed root pass) (seen.is_signed root) (IsSigned root pass) (machine.signed root) (h.signed root))
       in
-      ap (λ (key : Option (List ℕ)). made key (map caveat_of pass.caveats) (λ (root : List ℕ). is_signed root pass))
-      (same_found (key_name_in pass.identifier) seen.key (λ (name : List ℕ). IsName name × (pass.identifier ≡ identifier_of name)) machine.names h.names)
-      ∙ (ap (λ (caveats : List (Option Caveat)). made seen.key caveats (λ (root : List ℕ). is_signed root pass))
-      (same_caveats understood pass.caveats seen.caveats h.understood)
-      ∙ ap (λ (signs : List ℕ → Bool). made seen.key seen.caveats signs) roots)
+      rw (names, same_caveats understood pass.caveats seen.caveats h.understood, roots) refl
 
   pub seen_alike : SeenAlike
   seen_alike pass seen = (machine_alike pass seen, λ e. subst (λ (p : Pass). IsSeenAs pass p) e (machine_seen pass))
@@ -121,9 +115,7 @@ decodes reads alike text seen bytes = (
 pub words_are : Decodes → (text : List ℕ) (request : Request) (words : Words) → IsBytes text → AreWordsOf text request words
     → decoded_words text request ≡ words
 words_are law text request words bytes are =
-    let made : Result Pass PassFault → Request → Words = λ pass asked. record { pass = pass; request = asked } in
-    ap (λ (pass : Result Pass PassFault). made pass request) ((law text words.pass bytes).0 are.0)
-    ∙ ap (λ (asked : Request). made words.pass asked) (sym are.1)
+    rw ((law text words.pass bytes).0 are.0, ← are.1) refl
 
 pub decoded_text : Decodes → (text : List ℕ) → IsBytes text → IsDecoded text (decoded_pass text)
 decoded_text law text bytes = (law text (decoded_pass text) bytes).1 refl
@@ -145,8 +137,7 @@ events_are law [] [] bytes h = refl
 events_are law [] (one ∷ seen) bytes h = absurd h
 events_are law (event ∷ all) [] bytes h = absurd h
 events_are law (event ∷ all) (one ∷ seen) bytes h =
-    ap (λ (e : machine.Event). e ∷ machine_events all) (event_is law event one (All-head IsEventOfBytes event all bytes) h.0)
-    ∙ ap (λ (es : List machine.Event). one ∷ es) (events_are law all seen (All-tail IsEventOfBytes event all bytes) h.1)
+    rw (event_is law event one (All-head IsEventOfBytes event all bytes) h.0, events_are law all seen (All-tail IsEventOfBytes event all bytes) h.1) refl
 
 events_by : Decodes → (all : List Event) → All IsEventOfBytes all → AreEventsOf all (machine_events all)
 events_by law [] bytes = tt

@@ -1,5 +1,5 @@
 -- The name in an identifier.
-use Rattle.std.proofs.Common.{◌≡◌, ℕ, Bool, true, false, cond, List, ◌++◌, take, drop, Option, Some, None, refl, sym, ap, ◌∙◌, subst}
+use Rattle.std.proofs.Common.{◌≡◌, ℕ, Bool, true, false, cond, List, take, drop, Option, Some, None, refl, sym, ap, ◌∙◌}
 use Rattle.std.specs.Prelude.{codes}
 use Rattle.std.specs.Str.{bytes_eq}
 use Rattle.std.proofs.lemmas.List.{take-append-drop}
@@ -21,10 +21,7 @@ name_found reads identifier name e =
     let parts = found (bytes_eq (take 4 identifier) (codes "key:")) (name_of_text (drop 4 identifier)) name e in
     let front : take 4 identifier ≡ codes "key:" = (bytes_eq-Decides (take 4 identifier) (codes "key:")).0 parts.0 in
     let named = (reads (drop 4 identifier) name).0 parts.1 in
-    let P : List ℕ → Type 0 = λ n. IsName n in (
-      subst P (sym named.1) named.0,
-      sym (take-append-drop 4 identifier) ∙ (ap (λ (xs : List ℕ). xs ++ drop 4 identifier) front ∙ ap (λ (xs : List ℕ). codes "key:" ++ xs) (sym named.1)),
-    )
+    (rw named.1 named.0, sym (take-append-drop 4 identifier) ∙ rw (front, named.1) refl)
 
 pub name_there : ReadsNames → (identifier name : List ℕ) → IsName name → identifier ≡ identifier_of name
     → key_name_in identifier ≡ Some name

@@ -1,8 +1,6 @@
 -- What a scan for caveats on the kind of a facility tells.
-use Rattle.std.proofs.Common.{◌≡◌, ℕ, ◌+◌, List, [], ◌∷◌, ◌++◌, map, Option, refl, sym, ap, ◌∙◌, subst}
-use Rattle.std.specs.Option.{option_or}
+use Rattle.std.proofs.Common.{◌≡◌, ℕ, ◌+◌, List, [], ◌∷◌, ◌++◌, map, Option, refl, sym, subst}
 use Rattle.pass_caveats.specs.declared.ask.Ask.{Ask}
-use Rattle.pass_caveats.specs.declared.fault.CaveatFault.{CaveatFault}
 use Rattle.pass_caveats.specs.computed.CaveatOf.{caveat_of}
 use Rattle.pass_caveats.specs.Fault.{first_fault_from}
 use Rattle.pass_caveats.specs.Kinds.{IsBlindToKind, at_kind}
@@ -33,10 +31,12 @@ module _ (finds : FindsTheFaultAt) (reads : ReadsWhatIsUnderstood) (ask : Ask) (
   all_alike signature n [] blind = refl
   all_alike signature n (caveat ∷ caveats) blind =
       let others = map caveat_of caveats in
-      sym (fault_on n (caveat_of caveat) others (at_kind kind ask))
-      ∙ (ap (λ (o : Option CaveatFault). option_or o (first_fault_from (n + 1) others (at_kind kind ask))) (one_alike caveat blind.0 n)
-      ∙ (ap (λ (o : Option CaveatFault). option_or (first_fault_from n (caveat_of caveat ∷ []) ask) o) (all_alike signature (n + 1) caveats blind.1)
-      ∙ fault_on n (caveat_of caveat) others ask))
+      rw (
+        ← fault_on n (caveat_of caveat) others (at_kind kind ask),
+        ← fault_on n (caveat_of caveat) others ask,
+        one_alike caveat blind.0 n,
+        all_alike signature (n + 1) caveats blind.1,
+      ) refl
 
 -- a scan that finds none
 pub blind_at_last : FindsTheFaultAt → ReadsWhatIsUnderstood → (these left : List PassField) → left ≡ [] → (AreBlind left → AreBlind these)

@@ -92,7 +92,8 @@ module _ (club : Club) (key : Key) (moment : ℕ) (its : IsOwned club key) where
   -- the whole view of a key of the club
   abbrev whole : Request → View
   whole request =
-      let basis : Basis = record { key = key; member = its.member; bookings = bookings_of its.member.name club; state = state_of club (request_slot request) } in
+      let bookings = bookings_of its.member.name club in
+      let basis : Basis = record { key = key; member = its.member; bookings = bookings; state = state_of club (request_slot request) } in
       view_of basis request moment
 
   seen : (request : Request) (name : List ℕ) → key_named name club ≡ Some key → view_in club name request moment ≡ Some (whole request)

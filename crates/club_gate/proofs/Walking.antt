@@ -1,6 +1,6 @@
 -- The result of a scan of the caveats among the fields of a pass.
 use Rattle.std.proofs.Common.{Bor, ◌≡◌, ℕ, ◌+◌, ◌-◌, ◌^◌, ◌≤◌, ◌<◌, min, List, [], ◌∷◌, ◌++◌, length, map, Option, Some, None}
-use Rattle.std.proofs.Common.{Bool, true, false, cond, ◌↔◌, is_some, refl, sym, ap, ◌∙◌, arith}
+use Rattle.std.proofs.Common.{Bool, true, false, cond, ◌↔◌, is_some, refl, sym, ◌∙◌, arith}
 use Rattle.std.specs.Option.{option_or}
 use Rattle.pass_caveats.specs.declared.ask.Ask.{Ask}
 use Rattle.pass_caveats.specs.declared.caveat.Caveat.{Caveat}
@@ -53,18 +53,14 @@ fault_behind : (ask : Ask) (signature : List ℕ) (n : ℕ) (caveats : List (Lis
     → fault_in ask n (map caveat_field caveats ++ signature_field signature ∷ []) ≡ first_fault_from n (map caveat_of caveats) ask
 fault_behind ask signature n [] short = refl
 fault_behind ask signature n (caveat ∷ caveats) short =
-    let one = first_fault_from n (caveat_of caveat ∷ []) ask in
     let next : min (n + 1) (2 ^ 64 - 1) ≡ n + 1 = omega arith in
-    ap (λ (m : ℕ). option_or one (fault_in ask m (map caveat_field caveats ++ signature_field signature ∷ []))) next
-    ∙ (ap (λ (o : Option CaveatFault). option_or one o) (fault_behind ask signature (n + 1) caveats (omega arith))
-    ∙ fault_on n (caveat_of caveat) (map caveat_of caveats) ask)
+    rw (next, fault_behind ask signature (n + 1) caveats (omega arith)) (fault_on n (caveat_of caveat) (map caveat_of caveats) ask)
 
 -- the answer of a walk, of which this is left
 pub fault_at_last : (ask : Ask) (n : ℕ) (fields left : List PassField) (answer : Option CaveatFault) → answer ≡ fault_in ask n left
     → fault_in ask n left ≡ fault_in ask 1 fields → (pass : Plain) → fields ≡ pass_fields pass → length pass.caveats ≤ 64
     → answer ≡ first_fault_from 1 (map caveat_of pass.caveats) ask
-fault_at_last ask n fields left answer e f pass g short =
-    e ∙ (f ∙ (ap (λ (fs : List PassField). fault_in ask 1 fs) g ∙ fault_behind ask pass.signature 1 pass.caveats (omega arith)))
+fault_at_last ask n fields left answer e f pass g short = e ∙ f ∙ rw g (fault_behind ask pass.signature 1 pass.caveats (omega arith))
 
 -- the next caveat refuses, or no field is left
 module _ (ask : Ask) (n : ℕ) (left : List PassField) where
@@ -75,11 +71,7 @@ module _ (ask : Ask) (n : ℕ) (left : List PassField) where
   pub fault_comes : (rest : List PassField) (field : Field) (caveat : Bor (List ℕ)) (answer : Option CaveatFault) → left ≡ as_field field ∷ rest
       → field ≡ fields.Caveat caveat → answer ≡ first_fault_from n (caveat_of caveat.now ∷ []) ask → is_some answer ≡ true
       → answer ≡ fault_in ask n left
-  fault_comes rest field caveat answer l f e h =
-      let later = fault_in ask (min (n + 1) (2 ^ 64 - 1)) rest in
-      sym (ap (λ (fs : List PassField). fault_in ask n fs) l
-      ∙ (ap (λ (x : Field). fault_in ask n (as_field x ∷ rest)) f
-      ∙ (ap (λ (o : Option CaveatFault). option_or o later) (sym e) ∙ decided answer later h)))
+  fault_comes rest field caveat answer l f e h = rw (l, f, ← e) (sym (decided answer _ h))
 
   pub no_fault_comes : left ≡ [] → None ≡ fault_in ask n left
-  no_fault_comes l = sym (ap (λ (fs : List PassField). fault_in ask n fs) l)
+  no_fault_comes l = rw l refl

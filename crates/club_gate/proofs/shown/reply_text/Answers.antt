@@ -3,9 +3,6 @@ use Rattle.club_gate.specs.Shown.{lines, values_of_slot, values_of_state}
 use Rattle.club_gate.proofs.ShownTexts.{lines-append}
 use Rattle.club_gate.proofs.shown.reply_text.Goals as goal
 
-pub returns-in-AccountShown : goal.returns-in-AccountShown
-returns-in-AccountShown c = rw c.in-AccountShown.is c.format.ensures.ok
-
 pub returns-in_ok-push_state-in-SlotShown : goal.returns-in_ok-push_state-in-SlotShown
 returns-in_ok-push_state-in-SlotShown c =
     let shown = c.in-SlotShown in

@@ -25,7 +25,8 @@ returns-clause-lawful g c = λ was_clean club others represents.
 
 pub returns-clause-steps : goal.returns-clause-steps
 returns-clause-steps g c = λ was_clean.
-    (_, (decoded_text c.decodes.ensures c.args.words.now.pass.now c.are_bytes.ensures, refl), rw (c.unwrap_or.ensures ∙ unwrapped c.reply_to.result) (c.reply_to.ensures.steps was_clean))
+    let steps = c.reply_to.ensures.steps was_clean in
+    (_, (decoded_text c.decodes.ensures c.args.words.now.pass.now c.are_bytes.ensures, refl), rw (c.unwrap_or.ensures ∙ unwrapped c.reply_to.result) steps)
 
 pub returns-clause-failed : goal.returns-clause-failed
 returns-clause-failed g c = rw (c.unwrap_or.ensures ∙ unwrapped c.reply_to.result) c.reply_to.ensures.failed
