@@ -1,6 +1,6 @@
 -- The parts of a body.
-use Rattle.std.proofs.Common.{◌≡◌, ℕ, ◌≤◌, ◌&&◌, Bool, true, false, cond, List, [], ◌∷◌, Option, Some, None, Result, inl, inr, ◌↔◌, refl, ap}
-use Rattle.std.specs.Prelude.{MatchResult, IsSome, IfSome}
+use Rattle.std.proofs.Common.{◌≡◌, ℕ, ◌&&◌, Bool, true, false, cond, List, [], ◌∷◌, Option, Some, None, Result, inl, inr, refl, ap}
+use Rattle.std.specs.Prelude.{MatchResult}
 use Rattle.std.specs.Option.{ok_or, option_and_then}
 use Rattle.std.specs.List.{list_all}
 use Rattle.std.specs.Map.{keys_of}
@@ -12,7 +12,6 @@ use Rattle.std.proofs.lemmas.Str.{IsUtf8-from_is_utf8}
 use Rattle.serde_json.specs.Data.{Data}
 use Rattle.serde_json.specs.View.{members_view}
 use Rattle.serde_json.specs.declared.value.Value.{Value}
-use Rattle.club_rows.specs.Limits.{IsGuests}
 use Rattle.club_core.specs.declared.refusal.Refusal.{Refusal}
 use Rattle.club_core.specs.declared.refusal.Refusal.TheVariants.{BadRequest}
 use Rattle.http_request.specs.Body.{only_named}
@@ -23,11 +22,6 @@ pub all_named : (name : List ℕ) (entries : List (String Global × Value))
     → list_all (λ key. bytes_eq (string_bytes key) name) (keys_of entries) ≡ only_named name (members_view entries)
 all_named name [] = refl
 all_named name (entry ∷ entries) = ap (λ (b : Bool). bytes_eq (string_bytes entry.0) name && b) (all_named name entries)
-
--- as many guests as a booking may have
-pub as_many : (r : Option ℕ) (n : ℕ) → n ≤ 49 → (IsSome r ↔ IsGuests n) → IfSome r (λ guests. guests ≡ n) → r ≡ Some n
-as_many None n h some same = let none : Option ℕ = None in let is : IsSome none = some.1 h in cc
-as_many (Some guests) n h some same = ap (λ (m : ℕ). Some m) same
 
 -- either no text in UTF-8 or no JSON
 pub no_value : (bytes : List ℕ) (test : Bool) (found : Option Data) → is_utf8 bytes ≡ test → (IsUtf8 bytes → found ≡ None) → cond test found None ≡ None

@@ -1,6 +1,6 @@
 -- Every place of the desk has a route.
 use Rattle.std.proofs.Common.{◌≡◌, ℕ, ◌<◌, List, [], ◌∷◌, ◌++◌, length, Some}
-use Rattle.std.proofs.Common.{Bool, true, false, cond, ◌==◌, append-nil, codes, refl, sym, ap, subst, ◌∙◌, arith}
+use Rattle.std.proofs.Common.{true, false, cond, ◌==◌, append-nil, codes, refl, sym, ap, subst, ◌∙◌, arith}
 use Rattle.std.specs.Prelude.{IsSome}
 use Rattle.std.specs.Fmt.{decimal}
 use Rattle.std.proofs.lemmas.Bool.{eqb-true}
@@ -33,24 +33,18 @@ glued_more : (b : ℕ) (part : List ℕ) (parts : List (List ℕ)) → glued ((b
 glued_more b part [] = refl
 glued_more b part (other ∷ parts) = refl
 
--- one byte more
-parted_at : (byte : ℕ) (path part : List ℕ) (parts : List (List ℕ)) (slash : Bool) → (byte == 47) ≡ slash → segments path ≡ part ∷ parts
-    → path ≡ glued (part ∷ parts)
-    → AreParts (part ∷ parts)
-    → (byte ∷ path ≡ glued (cond slash ([] ∷ segments path) (with_front (byte ∷ []) (segments path))))
-    × AreParts (cond slash ([] ∷ segments path) (with_front (byte ∷ []) (segments path)))
-parted_at byte path part parts true is e whole none =
-    rw e (rw (eqb-true byte 47 is) (ap (λ (l : List ℕ). 47 ∷ l) whole), (refl, none))
-parted_at byte path part parts false is e whole none =
-    rw e (ap (λ (l : List ℕ). byte ∷ l) whole ∙ sym (glued_more byte part parts), (rw is none.0, none.1))
-
 -- a path is its parts
 parted : (path : List ℕ) → (path ≡ glued (segments path)) × AreParts (segments path)
 parted [] = (refl, (refl, tt))
 parted (byte ∷ path) =
     let first = first_part path in
     let before = rw first.2 at (parted path) in
-    parted_at byte path first.0 first.1 (byte == 47) refl first.2 before.0 before.1
+    rw first.2 (elim (byte == 47) as (λ slash. (byte == 47) ≡ slash
+    → (byte ∷ path ≡ glued (cond slash ([] ∷ first.0 ∷ first.1) (with_front (byte ∷ []) (first.0 ∷ first.1))))
+    × AreParts (cond slash ([] ∷ first.0 ∷ first.1) (with_front (byte ∷ []) (first.0 ∷ first.1)))) [
+      | true ↦ λ is. (rw (eqb-true byte 47 is) (ap (λ (l : List ℕ). 47 ∷ l) before.0), (refl, before.1))
+      | false ↦ λ is. (ap (λ (l : List ℕ). byte ∷ l) before.0 ∙ sym (glued_more byte first.0 first.1), (rw is before.1.0, before.1.1))
+    ] refl)
 
 -- the routes of the desk: the account, a booking, a slot
 abbrev pub routes : {K : Type 0} → K → K → K → RowsOf K

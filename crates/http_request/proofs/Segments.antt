@@ -25,31 +25,21 @@ from_the_front path = let first = first_part path in first.2 ∙ sym (ap (with_f
 pub rest_of : {A : Type 0} (xs : List A) (k : ℕ) → take (length xs - k) (drop k xs) ≡ drop k xs
 rest_of xs k = take_all (length xs - k) (drop k xs) (omega (arith, length-drop k xs))
 
-module _ (path : List ℕ) (i : ℕ) where
-  segments_at : (slash : Bool) → i < length path → eqb (get_or path i 0) 47 ≡ slash
-      → segments (drop i path) ≡ cond slash ([] ∷ segments (drop (i + 1) path)) (with_front (get_or path i 0 ∷ []) (segments (drop (i + 1) path)))
-  segments_at slash h e =
-      at_drop_more segments path i 0 h
-      ∙ ap (λ (b : Bool). cond b ([] ∷ segments (drop (i + 1) path)) (with_front (get_or path i 0 ∷ []) (segments (drop (i + 1) path)))) e
+-- the parts from a byte on
+segments_at : (path : List ℕ) (i : ℕ) (slash : Bool) → i < length path → eqb (get_or path i 0) 47 ≡ slash
+    → segments (drop i path) ≡ cond slash ([] ∷ segments (drop (i + 1) path)) (with_front (get_or path i 0 ∷ []) (segments (drop (i + 1) path)))
+segments_at path i slash h e = rw (at_drop_more segments path i 0 h, e) refl
 
-  -- a byte that is no slash
-  pub byte_passed : i < length path → eqb (get_or path i 0) 47 ≡ false → segments path ≡ with_front (take i path) (segments (drop i path))
-      → segments path ≡ with_front (take (i + 1) path) (segments (drop (i + 1) path))
-  byte_passed h e so_far =
-      so_far ∙ ap (with_front (take i path)) (segments_at false h e)
-      ∙ joined-joined (take i path) (get_or path i 0 ∷ []) (segments (drop (i + 1) path))
-      ∙ ap (λ (front : List ℕ). with_front front (segments (drop (i + 1) path))) (sym (take_more path i 0 h))
+-- past a byte that is no slash
+pub byte_passed : (path : List ℕ) (i : ℕ) → i < length path → eqb (get_or path i 0) 47 ≡ false
+    → with_front (take i path) (segments (drop i path)) ≡ with_front (take (i + 1) path) (segments (drop (i + 1) path))
+byte_passed path i h e = rw (segments_at path i false h e, joined-joined, take_more path i 0 h) refl
 
-  -- the slash
-  pub slash_found : i < length path → eqb (get_or path i 0) 47 ≡ true → segments path ≡ with_front (take i path) (segments (drop i path))
-      → segments path ≡ take i path ∷ segments (take (length path - (i + 1)) (drop (i + 1) path))
-  slash_found h e so_far =
-      so_far ∙ ap (with_front (take i path)) (segments_at true h e)
-      ∙ ap (λ (front : List ℕ). front ∷ segments (drop (i + 1) path)) (append-nil (take i path))
-      ∙ ap (λ (rest : List ℕ). take i path ∷ segments rest) (sym (rest_of path (i + 1)))
+-- the slash
+pub slash_found : (path : List ℕ) (i : ℕ) → i < length path → eqb (get_or path i 0) 47 ≡ true
+    → with_front (take i path) (segments (drop i path)) ≡ take i path ∷ segments (take (length path - (i + 1)) (drop (i + 1) path))
+slash_found path i h e = rw (segments_at path i true h e, append-nil, rest_of path (i + 1)) refl
 
-  -- no slash
-  pub no_slash : length path ≤ i → segments path ≡ with_front (take i path) (segments (drop i path)) → segments path ≡ path ∷ []
-  no_slash h so_far =
-      so_far ∙ ap (λ (rest : List ℕ). with_front (take i path) (segments rest)) (drop_of_length-le path h)
-      ∙ ap (λ (front : List ℕ). front ∷ []) (append-nil (take i path) ∙ take_all i path h)
+-- no slash
+pub no_slash : (path : List ℕ) (i : ℕ) → length path ≤ i → with_front (take i path) (segments (drop i path)) ≡ path ∷ []
+no_slash path i h = rw (drop_of_length-le path h, append-nil, take_all i path h) refl
