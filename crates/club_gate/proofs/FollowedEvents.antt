@@ -1,5 +1,5 @@
 -- One event more after a list of events that was followed.
-use Rattle.std.proofs.Common.{◌≡◌, ◌+◌, ◌∙◌, inl, inr, Bool, true, false, cond, List, [], ◌∷◌, ◌++◌, length, All, Contains}
+use Rattle.std.proofs.Common.{◌≡◌, ◌∙◌, inl, inr, Bool, true, false, cond, List, [], ◌∷◌, ◌++◌, length, All, Contains}
 use Rattle.std.proofs.Common.{Option, Some, None, Result, Ok, Err, refl, sym, ap, subst, arith, append_assoc}
 use Rattle.std.proofs.lemmas.List.{length-append}
 use Rattle.std.proofs.lemmas.List.Elements.{All-nil, All-cons, All-append, All-weaker, All-contains_itself}
@@ -71,9 +71,7 @@ rest_beside : (events front rest : List Event) (event : Event) (responses before
     → events ≡ front ++ event ∷ rest → responses ≡ before ++ response ∷ since → length before ≡ length front → length responses ≡ length events
     → length since ≡ length rest
 rest_beside events front rest event responses before since response place among beside e =
-    let all : length events ≡ length front + (1 + length rest) = ap length place ∙ simp length-append (omega arith) in
-    let returned : length responses ≡ length before + (1 + length since) = ap length among ∙ simp length-append (omega arith) in
-    omega arith
+    omega (arith, simp length-append at (ap length place), simp length-append at (ap length among), beside, e)
 
 module _ {S : Type 0} (Represents : S → Club → List Club → Type 0) where
   -- before the first event

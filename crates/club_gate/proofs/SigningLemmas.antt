@@ -1,8 +1,7 @@
 -- A pass is signed if the chain under one of the good roots ends in its signature.
-use Rattle.std.proofs.Common.{◌≡◌, ℕ, Bool, List, [], ◌∷◌, ◌++◌, drop, fold, map, Option, Some, refl, ap, ◌∙◌}
+use Rattle.std.proofs.Common.{◌≡◌, ℕ, Bool, List, [], ◌∷◌, ◌++◌, drop, map, Option, Some, refl, ◌∙◌}
 use Rattle.std.specs.Str.{bytes_eq}
 use Rattle.pass_mac.specs.Chain.{chain, derived_key, extended_signature}
-use Rattle.pass_mac.specs.Hmac.{hmac}
 use Rattle.pass_forms.specs.FieldSource.{PassField, caveat_field, signature_field, pass_fields}
 use Rattle.pass_forms.specs.Pass.{Plain}
 use Rattle.pass_forms.specs.computed.Pass.{is_signed}
@@ -25,8 +24,7 @@ module _ (pass : Plain) (identifier : List ℕ) (fields : List PassField) (named
       → EndsIn start fields answer → answer ≡ is_signed root pass
   unfolding is_signed
   signed_by root derived start answer d s ends =
-      let begins = s ∙ (ap (λ (i : List ℕ). chain derived i []) named ∙ ap (λ (key : List ℕ). chain key pass.identifier []) d) in
-      ends pass.caveats pass.signature left ∙ ap (λ (c : List ℕ). bytes_eq (fold hmac c pass.caveats) pass.signature) begins
+      ends pass.caveats pass.signature left ∙ rw (s, named, d) refl
 
 -- the older root that was read with a key's row is the key's
 pub older_of : (club : Club) (key : Key) (row : KeyRow) (older : Option OlderRoot) (whole : Key) (moment : ℕ) → key_named key.name club ≡ Some key

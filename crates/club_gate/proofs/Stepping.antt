@@ -1,11 +1,10 @@
 -- An event that was decided: its change was applied, or the store failed.
-use Rattle.std.proofs.Common.{◌≡◌, ◌≢◌, ◌⊎◌, inl, inr, ℕ, true, false, List, [], ◌∷◌, Option, Some, None, Result, Ok, Err, refl, sym, ap, ◌∙◌, subst}
+use Rattle.std.proofs.Common.{◌≡◌, ◌≢◌, ◌⊎◌, inl, inr, ℕ, true, false, List, [], ◌∷◌, Option, Some, None, Result, Ok, Err, refl, sym, ap, ◌∙◌}
 use Rattle.std.specs.Prelude.{IsErr}
 use Rattle.base64.specs.GeneralPurpose.{IsBytes}
 use Rattle.club_core.specs.declared.change.Change.{Change}
 use Rattle.club_core.specs.declared.command.Command.{Command}
 use Rattle.club_core.specs.declared.command.Command.TheVariants.{AddKey}
-use Rattle.club_core.specs.declared.command.OfficeFault.{OfficeFault}
 use Rattle.club_core.specs.declared.command.OfficeAnswer.{OfficeAnswer}
 use Rattle.club_core.specs.declared.refusal.Refusal.TheVariants.{Unavailable}
 use Rattle.club_core.specs.declared.reply.Reply.{Reply}
@@ -19,16 +18,16 @@ use Rattle.club_core.specs.Club.{Club, IsSound}
 use Rattle.club_core.specs.Events.{IsEvent}
 use Rattle.club_core.specs.Office.{office_verdict}
 use Rattle.club_core.specs.Pass.{Words}
-use Rattle.club_core.specs.Run.{Asked, Commanded, after_change, done_answer, command_outcome, ToMember, ToOffice}
-use Rattle.club_laws.specs.Failed.{present_reply, is_unavailable, NeverUnavailable}
+use Rattle.club_core.specs.Run.{Asked, Commanded, after_change, done_answer, ToMember, ToOffice}
+use Rattle.club_laws.specs.Failed.{is_unavailable, NeverUnavailable}
 use Rattle.club_laws.specs.SoundRuns.{ChangesFit}
 use Rattle.club_core.specs.Store.{IsRead}
 use Rattle.club_gate.specs.computed.DecodedPass.{decoded_words}
 use Rattle.club_gate.specs.DecodedPass.{AreWordsOf}
 use Rattle.club_gate.specs.Laws.{Decodes}
-use Rattle.club_gate.specs.Desk.{DecidesOrFails, FailsAt, FitsIfAny, HasFailed, IsAnsweredBy, IsDecidedBy, IsRefusedBy, Steps, change_by, others_after}
+use Rattle.club_gate.specs.Desk.{DecidesOrFails, FailsAt, FitsIfAny, HasFailed, IsAnsweredBy, IsDecidedBy, IsRefusedBy, Steps, others_after}
 use Rattle.club_gate.proofs.Decoding.{words_are}
-use Rattle.club_gate.specs.Response.{answer_or_fault, is_failure, reply_or_unavailable, office_reply_of, desk_presentation, unavailable}
+use Rattle.club_gate.specs.Response.{answer_or_fault, is_failure, reply_or_unavailable, office_reply_of, unavailable}
 
 -- a command that is done is no failure
 done_is_no_failure : (command : Command) → is_failure (office_reply_of (done_answer command)) ≡ false
@@ -67,7 +66,7 @@ pub changed_fault : {S : Type 0} (Fails : Option Change → S → StoreFault →
     (verdict : Verdict) → verdict ≡ verdict_in club words moment → (fault : StoreFault) → IsRead Fails old now → Fails verdict.change now fault new
     → FailsAt Fails old new (verdict_in club words moment).change fault
 changed_fault {S} Fails old now new club words moment verdict e fault read failed =
-    inr (subst (λ (v : Verdict). Fails v.change old fault new) e (read verdict.change fault new failed))
+    inr (rw (← e) (read verdict.change fault new failed))
 
 -- so it is at the request of any words that the text decodes to
 pub fails_at_its_words : {S : Type 0} (Fails : Option Change → S → StoreFault → S → Type 0) (old new : S) (club : Club) (text : List ℕ)
@@ -75,44 +74,31 @@ pub fails_at_its_words : {S : Type 0} (Fails : Option Change → S → StoreFaul
     → FailsAt Fails old new (verdict_in club (decoded_words text request) moment).change fault
     → (words : Words) → AreWordsOf text request words → FailsAt Fails old new (verdict_in club words moment).change fault
 fails_at_its_words Fails old new club text request moment fault law bytes failed words are =
-    subst (λ (w : Words). FailsAt Fails old new (verdict_in club w moment).change fault) (words_are law text request words bytes are) failed
+    rw (← words_are law text request words bytes are) failed
 
 module _ {S : Type 0} (Represents : S → Club → List Club → Type 0) (new : S) (club : Club) (others : List Club) where
   pub command_done : (command : Command) (change : Change) → office_verdict club command ≡ Ok change
       → Represents new (after change club) []
       → IsAnsweredBy Represents new club others (Commanded command) (ToOffice (office_reply_of (done_answer command)))
   command_done command change e represents =
-      let P : Result Change OfficeFault → Type 0 = λ v. Represents new (command_outcome club command v).club (others_after (change_by v) others) in
-      record {
-        success = done_is_no_failure command;
-        reply = ap (λ (v : Result Change OfficeFault). present_reply desk_presentation (command_outcome club command v).reply) (sym e);
-        represents = subst P (sym e) represents;
-      }
+      record { success = done_is_no_failure command; reply = rw e refl; represents = rw e represents }
 
   pub command_failed : (command : Command) (change : Change) (result : Result OfficeAnswer StoreFault) → IsErr result
       → office_verdict club command ≡ Ok change → Represents new club (after change club ∷ others)
       → IsRefusedBy Represents new club others (Commanded command) (ToOffice (answer_or_fault result))
-  command_failed command change result err e represents =
-      let P : Result Change OfficeFault → Type 0 = λ v. Represents new club ((command_outcome club command v).club ∷ others) in
-      record { failure = answer_fails result err; represents = inr (subst P (sym e) represents) }
+  command_failed command change result err e represents = record { failure = answer_fails result err; represents = inr (rw e represents) }
 
   pub ask_done : NeverUnavailable → (words : Words) (moment : ℕ) (verdict : Verdict) → verdict ≡ verdict_in club words moment
       → Represents new (after_change verdict.change club) (others_after verdict.change others)
       → IsDecidedBy Represents new club others (verdict_in club words moment) verdict.reply
   ask_done never words moment verdict e represents =
-      let P : Verdict → Type 0 = λ v. Represents new (after_change v.change club) (others_after v.change others) in
-      record {
-        available = always_decided never club words moment verdict e;
-        reply_is = ap (λ (v : Verdict). v.reply) e;
-        represents = subst P e represents;
-      }
+      rw (← e) (record { available = always_decided never club words moment verdict e; reply_is = refl; represents = represents })
 
   pub ask_failed : (words : Words) (moment : ℕ) (verdict : Verdict) (result : Result Reply StoreFault) → IsErr result
       → verdict ≡ verdict_in club words moment → Represents new club (after_change verdict.change club ∷ others)
       → HasFailed Represents new club others (verdict_in club words moment) (reply_or_unavailable result)
   ask_failed words moment verdict result err e represents =
-      let P : Verdict → Type 0 = λ v. Represents new club (after_change v.change club ∷ others) in
-      record { unavailable = reply_fails result err; represents = inr (subst P e represents) }
+      rw (← e) (record { unavailable = reply_fails result err; represents = inr represents })
 
   -- a request that was decided or failed is an event that was answered or failed
   asked_one : (words : Words) (moment : ℕ) (reply : Reply)
