@@ -11,15 +11,22 @@ use pass_caveats::laws::{finds_the_fault_at, reads_what_is_understood};
 use pass_caveats::{Ask, CaveatFault, Unspent, fault_at, looks_at_kind, unspent_at};
 use pass_forms::{Field, FieldSource};
 
-/// The first caveat of a pass that isn't understood or denies the request; `None` if all allow it.
-fn first_fault<'a, F: FieldSource<'a>>(source: &mut F, ask: &Ask) -> Option<CaveatFault>
-    ensures { OfItsPass (F.left source.old)
-        (λ pass. result ≡ first_fault_of (map caveat_of pass.caveats) ask.now) }
+/// The first caveat that isn't understood or denies the request if the key has spent this much
+/// before; `None` if all allow it. The source yields the fields of the pass, and stays unchanged.
+pub(crate) fn fault_after<'a, F: FieldSource<'a> + Drop>(
+    source: &F,
+    ask: &Ask,
+    spent: u64,
+) -> Option<CaveatFault>
+    ensures { OfItsPass (F.left source.now) (λ pass.
+        result ≡ first_fault_of (map caveat_of pass.caveats) (after_spending spent ask.now)) }
 {
+    let after = Ask { spent, ..*ask };
+    let mut source = source.again();
     let mut number: usize = 1;
     while let Some(field) = source.next() {
         if let Field::Caveat(caveat) = field {
-            let fault = fault_at(caveat, number, ask);
+            let fault = fault_at(caveat, number, &after);
             if fault.is_some() {
                 return fault;
             }
@@ -29,28 +36,16 @@ fn first_fault<'a, F: FieldSource<'a>>(source: &mut F, ask: &Ask) -> Option<Cave
     None
 }
 
-/// The first caveat that refuses the request if the key has spent this much before.
-pub(crate) fn fault_after<'a, F: FieldSource<'a> + Drop>(
-    source: &F,
-    ask: &Ask,
-    spent: u64,
-) -> Option<CaveatFault>
-    ensures { OfItsPass (F.left source.now) (λ pass.
-        result ≡ first_fault_of (map caveat_of pass.caveats) (after_spending spent ask.now)) }
-{
-    let mut source = source.again();
-    first_fault(&mut source, &Ask { spent, ..*ask })
-}
-
-/// The first caveat of a pass that refuses a request of a key that has spent nothing before, and
-/// the most that the key may have spent for the same result.
-fn first_unspent<'a, F: FieldSource<'a>>(source: &mut F, ask: &Ask) -> Unspent
-    ensures { OfItsPass (F.left source.old) (λ pass. (spent : ℕ) → IsWithin result.slack spent
+/// The first caveat that refuses a request of a key that has spent nothing before, and the most
+/// that the key may have spent for the same result. The source stays unchanged.
+pub(crate) fn unspent_fault<'a, F: FieldSource<'a> + Drop>(source: &F, ask: &Ask) -> Unspent
+    ensures { OfItsPass (F.left source.now) (λ pass. (spent : ℕ) → IsWithin result.slack spent
         → first_fault_of (map caveat_of pass.caveats) (after_spending spent ask.now)
         ≡ result.fault) }
 {
     finds_the_fault_at();
     reads_what_is_understood();
+    let mut source = source.again();
     let mut slack: Option<u64> = None;
     let mut number: usize = 1;
     while let Some(field) = source.next() {
@@ -80,22 +75,13 @@ fn least(bound: Option<u64>, other: Option<u64>) -> Option<u64>
     }
 }
 
-/// As `first_unspent`, but leaves the source unchanged.
-pub(crate) fn unspent_fault<'a, F: FieldSource<'a> + Drop>(source: &F, ask: &Ask) -> Unspent
-    ensures { OfItsPass (F.left source.now) (λ pass. (spent : ℕ) → IsWithin result.slack spent
-        → first_fault_of (map caveat_of pass.caveats) (after_spending spent ask.now)
-        ≡ result.fault) }
-{
-    let mut source = source.again();
-    first_unspent(&mut source, ask)
-}
-
-/// Whether a caveat of a pass looks at the kind of the slot's facility.
-fn finds_kind<'a, F: FieldSource<'a>>(source: &mut F) -> bool
-    ensures { OfItsPass (F.left source.old) (λ pass. result ≡ false → IsBlindPass pass) }
+/// Whether a caveat of a pass looks at the kind of the slot's facility. The source stays unchanged.
+pub(crate) fn has_kind<'a, F: FieldSource<'a> + Drop>(source: &F) -> bool
+    ensures { OfItsPass (F.left source.now) (λ pass. result ≡ false → IsBlindPass pass) }
 {
     finds_the_fault_at();
     reads_what_is_understood();
+    let mut source = source.again();
     while let Some(field) = source.next() {
         if let Field::Caveat(caveat) = field {
             if looks_at_kind(caveat) {
@@ -104,12 +90,4 @@ fn finds_kind<'a, F: FieldSource<'a>>(source: &mut F) -> bool
         }
     }
     false
-}
-
-/// As `finds_kind`, but leaves the source unchanged.
-pub(crate) fn has_kind<'a, F: FieldSource<'a> + Drop>(source: &F) -> bool
-    ensures { OfItsPass (F.left source.now) (λ pass. result ≡ false → IsBlindPass pass) }
-{
-    let mut source = source.again();
-    finds_kind(&mut source)
 }

@@ -2,7 +2,7 @@
 use Rattle.std.proofs.Common.{◌≡◌, ℕ, length}
 use Rattle.pass_caveats.specs.Spending.{IsWithin, after_spending}
 use Rattle.club_gate.proofs.Walking.{fault_in}
-use Rattle.club_gate.proofs.walk.first_unspent.Given as goal
+use Rattle.club_gate.proofs.walk.unspent_fault.Given as goal
 
 abbrev pub invariant-loop-field : goal.invariant-loop-field
 invariant-loop-field g l =

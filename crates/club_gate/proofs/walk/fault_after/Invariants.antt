@@ -1,10 +1,10 @@
 -- The first fault from here on is the first of all fields.
 use Rattle.std.proofs.Common.{◌≡◌, length}
 use Rattle.club_gate.proofs.Walking.{fault_in}
-use Rattle.club_gate.proofs.walk.first_fault.Given as goal
+use Rattle.club_gate.proofs.walk.fault_after.Given as goal
 
 abbrev pub invariant-loop-field : goal.invariant-loop-field
-invariant-loop-field g l = fault_in l.ask l.number (g.F.FieldSource.left l.source) ≡ fault_in l.ask l.initial.number (g.F.FieldSource.left l.initial.source)
+invariant-loop-field g l = fault_in l.after l.number (g.F.FieldSource.left l.source) ≡ fault_in l.after l.initial.number (g.F.FieldSource.left l.initial.source)
 
 abbrev pub decreases-loop-field : goal.decreases-loop-field
 decreases-loop-field g l = length (g.F.FieldSource.left l.source)

@@ -1,7 +1,7 @@
 -- If the fields from here on are blind to kinds, all are.
 use Rattle.std.proofs.Common.{length}
 use Rattle.club_gate.proofs.KindScans.{AreBlind}
-use Rattle.club_gate.proofs.walk.finds_kind.Given as goal
+use Rattle.club_gate.proofs.walk.has_kind.Given as goal
 
 abbrev pub invariant-loop-field : goal.invariant-loop-field
 invariant-loop-field g l = AreBlind (g.F.FieldSource.left l.source) → AreBlind (g.F.FieldSource.left l.initial.source)

@@ -1,7 +1,0 @@
-use Rattle.club_gate.proofs.KindScans.{blind_at_last}
-use Rattle.club_gate.proofs.walk.finds_kind.Goals as goal
-
-pub returns : goal.returns
-returns g c = λ pass e short _.
-    blind_at_last c.finds_the_fault_at.ensures c.reads_what_is_understood.ensures (g.F.FieldSource.left c.args.source.now)
-    (g.F.FieldSource.left c.loop-field.source) c.in_default.ensures.none.0 c.loop-field.invariant pass e
