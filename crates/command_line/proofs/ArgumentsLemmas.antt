@@ -1,5 +1,6 @@
 -- Lemmas on a parse of the arguments.
-use Rattle.std.proofs.Common.{◌≡◌, ◌∙◌, ◌&&◌, Bool, true, false, List, [], inl, inr, refl, subst, sym}
+use Rattle.std.proofs.Common.{◌≡◌, ◌∙◌, true, List, [], inl, inr, subst, sym}
+use Rattle.std.proofs.lemmas.Bool.{and_parts}
 use Rattle.clap.specs.Words.{App, HasKind, HasMatchesOf, IsAmong, Text, fault_of, is_simple, is_simple_and_free, kind_of, subcommand_of}
 use Rattle.clap.specs.Words.{subcommand_rows_of}
 use Rattle.clap.specs.declared.error.Error.{Error}
@@ -7,17 +8,13 @@ use Rattle.clap.specs.declared.error.kind.ErrorKind.{ErrorKind}
 use Rattle.clap.specs.declared.error.kind.ErrorKind.TheVariants as kind
 use Rattle.clap.specs.declared.parser.matches.ArgMatches.{ArgMatches}
 
-pub both : (a b : Bool) → (a && b) ≡ true → (a ≡ true) × (b ≡ true)
-both true b hold = (refl, hold)
-both false b hold = cc
-
 module _ (made app : App) (arguments : List Text) (is : made ≡ app) (free : is_simple_and_free app ≡ true) where
   -- clap accepts the arguments
   pub accepted : (m : ArgMatches) → HasMatchesOf made arguments m → (is_simple_and_free made ≡ true → fault_of made arguments ≡ [])
       → (fault_of app arguments ≡ []) × (subcommand_rows_of m ≡ subcommand_of app arguments)
   accepted m found clear = (
     subst (λ a. is_simple_and_free a ≡ true → fault_of a arguments ≡ []) is clear free,
-    (subst (λ a. HasMatchesOf a arguments m) is found (both (is_simple app) _ free).0).1,
+    (subst (λ a. HasMatchesOf a arguments m) is found (and_parts (is_simple app) _ free).0).1,
   )
 
   -- its error has a kind among those that it may return, but for out of memory

@@ -1,11 +1,12 @@
 -- Rows of arguments, and how clap finds an argument.
-use Rattle.std.proofs.Common.{◌≡◌, ◌∙◌, ℕ, ◌==◌, ◌&&◌, ◌||◌, Bool, true, false, not, List, [], ◌∷◌, ◌++◌, Some, is_some, append_assoc, refl}
+use Rattle.std.proofs.Common.{◌≡◌, ◌∙◌, ℕ, ◌==◌, ◌&&◌, Bool, true, false, not, List, [], ◌∷◌, ◌++◌, Some, is_some, append_assoc, refl}
 use Rattle.std.proofs.Common.{sym, ap, map, unwrap_or, find}
 use Rattle.std.proofs.lemmas.List.{append-nil}
 use Rattle.std.proofs.lemmas.Slice.Eq.{bytes_eq-Decides}
 use Rattle.std.specs.List.{list_any}
 use Rattle.std.specs.Option.{option_map_or}
 use Rattle.std.specs.Str.{bytes_eq}
+use Rattle.std.proofs.lemmas.Bool.{and_parts, or_parts}
 use Rattle.clap.specs.Simple.{filled, filled_from, index_after, with_index}
 use Rattle.clap.specs.Walk.{arg_by_id, arg_by_index, arg_by_long, at_row, has_long, has_row}
 use Rattle.clap.specs.Walk.{more_values}
@@ -15,13 +16,8 @@ use Rattle.clap.specs.declared.parser.matches.ValueSource.TheVariants.{CommandLi
 use Rattle.clap.proofs.SimpleLemmas.{is_false}
 use Rattle.command_line.specs.Given.{Given, rule_given}
 use Rattle.command_line.specs.Given.{row_given, are_apart}
-use Rattle.command_line.proofs.ArgumentsLemmas.{both}
 
 -- ---- lists of rows
-
-neither : (a b : Bool) → (a || b) ≡ false → (a ≡ false) × (b ≡ false)
-neither true b h = cc
-neither false b h = (refl, h)
 
 pub same_text : (text : Text) → bytes_eq text text ≡ true
 same_text text = (bytes_eq-Decides text text).1 refl
@@ -31,7 +27,7 @@ past : (id : Text) (change : Found → List Found) (missing before tail : List F
     → at_row id change missing (before ++ tail) ≡ before ++ at_row id change missing tail
 past id change missing [] tail new = refl
 past id change missing (row ∷ before) tail new =
-    let parts = neither (bytes_eq row.id id) (has_row id before) new in
+    let parts = or_parts (bytes_eq row.id id) (has_row id before) new in
     rw parts.0 (ap (λ (rows : List Found). row ∷ rows) (past id change missing before tail parts.1))
 
 -- an argument's first row comes last
@@ -61,7 +57,7 @@ find_there : {X : Type 0} (test : X → Bool) (before : List X) (x : X) (after :
     → find test (before ++ x ∷ after) ≡ Some x
 find_there test [] x after none is = rw is refl
 find_there test (y ∷ before) x after none is =
-    let parts = neither (test y) (list_any test before) none in rw parts.0 (find_there test before x after parts.1 is)
+    let parts = or_parts (test y) (list_any test before) none in rw parts.0 (find_there test before x after parts.1 is)
 
 pub record IsFound (rules : List Rule) (rule : Rule) : Type 0 where
   pub by_id : arg_by_id rules rule.id ≡ Some rule
@@ -79,9 +75,9 @@ all_found rules before i [] others same apart = tt
 all_found rules before i (one ∷ given) others same apart =
     let rule = with_index i (filled (rule_given one)) in
     let rest = filled_from (index_after i (rule_given one)) (map rule_given given ++ others) in
-    let parts = both _ _ apart in
-    let here = both _ _ parts.0 in
-    let ways = both _ _ here.1 in (
+    let parts = and_parts _ _ apart in
+    let here = and_parts _ _ parts.0 in
+    let ways = and_parts _ _ here.1 in (
       record {
         by_id = ap (find (λ other. bytes_eq other.id rule.id)) same ∙ find_there _ before rule rest (is_false _ here.0) (same_text rule.id);
         by_name = λ is. ap (find (λ other. not (is_some other.index) && has_long other rule.id)) same ∙ find_there _ before rule rest (is_false _ ways.0) is;

@@ -1,20 +1,21 @@
 -- How clap walks over what a row is given.
-use Rattle.std.proofs.Common.{◌≡◌, ◌∙◌, ℕ, ◌+◌, ◌==◌, ◌&&◌, Bool, true, false, not, List, [], ◌∷◌, ◌++◌, Option, Some, None, is_some, append_assoc, fold}
+use Rattle.std.proofs.Common.{◌≡◌, ◌∙◌, ℕ, ◌==◌, ◌&&◌, Bool, true, false, not, List, [], ◌∷◌, ◌++◌, Option, Some, None, is_some, append_assoc, fold}
 use Rattle.std.proofs.Common.{refl}
-use Rattle.std.proofs.Common.{sym, ap, ap₂, inl, inr, codes, cond, map, subst, min, arith}
+use Rattle.std.proofs.Common.{sym, ap, ap₂, inl, inr, codes, cond, map, subst, arith}
 use Rattle.std.proofs.lemmas.Bool.Decides.{nat_tests}
 use Rattle.std.proofs.lemmas.List.{append-nil}
 use Rattle.std.proofs.lemmas.List.Folds.{list_any_at}
 use Rattle.std.specs.List.{list_any}
+use Rattle.std.proofs.lemmas.Bool.{and_parts, cond_both, cases_Bool}
+use Rattle.std.proofs.Math.Bool.{and-false}
 use Rattle.clap.specs.Faults.{check_fault, defaults_fault, flag_word_fault, level_fault, settle_fault, step_fault, turn_fault, walk_fault}
 use Rattle.clap.specs.Kinds.{Kinds, or_else}
-use Rattle.clap.specs.Lexer.{long_of, strip_byte, usize_max}
+use Rattle.clap.specs.Lexer.{long_of, strip_byte}
 use Rattle.clap.specs.Simple.{filled, filled_from, index_after, wants_index, with_index}
-use Rattle.clap.specs.Walk.{Held, Waiting, Walk, after_step, arg_by_index, at_row, finished, has_row, idle, is_multiple, is_pending, long_or_other}
-use Rattle.clap.specs.Walk.{more_values, next_position, nothing_held, option, positional, positional_held, pushed, rows_after, settled, takes_several}
+use Rattle.clap.specs.Walk.{Held, Waiting, Walk, after_step, arg_by_index, finished, has_row, idle, is_multiple, is_pending, long_or_other}
+use Rattle.clap.specs.Walk.{next_position, nothing_held, option, positional, positional_held, pushed, rows_after, settled, takes_several}
 use Rattle.clap.specs.Walk.{walk_from, walked, with_default, without}
 use Rattle.clap.specs.Words.{Row as Found, Rule, Shape, Text}
-use Rattle.clap.specs.declared.parser.matches.ValueSource.TheVariants.{CommandLine}
 use Rattle.clap.proofs.CutLemmas.{Lacks}
 use Rattle.clap.proofs.SimpleLemmas.{is_false}
 use Rattle.clap.proofs.LexerLemmas.{name_and_value-at, name_and_value-without}
@@ -24,7 +25,6 @@ use Rattle.command_line.specs.Given.{AreSpelled}
 use Rattle.command_line.specs.Given.{row_given, option_rows, positional_rows, rows_given, are_apart, are_new, are_options_named, is_in_order}
 use Rattle.command_line.specs.Given.{has_no_positionals, positionals_spelled}
 use Rattle.command_line.specs.Given.{end_fault}
-use Rattle.command_line.proofs.ArgumentsLemmas.{both}
 use Rattle.command_line.proofs.FoundLemmas.{same_text, added, set_row, grown, AreFound, all_found, IsFound}
 
 lacks : (name : Text) → not (list_any (λ byte. byte == 61) name) ≡ true → Lacks 61 name
@@ -60,11 +60,7 @@ at_place rows pending waiting place = record {
 
 alone_held : (rules : List Rule) (rule : Rule) (argument : Text) (h : Held) → takes_several rule ≡ false
     → positional_held rules rule argument h ≡ pushed rule.id argument (settled rules h)
-alone_held rules rule argument h one = rw one (go (is_pending rule h.pending))
-  where
-    go : (b : Bool) → pushed rule.id argument (cond (b && false) h (settled rules h)) ≡ pushed rule.id argument (settled rules h)
-    go true = refl
-    go false = refl
+alone_held rules rule argument h one = rw (one, and-false (is_pending rule h.pending)) refl
 
 none_spelled : (given : List Given) → has_no_positionals given ≡ true → (positionals_spelled given ≡ []) × (positional_rows given ≡ [])
 none_spelled [] none = (refl, refl)
@@ -116,10 +112,6 @@ module _ (s : Shape) where
       let met = long_or_other s.rules idle argument long held in
       or_else (flag_word_fault s.rules again long argument held) (step_fault s 1 met.0 met.1)
 
-  -- the rows with one use more of this argument
-  abbrev with_use : Text → List Text → List Found → List Found
-  with_use name values rows = at_row name (more_values CommandLine values) (row_given name values ∷ []) (without name rows)
-
   module _ (first : ℕ) (name : Text) (rows now : List Found) (pending : Option (Text × List Text)) (holds : Holds (held_with rows pending) now)
       (named : not (list_any (λ byte. byte == 61) (first ∷ name)) ≡ true) (new : has_row (first ∷ name) now ≡ false) where
     option_step : (required : Bool) (defaults : List Text) (value : Text)
@@ -130,9 +122,7 @@ module _ (s : Shape) where
         let argument = codes "--" ++ (first ∷ name ++ 61 ∷ value) in
         let long = long_with first name value named in
         let by_name = found.by_name (rw (same_text (first ∷ name)) refl) in (
-          ap (after_long argument (held_with rows pending)) long
-              ∙ rw by_name (ap (λ (rows : List Found). at_option (with_use (first ∷ name) (value ∷ []) rows) None) holds.0
-              ∙ ap (λ (rows : List Found). at_option rows None) (set_row (first ∷ name) (value ∷ []) now new)),
+          ap (after_long argument (held_with rows pending)) long ∙ rw (by_name, holds.0, set_row (first ∷ name) (value ∷ []) now new) refl,
           ap (long_fails argument (held_with rows pending)) long ∙ rw (by_name, holds.1, holds.0, new) refl,
         )
 
@@ -143,9 +133,7 @@ module _ (s : Shape) where
         let argument = codes "--" ++ (first ∷ name) in
         let long = long_alone first name named in
         let by_name = found.by_name (rw (same_text (first ∷ name)) refl) in (
-          ap (after_long argument (held_with rows pending)) long
-              ∙ rw by_name (ap (λ (rows : List Found). at_option (with_use (first ∷ name) (codes "true" ∷ []) rows) None) holds.0
-              ∙ ap (λ (rows : List Found). at_option rows None) (set_row (first ∷ name) (codes "true" ∷ []) now new)),
+          ap (after_long argument (held_with rows pending)) long ∙ rw (by_name, holds.0, set_row (first ∷ name) (codes "true" ∷ []) now new) refl,
           ap (long_fails argument (held_with rows pending)) long ∙ rw (by_name, holds.1, holds.0, new) refl,
         )
 
@@ -161,8 +149,7 @@ module _ (s : Shape) where
         let argument = codes "--" ++ (first ∷ name) in
         let long = long_alone first name named in
         let by_name = found.by_name (rw (same_text (first ∷ name)) refl) in (
-          ap (after_long argument (held_with rows pending)) long
-              ∙ rw by_name (ap (λ (rows : List Found). record (at_option rows (Some (first ∷ name, []))) { waiting = option (first ∷ name) }) holds.0),
+          ap (after_long argument (held_with rows pending)) long ∙ rw (by_name, holds.0) refl,
           ap (long_fails argument (held_with rows pending)) long ∙ rw (by_name, holds.1) refl,
         )
 
@@ -171,12 +158,10 @@ module _ (s : Shape) where
         → IsStep waits value (at_option now (Some (first ∷ name, value ∷ [])))
     unfolding IsStep walked
     value_step required defaults [] dashless found = (rw (found.by_id, same_text (first ∷ name)) refl, refl)
-    value_step required defaults (byte ∷ value) dashless found = go (byte == 45) refl dashless
-      where
-        go : (dash : Bool) → (byte == 45) ≡ dash → not (is_some (cond dash (Some value) None)) ≡ true
-            → IsStep waits (byte ∷ value) (at_option now (Some (first ∷ name, (byte ∷ value) ∷ [])))
-        go true is bad = cc
-        go false is none = (rw (is, is, found.by_id, same_text (first ∷ name)) refl, rw (is, is) refl)
+    value_step required defaults (byte ∷ value) dashless found = elim (cases_Bool (byte == 45)) [
+      | inl is ↦ let bad = rw is at dashless in cc
+      | inr is ↦ (rw (is, is, found.by_id, same_text (first ∷ name)) refl, rw (is, is) refl)
+    ]
 
     value_holds : (required : Bool) (defaults : List Text) (value : Text)
         → IsFound s.rules (filled (rule_given (option_given false required defaults (first ∷ name) value)))
@@ -201,12 +186,8 @@ module _ (s : Shape) where
       waiting = cond (is_multiple rule) positional idle;
       position = next_position rule place;
     }) (alone_held s.rules rule argument (held_with rows pending) one ∙ ap (λ (rows : List Found). held_with rows (Some (rule.id, argument ∷ []))) holds.0)),
-    rw by_place (clear_alone (is_pending rule pending && takes_several rule) holds.1),
+    rw by_place (cond_both (is_pending rule pending && takes_several rule) [] _ (λ kinds. kinds ≡ []) (λ _. refl) (λ _. holds.1)),
   )
-    where
-      clear_alone : (b : Bool) → settle_fault s.rules again (held_with rows pending) ≡ [] → cond b [] (settle_fault s.rules again (held_with rows pending)) ≡ []
-      clear_alone true none = refl
-      clear_alone false none = none
 
   -- more texts of the argument that takes several
   more_walked : (required : Bool) (name : Text) (place : ℕ) (rows before : List Found) (some : List Text) (last : Text) (more : List Text)
@@ -237,7 +218,7 @@ module _ (s : Shape) where
       positionals_walked i given rows now pending waiting found.1 new ordered holds
   positionals_walked i (positional_given required name value ∷ given) rows now pending waiting found new ordered holds =
       let rule = with_index i (filled (rule_given (positional_given required name value))) in
-      let parts = both (not (has_row name now)) _ new in
+      let parts = and_parts (not (has_row name now)) _ new in
       let fresh = is_false _ parts.0 in
       let row = row_given name (value ∷ []) in
       step_on _ _ value (positionals_spelled given) _
@@ -248,24 +229,18 @@ module _ (s : Shape) where
       (rw found.0.by_id (set_row name (value ∷ []) now fresh), rw (found.0.by_id, fresh) refl)))
   positionals_walked i (positionals_given required name first more ∷ given) rows now pending waiting found new ordered holds =
       let rule = with_index i (filled (rule_given (positionals_given required name first more))) in
-      let parts = both (not (has_row name now)) _ new in
+      let parts = and_parts (not (has_row name now)) _ new in
       let fresh = is_false _ parts.0 in
       rw (none_spelled given ordered).1 (step_on _ _ first more _
       (positional_step rule i rows now pending waiting first (found.0.by_place (grind (arith, nat_tests))) refl holds)
       (more_walked required name i now now (first ∷ []) first more found.0 fresh (rw found.0.by_id (added name (first ∷ []) now fresh), rw found.0.by_id refl)))
-  positionals_walked i (left_out rule ∷ given) rows now pending waiting found new ordered holds =
-      go (wants_index rule) refl ordered
-      (λ same ordered. positionals_walked i given rows now pending waiting (subst (λ (i : ℕ). AreFound s.rules i given) same found.1) new ordered holds)
-    where
-      go : (wants : Bool) → wants_index rule ≡ wants → cond wants (has_no_positionals given) (is_in_order given) ≡ true
-          → (index_after i rule ≡ i → is_in_order given ≡ true
-          → Settles (at_place rows pending waiting i) (positionals_spelled given) (now ++ positional_rows given))
-          → Settles (at_place rows pending waiting i) (positionals_spelled given) (now ++ positional_rows given)
-      go true wants none rest =
-          let nothing = none_spelled given none in
-          stands (at_place rows pending waiting i) (positionals_spelled given) _ nothing.0
-          (holds.0 ∙ (sym (append-nil now) ∙ ap (λ (more : List Found). now ++ more) (sym nothing.1)), holds.1)
-      go false wants ordered rest = rest (ap (λ (b : Bool). cond b (min (i + 1) usize_max) i) wants) ordered
+  positionals_walked i (left_out rule ∷ given) rows now pending waiting found new ordered holds = elim (cases_Bool (wants_index rule)) [
+    | inl wants ↦
+        let nothing = none_spelled given (rw wants at ordered) in
+        stands (at_place rows pending waiting i) (positionals_spelled given) _ nothing.0
+        (holds.0 ∙ (sym (append-nil now) ∙ ap (λ (more : List Found). now ++ more) (sym nothing.1)), holds.1)
+    | inr none ↦ positionals_walked i given rows now pending waiting (rw none at found.1) new (rw none at ordered) holds
+  ]
 
   -- ---- the options, and then the positional arguments
 
@@ -302,22 +277,22 @@ module _ (s : Shape) where
         options_walked (index_after i rule) given now found.1 named then rows pending holds new
     options_walked i (flag_given [] ∷ given) now found named then rows pending holds new = cc
     options_walked i (flag_given (first ∷ name) ∷ given) now found named then rows pending holds new =
-        let own = both _ _ named in
-        let parts = both (not (has_row (first ∷ name) now)) _ new in
+        let own = and_parts _ _ named in
+        let parts = and_parts (not (has_row (first ∷ name) now)) _ new in
         let row = row_given (first ∷ name) (codes "true" ∷ []) in
         step_on _ _ _ _ _ (flag_step first name rows now pending holds own.0 (is_false _ parts.0) found.0)
         (one_more given now row then (options_walked i given (now ++ row ∷ []) found.1 own.1) (now ++ row ∷ []) None (refl, refl) parts.1)
     options_walked i (option_given joined required defaults [] value ∷ given) now found named then rows pending holds new = cc
     options_walked i (option_given true required defaults (first ∷ name) value ∷ given) now found named then rows pending holds new =
-        let own = both _ _ named in
-        let parts = both (not (has_row (first ∷ name) now)) _ new in
+        let own = and_parts _ _ named in
+        let parts = and_parts (not (has_row (first ∷ name) now)) _ new in
         let row = row_given (first ∷ name) (value ∷ []) in
         step_on _ _ _ _ _ (option_step first name rows now pending holds own.0 (is_false _ parts.0) required defaults value found.0)
         (one_more given now row then (options_walked i given (now ++ row ∷ []) found.1 own.1) (now ++ row ∷ []) None (refl, refl) parts.1)
     options_walked i (option_given false required defaults (first ∷ name) value ∷ given) now found named then rows pending holds new =
-        let own = both _ _ named in
-        let value_is = both _ _ own.1 in
-        let parts = both (not (has_row (first ∷ name) now)) _ new in
+        let own = and_parts _ _ named in
+        let value_is = and_parts _ _ own.1 in
+        let parts = and_parts (not (has_row (first ∷ name) now)) _ new in
         let fresh = is_false _ parts.0 in
         let row = row_given (first ∷ name) (value ∷ []) in
         step_on _ _ _ _ _ (name_step first name rows now pending holds own.0 fresh required defaults value found.0)

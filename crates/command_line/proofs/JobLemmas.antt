@@ -1,5 +1,5 @@
 -- Lemmas on the job that arguments ask for.
-use Rattle.std.proofs.Common.{◌≡◌, List, [], Option, Some, None, IsSome, Result, Ok, Err, inl, inr, refl, ap, subst}
+use Rattle.std.proofs.Common.{◌≡◌, List, [], Option, Some, None, IsSome, Result, Ok, Err, inl, inr, refl, ap, subst, arith}
 use Rattle.clap.specs.Words.{IsAmong, Kinds, Row, Text, fault_of, subcommand_of}
 use Rattle.clap.specs.declared.error.kind.ErrorKind.{ErrorKind}
 use Rattle.command_line.specs.JobLaws.{RowsAnswerOnce, AskOnce, IsOrLacksMemory, ReadsOnce, WordsNameARow}
@@ -55,12 +55,6 @@ ask_once {C} {J} {V} table Reads once arguments job result asks is = go result i
       | inr none ↦ cc
     ]
     go (Err (Refused error)) (inl among) = absurd (accepted _ among.0)
-    go (Err (Refused error)) (inr is) = elim (found (asked table arguments) (Err (Refused error)) asks.1 is.1) [
-      | inl same ↦ cc
-      | inr none ↦ cc
-    ]
-    go (Err (BadValue value)) is = elim (found (asked table arguments) (Err (BadValue value)) asks.1 is.1) [
-      | inl same ↦ cc
-      | inr none ↦ cc
-    ]
+    go (Err (Refused error)) (inr is) = let read = found (asked table arguments) (Err (Refused error)) asks.1 is.1 in grind arith
+    go (Err (BadValue value)) is = let read = found (asked table arguments) (Err (BadValue value)) asks.1 is.1 in grind arith
     go (Err Memory) is = inr refl

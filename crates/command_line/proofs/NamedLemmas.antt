@@ -1,5 +1,5 @@
 -- Words that clap reads enter one of a program's commands.
-use Rattle.std.proofs.Common.{◌≡◌, ℕ, Bool, true, false, List, [], ◌∷◌, Option, Some, None, is_some, refl, codes, cond, fold}
+use Rattle.std.proofs.Common.{◌≡◌, ℕ, Bool, true, false, List, [], ◌∷◌, Option, Some, None, is_some, refl, codes, fold}
 use Rattle.std.proofs.Common.{not, ◌&&◌}
 use Rattle.std.specs.Str.{bytes_eq}
 use Rattle.clap.specs.Words.{App, Kinds, Row, Rule, Shape, Text}
@@ -10,11 +10,10 @@ use Rattle.clap.specs.Walk.{option, plain, plain_word, positional, refused, shor
 use Rattle.clap.specs.Walk.{trailing, value, waits, walk, walk_from, walked, word_met}
 use Rattle.clap.specs.Walk.{subcommand as enters}
 use Rattle.clap.specs.Walk.{arg_by_index, finished, settled, walked_from}
-use Rattle.clap.specs.Lexer.{long_of}
 use Rattle.clap.specs.Facts.{explicit_source}
 use Rattle.clap.specs.Takes.{is_given}
 use Rattle.std.specs.List.{list_any}
-use Rattle.clap.specs.declared.error.kind.ErrorKind.TheVariants.{DisplayHelp, InvalidSubcommand}
+use Rattle.std.proofs.lemmas.Bool.{false_from_ne_true, cond_both}
 use Rattle.clap.specs.Faults.{built_fault, defaults_fault, entered_fault, settle_fault, check_fault, other_fault, turn_fault, walk_fault, word_fault}
 
 -- of two lists of kinds in turn, both are empty if the whole is
@@ -55,24 +54,16 @@ other_enters_none c waiting word None h = short_enters_none c waiting word _ h
 
 module _ (s : Shape) (helps : s.disable_help_subcommand ≡ false) (names : Names) where
   name_met : (name : Text) (word : Text) (h : Held) → other_fault s (Some name) word h ≡ [] → bytes_eq name (codes "help") ≡ false
-  name_met name word h clear = go (bytes_eq name (codes "help")) (rw helps at clear)
-    where
-      go : (b : Bool) → cond (b && true) (DisplayHelp ∷ InvalidSubcommand ∷ []) [] ≡ [] → b ≡ false
-      go true e = cc
-      go false e = refl
+  name_met name word h clear = false_from_ne_true _ (λ is. let shown = rw (helps, is) at clear in cc)
 
   met_enters : (is_trailing : Bool) (waiting : Waiting) (position : ℕ) (word : Text) (h : Held) → word_fault s names is_trailing waiting word h ≡ []
       → EntersNotHelp (word_met s.rules names is_trailing waiting position word h).1
   met_enters true waiting position word h clear = tt
   met_enters false waiting position word h clear = go (subcommand_met names waiting word) clear
     where
-      by_dashes : (b : Bool) → EntersNotHelp (cond b (h, trailing position) (long_or_other s.rules waiting word (long_of word) h)).1
-      by_dashes true = tt
-      by_dashes false = other_enters_none s.rules waiting word (long_of word) h
-
       go : (o : Option Text) → other_fault s o word h ≡ [] → EntersNotHelp (subcommand_or_other s.rules o waiting position word h).1
       go (Some name) e = name_met name word h e
-      go None e = by_dashes (bytes_eq word (45 ∷ 45 ∷ []))
+      go None e = cond_both (bytes_eq word (45 ∷ 45 ∷ [])) _ _ (λ (met : Held × Step). EntersNotHelp met.1) (λ _. tt) (λ _. other_enters_none s.rules waiting word _ h)
 
   step_stops : (word : Text) (w : Walk) (h : Held) (step : Step) → w.stopped ≡ None → EntersNotHelp step
       → StopsNotAtHelp (after_step s.rules word w h step).stopped

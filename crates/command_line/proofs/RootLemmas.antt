@@ -7,15 +7,10 @@ use lib.Seq.{take-append_seam}
 use Rattle.hex.specs.Hex.{decode_of, decode_sized}
 use Rattle.hex.proofs.HexLemmas.{decode_of-odd, decode_of-ok, decode_sized-odd, decode_sized-twice}
 use Rattle.hex.specs.declared.error.FromHexError.{FromHexError}
-use Rattle.hex.specs.declared.error.FromHexError.TheVariants.{OddLength}
 use Rattle.command_line.specs.Root.{has_root_length, root_among, root_of}
 
 kept : (bytes : List ℕ) → 1 ≤ length bytes → length bytes ≤ 64 → has_root_length bytes ≡ Some bytes
 kept bytes least most = grind (arith, nat_tests)
-
-outside : (bytes : List ℕ) → (length bytes ≡ 0) ⊎ (64 < length bytes) → has_root_length bytes ≡ None
-outside bytes (inl none) = grind (arith, nat_tests)
-outside bytes (inr many) = grind (arith, nat_tests)
 
 -- a text of too few or too many digits spells no root
 pub none_by_length : (text : List ℕ) → (length text / 2 ≡ 0) ⊎ (64 < length text / 2) → root_of text ≡ None
@@ -25,8 +20,7 @@ none_by_length text h = go (decode_of text) refl
     go : (r : Result (List ℕ) FromHexError) → decode_of text ≡ r → root_among r ≡ None
     go (Err e) same = refl
     go (Ok bytes) same =
-        let long = (decode_of-ok text bytes same).2 in
-        outside bytes (elim h [ inl few ↦ inl (omega arith) | inr many ↦ inr (omega arith) ])
+        let long = (decode_of-ok text bytes same).2 in grind (arith, nat_tests)
 
 -- the root that decoding into the first n bytes of a buffer gives, for half as many bytes as digits
 pub root_of_decoded : (text out buffer : List ℕ) (n : ℕ) (r : Result Unit FromHexError) → n ≡ length text / 2 → 1 ≤ n → n ≤ 64 → n ≤ length buffer
@@ -34,21 +28,12 @@ pub root_of_decoded : (text out buffer : List ℕ) (n : ℕ) (r : Result Unit Fr
     → MatchResult r (λ _. (root_of text ≡ Some out) × (length out ≡ n)) (λ _. root_of text ≡ None)
 unfolding root_of
 root_of_decoded text out buffer n r half least most fits decoded = elim (cases_eq (length text % 2) 1) [
-  | inl odd ↦ go_odd r (rw (length-take-le n buffer fits, decode_sized-odd text n odd) at decoded)
-      (root_among_odd odd)
+  | inl odd ↦ rw (rw (length-take-le n buffer fits, decode_sized-odd text n odd) at decoded) (ap root_among (decode_of-odd text odd))
   | inr even ↦
       let twice : length text ≡ 2 * n = omega arith in
       go (decode_of text) refl r (rw (length-take-le n buffer fits, decode_sized-twice text n twice) at decoded)
 ]
   where
-    root_among_odd : length text % 2 ≡ 1 → root_among (decode_of text) ≡ None
-    root_among_odd odd = ap root_among (decode_of-odd text odd)
-
-    go_odd : (r : Result Unit FromHexError) → r ≡ Err OddLength → root_among (decode_of text) ≡ None
-        → MatchResult r (λ _. (root_among (decode_of text) ≡ Some out) × (length out ≡ n)) (λ _. root_among (decode_of text) ≡ None)
-    go_odd (Ok x) h none = cc
-    go_odd (Err e) h none = none
-
     go : (d : Result (List ℕ) FromHexError) → decode_of text ≡ d → (r : Result Unit FromHexError)
         → MatchResult d (λ bytes. (r ≡ Ok tt) × (out ≡ bytes)) (λ e. r ≡ Err e)
         → MatchResult r (λ _. (root_among (decode_of text) ≡ Some out) × (length out ≡ n)) (λ _. root_among (decode_of text) ≡ None)

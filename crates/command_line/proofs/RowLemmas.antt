@@ -1,9 +1,10 @@
 -- The row of a table that a name enters takes what it is given.
-use Rattle.std.proofs.Common.{◌≡◌, ◌∙◌, Bool, true, false, List, [], ◌∷◌, ◌++◌, ◌||◌, Option, Some, None, append_assoc, fold, refl, sym, ap, ap₂, codes, cond}
-use Rattle.std.proofs.Common.{map, find, drop, is_some, IsSome, option_map, subst}
+use Rattle.std.proofs.Common.{◌≡◌, ◌∙◌, true, false, List, [], ◌∷◌, ◌++◌, Option, Some, None, append_assoc, fold, refl, sym, ap, ap₂, codes}
+use Rattle.std.proofs.Common.{map, find, drop, is_some, IsSome, option_map, subst, inl, inr}
 use Rattle.std.proofs.lemmas.List.{append-nil}
 use Rattle.std.specs.Str.{bytes_eq}
 use Rattle.std.proofs.lemmas.Slice.Eq.{bytes_eq-Decides}
+use Rattle.std.proofs.lemmas.Bool.{and_parts, false_from_ne_true, both_ways, cases_Bool}
 use Rattle.clap.specs.Faults.{built_fault, check_fault, defaults_fault, entered_fault, level_fault, other_fault, settle_fault, step_fault, turn_fault}
 use Rattle.clap.specs.Faults.{walk_fault}
 use Rattle.clap.specs.Kinds.{Kinds, or_else}
@@ -19,7 +20,6 @@ use Rattle.command_line.specs.Given.{AreSpelled, Given, can_be_given, found_give
 use Rattle.command_line.specs.JobLaws.{RowsTakeWhatTheyAreGiven, WordsNameARow}
 use Rattle.command_line.specs.Table.{Entry, Table, asked, asked_in, entry_app, entry_named, refusals, with_entries}
 use Rattle.command_line.proofs.GivenLemmas.{given_taken}
-use Rattle.command_line.proofs.ArgumentsLemmas.{both}
 use Rattle.command_line.proofs.NamedLemmas.{StopsNotAtHelp, enters_command}
 
 -- ---- what clap builds of a table
@@ -48,33 +48,18 @@ entries_added app entry (next ∷ entries) =
     (append_assoc app.subs (shape_of_entry entry ∷ []) (map shape_of_entry (next ∷ entries))))
 
 no_other_name : (name : Text) → bytes_eq name (codes "help") ≡ false → bytes_eq (codes "help") name ≡ false
-no_other_name name other = go (bytes_eq (codes "help") name) refl
-  where
-    go : (b : Bool) → bytes_eq (codes "help") name ≡ b → b ≡ false
-    go false is = refl
-    go true is =
-        let same : codes "help" ≡ name = (bytes_eq-Decides (codes "help") name).0 is in
-        let bad : bytes_eq name (codes "help") ≡ true = (bytes_eq-Decides name (codes "help")).1 (sym same) in
-        cc
+no_other_name name other =
+    false_from_ne_true _ (λ is. both_ways _ other ((bytes_eq-Decides name (codes "help")).1 (sym ((bytes_eq-Decides (codes "help") name).0 is))))
 
 -- the row of a name other than `help`, as clap builds it under the program
 shape_found : {C : Type 0} (above : Shape) (entries : List (Entry C)) (name : Text) → bytes_eq name (codes "help") ≡ false
     → find (λ s. answers_to name (label_of s)) (map built_leaf (map (inherited above) (map shape_of_entry entries) ++ help_shape ∷ []))
     ≡ option_map (λ entry. built_leaf (inherited above (shape_of_entry entry))) (entry_named name entries)
 shape_found above [] name other = rw (no_other_name name other) refl
-shape_found {C} above (next ∷ entries) name other = go (bytes_eq next.name name) (shape_found above entries name other)
-  where
-    built_of : Entry C → Shape
-    built_of entry = built_leaf (inherited above (shape_of_entry entry))
-
-    rest : List Shape
-    rest = map built_leaf (map (inherited above) (map shape_of_entry entries) ++ help_shape ∷ [])
-
-    go : (b : Bool) → find (λ s. answers_to name (label_of s)) rest ≡ option_map built_of (entry_named name entries)
-        → cond (b || false) (Some (built_of next)) (find (λ s. answers_to name (label_of s)) rest)
-        ≡ option_map built_of (cond b (Some next) (entry_named name entries))
-    go true others = refl
-    go false others = others
+shape_found above (next ∷ entries) name other = elim (cases_Bool (bytes_eq next.name name)) [
+  | inl here ↦ rw here refl
+  | inr past ↦ rw past (shape_found above entries name other)
+]
 
 -- ---- the arguments after a command's name
 
@@ -157,12 +142,12 @@ module _ {C : Type 0} (title : Text) (first : Entry C) (others : List (Entry C))
 
 name_found : {C : Type 0} (name : Text) (entries : List (Entry C)) (entry : Entry C) → entry_named name entries ≡ Some entry → entry.name ≡ name
 name_found name [] entry is = cc
-name_found {C} name (next ∷ entries) entry is = go (bytes_eq next.name name) refl is (name_found name entries entry)
-  where
-    go : (b : Bool) → bytes_eq next.name name ≡ b → cond b (Some next) (entry_named name entries) ≡ Some entry
-        → (entry_named name entries ≡ Some entry → entry.name ≡ name) → entry.name ≡ name
-    go true is found others = let same : next ≡ entry = cc in ap (λ (e : Entry C). e.name) (sym same) ∙ (bytes_eq-Decides next.name name).0 is
-    go false is found others = others found
+name_found {C} name (next ∷ entries) entry is = elim (cases_Bool (bytes_eq next.name name)) [
+  | inl here ↦
+      let found = rw here at is in
+      let same : next ≡ entry = cc in ap (λ (e : Entry C). e.name) (sym same) ∙ (bytes_eq-Decides next.name name).0 here
+  | inr past ↦ name_found name entries entry (rw past at is)
+]
 
 asked_where_entered : {C : Type 0} (title : Text) (first : Entry C) (others : List (Entry C)) (stop : Option (Text × List Text))
     → is_some (entered (app title first others) stop) ≡ true → StopsNotAtHelp stop
@@ -218,11 +203,11 @@ taken {C} title (first ∷ others) entry given program arguments is rules can sp
     let table : Table C = record { title = title; entries = first ∷ others } in
     let shape = shape_given entry.name given in
     let made = entries_added (program_named title) first others in
-    let helps = both _ _ can in
-    let apart = both _ _ helps.1 in
-    let new = both _ _ apart.1 in
-    let named = both _ _ new.1 in
-    let ordered = both _ _ named.1 in
+    let helps = and_parts _ _ can in
+    let apart = and_parts _ _ helps.1 in
+    let new = and_parts _ _ apart.1 in
+    let named = and_parts _ _ new.1 in
+    let ordered = and_parts _ _ named.1 in
     let leaf = given_taken shape given (help_rule ∷ []) arguments refl apart.0 named.0 new.0 ordered.0 (is_nil _ ordered.1) spells in
     let same : shape ≡ built_leaf (shape_of_entry entry) =
     ap (λ (rules : List Rule). built_leaf (record (new_shape entry.name) { rules = rules })) rules in

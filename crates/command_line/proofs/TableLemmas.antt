@@ -1,6 +1,6 @@
 -- Lemmas on the rows of a table.
 use Rattle.std.proofs.Common.{◌≡◌, ◌∙◌, ℕ, ◌+◌, ◌<◌, List, [], ◌∷◌, ◌++◌, map, take, drop, ap, get_or, length, refl}
-use Rattle.std.proofs.Common.{sym, cond, Bool, true, false, Some}
+use Rattle.std.proofs.Common.{sym, cond, Bool, Some}
 use Rattle.std.proofs.lemmas.List.{drop_more, take_more}
 use Rattle.std.specs.Str.{bytes_eq}
 use Rattle.clap.specs.Words.{App, Text, with_subcommand}
@@ -25,11 +25,6 @@ module _ {C : Type 0} (name : Text) (rows : List (Row C)) (i : ℕ) (row : Row C
   left_from =
       ap (λ (some : List (Row C)). entry_named name (map entry_of some)) (drop_more rows i row within ∙ ap (λ (r : Row C). r ∷ drop (i + 1) rows) (sym is))
 
-  pub named_here : bytes_eq row.name.now name ≡ true → entry_named name (map entry_of (drop i rows)) ≡ Some (entry_of row)
-  named_here same =
-      left_from ∙ ap (λ (b : Bool). cond b (Some (entry_of row)) (entry_named name (map entry_of (drop (i + 1) rows)))) same
-
-  pub named_later : bytes_eq row.name.now name ≡ false
-      → entry_named name (map entry_of (drop i rows)) ≡ entry_named name (map entry_of (drop (i + 1) rows))
-  named_later other =
-      left_from ∙ ap (λ (b : Bool). cond b (Some (entry_of row)) (entry_named name (map entry_of (drop (i + 1) rows)))) other
+  pub named_from : (is_its : Bool) → bytes_eq row.name.now name ≡ is_its
+      → entry_named name (map entry_of (drop i rows)) ≡ cond is_its (Some (entry_of row)) (entry_named name (map entry_of (drop (i + 1) rows)))
+  named_from is_its tested = left_from ∙ ap (λ (b : Bool). cond b (Some (entry_of row)) (entry_named name (map entry_of (drop (i + 1) rows)))) tested
