@@ -12,14 +12,14 @@ use Rattle.clap.specs.Faults.{check_fault, defaults_fault, flag_word_fault, leve
 use Rattle.clap.specs.Kinds.{Kinds, or_else}
 use Rattle.clap.specs.Lexer.{long_of, strip_byte}
 use Rattle.clap.specs.Simple.{filled, filled_from, index_after, wants_index, with_index}
-use Rattle.clap.specs.Walk.{Held, Waiting, Walk, after_step, arg_by_index, finished, has_row, idle, is_multiple, is_pending, long_or_other}
+use Rattle.clap.specs.Walk.{Held, Waiting, Walk, after_step, arg_by_index, finished, has_row, idle, is_multiple, is_pending, long_or_other, arg_by_long}
 use Rattle.clap.specs.Walk.{next_position, nothing_held, option, positional, positional_held, pushed, rows_after, settled, takes_several}
 use Rattle.clap.specs.Walk.{walk_from, walked, with_default, without}
 use Rattle.clap.specs.Words.{Row as Found, Rule, Shape, Text}
 use Rattle.clap.proofs.CutLemmas.{Lacks}
 use Rattle.clap.proofs.SimpleLemmas.{is_false}
 use Rattle.clap.proofs.LexerLemmas.{name_and_value-at, name_and_value-without}
-use Rattle.command_line.specs.Application.{positionals_named}
+use Rattle.command_line.specs.Application.{positionals_named, option_named}
 use Rattle.command_line.specs.Given.{Given, option_given, flag_given, positional_given, positionals_given, left_out, rule_given, options_spelled}
 use Rattle.command_line.specs.Given.{AreSpelled}
 use Rattle.command_line.specs.Given.{row_given, option_rows, positional_rows, rows_given, are_apart, are_new, are_options_named, is_in_order}
@@ -64,11 +64,9 @@ alone_held rules rule argument h one = rw (one, and-false (is_pending rule h.pen
 
 none_spelled : (given : List Given) → has_no_positionals given ≡ true → (positionals_spelled given ≡ []) × (positional_rows given ≡ [])
 none_spelled [] none = (refl, refl)
-none_spelled (option_given joined required defaults name value ∷ given) none = none_spelled given none
-none_spelled (flag_given name ∷ given) none = none_spelled given none
 none_spelled (positional_given required name value ∷ given) none = cc
 none_spelled (positionals_given required name first more ∷ given) none = cc
-none_spelled (left_out rule ∷ given) none = none_spelled given none
+none_spelled (_ ∷ given) none = none_spelled given none
 
 module _ (s : Shape) where
   abbrev again : Bool
@@ -114,18 +112,6 @@ module _ (s : Shape) where
 
   module _ (first : ℕ) (name : Text) (rows now : List Found) (pending : Option (Text × List Text)) (holds : Holds (held_with rows pending) now)
       (named : not (list_any (λ byte. byte == 61) (first ∷ name)) ≡ true) (new : has_row (first ∷ name) now ≡ false) where
-    option_step : (required : Bool) (defaults : List Text) (value : Text)
-        → IsFound s.rules (filled (rule_given (option_given true required defaults (first ∷ name) value)))
-        → IsStep (at_option rows pending) (codes "--" ++ (first ∷ name ++ 61 ∷ value)) (at_option (now ++ row_given (first ∷ name) (value ∷ []) ∷ []) None)
-    unfolding IsStep walked
-    option_step required defaults value found =
-        let argument = codes "--" ++ (first ∷ name ++ 61 ∷ value) in
-        let long = long_with first name value named in
-        let by_name = found.by_name (rw (same_text (first ∷ name)) refl) in (
-          ap (after_long argument (held_with rows pending)) long ∙ rw (by_name, holds.0, set_row (first ∷ name) (value ∷ []) now new) refl,
-          ap (long_fails argument (held_with rows pending)) long ∙ rw (by_name, holds.1, holds.0, new) refl,
-        )
-
     flag_step : IsFound s.rules (filled (rule_given (flag_given (first ∷ name))))
         → IsStep (at_option rows pending) (codes "--" ++ (first ∷ name)) (at_option (now ++ row_given (first ∷ name) (codes "true" ∷ []) ∷ []) None)
     unfolding IsStep walked
@@ -141,32 +127,40 @@ module _ (s : Shape) where
     abbrev waits : Walk
     waits = record (at_option now (Some (first ∷ name, []))) { waiting = option (first ∷ name) }
 
-    name_step : (required : Bool) (defaults : List Text) (value : Text)
-        → IsFound s.rules (filled (rule_given (option_given false required defaults (first ∷ name) value)))
-        → IsStep (at_option rows pending) (codes "--" ++ (first ∷ name)) waits
-    unfolding IsStep walked
-    name_step required defaults value found =
-        let argument = codes "--" ++ (first ∷ name) in
-        let long = long_alone first name named in
-        let by_name = found.by_name (rw (same_text (first ∷ name)) refl) in (
-          ap (after_long argument (held_with rows pending)) long ∙ rw (by_name, holds.0) refl,
-          ap (long_fails argument (held_with rows pending)) long ∙ rw (by_name, holds.1) refl,
-        )
+    module _ (required : Bool) (defaults : List Text)
+        (found : IsFound s.rules (filled (record (option_named (first ∷ name)) { required = required; defaults = defaults }))) where
+      by_name : arg_by_long s.rules (first ∷ name) ≡ Some (filled (record (option_named (first ∷ name)) { required = required; defaults = defaults }))
+      by_name = found.by_name (rw (same_text (first ∷ name)) refl)
 
-    value_step : (required : Bool) (defaults : List Text) (value : Text) → not (is_some (strip_byte 45 value)) ≡ true
-        → IsFound s.rules (filled (rule_given (option_given false required defaults (first ∷ name) value)))
-        → IsStep waits value (at_option now (Some (first ∷ name, value ∷ [])))
-    unfolding IsStep walked
-    value_step required defaults [] dashless found = (rw (found.by_id, same_text (first ∷ name)) refl, refl)
-    value_step required defaults (byte ∷ value) dashless found = elim (cases_Bool (byte == 45)) [
-      | inl is ↦ let bad = rw is at dashless in cc
-      | inr is ↦ (rw (is, is, found.by_id, same_text (first ∷ name)) refl, rw (is, is) refl)
-    ]
+      option_step : (value : Text)
+          → IsStep (at_option rows pending) (codes "--" ++ (first ∷ name ++ 61 ∷ value)) (at_option (now ++ row_given (first ∷ name) (value ∷ []) ∷ []) None)
+      unfolding IsStep walked
+      option_step value =
+          let argument = codes "--" ++ (first ∷ name ++ 61 ∷ value) in
+          let long = long_with first name value named in (
+            ap (after_long argument (held_with rows pending)) long ∙ rw (by_name, holds.0, set_row (first ∷ name) (value ∷ []) now new) refl,
+            ap (long_fails argument (held_with rows pending)) long ∙ rw (by_name, holds.1, holds.0, new) refl,
+          )
 
-    value_holds : (required : Bool) (defaults : List Text) (value : Text)
-        → IsFound s.rules (filled (rule_given (option_given false required defaults (first ∷ name) value)))
-        → Holds (held_with now (Some (first ∷ name, value ∷ []))) (now ++ row_given (first ∷ name) (value ∷ []) ∷ [])
-    value_holds required defaults value found = (rw found.by_id (set_row (first ∷ name) (value ∷ []) now new), rw (found.by_id, new) refl)
+      name_step : IsStep (at_option rows pending) (codes "--" ++ (first ∷ name)) waits
+      unfolding IsStep walked
+      name_step =
+          let argument = codes "--" ++ (first ∷ name) in
+          let long = long_alone first name named in (
+            ap (after_long argument (held_with rows pending)) long ∙ rw (by_name, holds.0) refl,
+            ap (long_fails argument (held_with rows pending)) long ∙ rw (by_name, holds.1) refl,
+          )
+
+      value_step : (value : Text) → not (is_some (strip_byte 45 value)) ≡ true → IsStep waits value (at_option now (Some (first ∷ name, value ∷ [])))
+      unfolding IsStep walked
+      value_step [] dashless = (rw (found.by_id, same_text (first ∷ name)) refl, refl)
+      value_step (byte ∷ value) dashless = elim (cases_Bool (byte == 45)) [
+        | inl is ↦ let bad = rw is at dashless in cc
+        | inr is ↦ (rw (is, is, found.by_id, same_text (first ∷ name)) refl, rw (is, is) refl)
+      ]
+
+      value_holds : (value : Text) → Holds (held_with now (Some (first ∷ name, value ∷ []))) (now ++ row_given (first ∷ name) (value ∷ []) ∷ [])
+      value_holds value = (rw found.by_id (set_row (first ∷ name) (value ∷ []) now new), rw (found.by_id, new) refl)
 
   dashes_step : (rows : List Found) (pending : Option (Text × List Text)) → IsStep (at_option rows pending) (codes "--") (at_place rows pending idle 1)
   unfolding IsStep walked
@@ -212,10 +206,6 @@ module _ (s : Shape) where
   unfolding AreFound
   positionals_walked i [] rows now pending waiting found new ordered holds =
       stands (at_place rows pending waiting i) [] _ refl (holds.0 ∙ sym (append-nil now), holds.1)
-  positionals_walked i (option_given joined required defaults name value ∷ given) rows now pending waiting found new ordered holds =
-      positionals_walked i given rows now pending waiting found.1 new ordered holds
-  positionals_walked i (flag_given name ∷ given) rows now pending waiting found new ordered holds =
-      positionals_walked i given rows now pending waiting found.1 new ordered holds
   positionals_walked i (positional_given required name value ∷ given) rows now pending waiting found new ordered holds =
       let rule = with_index i (filled (rule_given (positional_given required name value))) in
       let parts = and_parts (not (has_row name now)) _ new in
@@ -241,6 +231,8 @@ module _ (s : Shape) where
         (holds.0 ∙ (sym (append-nil now) ∙ ap (λ (more : List Found). now ++ more) (sym nothing.1)), holds.1)
     | inr none ↦ positionals_walked i given rows now pending waiting (rw none at found.1) new (rw none at ordered) holds
   ]
+  positionals_walked i (_ ∷ given) rows now pending waiting found new ordered holds =
+      positionals_walked i given rows now pending waiting found.1 new ordered holds
 
   -- ---- the options, and then the positional arguments
 
@@ -269,12 +261,6 @@ module _ (s : Shape) where
         → GoesOn tail last (now ++ option_rows given) → OptionsGoOn given now
     unfolding AreFound GoesOn OptionsGoOn
     options_walked i [] now found named then rows pending holds new = subst (GoesOn tail last) (append-nil now) then rows pending holds new
-    options_walked i (positional_given required name value ∷ given) now found named then rows pending holds new =
-        options_walked (index_after i (rule_given (positional_given required name value))) given now found.1 named then rows pending holds new
-    options_walked i (positionals_given required name first more ∷ given) now found named then rows pending holds new =
-        options_walked (index_after i (rule_given (positionals_given required name first more))) given now found.1 named then rows pending holds new
-    options_walked i (left_out rule ∷ given) now found named then rows pending holds new =
-        options_walked (index_after i rule) given now found.1 named then rows pending holds new
     options_walked i (flag_given [] ∷ given) now found named then rows pending holds new = cc
     options_walked i (flag_given (first ∷ name) ∷ given) now found named then rows pending holds new =
         let own = and_parts _ _ named in
@@ -287,7 +273,7 @@ module _ (s : Shape) where
         let own = and_parts _ _ named in
         let parts = and_parts (not (has_row (first ∷ name) now)) _ new in
         let row = row_given (first ∷ name) (value ∷ []) in
-        step_on _ _ _ _ _ (option_step first name rows now pending holds own.0 (is_false _ parts.0) required defaults value found.0)
+        step_on _ _ _ _ _ (option_step first name rows now pending holds own.0 (is_false _ parts.0) required defaults found.0 value)
         (one_more given now row then (options_walked i given (now ++ row ∷ []) found.1 own.1) (now ++ row ∷ []) None (refl, refl) parts.1)
     options_walked i (option_given false required defaults (first ∷ name) value ∷ given) now found named then rows pending holds new =
         let own = and_parts _ _ named in
@@ -295,10 +281,12 @@ module _ (s : Shape) where
         let parts = and_parts (not (has_row (first ∷ name) now)) _ new in
         let fresh = is_false _ parts.0 in
         let row = row_given (first ∷ name) (value ∷ []) in
-        step_on _ _ _ _ _ (name_step first name rows now pending holds own.0 fresh required defaults value found.0)
-        (step_on _ _ _ _ _ (value_step first name rows now pending holds own.0 fresh required defaults value value_is.0 found.0)
+        step_on _ _ _ _ _ (name_step first name rows now pending holds own.0 fresh required defaults found.0)
+        (step_on _ _ _ _ _ (value_step first name rows now pending holds own.0 fresh required defaults found.0 value value_is.0)
         (one_more given now row then (options_walked i given (now ++ row ∷ []) found.1 value_is.1) now (Some (first ∷ name, value ∷ []))
-        (value_holds first name rows now pending holds own.0 fresh required defaults value found.0) parts.1))
+        (value_holds first name rows now pending holds own.0 fresh required defaults found.0 value) parts.1))
+    options_walked i (one ∷ given) now found named then rows pending holds new =
+        options_walked (index_after i (rule_given one)) given now found.1 named then rows pending holds new
 
   -- no positional argument follows the options
   ends_with_options : (given : List Given) → has_no_positionals given ≡ true → GoesOn [] (positional_rows given) (option_rows given)

@@ -31,9 +31,8 @@ row_named table law good arguments clear = law table arguments clear
 
 pub answers_once : {J V : Type 0} → RowsAnswerOnce J V
 answers_once (Ok expected) job (Ok other) is that = let same : other ≡ job = cc in inl (ap Ok same)
-answers_once (Ok expected) job (Err (Refused error)) is that = absurd cc
-answers_once (Ok expected) job (Err (BadValue value)) is that = absurd cc
 answers_once (Ok expected) job (Err Memory) is that = inr refl
+answers_once (Ok expected) job (Err _) is that = absurd cc
 answers_once (Err refusal) job result is that = absurd cc
 
 pub ask_once : {C J V : Type 0} (table : Table C) (Reads : ReadsRow C J V) → ReadsOnce Reads → AskOnce table Reads
@@ -50,10 +49,7 @@ ask_once {C} {J} {V} table Reads once arguments job result asks is = go result i
     go : (result : Result (Asked J) (ArgumentsFault V)) → ReadsJob table Reads arguments result → IsOrLacksMemory (Perform job) result
     go (Ok (ShowText text)) (inl among) = absurd (accepted _ among)
     go (Ok (ShowText text)) (inr among) = absurd (accepted _ among)
-    go (Ok (Perform other)) is = elim (found (asked table arguments) (Ok other) asks.1 is.1) [
-      | inl same ↦ let one : other ≡ job = cc in inl (ap (λ (j : J). Ok (Perform j)) one)
-      | inr none ↦ cc
-    ]
+    go (Ok (Perform other)) is = let read = found (asked table arguments) (Ok other) asks.1 is.1 in grind arith
     go (Err (Refused error)) (inl among) = absurd (accepted _ among.0)
     go (Err (Refused error)) (inr is) = let read = found (asked table arguments) (Err (Refused error)) asks.1 is.1 in grind arith
     go (Err (BadValue value)) is = let read = found (asked table arguments) (Err (BadValue value)) asks.1 is.1 in grind arith

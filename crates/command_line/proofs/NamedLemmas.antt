@@ -5,9 +5,9 @@ use Rattle.std.specs.Str.{bytes_eq}
 use Rattle.clap.specs.Words.{App, Kinds, Row, Rule, Shape, Text}
 use Rattle.clap.specs.Kinds.{check_kinds, or_else}
 use Rattle.clap.specs.Simple.{entered, names_of}
-use Rattle.clap.specs.Walk.{Held, Names, Outcome, Step, Waiting, Walk, after_flag, after_step, done, idle, long_or_other, next, nothing_held}
-use Rattle.clap.specs.Walk.{option, plain, plain_word, positional, refused, short_or_plain, stop_after, subcommand_met, subcommand_or_other, to_positional}
-use Rattle.clap.specs.Walk.{trailing, value, waits, walk, walk_from, walked, word_met}
+use Rattle.clap.specs.Walk.{Held, Names, Outcome, Step, Waiting, Walk, after_flag, after_step, done, long_or_other, nothing_held}
+use Rattle.clap.specs.Walk.{option, plain_word, short_or_plain, stop_after, subcommand_met, subcommand_or_other, to_positional}
+use Rattle.clap.specs.Walk.{value, waits, walk, walk_from, walked, word_met}
 use Rattle.clap.specs.Walk.{subcommand as enters}
 use Rattle.clap.specs.Walk.{arg_by_index, finished, settled, walked_from}
 use Rattle.clap.specs.Facts.{explicit_source}
@@ -31,15 +31,13 @@ EntersNotHelp (enters name) = bytes_eq name (codes "help") ≡ false
 EntersNotHelp _ = Unit {0}
 
 plain_enters_none : (c : List Rule) (waiting : Waiting) (word : Text) (h : Held) → EntersNotHelp (plain_word c waiting word h).1
-plain_enters_none c idle word h = tt
 plain_enters_none c (option id) word h = tt
-plain_enters_none c positional word h = tt
+plain_enters_none c _ word h = tt
 
 flag_enters_none : (c : List Rule) (waiting : Waiting) (word : Text) (h : Held) (o : Outcome) → EntersNotHelp (after_flag c waiting word h o).1
 flag_enters_none c waiting word h done = tt
 flag_enters_none c waiting word h (waits id) = tt
-flag_enters_none c waiting word h plain = plain_enters_none c waiting word h
-flag_enters_none c waiting word h refused = plain_enters_none c waiting word h
+flag_enters_none c waiting word h _ = plain_enters_none c waiting word h
 
 short_enters_none : (c : List Rule) (waiting : Waiting) (word : Text) (flags : Option Text) (h : Held) → EntersNotHelp (short_or_plain c waiting word flags h).1
 short_enters_none c waiting word (Some flags) h = flag_enters_none c waiting word _ _
@@ -63,18 +61,18 @@ module _ (s : Shape) (helps : s.disable_help_subcommand ≡ false) (names : Name
     where
       go : (o : Option Text) → other_fault s o word h ≡ [] → EntersNotHelp (subcommand_or_other s.rules o waiting position word h).1
       go (Some name) e = name_met name word h e
-      go None e = cond_both (bytes_eq word (45 ∷ 45 ∷ [])) _ _ (λ (met : Held × Step). EntersNotHelp met.1) (λ _. tt) (λ _. other_enters_none s.rules waiting word _ h)
+      go None e = cond_both (bytes_eq word (45 ∷ 45 ∷ [])) _ _ (λ (met : Held × Step). EntersNotHelp met.1) (λ _. tt)
+          (λ _. other_enters_none s.rules waiting word _ h)
 
   step_stops : (word : Text) (w : Walk) (h : Held) (step : Step) → w.stopped ≡ None → EntersNotHelp step
       → StopsNotAtHelp (after_step s.rules word w h step).stopped
-  step_stops word w h (next waiting) none e = rw none tt
-  step_stops word w h (trailing position) none e = rw none tt
   step_stops word w h (enters name) none e = e
   step_stops word w h value none e = go (arg_by_index s.rules w.position)
     where
       go : (a : Option Rule) → StopsNotAtHelp (to_positional s.rules a word w h).stopped
       go None = rw none tt
       go (Some a) = tt
+  step_stops word w h _ none e = rw none tt
 
   turn_stops : (w : Walk) (word : Text) → turn_fault s names w word ≡ [] → StopsNotAtHelp w.stopped → StopsNotAtHelp (walked s.rules names w word).stopped
   unfolding walked
@@ -98,9 +96,8 @@ module _ (s : Shape) (helps : s.disable_help_subcommand ≡ false) (names : Name
 -- ---- after the walk
 
 check_no_subcommand : (help sub arg : Bool) → check_kinds help sub arg ≡ [] → sub ≡ false
-check_no_subcommand true sub arg h = cc
-check_no_subcommand false true arg h = cc
 check_no_subcommand false false arg h = refl
+check_no_subcommand _ _ arg h = cc
 
 check_needs : (s : Shape) (rows : List Row) (has : Bool) → s.subcommand_required ≡ true → check_fault s rows has ≡ [] → has ≡ true
 check_needs s rows true needs clear = refl
