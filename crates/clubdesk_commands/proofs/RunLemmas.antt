@@ -1,5 +1,5 @@
 -- What arguments ask for, what is handed over, and how work ends.
-use Rattle.std.proofs.Common.{◌≡◌, ℕ, List, Option, Result, Ok, Err, ap, subst, sym, ◌∙◌, inl, inr, refl}
+use Rattle.std.proofs.Common.{◌≡◌, ℕ, List, Option, Result, Ok, Err, subst, ◌∙◌, inl, inr, refl}
 use Rattle.clap.specs.Words.{Text}
 use Rattle.club_core.specs.declared.store.ClubStore.{Ghosts as StoreWords}
 use Rattle.club_core.specs.declared.store.StoreFault.{StoreFault}
@@ -15,7 +15,6 @@ use Rattle.clubdesk_arguments.specs.declared.fault.Fault.{Fault}
 use Rattle.clubdesk_arguments.specs.declared.fault.Fault.TheVariants.{Memory, ClockOutOfRange, InputOutput}
 use Rattle.clubdesk_arguments.specs.declared.task.Service.{Service}
 use Rattle.clubdesk_arguments.specs.declared.task.Work.{Work}
-use Rattle.command_line.specs.declared.errors.ArgumentsFault.{ArgumentsFault}
 use Rattle.command_line.specs.declared.job.Asked.{Asked}
 use Rattle.command_line.specs.declared.job.Asked.TheVariants.{Perform}
 use Rattle.clubdesk_commands.specs.HandedCommand.{command_bytes}
@@ -27,14 +26,8 @@ use Rattle.clubdesk_commands.specs.Run as spec
 pub asks_for : (given arguments : List Text) (read : Asked JobModel) (job whole : JobModel) (work : Work) → given ≡ arguments → ReadsArguments given (Ok read)
     → read ≡ Perform whole → job ≡ whole → job.work ≡ work → AskFor arguments job.file work
 asks_for given arguments read job whole work same reads is as_whole asked =
-    let as_asked : read ≡ Perform (record { file = job.file; work = work }) =
-    is ∙ ap Perform (sym as_whole) ∙ ap (λ (it : Work). Perform (record { file = job.file; work = it })) asked in
+    let as_asked : read ≡ Perform (record { file = job.file; work = work }) = is ∙ rw (← as_whole, ← asked) refl in
     subst (λ (it : Asked JobModel). ReadsArguments arguments (Ok it)) as_asked (subst (λ (texts : List Text). ReadsArguments texts (Ok read)) same reads)
-
--- equal arguments have the same fault
-pub refused_alike : (given arguments : List Text) (fault : ArgumentsFault Unit) → given ≡ arguments → ReadsArguments given (Err fault)
-    → ReadsArguments arguments (Err fault)
-refused_alike given arguments fault same = subst (λ (texts : List Text). ReadsArguments texts (Err fault)) same
 
 -- the bytes that a server was given are those of the command
 pub handed_reply : {V : Type 0} (Gives : Giving V) (visit : V) (root : Text) (arguments : List Text) (given bytes : List ℕ) (reply : Option (ℕ × List ℕ))

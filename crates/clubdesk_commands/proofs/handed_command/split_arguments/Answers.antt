@@ -4,8 +4,9 @@ use Rattle.std.proofs.lemmas.Str.{IsUtf8-string_bytes}
 use Rattle.std.proofs.lemmas.Str.Pattern.{split_parts}
 use Rattle.std.proofs.Common.{append-nil}
 use Rattle.std.specs.String.{string_bytes}
+use Rattle.std.proofs.lemmas.List.{nil_from_length}
 use Rattle.clubdesk_commands.specs.HandedCommand.{pieces}
-use Rattle.clubdesk_commands.proofs.HandedLemmas.{all_more, empty, one_before}
+use Rattle.clubdesk_commands.proofs.HandedLemmas.{all_more, one_before}
 use Rattle.clubdesk_commands.proofs.handed_command.split_arguments.Goals as goal
 
 pub loop-argument-preserved : goal.loop-argument-preserved
@@ -27,7 +28,7 @@ pub returns-then-is_empty : goal.returns-then-is_empty
 returns-then-is_empty c =
     let inv = c.loop-argument.invariant in
     let none : length c.loop-argument.rest.now ≡ 0 = grind (arith, common_steps) in (
-      inv.before ∙ ap (λ (l : List ℕ). pieces (map string_bytes c.loop-argument.arguments.items) ++ l) (empty c.loop-argument.rest.now none) ∙ append-nil _,
+      inv.before ∙ rw (nil_from_length c.loop-argument.rest.now none) (append-nil _),
       inv.arguments,
     )
 

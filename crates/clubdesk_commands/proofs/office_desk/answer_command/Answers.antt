@@ -1,7 +1,8 @@
-use Rattle.std.proofs.Common.{Err, ap, map, refl, sym}
+use Rattle.std.proofs.Common.{Err, ap, map, refl, sym, subst}
 use Rattle.std.specs.String.{string_bytes}
+use Rattle.clubdesk_arguments.specs.Arguments.{ReadsArguments}
 use Rattle.clubdesk_commands.specs.OfficeDesk as spec
-use Rattle.clubdesk_commands.proofs.RunLemmas.{asks_for, refused_alike}
+use Rattle.clubdesk_commands.proofs.RunLemmas.{asks_for}
 use Rattle.clubdesk_commands.proofs.office_desk.answer_command.Goals as goal
 
 pub returns-in-Ok-ShowText : goal.returns-in-Ok-ShowText
@@ -10,7 +11,8 @@ returns-in-Ok-ShowText g c =
 
 pub returns-in-Err : goal.returns-in-Err
 returns-in-Err g c =
-    spec.arguments_refused c.in-Err.fault (refused_alike _ _ _ (ap (map string_bytes) c.as_slice.ensures.value) c.in-Err.ensures) (ap Err c.from.ensures) refl
+    spec.arguments_refused c.in-Err.fault
+    (subst (λ texts. ReadsArguments texts (Err c.in-Err.fault)) (ap (map string_bytes) c.as_slice.ensures.value) c.in-Err.ensures) (ap Err c.from.ensures) refl
 
 pub returns-in-Office : goal.returns-in-Office
 returns-in-Office g c =
