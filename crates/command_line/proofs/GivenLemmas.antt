@@ -189,8 +189,7 @@ module _ (s : Shape) where
       → Holds (held_with rows (Some (name, last ∷ []))) (before ++ row_given name some ∷ [])
       → Settles (at_place rows (Some (name, last ∷ [])) positional place) more (before ++ row_given name (some ++ more) ∷ [])
   more_walked required name place rows before some last [] found new holds =
-      stands (at_place rows (Some (name, last ∷ [])) positional place) [] _ refl
-      (holds.0 ∙ ap (λ (values : List Text). before ++ row_given name values ∷ []) (sym (append-nil some)), holds.1)
+      stands (at_place rows (Some (name, last ∷ [])) positional place) [] _ refl (rw (append-nil some) holds)
   more_walked required name place rows before some last (argument ∷ more) found new holds =
       let rule = with_index place (filled (record (positionals_named name) { required = required })) in
       let by_place = found.by_place (grind (arith, nat_tests)) in
@@ -227,8 +226,7 @@ module _ (s : Shape) where
   positionals_walked i (left_out rule ∷ given) rows now pending waiting found new ordered holds = elim (cases_Bool (wants_index rule)) [
     | inl wants ↦
         let nothing = none_spelled given (rw wants at ordered) in
-        stands (at_place rows pending waiting i) (positionals_spelled given) _ nothing.0
-        (holds.0 ∙ (sym (append-nil now) ∙ ap (λ (more : List Found). now ++ more) (sym nothing.1)), holds.1)
+        stands (at_place rows pending waiting i) (positionals_spelled given) _ nothing.0 (rw (nothing.1, append-nil now) holds)
     | inr none ↦ positionals_walked i given rows now pending waiting (rw none at found.1) new (rw none at ordered) holds
   ]
   positionals_walked i (_ ∷ given) rows now pending waiting found new ordered holds =
@@ -291,8 +289,8 @@ module _ (s : Shape) where
   -- no positional argument follows the options
   ends_with_options : (given : List Given) → has_no_positionals given ≡ true → GoesOn [] (positional_rows given) (option_rows given)
   unfolding GoesOn
-  ends_with_options given none rows pending holds new = stands (at_option rows pending) [] _ refl
-      (holds.0 ∙ (sym (append-nil (option_rows given)) ∙ ap (λ (more : List Found). option_rows given ++ more) (sym (none_spelled given none).1)), holds.1)
+  ends_with_options given none rows pending holds new =
+      stands (at_option rows pending) [] _ refl (rw ((none_spelled given none).1, append-nil (option_rows given)) holds)
 
   positionals_after_options : (given : List Given) → AreFound s.rules 1 given → is_in_order given ≡ true
       → GoesOn (codes "--" ∷ positionals_spelled given) (positional_rows given) (option_rows given)

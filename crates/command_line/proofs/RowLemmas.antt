@@ -43,9 +43,7 @@ entries_added : {C : Type 0} (app : App) (entry : Entry C) (entries : List (Entr
 entries_added app entry [] = ap (λ (s : Shape). with_subcommand app s) (top_is entry)
 entries_added app entry (next ∷ entries) =
     entries_added (with_subcommand app (entry_app entry).top) next entries
-    ∙ (ap (λ (s : Shape). with_more (with_subcommand app s) (map shape_of_entry (next ∷ entries))) (top_is entry)
-    ∙ ap (λ (subs : List Shape). record (with_more app []) { subs = subs })
-    (append_assoc app.subs (shape_of_entry entry ∷ []) (map shape_of_entry (next ∷ entries))))
+    ∙ rw (top_is entry, append_assoc app.subs (shape_of_entry entry ∷ []) (map shape_of_entry (next ∷ entries))) refl
 
 no_other_name : (name : Text) → bytes_eq name (codes "help") ≡ false → bytes_eq (codes "help") name ≡ false
 no_other_name name other =
