@@ -1,13 +1,14 @@
 -- Laws on what the commands answer.
-use Rattle.std.proofs.Common.{◌≡◌, ◌∙◌, ℕ, ◌+◌, Bool, true, false, cond, nat_lt, List, length, Result, Ok, Err, MatchResult, refl, sym, ap, subst, codes}
+use Rattle.std.proofs.Common.{◌≡◌, ◌∙◌, ℕ, ◌+◌, nat_lt, List, length, Result, Ok, Err, MatchResult, refl, sym, ap, subst, codes}
 use Rattle.std.proofs.lemmas.List.Sums.{fold-append}
 use Rattle.std.specs.Io.BufRead.{strip_last}
+use Rattle.std.proofs.lemmas.Bool.{cases_Bool}
+use Rattle.std.proofs.Common.{inl, inr}
 use Rattle.pass_mac.specs.Chain.{derived_key, extended_signature}
 use Rattle.pass_mac.specs.Hmac.{hmac}
 use Rattle.pass_forms.specs.Pass.{IsSigned, Plain}
 use Rattle.pass_forms.specs.Reading.{max_caveats}
 use Rattle.pass_forms.specs.declared.fault.FormFault.{FormFault}
-use Rattle.pass_forms.specs.declared.fault.FormFault.TheVariants.{TooMany}
 use Rattle.pass_forms.specs.declared.form.Form.{Form}
 use Rattle.pass_json.specs.Laws.{OneReadingEachText, OneWritingEachForm}
 use Rattle.passtool_commands.specs.Answer.{IsVerdict, OutcomeText, ReadsPass, WritesPass, narrowing, new_pass, with_caveats}
@@ -19,11 +20,10 @@ use Rattle.passtool_commands.proofs.StepLemmas.{HasOne, one_only, one_then}
 
 narrowed_to : (caveats : List (List ℕ)) (pass narrowed_pass : Plain) → narrowing caveats pass ≡ Ok narrowed_pass → with_caveats caveats pass ≡ narrowed_pass
 unfolding narrowing
-narrowed_to caveats pass narrowed_pass h = go (nat_lt max_caveats (length pass.caveats + length caveats)) h
-  where
-    go : (b : Bool) → cond b (Err TooMany) (Ok (with_caveats caveats pass)) ≡ Ok narrowed_pass → with_caveats caveats pass ≡ narrowed_pass
-    go true e = cc
-    go false e = cc
+narrowed_to caveats pass narrowed_pass h = elim (cases_Bool (nat_lt max_caveats (length pass.caveats + length caveats))) [
+  | inl many ↦ let e = rw many at h in cc
+  | inr few ↦ let e = rw few at h in cc
+]
 
 pub narrowing_keeps_signed : NarrowingKeepsSigned
 narrowing_keeps_signed root caveats pass narrowed_pass signed made =
@@ -37,11 +37,9 @@ mint_signs minting pass made = narrowing_keeps_signed minting.root minting.cavea
 -- ---- one answer
 
 one_verdict : (root : List ℕ) (pass : Plain) → HasOne (IsVerdict root pass)
-one_verdict root pass (Ok (Done, text)) (Ok (Done, other)) p q = ap (λ (t : List ℕ). let answer : OutcomeText = (Done, t) in Ok answer) (p.1 ∙ sym q.1)
 one_verdict root pass (Ok (Done, text)) (Ok (NotSigned, other)) p q = absurd (q.0 p.0)
 one_verdict root pass (Ok (NotSigned, text)) (Ok (Done, other)) p q = absurd (p.0 q.0)
-one_verdict root pass (Ok (NotSigned, text)) (Ok (NotSigned, other)) p q =
-    ap (λ (t : List ℕ). let answer : OutcomeText = (NotSigned, t) in Ok answer) (p.1 ∙ sym q.1)
+one_verdict root pass (Ok (outcome, text)) (Ok (_, other)) p q = ap (λ (t : List ℕ). let answer : OutcomeText = (outcome, t) in Ok answer) (p.1 ∙ sym q.1)
 one_verdict root pass (Err fault) other p q = absurd p
 one_verdict root pass one (Err fault) p q = absurd q
 

@@ -3,14 +3,14 @@ use Rattle.std.proofs.Common.{◌≡◌, ◌∙◌, ℕ, ◌+◌, ◌<◌, ◌�
 use Rattle.std.proofs.Common.{arith}
 use Rattle.std.proofs.lemmas.Bool.{cases_lt, le-ltb, lt-ltb}
 use Rattle.std.proofs.lemmas.List.{append-nil, drop_more, length-append, length-map}
-use Rattle.std.proofs.Math.Seq.{drop-length}
 use Rattle.std.specs.Borrow.{Bor}
 use Rattle.std.specs.List.{slice_index_or}
+use Rattle.std.proofs.Math.ListN.{drop_of_length-le}
 use Rattle.pass_forms.specs.Pass.{Plain}
 use Rattle.pass_forms.specs.Reading.{UnlessMemory, max_caveats}
 use Rattle.pass_forms.specs.Writing.{IsNarrowingFault, with_caveat}
 use Rattle.pass_forms.specs.declared.fault.FormFault.{FormFault}
-use Rattle.pass_forms.specs.declared.fault.FormFault.TheVariants.{TooLong, Malformed, ThirdParty, TooMany, Memory}
+use Rattle.pass_forms.specs.declared.fault.FormFault.TheVariants.{TooMany, Memory}
 use Rattle.passtool_commands.specs.Answer.{narrowing, with_caveats}
 
 -- the first of some caveats, and then the others
@@ -38,10 +38,8 @@ module _ (xs : List (Bor (List ℕ))) (i : ℕ) (pass now : Plain) (counted : le
       → with_caveats (texts (drop i xs)) now ≡ with_caveats (texts xs) pass → narrowing (texts xs) pass ≡ Ok now
   unfolding narrowing
   all_added few most least same =
-      let end : i ≡ length xs = omega arith in
       let total : length pass.caveats + length (texts xs) ≤ max_caveats = omega (arith, length-map xs (λ text. text.now)) in
-      let none : drop i xs ≡ [] = rw end (drop-length xs) in
-      let made : with_caveats (texts xs) pass ≡ now = sym same ∙ (ap (λ (left : List (Bor (List ℕ))). with_caveats (texts left) now) none ∙ none_added now) in
+      let made : with_caveats (texts xs) pass ≡ now = sym same ∙ rw (drop_of_length-le xs most) (none_added now) in
       rw (le-ltb max_caveats (length pass.caveats + length (texts xs)) total) (ap Ok made)
 
   -- if one would be the 65th
@@ -55,9 +53,7 @@ module _ (xs : List (Bor (List ℕ))) (i : ℕ) (pass now : Plain) (counted : le
       → UnlessMemory (λ answer. narrowing (texts xs) pass ≡ answer) (Err fault)
   one_refused TooMany h full within = too_many (full refl) within
   one_refused Memory h full within = tt
-  one_refused TooLong h full within = absurd h
-  one_refused Malformed h full within = absurd h
-  one_refused ThirdParty h full within = absurd h
+  one_refused _ h full within = absurd h
 
 -- a caveat was added, so there were fewer than 64
 pub counted_on : (r : Result Unit FormFault) (n : ℕ) → IsOk r → (max_caveats ≤ n → r ≡ Err TooMany) → n < max_caveats

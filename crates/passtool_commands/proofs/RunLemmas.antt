@@ -4,7 +4,7 @@ use Rattle.std.specs.Io.KnownBytes.{Appends}
 use Rattle.clap.specs.Words.{Text}
 use Rattle.command_line.specs.Output.{AppendsFront}
 use Rattle.command_line.specs.declared.errors.ArgumentsFault.{ArgumentsFault}
-use Rattle.command_line.specs.declared.errors.ArgumentsFault.TheVariants.{Refused, BadValue, Memory as OutOfMemory}
+use Rattle.command_line.specs.declared.errors.ArgumentsFault.TheVariants.{BadValue, Memory as OutOfMemory}
 use Rattle.command_line.specs.declared.job.Asked.TheVariants.{Perform}
 use Rattle.pass_forms.specs.Reading.{UnlessMemory}
 use Rattle.pass_forms.specs.declared.fault.FormFault.{FormFault}
@@ -14,9 +14,9 @@ use Rattle.passtool_commands.specs.Fault.{of_arguments}
 use Rattle.passtool_commands.specs.Run.{AnswersArguments, Performs, ReadsInput, Writes, WritesFront}
 use Rattle.passtool_commands.specs.Arguments.{AskForCommand, ReadsArguments}
 use Rattle.passtool_commands.specs.declared.answer.BadValue.{BadValue as OurBadValue}
-use Rattle.passtool_commands.specs.declared.answer.BadValue.TheVariants.{Root, Caveat}
+use Rattle.passtool_commands.specs.declared.answer.BadValue.TheVariants.{Root}
 use Rattle.passtool_commands.specs.declared.answer.Fault.{Fault}
-use Rattle.passtool_commands.specs.declared.answer.Fault.TheVariants.{Arguments, Pass, BadRoot, CaveatNotUnderstood, InputOutput}
+use Rattle.passtool_commands.specs.declared.answer.Fault.TheVariants.{Pass, InputOutput}
 use Rattle.passtool_commands.specs.declared.answer.Outcome.{Outcome}
 use Rattle.passtool_commands.specs.declared.answer.Outcome.TheVariants.{Done}
 use Rattle.passtool_commands.specs.declared.command.Command.{Command}
@@ -53,12 +53,11 @@ module _ (once : AskForOneCommand) (arguments : List Text) (command : Command) (
   pub performs_arguments : (left left' held held' : Option (List ℕ)) (result : Result Outcome Fault) → Performs command left left' held held' result
       → AnswersArguments arguments result
   performs_arguments left left' held held' (Ok Done) is = inl (command, ask)
-  performs_arguments left left' held held' (Err (Arguments error)) is = absurd is
-  performs_arguments left left' held held' (Err BadRoot) is = absurd is
-  performs_arguments left left' held held' (Err (CaveatNotUnderstood number)) is = absurd is
   performs_arguments left left' held held' (Err (Pass Memory)) is = tt
   performs_arguments left left' held held' (Err InputOutput) is = inl (command, ask)
-  performs_arguments left left' held held' result is = (command, ask)
+  performs_arguments left left' held held' (Ok outcome) is = (command, ask)
+  performs_arguments left left' held held' (Err (Pass fault)) is = (command, ask)
+  performs_arguments left left' held held' result is = absurd is
 
   -- no other command is asked for
   pub performs_alone : (left left' held held' : Option (List ℕ)) (result : Result Outcome Fault) (other : Command) → AskForCommand arguments other
@@ -68,16 +67,13 @@ module _ (once : AskForOneCommand) (arguments : List Text) (command : Command) (
     | inr none ↦ cc
   ]
 
-module _ (once : AskForOneCommand) (arguments : List Text) (fault : ArgumentsFault OurBadValue) (read : ReadsArguments arguments (Err fault)) where
-  pub refused_arguments : AnswersArguments arguments (Err (of_arguments fault))
-  refused_arguments = go fault read
-    where
-      go : (fault : ArgumentsFault OurBadValue) → ReadsArguments arguments (Err fault) → AnswersArguments arguments (Err (of_arguments fault))
-      go (Refused error) is = is
-      go (BadValue Root) is = is
-      go (BadValue (Caveat number)) is = is
-      go OutOfMemory is = tt
+pub refused_arguments : (arguments : List Text) (fault : ArgumentsFault OurBadValue) → ReadsArguments arguments (Err fault)
+    → AnswersArguments arguments (Err (of_arguments fault))
+refused_arguments arguments OutOfMemory is = tt
+refused_arguments arguments (BadValue Root) is = is
+refused_arguments arguments _ is = is
 
+module _ (once : AskForOneCommand) (arguments : List Text) (fault : ArgumentsFault OurBadValue) (read : ReadsArguments arguments (Err fault)) where
   -- no command is asked for, unless memory ran out
   pub refused_alone : (left left' held held' : Option (List ℕ)) (command : Command) → AskForCommand arguments command
       → Performs command left left' held held' (Err (of_arguments fault))

@@ -1,25 +1,21 @@
 -- Lemmas on what `show` writes.
-use Rattle.std.proofs.Common.{◌≡◌, ◌∙◌, ℕ, ◌+◌, ◌<◌, ◌≤◌, List, [], ◌∷◌, ◌++◌, length, map, drop, ap, ap₂, sym, append_assoc, arith}
+use Rattle.std.proofs.Common.{◌≡◌, ◌∙◌, ℕ, ◌+◌, ◌<◌, ◌≤◌, List, ◌∷◌, ◌++◌, length, map, drop, ap, ap₂, sym, append_assoc}
 use Rattle.std.proofs.lemmas.List.{append-nil, drop_more}
-use Rattle.std.proofs.Math.Seq.{drop-length}
 use Rattle.std.specs.Prelude.{Vec, codes}
 use Rattle.std.proofs.Common.{Global}
 use Rattle.std.specs.Fmt.{decimal}
 use Rattle.passtool_commands.specs.Shown.{caveat_lines, escaped_text, escaped_byte, value_line}
 use Rattle.std.specs.List.{slice_index_or}
+use Rattle.std.proofs.Math.ListN.{drop_of_length-le}
 
 -- one byte more was written, of those that are left
 pub byte_written : (bytes : List ℕ) (i d : ℕ) (old new whole : List ℕ) → i < length bytes → new ≡ old ++ escaped_byte (slice_index_or bytes i d)
     → old ++ escaped_text (drop i bytes) ≡ whole → new ++ escaped_text (drop (i + 1) bytes) ≡ whole
 byte_written bytes i d old new whole within is before =
-    rw is (append_assoc old (escaped_byte (slice_index_or bytes i d)) (escaped_text (drop (i + 1) bytes))
-    ∙ ap (λ (left : List ℕ). old ++ escaped_text left) (sym (drop_more bytes i d within)) ∙ before)
+    rw is (append_assoc old (escaped_byte (slice_index_or bytes i d)) (escaped_text (drop (i + 1) bytes)) ∙ rw (drop_more bytes i d within) at before)
 
-pub none_left : (bytes : List ℕ) (i : ℕ) (old whole : List ℕ) → length bytes ≤ i → i ≤ length bytes → old ++ escaped_text (drop i bytes) ≡ whole → old ≡ whole
-none_left bytes i old whole most least same =
-    let end : i ≡ length bytes = omega arith in
-    let none : drop i bytes ≡ [] = rw end (drop-length bytes) in
-    sym (append-nil old) ∙ (ap (λ (left : List ℕ). old ++ escaped_text left) (sym none) ∙ same)
+pub none_left : (bytes : List ℕ) (i : ℕ) (old whole : List ℕ) → length bytes ≤ i → old ++ escaped_text (drop i bytes) ≡ whole → old ≡ whole
+none_left bytes i old whole most same = sym (append-nil old) ∙ rw (drop_of_length-le bytes most) at same
 
 -- ---- the lines of caveats
 
@@ -38,10 +34,7 @@ caveat_written caveats i item value name old new whole within is value_is name_i
     let new_is : new ≡ old ++ line = added ∙ ap₂ (λ (n v : List ℕ). old ++ value_line n v) name_is value_is in
     rw new_is (append_assoc old line rest ∙ ap (λ (xs : List (Vec ℕ Global)). old ++ caveat_lines (i + 1) (items xs)) (sym left) ∙ before)
 
-pub no_caveat_left : (caveats : List (Vec ℕ Global)) (i : ℕ) (old whole : List ℕ) → length caveats ≤ i → i ≤ length caveats
+pub no_caveat_left : (caveats : List (Vec ℕ Global)) (i : ℕ) (old whole : List ℕ) → length caveats ≤ i
     → old ++ caveat_lines (i + 1) (items (drop i caveats)) ≡ whole → old ≡ whole
 unfolding caveat_lines
-no_caveat_left caveats i old whole most least same =
-    let end : i ≡ length caveats = omega arith in
-    let none : drop i caveats ≡ [] = rw end (drop-length caveats) in
-    sym (append-nil old) ∙ (ap (λ (xs : List (Vec ℕ Global)). old ++ caveat_lines (i + 1) (items xs)) (sym none) ∙ same)
+no_caveat_left caveats i old whole most same = sym (append-nil old) ∙ rw (drop_of_length-le caveats most) at same

@@ -9,4 +9,4 @@ pub loop-byte-preserved : goal.loop-byte-preserved
 loop-byte-preserved c = byte_written c.args.bytes.now c.loop-byte.byte-index _ _ _ _ (omega arith) c.in_ok-push_byte.ensures c.loop-byte.invariant
 
 pub returns : goal.returns
-returns c = none_left c.args.bytes.now c.loop-byte.byte-index _ _ (omega arith) (omega arith) c.loop-byte.invariant
+returns c = none_left c.args.bytes.now c.loop-byte.byte-index _ _ (omega arith) c.loop-byte.invariant

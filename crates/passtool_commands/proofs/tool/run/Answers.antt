@@ -5,7 +5,7 @@ use Rattle.passtool_commands.proofs.tool.run.Goals as goal
 pub returns-in-Err-clause-arguments : goal.returns-in-Err-clause-arguments
 returns-in-Err-clause-arguments g c =
     let arguments = map g.S.AsStr.text c.args.arguments.now in
-    rw c.from.ensures (refused_arguments c.ask_for_one_command.ensures arguments c.in-Err.fault c.in-Err.ensures)
+    rw c.from.ensures (refused_arguments arguments c.in-Err.fault c.in-Err.ensures)
 
 pub returns-in-Err-clause-command : goal.returns-in-Err-clause-command
 returns-in-Err-clause-command g c = λ command ask.
