@@ -71,8 +71,7 @@ creates {schema = schema} {text = text} {table = table} makes old new has count 
     let all = went w.changed in
     let first = went all.1 in
     let made = first.1 in
-    let both : Ok made.table ≡ Ok table = sym made.defined ∙ makes.defined in
-    let same : made.table ≡ table = cc in
+    let same : made.table ≡ table = same_value (sym made.defined ∙ makes.defined) in
     let after : first.0.schema ≡ created schema table = made.is ∙ ap (λ s. created s made.table) has ∙ ap (created schema) same in
     let none : lacks_sequence first.0.schema ≡ false = ap lacks_sequence after ∙ makes.uncounted in
     let now : new.now ≡ first.0 = ap (λ (p : Tally × Database). p.1) (same_value all.2) ∙ same_value (rw none at first.2) in (
@@ -95,8 +94,7 @@ indexes {schema = schema} {text = text} {at = at} {table = table} {index = index
     w.changed in
     let made = went (rw listed at does) in
     let it = made.1 in
-    let both : Ok it.index ≡ Ok index = sym it.defined ∙ makes.defined in
-    let same : it.index ≡ index = cc in
+    let same : it.index ≡ index = same_value (sym it.defined ∙ makes.defined) in
     let now : new.now ≡ made.0 = ap (λ (p : Tally × Database). p.1) (same_value made.2) in (
       ap (λ (d : Database). d.schema) now ∙ it.is ∙ ap (indexed schema table) same,
       subst (λ (d : Database). KeepsRows schema.tables old.now.trees d.trees) (sym now) it.rows,
@@ -177,15 +175,14 @@ inserts {schema = schema} {text = text} {at = at} {width = width} {terms = terms
     let written = went c1.2 in
     let written_count = went written.2 in
     let top : Ok written_count.0 ≡ Ok written.0 = uncounts table.is_counted _ _ _ uncounted written_count.1 in
-    let edit_from : Rowids → List Row → Edit = λ rowids rows. edit_of db table [] rowids 0 rows in
-    let numbered : length (edit_from (rowids_for table (count_of c1.0)) given.0).news ≡ 1 =
-    length-numbered (rowids_for table (count_of c1.0)) _ (map (λ (s : Row). cast_row table (drop 0 s)) given.0)
-    ∙ length-map given.0 (λ (s : Row). cast_row table (drop 0 s)) ∙ ap length sourced in
-    let chosen : ActionWrites schema Enforced db (edit_from Chosen given.0) (Ok written.0) =
-    subst (λ b. ActionWrites schema Enforced db (edit_from (cond b (Above (count_of c1.0)) Chosen) given.0) (Ok written.0)) uncounted written.1 in
+    let rowids = rowids_for table (count_of c1.0) in
+    let numbered : length (edit_of db table [] rowids 0 given.0).news ≡ 1 =
+    length-numbered rowids _ (map (λ (s : Row). cast_row table (drop 0 s)) given.0) ∙ length-map given.0 (λ (s : Row). cast_row table (drop 0 s))
+    ∙ ap length sourced in
     let edit : Edit = record { table = table; gone = []; news = (Int (next_rowid (db table.tree)) ∷ values) ∷ [] } in
-    let wrote : ActionWrites schema Enforced db (edit_from Chosen ((Null ∷ values) ∷ [])) (Ok written.0) =
-    subst (λ rows. ActionWrites schema Enforced db (edit_from Chosen rows) (Ok written.0)) sourced chosen in
+    let wrote : ActionWrites schema Enforced db (edit_of db table [] Chosen 0 ((Null ∷ values) ∷ [])) (Ok written.0) =
+    subst₂ (λ b rows. ActionWrites schema Enforced db (edit_of db table [] (cond b (Above (count_of c1.0)) Chosen) 0 rows) (Ok written.0))
+    uncounted sourced written.1 in
     let as_edit : Row → Edit = λ row. record { table = table; gone = []; news = with_rowid Chosen (db table.tree) row ∷ [] } in
     let put : ActionWrites schema Enforced db edit (Ok written.0) = subst (λ row. ActionWrites schema Enforced db (as_edit row) (Ok written.0)) casts wrote in
     let left = same_value written_count.2 in

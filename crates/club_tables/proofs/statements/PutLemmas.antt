@@ -47,7 +47,7 @@ use Rattle.club_tables.proofs.statements.InsertLemmas.{Leaves, task_of, went, sa
 use Rattle.club_tables.proofs.statements.MeansLemmas.{Means, Wrote}
 use Rattle.club_tables.proofs.statements.UpdateLemmas.{Updates, updated, no_works, replaced, Below}
 use Rattle.club_tables.proofs.statements.PassLemmas.{any_filtered_is}
-use Rattle.club_tables.proofs.statements.SelectLemmas.{Apart, one_passes, test, shows, answered, row_of, paired, only, from_truth_is}
+use Rattle.club_tables.proofs.statements.SelectLemmas.{Apart, one_passes, test, shows, answered, row_of, Paired, paired, only, from_truth_is}
 use Rattle.club_tables.proofs.lists.PutRows.{IsLone, put_among}
 use Rattle.std.specs.Cmp.{Equal-is}
 use Rattle.sqlite_sql.specs.Ops.{binary, is_true}
@@ -237,34 +237,23 @@ module _ (name : List ℕ) (columns : List Column) (keys : List (List ℕ)) (che
             → (count : ℕ) → Executes text params old new (Ok count)
             → Wrote club_schema old.now new.now tree × Holds values (new.now.trees tree) (put_among values p change first xs) × (1 ≤ count)
         row_put same ids yields count executed =
-            go (filter (λ q. p q.1) pairs) refl (ap (filter hit) is ∙ filter-map hit (row_of values) pairs
-            ∙ ap (map (row_of values)) (filter_agree _ _ (λ q. hit_is q.0 q.1) pairs))
+            let with_ids = paired values (db tree) xs held.same in
+            let ps = with_ids.pairs in
+            let few = ap length (ap (filter p) with_ids.xs_are ∙ filter-map p (λ (q : ℤ × X). q.1) ps) ∙ length-map (filter (λ q. p q.1) ps) (λ q. q.1) in
+            go (ran count executed) with_ids (filter (λ q. p q.1) ps) refl (ap (filter hit) with_ids.rows_are ∙ filter-map hit (row_of values) ps
+            ∙ ap (map (row_of values)) (filter_agree _ _ (λ q. hit_is q.0 q.1) ps))
             (subst (λ n. n ≤ 1) few (one_passes (IsLone values p) p xs (λ x y a b apart. apart (a, b)) lone))
             (any_filtered_is p xs ∙ ap (λ n. not (n == 0)) few)
           where
-            it : Ran count
-            it = ran count executed
-
-            pairs : List (ℤ × X)
-            pairs = (paired values (db tree) xs held.same).pairs
-
-            is : db tree ≡ map (row_of values) pairs
-            is = (paired values (db tree) xs held.same).rows_are
-
-            elements : xs ≡ map (λ q. q.1) pairs
-            elements = (paired values (db tree) xs held.same).xs_are
-
-            few : length (filter p xs) ≡ length (filter (λ q. p q.1) pairs)
-            few = ap length (ap (filter p) elements ∙ filter-map p (λ (q : ℤ × X). q.1) pairs) ∙ length-map (filter (λ q. p q.1) pairs) (λ q. q.1)
-
-            go : (ones : List (ℤ × X)) → filter (λ q. p q.1) pairs ≡ ones → filter hit (db tree) ≡ map (row_of values) ones → length ones ≤ 1
+            go : Ran count → (with_ids : Paired values (db tree) xs) (ones : List (ℤ × X)) → filter (λ q. p q.1) with_ids.pairs ≡ ones
+                → filter hit (db tree) ≡ map (row_of values) ones → length ones ≤ 1
                 → list_any p xs ≡ not (length ones == 0) → IsPut count (put_among values p change first xs)
-            go [] alone hits low any =
+            go it with_ids [] alone hits low any =
                 let put = put_new hits count it in
                 let grown = subst (λ vs. Holds values (put_row (Int (next_rowid (db tree)) ∷ vs) (db tree)) (xs ++ first ∷ [])) (sym (same any))
                 (holds_more values (db tree) xs first held) in
                 rw any (put.0, subst (λ rs. Holds values rs (xs ++ first ∷ [])) (sym put.1) grown, put.2)
-            go (one ∷ []) alone hits low any =
-                rw any (subst (λ ys. IsPut count (map change ys)) (sym elements) (change_old ids count it pairs is
-                (all_from_map Yields (λ (q : ℤ × X). q.1) pairs (subst (AllByRecursion Yields) elements yields)) one alone hits))
-            go (one ∷ other ∷ ones) alone hits low any = absurd (omega arith)
+            go it with_ids (one ∷ []) alone hits low any =
+                rw any (subst (λ ys. IsPut count (map change ys)) (sym with_ids.xs_are) (change_old ids count it with_ids.pairs with_ids.rows_are
+                (all_from_map Yields (λ (q : ℤ × X). q.1) with_ids.pairs (subst (AllByRecursion Yields) with_ids.xs_are yields)) one alone hits))
+            go it with_ids (one ∷ other ∷ ones) alone hits low any = absurd (omega arith)
