@@ -41,7 +41,7 @@ use Rattle.club_tables.specs.Stored.{OlderRow, member_row, SlotRow, no_slot_use,
 use Rattle.club_tables.specs.Tables.{Holds, keys_tree, members_tree, facilities_tree, olders_tree, slots_tree, bookings_tree}
 use Rattle.club_tables.specs.Statements.{select, is_given}
 use Rattle.club_tables.specs.Use.{ShowsUse}
-use Rattle.club_tables.proofs.statements.SelectLemmas.{text_equal, find_first, apart_from_pairs, one_passes, short_permutation, whole_equal}
+use Rattle.club_tables.proofs.statements.SelectLemmas.{pairs_mapped, text_equal, find_first, apart_from_pairs, one_passes, short_permutation, whole_equal}
 use Rattle.club_tables.proofs.crashes.RepresentsLemmas.{Asks, Shows, asked_tables, asked_shows, keys_held, bookings_held}
 
 pub find_mapped : {X Y : Type 0} (p : Y → Bool) (f : X → Y) (xs : List X) → find p (map f xs) ≡ option_map f (find (λ x. p (f x)) xs)
@@ -120,13 +120,9 @@ member_shown g old name rows clean asked club others represents =
     let p : MemberRow → Bool = λ row. bytes_eq row.member.name name in
     let same = asked_shows asked asks tables member_values p member_values (λ id row. and-true _ ∙ text_equal row.member.name name) (λ id row. refl)
     (map (member_row club) club.members) (subst (Holds member_values _) tables.storage.members tables.holds_rows.held.members) in
-    let low = one_named (λ (member : Member). member.name) name club.members tables.sound.unique.members in
-    let fewer = filter-map p (member_row club) club.members in
-    first_returned member_values p (map (member_row club) club.members) rows (rw fewer (omega (
-      arith,
-      low,
-      length-map (filter (λ (m : Member). bytes_eq m.name name) club.members) (member_row club),
-    ))) same
+    let unique = pairs_mapped (λ (a : MemberRow) (b : MemberRow). a.member.name ≢ b.member.name) (member_row club) (λ row. row.member) club.members
+    tables.sound.unique.members in
+    first_returned member_values p (map (member_row club) club.members) rows (one_named (λ (row : MemberRow). row.member.name) name _ unique) same
     ∙ ap (λ o. map member_values (option_to_list o)) (find_mapped p (member_row club) club.members)
 
 pub facility_shown : {S : Type 0} (g : Ghosts S) (old : Held S) (name : List ℕ)
@@ -195,10 +191,7 @@ one_numbered key number bookings unique =
     one_passes R (is_numbered key number) bookings (λ x y a b apart.
     let p = and_parts _ _ a in
     let q = and_parts _ _ b in
-    apart (
-      (bytes_eq-Decides x.key key).0 p.0 ∙ sym ((bytes_eq-Decides y.key key).0 q.0),
-      (unsigned_Decides x.number number).0 p.1 ∙ sym ((unsigned_Decides y.number number).0 q.1),
-    ))
+    apart (same_names key x.key y.key p.0 q.0, (unsigned_Decides x.number number).0 p.1 ∙ sym ((unsigned_Decides y.number number).0 q.1)))
     (apart_from_pairs R bookings unique)
 
 pub booking_shown : {S : Type 0} (g : Ghosts S) (old : Held S) (key : List ℕ) (number : ℕ) → Shows g old (BOOKING.now, Text key ∷ whole number ∷ [])

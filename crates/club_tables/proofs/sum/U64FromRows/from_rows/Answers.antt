@@ -12,6 +12,7 @@ loop-row-preserved c =
     let row = c.row-item.result in
     let low = c.loop-row-test.true in
     let cost : IsCostIn row c.in-Some.cost = c.in-Some.ensures in
+    let one : IsCostRow row = (c.in-Some.cost, cost) in
     record {
       returned = grind (
         arith,
@@ -20,10 +21,7 @@ loop-row-preserved c =
         cost_in_is row c.in-Some.cost cost,
       );
       fits = search (rules, arith);
-      limits = All-more IsCostRow c.args.rows.now c.loop-row.row-index row low c.loop-row.invariant.limits (subst IsCostRow c.row-item.is (
-        c.in-Some.cost,
-        cost,
-      ));
+      limits = All-more IsCostRow c.args.rows.now c.loop-row.row-index row low c.loop-row.invariant.limits (subst IsCostRow c.row-item.is one);
     }
 
 pub returns-in_default : goal.returns-in_default

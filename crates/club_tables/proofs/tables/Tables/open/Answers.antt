@@ -17,35 +17,32 @@ use Rattle.club_tables.proofs.opening.StepLemmas.{batch_failed, keeps_after, ope
 use Rattle.club_tables.proofs.queries.ReadLemmas.{at_once}
 use Rattle.club_tables.proofs.tables.Tables.open.Goals as goal
 
--- if a batch was run over what was there, tables of the version that was read were there
-upgraded : {S : Type 0} (g : Ghosts S) (old mid new : Held S) (version : ℕ) (texts : List (List ℕ)) (statements : List BoundStatement) (rows : List Row)
-    → HasCleanDisk (state g mid) → IsIdle (state g old) → IsKept (state g old) (state g mid)
-    → (row : Row) × (rows ≡ row ∷ []) × HasValues row (version_values version) → YieldsRows VERSION.now (state g old).now rows
-    → HasRunOver texts statements g mid new → Upgrade version texts statements g old new
-upgraded g old mid new version texts statements rows earlier rest kept one answered it =
-    let before = kept earlier it.1 in
-    let same = it.3 ∙ before.2 in
-    let here = rest before.0 ∙ sym same in
-    let returned = subst (λ db. YieldsRows VERSION.now db (one.0 ∷ [])) here (subst (YieldsRows VERSION.now (state g old).now) one.1 answered) in
-    record {
-      from = it.0;
-      found = record {
-        ready = record { version_row = (one.0, returned, one.2); by_key = subst (λ (db : Database). All (IsUnderstood db.schema) texts) (sym it.3) it.2 };
-        same = same;
-      };
-      same = it.4 ∙ before.2;
-      ran = it.5;
-    }
+module _ {S : Type 0} (g : Ghosts S) (old mid new : Held S) (rows : List Row) (earlier : HasCleanDisk (state g mid)) (rest : IsIdle (state g old))
+    (kept : IsKept (state g old) (state g mid)) (answered : YieldsRows VERSION.now (state g old).now rows) where
+  -- if a batch was run over what was there, tables of the version that was read were there
+  upgraded : (version : ℕ) (texts : List (List ℕ)) (statements : List BoundStatement) → (row : Row) × (rows ≡ row ∷ []) × HasValues row (version_values version)
+      → HasRunOver texts statements g mid new → Upgrade version texts statements g old new
+  upgraded version texts statements one it =
+      let before = kept earlier it.1 in
+      let same = it.3 ∙ before.2 in
+      let here = rest before.0 ∙ sym same in
+      let returned = subst (λ db. YieldsRows VERSION.now db (one.0 ∷ [])) here (subst (YieldsRows VERSION.now (state g old).now) one.1 answered) in
+      record {
+        from = it.0;
+        found = record {
+          ready = record { version_row = (one.0, returned, one.2); by_key = subst (λ (db : Database). All (IsUnderstood db.schema) texts) (sym it.3) it.2 };
+          same = same;
+        };
+        same = it.4 ∙ before.2;
+        ran = it.5;
+      }
 
--- tables of version 2 with the index were there, or got it
-ensured : {S : Type 0} (g : Ghosts S) (old mid new : Held S) (rows : List Row) → HasCleanDisk (state g mid) → HasCleanDisk (state g new)
-    → IsTrue (state g new).is_open → IsIdle (state g old) → IsKept (state g old) (state g mid)
-    → (row : Row) × (rows ≡ row ∷ []) × HasValues row (version_values 2) → YieldsRows VERSION.now (state g old).now rows
-    → EnsuresIndex g mid new → AcceptsTables g old new
-ensured g old mid new rows earlier clean is_open rest kept one answered (inl it) =
-    inl (found_ready (state g old) (state g mid) (state g new) earlier clean is_open rest kept (λ _. it.0) 2 indexed_texts rows one answered (λ _. it.1))
-ensured g old mid new rows earlier clean is_open rest kept one answered (inr it) =
-    inr (inl (upgraded g old mid new 2 texts_by_key index_batch rows earlier rest kept one answered it))
+  -- tables of version 2 with the index were there, or got it
+  ensured : HasCleanDisk (state g new) → IsTrue (state g new).is_open → (row : Row) × (rows ≡ row ∷ []) × HasValues row (version_values 2)
+      → EnsuresIndex g mid new → AcceptsTables g old new
+  ensured clean is_open one (inl it) =
+      inl (found_ready (state g old) (state g mid) (state g new) earlier clean is_open rest kept (λ _. it.0) 2 indexed_texts rows one answered (λ _. it.1))
+  ensured clean is_open one (inr it) = inr (inl (upgraded 2 texts_by_key index_batch one it))
 
 -- a connection is idle after a read that left it unchanged
 rests : {S : Type 0} (g : Ghosts S) (old new : Held S) → HasCleanDisk (state g new) → IsKept (state g old) (state g new) → IsIdle (state g new)
@@ -95,8 +92,8 @@ returns-then-is_version-clause-opens g c =
     let one = rw c.as_slice-rows.ensures.value at (c.is_version.ensures.only c.if-is_version.true) in
     opens_after g.S.Store old mid (λ rest. c.version.ensures.kept) c.version.ensures.survives c.complete.ensures.opens
     (λ earlier club others found. (by_version rows ((read earlier).version_of_club club others found)).0 one) (second_found (state g.S.Store new))
-    (λ earlier clean it is_open rest. ensured g.S.Store old mid new rows earlier clean is_open rest c.version.ensures.kept one
-    (read earlier).version_rows (it is_open (rests g.S.Store old mid earlier c.version.ensures.kept)))
+    (λ earlier clean it is_open rest. ensured g.S.Store old mid new rows earlier rest c.version.ensures.kept
+    (read earlier).version_rows clean is_open one (it is_open (rests g.S.Store old mid earlier c.version.ensures.kept)))
     (opened_after g.S.Store old mid new)
 
 pub returns-then-is_version-2-clause-opens : goal.returns-then-is_version-2-clause-opens
@@ -109,8 +106,8 @@ returns-then-is_version-2-clause-opens g c =
     let one = rw c.as_slice-rows.ensures.value at (c.is_version-2.ensures.only c.if-is_version-2.true) in
     opens_after g.S.Store old mid (λ rest. c.version.ensures.kept) c.version.ensures.survives c.migrate.ensures.opens
     (λ earlier club others found. (by_version rows ((read earlier).version_of_club club others found)).1 one) (first_found (state g.S.Store new))
-    (λ earlier clean it is_open rest. inr (inr (inl (upgraded g.S.Store old mid new 1 first_texts migration rows earlier rest c.version.ensures.kept one
-    (read earlier).version_rows (it (rests g.S.Store old mid earlier c.version.ensures.kept))))))
+    (λ earlier clean it is_open rest. inr (inr (inl (upgraded g.S.Store old mid new rows earlier rest c.version.ensures.kept
+    (read earlier).version_rows 1 first_texts migration one (it (rests g.S.Store old mid earlier c.version.ensures.kept))))))
     (opened_after g.S.Store old mid new)
 
 pub returns-clause-opens : goal.returns-clause-opens

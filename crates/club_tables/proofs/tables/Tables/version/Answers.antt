@@ -1,7 +1,9 @@
 use Rattle.std.proofs.Common.{inl, inr}
 use Rattle.std.proofs.lemmas.Result.{IfOk-weaker}
 use Rattle.sqlite.specs.State.{HasCleanDisk}
+use Rattle.sqlite.specs.Effect.{Database}
 use Rattle.sqlite.specs.Held.{state}
+use Rattle.club_core.specs.Club.{Club}
 use Rattle.club_tables.proofs.crashes.RepresentsLemmas.{represents_on}
 use Rattle.club_tables.proofs.crashes.SurviveLemmas.{was_clean}
 use Rattle.club_tables.proofs.opening.OpenLemmas.{version_returned}
@@ -17,14 +19,11 @@ returns-clause-ok g c clean =
     IfOk-weaker c.ask.result _ _ (λ rows asked. record {
       query = asked clean;
       version_rows = version_answered _ _ rows.items (asked clean).shown;
-      version_of_club = λ club others found. elim (version_returned g.S.Store old rows.items earlier (asked clean) club others found) [
-        | inl now ↦ inl (
-          represents_on HoldsClubVersion2 (state g.S.Store old) (state g.S.Store new) c.ask.ensures.kept c.ask.ensures.survives club others now.0,
-          now.1,
-        )
-        | inr first ↦ inr (
-          represents_on HoldsClubVersion1 (state g.S.Store old) (state g.S.Store new) c.ask.ensures.kept c.ask.ensures.survives club others first.0,
-          first.1,
-        )
-      ];
+      version_of_club = λ club others found.
+          let stays = λ (H : Database → Club → Type 0).
+          represents_on H (state g.S.Store old) (state g.S.Store new) c.ask.ensures.kept c.ask.ensures.survives club others in
+          elim (version_returned g.S.Store old rows.items earlier (asked clean) club others found) [
+            | inl now ↦ inl (stays HoldsClubVersion2 now.0, now.1)
+            | inr first ↦ inr (stays HoldsClubVersion1 first.0, first.1)
+          ];
     }) c.ask.ensures.asked
