@@ -1,6 +1,5 @@
 -- A row that is put after those of a list.
 use Rattle.std.proofs.Common.{◌≡◌, ℤ, pos, ◌+ℤ◌, List, [], ◌∷◌, ◌++◌, Less, refl, sym, ap, ◌∙◌, arith}
-use Rattle.std.specs.Ordering.{int_cmp}
 use Rattle.std.specs.Cmp.{int_cmp_is}
 use Rattle.std.specs.List.{AllByRecursion, AllZip}
 use Rattle.std.specs.Prelude.{fold}

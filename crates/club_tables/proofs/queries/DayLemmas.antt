@@ -1,8 +1,8 @@
 -- The bookings of a day, as they are asked for.
-use Rattle.std.proofs.Common.{◌≡◌, ℕ, ◌<◌, ◌⊎◌, inl, inr, pos, true, false, List, [], ◌∷◌, map, refl, sym, ap, subst, ◌∙◌, arith, Ordering, Less, Equal}
+use Rattle.std.proofs.Common.{◌≢◌, ◌≡◌, ℕ, ◌<◌, ◌⊎◌, inl, inr, pos, false, List, [], ◌∷◌, map, refl, sym, subst, ◌∙◌, arith, Ordering, Less, Equal}
 use Rattle.std.proofs.Common.{Greater, nat_cmp, int_cmp, ◌==◌, not}
 use Rattle.std.specs.Prelude.{filter, IsSorted, slice_index_or}
-use Rattle.std.specs.Ordering.{on, then_cmp, is_lt, ordering_then, ordering_reverse}
+use Rattle.std.specs.Ordering.{on, then_cmp, is_gt, ordering_then}
 use Rattle.std.specs.Cmp.{IsTotalOrder}
 use Rattle.std.specs.Cmp.Lexicographic.{slice_cmp}
 use Rattle.std.proofs.lemmas.Bool.Decides.{nat_tests}
@@ -30,7 +30,7 @@ use Rattle.club_tables.specs.Columns.{whole, booking_values}
 use Rattle.club_tables.specs.Sheet.{ShowsDay}
 use Rattle.club_tables.specs.Tables.{bookings_tree}
 use Rattle.club_tables.specs.Statements.{select, in_order, is_given}
-use Rattle.club_tables.proofs.statements.SelectLemmas.{whole_equal, apart_from_pairs, pairs_from_apart, selected_in_order, none_less, apart-permutation}
+use Rattle.club_tables.proofs.statements.SelectLemmas.{whole_equal, apart_from_pairs, pairs_from_apart, selected_in_order, none_greater, apart-permutation}
 use Rattle.club_tables.proofs.crashes.RepresentsLemmas.{Asks, Shows, asked_tables, asked_reads, bookings_held}
 use Rattle.club_tables.proofs.queries.KeyLemmas.{booking_terms, booking_names, is_uncancelled, no_truth}
 
@@ -48,43 +48,26 @@ sheet_total =
     (then_total (on_total (λ (b : Booking). b.slot.hour) nat_cmp_total)
     (then_total (on_total (λ (b : Booking). b.key) nat_list_cmp_total) (on_total (λ (b : Booking). b.number) nat_cmp_total)))
 
-then_equal : (o p : Ordering) → ordering_then o p ≡ Equal → (o ≡ Equal) × (p ≡ Equal)
-then_equal Less p h = absurd cc
-then_equal Equal p h = (refl, h)
-then_equal Greater p h = absurd cc
-
 number_less : (m n : ℕ) → nat_cmp m n ≡ Less → m < n
 number_less m n h = ranked m n Less (sym h)
 
 -- by the first part, and if those are equal, by the others
-by_parts : {A B C : Type 0} (o p : Ordering) → (o ≡ Less → A) → (o ≡ Equal → B) → (p ≡ Less → C) → ordering_then o p ≡ Less → A ⊎ (B × C)
-by_parts Less p f g h less = inl (f refl)
-by_parts Equal p f g h less = inr (g refl, h less)
-by_parts Greater p f g h less = absurd cc
-
-precedes : (a b : Booking) → sheet_cmp a b ≡ Less → Precedes a b
-precedes a b =
-    by_parts _ _ (λ h. h) (exact_bytes a.slot.facility b.slot.facility)
-    (by_parts _ _ (number_less a.slot.hour b.slot.hour) (exact_unsigned a.slot.hour b.slot.hour)
-    (by_parts _ _ (λ h. h) (exact_bytes a.key b.key) (number_less a.number b.number)))
-
-same_name : (a b : Booking) → sheet_cmp a b ≡ Equal → (a.key ≡ b.key) × (a.number ≡ b.number)
-same_name a b h =
-    let later = (then_equal _ _ (then_equal _ _ h).1).1 in
-    let names = then_equal _ _ later in
-    (exact_bytes a.key b.key names.0, exact_unsigned a.number b.number names.1)
+by_parts : {A B C : Type 0} (o p : Ordering) → (o ≡ Less → A) → (o ≡ Equal → B) → (B → is_gt p ≡ false → C) → is_gt (ordering_then o p) ≡ false
+    → A ⊎ (B × C)
+by_parts Less p f g h fails = inl (f refl)
+by_parts Equal p f g h fails = inr (g refl, h (g refl) fails)
+by_parts Greater p f g h fails = absurd cc
 
 abbrev Differ : Booking → Booking → Type 0
 Differ a b = ¬ ((a.key ≡ b.key) × (a.number ≡ b.number))
 
--- of two bookings of different names, the first precedes if the second isn't less
-strictly : (a b : Booking) → is_lt (sheet_cmp b a) ≡ false → Differ a b → Precedes a b
-strictly a b h differ = go (sheet_cmp a b) refl
-  where
-    go : (o : Ordering) → sheet_cmp a b ≡ o → Precedes a b
-    go Less is = precedes a b is
-    go Equal is = absurd (differ (same_name a b is))
-    go Greater is = let less : sheet_cmp b a ≡ Less = sheet_total.antisymm b a ∙ ap ordering_reverse is in let no : true ≡ false = rw less at h in absurd cc
+-- of two bookings of different names, the first precedes if it isn't greater
+precedes : (a b : Booking) → is_gt (sheet_cmp a b) ≡ false → Differ a b → Precedes a b
+precedes a b fails differ =
+    by_parts _ _ (λ h. h) (exact_bytes a.slot.facility b.slot.facility) (λ _.
+    by_parts _ _ (number_less a.slot.hour b.slot.hour) (exact_unsigned a.slot.hour b.slot.hour) (λ _.
+    by_parts _ _ (λ h. h) (exact_bytes a.key b.key) (λ key last.
+    let apart : a.number ≢ b.number = λ number. differ (key, number) in grind (arith, nat_tests)))) fails
 
 -- ---- the statement
 
@@ -119,7 +102,7 @@ day_shown g old day rows clean asked club others represents =
     let bookings = day_selection.ordered in
     let same_cmp : (λ (a b : Booking). key_cmp 0 (map (λ _. ascending Binary) sheet_terms) (sheet_key a) (sheet_key b)) ≡ sheet_cmp =
     λ i a b. by_values a b i in
-    let none_before = none_less sheet_cmp sheet_total bookings (subst (λ cmp. IsSorted cmp bookings) same_cmp day_selection.sorted) in
+    let none_after = none_greater sheet_cmp sheet_total bookings (subst (λ cmp. IsSorted cmp bookings) same_cmp day_selection.sorted) in
     let unique = AllPairs-filter Differ (is_on day) club.bookings tables.sound.unique.bookings in
     let apart = apart-permutation Differ (λ a b differ same. differ (sym same.0, sym same.1)) (filter (is_on day) club.bookings) bookings day_selection.same
     (apart_from_pairs Differ _ unique) in
@@ -127,8 +110,8 @@ day_shown g old day rows clean asked club others represents =
       bookings,
       record {
         same = day_selection.same;
-        order = λ i j d less low. strictly (slice_index_or bookings i d) (slice_index_or bookings j d)
-            (none_before i j d less low) (differ i j d less low);
+        order = λ i j d less low. precedes (slice_index_or bookings i d) (slice_index_or bookings j d)
+            (none_after i j d less low) (differ i j d less low);
       },
       day_selection.shown,
     )

@@ -17,12 +17,10 @@ use Rattle.sqlite.specs.Term.{col, Term, lit, op2}
 use Rattle.sqlite.specs.Query.{inner, end}
 use Rattle.sqlite.specs.Listing.{understood}
 use Rattle.sqlite.specs.Held.{Held}
-use Rattle.sqlite_trees.proofs.ListLemmas.{filter-map}
 use Rattle.sqlite_value.specs.declared.keys.Collation.TheVariants.{Binary}
 use Rattle.sqlite_sql.specs.declared.ops.BinaryOp.TheVariants.{Compare}
 use Rattle.sqlite_sql.specs.declared.ops.CompareOp.TheVariants.{Eq}
 use Rattle.club_rows.specs.declared.key.Key.{Key}
-use Rattle.club_rows.specs.declared.member.Member.{Member}
 use Rattle.club_rows.specs.declared.facility.Facility.{Facility}
 use Rattle.club_core.specs.Club.{key_named, member_named, facility_named, Club}
 use Rattle.club_core.specs.KeyParts.{older_root_of}

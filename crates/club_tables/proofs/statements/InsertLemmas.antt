@@ -26,7 +26,6 @@ use Rattle.sqlite.specs.Rowids.TheVariants.{Chosen, Above}
 use Rattle.sqlite.specs.Edit.{Edit, edit_of, edited, next_rowid, with_rowid}
 use Rattle.sqlite_rules.specs.Edit.{taken_by}
 use Rattle.sqlite_rules.specs.Action.{works, Writes as ActionWrites}
-use Rattle.sqlite.specs.Rowids.{Rowids}
 use Rattle.sqlite_schema.specs.declared.schema.Keys.TheVariants.{Enforced}
 use Rattle.sqlite.specs.Does.{Tally, Does, OnTable, OnRows, WritesRows, lacks_sequence}
 use Rattle.sqlite.specs.Rows.{Written, Task, stamped, count_of, rowids_for}

@@ -1,11 +1,9 @@
 -- What an UPDATE found that wrote a row.
-use Rattle.std.proofs.Common.{◌≡◌, ◌≤◌, ℤ, Contains, Bool, true, false, ◌||◌, cond, Some, List, [], ◌∷◌, length, map, refl, sym, ap, ◌∙◌, not, arith}
+use Rattle.std.proofs.Common.{◌≡◌, ◌≤◌, ℤ, Contains, Bool, true, false, ◌||◌, cond, Some, List, [], ◌∷◌, length, refl, sym, ap, ◌∙◌, not, arith}
 use Rattle.std.proofs.Common.{true≢false, slice_get, suc, ◌==◌}
 use Rattle.std.proofs.lemmas.Bool.Decides.{nat_tests}
-use Rattle.std.specs.Prelude.{filter, find, IsPermutation, Contains}
+use Rattle.std.specs.Prelude.{filter, find, Contains}
 use Rattle.std.specs.List.{AllByRecursion, AllZip, list_any}
-use Rattle.std.proofs.lemmas.List.{length-map}
-use Rattle.std.proofs.lemmas.List.Sorted.{length_permutation}
 use Rattle.std.proofs.lemmas.List.Folds.{list_any_at}
 use Rattle.std.proofs.lemmas.List.Filters.{length-filter_both}
 use Rattle.std.proofs.lemmas.Option.{slice_get_within}

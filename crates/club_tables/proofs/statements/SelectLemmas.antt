@@ -33,6 +33,8 @@ use Rattle.sqlite_trees.specs.Tree.{IsAscending}
 use Rattle.sqlite_trees.proofs.ListLemmas.{map-map, filter-map, ascending-filter, ascending-map, all_of, pull_back, all-permutation, along_permutation}
 pub use Rattle.sqlite_trees.proofs.ListLemmas.{filter_same, filter_none as none_pass}
 use Rattle.std.specs.declared.cmp.Ordering.{Ordering}
+use Rattle.std.proofs.Common.{Less, Equal, Greater}
+use Rattle.std.specs.Ordering.{is_gt, ordering_reverse}
 use Rattle.std.specs.Cmp.{IsTotalOrder}
 use Rattle.std.proofs.lemmas.List.{length-map, get_or-map}
 use Rattle.sqlite_value.specs.declared.keys.Key.{Key}
@@ -204,9 +206,15 @@ IsSorted-from_map : {X Y : Type 0} (cmp : Y → Y → Ordering) (f : X → Y) (x
 IsSorted-from_map cmp f xs sorted k d low high =
     rw (get_or-map f xs (k + 1) d (f d) high, get_or-map f xs k d (f d) (omega arith)) at (sorted k (f d) low (rw length-map high))
 
--- no later element is less than an earlier one
-pub none_less : {X : Type 0} (cmp : X → X → Ordering) → IsTotalOrder cmp → (xs : List X) → IsSorted cmp xs → AllPairs (λ a b. is_lt (cmp b a) ≡ false) xs
-none_less cmp total xs sorted i j d less low = sorted_far (λ x y. is_lt (cmp x y)) (ranks_by total (λ x. x)) xs sorted i j d (omega arith) low
+turned : (o : Ordering) → is_gt (ordering_reverse o) ≡ is_lt o
+turned Less = refl
+turned Equal = refl
+turned Greater = refl
+
+-- no earlier element is greater than a later one
+pub none_greater : {X : Type 0} (cmp : X → X → Ordering) → IsTotalOrder cmp → (xs : List X) → IsSorted cmp xs → AllPairs (λ a b. is_gt (cmp a b) ≡ false) xs
+none_greater cmp total xs sorted i j d less low =
+    ap is_gt (total.antisymm _ _) ∙ turned _ ∙ sorted_far (λ x y. is_lt (cmp x y)) (ranks_by total (λ x. x)) xs sorted i j d (omega arith) low
 
 module _ {X : Type 0} (R : X → X → Type 0) (symmetric : (x y : X) → R x y → R y x) where
   abbrev Stays : List X → List X → Type 0
