@@ -114,14 +114,12 @@ module _ {S : Type 0} (Represents : S → Club → List Club → Type 0) where
           (rest_beside events h.front h.rest other responses h.before h.since h.response h.place h.response_place h.beside e) h.no_change none;
     }
 
-    left_with_more : MakesNoChange f.last (event ∷ []) (one ∷ []) → (left : Club) → MayBeLeft club others f.last events responses left
-        → MayBeLeft club others f.last all returned left
-    left_with_more none left (inl h) = inl (h.0, no_change_more f.last events responses event one e h.1 none, h.2)
-    left_with_more none left (inr h) = inr (h.0, failed_before none h.0 h.1, h.2)
-
     all_with_more : MakesNoChange f.last (event ∷ []) (one ∷ []) → All (MayBeLeft club others f.last all returned) f.left
-    all_with_more none = All-weaker (MayBeLeft club others f.last events responses) (MayBeLeft club others f.last all returned) (left_with_more none)
-        f.left f.each
+    all_with_more none =
+        All-weaker (MayBeLeft club others f.last events responses) (MayBeLeft club others f.last all returned) (λ left may. elim may [
+          | inl h ↦ inl (h.0, no_change_more f.last events responses event one e h.1 none, h.2)
+          | inr h ↦ inr (h.0, failed_before none h.0 h.1, h.2)
+        ]) f.left f.each
 
     -- if it was answered
     left_by_answer : has_failed desk_presentation event one ≡ false → (change : Option Change) → change_of f.last event ≡ change

@@ -9,7 +9,6 @@ pub mod DeskLaws
 pub mod FollowedEvents
 pub mod FollowedRuns
 pub mod Reading
-pub mod ShownTexts
 pub mod Spending
 pub mod KindScans
 pub mod StoreReads

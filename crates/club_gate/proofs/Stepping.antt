@@ -1,5 +1,5 @@
 -- An event that was decided: its change was applied, or the store failed.
-use Rattle.std.proofs.Common.{◌≡◌, ◌≢◌, ◌⊎◌, inl, inr, ℕ, true, false, List, [], ◌∷◌, Option, Some, None, Result, Ok, Err, refl, sym, ap, ◌∙◌}
+use Rattle.std.proofs.Common.{◌≡◌, ◌≢◌, inl, inr, ℕ, true, false, List, [], ◌∷◌, Option, Some, None, Result, Ok, Err, refl, sym, ap, ◌∙◌}
 use Rattle.std.specs.Prelude.{IsErr}
 use Rattle.base64.specs.GeneralPurpose.{IsBytes}
 use Rattle.club_core.specs.declared.change.Change.{Change}
@@ -100,21 +100,14 @@ module _ {S : Type 0} (Represents : S → Club → List Club → Type 0) (new : 
   ask_failed words moment verdict result err e represents =
       rw (← e) (record { unavailable = reply_fails result err; represents = inr represents })
 
-  -- a request that was decided or failed is an event that was answered or failed
-  asked_one : (words : Words) (moment : ℕ) (reply : Reply)
-      → IsDecidedBy Represents new club others (verdict_in club words moment) reply ⊎ HasFailed Represents new club others (verdict_in club words moment) reply
-      → IsAnsweredBy Represents new club others (Asked words moment) (ToMember reply)
-      ⊎ IsRefusedBy Represents new club others (Asked words moment) (ToMember reply)
-  asked_one words moment reply (inl decided) = inl (record {
+-- what a request did is a step
+pub asked_steps : {S : Type 0} (Represents : S → Club → List Club → Type 0) (old new : S) (words : Words) (moment : ℕ) (reply : Reply)
+    → DecidesOrFails Represents old new words moment reply → Steps Represents old new (Asked words moment) (ToMember reply)
+asked_steps Represents old new words moment reply did club others represents = elim (did club others represents) [
+  | inl decided ↦ inl (record {
     success = other_reply reply decided.available;
     reply = ap ToMember decided.reply_is;
     represents = decided.represents;
   })
-  asked_one words moment reply (inr failed) =
-      inr (record { failure = ap is_unavailable failed.unavailable; represents = failed.represents })
-
--- what a request did is a step
-pub asked_steps : {S : Type 0} (Represents : S → Club → List Club → Type 0) (old new : S) (words : Words) (moment : ℕ) (reply : Reply)
-    → DecidesOrFails Represents old new words moment reply → Steps Represents old new (Asked words moment) (ToMember reply)
-asked_steps Represents old new words moment reply did club others represents =
-    asked_one Represents new club others words moment reply (did club others represents)
+  | inr failed ↦ inr (record { failure = ap is_unavailable failed.unavailable; represents = failed.represents })
+]

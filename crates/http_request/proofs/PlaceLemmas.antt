@@ -8,10 +8,8 @@ use Rattle.std.proofs.lemmas.Bool.Decides.{nat_tests}
 use Rattle.std.proofs.lemmas.Option.{IfSome_then}
 use Rattle.std.proofs.lemmas.Slice.Eq.{bytes_eq-Decides}
 use Rattle.club_values.specs.declared.slot.Slot.{Slot}
-use Rattle.club_values.specs.Day.{IsDay, day_text}
+use Rattle.club_values.specs.Day.{day_text}
 use Rattle.club_values.specs.Digits.{two_digits}
-use Rattle.club_values.specs.Hour.{IsHour}
-use Rattle.club_values.specs.Name.{IsName}
 use Rattle.club_values.specs.Laws.{IsTextOfDay, ReadsDays, ReadsHours, ReadsNames, ReadsNumbers}
 use Rattle.club_values.specs.computed.TextOf.{name_of_text, day_of_text, hour_of_text, decimal_of_text}
 use Rattle.club_rows.specs.Limits.{IsBookingNumber, booking_number_limit}
@@ -57,15 +55,6 @@ SpellsSlot facility day hour slot =
 module _ (names : ReadsNames) (days : ReadsDays) (texts : IsTextOfDay) (hours : ReadsHours) (numbers : ReadsNumbers) where
   -- ---- from the values to what is computed
 
-  name_found : (name : List ℕ) → IsName name → name_of_text name ≡ Some name
-  name_found name h = (names name name).1 (h, refl)
-
-  day_found : (day : ℕ) → IsDay day → day_of_text (day_text day) ≡ Some day
-  day_found day h = (days (day_text day) day).1 ((texts (day_text day) day).1 (h, refl))
-
-  hour_found : (hour : ℕ) → IsHour hour → hour_of_text (two_digits hour) ≡ Some hour
-  hour_found hour h = (hours (two_digits hour) hour).1 (record { spelling = refl; within = h })
-
   number_found : (n : ℕ) → IsBookingNumber n → number_of_text (decimal n) ≡ Some n
   unfolding number_of_text
   number_found n h =
@@ -74,7 +63,10 @@ module _ (names : ReadsNames) (days : ReadsDays) (texts : IsTextOfDay) (hours : 
 
   slot_found : (slot : Slot) → IsSlot slot → slot_of_parts slot.facility (day_text slot.day) (two_digits slot.hour) ≡ Some slot
   unfolding slot_of_parts
-  slot_found slot h = rw (name_found slot.facility h.facility, day_found slot.day h.day, hour_found slot.hour h.hour) refl
+  slot_found slot h =
+      let day = (days (day_text slot.day) slot.day).1 ((texts (day_text slot.day) slot.day).1 (h.day, refl)) in
+      let hour = (hours (two_digits slot.hour) slot.hour).1 (record { spelling = refl; within = h.hour }) in
+      rw ((names slot.facility slot.facility).1 (h.facility, refl), day, hour) refl
 
   place_found : (place : Place) → HasRealValues place → under_root (place_parts place) ≡ Some place
   place_found (SlotPlace slot) h = rw (slot_found slot h) refl

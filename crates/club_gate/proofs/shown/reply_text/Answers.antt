@@ -1,12 +1,15 @@
-use Rattle.std.proofs.Common.{List, ℕ, ◌++◌, ◌∙◌, ap, sym}
+use Rattle.std.proofs.Common.{◌≡◌, List, ℕ, [], ◌∷◌, ◌++◌, ◌∙◌, append_assoc, ap, refl, sym}
 use Rattle.club_gate.specs.Shown.{lines, values_of_slot, values_of_state}
-use Rattle.club_gate.proofs.ShownTexts.{lines-append}
 use Rattle.club_gate.proofs.shown.reply_text.Goals as goal
+
+-- the lines of more values stand after the others
+lines-append : (values more : List (List ℕ × List ℕ)) → lines (values ++ more) ≡ lines values ++ lines more
+lines-append [] more = refl
+lines-append ((name, value) ∷ values) more =
+    ap (λ (rest : List ℕ). name ++ 32 ∷ value ++ 10 ∷ rest) (lines-append values more) ∙ simp append_assoc
 
 pub returns-in_ok-push_state-in-SlotShown : goal.returns-in_ok-push_state-in-SlotShown
 returns-in_ok-push_state-in-SlotShown c =
-    let shown = c.in-SlotShown in
-    let state = values_of_state shown.kind shown.price shown.places shown.taken shown.closed in
-    rw shown.is
-    (c.in_ok-push_state-in-SlotShown.ensures
-    ∙ (ap (λ (text : List ℕ). text ++ lines state) c.in_ok-text-in-SlotShown.ensures ∙ sym (lines-append (values_of_slot shown.slot) state)))
+    let slot = c.in-SlotShown in
+    rw (slot.is, c.in_ok-push_state-in-SlotShown.ensures, c.in_ok-text-in-SlotShown.ensures)
+    (sym (lines-append (values_of_slot slot.slot) (values_of_state slot.kind slot.price slot.places slot.taken slot.closed)))
