@@ -6,7 +6,7 @@ use Rattle.pass_caveats.specs.Fault.{first_fault_from}
 use Rattle.pass_caveats.specs.Kinds.{IsBlindToKind, at_kind}
 use Rattle.pass_caveats.specs.Laws.{FindsTheFaultAt, ReadsWhatIsUnderstood}
 use Rattle.club_values.specs.declared.kind.Kind.{Kind}
-use Rattle.pass_forms.specs.FieldSource.{PassField, caveat_field, signature_field, location_field, identifier_field, pass_fields}
+use Rattle.pass_forms.specs.FieldSource.{PassField, caveat_field, signature_field, pass_fields}
 use Rattle.pass_forms.specs.Pass.{Plain}
 use Rattle.club_gate.specs.Reading.{IsBlindPass}
 use Rattle.club_gate.proofs.Walking.{fault_is, fault_on}
@@ -14,10 +14,8 @@ use Rattle.club_gate.proofs.Walking.{fault_is, fault_on}
 -- each caveat among these fields has one fault for all kinds
 abbrev pub AreBlind : List PassField → Type 0
 AreBlind [] = Unit {0}
-AreBlind (location_field bytes ∷ fields) = AreBlind fields
-AreBlind (identifier_field bytes ∷ fields) = AreBlind fields
 AreBlind (caveat_field bytes ∷ fields) = IsBlindToKind bytes × AreBlind fields
-AreBlind (signature_field bytes ∷ fields) = AreBlind fields
+AreBlind (field ∷ fields) = AreBlind fields
 
 module _ (finds : FindsTheFaultAt) (reads : ReadsWhatIsUnderstood) (ask : Ask) (kind : Option Kind) where
   one_alike : (text : List ℕ) → IsBlindToKind text → (n : ℕ)

@@ -76,10 +76,8 @@ last_view club asked.Account moment view = with_sums club moment view
 
 -- nothing is owed under a number that has a booking
 nothing_owed : (request : Request) (facility : Option Facility) → owed_at request true facility ≡ 0
-nothing_owed (asked.View slot) facility = refl
 nothing_owed (asked.Book slot number guests) facility = refl
-nothing_owed (asked.Cancel slot number) facility = refl
-nothing_owed asked.Account facility = refl
+nothing_owed request facility = refl
 
 -- a caveat's fault refuses the request, whatever else a view of the key holds
 refused_by_fault : (view other : View) (request : Request) (moment : ℕ) → view.key ≡ other.key → (fault : Option CaveatFault) → is_some fault ≡ true
@@ -126,9 +124,7 @@ module _ (club : Club) (key : Key) (moment : ℕ) (its : IsOwned club key) where
       ≡ answer_by_view (Some (record (whole request) { facility = other; booking = booking })) true None request moment
   of_booking request facility other None e some = absurd (cc)
   of_booking (asked.View slot) facility other (Some booking) e some = absurd (cc)
-  of_booking (asked.Book slot number guests) facility other (Some booking) e some = refl
-  of_booking (asked.Cancel slot number) facility other (Some booking) e some = refl
-  of_booking asked.Account facility other (Some booking) e some = refl
+  of_booking request facility other (Some booking) e some = refl
 
   at_number : (number : Option ℕ) → option_and_then (λ (n : ℕ). booking_under key.name n club.bookings) number
       ≡ option_and_then (λ (n : ℕ). booking_under key.name n (bookings_of its.member.name club)) number

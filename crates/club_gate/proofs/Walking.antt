@@ -13,7 +13,7 @@ use Rattle.pass_caveats.specs.Fault.{IsFaultAt, first_fault_from}
 use Rattle.pass_caveats.specs.Laws.{FindsTheFaultAt, ReadsWhatIsUnderstood}
 use Rattle.pass_forms.specs.declared.field_source.Field.{Field}
 use Rattle.pass_forms.specs.declared.field_source.Field.TheVariants as fields
-use Rattle.pass_forms.specs.FieldSource.{PassField, caveat_field, signature_field, location_field, identifier_field, pass_fields, as_field}
+use Rattle.pass_forms.specs.FieldSource.{PassField, caveat_field, signature_field, pass_fields, as_field}
 use Rattle.pass_forms.specs.Pass.{Plain}
 use Rattle.club_values.specs.Reading.{Reads}
 
@@ -31,11 +31,9 @@ fault_is finds reads text n ask fault = finds text (caveat_of text) n ask fault 
 -- the first fault of the caveats among these fields, of which the first has this number
 abbrev pub fault_in : Ask → ℕ → List PassField → Option CaveatFault
 fault_in ask n [] = None
-fault_in ask n (location_field bytes ∷ fields) = fault_in ask n fields
-fault_in ask n (identifier_field bytes ∷ fields) = fault_in ask n fields
 fault_in ask n (caveat_field bytes ∷ fields) =
     option_or (first_fault_from n (caveat_of bytes ∷ []) ask) (fault_in ask (min (n + 1) (2 ^ 64 - 1)) fields)
-fault_in ask n (signature_field bytes ∷ fields) = fault_in ask n fields
+fault_in ask n (field ∷ fields) = fault_in ask n fields
 
 -- the first of the caveats refuses, or one of the others decides
 pub fault_on : (n : ℕ) (caveat : Option Caveat) (caveats : List (Option Caveat)) (ask : Ask)
