@@ -1,8 +1,9 @@
 -- What the statement that cancels a booking makes of the tables, and the rows of the club after it, as they are stored.
+use Rattle.std.proofs.lemmas.Bool.{cases_Bool}
+use Rattle.std.proofs.Common.{inl, inr}
 use Rattle.std.proofs.Common.{rules}
-use Rattle.std.proofs.Common.{◌≡◌, ℕ, ◌≤◌, pos, Some, Bool, true, false, ◌||◌, cond, List, [], ◌∷◌, ◌++◌, map, refl, sym, ap, subst, ◌∙◌, All}
-use Rattle.std.proofs.Common.{arith, ◌+◌, ◌-◌, not, ◌&&◌, if◌then◌else◌, Contains}
-use Rattle.std.specs.Prelude.{filter, sum_by}
+use Rattle.std.proofs.Common.{◌≡◌, ℕ, ◌≤◌, pos, Some, Bool, true, false, ◌||◌, List, [], ◌∷◌, ◌++◌, map, refl, sym, ap, subst, ◌∙◌, All}
+use Rattle.std.proofs.Common.{arith, ◌+◌, ◌-◌, if◌then◌else◌, Contains}
 use Rattle.std.specs.Cmp.{unsigned_Decides}
 use Rattle.std.proofs.lemmas.Slice.Eq.{bytes_eq-Decides}
 use Rattle.std.proofs.lemmas.Bool.{and_parts}
@@ -216,24 +217,17 @@ module _ (club : Club) (sound : IsSound club) (booking : Booking) (cancels : IsT
   used_back name =
       let own : Booking → Bool = λ b. is_key_of name club b.key in
       let sums = picked_changed (is_numbered key number) change (unnumbered key number refund) cost_of own club.bookings booking alone cancels.0 in
-      go own (own booking) refl sums
-    where
-      go : (own : Booking → Bool) (b : Bool) → own booking ≡ b
-          → sum_by cost_of (filter own (map change club.bookings)) + cond (own booking) (cost_of booking) 0
-          ≡ sum_by cost_of (filter own club.bookings) + cond (own booking) (cost_of (change booking)) 0
-          → sum_by cost_of (filter own (map change club.bookings)) + (if b then refund else 0) ≡ sum_by cost_of (filter own club.bookings)
-      go own true is sums = let s = rw is at sums in omega (arith, s, nothing_back, now_refund, at_most)
-      go own false is sums = let s = rw is at sums in omega (arith, s)
+      elim (cases_Bool (own booking)) [
+        | inl is ↦ let s = rw is at sums in rw is (omega (arith, s, nothing_back, now_refund, at_most))
+        | inr is ↦ let s = rw is at sums in rw is (omega (arith, s))
+      ]
 
   -- the persons of a slot
   pub taken_back : (s : Slot) → taken_in s next.bookings + (if same_slot booking.slot s then persons_of booking else 0) ≡ taken_in s club.bookings
   taken_back s =
       let sums = picked_changed (is_numbered key number) change (unnumbered key number refund) persons_of (is_in s) club.bookings booking alone cancels.0 in
-      let after : cond (is_in s (change booking)) (persons_of (change booking)) 0 ≡ 0 =
-      ap (λ b. cond (not b && same_slot booking.slot s) (persons_of booking) 0) now_cancelled in
-      let before : cond (is_in s booking) (persons_of booking) 0 ≡ cond (same_slot booking.slot s) (persons_of booking) 0 =
-      ap (λ b. cond (not b && same_slot booking.slot s) (persons_of booking) 0) cancels.1 in
-      omega (arith, sums, before, after)
+      let moved = rw (now_cancelled, cancels.1) at sums in
+      omega (arith, moved)
 
   pub used_less : (member : List ℕ) → IsOwnedBy member key club → (m : Member) → used_row member (λ n. n - refund) (member_row club m) ≡ member_row next m
   used_less member owned m =

@@ -1,4 +1,5 @@
 -- A change that was made is true of the club, and what the statements of one that fits do, one after the other.
+use Rattle.std.proofs.Common.{rules}
 use Rattle.std.proofs.Common.{◌≡◌, ℕ, ◌≤◌, ℤ, pos, neg_ℤ, Bool, Ok, None, List, Option, Some, refl, sym, subst, ◌∙◌, ◌≢◌, ◌+◌, ◌-◌, true}
 use Rattle.std.proofs.Common.{if◌then◌else◌, [], ◌∷◌, ◌++◌, map, Contains, ap, arith, zero, suc, IsTrue, inl, inr}
 use Rattle.std.proofs.lemmas.List.Elements.{recursion_from_All, All-contains}
@@ -11,9 +12,7 @@ use Rattle.sqlite.specs.Order.{Row}
 use Rattle.sqlite_sql.specs.Ops.{binary}
 use Rattle.sqlite_sql.specs.declared.ops.BinaryOp.TheVariants.{Arith}
 use Rattle.sqlite_sql.specs.declared.ops.ArithOp.TheVariants.{Add}
-use Rattle.std.proofs.lemmas.Bool.{lt-ltb}
-use Rattle.std.proofs.lemmas.Int.{ints}
-use Rattle.std.proofs.Common.{◌<◌, ◌^◌, ◌+ℤ◌, cond}
+use Rattle.std.proofs.Common.{◌<◌, ◌^◌, cond}
 use Rattle.club_rows.specs.Limits.{places_limit}
 use Rattle.club_core.specs.declared.slot_use.SlotUse.{SlotUse}
 use Rattle.club_rows.specs.Rows.{IsMember, IsFacility}
@@ -21,7 +20,7 @@ use Rattle.sqlite.specs.State.{Executes, State}
 use Rattle.sqlite.specs.Store.{Ghosts}
 use Rattle.sqlite_value.specs.declared.value.Value.TheVariants.{Int}
 use Rattle.club_core.specs.After.{good_until, after, cancelled_booking, credited_member}
-use Rattle.club_core.specs.Club.{Club, member_named, is_key_of, key_named, IsSound}
+use Rattle.club_core.specs.Club.{Club, member_named, key_named, IsSound}
 use Rattle.club_core.specs.Store.{IsOwnedBy, IsTrueOf, FitsClub}
 use Rattle.club_core.specs.Sums.{booking_under, cost_of, taken_in}
 use Rattle.club_core.specs.declared.change.Change.{Change}
@@ -86,9 +85,7 @@ module _ {S : Type 0} (g : Ghosts S) where
       → FailsInTurn g 1 all old new fault → FailsInTurn g 0 all old new fault
   less_in_turn [] old new fault through failed = failed
   less_in_turn (statement ∷ more) old new fault through (inl (inl refused)) = inl (inl refused)
-  less_in_turn (statement ∷ more) old new fault through (inl (inr short)) =
-      let it = through short.4 in
-      absurd (omega (arith, (it.3.1 old new short.0 it.2 short.1).1, short.2))
+  less_in_turn (statement ∷ more) old new fault through (inl (inr short)) = search rules
   less_in_turn (statement ∷ more) old new fault through (inr ran) =
       let it = through ran.5 in
       let next = it.3.1 old ran.0 ran.1 it.2 ran.2 in
@@ -108,10 +105,7 @@ mapped_some f (Some x) y h = (x, refl)
 -- what is less than was there can be taken away
 minus : (m r : ℕ) → r ≤ m → m < 2 ^ 63 → binary (Arith Add) (whole m) (Int (neg_ℤ (pos r))) ≡ whole (m - r)
 unfolding binary
-minus m r low small =
-    let sum : pos m +ℤ neg_ℤ (pos r) ≡ pos (m - r) = omega (arith, ints) in
-    let fits : m - r < 2 ^ 63 = omega arith in
-    rw (sum, lt-ltb (m - r) (2 ^ 63) fits) refl
+minus m r low small = search rules
 
 -- no slot of a facility has more persons than a facility has places
 few_taken : (club : Club) → IsSound club → (slot : Slot) → Contains (map (λ (f : Facility). f.name) club.facilities) slot.facility
@@ -258,15 +252,12 @@ module _ {S : Type 0} (g : Ghosts S) (old : Held S) (club : Club) (tables : Hold
       let booked = all_last (λ (b : Booking). Contains (map (λ (f : Facility). f.name) club.facilities) b.slot.facility) club.bookings booking
       (recursion_from_All _ (club.bookings ++ booking ∷ []) fits.sound.references.facilities) in
       let few = few_taken (after (InsertBooking booking member) club) fits.sound booking.slot booked in
-      let more = taken_more club booking booking.slot in
-      let here : (if same_slot booking.slot booking.slot then taken_in booking.slot club.bookings + persons_taken booking else taken_in booking.slot
-      club.bookings) ≡ taken_in booking.slot club.bookings + persons_taken booking =
-      ap (λ b. if b then taken_in booking.slot club.bookings + persons_taken booking else taken_in booking.slot club.bookings) (same_itself booking.slot) in
+      let more = rw (same_itself booking.slot) at (taken_more club booking booking.slot) in
       totals _ _ (λ bs. bs ++ booking ∷ []) member booking.key (pos (cost_of booking)) (λ n. n + cost_of booking) booking.slot (pos (persons_taken booking))
       (λ n. n + persons_taken booking) (booking_put tables.rows booking) fits.carries
       (λ low. total (used_by club member) (cost_of booking) (omega (arith, low, limits.charge)))
       (λ none. let e : persons_taken booking ≡ 0 + persons_taken booking = omega arith in ap pos e)
-      (total (taken_in booking.slot club.bookings) (persons_taken booking) (omega (arith, few, more, here)))
+      (total (taken_in booking.slot club.bookings) (persons_taken booking) (omega (arith, few, more)))
       (used_more club tables.sound member booking fits.carries) (taken_more club booking)
 
   cancel_through : (booking : Booking) (member : List ℕ) (refund : ℕ) (fits : FitsClub (MarkCancelled booking member refund) club)
@@ -274,12 +265,10 @@ module _ {S : Type 0} (g : Ghosts S) (old : Held S) (club : Club) (tables : Hold
   cancel_through booking member refund fits =
       let persons = persons_of booking in
       let cancels = fits.carries.0 in
-      let back = used_back club tables.sound booking cancels refund fits.sound member in
       let mine = owner_is club tables.sound booking.key member member fits.carries.1 ∙ (bytes_eq-Decides member member).1 refl in
-      let all : (if is_key_of member club booking.key then refund else 0) ≡ refund = ap (λ b. if b then refund else 0) mine in
-      let gone = taken_back club tables.sound booking cancels refund fits.sound booking.slot in
-      let here : (if same_slot booking.slot booking.slot then persons else 0) ≡ persons = ap (λ b. if b then persons else 0) (same_itself booking.slot) in
-      let there_are : persons ≤ taken_in booking.slot club.bookings = omega (arith, gone, here) in
+      let back = rw mine at (used_back club tables.sound booking cancels refund fits.sound member) in
+      let gone = rw (same_itself booking.slot) at (taken_back club tables.sound booking cancels refund fits.sound booking.slot) in
+      let there_are : persons ≤ taken_in booking.slot club.bookings = omega (arith, gone) in
       let booked = All-contains (λ (b : Booking). Contains (map (λ (f : Facility). f.name) club.facilities) b.slot.facility) club.bookings booking
       tables.sound.references.facilities (there club tables.sound booking cancels refund fits.sound).0 in
       let few = few_taken club tables.sound booking.slot booked in
@@ -287,7 +276,7 @@ module _ {S : Type 0} (g : Ghosts S) (old : Held S) (club : Club) (tables : Hold
       (neg_ℤ (pos persons)) (λ n. n - persons)
       (booking_cancelled tables.rows bookings_once booking refund
       (subst (λ bookings. booking_under booking.key booking.number bookings ≡ Some booking) (sym tables.storage.bookings) cancels.0) cancels.1)
-      fits.carries.1 (λ low. minus (used_by club member) refund (omega (arith, back, all)) (omega (arith, low)))
+      fits.carries.1 (λ low. minus (used_by club member) refund (omega (arith, back)) (omega (arith, low)))
       (λ none. absurd (omega (arith, none, there_are))) (minus (taken_in booking.slot club.bookings) persons there_are (omega (arith, few)))
       (used_less club tables.sound booking cancels refund fits.sound member fits.carries.1) (taken_less club tables.sound booking cancels refund fits.sound)
 

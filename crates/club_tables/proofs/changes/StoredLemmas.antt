@@ -1,4 +1,5 @@
 -- The rows of the club after each change, as they are stored.
+use Rattle.club_tables.proofs.queries.MemberLemmas.{any_filtered}
 use Rattle.std.proofs.Common.{◌≡◌, ◌≢◌, ℕ, ◌+◌, Bool, true, false, not, ◌&&◌, ◌||◌, cond, if◌then◌else◌, List, [], ◌∷◌, ◌++◌, map, Option, Some, None, Contains}
 use Rattle.std.proofs.Common.{refl, sym, ap, subst, ◌∙◌, arith, true≢false, rules}
 use Rattle.std.specs.Prelude.{filter, find, sum_by, option_and_then, AllPairs, option_map}
@@ -134,13 +135,11 @@ key_stored club rows stored sound key new fits =
 
 owned_mapped : (names owns : Key → Bool) (f : Key → Key) → ((key : Key) → names (f key) ≡ names key) → ((key : Key) → owns (f key) ≡ owns key)
     → (keys : List Key) → list_any names (filter owns (map f keys)) ≡ list_any names (filter owns keys)
-owned_mapped names owns f named owned [] = refl
-owned_mapped names owns f named owned (k ∷ keys) =
-    let more = owned_mapped names owns f named owned keys in
-    ap (λ b. list_any names (cond b (f k ∷ filter owns (map f keys)) (filter owns (map f keys)))) (owned k)
-    ∙ (elim (owns k) as (λ b. list_any names (cond b (f k ∷ filter owns (map f keys)) (filter owns (map f keys)))
-    ≡ list_any names (cond b (k ∷ filter owns keys) (filter owns keys)))
-    [ true ↦ let e = named k in cc | false ↦ more ])
+owned_mapped names owns f named owned keys = any_filtered names owns (map f keys) ∙ each keys ∙ sym (any_filtered names owns keys)
+  where
+    each : (ks : List Key) → list_any (λ k. owns k && names k) (map f ks) ≡ list_any (λ k. owns k && names k) ks
+    each [] = refl
+    each (k ∷ ks) = rw (owned k, named k, each ks) refl
 
 owned_still : (club : Club) (f : Key → Key) → ((key : Key) → (f key).name ≡ key.name) → ((key : Key) → (f key).member ≡ key.member) → (owner : List ℕ)
     → AllByRecursion (λ (b : Booking). list_any (λ (k : Key). bytes_eq k.name b.key) (filter (λ (k : Key). bytes_eq k.member owner) (map f club.keys))
