@@ -66,15 +66,7 @@ module _ {S : Type 0} (g : Ghosts S) (all : List BoundStatement) (some : 0 < len
         inr (inl (db, sym is, inl (inl (makes db (held db ran) ran).1)))) (λ trees left. elim left [ inl here ↦ inl here | inr there ↦ inr (inr there) ]) err
 
 some_statements : (change : Change) → 0 < length (statements_of change)
-some_statements (InsertMember member) = omega arith
-some_statements (AddCredit name points) = omega arith
-some_statements (InsertFacility facility) = omega arith
-some_statements (InsertKey key) = omega arith
-some_statements (MarkRevoked name) = omega arith
-some_statements (ReplaceRoot name was root until) = omega arith
-some_statements (MarkClosed slot) = omega arith
-some_statements (InsertBooking booking member) = omega arith
-some_statements (MarkCancelled booking member refund) = omega arith
+some_statements change = grind arith
 
 -- statements that were committed make their change
 pub changes : {S : Type 0} {g : Ghosts S} (change : Change) → ¬ HasOlderRoot change → {old new : Held S} {result : Result (Unit {0}) StoreFault}
