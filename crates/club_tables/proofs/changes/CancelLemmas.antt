@@ -161,8 +161,7 @@ module _ (rows : Rows) (once : AreBookingsOnce rows.bookings) (booking : Booking
 
 -- what is taken away where a test passes
 taken_away : (b : Bool) (all left back : ℕ) → left + (if b then back else 0) ≡ all → (if b then all - back else all) ≡ left
-taken_away true all left back is = omega (arith, is)
-taken_away false all left back is = omega (arith, is)
+taken_away b all left back is = grind arith
 
 module _ (club : Club) (sound : IsSound club) (booking : Booking) (cancels : IsToCancel booking club) (refund : ℕ)
     (fits : IsSound (record club { bookings = map (cancelled_booking booking.key booking.number refund) club.bookings })) where

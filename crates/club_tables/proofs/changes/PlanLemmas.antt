@@ -141,8 +141,7 @@ module _ {S : Type 0} (g : Ghosts S) (old : Held S) (club : Club) (tables : Hold
       (one.0, subst (λ keys. StoresKey key keys one.0) same one.1, one.2)
 
   not_older : (older : Option OlderRoot) → ¬ IsSome older → older ≡ None
-  not_older None none = refl
-  not_older (Some older) none = absurd (none refl)
+  not_older older none = grind arith
 
   pub is_true : (db : Database) (change : Change) → ¬ HasOlderRoot change → Ran g 1 (statements_of change) old db → IsTrueOf change club
   is_true db (InsertMember member) new ran = tt

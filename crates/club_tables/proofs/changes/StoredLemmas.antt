@@ -186,8 +186,7 @@ rotate_stored club rows stored name root was until has =
 
 closed_use : (club : Club) (s : Slot) (b : Bool) → (if b then close_use (slot_use club s) else slot_use club s)
     ≡ record { taken = taken_in s club.bookings; closed = is_closed s club || (b || false) }
-closed_use club s true = rw (or-true (is_closed s club)) refl
-closed_use club s false = rw (or-false (is_closed s club)) refl
+closed_use club s b = grind (arith, or-true, or-false)
 
 pub close_stored : (club : Club) (rows : Rows) → IsStoredAs club rows → (slot : Slot)
     → IsStoredAs (after (MarkClosed slot) club) (record rows { slots = put_slot slot close_use rows.slots })
@@ -211,8 +210,7 @@ totals_rows rows change member used slot taken = record rows {
 
 -- what is added where a test passes
 added_if : (b : Bool) (all one more : ℕ) → more ≡ all + cond b one 0 → (if b then all + one else all) ≡ more
-added_if true all one more is = omega (arith, is)
-added_if false all one more is = omega (arith, is)
+added_if b all one more is = grind arith
 
 pub used_more : (club : Club) → IsSound club → (member : List ℕ) (booking : Booking) → IsOwnedBy member booking.key club → (m : Member)
     → used_row member (λ n. n + cost_of booking) (member_row club m) ≡ member_row (after (InsertBooking booking member) club) m
@@ -228,16 +226,13 @@ taken_more club booking s =
     ∙ ap (λ n. taken_in s club.bookings + n) (counted booking.cancelled (same_slot booking.slot s) (persons_of booking))))
   where
     counted : (c b : Bool) (n : ℕ) → cond (not c && b) n 0 ≡ cond b (if c then 0 else n) 0
-    counted true true n = refl
-    counted true false n = refl
-    counted false b n = refl
+    counted c b n = grind arith
 
 -- the use of a slot whose persons are recounted
 recounted_use : (club : Club) (s : Slot) (next : ℕ → ℕ) (b : Bool) (taken : ℕ)
     → taken ≡ (if b then next (taken_in s club.bookings) else taken_in s club.bookings)
     → (if b then take_use next (slot_use club s) else slot_use club s) ≡ record { taken = taken; closed = is_closed s club }
-recounted_use club s next true taken is = rw is refl
-recounted_use club s next false taken is = rw is refl
+recounted_use club s next b taken is = grind arith
 
 pub bookings_stored : (club : Club) (rows : Rows) → IsStoredAs club rows → (change : List Booking → List Booking) (member : List ℕ) (used : ℕ → ℕ)
     (slot : Slot) (taken : ℕ → ℕ) → ((m : Member) → used_row member used (member_row club m) ≡ member_row (record club { bookings = change club.bookings }) m)

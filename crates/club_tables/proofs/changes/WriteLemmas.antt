@@ -13,8 +13,6 @@ use Rattle.club_core.specs.After.{after}
 use Rattle.club_core.specs.Store.{IsTrueOf}
 use Rattle.club_core.specs.Club.{Club}
 use Rattle.club_core.specs.declared.store.StoreFault.{StoreFault}
-use Rattle.club_core.specs.declared.change.Change.TheVariants.{InsertMember, AddCredit, InsertFacility, InsertKey, MarkRevoked, ReplaceRoot, MarkClosed}
-use Rattle.club_core.specs.declared.change.Change.TheVariants.{InsertBooking, MarkCancelled}
 use Rattle.club_tables.specs.Tables.{HoldsClub, IsLeftOf, Represents}
 use Rattle.club_tables.specs.ReadsAndChanges.{ChangesClub, IsChangeFault, IsRunFault, HasOlderRoot}
 use Rattle.club_tables.specs.Transaction.{BoundStatement, Ran, IsKept, transaction_start}

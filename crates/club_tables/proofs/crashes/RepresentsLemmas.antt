@@ -4,7 +4,7 @@ use Rattle.sqlite.specs.Tree.{Trees}
 use Rattle.club_tables.specs.Tables.{IsLeftOf}
 use Rattle.std.specs.Prelude.{filter, IsPermutation}
 use Rattle.std.specs.List.{list_all}
-use Rattle.std.proofs.Common.{◌≡◌, ℕ, ℤ, Bool, false, List, [], ◌∷◌, map, IsTrue, Option, Some, None}
+use Rattle.std.proofs.Common.{◌≡◌, ℕ, ℤ, Bool, false, List, [], ◌∷◌, map, IsTrue}
 use Rattle.std.proofs.Common.{sym, subst}
 use Rattle.sqlite_value.specs.declared.value.Value.TheVariants.{Int}
 use Rattle.sqlite.specs.Order.{Row}
@@ -15,9 +15,7 @@ use Rattle.sqlite.specs.Command.TheVariants.{Select}
 use Rattle.sqlite.specs.Term.{Term, holds, eval_all}
 use Rattle.sqlite.specs.Query.{Query, inner, end}
 use Rattle.sqlite.specs.Listing.{understood, reads_listing}
-use Rattle.sqlite_schema.specs.declared.command.Returning.{Returning}
-use Rattle.sqlite_resolve.specs.declared.compiled.Compiled.{Compiled}
-use Rattle.sqlite.specs.State.{State, HasCleanDisk, Survives, Shown, ShowsRows}
+use Rattle.sqlite.specs.State.{State, HasCleanDisk, Survives, Shown}
 use Rattle.sqlite.specs.Held.{Held, state}
 use Rattle.sqlite.proofs.StateLemmas.{survives_then}
 use Rattle.sqlite.proofs.Callers.{IsPlain, command_of, reads_as}
@@ -39,11 +37,6 @@ represents_by IsHeld old new kept earlier club others next before left = search 
 pub represents_on : (IsHeld : Database → Club → Type 0) (old new : State) → IsKept old new → Survives old new (λ _. ⊥) → (club : Club) (others : List Club)
     → RepresentsBy IsHeld old club others → RepresentsBy IsHeld new club others
 represents_on IsHeld old new kept quiet club others before = search rules
-
-shown_open : (sql : List ℕ) (old new : State) (c : Compiled) (full : Row) (rows : List Row) (returning : Option Returning)
-    → ShowsRows old new sql c full rows returning → IsTrue old.is_open
-shown_open sql old new c full rows None h = h.3.0.was_open
-shown_open sql old new c full rows (Some what) h = h.1.shown.was_open
 
 -- what was asked was asked of a connection that was open
 pub asked_open : {S : Type 0} (g : Ghosts S) (sql : List ℕ) (params : Row) (old : Held S) (rows : List Row) → Asked g sql params old rows
@@ -87,9 +80,6 @@ abbrev pub Shows : {S : Type 0} → Ghosts S → Held S → BoundStatement → (
 Shows g old statement IsShown =
     (rows : List Row) → HasCleanDisk (state g old) → Asked g statement.0 statement.1 old rows → (club : Club) (others : List Club)
     → Represents (state g old) club others → IsShown club rows
-
-pub survives_same : (s : State) → Survives s s (λ _. ⊥)
-survives_same s = search rules
 
 pub survives_none : (a b c : State) → Survives a b (λ _. ⊥) → Survives b c (λ _. ⊥) → Survives a c (λ _. ⊥)
 survives_none a b c p q = survives_then a b c (λ _. ⊥) (λ _. ⊥) (λ _. ⊥) (λ _ db none. none) (λ _ db none. none) p q

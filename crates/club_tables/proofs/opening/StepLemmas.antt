@@ -1,6 +1,6 @@
 -- Steps of an opening that follow a read, tables that are ready for one, and statements that are prepared in turn.
 use Rattle.std.proofs.Common.{rules}
-use Rattle.std.proofs.Common.{List, Result, Err, inl, inr, ◌≡◌, ℕ, [], ◌∷◌, IsTrue, All, sym, subst, ◌∙◌, ◌+◌, ◌<◌, ◌≤◌, ◌++◌, length, map, take, get_or}
+use Rattle.std.proofs.Common.{List, Result, Err, inl, inr, ◌≡◌, ℕ, [], ◌∷◌, IsTrue, All, sym, subst, ◌+◌, ◌<◌, ◌≤◌, ◌++◌, length, map, take, get_or}
 use Rattle.std.proofs.Common.{zero, suc, Bor, add-one, arith}
 use Rattle.std.proofs.lemmas.Result.{IfErr-weaker, on_ok_weaker, on_err_weaker}
 use Rattle.std.proofs.Math.Seq.{take-suc, take_all}
@@ -63,9 +63,6 @@ module _ {S : Type 0} (g : Ghosts S) (old mid : Held S) (untouched : IsUntouched
 
 module _ (old mid new : State) (earlier : HasCleanDisk mid) (clean : HasCleanDisk new) (is_open : IsTrue new.is_open) (rest : IsIdle old)
     (read : IsKept old mid) (prepared : IsIdle mid → IsKept mid new) where
-  mid_is_idle : IsIdle mid
-  mid_is_idle opened = let k = read earlier opened in k.1 ∙ sym k.2
-
   pub found_ready : (version : ℕ) (texts : List (List ℕ)) (rows : List Row) → (row : Row) × (rows ≡ row ∷ []) × HasValues row (version_values version)
       → YieldsRows VERSION.now old.now rows
       → (IsIdle mid → All (IsUnderstood new.committed.schema) texts) → FoundReady version texts old new

@@ -1,5 +1,5 @@
 -- What the texts of the version and of its table are, over any tables.
-use Rattle.std.proofs.Common.{◌≡◌, ℕ, List, [], false, Option, None, Ok, Err, inl, inr, refl, sym, subst, ap, ◌∙◌, true≢false, ◌∷◌, Bool, true, Some, codes}
+use Rattle.std.proofs.Common.{◌≡◌, ℕ, List, [], false, Option, None, Ok, Err, inl, inr, refl, sym, subst, ap, ◌∙◌, true≢false, ◌∷◌, Bool, true, codes}
 use Rattle.std.specs.Prelude.{is_ok, if◌then◌else◌}
 use Rattle.std.proofs.lemmas.Bool.{cases_Bool}
 use Rattle.std.specs.Option.{option_or}
@@ -30,6 +30,7 @@ use Rattle.club_tables.specs.declared.texts.TheConstants.{VERSION, MAKE_DESK}
 use Rattle.club_tables.specs.Opening.{YieldsRows, HasNoDesk}
 use Rattle.sqlite_ast.specs.declared.Origin.TheVariants as origin
 use Rattle.sqlite_ast.specs.declared.Statement.TheVariants as written
+use Rattle.std.proofs.Common.{arith}
 
 abbrev returned_by : Checked Compiled → Option Returning
 returned_by (Ok c) = c.returning
@@ -55,8 +56,7 @@ planned_by names start end tail plan =
 commanded : (r : Checked Command) (names : List (List ℕ)) (start end tail : ℕ)
     → IsBare (and_then {A = List (List ℕ) × (Command × Option Returning)} (and_then {A = Command × Option Returning} (and_then r (λ c. Ok (c, None)))
     (λ found. Ok ([], found))) (λ plan. Ok (planned_by names start end tail plan)))
-commanded (Ok c) names start end tail = (refl, refl)
-commanded (Err e) names start end tail = (refl, refl)
+commanded r names start end tail = grind arith
 
 version_bare : (schema : Schema) → IsBare (compiled schema VERSION.now)
 unfolding everything
@@ -91,8 +91,7 @@ compiled_of schema r = and_then r (λ p. and_then (planned schema p) (λ plan. O
 stopped : (shown : Checked (Option Returning)) (e : CompileError) (p : Parsed) (formats : _)
     → is_ok (and_then (and_then (and_then shown (λ s. and_then (Err e) (λ c. Ok (c, s)))) (λ found. Ok (formats, found))) (λ plan. Ok (with_command p plan)))
     ≡ false
-stopped (Ok s) e p formats = refl
-stopped (Err other) e p formats = refl
+stopped shown e p formats = grind arith
 
 -- a text whose command is refused is refused
 unplanned : (schema : Schema) (p : Parsed) (e : CompileError) → ((base : ℕ) → command schema p.formats base p.statement ≡ Err e)
@@ -161,14 +160,10 @@ clubdesk_commands schema base = refl
 
 made_free : (kept : Bool) (same other : Option ℕ) → is_ok (makes_where kept same other) ≡ true → (same ≡ None) × (other ≡ None)
 unfolding creates is_reserved same_name
-made_free false None None h = (refl, refl)
-made_free true same other h = absurd cc
-made_free false same (Some at) h = absurd cc
-made_free false (Some at) None h = absurd cc
+made_free kept same other h = grind arith
 
 none_of : (a b : Option ℕ) → option_or a b ≡ None → (a ≡ None) × (b ≡ None)
-none_of None b h = (refl, h)
-none_of (Some at) b h = absurd cc
+none_of a b h = grind arith
 
 desk_unlisted : is_ok (if_select (compiled listing_schema MAKE_DESK.now)) ≡ false
 unfolding listing_schema everything
