@@ -99,8 +99,7 @@ contains_mapped f (x ∷ xs) y (suc k, low, is) =
     (later.0, (suc later.1.0, omega (arith, later.1.1), later.1.2), later.2)
 
 mapped_some : {X Y : Type 0} (f : X → Y) (o : Option X) (y : Y) → option_map f o ≡ Some y → (x : X) × (o ≡ Some x)
-mapped_some f None y h = absurd cc
-mapped_some f (Some x) y h = (x, refl)
+mapped_some f o y h = grind arith
 
 -- what is less than was there can be taken away
 minus : (m r : ℕ) → r ≤ m → m < 2 ^ 63 → binary (Arith Add) (whole m) (Int (neg_ℤ (pos r))) ≡ whole (m - r)

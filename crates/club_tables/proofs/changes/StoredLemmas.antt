@@ -107,9 +107,7 @@ older_pushed name keys key new =
     ap (option_and_then (λ (k : Key). k.older)) (find-append is_of keys (key ∷ [])) ∙ go (find is_of keys) (is_of key)
   where
     go : (o : Option Key) (b : Bool) → option_and_then (λ (k : Key). k.older) (option_or o (cond b (Some key) None)) ≡ option_and_then (λ (k : Key). k.older) o
-    go (Some k) b = refl
-    go None true = new
-    go None false = refl
+    go o b = grind arith
 
 older_mapped : (f : Key → Key) → ((key : Key) → (f key).name ≡ key.name) → (name : List ℕ) (keys : List Key)
     → option_and_then (λ (k : Key). k.older) (find (λ (k : Key). bytes_eq k.name name) (map f keys))
@@ -119,8 +117,7 @@ older_mapped f named name keys =
     ∙ ap (λ p. option_map f (find p keys)) (λ i k. bytes_eq (named k i) name)) ∙ of_changed (find (λ (k : Key). bytes_eq k.name name) keys)
   where
     of_changed : (o : Option Key) → option_and_then (λ (k : Key). k.older) (option_map f o) ≡ option_and_then (λ (k : Key). (f k).older) o
-    of_changed None = refl
-    of_changed (Some k) = refl
+    of_changed o = grind arith
 
 pub key_stored : (club : Club) (rows : Rows) → IsStoredAs club rows → IsSound club → (key : Key) → key.older ≡ None → IsSound (after (InsertKey key) club)
     → IsStoredAs (after (InsertKey key) club) (record rows { keys = rows.keys ++ key ∷ [] })

@@ -149,16 +149,14 @@ module _ {S : Type 0} (g : Ghosts S) (old : Held S) (db : Database) (ran : Ran g
       let left : HoldsRows next rows = search rules in
       subst (λ (d : Database). HoldsRows d rows) (sym is) left
 
-  pub migrated_tables : (club : Club) → HoldsClubVersion1 (state g old).now club → HoldsClub db club
-  migrated_tables club first =
-      record { rows = first.rows; holds_rows = migrated_rows first.rows first.holds_rows; storage = first.storage; sound = first.sound }
-
 -- the migrated tables hold the same club
 pub holds_first : {S : Type 0} (g : Ghosts S) (old : Held S) (db : Database) → Ran g 0 migration old db → HasCleanDisk (state g old)
     → (club : Club) (others : List Club) → RepresentsVersion1 (state g old) club others → HoldsClub db club
 holds_first g old db ran clean club others first =
     let is_open = ran.was_open (omega arith) in
-    migrated_tables g old db ran club (subst (λ (d : Database). HoldsClubVersion1 d club) (sym (first.idle clean is_open)) (first.held clean is_open))
+    let it = subst (λ (d : Database). HoldsClubVersion1 d club) (sym (first.idle clean is_open)) (first.held clean is_open) in
+    let left = migrated_rows g old db ran it.rows it.holds_rows in
+    search rules
 
 -- ---- the index of the bookings
 
@@ -171,9 +169,6 @@ module _ {S : Type 0} (g : Ghosts S) (old : Held S) (db : Database) (ran : Ran g
       let is : db ≡ (state g t1.0).now = ran.is ∙ ap (λ h. (state g h).now) t1.3 in
       subst (λ (d : Database). HoldsRows d rows) (sym is) (record { schema = c1.0; held = trees_kept c1.1 holds_rows.held; database = c1.2 })
 
-  indexed_tables : (club : Club) → HoldsClubUnindexed (state g old).now club → HoldsClub db club
-  indexed_tables club it = record { rows = it.rows; holds_rows = indexed_rows it.rows it.holds_rows; storage = it.storage; sound = it.sound }
-
 -- the tables with the index hold the same club
 pub holds_second : {S : Type 0} (g : Ghosts S) (old : Held S) (db : Database) → Ran g 0 index_batch old db → HasCleanDisk (state g old)
     → (club : Club) (others : List Club) → RepresentsVersion2 (state g old) club others → HoldsClub db club
@@ -182,7 +177,10 @@ holds_second g old db ran clean club others second =
     let now = second.idle clean is_open in
     elim (second.held clean is_open) [
       | inl tables ↦ absurd (never_ran ran (ap (λ (d : Database). d.schema) now ∙ tables.holds_rows.schema) indexes_again.0)
-      | inr it ↦ indexed_tables g old db ran club (subst (λ (d : Database). HoldsClubUnindexed d club) (sym now) it)
+      | inr unindexed ↦
+          let it = subst (λ (d : Database). HoldsClubUnindexed d club) (sym now) unindexed in
+          let left = indexed_rows g old db ran it.rows it.holds_rows in
+          search rules
     ]
 
 -- the index is there if it can be named

@@ -131,8 +131,7 @@ module _ (schema : Schema) (tables : table_named schema (codes "desk") ≡ None)
 
   not_stated : (formats : List (List ℕ)) (base : ℕ) (statement : Statement) → StatesDesk statement → command schema formats base statement ≡ Err NoSuchTable
   unfolding command
-  not_stated formats base (written.Select s) asks = not_read s asks
-  not_stated formats base _ asks = absurd asks
+  not_stated formats base statement asks = grind (arith, not_read)
 
   not_compiled : (r : Checked Parsed) → ReadsDesk r → is_ok (compiled_of schema r) ≡ false
   not_compiled (Ok p) reads = unplanned schema p NoSuchTable (λ base. not_stated p.formats base p.statement reads)
@@ -172,10 +171,7 @@ desk_unlisted = refl
 module _ (schema : Schema) where
   desk_compiled : is_ok (understood schema MAKE_DESK.now) ≡ true → is_ok (compiled schema MAKE_DESK.now) ≡ true
   unfolding understood
-  desk_compiled h = elim (cases_Bool (reads_listing schema MAKE_DESK.now)) [
-    | inl listed ↦ absurd (true≢false (sym (rw listed at h) ∙ desk_unlisted))
-    | inr unlisted ↦ rw unlisted at h
-  ]
+  desk_compiled h = grind (arith, desk_unlisted)
 
   is_commanded : (r : Checked Parsed) (c : Checked Command) → ((base : ℕ) → and_then r (λ p. command schema p.formats base p.statement) ≡ c)
       → is_ok (compiled_of schema r) ≡ true → is_ok c ≡ true
