@@ -63,10 +63,6 @@ IsSilent (Cancelled key number refund) = ⊥
 IsSilent (Refused refusals.Unavailable) = ⊥
 IsSilent reply = Unit {0}
 
-pub record RepeatsBooking (club : Club) (key : Key) (slot : Slot) (number guests : ℕ) (booking : Booking) : Type 0 where
-  pub found : booking_under key.name number club.bookings ≡ Some booking
-  pub same : (same_slot booking.slot slot && booking.guests == guests) ≡ true
-
 -- the booking that is written
 abbrev pub written : Club → Key → Slot → ℕ → ℕ → Facility → Booking
 written club key slot number guests facility = record {
@@ -87,11 +83,6 @@ pub record Books (club : Club) (key : Key) (member : Member) (slot : Slot) (numb
   pub placed : nat_lt facility.places (taken_in slot club.bookings + guests + 1) ≡ false
   pub paid : nat_lt (balance_of member (bookings_of member.name club)) (charge_of facility guests) ≡ false
 
-pub record CancelsRecorded (club : Club) (key : Key) (slot : Slot) (number : ℕ) (booking : Booking) : Type 0 where
-  pub found : booking_under key.name number club.bookings ≡ Some booking
-  pub same : same_slot booking.slot slot ≡ true
-  pub before : booking.cancelled ≡ true
-
 pub record Cancels (club : Club) (key : Key) (slot : Slot) (number : ℕ) (booking : Booking) : Type 0 where
   pub found : booking_under key.name number club.bookings ≡ Some booking
   pub same : same_slot booking.slot slot ≡ true
@@ -101,12 +92,14 @@ pub record Cancels (club : Club) (key : Key) (slot : Slot) (number : ℕ) (booki
 pub record Ways (P : Verdict → Type 0) (club : Club) (words : Words) (moment : ℕ) : Type 0 where
   pub silent : (reply : Reply) → IsSilent reply → P (verdicts.reply_only reply)
   pub repeats_booking : (key : Key) (member : Member) (slot : Slot) (number guests : ℕ) (booking : Booking) → Knows club words key member
-      → words.request ≡ asked.Book slot number guests → RepeatsBooking club key slot number guests booking → P (verdicts.booked_before booking)
+      → words.request ≡ asked.Book slot number guests → booking_under key.name number club.bookings ≡ Some booking
+      → (same_slot booking.slot slot && booking.guests == guests) ≡ true → P (verdicts.booked_before booking)
   pub books : (key : Key) (member : Member) (slot : Slot) (number guests : ℕ) (facility : Facility) → Knows club words key member
       → words.request ≡ asked.Book slot number guests → Books club key member slot number guests facility
       → P (verdicts.booked_now (written club key slot number guests facility) key.member)
   pub cancels_recorded : (key : Key) (member : Member) (slot : Slot) (number : ℕ) (booking : Booking) → Knows club words key member
-      → words.request ≡ asked.Cancel slot number → CancelsRecorded club key slot number booking → P (verdicts.cancelled_before booking)
+      → words.request ≡ asked.Cancel slot number → booking_under key.name number club.bookings ≡ Some booking → same_slot booking.slot slot ≡ true
+      → booking.cancelled ≡ true → P (verdicts.cancelled_before booking)
   pub cancels : (key : Key) (member : Member) (slot : Slot) (number : ℕ) (booking : Booking) → Knows club words key member
       → words.request ≡ asked.Cancel slot number → Cancels club key slot number booking
       → P (verdicts.cancelled_now booking key.member (refund_at booking moment))

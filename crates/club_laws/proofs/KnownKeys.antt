@@ -44,11 +44,11 @@ keyed_step club (Asked words moment) keyed =
     let Known : Booking → Type 0 = λ b. Contains (map (λ (k : Key). k.name) club.keys) b.key in
     answer_cases (λ (v : Verdict). IsKeyed (after_change v.change club)) club words moment (record {
       silent = λ reply h. keyed;
-      repeats_booking = λ key member slot number guests booking k e b. keyed;
+      repeats_booking = λ key member slot number guests booking k e found same. keyed;
       books = λ key member slot number guests facility k e b.
           let there = named_there (λ (x : Key). x.name) key.name club.keys key k.known in
           record { unique = keyed.unique; known = All-push Known club.bookings (written club key slot number guests facility) keyed.known there };
-      cancels_recorded = λ key member slot number booking k e b. keyed;
+      cancels_recorded = λ key member slot number booking k e found same before. keyed;
       cancels = λ key member slot number booking k e c.
           record { unique = keyed.unique; known = All-map Known (cancelled_booking booking.key booking.number _) club.bookings keyed.known };
     })

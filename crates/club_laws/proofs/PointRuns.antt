@@ -131,9 +131,9 @@ pub charge_moves : (p : List ℕ → Bool) (club : Club) (words : Words) (moment
 charge_moves p club words moment =
     answer_cases (λ (v : Verdict). MovesCharge p club.bookings (after_change v.change club).bookings (ToMember v.reply)) club words moment (record {
       silent = λ reply h. grind arith;
-      repeats_booking = λ key member slot number guests booking k e b. charge_again p club.bookings key.name number booking b.found;
+      repeats_booking = λ key member slot number guests booking k e found same. charge_again p club.bookings key.name number booking found;
       books = λ key member slot number guests facility k e b. charge_new p club.bookings (written club key slot number guests facility) b.new;
-      cancels_recorded = λ key member slot number booking k e b rest. refl;
+      cancels_recorded = λ key member slot number booking k e found same before rest. refl;
       cancels = λ key member slot number booking k e c. charge_cancelled p club.bookings booking.key booking.number (refund_at booking moment) booking;
     })
 
@@ -224,9 +224,9 @@ pub refund_moves : (p : List ℕ → Bool) (club : Club) (words : Words) (moment
 refund_moves p club words moment s =
     answer_cases (λ (v : Verdict). MovesRefund p club.bookings (after_change v.change club).bookings (ToMember v.reply)) club words moment (record {
       silent = λ reply h. grind arith;
-      repeats_booking = λ key member slot number guests booking k e b rest. refl;
+      repeats_booking = λ key member slot number guests booking k e found same rest. refl;
       books = λ key member slot number guests facility k e b. refund_booked p club.bookings (written club key slot number guests facility) refl refl;
-      cancels_recorded = λ key member slot number booking k e b. refund_again p club.bookings key.name number booking b.found b.before;
+      cancels_recorded = λ key member slot number booking k e found same before. refund_again p club.bookings key.name number booking found before;
       cancels = λ key member slot number booking k e c.
           let row = at_found IsBooking (is_numbered key.name number) club.bookings booking s.rows.bookings c.found in
           refund_new p club.bookings key.name number (refund_at booking moment) booking s.unique.bookings c.found c.still_booked (row.kept c.still_booked);

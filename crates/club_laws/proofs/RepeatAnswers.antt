@@ -98,14 +98,14 @@ pub recorded_when_served : (club : Club) (words : Words) (moment : ℕ) → IsBo
 recorded_when_served club words moment =
     answer_cases (λ (v : Verdict). IsBookedOrCancelled v.reply → IsRecorded (after_change v.change club).bookings words v.reply) club words moment (record {
       silent = λ reply h s. absurd (grind arith);
-      repeats_booking = λ key member slot number guests booking k e b s.
-          recorded club words _ _ key member number booking k (ap request_number e) b.found (rw e (b.same, refl));
+      repeats_booking = λ key member slot number guests booking k e found same s.
+          recorded club words _ _ key member number booking k (ap request_number e) found (rw e (same, refl));
       books = λ key member slot number guests facility k e b s.
           let new = written club key slot number guests facility in
           recorded club words _ _ key member number new k (ap request_number e)
           (found_last (is_numbered key.name number) club.bookings new b.new (self_numbered new)) (rw e (grind (arith, same_slots slot)));
-      cancels_recorded = λ key member slot number booking k e b s.
-          recorded club words _ _ key member number booking k (ap request_number e) b.found (rw e (b.same, b.before, refl));
+      cancels_recorded = λ key member slot number booking k e found same before s.
+          recorded club words _ _ key member number booking k (ap request_number e) found (rw e (same, before, refl));
       cancels = λ key member slot number booking k e c s.
           let mark = cancelled_booking booking.key booking.number (refund_at booking moment) in
           let same = c.same in

@@ -87,11 +87,11 @@ module _ (name : List ℕ) (club : Club) (keyed : IsKeyed club) where
       answer_cases (λ (v : Verdict). part_of name (after_change v.change club)
       ≡ cond (is_key_of name club key) (after_change v.change (part_of name club)) (part_of name club)) club words moment (record {
         silent = λ reply h. grind arith;
-        repeats_booking = λ row member slot number guests booking k e b. grind arith;
+        repeats_booking = λ row member slot number guests booking k e found same. grind arith;
         books = λ row member slot number guests facility k e b.
             let changed = part_changed name club (InsertBooking (written club row slot number guests facility) row.member) keyed.known tt in
             let named = k.key_name in grind arith;
-        cancels_recorded = λ row member slot number booking k e b. grind arith;
+        cancels_recorded = λ row member slot number booking k e found same before. grind arith;
         cancels = λ row member slot number booking k e c.
             let changed = part_changed name club (MarkCancelled booking row.member (refund_at booking moment)) keyed.known tt in
             let named = k.key_name in

@@ -260,9 +260,9 @@ pub sound_answer : (club : Club) (words : Words) (moment : ℕ) → IsSound club
 sound_answer club words moment s r =
     answer_cases (λ (v : Verdict). IsSound (after_change v.change club)) club words moment (record {
       silent = λ reply h. s;
-      repeats_booking = λ key member slot number guests booking k e b. s;
+      repeats_booking = λ key member slot number guests booking k e found same. s;
       books = λ key member slot number guests facility k e b. sound_booking club s words key member k slot number guests facility (subst IsRequest e r) b;
-      cancels_recorded = λ key member slot number booking k e b. s;
+      cancels_recorded = λ key member slot number booking k e found same before. s;
       cancels = λ key member slot number booking k e c. sound_cancellation club s words key member k slot number moment booking c;
     })
 
