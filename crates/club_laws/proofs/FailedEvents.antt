@@ -1,14 +1,14 @@
 -- Runs in which events failed: these are left out, one by one; runs are cut and joined. The machine itself never fails.
-use Rattle.std.proofs.Common.{◌≡◌, ◌≢◌, ℕ, false, arith, inl, List, [], ◌∷◌, ◌++◌, refl}
+use Rattle.std.proofs.Common.{◌≡◌, ◌≢◌, ℕ, false, arith, inl, [], ◌∷◌, refl}
 use Rattle.club_core.specs.declared.refusal.Refusal.TheVariants.{Unavailable}
 use Rattle.club_core.specs.declared.reply.Reply.TheVariants.{Refused}
 use Rattle.club_core.specs.declared.verdict.Verdict.{Verdict}
 use Rattle.club_core.specs.Answer.{verdict_in}
 use Rattle.club_core.specs.Club.{Club}
 use Rattle.club_core.specs.Pass.{Words}
-use Rattle.club_core.specs.Run.{Event, Asked, Commanded, step, ToMember, Response}
+use Rattle.club_core.specs.Run.{Event, Asked, Commanded, step, ToMember}
 use Rattle.club_laws.specs.Failed.{is_unavailable, CutsRuns, JoinsRuns, LeavesEvents, LeavesOutFailed, RunsWithoutFailures, Presentation, present_reply}
-use Rattle.club_laws.specs.Failed.{has_failed, IsRun, answered_events}
+use Rattle.club_laws.specs.Failed.{has_failed, answered_events}
 use Rattle.club_laws.proofs.AnswerCases.{answer_cases}
 use Rattle.std.proofs.lemmas.List.Elements.{All-nil, All-cons, All-head, All-tail}
 use Rattle.club_core.specs.declared.command.OfficeAnswer.{OfficeAnswer}
@@ -46,15 +46,13 @@ cut presentation club last (event ∷ front) rest (returned ∷ before) since e 
     record { now = parts.now; first = (h.0, h.1, parts.first); second = parts.second }
 cut presentation club last front rest before since e h = absurd (omega arith)
 
-pub join : {O : Type 0} (presentation : Presentation O) (club now last : Club) (front rest : List Event) (before since : List (Response O))
-    → IsRun presentation club front before now → IsRun presentation now rest since last → IsRun presentation club (front ++ rest) (before ++ since) last
-join presentation club now last [] rest [] since h k = rw (← h) k
-join presentation club now last (event ∷ front) rest (returned ∷ before) since h k =
-    (h.0, h.1, join presentation h.0 now last front rest before since h.2 k)
-join presentation club now last front rest before since h k = absurd h
-
-pub joined : {O : Type 0} → JoinsRuns O
-joined presentation club last front rest before since runs = join presentation club runs.now last front rest before since runs.first runs.second
+pub join : {O : Type 0} → JoinsRuns O
+join presentation club last [] rest [] since runs = rw (← runs.first) runs.second
+join presentation club last (event ∷ front) rest (returned ∷ before) since runs =
+    let first = runs.first in
+    let later = join presentation first.0 last front rest before since (record { now = runs.now; first = first.2; second = runs.second }) in
+    (first.0, first.1, later)
+join presentation club last front rest before since runs = absurd runs.first
 
 -- the machine's own run
 not_failed : {O : Type 0} (presentation : Presentation O) → ((answer : OfficeAnswer) → presentation.is_fault (presentation.shown answer) ≡ false)

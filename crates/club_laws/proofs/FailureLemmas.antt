@@ -77,7 +77,7 @@ repeat_with_failures set signature presentation club last history rest before si
     let served = served_in_machine_run presentation club parts.now history before words reply parts.first was in
     let again = step_of_repeat set signature club (answered_events presentation history before) words moment reply served accepted in
     let one = repeat_of_step presentation parts.now parts.second.0 words moment returned reply (rw (← left) at again) parts.second.1 in
-    (one.0, join presentation club parts.now last history rest before since parts.first (rw one.1 at parts.second.2))
+    (one.0, join presentation club last history rest before since (record { now = parts.now; first = parts.first; second = rw one.1 at parts.second.2 }))
 
 -- what was served is on record after one event more
 served_and_more : (club : Club) (history : List Event) (event : Event) (words : Words) (reply : Reply) → WasServed club history words reply

@@ -32,7 +32,8 @@ use Rattle.club_laws.proofs.KeyOwners.{owner}
 use Rattle.club_laws.proofs.KnownKeys.{IsKeyed, keyed_step, keyed_from_sound}
 use Rattle.std.proofs.lemmas.Simd.{map-map}
 use Rattle.club_laws.specs.RunsWithFailures.{SoloLawWithFailures}
-use Rattle.club_laws.specs.SoloLaw.{is_ask, replies_to, solo_part}
+use Rattle.club_laws.specs.Frame.{LeavesThePart}
+use Rattle.club_laws.specs.SoloLaw.{EndsWithThePart, is_ask, replies_to, solo_part}
 use Rattle.club_laws.specs.Failed.{present_reply, answered_events}
 use Rattle.club_laws.proofs.FailedEvents.{run_of_answered}
 
@@ -146,6 +147,9 @@ pub follows : (name : List ℕ) (club : Club) (event : Event) → IsKeyed club
 follows name club (Asked words moment) keyed = ask_follows name club keyed words moment (basis_of club words) refl
 follows name club (Commanded command) keyed = command_follows name club keyed command
 
+pub leaves_the_part : LeavesThePart
+leaves_the_part name club event sound none = rw none at (follows name club event (keyed_from_sound club sound))
+
 -- ---- the solo law, by an induction over the two runs
 
 -- one event of the run is its own entry in the solo machine
@@ -166,6 +170,9 @@ solo name club (event ∷ events) keyed =
     one_more (own_part name club event) (part_of name club) (part_of name next) (part_of name (club_after next events)) (step club event).reply
     (own_events name next events) (replies_to name next events (replies_of next events)) (follows name club event keyed)
     (solo name next events (keyed_step club event keyed))
+
+pub ends_with_the_part : EndsWithThePart
+ends_with_the_part name club events sound = (solo name club events (keyed_from_sound club sound)).1
 
 -- however the replies are presented, those to the member's requests are the same ones
 replies_mapped : {A B : Type 0} (f : A → B) (name : List ℕ) (club : Club) (events : List Event) (replies : List A)

@@ -23,7 +23,7 @@ pub fn cuts_runs<O>()
 {}
 
 /// Two such runs can be joined to one.
-#[tactic(auto, using(crate::proofs::FailedEvents::joined))]
+#[tactic(auto, using(crate::proofs::FailedEvents::join))]
 pub fn joins_runs<O>()
     ensures { JoinsRuns O }
 {}

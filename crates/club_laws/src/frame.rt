@@ -9,6 +9,7 @@ pub fn changes_the_part_alike()
 {}
 
 /// An event that isn't the member's own leaves the member's part unchanged.
+#[tactic(auto, using(crate::proofs::SoloRuns::leaves_the_part))]
 pub fn leaves_the_part()
     ensures { LeavesThePart }
 {}

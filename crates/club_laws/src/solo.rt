@@ -17,6 +17,7 @@ pub fn solo_law_of_two()
 {}
 
 /// The member's own events leave the member's part at the end of the run.
+#[tactic(auto, using(crate::proofs::SoloRuns::ends_with_the_part))]
 pub fn ends_with_the_part()
     ensures { EndsWithThePart }
 {}
