@@ -1,18 +1,28 @@
--- Runs in which events failed: these are left out, one by one; runs are cut and joined. The machine itself never fails.
-use Rattle.std.proofs.Common.{◌≡◌, ◌≢◌, ℕ, false, arith, inl, [], ◌∷◌, refl}
+-- Runs in which events failed: these are left out, one by one, so the laws hold of them too. The machine itself never fails.
+use Rattle.std.proofs.Common.{◌≡◌, ◌≢◌, ℕ, false, arith, inl, [], ◌∷◌, refl, List, ◌++◌, length, append_assoc}
 use Rattle.club_core.specs.declared.refusal.Refusal.TheVariants.{Unavailable}
 use Rattle.club_core.specs.declared.reply.Reply.TheVariants.{Refused}
 use Rattle.club_core.specs.declared.verdict.Verdict.{Verdict}
 use Rattle.club_core.specs.Answer.{verdict_in}
-use Rattle.club_core.specs.Club.{Club}
+use Rattle.club_core.specs.Club.{Club, empty_club}
 use Rattle.club_core.specs.Pass.{Words}
-use Rattle.club_core.specs.Run.{Event, Asked, Commanded, step, ToMember}
+use Rattle.club_core.specs.Run.{Event, Asked, Commanded, step, ToMember, Response}
 use Rattle.club_laws.specs.Failed.{is_unavailable, CutsRuns, JoinsRuns, LeavesEvents, LeavesOutFailed, RunsWithoutFailures, Presentation, present_reply}
-use Rattle.club_laws.specs.Failed.{has_failed, answered_events}
+use Rattle.club_laws.specs.Failed.{has_failed, answered_events, IsStep, IsRun}
 use Rattle.club_laws.proofs.AnswerCases.{answer_cases}
 use Rattle.std.proofs.lemmas.List.Elements.{All-nil, All-cons, All-head, All-tail}
 use Rattle.club_core.specs.declared.command.OfficeAnswer.{OfficeAnswer}
 use Rattle.club_core.specs.Events.{IsEvent}
+use Rattle.pass_caveats.specs.Laws.{TestsTheSet}
+use Rattle.club_core.specs.declared.reply.Reply.{Reply}
+use Rattle.club_core.specs.Laws.{TestsTheSignature}
+use Rattle.club_laws.specs.RunsWithFailures.{ConservesWithFailures, PlacesWithFailures, SoundWithFailures, RepeatsWithFailures, RepeatsAfterOneMore}
+use Rattle.club_laws.specs.RunsWithFailures.{WasReturned}
+use Rattle.club_laws.specs.Repeats.{IsBookedOrCancelled, WasServed}
+use Rattle.club_laws.proofs.PointRuns.{conserved, has_room}
+use Rattle.club_laws.proofs.KeptByRuns.{club_after-append}
+use Rattle.club_laws.proofs.RepeatAnswers.{step_of_repeat}
+use Rattle.club_laws.proofs.SoundSteps.{sound_run}
 
 pub answers_requests : (club : Club) (words : Words) (moment : ℕ) → is_unavailable (verdict_in club words moment).reply ≡ false
 answers_requests club words moment = answer_cases (λ (v : Verdict). is_unavailable v.reply ≡ false) club words moment (grind arith)
@@ -67,4 +77,96 @@ run_without_failures presentation club (event ∷ events) faultless =
       outcome.club,
       inl (record { success = not_failed presentation faultless club event; reply = refl; steps_club = refl }),
       run_without_failures presentation outcome.club events faultless,
+    )
+
+-- ---- the laws over runs in which some events failed: the same laws over the events that were answered
+
+pub sound_with_failures : {O : Type 0} → SoundWithFailures O
+sound_with_failures presentation club last events replies s h run =
+    let left = (run_of_answered presentation club last events replies run).left in
+    rw left (sound_run club (answered_events presentation events replies) s (events_left presentation events replies h))
+
+pub conserved_with_failures : {O : Type 0} → ConservesWithFailures O
+conserved_with_failures presentation last events replies name member h run is =
+    let left = (run_of_answered presentation empty_club last events replies run).left in
+    rw left (conserved (answered_events presentation events replies) name member (events_left presentation events replies h) (rw left at is))
+
+pub places_with_failures : {O : Type 0} → PlacesWithFailures O
+places_with_failures presentation last events replies slot h run =
+    let left = (run_of_answered presentation empty_club last events replies run).left in
+    rw left (has_room (answered_events presentation events replies) slot (events_left presentation events replies h))
+
+module _ {O : Type 0} (presentation : Presentation O) where
+  answered-append : (front rest : List Event) (before since : List (Response O)) → length before ≡ length front
+      → answered_events presentation (front ++ rest) (before ++ since) ≡ answered_events presentation front before ++ answered_events presentation rest since
+  answered-append [] rest [] since e = refl
+  answered-append (event ∷ front) rest (returned ∷ before) since e = grind (arith, answered-append front rest before since (omega arith))
+  answered-append front rest before since e = absurd (omega arith)
+
+  -- a booking or a cancellation that was served didn't fail
+  served_by_machine : (club next : Club) (words : Words) (moment : ℕ) (reply : Reply) → IsBookedOrCancelled reply
+      → IsStep presentation club (Asked words moment) (ToMember reply) next
+      → (is_unavailable reply ≡ false) × ((step club (Asked words moment)).reply ≡ ToMember reply)
+  served_by_machine club next words moment reply h step = grind arith
+
+  -- a request with a serving reply was served in the machine's run of the answered events
+  served_in_machine_run : (club now : Club) (history : List Event) (before : List (Response O)) (words : Words) (reply : Reply)
+      → IsRun presentation club history before now
+      → WasReturned history before words reply → WasServed club (answered_events presentation history before) words reply
+  served_in_machine_run club now history before words reply run w =
+      let parts = cut presentation club now w.front (Asked w.first w.moment ∷ w.rest) w.before (ToMember reply ∷ w.since) w.beside
+      (rw (w.place, w.reply_place) at run) in
+      let left = (run_of_answered presentation club parts.now w.front w.before parts.first).left in
+      let served = served_by_machine parts.now parts.second.0 w.first w.moment reply w.success parts.second.1 in
+      record {
+        front = answered_events presentation w.front w.before;
+        first = w.first;
+        moment = w.moment;
+        rest = answered_events presentation w.rest w.since;
+        place = rw (w.place, w.reply_place, answered-append w.front _ w.before _ w.beside, served.0) refl;
+        reply_is = rw (← left) served.1;
+        success = w.success;
+        same_key = w.same_key;
+        same_request = w.same_request;
+      }
+
+  repeat_of_step : (club next : Club) (words : Words) (moment : ℕ) (returned : Response O) (reply : Reply)
+      → step club (Asked words moment) ≡ record { reply = ToMember reply; club = club } → IsStep presentation club (Asked words moment) returned next
+      → (has_failed presentation (Asked words moment) returned ≡ false → returned ≡ ToMember reply) × (next ≡ club)
+  repeat_of_step club next words moment returned reply again step = grind arith
+
+pub repeat_with_failures : TestsTheSet → TestsTheSignature → {O : Type 0} → RepeatsWithFailures O
+repeat_with_failures set signature presentation club last history rest before since words moment returned reply beside run was accepted =
+    let parts = cut presentation club last history (Asked words moment ∷ rest) before (returned ∷ since) beside run in
+    let left = (run_of_answered presentation club parts.now history before parts.first).left in
+    let served = served_in_machine_run presentation club parts.now history before words reply parts.first was in
+    let again = step_of_repeat set signature club (answered_events presentation history before) words moment reply served accepted in
+    let one = repeat_of_step presentation parts.now parts.second.0 words moment returned reply (rw (← left) at again) parts.second.1 in
+    (one.0, join presentation club last history rest before since (record { now = parts.now; first = parts.first; second = rw one.1 at parts.second.2 }))
+
+-- what was served is on record after one event more
+served_and_more : (club : Club) (history : List Event) (event : Event) (words : Words) (reply : Reply) → WasServed club history words reply
+    → WasServed club (history ++ event ∷ []) words reply
+served_and_more club history event words reply w = record {
+  front = w.front;
+  first = w.first;
+  moment = w.moment;
+  rest = w.rest ++ event ∷ [];
+  place = rw (w.place, append_assoc) refl;
+  reply_is = w.reply_is;
+  success = w.success;
+  same_key = w.same_key;
+  same_request = w.same_request;
+}
+
+pub again_with_failures : TestsTheSet → TestsTheSignature → {O : Type 0} → RepeatsAfterOneMore O
+again_with_failures set signature presentation club last events replies run =
+    let answered = answered_events presentation events replies in
+    let left = (run_of_answered presentation club last events replies run).left in
+    let served = λ (words : Words) (reply : Reply). served_in_machine_run presentation club last events replies words reply run in
+    rw left (
+      λ words moment reply was accepted. step_of_repeat set signature club answered words moment reply (served words reply was) accepted,
+      λ event words moment reply was. rw (← club_after-append club answered (event ∷ []))
+          (step_of_repeat set signature club (answered ++ event ∷ []) words moment reply
+          (served_and_more club answered event words reply (served words reply was))),
     )

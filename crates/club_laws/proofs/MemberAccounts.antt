@@ -20,7 +20,7 @@ use Rattle.club_core.specs.After.{credited_member, revoked_key, rotated_key}
 use Rattle.club_core.specs.Run.{Event, Asked, Commanded, step, after_change, command_outcome, replies_of, club_after}
 use Rattle.club_laws.specs.Points.{key_given, keys_given, credit_accepted, credits_accepted}
 use Rattle.club_laws.proofs.FoundRows.{bytes_same}
-use Rattle.club_laws.proofs.KeyOwners.{is_key_of-added, is_key_of-edited}
+use Rattle.club_laws.proofs.MemberParts.{is_key_of-added, is_key_of-edited}
 use Rattle.club_laws.proofs.AnswerCases.{answer_cases, command_cases, CommandRestsOn, change_of}
 
 -- requests change only bookings

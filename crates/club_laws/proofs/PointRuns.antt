@@ -1,8 +1,8 @@
 -- Points and places over runs. A total over bookings moves with the entries in each reply: charges with replies to bookings, refunds with
 -- replies to cancellations.
 use Rattle.std.proofs.Common.{get_or, ◌≡◌, ℕ, ◌+◌, Bool, true, false, cond, List, [], ◌∷◌, ◌++◌, ap, ◌∙◌, arith, map, Some, None, refl, ◌≤◌, Option, sym}
-use Rattle.std.proofs.Common.{flat_map}
-use Rattle.std.specs.Prelude.{◌&&◌, ◌||◌, ◌==◌, not, filter, sum_by, find, AllPairs, Result, All, MatchOption}
+use Rattle.std.proofs.Common.{flat_map, ◌-◌, not}
+use Rattle.std.specs.Prelude.{◌&&◌, ◌||◌, ◌==◌, not, filter, sum_by, find, AllPairs, Result, All, MatchOption, option_map}
 use Rattle.std.specs.Str.{bytes_eq}
 use Rattle.std.proofs.lemmas.List.Elements.{filter_agree, All-head, All-tail, All-filter}
 use Rattle.std.proofs.lemmas.List.Sums.{sum_by-cons}
@@ -33,11 +33,15 @@ use Rattle.club_rows.specs.declared.member.Member.{Member}
 use Rattle.club_rows.specs.declared.facility.Facility.{Facility}
 use Rattle.club_core.specs.declared.change.Change.{Change}
 use Rattle.club_core.specs.declared.command.OfficeFault.{OfficeFault}
-use Rattle.club_core.specs.Sums.{cost_of, taken_in}
+use Rattle.club_core.specs.Sums.{cost_of, taken_in, is_under}
 use Rattle.club_core.specs.Events.{IsEvent}
 use Rattle.club_laws.specs.Conservation.{ConservesPoints, SoundClubsHavePlaces, NeverOverbooks}
 use Rattle.club_laws.proofs.SoundSteps.{nobody_in, sound_step, sound_run}
 use Rattle.club_laws.proofs.MemberAccounts.{is_among, keys_of_run, credit_of, credit_of_run}
+use Rattle.std.proofs.lemmas.List.Filters.{sum_by-filter_both}
+use Rattle.club_core.specs.Basis.{club_account}
+use Rattle.club_laws.specs.Spending.{AccountsShowWhatIsUsed, SpendsWithinItsMember}
+use Rattle.club_core.specs.Laws.{OwnBookings}
 
 -- which keys and numbers are on record
 abbrev pub Seen : Type 0
@@ -327,3 +331,24 @@ has_places club slot sound = go (facility_named slot.facility club) refl
 
 pub has_room : NeverOverbooks
 has_room events slot h = has_places (club_after empty_club events) slot (sound_run empty_club events sound_empty h)
+
+-- ---- what a member has used, by the bookings of its keys and by its account
+
+pub spent_within : OwnBookings → SpendsWithinItsMember
+spent_within own club key here =
+    let bookings = bookings_of key.member club in
+    let parts = sum_by-filter_both (is_under key.name) (λ (b : Booking). not (is_under key.name b)) (λ _. refl) cost_of bookings in
+    let spent = (own club key here).spent in
+    omega arith
+
+pub used_of_account : AccountsShowWhatIsUsed
+used_of_account club name account sound e = go (member_named name club) refl e
+  where
+    go : (found : Option Member) → member_named name club ≡ found → option_map (club_account club) found ≡ Some account
+        → account.member.credited - account.balance ≡ sum_by cost_of (bookings_of name club)
+    go None row e = absurd (cc)
+    go (Some member) row e =
+        let covered = at_found (λ (m : Member). sum_by cost_of (bookings_of m.name club) ≤ m.credited) (λ (m : Member). bytes_eq m.name name)
+        club.members member sound.balances row in
+        let is : account ≡ club_account club member = cc in
+        rw (is, ← named (λ (m : Member). m.name) name club.members member row) (omega arith)

@@ -15,7 +15,7 @@ use Rattle.club_core.specs.Solo.{outside, part_of, with_others, OwnEvent, OwnAsk
 use Rattle.club_core.specs.Solo.{solo_replies}
 use Rattle.club_laws.proofs.FoundRows.{found_passes, find_filtered, bytes_same, same_bytes_of, numbered, is_numbered}
 use Rattle.club_laws.proofs.FilteredRows.{filter_twice, sum_in_parts}
-use Rattle.club_laws.proofs.ChangedParts.{is_named, is_owned, has_name, is_under_one, IsFresh, part_changed}
+use Rattle.club_laws.proofs.MemberParts.{is_named, is_owned, has_name, is_under_one, IsFresh, part_changed, owner, IsKeyed, keyed_step, keyed_from_sound}
 use Rattle.club_laws.proofs.AnswerCases.{known_rows, whole_basis, is_own_key, answer_cases, written, CommandRestsOn, change_of, command_cases}
 use Rattle.std.proofs.lemmas.Slice.Eq.{bytes_eq-Decides}
 use Rattle.club_core.specs.declared.change.Change.{Change}
@@ -28,8 +28,6 @@ use Rattle.club_core.specs.After.{after}
 use Rattle.club_core.specs.Answer.{answer_by_basis, verdict_in}
 use Rattle.club_core.specs.Office.{office_verdict}
 use Rattle.club_core.specs.Run.{Event, Asked, Commanded, step, after_change, command_outcome, EventReply, ToMember, replies_of, club_after}
-use Rattle.club_laws.proofs.KeyOwners.{owner}
-use Rattle.club_laws.proofs.KnownKeys.{IsKeyed, keyed_step, keyed_from_sound}
 use Rattle.std.proofs.lemmas.Simd.{map-map}
 use Rattle.club_laws.specs.RunsWithFailures.{SoloLawWithFailures}
 use Rattle.club_laws.specs.Frame.{LeavesThePart}

@@ -23,7 +23,7 @@ use Rattle.club_core.specs.Club.{Club, keys_of, is_key_of, bookings_of, IsSound,
 use Rattle.club_laws.proofs.FoundRows.{AllPairs-map, All-each, fresh_differs, still_there, still_all, none_named, named_there, only_named, none_passes}
 use Rattle.club_laws.proofs.FoundRows.{same_slots, at_found, none_found, slots_same, is_numbered, only_numbered, found_by_own, found_passes, numbered}
 use Rattle.club_laws.proofs.FilteredRows.{filter_none, sum_one_more, sum_no_more}
-use Rattle.club_laws.proofs.KeyOwners.{edited, bookings_of-added, bookings_of-edited, owner}
+use Rattle.club_laws.proofs.MemberParts.{edited, bookings_of-added, bookings_of-edited, owner}
 use Rattle.std.proofs.lemmas.Bool.Decides.{nat_tests}
 use Rattle.club_core.specs.declared.command.Command.{Command}
 use Rattle.club_core.specs.declared.command.Command.TheVariants.{AddMember, Credit, AddFacility, AddKey, RevokeKey, RotateKey, CloseSlot}

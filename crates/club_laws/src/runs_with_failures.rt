@@ -15,7 +15,7 @@ use club_core::laws::tests_the_signature;
 use pass_caveats::laws::tests_the_set;
 
 /// A run from a sound club ends in a sound club.
-#[tactic(auto, using(crate::proofs::FailureLemmas::sound_with_failures))]
+#[tactic(auto, using(crate::proofs::FailedEvents::sound_with_failures))]
 pub fn keeps_sound<O>()
     ensures { SoundWithFailures O }
 {}
@@ -26,7 +26,7 @@ pub fn conserves_points<O>()
 {}
 
 /// A slot has a place for each person who booked it.
-#[tactic(auto, using(crate::proofs::FailureLemmas::places_with_failures))]
+#[tactic(auto, using(crate::proofs::FailedEvents::places_with_failures))]
 pub fn never_overbooks<O>()
     ensures { PlacesWithFailures O }
 {}

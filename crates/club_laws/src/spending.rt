@@ -5,7 +5,7 @@ ghost use Rattle.club_laws.specs.Spending.{AccountsShowWhatIsUsed, SpendsWithinI
 use club_core::laws::own_bookings_suffice;
 
 /// No key has spent more than its member has used.
-#[tactic(auto, using(crate::proofs::UsedPoints::spent_within))]
+#[tactic(auto, using(crate::proofs::PointRuns::spent_within))]
 pub fn spends_within_its_member()
     ensures { SpendsWithinItsMember }
 {
@@ -13,7 +13,7 @@ pub fn spends_within_its_member()
 }
 
 /// In a sound club, an account's credit less its balance is what the member has used.
-#[tactic(auto, using(crate::proofs::UsedPoints::used_of_account))]
+#[tactic(auto, using(crate::proofs::PointRuns::used_of_account))]
 pub fn accounts_show_what_is_used()
     ensures { AccountsShowWhatIsUsed }
 {}

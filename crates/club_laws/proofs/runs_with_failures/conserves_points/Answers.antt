@@ -1,4 +1,4 @@
-use Rattle.club_laws.proofs.FailureLemmas.{conserved_with_failures}
+use Rattle.club_laws.proofs.FailedEvents.{conserved_with_failures}
 use Rattle.club_laws.proofs.runs_with_failures.conserves_points.Goals as goal
 
 pub returns : goal.returns

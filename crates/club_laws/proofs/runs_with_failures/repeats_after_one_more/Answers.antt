@@ -1,4 +1,4 @@
-use Rattle.club_laws.proofs.FailureLemmas.{again_with_failures}
+use Rattle.club_laws.proofs.FailedEvents.{again_with_failures}
 use Rattle.club_laws.proofs.runs_with_failures.repeats_after_one_more.Goals as goal
 
 pub returns : goal.returns

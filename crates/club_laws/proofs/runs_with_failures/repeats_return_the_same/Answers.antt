@@ -1,4 +1,4 @@
-use Rattle.club_laws.proofs.FailureLemmas.{repeat_with_failures}
+use Rattle.club_laws.proofs.FailedEvents.{repeat_with_failures}
 use Rattle.club_laws.proofs.runs_with_failures.repeats_return_the_same.Goals as goal
 
 pub returns : goal.returns

@@ -1,4 +1,4 @@
-use Rattle.club_laws.proofs.RevokedKeys.{serves_nothing}
+use Rattle.club_laws.proofs.ServedPasses.{serves_nothing}
 use Rattle.club_laws.proofs.single_request.serves_no_revoked_key.Goals as goal
 
 pub returns : goal.returns

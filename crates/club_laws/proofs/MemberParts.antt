@@ -1,0 +1,212 @@
+-- Whose keys are, and a member's part: what each kind of change makes of them.
+use Rattle.std.proofs.Common.{◌≡◌, ◌≢◌, ℕ, Bool, true, List, [], ◌∷◌, ◌++◌, get_or, map, Option, Some, sym, ◌∙◌, arith, false, cond, filter, None, All}
+use Rattle.std.proofs.Common.{Contains, append-nil, bytes_eq, refl, suc, find, length, AllPairs, ap, subst, length-append, Result}
+use Rattle.std.proofs.lemmas.Slice.Eq.{bytes_eq-Decides}
+use Rattle.std.specs.Prelude.{All, AllPairs, Contains, ◌&&◌, ◌||◌}
+use Rattle.std.specs.Str.{bytes_eq}
+use Rattle.std.specs.List.{list_any}
+use Rattle.std.proofs.lemmas.List.Folds.{list_any-append, Any-from_list_any}
+use Rattle.club_rows.specs.declared.key.Key.{Key}
+use Rattle.club_rows.specs.declared.key.OlderRoot.{OlderRoot}
+use Rattle.club_rows.specs.declared.booking.Booking.{Booking}
+use Rattle.club_core.specs.Club.{Club, key_named, is_key_of, bookings_of, keys_of, IsSound}
+use Rattle.club_laws.proofs.FoundRows.{any-filter, any-map, fresh_differs, only_named, none_named, other_bytes, AllPairs-map, still_there, named_there}
+use Rattle.club_laws.proofs.FilteredRows.{filter_same, filter_fixed, fixed_where_none, filter-map}
+use Rattle.std.proofs.lemmas.List.Elements.{filter-append, All-push, All-map}
+use Rattle.club_rows.specs.declared.member.Member.{Member}
+use Rattle.club_core.specs.declared.change.Change.{Change}
+use Rattle.club_core.specs.declared.change.Change.TheVariants.{InsertMember, AddCredit, InsertFacility, InsertKey, MarkRevoked, ReplaceRoot, MarkClosed}
+use Rattle.club_core.specs.declared.change.Change.TheVariants.{InsertBooking, MarkCancelled}
+use Rattle.club_core.specs.After.{after, credited_member, revoked_key, rotated_key, cancelled_booking}
+use Rattle.club_core.specs.Solo.{part_of}
+use Rattle.club_laws.specs.Frame.{part_after}
+use Rattle.std.proofs.lemmas.List.{get_or-append-add}
+use Rattle.std.proofs.lemmas.List.Quantifiers.{all_pairs_push}
+use Rattle.std.proofs.lemmas.Simd.{map-map}
+use Rattle.club_core.specs.declared.verdict.Verdict.{Verdict}
+use Rattle.club_core.specs.declared.command.Command.{Command}
+use Rattle.club_core.specs.declared.command.Command.TheVariants.{AddKey, RevokeKey, RotateKey}
+use Rattle.club_core.specs.declared.command.OfficeFault.{OfficeFault}
+use Rattle.club_core.specs.Run.{Event, Asked, Commanded, step, after_change, command_outcome}
+use Rattle.club_laws.proofs.AnswerCases.{answer_cases, written, CommandRestsOn, change_of, command_cases}
+
+-- whether the key has this name and this member
+abbrev pub is_own : List ℕ → List ℕ → Key → Bool
+is_own member name key = bytes_eq key.member member && bytes_eq key.name name
+
+pub is_key_of-any : (member : List ℕ) (club : Club) (name : List ℕ) → is_key_of member club name ≡ list_any (is_own member name) club.keys
+is_key_of-any member club name = any-filter (λ (key : Key). bytes_eq key.name name) (λ (key : Key). bytes_eq key.member member) club.keys
+
+pub is_key_of-added : (member : List ℕ) (club : Club) (key : Key) (name : List ℕ)
+    → is_key_of member (record club { keys = club.keys ++ key ∷ [] }) name ≡ (is_key_of member club name || is_own member name key)
+is_key_of-added member club key name =
+    grind (
+      arith,
+      is_key_of-any member (record club { keys = club.keys ++ key ∷ [] }) name,
+      is_key_of-any member club name,
+      list_any-append (is_own member name) club.keys (key ∷ []),
+    )
+
+-- an edit of a key's row that keeps its name and its member
+abbrev pub edited : (Key → List ℕ) → (Key → Option OlderRoot) → (Key → Bool) → Key → Key
+edited root older is_revoked key = record key { root = root key; older = older key; revoked = is_revoked key }
+
+pub is_key_of-edited : (root : Key → List ℕ) (older : Key → Option OlderRoot) (is_revoked : Key → Bool) (member : List ℕ) (club : Club) (name : List ℕ)
+    → is_key_of member (record club { keys = map (edited root older is_revoked) club.keys }) name ≡ is_key_of member club name
+is_key_of-edited root older is_revoked member club name =
+    is_key_of-any member (record club { keys = map (edited root older is_revoked) club.keys }) name
+    ∙ (any-map (edited root older is_revoked) (is_own member name) club.keys ∙ sym (is_key_of-any member club name))
+
+-- a key that nobody has booked under changes nobody's bookings
+pub bookings_of-added : (member : List ℕ) (club : Club) (key : Key) → All (λ (other : Key). other.name ≢ key.name) club.keys
+    → All (λ (booking : Booking). Contains (map (λ (k : Key). k.name) club.keys) booking.key) club.bookings
+    → bookings_of member (record club { keys = club.keys ++ key ∷ [] }) ≡ bookings_of member club
+bookings_of-added member club key fresh known =
+    filter_same (λ (booking : Booking). is_key_of member (record club { keys = club.keys ++ key ∷ [] }) booking.key) (λ (booking : Booking).
+    is_key_of member club booking.key) club.bookings
+    (λ k d short.
+    let name = (get_or club.bookings k d).key in
+    let differs = fresh_differs (λ (k : Key). k.name) key.name name club.keys fresh (known k d short) in
+    grind (arith, is_key_of-added member club key name, bytes_eq-Decides name key.name, bytes_eq-Decides key.name name))
+
+pub bookings_of-edited : (root : Key → List ℕ) (older : Key → Option OlderRoot) (is_revoked : Key → Bool) (member : List ℕ) (club : Club)
+    → bookings_of member (record club { keys = map (edited root older is_revoked) club.keys }) ≡ bookings_of member club
+bookings_of-edited root older is_revoked member club =
+    filter_same (λ (booking : Booking). is_key_of member (record club { keys = map (edited root older is_revoked) club.keys }) booking.key)
+    (λ (booking : Booking). is_key_of member club booking.key) club.bookings
+    (λ k d short. is_key_of-edited root older is_revoked member club (get_or club.bookings k d).key)
+
+-- if names are unique, whoever's key it is, is the member that its row names
+pub owner : (club : Club) → AllPairs (λ (a : Key) (b : Key). a.name ≢ b.name) club.keys → (key : Key) → key_named key.name club ≡ Some key → (name : List ℕ)
+    → is_key_of name club key.name ≡ true → name ≡ key.member
+owner club unique key known name e =
+    let any = Any-from_list_any (is_own name key.name) club.keys (sym (is_key_of-any name club key.name) ∙ e) in
+    let only = only_named (λ (x : Key). x.name) key.name club.keys key unique known any.0 any.1 any.2 in
+    grind (arith, bytes_eq-Decides any.1.member name, any.3, any.4)
+
+-- ---- what each kind of change does to a member's part
+
+abbrev pub is_named : List ℕ → Member → Bool
+is_named name member = bytes_eq member.name name
+
+abbrev pub is_owned : List ℕ → Key → Bool
+is_owned name key = bytes_eq key.member name
+
+abbrev pub has_name : List ℕ → Key → Bool
+has_name name key = bytes_eq key.name name
+
+-- whether a booking is under one of these keys
+abbrev pub is_under_one : List Key → Booking → Bool
+is_under_one keys booking = list_any (has_name booking.key) keys
+
+-- each booking is under a key of the club
+abbrev pub HasKnownKeys : Club → Type 0
+HasKnownKeys club = All (λ (booking : Booking). Contains (map (λ (key : Key). key.name) club.keys) booking.key) club.bookings
+
+-- an edit of the rows of one name
+key_edited : (root : Key → List ℕ) (older : Key → Option OlderRoot) (is_revoked : Key → Bool) (name : List ℕ) (club : Club) (other : List ℕ)
+    → ((key : Key) → bytes_eq key.name other ≡ false → edited root older is_revoked key ≡ key)
+    → part_of name (record club { keys = map (edited root older is_revoked) club.keys })
+    ≡ cond (is_key_of name club other) (record (part_of name club) { keys = map (edited root older is_revoked) (keys_of name club) }) (part_of name club)
+key_edited root older is_revoked name club other same =
+    let edit = edited root older is_revoked in
+    let bookings = bookings_of-edited root older is_revoked name club in
+    let fixed = fixed_where_none (has_name other) edit same (keys_of name club) in
+    grind (arith, filter-map edit (is_owned name) club.keys)
+
+-- a key that is new has a new name
+abbrev pub IsFresh : Club → Change → Type 0
+IsFresh club (InsertKey key) = key_named key.name club ≡ None
+IsFresh club change = Unit {0}
+
+-- what each kind of change does to a member's part
+pub part_changed : (name : List ℕ) (club : Club) (change : Change) → HasKnownKeys club → IsFresh club change
+    → part_of name (after change club) ≡ part_after name club change
+part_changed name club (InsertMember member) known fresh =
+    grind (arith, filter-append (is_named name) club.members (member ∷ []), append-nil (filter (is_named name) club.members))
+part_changed name club (AddCredit other points) known fresh =
+    let edit = credited_member other points in
+    let members = filter (is_named name) club.members in
+    let fixed : bytes_eq other name ≡ false → map edit members ≡ members =
+    λ e. filter_fixed (is_named name) edit (λ member f. grind (arith, bytes_eq-Decides member.name name, bytes_eq-Decides member.name other)) club.members in
+    grind (arith, filter-map edit (is_named name) club.members)
+part_changed name club (InsertFacility facility) known fresh = refl
+part_changed name club (InsertKey key) known fresh =
+    let bookings = bookings_of-added name club key (none_named (λ (k : Key). k.name) key.name club.keys fresh) known in
+    grind (arith, filter-append (is_owned name) club.keys (key ∷ []), append-nil (keys_of name club))
+part_changed name club (MarkRevoked other) known fresh =
+    key_edited (λ key. key.root) (λ key. key.older) (λ key. (revoked_key other key).revoked) name club other (λ key e. grind arith)
+part_changed name club (ReplaceRoot other former root until) known fresh =
+    let edit = rotated_key other root until in
+    key_edited (λ key. (edit key).root) (λ key. (edit key).older) (λ key. key.revoked) name club other (λ key e. grind arith)
+part_changed name club (MarkClosed slot) known fresh = refl
+part_changed name club (InsertBooking booking member) known fresh =
+    grind (arith, filter-append (is_under_one (keys_of name club)) club.bookings (booking ∷ []), append-nil (bookings_of name club))
+part_changed name club (MarkCancelled booking member refund) known fresh =
+    let edit = cancelled_booking booking.key booking.number refund in
+    let own = is_under_one (keys_of name club) in
+    let fixed : own booking ≡ false → map edit (filter own club.bookings) ≡ filter own club.bookings =
+    λ e. filter_fixed own edit (λ other f. grind (arith, bytes_eq-Decides other.key booking.key)) club.bookings in
+    grind (arith, filter-map edit own club.bookings)
+
+-- ---- key names are unique and bookings are under known keys, before and after each change
+
+-- what the laws of a member's part need of a club
+pub record IsKeyed (club : Club) : Type 0 where
+  pub unique : AllPairs (λ (a : Key) (b : Key). a.name ≢ b.name) club.keys
+  pub known : HasKnownKeys club
+
+pub keyed_from_sound : (club : Club) → IsSound club → IsKeyed club
+keyed_from_sound club sound = record { unique = sound.unique.keys; known = sound.references.bookings }
+
+keyed_edited : (root : Key → List ℕ) (older : Key → Option OlderRoot) (is_revoked : Key → Bool) (club : Club) → IsKeyed club
+    → IsKeyed (record club { keys = map (edited root older is_revoked) club.keys })
+keyed_edited root older is_revoked club keyed = record {
+  unique = AllPairs-map (edited root older is_revoked) (λ (a : Key) (b : Key). a.name ≢ b.name) (λ (a : Key) (b : Key). a.name ≢ b.name) (λ a b h.
+      h) club.keys keyed.unique;
+  known = λ k d short. rw (map-map (λ (x : Key). x.name) (edited root older is_revoked) club.keys) (keyed.known k d short);
+}
+
+pub keyed_step : (club : Club) (event : Event) → IsKeyed club → IsKeyed (step club event).club
+keyed_step club (Asked words moment) keyed =
+    let Known : Booking → Type 0 = λ b. Contains (map (λ (k : Key). k.name) club.keys) b.key in
+    answer_cases (λ (v : Verdict). IsKeyed (after_change v.change club)) club words moment (record {
+      silent = λ reply h. keyed;
+      repeats_booking = λ key member slot number guests booking k e found same. keyed;
+      books = λ key member slot number guests facility k e b.
+          let there = named_there (λ (x : Key). x.name) key.name club.keys key k.known in
+          record { unique = keyed.unique; known = All-push Known club.bookings (written club key slot number guests facility) keyed.known there };
+      cancels_recorded = λ key member slot number booking k e found same before. keyed;
+      cancels = λ key member slot number booking k e c.
+          record { unique = keyed.unique; known = All-map Known (cancelled_booking booking.key booking.number _) club.bookings keyed.known };
+    })
+keyed_step club (Commanded command) keyed =
+    command_cases (λ (v : Result Change OfficeFault). IsKeyed (command_outcome club command v).club) club (λ fault. keyed) command (given command)
+  where
+    given : (c : Command) (r : CommandRestsOn club c) → IsKeyed (after (change_of club c r) club)
+    given (AddKey name member root) r =
+        let key : Key = record { name = name; member = member; root = root; older = None; revoked = false } in
+        record {
+          unique = all_pairs_push (λ (a : Key) (b : Key). a.name ≢ b.name) club.keys key keyed.unique (none_named (λ (k : Key). k.name) name club.keys r.2);
+          known = λ k d short. still_there (λ (other : Key). other.name) club.keys key _ (keyed.known k d short);
+        }
+    given (RevokeKey name) r = keyed_edited (λ key. key.root) (λ key. key.older) (λ key. (revoked_key name key).revoked) club keyed
+    given (RotateKey name root until) r =
+        keyed_edited (λ key. (rotated_key name root until key).root) (λ key. (rotated_key name root until key).older) (λ key. key.revoked) club keyed
+    given c r = assumption
+
+-- a key that was added to a club with unique names had a new name
+pub pushed_fresh : (keys : List Key) (new : Key) → AllPairs (λ (a : Key) (b : Key). a.name ≢ b.name) (keys ++ new ∷ []) → find (has_name new.name) keys ≡ None
+pushed_fresh [] new unique = refl
+pushed_fresh (key ∷ keys) new unique =
+    let last : get_or (keys ++ new ∷ []) (length keys) new ≡ new =
+    subst (λ (n : ℕ). get_or (keys ++ new ∷ []) n new ≡ new) (omega arith) (get_or-append-add keys (new ∷ []) 0 new)
+    in
+    let differs : key.name ≢ new.name =
+    λ s. unique 0 (suc (length keys)) new (omega arith) (omega (arith, length-append keys (new ∷ []))) (s ∙ ap (λ (k : Key). k.name) (sym last))
+    in
+    rw (other_bytes key.name new.name differs) (pushed_fresh keys new (λ i j d h k. unique (suc i) (suc j) d (omega arith) (omega arith)))
+
+pub fresh_from_sound : (club : Club) (change : Change) → IsSound (after change club) → IsFresh club change
+fresh_from_sound club (InsertKey key) sound = pushed_fresh club.keys key sound.unique.keys
+fresh_from_sound club change sound = tt
