@@ -1,5 +1,4 @@
 pub mod ViewLemmas
-pub mod Ordered
 pub mod SheetOrder
 pub mod SheetText
 pub mod AnswerLemmas

@@ -1,17 +1,119 @@
--- The order of the rows of a day's sheet.
-use Rattle.std.proofs.Common.{◌≡◌, ℕ, List, refl, sym, ap, ◌∙◌, ◌⊎◌, inl, inr, arith}
+-- The rows of a sheet: lists in a strict order, and that order of bookings.
+use Rattle.std.proofs.Common.{◌≡◌, ℕ, zero, suc, ◌<◌, List, [], ◌∷◌, length, get_or, refl, sym, ap, ◌∙◌, ◌⊎◌, inl, inr, arith}
+use Rattle.std.specs.Prelude.{All, AllPairs, Contains, IsPermutation, filter}
+use Rattle.std.proofs.lemmas.List.Elements.{All-cons, All-contains, All-tail, All-weaker}
+use Rattle.std.proofs.lemmas.List.Kept.{AllPairs-cons, AllPairs-filter}
+use Rattle.std.proofs.lemmas.List.Sorted.{All-permutation, IsPermutation-cons, IsPermutation-middle, IsPermutation-refl, IsPermutation-trans}
+use Rattle.std.proofs.lemmas.List.Sorted.{Contains-permutation, IsPermutation-sym}
 use Rattle.std.specs.Cmp.Lexicographic.{nat_list_cmp_total, slice_cmp}
 use Rattle.std.specs.Ordering.{nat_cmp, ordering_reverse}
 use Rattle.std.specs.declared.cmp.Ordering.{Ordering}
 use Rattle.std.specs.declared.cmp.Ordering.TheVariants.{Equal, Greater, Less}
-use Rattle.std.specs.Prelude.{filter}
-use Rattle.std.proofs.lemmas.List.Kept.{AllPairs-filter}
 use Rattle.std.proofs.lemmas.Map.Lookups.{exact_bytes}
-use Rattle.std.proofs.lemmas.List.Sorted.{Contains-permutation, IsPermutation-sym, IsPermutation-trans}
 use Rattle.club_rows.specs.declared.booking.Booking.{Booking}
 use Rattle.club_core.specs.Club.{Club, IsSound}
 use Rattle.club_core.specs.Sheet.{AreRowsOf, IsBefore, Precedes, is_on}
-use Rattle.club_core.proofs.Ordered.{Asymmetric, one_order, ordering}
+
+cases_at : {X : Type 0} (y : X) (xs : List X) (x : X) (k : ℕ) → k < length (y ∷ xs) → get_or (y ∷ xs) k x ≡ x → (y ≡ x) ⊎ Contains xs x
+cases_at y xs x zero lt e = inl e
+cases_at y xs x (suc k) lt e = inr (k, omega arith, e)
+
+Contains-cons_cases : {X : Type 0} (y : X) (xs : List X) (x : X) → Contains (y ∷ xs) x → (y ≡ x) ⊎ Contains xs x
+Contains-cons_cases y xs x h = cases_at y xs x h.0 h.1 h.2
+
+Contains-there : {X : Type 0} (y : X) (xs : List X) (x : X) → Contains xs x → Contains (y ∷ xs) x
+Contains-there y xs x h = (suc h.0, omega (arith, h.1), h.2)
+
+Contains-here : {X : Type 0} (x : X) (xs : List X) → Contains (x ∷ xs) x
+Contains-here x xs = (0, omega arith, refl)
+
+later : {X : Type 0} (R : X → X → Type 0) (x : X) (xs : List X) → AllPairs R (x ∷ xs) → All (R x) xs
+later R x xs p = λ k d h. p 0 (suc k) d (omega arith) (omega arith)
+
+rest : {X : Type 0} (R : X → X → Type 0) (x : X) (xs : List X) → AllPairs R (x ∷ xs) → AllPairs R xs
+rest R x xs p = λ i j d lt h. p (suc i) (suc j) d (omega arith) (omega arith)
+
+abbrev pub Asymmetric : {X : Type 0} → (X → X → Type 0) → Type 0
+Asymmetric {X} R = (x y : X) → R x y → R y x → ⊥
+
+module _ {X : Type 0} (R : X → X → Type 0) (asymmetric : Asymmetric R) where
+  heads : (x y : X) (xs ys : List X) → AllPairs R (x ∷ xs) → AllPairs R (y ∷ ys) → Contains (y ∷ ys) x → Contains (x ∷ xs) y → x ≡ y
+  heads x y xs ys p q x_there y_there =
+      let in_ys = Contains-cons_cases y ys x x_there in
+      let in_xs = Contains-cons_cases x xs y y_there in
+      let above = All-contains (R x) xs y (later R x xs p) in
+      let below = All-contains (R y) ys x (later R y ys q) in
+      let once = asymmetric x y in
+      elim in_ys [ inl e ↦ sym e | inr x_later ↦ elim in_xs [ inl e ↦ e | inr y_later ↦ absurd (once (above y_later) (below x_later)) ] ]
+
+  tails : (x y : X) (xs ys : List X) → x ≡ y → AllPairs R (x ∷ xs) → ((z : X) → Contains (x ∷ xs) z → Contains (y ∷ ys) z) → (z : X) → Contains xs z →
+      Contains ys z
+  tails x y xs ys same p to z h =
+      elim (Contains-cons_cases y ys z (to z (Contains-there x xs z h))) [
+        | inl e ↦ let itself = rw (same ∙ e) at (All-contains (R x) xs z (later R x xs p) h) in absurd (asymmetric z z itself itself)
+        | inr there ↦ there
+      ]
+
+  -- two lists in this order with the same elements
+  pub one_order : (xs ys : List X) → AllPairs R xs → AllPairs R ys → ((z : X) → Contains xs z → Contains ys z) → ((z : X) → Contains ys z → Contains xs z) →
+      xs ≡ ys
+  one_order [] [] p q to back = refl
+  one_order [] (y ∷ ys) p q to back = let h = back y (Contains-here y ys) in absurd (omega (arith, h.1))
+  one_order (x ∷ xs) [] p q to back = let h = to x (Contains-here x xs) in absurd (omega (arith, h.1))
+  one_order (x ∷ xs) (y ∷ ys) p q to back =
+      let same = heads x y xs ys p q (to x (Contains-here x xs)) (back y (Contains-here y ys)) in
+      let same_rest = one_order xs ys (rest R x xs p) (rest R y ys q) (tails x y xs ys same p to) (tails y x ys xs (sym same) q back) in
+      ap (λ z. z ∷ xs) same ∙ ap (λ zs. y ∷ zs) same_rest
+
+-- the same elements in this order
+pub record IsOrdering {X : Type 0} (R : X → X → Type 0) (xs zs : List X) : Type 0 where
+  pub same : IsPermutation xs zs
+  pub sorted : AllPairs R zs
+
+module _ {X : Type 0} (R Same : X → X → Type 0) (transitive : (x y z : X) → R x y → R y z → R x z) (total : (x y : X) → R x y ⊎ (Same x y ⊎ R y x)) where
+  nothing_sorted : AllPairs R []
+  nothing_sorted i j d lt h = absurd (omega arith)
+
+  in_front : (x y : X) (ys : List X) → R x y → AllPairs R (y ∷ ys) → IsOrdering R (x ∷ y ∷ ys) (x ∷ y ∷ ys)
+  in_front x y ys below p = record {
+    same = IsPermutation-refl (x ∷ y ∷ ys);
+    sorted = AllPairs-cons R x (y ∷ ys) (All-cons (R x) y ys below (All-weaker (R y) (R x) (λ z. transitive x y z below) ys (later R y ys p))) p;
+  }
+
+  behind : (x y : X) (ys zs : List X) → R y x → AllPairs R (y ∷ ys) → IsOrdering R (x ∷ ys) zs → IsOrdering R (x ∷ y ∷ ys) (y ∷ zs)
+  behind x y ys zs above p o = record {
+    same = IsPermutation-trans (x ∷ y ∷ ys) (y ∷ x ∷ ys) (y ∷ zs) (IsPermutation-middle (x ∷ []) y ys) (IsPermutation-cons y (x ∷ ys) zs o.same);
+    sorted = AllPairs-cons R y zs (All-permutation (R y) (x ∷ ys) zs o.same (All-cons (R y) x ys above (later R y ys p))) o.sorted;
+  }
+
+  inserted : (x : X) (ys : List X) → AllPairs R ys → All (λ y. ¬ (Same x y)) ys → (zs : List X) × IsOrdering R (x ∷ ys) zs
+  inserted x [] p new = (x ∷ [], record { same = IsPermutation-refl (x ∷ []); sorted = λ i j d lt h. absurd (omega arith) })
+  inserted x (y ∷ ys) p new =
+      elim (total x y) [
+        | inl below ↦ (x ∷ y ∷ ys, in_front x y ys below p)
+        | inr other ↦ elim other [
+          | inl same ↦ absurd (new 0 y (omega arith) same)
+          | inr above ↦
+              (let made = inserted x ys (rest R y ys p) (All-tail (λ z. ¬ (Same x z)) y ys new) in
+              (y ∷ made.0, behind x y ys made.0 above p made.1))
+        ]
+      ]
+
+  -- elements that are all different have a list in this order
+  pub ordering : (xs : List X) → AllPairs (λ x y. ¬ (Same x y)) xs → (zs : List X) × IsOrdering R xs zs
+  ordering [] new = ([], record { same = IsPermutation-refl []; sorted = nothing_sorted })
+  ordering (x ∷ xs) new =
+      let others = ordering xs (rest (λ a b. ¬ (Same a b)) x xs new) in
+      let zs = others.0 in
+      let made = inserted x zs others.1.sorted (All-permutation (λ y. ¬ (Same x y)) xs zs others.1.same (later (λ a b. ¬ (Same a b)) x xs new)) in (
+        made.0,
+        record {
+          same = IsPermutation-trans (x ∷ xs) (x ∷ zs) made.0 (IsPermutation-cons x xs zs others.1.same) made.1.same;
+          sorted = made.1.sorted;
+        },
+      )
+
+-- ---- the order of the rows of a day's sheet
 
 before_once : Asymmetric IsBefore
 before_once a b h k =
