@@ -163,11 +163,14 @@ is_numbered key number booking = is_under key booking && booking.number == numbe
 pub numbered : (key : List ℕ) (number : ℕ) (booking : Booking) → is_numbered key number booking ≡ true → (booking.key ≡ key) × (booking.number ≡ number)
 numbered key number booking e = grind (arith, bytes_eq-Decides booking.key key)
 
-pub only_numbered : (key : List ℕ) (number : ℕ) (bookings : List Booking) (booking : Booking)
-    → AllPairs (λ (a : Booking) (b : Booking). ¬ ((a.key ≡ b.key) × (a.number ≡ b.number))) bookings → find (is_numbered key number) bookings ≡ Some booking
-    → All (λ other. is_numbered key number other ≡ true → other ≡ booking) bookings
+-- two bookings under different names
+abbrev pub AreApart : Booking → Booking → Type 0
+AreApart a b = ¬ ((a.key ≡ b.key) × (a.number ≡ b.number))
+
+pub only_numbered : (key : List ℕ) (number : ℕ) (bookings : List Booking) (booking : Booking) → AllPairs AreApart bookings
+    → find (is_numbered key number) bookings ≡ Some booking → All (λ other. is_numbered key number other ≡ true → other ≡ booking) bookings
 only_numbered key number bookings booking unique e =
-    only_found (λ (a : Booking) (b : Booking). ¬ ((a.key ≡ b.key) × (a.number ≡ b.number))) (is_numbered key number)
+    only_found AreApart (is_numbered key number)
     (λ a b h k other. let l = numbered key number a h in let r = numbered key number b k in other (l.0 ∙ sym r.0, l.1 ∙ sym r.1)) bookings booking unique e
 
 -- a key and number are the booking's, whichever side names them

@@ -9,7 +9,7 @@ use Rattle.std.proofs.lemmas.List.Sums.{sum_by-cons}
 use Rattle.std.proofs.lemmas.Bool.{false_from_ne_true}
 use Rattle.club_laws.specs.Points.{Entry, is_entry_of, firsts, charge_of_reply, refund_of_reply, charges_of_replies, refunds_of_replies, keys_given}
 use Rattle.club_laws.specs.Points.{credits_accepted, total_under}
-use Rattle.club_laws.proofs.FoundRows.{found_is_there, none_found, any_passes, any-map, at_found, AllPairs-head, AllPairs-tail, All-each, is_numbered}
+use Rattle.club_laws.proofs.FoundRows.{AreApart, found_is_there, none_found, any_passes, any-map, at_found, AllPairs-head, AllPairs-tail, All-each, is_numbered}
 use Rattle.club_laws.proofs.FoundRows.{self_numbered, numbered_back, numbered, only_numbered, found_by_own, named, none_named}
 use Rattle.club_laws.proofs.FilteredRows.{filter-filter, filter-map, sum-map, sum_middle, sum_one_more, fixed_where_none}
 use Rattle.std.specs.List.{list_any}
@@ -170,12 +170,6 @@ refund_again p bookings key number booking e before =
     (grind (arith, there booking.key booking.number, self_numbered booking))
     (λ k n. grind (arith, there k n, numbered_back k n booking))
 
-abbrev AreApart : Booking → Booking → Type 0
-AreApart a b = ¬ ((a.key ≡ b.key) × (a.number ≡ b.number))
-
-abbrev AreUnique : List Booking → Type 0
-AreUnique bookings = AllPairs AreApart bookings
-
 -- a cancellation marks one booking: no other has its key and number
 record IsMarkedAlone (mark : Booking → Booking) (bookings : List Booking) (booking : Booking) : Type 0 where
   front : List Booking
@@ -183,7 +177,7 @@ record IsMarkedAlone (mark : Booking → Booking) (bookings : List Booking) (boo
   place : bookings ≡ front ++ booking ∷ back
   marked : map mark bookings ≡ front ++ mark booking ∷ back
 
-marked_alone : (key : List ℕ) (number refund : ℕ) (bookings : List Booking) (booking : Booking) → AreUnique bookings
+marked_alone : (key : List ℕ) (number refund : ℕ) (bookings : List Booking) (booking : Booking) → AllPairs AreApart bookings
     → find (is_numbered key number) bookings ≡ Some booking → IsMarkedAlone (cancelled_booking key number refund) bookings booking
 marked_alone key number refund [] booking unique e = absurd (cc)
 marked_alone key number refund (b ∷ bookings) booking unique e =
@@ -203,7 +197,7 @@ marked_alone key number refund (b ∷ bookings) booking unique e =
         let same : cancelled_booking key number refund b ≡ b = grind arith in
         record { front = b ∷ rest.front; back = rest.back; place = ap (λ bs. b ∷ bs) rest.place; marked = rw (same, rest.marked) refl }
 
-refund_new : (p : List ℕ → Bool) (bookings : List Booking) (name : List ℕ) (n refund : ℕ) (booking : Booking) → AreUnique bookings
+refund_new : (p : List ℕ → Bool) (bookings : List Booking) (name : List ℕ) (n refund : ℕ) (booking : Booking) → AllPairs AreApart bookings
     → find (is_numbered name n) bookings ≡ Some booking → booking.cancelled ≡ false → booking.refund ≡ 0
     → MovesRefund p bookings (map (cancelled_booking booking.key booking.number refund) bookings) (ToMember (Cancelled booking.key booking.number refund))
 refund_new p bookings name n refund booking unique found still_booked none =

@@ -20,7 +20,8 @@ use Rattle.club_rows.specs.Booking.{persons_of, same_slot, refund_at}
 use Rattle.club_core.specs.Sums.{cost_of, is_in, taken_in}
 use Rattle.club_core.specs.After.{credited_member, revoked_key, good_until, rotated_key, after, is_marked, cancelled_booking}
 use Rattle.club_core.specs.Club.{Club, keys_of, is_key_of, bookings_of, IsSound, HasReferences}
-use Rattle.club_laws.proofs.FoundRows.{AllPairs-map, All-each, fresh_differs, still_there, still_all, none_named, named_there, only_named, none_passes}
+use Rattle.club_laws.proofs.FoundRows.{AreApart, AllPairs-map, All-each, fresh_differs, still_there, still_all, none_named, named_there, only_named}
+use Rattle.club_laws.proofs.FoundRows.{none_passes}
 use Rattle.club_laws.proofs.FoundRows.{same_slots, at_found, none_found, slots_same, is_numbered, only_numbered, found_by_own, found_passes, numbered}
 use Rattle.club_laws.proofs.FilteredRows.{filter_none, sum_one_more, sum_no_more}
 use Rattle.club_laws.proofs.MemberParts.{edited, bookings_of-added, bookings_of-edited, owner}
@@ -192,10 +193,9 @@ module _ (club : Club) (s : IsSound club) (words : Words) (key : Key) (member : 
       let booking = written club key slot number guests facility in
       let new : Club = record club { bookings = club.bookings ++ booking ∷ [] } in
       let limits = All-push IsBooking club.bookings booking s.rows.bookings (row_of_booking slot number guests facility r b) in
-      let fresh = All-each (λ (other : Booking). is_numbered key.name number other ≡ false) (λ (other : Booking). ¬ ((other.key ≡ key.name)
-      × (other.number ≡ number))) club.bookings (λ other f same. grind (arith, bytes_eq-Decides other.key key.name))
-      (none_found (is_numbered key.name number) club.bookings b.new) in
-      let names = all_pairs_push (λ (a : Booking) (b : Booking). ¬ ((a.key ≡ b.key) × (a.number ≡ b.number))) club.bookings booking s.unique.bookings fresh in
+      let fresh = All-each (λ (other : Booking). is_numbered key.name number other ≡ false) (λ (other : Booking). AreApart other booking) club.bookings
+      (λ other f same. grind (arith, bytes_eq-Decides other.key key.name)) (none_found (is_numbered key.name number) club.bookings b.new) in
+      let names = all_pairs_push AreApart club.bookings booking s.unique.bookings fresh in
       let known = All-push (λ (b : Booking). Contains (map (λ (k : Key). k.name) club.keys) b.key) club.bookings booking s.references.bookings
       (named_there (λ (x : Key). x.name) key.name club.keys key k.known) in
       let located = All-push (λ (b : Booking). Contains (map (λ (g : Facility). g.name) club.facilities) b.slot.facility) club.bookings booking
@@ -233,8 +233,7 @@ module _ (club : Club) (s : IsSound club) (words : Words) (key : Key) (member : 
       λ i d short. let is = only i d short in grind arith in
       let limits = All-map IsBooking mark club.bookings (λ i d short.
       cancelled_row booking.key booking.number refund (get_or club.bookings i d) (s.rows.bookings i d short) (small i d short)) in
-      let names = AllPairs-map mark (λ (a : Booking) (b : Booking). ¬ ((a.key ≡ b.key) × (a.number ≡ b.number)))
-      (λ (a : Booking) (b : Booking). ¬ ((a.key ≡ b.key) × (a.number ≡ b.number))) (λ a b h. h) club.bookings s.unique.bookings in
+      let names = AllPairs-map mark AreApart AreApart (λ a b h. h) club.bookings s.unique.bookings in
       let known = All-map (λ (b : Booking). Contains (map (λ (k : Key). k.name) club.keys) b.key) mark club.bookings s.references.bookings in
       let located = All-map (λ (b : Booking). Contains (map (λ (g : Facility). g.name) club.facilities) b.slot.facility) mark club.bookings
       s.references.facilities in
