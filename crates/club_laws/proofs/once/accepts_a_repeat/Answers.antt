@@ -1,28 +1,24 @@
 use Rattle.std.proofs.Common.{[], ◌∷◌, Some, None, Ok, refl, inl}
 use Rattle.std.specs.Prelude.{true, false, codes}
 use Rattle.std.proofs.lemmas.List.Elements.{All-nil, All-cons}
-use Rattle.club_values.specs.declared.kind.Kind.TheVariants.{Court}
 use Rattle.pass_caveats.specs.declared.ask.Ask.{Ask}
 use Rattle.pass_caveats.specs.declared.caveat.Caveat.TheVariants.{Spend}
 use Rattle.club_core.specs.declared.request.Request.TheVariants as asked
 use Rattle.club_core.specs.Acceptance.{IsAllowedBy}
 use Rattle.club_core.specs.Answer.{ask_of}
 use Rattle.club_core.specs.Basis.{Basis, view_of}
-use Rattle.club_core.specs.Examples.{slot_at, noon, late, root, ask}
-use Rattle.club_laws.specs.ExampleRuns.{words_again}
+use Rattle.club_core.specs.Examples.{opened_club, slot_at, noon, late, root, ask}
+use Rattle.club_core.specs.Run.{club_after}
+use Rattle.club_laws.proofs.AnswerCases.{basis_with}
+use Rattle.club_laws.specs.ExampleRuns.{booked_then_cancelled, words_again}
 use Rattle.club_laws.proofs.once.accepts_a_repeat.Goals as goal
 
 -- the rows that the repeat names
 abbrev named : Basis
-named = record {
-  key = record { name = codes "amy-1"; member = codes "amy"; root = root; older = None; revoked = false };
-  member = record { name = codes "amy"; credited = 10_000; quota = 5 };
-  bookings = record { key = codes "amy-1"; number = 7; slot = slot_at 18; guests = 2; charge = 600; left = 1; cancelled = true; refund = 600 } ∷ [];
-  state = record {
-    facility = Some (record { name = codes "court-1"; kind = Court; places = 4; price = 200; opens = 8; shuts = 22 });
-    held = record { taken = 0; closed = false };
-  };
-}
+named =
+    basis_with (club_after opened_club booked_then_cancelled) words_again.request
+    (record { name = codes "amy-1"; member = codes "amy"; root = root; older = None; revoked = false })
+    (record { name = codes "amy"; credited = 10_000; quota = 5 })
 
 abbrev asked_again : Ask
 asked_again = ask_of (view_of named words_again.request late) words_again.request late
