@@ -19,7 +19,7 @@ use Rattle.club_core.specs.declared.change.Change.TheVariants.{InsertMember, Add
 use Rattle.club_core.specs.declared.change.Change.TheVariants.{InsertBooking, MarkCancelled}
 use Rattle.club_core.specs.After.{after, credited_member, revoked_key, rotated_key, cancelled_booking}
 use Rattle.club_core.specs.Solo.{part_of}
-use Rattle.club_laws.specs.Frame.{part_after}
+use Rattle.club_laws.specs.Frame.{ChangesThePartAlike, part_after}
 use Rattle.std.proofs.lemmas.List.{get_or-append-add}
 use Rattle.std.proofs.lemmas.List.Quantifiers.{all_pairs_push}
 use Rattle.std.proofs.lemmas.Simd.{map-map}
@@ -210,3 +210,7 @@ pushed_fresh (key ∷ keys) new unique =
 pub fresh_from_sound : (club : Club) (change : Change) → IsSound (after change club) → IsFresh club change
 fresh_from_sound club (InsertKey key) sound = pushed_fresh club.keys key sound.unique.keys
 fresh_from_sound club change sound = tt
+
+pub changes_the_part_alike : ChangesThePartAlike
+changes_the_part_alike name club change sound sound_after =
+    part_changed name club change (keyed_from_sound club sound).known (fresh_from_sound club change sound_after)

@@ -31,7 +31,7 @@ use Rattle.club_core.specs.Run.{Event, Asked, Commanded, step, after_change, com
 use Rattle.std.proofs.lemmas.Simd.{map-map}
 use Rattle.club_laws.specs.RunsWithFailures.{SoloLawWithFailures}
 use Rattle.club_laws.specs.Frame.{LeavesThePart}
-use Rattle.club_laws.specs.SoloLaw.{EndsWithThePart, is_ask, replies_to, solo_part}
+use Rattle.club_laws.specs.SoloLaw.{SoloLaw, EndsWithThePart, is_ask, replies_to, solo_part}
 use Rattle.club_laws.specs.Failed.{present_reply, answered_events}
 use Rattle.club_laws.proofs.FailedEvents.{run_of_answered}
 
@@ -168,6 +168,9 @@ solo name club (event ∷ events) keyed =
     one_more (own_part name club event) (part_of name club) (part_of name next) (part_of name (club_after next events)) (step club event).reply
     (own_events name next events) (replies_to name next events (replies_of next events)) (follows name club event keyed)
     (solo name next events (keyed_step club event keyed))
+
+pub solo_law : SoloLaw
+solo_law name club events sound = (solo name club events (keyed_from_sound club sound)).0
 
 pub ends_with_the_part : EndsWithThePart
 ends_with_the_part name club events sound = (solo name club events (keyed_from_sound club sound)).1

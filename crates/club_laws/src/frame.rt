@@ -3,7 +3,7 @@
 ghost use Rattle.club_laws.specs.Frame.{ChangesThePartAlike, LeavesThePart, TakenIsOwnAndOthers};
 
 /// A change of the club makes the same change in a member's part, or none.
-#[tactic(auto, using(crate::proofs::MemberParts::part_changed, crate::proofs::MemberParts::keyed_from_sound, crate::proofs::MemberParts::fresh_from_sound))]
+#[tactic(auto, using(crate::proofs::MemberParts::changes_the_part_alike))]
 pub fn changes_the_part_alike()
     ensures { ChangesThePartAlike }
 {}

@@ -4,14 +4,14 @@ ghost use Rattle.club_laws.specs.SoloExamples.{AnswersAmyAlone, AnswersAmyAmongO
 ghost use Rattle.club_laws.specs.SoloLaw.{EndsWithThePart, SoloLaw, SoloLawOfTwo};
 
 /// The replies to a member's requests follow from the member's part and own events alone.
-#[tactic(auto, using(crate::proofs::SoloRuns::solo, crate::proofs::MemberParts::keyed_from_sound))]
+#[tactic(auto, using(crate::proofs::SoloRuns::solo_law))]
 pub fn solo_law()
     ensures { SoloLaw }
 {}
 
 /// If two clubs hold the same part of a member, and two lists the same events of its own, the
 /// member gets the same replies.
-#[tactic(auto, using(crate::proofs::SoloRuns::solo, crate::proofs::MemberParts::keyed_from_sound))]
+#[tactic(auto, using(crate::proofs::SoloRuns::solo_law))]
 pub fn solo_law_of_two()
     ensures { SoloLawOfTwo }
 {}
