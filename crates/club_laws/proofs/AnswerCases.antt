@@ -1,5 +1,5 @@
 -- The ways in which a request is answered and a command is decided, each with what it rests on.
-use Rattle.std.proofs.Common.{◌≡◌, ℕ, ◌+◌, ◌-◌, true, false, Option, Some, None, Ok, refl, sym, ◌∙◌, subst, arith, List, ◌≤◌, Err}
+use Rattle.std.proofs.Common.{◌≡◌, ℕ, ◌+◌, ◌-◌, true, false, Option, Some, None, Ok, refl, ◌∙◌, arith, List, ◌≤◌, Err}
 use Rattle.std.proofs.lemmas.Slice.Eq.{bytes_eq-Decides}
 use Rattle.club_laws.proofs.FoundRows.{is_numbered, numbered, found_passes, found_is_there, find-filter, any_passes, any-filter, named}
 use Rattle.std.specs.Prelude.{Result, ◌&&◌, ◌==◌, nat_lt}
@@ -9,7 +9,6 @@ use Rattle.club_rows.specs.declared.member.Member.{Member}
 use Rattle.club_rows.specs.declared.facility.Facility.{Facility}
 use Rattle.club_rows.specs.declared.key.Key.{Key}
 use Rattle.club_rows.specs.declared.booking.Booking.{Booking}
-use Rattle.club_core.specs.declared.view.View.{View}
 use Rattle.club_core.specs.declared.verdict.Verdict.{Verdict}
 use Rattle.club_core.specs.declared.reply.Reply.{Reply}
 use Rattle.club_core.specs.declared.reply.Reply.TheVariants.{Booked, Cancelled, Refused}
@@ -120,30 +119,22 @@ own_booking club words key member number k =
     find-filter (is_numbered key.name number) (λ (booking : Booking). is_key_of member.name club booking.key) club.bookings
     (λ booking e. rw (numbered key.name number booking e).0 (is_own_key club words key member k))
 
--- the view of a request of a known key
-abbrev view_at : Club → Request → ℕ → Key → Member → View
-view_at club request moment key member =
-    view_of (basis_with club request key member) request moment
-
 module _ (P : Verdict → Type 0) (club : Club) (words : Words) (moment : ℕ) (w : Ways P club words moment) where
-  module _ (key : Key) (member : Member) (k : Knows club words key member) where
-    verdict_cases : (request : Request) → words.request ≡ request → P (verdicts.verdict_of (view_at club request moment key member) request moment)
-    verdict_cases (asked.View slot) r = grind (arith, w.silent)
-    verdict_cases (asked.Book slot number guests) r =
-        rw (own_booking club words key member number k)
-        (grind (arith, w.silent, w.books key member slot number guests, w.repeats_booking key member slot number guests))
-    verdict_cases (asked.Cancel slot number) r =
-        rw (own_booking club words key member number k) (grind (arith, w.silent, w.cancels key member slot number, w.cancels_recorded key member slot number))
-    verdict_cases asked.Account r = grind (arith, w.silent)
-
-    known_cases : (pass : Pass) → P (answer_to (Ok pass) words.request moment (Some (basis_with club words.request key member)))
-    known_cases pass = let decided = verdict_cases words.request refl in grind (arith, w.silent)
+  verdict_cases : (key : Key) (member : Member) (request : Request) → Knows club words key member → words.request ≡ request
+      → P (verdicts.verdict_of (view_of (basis_with club request key member) request moment) request moment)
+  verdict_cases key member (asked.Book slot number guests) k r =
+      rw (own_booking club words key member number k)
+      (grind (arith, w.silent, w.books key member slot number guests, w.repeats_booking key member slot number guests))
+  verdict_cases key member (asked.Cancel slot number) k r =
+      rw (own_booking club words key member number k) (grind (arith, w.silent, w.cancels key member slot number, w.cancels_recorded key member slot number))
+  verdict_cases key member request k r = grind (arith, w.silent)
 
   text_cases : (pass : Result Pass PassFault) (basis : Option Basis) → basis_of club words ≡ basis
       → P (answer_to pass words.request moment basis)
   text_cases (Ok pass) (Some basis) e =
-      subst (λ (b : Basis). P (answer_to (Ok pass) words.request moment (Some b))) (sym (whole_basis club words basis e))
-      (known_cases basis.key basis.member (known_rows club words basis e) pass)
+      let decided = verdict_cases basis.key basis.member words.request (known_rows club words basis e) refl in
+      let whole = whole_basis club words basis e in
+      grind (arith, w.silent)
   text_cases pass basis e = grind (arith, w.silent)
 
   pub answer_cases : P (verdict_in club words moment)
@@ -165,15 +156,8 @@ CommandRestsOn club (CloseSlot slot) = (facility : Facility) × (facility_named 
 abbrev pub change_of : (club : Club) (command : Command) → CommandRestsOn club command → Change
 change_of club (AddMember name quota) r = InsertMember (record { name = name; credited = 0; quota = quota })
 change_of club (Credit name points) r = AddCredit name points
-change_of club (AddFacility name kind places price opens shuts) r = InsertFacility (record {
-  name = name;
-  kind = kind;
-  places = places;
-  price = price;
-  opens =
-      opens;
-  shuts = shuts;
-})
+change_of club (AddFacility name kind places price opens shuts) r =
+    InsertFacility (record { name = name; kind = kind; places = places; price = price; opens = opens; shuts = shuts })
 change_of club (AddKey name member root) r = InsertKey (record { name = name; member = member; root = root; older = None; revoked = false })
 change_of club (RevokeKey name) r = MarkRevoked name
 change_of club (RotateKey name root until) r = ReplaceRoot name r.0.root root until
