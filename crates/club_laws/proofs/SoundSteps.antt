@@ -1,6 +1,6 @@
 -- Steps and runs keep a sound club, and each change fits.
 use Rattle.std.proofs.Common.{None, ◌≡◌, ◌≢◌, ℕ, ◌≤◌, Bool, false, List, [], ◌∷◌, ◌++◌, get_or, map, ap, arith, ◌+◌, true, cond, All, subst, Option, Some, Ok}
-use Rattle.std.proofs.Common.{Err, refl}
+use Rattle.std.proofs.Common.{Err}
 use Rattle.std.specs.Prelude.{All, Contains, Option, Some, IfSome, sum_by, ◌||◌, not, Result}
 use Rattle.std.specs.Str.{bytes_eq}
 use Rattle.std.proofs.lemmas.List.Elements.{All-push, All-map, All-head, All-tail}
@@ -290,14 +290,7 @@ true_answer club words moment =
     answer_cases (λ (v : Verdict). IsTrueIfAny club v.change) club words moment (grind (arith, numbered, found_passes, found_by_own))
 
 true_command : (club : Club) (command : Command) → IsTrueIfOk club (office_verdict club command)
-true_command club command = command_cases (IsTrueIfOk club) club (λ fault. tt) command (done command)
-  where
-    done : (c : Command) (r : CommandRestsOn club c) → IsTrueIfOk club (Ok (change_of club c r))
-    done (Credit name points) r = (r.0, r.1)
-    done (AddKey name member root) r = refl
-    done (RevokeKey name) r = (r.0, r.1)
-    done (RotateKey name root until) r = (r.0, r.1, refl)
-    done c r = tt
+true_command club command = command_cases (IsTrueIfOk club) club (λ fault. tt) command (λ r. grind arith)
 
 pub fits_event : ChangesFit
 fits_event club (Asked words moment) change s e is = record {
