@@ -1,6 +1,6 @@
 -- Whose keys are, and a member's part: what each kind of change makes of them.
 use Rattle.std.proofs.Common.{◌≡◌, ◌≢◌, ℕ, Bool, true, List, [], ◌∷◌, ◌++◌, get_or, map, Option, Some, sym, ◌∙◌, arith, false, cond, filter, None, All}
-use Rattle.std.proofs.Common.{Contains, append-nil, bytes_eq, refl, suc, find, length, AllPairs, ap, subst, length-append, Result}
+use Rattle.std.proofs.Common.{Contains, append-nil, bytes_eq, refl, find, AllPairs, Result}
 use Rattle.std.proofs.lemmas.Slice.Eq.{bytes_eq-Decides}
 use Rattle.std.specs.Prelude.{All, AllPairs, Contains, ◌&&◌, ◌||◌}
 use Rattle.std.specs.Str.{bytes_eq}
@@ -10,9 +10,10 @@ use Rattle.club_rows.specs.declared.key.Key.{Key}
 use Rattle.club_rows.specs.declared.key.OlderRoot.{OlderRoot}
 use Rattle.club_rows.specs.declared.booking.Booking.{Booking}
 use Rattle.club_core.specs.Club.{Club, key_named, is_key_of, bookings_of, keys_of, IsSound}
-use Rattle.club_laws.proofs.FoundRows.{any-filter, any-map, fresh_differs, only_named, none_named, other_bytes, AllPairs-map, still_there, named_there}
+use Rattle.club_laws.proofs.FoundRows.{AllPairs-head, AllPairs-tail, any-filter, any-map, fresh_differs, only_named, none_named, other_bytes, AllPairs-map}
+use Rattle.club_laws.proofs.FoundRows.{still_there, named_there}
 use Rattle.club_laws.proofs.FilteredRows.{filter_same, filter_fixed, fixed_where_none, filter-map}
-use Rattle.std.proofs.lemmas.List.Elements.{filter-append, All-push, All-map}
+use Rattle.std.proofs.lemmas.List.Elements.{Contains-push, All-contains, filter-append, All-push, All-map}
 use Rattle.club_rows.specs.declared.member.Member.{Member}
 use Rattle.club_core.specs.declared.change.Change.{Change}
 use Rattle.club_core.specs.declared.change.Change.TheVariants.{InsertMember, AddCredit, InsertFacility, InsertKey, MarkRevoked, ReplaceRoot, MarkClosed}
@@ -20,7 +21,6 @@ use Rattle.club_core.specs.declared.change.Change.TheVariants.{InsertBooking, Ma
 use Rattle.club_core.specs.After.{after, credited_member, revoked_key, rotated_key, cancelled_booking}
 use Rattle.club_core.specs.Solo.{part_of}
 use Rattle.club_laws.specs.Frame.{ChangesThePartAlike, part_after}
-use Rattle.std.proofs.lemmas.List.{get_or-append-add}
 use Rattle.std.proofs.lemmas.List.Quantifiers.{all_pairs_push}
 use Rattle.std.proofs.lemmas.Simd.{map-map}
 use Rattle.club_core.specs.declared.verdict.Verdict.{Verdict}
@@ -199,13 +199,10 @@ keyed_step club (Commanded command) keyed =
 pub pushed_fresh : (keys : List Key) (new : Key) → AllPairs (λ (a : Key) (b : Key). a.name ≢ b.name) (keys ++ new ∷ []) → find (has_name new.name) keys ≡ None
 pushed_fresh [] new unique = refl
 pushed_fresh (key ∷ keys) new unique =
-    let last : get_or (keys ++ new ∷ []) (length keys) new ≡ new =
-    subst (λ (n : ℕ). get_or (keys ++ new ∷ []) n new ≡ new) (omega arith) (get_or-append-add keys (new ∷ []) 0 new)
-    in
-    let differs : key.name ≢ new.name =
-    λ s. unique 0 (suc (length keys)) new (omega arith) (omega (arith, length-append keys (new ∷ []))) (s ∙ ap (λ (k : Key). k.name) (sym last))
-    in
-    rw (other_bytes key.name new.name differs) (pushed_fresh keys new (λ i j d h k. unique (suc i) (suc j) d (omega arith) (omega arith)))
+    let HasOther : Key → Key → Type 0 = λ a b. a.name ≢ b.name in
+    let others = AllPairs-head HasOther key (keys ++ new ∷ []) unique in
+    let differs = All-contains (HasOther key) (keys ++ new ∷ []) new others (Contains-push keys new) in
+    rw (other_bytes key.name new.name differs) (pushed_fresh keys new (AllPairs-tail HasOther key (keys ++ new ∷ []) unique))
 
 pub fresh_from_sound : (club : Club) (change : Change) → IsSound (after change club) → IsFresh club change
 fresh_from_sound club (InsertKey key) sound = pushed_fresh club.keys key sound.unique.keys

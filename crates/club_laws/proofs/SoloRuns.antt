@@ -16,13 +16,12 @@ use Rattle.club_core.specs.Solo.{solo_replies}
 use Rattle.club_laws.proofs.FoundRows.{found_passes, find_filtered, bytes_same, same_bytes_of, numbered, is_numbered}
 use Rattle.club_laws.proofs.FilteredRows.{filter_twice, sum_in_parts}
 use Rattle.club_laws.proofs.MemberParts.{is_named, is_owned, has_name, is_under_one, IsFresh, part_changed, owner, IsKeyed, keyed_step, keyed_from_sound}
-use Rattle.club_laws.proofs.AnswerCases.{known_rows, whole_basis, is_own_key, answer_cases, written, CommandRestsOn, change_of, command_cases}
+use Rattle.club_laws.proofs.AnswerCases.{known_rows, whole_basis, is_own_key, answer_cases, written, change_of, command_cases}
 use Rattle.std.proofs.lemmas.Slice.Eq.{bytes_eq-Decides}
 use Rattle.club_core.specs.declared.change.Change.{Change}
 use Rattle.club_core.specs.declared.change.Change.TheVariants.{InsertBooking, MarkCancelled}
 use Rattle.club_core.specs.declared.verdict.Verdict.{Verdict}
 use Rattle.club_core.specs.declared.command.Command.{Command}
-use Rattle.club_core.specs.declared.command.Command.TheVariants.{AddKey}
 use Rattle.club_core.specs.declared.command.OfficeFault.{OfficeFault}
 use Rattle.club_core.specs.After.{after}
 use Rattle.club_core.specs.Answer.{answer_by_basis, verdict_in}
@@ -133,11 +132,10 @@ module _ (name : List ℕ) (club : Club) (keyed : IsKeyed club) where
   command_follows command =
       command_cases (λ (v : Result Change OfficeFault). Follows (part_of name club) (own_change name club v) (command_outcome club command v).reply
       (part_of name (command_outcome club command v).club)) club (λ fault. refl) command
-      (λ r. let changed = part_changed name club (change_of club command r) keyed.known (fresh command r) in grind arith)
-    where
-      fresh : (c : Command) (r : CommandRestsOn club c) → IsFresh club (change_of club c r)
-      fresh (AddKey name member root) r = r.2
-      fresh c r = tt
+      (λ r.
+      let fresh : IsFresh club (change_of club command r) = grind arith in
+      let changed = part_changed name club (change_of club command r) keyed.known fresh in
+      grind arith)
 
 -- the member's part follows each event
 pub follows : (name : List ℕ) (club : Club) (event : Event) → IsKeyed club
