@@ -1,12 +1,12 @@
 -- Steps and runs keep a sound club, and each change fits.
 use Rattle.std.proofs.Common.{None, ◌≡◌, ◌≢◌, ℕ, ◌≤◌, Bool, false, List, [], ◌∷◌, ◌++◌, get_or, map, ap, arith, ◌+◌, true, cond, All, subst, Option, Some, Ok}
 use Rattle.std.proofs.Common.{Err}
-use Rattle.std.specs.Prelude.{All, Contains, Option, Some, IfSome, sum_by, ◌||◌, not, Result}
+use Rattle.std.specs.Prelude.{All, Contains, Option, Some, IfSome, sum_by, ◌||◌, Result}
 use Rattle.std.specs.Str.{bytes_eq}
 use Rattle.std.proofs.lemmas.List.Elements.{All-push, All-map, All-head, All-tail}
 use Rattle.std.proofs.lemmas.List.Quantifiers.{all_pairs_push}
 use Rattle.std.proofs.lemmas.Simd.{map-map}
-use Rattle.std.proofs.lemmas.Bool.{cond_both, both_ways, and_parts, or_parts, not-true}
+use Rattle.std.proofs.lemmas.Bool.{cond_both, both_ways}
 use Rattle.club_values.specs.declared.slot.Slot.{Slot}
 use Rattle.club_rows.specs.declared.member.Member.{Member}
 use Rattle.club_rows.specs.declared.facility.Facility.{Facility}
@@ -159,22 +159,16 @@ sound_command club s (CloseSlot slot) c r =
 -- a row that was marked, or is unchanged
 module _ (key : List ℕ) (number refund : ℕ) (booking : Booking) (row : IsBooking booking) (small : is_marked key number booking ≡ true
     → refund ≤ booking.charge) where
-  still_booked : is_marked key number booking ≡ true → booking.cancelled ≡ false
-  still_booked e = not-true booking.cancelled (and_parts _ (not booking.cancelled) e).1
-
-  refund_small : cond (is_marked key number booking) refund booking.refund ≤ booking.charge
-  refund_small = let kept = row.refund in grind arith
-
-  refund_kept : (booking.cancelled || is_marked key number booking) ≡ false → cond (is_marked key number booking) refund booking.refund ≡ 0
-  refund_kept e =
-      let parts = or_parts booking.cancelled (is_marked key number booking) e in
-      rw parts.1 (row.kept parts.0)
-
   pub cancelled_row : IsBooking (cancelled_booking key number refund booking)
-  cancelled_row = assumption (refund_small, refund_kept)
+  cancelled_row =
+      let given = row.refund in
+      let none = row.kept in
+      let few : cond (is_marked key number booking) refund booking.refund ≤ booking.charge = grind arith in
+      let kept : (booking.cancelled || is_marked key number booking) ≡ false → cond (is_marked key number booking) refund booking.refund ≡ 0 = grind arith in
+      assumption
 
   pub costs_no_more : cost_of (cancelled_booking key number refund booking) ≤ cost_of booking
-  costs_no_more = let none = λ (e : is_marked key number booking ≡ true). row.kept (still_booked e) in grind arith
+  costs_no_more = let none = row.kept in grind arith
 
 module _ (club : Club) (s : IsSound club) (words : Words) (key : Key) (member : Member) (k : Knows club words key member) where
   row_of_booking : (slot : Slot) (number guests : ℕ) (facility : Facility) → IsRequest (asked.Book slot number guests)
