@@ -1,5 +1,5 @@
 -- A member's keys and credit, computed from a run's events and replies.
-use Rattle.std.proofs.Common.{◌≡◌, ℕ, ◌+◌, Bool, true, false, cond, List, [], ◌∷◌, map, Option, Some, None, ap, subst, arith}
+use Rattle.std.proofs.Common.{◌≡◌, ℕ, ◌+◌, Bool, true, false, cond, List, [], ◌∷◌, map, Option, Some, None, arith}
 use Rattle.std.proofs.lemmas.Slice.Eq.{bytes_eq-Decides}
 use Rattle.std.specs.Prelude.{Result, ◌||◌, find, is_some}
 use Rattle.std.specs.Str.{bytes_eq}
@@ -19,7 +19,6 @@ use Rattle.club_core.specs.Answer.{verdict_in}
 use Rattle.club_core.specs.After.{credited_member, revoked_key, rotated_key}
 use Rattle.club_core.specs.Run.{Event, Asked, Commanded, step, after_change, command_outcome, replies_of, club_after}
 use Rattle.club_laws.specs.Points.{key_given, keys_given, credit_accepted, credits_accepted}
-use Rattle.club_laws.proofs.FoundRows.{bytes_same}
 use Rattle.club_laws.proofs.MemberParts.{is_key_of-added, is_key_of-edited}
 use Rattle.club_laws.proofs.AnswerCases.{answer_cases, command_cases, CommandRestsOn, change_of}
 
@@ -94,8 +93,7 @@ module _ (name : List ℕ) where
           let new : Member = record { name = other; credited = 0; quota = quota } in
           grind (arith, find-append (λ (m : Member). bytes_eq m.name name) club.members (new ∷ []))
       credited (Credit other points) r =
-          credit_grown name other points club.members (λ e. subst (λ (n : List ℕ). is_some (find (λ (m : Member). bytes_eq m.name n) club.members)
-          ≡ true) (bytes_same other name e) (ap (λ (o : Option Member). is_some o) r.1))
+          credit_grown name other points club.members (λ e. let known = r.1 in grind (arith, bytes_eq-Decides other name))
       credited c r = grind arith
 
   -- a member's credit after a run is that before and what the run credited
