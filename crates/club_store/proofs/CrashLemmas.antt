@@ -23,7 +23,7 @@ use Rattle.club_store.specs.Crash.{RepresentsOne, OneIsFound, HoldsOneOf, CrashL
 
 -- every crash leaves what was committed last
 abbrev IsSettled : State → Type 0
-IsSettled state = IsTrue state.is_open → (trees : Trees) → state.may_leave trees → trees ≡ state.committed.trees
+IsSettled state = (trees : Trees) → IsTrue state.is_open → state.may_leave trees → trees ≡ state.committed.trees
 
 -- trees list one schema
 pub schema_once : (one other : Schema) (trees : Trees) → IsSound one trees → IsSound other trees → one ≡ other
@@ -59,7 +59,7 @@ module _ (now : State) (opened : Opens now) (live : IsLive now) (settled : IsSet
   finds club holds = record {
     held = λ _ _. holds;
     idle = λ _ _. opened.clean;
-    left = λ _ trees may. inl (now.committed, sym (settled opened.is_open trees may), holds);
+    left = λ _ trees may. inl (now.committed, sym (settled trees opened.is_open may), holds);
   }
 
   pub represents_one : (next : State) → ((club : Club) (others : List Club) → IsFound now club others → Represents next club others)

@@ -1,5 +1,5 @@
 -- What is left of a file that wasn't opened.
-use Rattle.std.proofs.Common.{◌≡◌, ◌≢◌, ◌⊎◌, Option, None, inl, inr, subst, sym}
+use Rattle.std.proofs.Common.{◌≡◌, ◌≢◌, Option, None, subst, sym}
 use Rattle.sqlite_disk.specs.declared.Disk as disk
 use Rattle.sqlite.specs.declared.error.Error.{Error}
 use Rattle.sqlite.specs.declared.file.Leftover.{Leftover}
@@ -13,8 +13,3 @@ pub by_left : {D : Type 0} {g : disk.Ghosts D} (P : Remains D g → Type 0) (err
     → IsRemainsOf error rest left → (error ≡ busy → P remains.Held) → ((rest ≡ None → error ≢ busy) → P (remains.Files rest)) → P left
 by_left P error rest left (spec.held is none held) when_held other = subst P (sym held) (when_held is)
 by_left P error rest left (spec.files is_other files) when_held other = subst P (sym files) (other is_other)
-
-pub first_two : {A B C : Type 0} → A ⊎ (B ⊎ C) → (C → ⊥) → A ⊎ B
-first_two (inl a) none = inl a
-first_two (inr (inl b)) none = inr b
-first_two (inr (inr c)) none = absurd (none c)

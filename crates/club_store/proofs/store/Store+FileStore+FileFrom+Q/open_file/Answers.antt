@@ -1,4 +1,4 @@
-use Rattle.std.proofs.Common.{ℕ, List, [], ◌∷◌, inl, refl, subst, sym, ap, ap₂, ◌∙◌}
+use Rattle.std.proofs.Common.{ℕ, List, [], ◌∷◌, inl, refl, subst, sym, ap, ap₂, ◌∙◌, arith}
 use Rattle.std.proofs.lemmas.Option.{IfSome_then}
 use Rattle.sqlite.specs.State.{HasCleanDisk}
 use Rattle.sqlite.specs.Files.{file_state}
@@ -9,7 +9,7 @@ use Rattle.club_store.proofs.CrashLemmas.{new_is_blank, the_one}
 use Rattle.club_tables.specs.Transaction.{fault_by}
 use Rattle.club_store.specs.Opening.{FailsFrom, LeavesFrom}
 use Rattle.club_store.proofs.FileLemmas.{seen_bytes, leaves_same}
-use Rattle.club_store.proofs.HeldLemmas.{by_left, first_two}
+use Rattle.club_store.proofs.HeldLemmas.{by_left}
 use Rattle.club_store.proofs.store.Store+FileStore+FileFrom+Q.open_file.Goals as goal
 
 pub returns-in-Ok-adopt-clause-opened : goal.returns-in-Ok-adopt-clause-opened
@@ -39,7 +39,7 @@ returns-in-Err-clause-fault g c = by_left (λ left. FailsFrom (image g.Q.Start.l
     (λ is. c.fault_of.ensures ∙ ap fault_by is)
     (λ other. record {
       error = c.in-Err.error;
-      without_files = λ none. first_two (c.in-Err.ensures.unopened none) (other none);
+      without_files = λ none. let error_is = c.in-Err.ensures.unopened none in let not_busy = other none in grind arith;
       cause = IfSome_then c.in-Err.left c.in-Err.ensures.cause (λ left it. (
         it.0,
         ap₂ image (ap₂ (seen_bytes g.Q.Start.log g.Q.Start.db) it.1.0 it.1.1) (ap₂ (seen_bytes g.Q.Start.log g.Q.Start.db) it.2.0 it.2.1),
