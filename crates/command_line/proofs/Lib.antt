@@ -1,7 +1,4 @@
 pub mod RootLemmas
-pub mod InputLemmas
-pub mod OutputLemmas
-pub mod TreeLemmas
 pub mod OptionLemmas
 pub mod ArgumentsLemmas
 pub mod NamedLemmas

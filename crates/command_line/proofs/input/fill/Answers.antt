@@ -1,7 +1,7 @@
 use Rattle.std.proofs.Common.{arith, subst, sym}
-use Rattle.std.proofs.KnownBytes.{Consumes-kept}
+use Rattle.std.proofs.KnownBytes.{Consumes-kept, Consumes-trans}
+use lib.Seq.{take-add}
 use Rattle.std.specs.Io.KnownBytes.{Consumes}
-use Rattle.command_line.proofs.InputLemmas.{filled_by}
 use Rattle.command_line.proofs.input.fill.Goals as goal
 use Rattle.command_line.proofs.input.fill.Goals.{in-Ok, in-Err+else-not-is_interrupted}
 
@@ -12,6 +12,6 @@ filling-preserved g c =
     let before = c.filling.invariant.1 in
     elim c.match-read_after.branch [
       | in-Ok w ↦ rw w.filled-is
-          (w.in-Ok.ensures.fits, filled_by _ _ _ c.filling.buffer buffer c.filling.filled w.in-Ok.count front before w.in-Ok.ensures.bytes)
+          (w.in-Ok.ensures.fits, rw (take-add c.filling.filled w.in-Ok.count buffer, front) (Consumes-trans _ _ _ _ _ before w.in-Ok.ensures.bytes))
       | in-Err+else-not-is_interrupted w ↦ rw w.filled-is (omega arith, subst (Consumes _ _) (sym front) (Consumes-kept _ _ _ _ before w.in-Err.ensures.err))
     ]
