@@ -26,7 +26,7 @@ use Rattle.club_laws.specs.Failed.{IsStep, is_unavailable}
 use Rattle.clubdesk_arguments.specs.declared.fault.Fault.{Fault}
 use Rattle.clubdesk_arguments.specs.declared.task.Service.{Service}
 use Rattle.clubdesk_arguments.specs.declared.task.Task.{Task}
-use Rattle.clubdesk_arguments.specs.declared.task.Task.TheVariants.{Give, Key, Sheet, ShowAccount, ShowSlot}
+use Rattle.clubdesk_arguments.specs.declared.task.Task.TheVariants.{Give, Key, ShowAccount}
 use Rattle.clubdesk_commands.specs.Does.{DeskShows, Does, IsAnswered}
 use Rattle.clubdesk_commands.specs.Does as does
 use Rattle.clubdesk_commands.specs.Machine.{Always, IsItself, machine_answers, machine_commands}
@@ -62,16 +62,16 @@ module _ {S : Type 0} (Clean : S → Type 0) (Represents : S → Club → List C
     pub follows : Clean new → (club : Club) (others : List Club) → Represents old club others
         → (next : Club) × (still : List Club) × Represents new next still × Gives club next
 
-  same : (old new : S) (Gives : Club → Club → Type 0) → new ≡ old → ((club : Club) → Gives club club) → Simulates old new Gives
-  same old new Gives is gives = record {
+  same : {old new : S} {Gives : Club → Club → Type 0} → new ≡ old → ((club : Club) → Gives club club) → Simulates old new Gives
+  same is gives = record {
     was_clean = λ clean. rw (← is) clean;
     follows = λ clean club others represents. (club, others, rw is represents, gives club);
   }
 
   -- the same, and what follows of it
-  so : (old new : S) (Gives Wanted : Club → Club → Type 0) → Simulates old new Gives → ((club next : Club) → Gives club next → Wanted club next)
+  so : {old new : S} {Gives Wanted : Club → Club → Type 0} → Simulates old new Gives → ((club next : Club) → Gives club next → Wanted club next)
       → Simulates old new Wanted
-  so old new Gives Wanted simulates wants = record {
+  so simulates wants = record {
     was_clean = simulates.was_clean;
     follows = λ clean club others represents.
         let next = simulates.follows clean club others represents in
@@ -79,9 +79,9 @@ module _ {S : Type 0} (Clean : S → Type 0) (Represents : S → Club → List C
   }
 
   -- one after the other
-  after : (old mid new : S) (First Second Wanted : Club → Club → Type 0) → Simulates old mid First → Simulates mid new Second
+  after : {old mid new : S} {First Second Wanted : Club → Club → Type 0} → Simulates old mid First → Simulates mid new Second
       → ((club now next : Club) → First club now → Second now next → Wanted club next) → Simulates old new Wanted
-  after old mid new First Second Wanted first second wants = record {
+  after first second wants = record {
     was_clean = λ clean. first.was_clean (second.was_clean clean);
     follows = λ clean club others represents.
         let now = first.follows (second.was_clean clean) club others represents in
@@ -126,32 +126,31 @@ module _ {S : Type 0} (Clean : S → Type 0) (Represents : S → Club → List C
   }))
 
   module _ (Fails : Option Change → S → StoreFault → S → Type 0) (moment : ℕ) (bytes : List ℕ) where
-    replies : (old new : S) (reply : Reply) → IsReplied (AnswersBy Clean Represents Fails moment) bytes old reply new
+    replies : {old new : S} (reply : Reply) → IsReplied (AnswersBy Clean Represents Fails moment) bytes old reply new
         → Simulates old new (λ club next. IsReplied (machine_answers moment) bytes club reply next)
-    replies old new reply (replied.parser_refusal refusal reads is kept) = same old new _ kept (λ club. replied.parser_refusal refusal reads is refl)
-    replies old new reply (replied.desk_reply decoded reads answers) = record {
+    replies reply (replied.parser_refusal refusal reads is kept) = same kept (λ club. replied.parser_refusal refusal reads is refl)
+    replies reply (replied.desk_reply decoded reads answers) = record {
       was_clean = answers.was_clean;
       follows = λ clean club others represents.
           let seen = answers.steps clean in
-          let next = one_request new club others seen.0 moment reply (seen.2 club others represents) in
+          let next = one_request _ club others seen.0 moment reply (seen.2 club others represents) in
           (next.0, next.1, next.2, replied.desk_reply decoded reads (seen.0, seen.1, next.3));
     }
-    replies old new reply (replied.out_of_memory holds is kept) = same old new _ kept (λ club. replied.out_of_memory holds is refl)
+    replies reply (replied.out_of_memory holds is kept) = same kept (λ club. replied.out_of_memory holds is refl)
 
-    exchanges : (old new : S) (outcome : Result Reply AnswerFault) → IsExchanged (AnswersBy Clean Represents Fails moment) bytes old outcome new
+    exchanges : {old new : S} (outcome : Result Reply AnswerFault) → IsExchanged (AnswersBy Clean Represents Fails moment) bytes old outcome new
         → Simulates old new (λ club next. IsExchanged (machine_answers moment) bytes club outcome next)
-    exchanges old new (Ok reply) (is, written) = so old new _ _ (replies old new reply is) (λ club next gives. (gives, tt))
-    exchanges old new (Err Read) kept = same old new _ kept (λ club. refl)
-    exchanges old new (Err (Write n)) (reply, is, fewer, written) =
-        so old new _ _ (replies old new reply is) (λ club next gives. (reply, gives, fewer, tt))
+    exchanges (Ok reply) (is, written) = so (replies reply is) (λ club next gives. (gives, tt))
+    exchanges (Err Read) kept = same kept (λ club. refl)
+    exchanges (Err (Write n)) (reply, is, fewer, written) = so (replies reply is) (λ club next gives. (reply, gives, fewer, tt))
 
   -- ---- a command
 
-  answered : (command : Command) (IsText : List ℕ → Type 0) (answer : Result (List ℕ) Fault) (old new : S)
+  answered : (command : Command) (IsText : List ℕ → Type 0) (answer : Result (List ℕ) Fault) {old new : S}
       → IsAnswered Clean Represents command IsText answer old new → Simulates old new (λ club next. IsAnswered Always IsItself command IsText answer club next)
-  answered command IsText answer old new (does.out_of_memory is kept) = same old new _ kept (λ club. does.out_of_memory is refl)
-  answered command IsText answer old new (does.command_given text is given) =
-      so old new _ _ (stepped old new _ _ given.was_clean given.steps)
+  answered command IsText answer (does.out_of_memory is kept) = same kept (λ club. does.out_of_memory is refl)
+  answered command IsText answer (does.command_given text is given) =
+      so (stepped _ _ _ _ given.was_clean given.steps)
       (λ club next steps. does.command_given text is (record {
         reply = given.reply;
         was_clean = λ always. tt;
@@ -159,9 +158,9 @@ module _ {S : Type 0} (Clean : S → Type 0) (Represents : S → Club → List C
         answers = given.answers;
       }))
 
-  desk_shown : (Shows : Club → Result (String Global) DeskFault → Type 0) (answer : Result (List ℕ) Fault) (old new : S)
+  desk_shown : (Shows : Club → Result (String Global) DeskFault → Type 0) (answer : Result (List ℕ) Fault) {old new : S}
       → DeskShows Clean Represents Shows answer old new → Simulates old new (λ club next. DeskShows Always IsItself Shows answer club next)
-  desk_shown Shows answer old new desk_shows = record {
+  desk_shown Shows answer desk_shows = record {
     was_clean = desk_shows.was_clean;
     follows = λ clean club others represents. (
       club,
@@ -177,42 +176,36 @@ module _ {S : Type 0} (Clean : S → Type 0) (Represents : S → Club → List C
     );
   }
 
-  done : (task : Task) (answer : Result (List ℕ) Fault) (old new : S) → Does Clean Represents task answer old new
+  done : (task : Task) (answer : Result (List ℕ) Fault) {old new : S} → Does Clean Represents task answer old new
       → Simulates old new (λ club next. Does Always IsItself task answer club next)
-  done (Give given) answer old new does = answered given _ answer old new does
-  done (Key command root) answer old new does = answered _ _ answer old new does
-  done (Sheet day) answer old new desk_shows = desk_shown _ answer old new desk_shows
-  done (ShowAccount key clock) answer old new (None, shows, stopped) = same old new _ stopped.1 (λ club. (None, shows, (stopped.0, refl)))
-  done (ShowAccount key clock) answer old new (Some moment, shows, desk_shows) =
-      so old new _ _ (desk_shown _ answer old new desk_shows) (λ club next desk_shows. (Some moment, shows, desk_shows))
-  done (ShowSlot slot) answer old new desk_shows = desk_shown _ answer old new desk_shows
+  done (Give given) answer does = answered given _ answer does
+  done (Key command root) answer does = answered _ _ answer does
+  done (ShowAccount key clock) answer (None, shows, stopped) = same stopped.1 (λ club. (None, shows, (stopped.0, refl)))
+  done (ShowAccount key clock) answer (Some moment, shows, desk_shows) =
+      so (desk_shown _ answer desk_shows) (λ club next desk_shows. (Some moment, shows, desk_shows))
+  done _ answer desk_shows = desk_shown _ answer desk_shows
 
-  with_arguments : (root : Text) (arguments : List Text) (answer : Result (List ℕ) Fault) (old new : S)
+  with_arguments : {root : Text} {arguments : List Text} {answer : Result (List ℕ) Fault} {old new : S}
       → DoesArguments Clean Represents root arguments answer old new
       → Simulates old new (λ club next. DoesArguments Always IsItself root arguments answer club next)
-  with_arguments root arguments answer old new (spec.task_done file task asks does) =
-      so old new _ _ (done task answer old new does) (λ club next does. spec.task_done file task asks does)
-  with_arguments root arguments answer old new (spec.key_done file command given asks is does) =
-      so old new _ _ (done (Key command given) answer old new does) (λ club next does. spec.key_done file command given asks is does)
-  with_arguments root arguments answer old new (spec.root_refused file command asks none refused kept) =
-      same old new _ kept (λ club. spec.root_refused file command asks none refused refl)
-  with_arguments root arguments answer old new (spec.arguments_refused fault reads refused kept) =
-      same old new _ kept (λ club. spec.arguments_refused fault reads refused refl)
+  with_arguments (spec.task_done file task asks does) = so (done task _ does) (λ club next does. spec.task_done file task asks does)
+  with_arguments (spec.key_done file command given asks is does) =
+      so (done (Key command given) _ does) (λ club next does. spec.key_done file command given asks is does)
+  with_arguments (spec.root_refused file command asks none refused kept) = same kept (λ club. spec.root_refused file command asks none refused refl)
+  with_arguments (spec.arguments_refused fault reads refused kept) = same kept (λ club. spec.arguments_refused fault reads refused refl)
 
-  commanded : (bytes : List ℕ) (answer : Answer) (old new : S) → CarriesOutBy Clean Represents bytes old answer new
+  commanded : {bytes : List ℕ} {answer : Answer} {old new : S} → CarriesOutBy Clean Represents bytes old answer new
       → Simulates old new (λ club next. machine_commands bytes club answer next)
-  commanded bytes answer old new (spec.command_done root arguments result is does answers) =
-      so old new _ _ (with_arguments root arguments result old new does) (λ club next does. spec.command_done root arguments result is does answers)
-  commanded bytes answer old new (spec.no_command none status kept) = same old new _ kept (λ club. spec.no_command none status refl)
-  commanded bytes answer old new (spec.not_office root arguments is other status kept) =
-      same old new _ kept (λ club. spec.not_office root arguments is other status refl)
-  commanded bytes answer old new (spec.no_memory status kept) = same old new _ kept (λ club. spec.no_memory status refl)
+  commanded (spec.command_done root arguments result is does answers) =
+      so (with_arguments does) (λ club next does. spec.command_done root arguments result is does answers)
+  commanded (spec.no_command none status kept) = same kept (λ club. spec.no_command none status refl)
+  commanded (spec.not_office root arguments is other status kept) = same kept (λ club. spec.not_office root arguments is other status refl)
+  commanded (spec.no_memory status kept) = same kept (λ club. spec.no_memory status refl)
 
-  carried_out : (carried : Option Carried) (old new : S) → IsCarriedOut (CarriesOutBy Clean Represents) old carried new
+  carried_out : (carried : Option Carried) {old new : S} → IsCarriedOut (CarriesOutBy Clean Represents) old carried new
       → Simulates old new (λ club next. IsCarriedOut machine_commands club carried next)
-  carried_out None old new kept = same old new _ kept (λ club. refl)
-  carried_out (Some carried) old new (bytes, answer, carries, is) =
-      so old new _ _ (commanded bytes answer old new carries) (λ club next carries. (bytes, answer, carries, is))
+  carried_out None kept = same kept (λ club. refl)
+  carried_out (Some carried) (bytes, answer, carries, is) = so (commanded carries) (λ club next carries. (bytes, answer, carries, is))
 
   -- ---- a server
 
@@ -220,9 +213,9 @@ module _ {S : Type 0} (Clean : S → Type 0) (Represents : S → Club → List C
     are_commanded : (clock : Clock) (old : S) (fates : List Fate) (clock' : Clock) (new : S)
         → AreCommanded Given (CarriesOutBy Clean Represents) clock old fates clock' new
         → Simulates old new (λ club next. AreCommanded Given machine_commands clock club fates clock' next)
-    are_commanded clock old _ _ _ served.no_command = same old old _ refl (λ club. served.no_command)
+    are_commanded clock old _ _ _ served.no_command = same refl (λ club. served.no_command)
     are_commanded clock old _ _ _ (served.one_command fates moment carried c d c' new before gives is) =
-        after old d new _ _ _ (are_commanded clock old fates c d before) (carried_out carried d new is)
+        after (are_commanded clock old fates c d before) (carried_out carried is)
         (λ club now next before is. served.one_command fates moment carried c now c' next before gives is)
 
     module _ (Fails : Option Change → S → StoreFault → S → Type 0) where
@@ -231,8 +224,8 @@ module _ {S : Type 0} (Clean : S → Type 0) (Represents : S → Club → List C
           → Simulates old new
           (λ club next. IsAttended Given machine_answers machine_commands over_socket meanwhile moment line outcome clock club clock' next)
       attended meanwhile moment line outcome clock old clock' new client =
-          after old client.left new _ _ _ (are_commanded client.given old meanwhile clock' client.left client.commanded)
-          (exchanges Fails moment client.exchanged.0 client.left new outcome client.exchanged.2)
+          after (are_commanded client.given old meanwhile clock' client.left client.commanded)
+          (exchanges Fails moment client.exchanged.0 outcome client.exchanged.2)
           (λ club now next commanded exchanged. record {
             given = client.given;
             left = now;
@@ -245,20 +238,20 @@ module _ {S : Type 0} (Clean : S → Type 0) (Represents : S → Club → List C
       one : (clock : Clock) (old : S) (f : ℕ) (meanwhile : List Fate) (fate : Fate) (clock' : Clock) (new : S) (f' : ℕ)
           → ServesOne Given (AnswersBy Clean Represents Fails) (CarriesOutBy Clean Represents) over_socket clock old f meanwhile fate clock' new f'
           → Simulates old new (λ club next. ServesOne Given machine_answers machine_commands over_socket clock club f meanwhile fate clock' next f')
-      one clock old f meanwhile Absent clock' new f' (none, counted, still, kept) = same old new _ kept (λ club. (none, counted, still, refl))
-      one clock old f meanwhile Overrun clock' new f' (none, counted, still, kept) = same old new _ kept (λ club. (none, counted, still, refl))
+      one clock old f meanwhile Absent clock' new f' (none, counted, still, kept) = same kept (λ club. (none, counted, still, refl))
+      one clock old f meanwhile Overrun clock' new f' (none, counted, still, kept) = same kept (λ club. (none, counted, still, refl))
       one clock old f meanwhile (Commanded moment carried) clock' new f' (none, counted, gives, is) =
-          so old new _ _ (carried_out carried old new is) (λ club next is. (none, counted, gives, is))
+          so (carried_out carried is) (λ club next is. (none, counted, gives, is))
       one clock old f meanwhile Unanswered clock' new f' never = absurd never
       one clock old f meanwhile (Exchanged moment line outcome) clock' new f' (counted, client) =
-          so old new _ _ (attended meanwhile moment line outcome clock old clock' new client) (λ club next client. (counted, client))
+          so (attended meanwhile moment line outcome clock old clock' new client) (λ club next client. (counted, client))
 
       all : (clock : Clock) (old : S) (f : ℕ) (turns : List Turn) (clock' : Clock) (new : S) (f' : ℕ)
           → AreServed Given (AnswersBy Clean Represents Fails) (CarriesOutBy Clean Represents) over_socket clock old f turns clock' new f'
           → Simulates old new (λ club next. AreServed Given machine_answers machine_commands over_socket clock club f turns clock' next f')
-      all clock old f _ _ _ _ served.none = same old old _ refl (λ club. served.none)
+      all clock old f _ _ _ _ served.none = same refl (λ club. served.none)
       all clock old f _ _ _ _ (served.more turns turn c d f1 c' new f' before due it) =
-          after old d new _ _ _ (all clock old f turns c d f1 before) (one c d f1 turn.meanwhile turn.fate c' new f' it)
+          after (all clock old f turns c d f1 before) (one c d f1 turn.meanwhile turn.fate c' new f' it)
           (λ club now next before it. served.more turns turn c now f1 c' next f' before due it)
 
   module _ (Fails : Option Change → S → StoreFault → S → Type 0) (service : Service) (store left : S) (Noted : List Turn → Type 0) where
@@ -267,7 +260,7 @@ module _ {S : Type 0} (Clean : S → Type 0) (Represents : S → Club → List C
         → RunsServer (AnswersBy Clean Represents Fails) (CarriesOutBy Clean Represents) service store left Noted result
         → FollowsMachine Clean Represents service store left Noted result
     follows_machine result (run.listened outcome last failures is it) =
-        (so store left _ _ (all showing Fails service.clock store 0 it.turns it.last left failures it.before)
+        (so (all showing Fails service.clock store 0 it.turns it.last left failures it.before)
         (λ club next before. run.listened outcome last failures is (record {
           turns = it.turns;
           last = it.last;
@@ -276,4 +269,4 @@ module _ {S : Type 0} (Clean : S → Type 0) (Represents : S → Club → List C
           ends = it.ends;
           besides = it.besides;
         }))).follows
-    follows_machine result (run.not_listened fault kept nothing) = (same store left _ kept (λ club. run.not_listened fault refl nothing)).follows
+    follows_machine result (run.not_listened fault kept nothing) = (same kept (λ club. run.not_listened fault refl nothing)).follows
