@@ -1,13 +1,14 @@
 -- What fails after a reading has failed since before it.
-use Rattle.std.specs.Prelude.{Option, Some, None, Result, Ok, Err, IfErr, MatchResult}
+use Rattle.std.specs.Prelude.{Option, Some, None, Result, Ok, Err, IfErr}
 use Rattle.std.proofs.Common.{arith}
+use Rattle.std.proofs.lemmas.Result.{MatchResult-weaker}
 use Rattle.sqlite.specs.Store.{Ghosts}
 use Rattle.sqlite.specs.State.{HasCleanDisk}
 use Rattle.sqlite.specs.Held.{Held, state}
 use Rattle.club_core.specs.declared.change.Change.{Change}
 use Rattle.club_core.specs.declared.store.StoreFault.{StoreFault}
 use Rattle.club_core.specs.Club.{Club}
-use Rattle.club_core.specs.Store.{IsRead, ReadsStore}
+use Rattle.club_core.specs.Store.{ReadsStore}
 use Rattle.club_tables.specs.ReadsAndChanges.{ChangesClub, ReadsClub, sound_in}
 use Rattle.club_store.specs.Failing.{Fails}
 use Rattle.club_store.proofs.ReadingLemmas.{change_fault, later_fault}
@@ -19,12 +20,6 @@ module _ {S A : Type 0} (g : Ghosts S) (old new : Held S) (first : Result A Stor
   fails_since None fault later it = later_fault g old new later first IsReturned fault clean reads it
   fails_since (Some change) fault later it = change_fault g old new later first IsReturned change fault clean reads it
 
-reads_or_fails : {S A : Type 0} (g : Ghosts S) (old new : Held S) (result : Result A StoreFault) (IsReturned : Club → A → Type 0)
-    → ReadsClub g old new result IsReturned → HasCleanDisk (state g new)
-    → MatchResult result (λ _. IsRead (Fails g) old new) (λ fault. Fails g None old fault new)
-reads_or_fails g old new (Ok answer) IsReturned reads clean = fails_since g old new (Ok answer) IsReturned reads clean
-reads_or_fails g old new (Err fault) IsReturned reads clean = reads.fault clean
-
 -- a read of the tables is one of a store of sound clubs
 pub reads_sound : {S A : Type 0} {g : Ghosts S} {old new : Held S} {result : Result A StoreFault} {IsReturned : Club → A → Type 0}
     → ReadsClub g old new result IsReturned → ReadsStore (λ (held : Held S). HasCleanDisk (state g held)) (sound_in g) (Fails g) old new result IsReturned
@@ -32,7 +27,7 @@ reads_sound {g = g} {old = old} {new = new} {result = result} {IsReturned = IsRe
   was_clean = omega (arith, reads.survives.clean);
   kept = λ clean club others represents. (represents.0, reads.kept clean club others represents.1);
   returned = λ clean club others represents. reads.returns clean club others represents.1;
-  failed = reads_or_fails g old new result IsReturned reads;
+  failed = λ clean. MatchResult-weaker result (reads.fault clean) (λ _ _. fails_since g old new result IsReturned reads clean) (λ fault is. is);
 }
 
 -- a change that failed
