@@ -19,9 +19,6 @@ same_test true b P h k = sym (k.1 (h.0 refl))
 same_test false true P h k = h.1 (k.0 refl)
 same_test false false P h k = refl
 
-one_test : (one other : Text → Bool) → IsCaveatTest one → IsCaveatTest other → one ≡ other
-one_test one other p q = fun_ext (λ (text : Text). same_test (one text) (other text) (IsCaveatText text) (p text) (q text))
-
 -- the code's test is one
 pub is_test : ReadsWhatIsUnderstood → IsCaveatTest is_understood
 is_test reads text = (found (caveat_of text) refl, λ is. ap is_some ((reads text is.0).0 is.1))
@@ -39,5 +36,5 @@ values_read reads name rows result is = record { is_understood = is_understood; 
 pub reads_once : RowsAnswerOnce Command OurBadValue → ReadsOnce ReadsCommand
 reads_once once name rows command result one other =
     let Reads : (Text → Bool) → Type 0 = λ test. Answers (command_of test name rows) result in
-    let alike = one_test other.is_understood one.is_understood other.is_test one.is_test in
+    let alike = fun_ext (λ (text : Text). same_test _ _ (IsCaveatText text) (other.is_test text) (one.is_test text)) in
     once (command_of one.is_understood name rows) command result one.answers (subst Reads alike other.answers)

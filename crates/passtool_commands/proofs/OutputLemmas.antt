@@ -1,5 +1,5 @@
 -- What is written of a pass.
-use Rattle.std.proofs.Common.{◌≡◌, ℕ, List, Ok, Err, ap, subst, sym, arith}
+use Rattle.std.proofs.Common.{◌≡◌, ℕ, List, Ok, Err, ap, sym, arith}
 use Rattle.std.proofs.lemmas.Grind.{common_steps}
 use Rattle.std.specs.Io.BufRead.{strip_last}
 use Rattle.pass_forms.specs.Pass.{Plain}
@@ -33,12 +33,8 @@ refused_writing Json pass fault is = fault_of_writing IsJsonText pass fault is
 pub refused : (form : Form) (pass : Plain) (fault : FormFault) → IsRefusedIn form pass fault → UnlessMemory (WritesPass form pass) (Err fault)
 refused form pass fault is = fails _ (AnswersText form pass) fault (refused_writing form pass fault is)
 
--- the line feed is taken off again
-line_feed_off : (text : List ℕ) → strip_last 10 (with_line_feed text) ≡ text
-line_feed_off text = grind (arith, common_steps)
-
 pub written_text : (form : Form) (pass : Plain) (text : List ℕ) (ending : OutcomeText) → IsWritableText (IsTextIn form) pass text
     → IsAnyReading text (Ok (form, pass)) → ending ≡ (Done, with_line_feed text) → WritesPass form pass (Ok ending)
 written_text form pass text ending is reads ending_is =
-    let Reads : List ℕ → Type 0 = λ bytes. IsAnyReading bytes (Ok (form, pass)) in
-    (Ok text, is, (ap Ok (sym ending_is), subst Reads (sym (line_feed_off text)) reads))
+    let off : strip_last 10 (with_line_feed text) ≡ text = grind (arith, common_steps) in
+    (Ok text, is, (ap Ok (sym ending_is), rw off reads))
