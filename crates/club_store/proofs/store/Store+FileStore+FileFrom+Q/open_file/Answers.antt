@@ -1,5 +1,11 @@
-use Rattle.std.proofs.Common.{ℕ, List, [], ◌∷◌, inl, refl, subst, sym, ap, ap₂, ◌∙◌, arith}
+use Rattle.std.proofs.Common.{ℕ, List, [], ◌∷◌, inl, refl, subst, sym, ap, ap₂, ◌∙◌, arith, ◌≡◌, Bool, cond, inr, subst₂, ◌≢◌, Option, None}
 use Rattle.std.proofs.lemmas.Option.{IfSome_then}
+use Rattle.club_store.specs.declared.remains.Remains.{Remains}
+use Rattle.club_store.specs.Held.{IsRemainsOf, busy}
+use Rattle.sqlite.specs.declared.file.Leftover.{Leftover}
+use Rattle.sqlite.specs.declared.error.Error.{Error}
+use Rattle.sqlite_disk.specs.History.{MayLeave}
+use Rattle.sqlite_disk.specs.Events.{Event, replay, settled}
 use Rattle.sqlite.specs.State.{HasCleanDisk}
 use Rattle.sqlite.specs.Files.{file_state}
 use Rattle.sqlite.specs.Recovery.{Image}
@@ -8,8 +14,9 @@ use Rattle.club_tables.specs.Tables.{IsLeftOf}
 use Rattle.club_store.proofs.CrashLemmas.{new_is_blank, the_one}
 use Rattle.club_tables.specs.Transaction.{fault_by}
 use Rattle.club_store.specs.Opening.{FailsFrom, LeavesFrom}
-use Rattle.club_store.proofs.FileLemmas.{seen_bytes, leaves_same}
-use Rattle.club_store.proofs.HeldLemmas.{by_left}
+use Rattle.sqlite_disk.specs.declared.Disk as disk
+use Rattle.club_store.specs.Held as spec
+use Rattle.club_store.specs.declared.remains.Remains.TheVariants as remains
 use Rattle.club_store.proofs.store.Store+FileStore+FileFrom+Q.open_file.Goals as goal
 
 pub returns-in-Ok-adopt-clause-opened : goal.returns-in-Ok-adopt-clause-opened
@@ -30,6 +37,28 @@ returns-in-Ok-adopt-clause-opened g c clean =
       again = λ clubs held. again clubs (subst (λ trees. IsLeftOf trees clubs) (sym (found.holds held.0 held.1)) held.2);
       fresh = λ none. the_one _ empty_club (again (empty_club ∷ []) (inl (was.committed, refl, new_is_blank _ was none found (opened.1 opened.0.is_open).1)));
     }
+
+-- what is read of a file that held the one or the other, after these calls
+abbrev seen_bytes : List ℕ → List ℕ → Bool → List Event → List ℕ
+seen_bytes log db is_log history = (replay (cond is_log log db) history).seen
+
+-- a crash may leave this of it
+abbrev MayLeaveOf : Bool → List ℕ → List ℕ → Bool → List Event → List ℕ → Type 0
+MayLeaveOf mixes log db is_log history c =
+    MayLeave mixes (replay (cond is_log log db) history).seen (replay (cond is_log log db) history).synced (replay (cond is_log log db) history).steps c
+
+-- a crash leaves what the file held
+leaves_same : (mixes : Bool) (log db : List ℕ) (is_log which : Bool) (history : List Event) (key : ℕ) → is_log ≡ which → history ≡ settled key ∷ []
+    → (c : List ℕ) → MayLeaveOf mixes log db is_log history c → c ≡ cond which log db
+leaves_same mixes log db is_log which history key is fresh =
+    subst₂ (λ (i : Bool) (h : List Event). (c : List ℕ) → MayLeaveOf mixes log db i h c → c ≡ cond which log db) (sym is) (sym fresh) (λ c may.
+    elim may [ inl same ↦ same | inr reached ↦ reached ])
+
+-- what holds in both cases of what is left of a file that wasn't opened
+by_left : {D : Type 0} {g : disk.Ghosts D} (P : Remains D g → Type 0) (error : Error) (rest : Option (Leftover D g)) (left : Remains D g)
+    → IsRemainsOf error rest left → (error ≡ busy → P remains.Held) → ((rest ≡ None → error ≢ busy) → P (remains.Files rest)) → P left
+by_left P error rest left (spec.held is none held) when_held other = subst P (sym held) (when_held is)
+by_left P error rest left (spec.files is_other files) when_held other = subst P (sym files) (other is_other)
 
 abbrev image : List ℕ → List ℕ → Image
 image log db = record { log = log; db = db }
