@@ -1,6 +1,10 @@
--- Lemmas on the job that arguments ask for.
-use Rattle.std.proofs.Common.{◌≡◌, List, [], Option, Some, None, IsSome, Result, Ok, Err, inl, inr, refl, ap, subst, arith}
-use Rattle.clap.specs.Words.{IsAmong, Kinds, Row, Text, fault_of, subcommand_of}
+-- Lemmas on a parse of the arguments, and on the job that they ask for.
+use Rattle.std.proofs.Common.{◌≡◌, List, [], Option, Some, None, IsSome, Result, Ok, Err, inl, inr, refl, ap, subst, arith, ◌∙◌, true, sym}
+use Rattle.std.proofs.lemmas.Bool.{and_parts}
+use Rattle.clap.specs.declared.parser.matches.ArgMatches.{ArgMatches}
+use Rattle.clap.specs.declared.error.Error.{Error}
+use Rattle.clap.specs.Words.{subcommand_rows_of}
+use Rattle.clap.specs.Words.{IsAmong, Kinds, Row, Text, fault_of, subcommand_of, App, HasKind, HasMatchesOf, is_simple, is_simple_and_free, kind_of}
 use Rattle.clap.specs.declared.error.kind.ErrorKind.{ErrorKind}
 use Rattle.command_line.specs.JobLaws.{RowsAnswerOnce, AskOnce, IsOrLacksMemory, ReadsOnce, WordsNameARow}
 use Rattle.command_line.specs.Job.{ReadsAccepted, ReadsFound, ReadsJob, ReadsRow}
@@ -8,7 +12,25 @@ use Rattle.command_line.specs.Table.{IsGood, Table, app_of_table, asked, asked_i
 use Rattle.command_line.specs.declared.errors.ArgumentsFault.{ArgumentsFault}
 use Rattle.command_line.specs.declared.errors.ArgumentsFault.TheVariants.{Refused, BadValue, Memory}
 use Rattle.command_line.specs.declared.job.Asked.{Asked}
+use Rattle.clap.specs.declared.error.kind.ErrorKind.TheVariants as kind
 use Rattle.command_line.specs.declared.job.Asked.TheVariants.{Perform, ShowText}
+
+module _ (made app : App) (arguments : List Text) (is : made ≡ app) (free : is_simple_and_free app ≡ true) where
+  -- clap accepts the arguments
+  pub accepted : (m : ArgMatches) → HasMatchesOf made arguments m → (is_simple_and_free made ≡ true → fault_of made arguments ≡ [])
+      → (fault_of app arguments ≡ []) × (subcommand_rows_of m ≡ subcommand_of app arguments)
+  accepted m found clear = (
+    subst (λ a. is_simple_and_free a ≡ true → fault_of a arguments ≡ []) is clear free,
+    (subst (λ a. HasMatchesOf a arguments m) is found (and_parts (is_simple app) _ free).0).1,
+  )
+
+  -- its error has a kind among those that it may return, but for out of memory
+  pub refused : (e : Error) (k : ErrorKind) → (is_simple_and_free made ≡ true → HasKind (fault_of made arguments) e) → k ≡ kind_of e
+      → (k ≡ kind.OutOfMemory → ⊥) → IsAmong k (fault_of app arguments)
+  refused e k has same other = elim (subst (λ a. is_simple_and_free a ≡ true → HasKind (fault_of a arguments) e) is has free) [
+    | inl memory ↦ absurd (other (same ∙ memory))
+    | inr among ↦ subst (λ (x : ErrorKind). IsAmong x (fault_of app arguments)) (sym same) among
+  ]
 
 -- clap accepts the arguments, and found this of them
 module _ {C J V : Type 0} (table : Table C) (Reads : ReadsRow C J V) (arguments : List Text) (found : Option (Text × List Row))

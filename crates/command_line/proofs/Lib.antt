@@ -1,5 +1,4 @@
 pub mod RootLemmas
-pub mod ArgumentsLemmas
 pub mod NamedLemmas
 pub mod TableLemmas
 pub mod FoundLemmas

@@ -2,8 +2,7 @@ use Rattle.std.proofs.Common.{◌∙◌, inl, inr, refl}
 use Rattle.clap.specs.Words.{kind_of}
 use Rattle.clap.specs.declared.error.kind.ErrorKind.TheVariants as kind
 use Rattle.command_line.specs.Table.{asked, refusals}
-use Rattle.command_line.proofs.JobLemmas.{reads_accepted, reads_fault, row_named}
-use Rattle.command_line.proofs.ArgumentsLemmas.{accepted, refused}
+use Rattle.command_line.proofs.JobLemmas.{accepted, refused, reads_accepted, reads_fault, row_named}
 use Rattle.command_line.proofs.job.read_job.Goals as goal
 
 pub job_found-requires : goal.job_found-requires
