@@ -1,5 +1,4 @@
-use Rattle.club_store.proofs.FailingLemmas.{change_failed}
-use Rattle.club_store.proofs.SoundLemmas.{sound_changes, sound_refusals}
+use Rattle.club_store.proofs.FailingLemmas.{change_failed, sound_changes, sound_refusals}
 use Rattle.club_store.proofs.club.StoreClubStore.apply.Goals as goal
 
 pub returns-clause-changed : goal.returns-clause-changed
