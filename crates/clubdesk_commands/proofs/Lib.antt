@@ -1,4 +1,3 @@
 pub mod RunLemmas
-pub mod ServerLemmas
 pub mod HandedLemmas
 pub mod MachineLemmas
