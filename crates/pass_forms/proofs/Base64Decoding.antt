@@ -16,6 +16,8 @@ use Rattle.pass_forms.specs.computed.Envelope.{by_decoders, from_base64}
 use Rattle.pass_forms.proofs.Base64Bytes.{bytes_from_passes, passes_from_bytes}
 use Rattle.pass_forms.proofs.Base64Spelling.{decoded-encode, decoded_spells, spelling_passes, spells_one}
 use Rattle.std.proofs.Common.{◌⊎◌}
+use Rattle.std.proofs.Common.{◌≤◌, length}
+use Rattle.std.specs.Option.{IfSome}
 
 -- one of the four engines decodes the text to these bytes
 abbrev IsDecoded : List ℕ → List ℕ → Type 0
@@ -91,3 +93,9 @@ pub decoded_into : (e : GeneralPurpose) (text old new : List ℕ) (r : Result �
 unfolding decoded_of
 decoded_into e text old new (Ok n) answer is ok err = rw (is, ok.0) refl
 decoded_into e text old new (Err error) answer is ok err = rw (is, err) refl
+
+-- how many bytes it answers at most
+pub decoded_within : (e : GeneralPurpose) (text old new : List ℕ) (r : Result ℕ DecodeError) (answer : Option ℕ) (buffer : ℕ) → answer ≡ result_ok r
+    → IfOk r (λ n. IsDecodedInto e text n old new) → length old ≤ buffer → IfSome answer (λ n. n ≤ buffer)
+decoded_within e text old new (Ok n) answer buffer is ok fits = rw is (omega arith)
+decoded_within e text old new (Err error) answer buffer is ok fits = rw is tt

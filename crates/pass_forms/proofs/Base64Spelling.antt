@@ -6,7 +6,7 @@ use Rattle.std.specs.List.{list_all}
 use Rattle.std.specs.Result.{result_ok}
 use Rattle.std.specs.declared.option.Option.TheVariants.{Some}
 use Rattle.std.specs.declared.result.Result.{Result}
-use Rattle.std.specs.declared.result.Result.TheVariants.{Ok, Err}
+use Rattle.std.specs.declared.result.Result.TheVariants.{Ok}
 use Rattle.base64.specs.Engines.{standard, url_safe}
 use Rattle.base64.specs.GeneralPurpose.{IsBytes, IsConsistent, IsStrict, decode_of, decoded_of, encode_of, engine_symbols}
 use Rattle.base64.specs.Rfc4648.{encode}
@@ -21,6 +21,7 @@ use Rattle.pass_forms.proofs.Base64Bytes.{decode_of_are_bytes}
 use Rattle.pass_forms.proofs.Base64Symbols.{encode_map, encode_passes, standard_symbol}
 use Rattle.base64.specs.Engines.{url_safe_no_pad, standard_no_pad}
 use Rattle.std.proofs.Common.{◌⊎◌}
+use Rattle.std.proofs.Common.{arith}
 
 -- the two alphabets
 abbrev standard_symbols : List ℕ
@@ -30,8 +31,7 @@ abbrev url_safe_symbols : List ℕ
 url_safe_symbols = engine_symbols url_safe
 
 some_ok : (r : Result (List ℕ) DecodeError) (b : List ℕ) → result_ok r ≡ Some b → r ≡ Ok b
-some_ok (Ok x) b some = cc some
-some_ok (Err e) b some = cc some
+some_ok r b some = grind arith
 
 -- What decodes is the encoding of bytes.
 pub decoded_spells : (e : GeneralPurpose) (text b : List ℕ) → IsStrict e → IsBytes text → decoded_of e text ≡ Some b → (text ≡ encode_of e b) × IsBytes b

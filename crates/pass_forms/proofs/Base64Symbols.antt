@@ -1,11 +1,13 @@
 -- The symbols of an encoding: which bytes they are, and what they are in the standard alphabet.
-use Rattle.std.proofs.Common.{◌≡◌, ℕ, zero, suc, ◌+◌, ◌*◌, ◌/◌, ◌%◌, ◌==◌, if◌then◌else◌, Bool, true, false, List, [], ◌∷◌, length, replicate}
+use Rattle.std.proofs.Common.{◌≡◌, ℕ, zero, suc, ◌+◌, ◌*◌, ◌/◌, ◌%◌, ◌==◌, if◌then◌else◌, Bool, true, List, [], ◌∷◌, replicate}
 use Rattle.std.proofs.Common.{slice_index, map, refl, ap}
 use Rattle.std.specs.List.{list_all}
 use Rattle.std.proofs.lemmas.Bool.{and_parts}
-use Rattle.std.proofs.lemmas.List.{append-nil, map-append}
-use Rattle.std.proofs.lemmas.List.Folds.{list_all-append}
-use Rattle.base64.specs.Rfc4648.{encode, encode_symbols, padding_len}
+use Rattle.base64.specs.Rfc4648.{encode, encode_symbols}
+use Rattle.std.proofs.Common.{arith}
+use Rattle.std.proofs.lemmas.Grind.{common_steps}
+use Rattle.std.proofs.Common.{arith}
+use Rattle.std.proofs.lemmas.Grind.{common_steps}
 
 -- a test that 0 and each symbol of a table pass, at any place of the table
 passes_at : (p : ℕ → Bool) (t : List ℕ) (i : ℕ) → p 0 ≡ true → list_all p t ≡ true → p (slice_index t i) ≡ true
@@ -18,17 +20,9 @@ passes_at p (x ∷ xs) (suc i) past all = passes_at p xs i past (and_parts (p x)
 pub symbols_pass : (p : ℕ → Bool) (t m : List ℕ) → p 0 ≡ true → list_all p t ≡ true → list_all p (encode_symbols t m) ≡ true
 unfolding encode_symbols
 symbols_pass p t [] past all = refl
-symbols_pass p t (a ∷ []) past all = rw (passes_at p t (a / 4) past all, passes_at p t (a % 4 * 16) past all) refl
-symbols_pass p t (a ∷ b ∷ []) past all =
-    rw (passes_at p t (a / 4) past all, passes_at p t (a % 4 * 16 + b / 16) past all, passes_at p t (b % 16 * 4) past all) refl
-symbols_pass p t (a ∷ b ∷ c ∷ rest) past all =
-    rw (
-      passes_at p t (a / 4) past all,
-      passes_at p t (a % 4 * 16 + b / 16) past all,
-      passes_at p t (b % 16 * 4 + c / 64) past all,
-      passes_at p t (c % 64) past all,
-    )
-    (symbols_pass p t rest past all)
+symbols_pass p t (a ∷ []) past all = grind (arith, passes_at)
+symbols_pass p t (a ∷ b ∷ []) past all = grind (arith, passes_at)
+symbols_pass p t (a ∷ b ∷ c ∷ rest) past all = grind (arith, passes_at p t, symbols_pass p t rest past all)
 
 -- copies of a byte that passes
 copies_pass : (p : ℕ → Bool) (x k : ℕ) → p x ≡ true → list_all p (replicate k x) ≡ true
@@ -38,9 +32,7 @@ copies_pass p x (suc k) passes = rw passes (copies_pass p x k passes)
 -- an encoding passes a test that its symbols, 0 and the padding pass
 pub encode_passes : (p : ℕ → Bool) (t m : List ℕ) (pad : ℕ) (padding : Bool) → p 0 ≡ true → p pad ≡ true → list_all p t ≡ true
     → list_all p (encode t pad padding m) ≡ true
-encode_passes p t m pad false past padded all = rw append-nil (symbols_pass p t m past all)
-encode_passes p t m pad true past padded all =
-    rw (list_all-append, symbols_pass p t m past all) (copies_pass p pad (padding_len (length m)) padded)
+encode_passes p t m pad padding past padded all = grind (arith, common_steps, symbols_pass, copies_pass)
 
 -- the symbol of the standard alphabet for the same six bits
 abbrev pub standard_symbol : ℕ → ℕ
@@ -67,5 +59,4 @@ padding_map (suc k) = ap (λ (rest : List ℕ). 61 ∷ rest) (padding_map k)
 
 -- the encoding of a message
 pub encode_map : (t m : List ℕ) (padding : Bool) → map standard_symbol (encode t 61 padding m) ≡ encode (map standard_symbol t) 61 padding m
-encode_map t m false = rw (map-append, symbols_map t m) refl
-encode_map t m true = rw (map-append, symbols_map t m, padding_map (padding_len (length m))) refl
+encode_map t m padding = grind (arith, common_steps, symbols_map, padding_map)

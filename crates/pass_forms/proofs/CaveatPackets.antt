@@ -12,6 +12,8 @@ use Rattle.pass_forms.proofs.Digits.{bind_some}
 use Rattle.pass_forms.proofs.Packets.{packet_takes, packet_again, packet_other, length-packet}
 use Rattle.std.proofs.Common.{arith}
 use Rattle.std.proofs.lemmas.Grind.{common_steps}
+use Rattle.std.proofs.Common.{arith, append_assoc}
+use Rattle.std.proofs.lemmas.Grind.{common_steps}
 
 optional_takes : (key bytes : List ℕ) → (bytes ≡ optional_packet key (optional_at key bytes).0 ++ (optional_at key bytes).1)
     × IfSome (optional_at key bytes).0 (FitsPacket key)

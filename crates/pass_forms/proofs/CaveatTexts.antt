@@ -1,11 +1,14 @@
 -- The caveats that are read are the caveats that were written, and the reverse, in either layout.
-use Rattle.std.proofs.Common.{◌≡◌, ℕ, zero, suc, ◌≤◌, List, [], ◌∷◌, ◌++◌, length, Some, None, refl, sym, ap, ◌∙◌, append_assoc, subst, arith}
+use Rattle.std.proofs.Common.{◌≡◌, ℕ, zero, suc, ◌≤◌, List, [], ◌∷◌, ◌++◌, length, Some, None, refl, sym, ap, ◌∙◌, subst, arith}
 use Rattle.std.specs.List.{flat_map, AllByRecursion}
 use Rattle.std.proofs.lemmas.List.Concat.{flat_map-cons}
 use Rattle.std.proofs.lemmas.List.{length-append}
 use Rattle.pass_forms.specs.computed.Caveats.{and_others, caveats_at}
 use Rattle.pass_forms.specs.Pass.{WideCaveat}
 use Rattle.pass_forms.proofs.CaveatRuns.{Reader}
+use Rattle.std.proofs.Common.{arith}
+use Rattle.std.proofs.Common.{arith}
+use Rattle.std.proofs.lemmas.Grind.{common_steps}
 
 -- A layout reads the texts of the caveats that fit it, if what follows ends a caveat.
 pub record Exact (at : Reader) (text : WideCaveat → List ℕ) (Fits : WideCaveat → Type 0) (Ends : List ℕ → Type 0) : Type 0 where
@@ -16,8 +19,7 @@ pub record Exact (at : Reader) (text : WideCaveat → List ℕ) (Fits : WideCave
 
 regrouped : (text : WideCaveat → List ℕ) (caveat : WideCaveat) (caveats : List WideCaveat) (rest : List ℕ) →
     flat_map text (caveat ∷ caveats) ++ rest ≡ text caveat ++ (flat_map text caveats ++ rest)
-regrouped text caveat caveats rest =
-    ap (λ (x : List ℕ). x ++ rest) (flat_map-cons text caveat caveats) ∙ append_assoc (text caveat) (flat_map text caveats) rest
+regrouped text caveat caveats rest = grind (arith, common_steps, flat_map-cons)
 
 module _ (at : Reader) (text : WideCaveat → List ℕ) (Fits : WideCaveat → Type 0) (Ends : List ℕ → Type 0) (exact : Exact at text Fits Ends) where
   pub caveats_take : (n : ℕ) (bytes : List ℕ) → (bytes ≡ flat_map text (caveats_at at n bytes).0 ++ (caveats_at at n bytes).1)

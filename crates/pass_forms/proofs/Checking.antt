@@ -1,11 +1,10 @@
 -- From one wide pass at most for each text to the one reading of it.
-use Rattle.std.proofs.Common.{◌≡◌, ◌↔◌, ℕ, ◌≤◌, Bool, true, false, cond, ltb, ◌||◌, List, [], ◌∷◌, length, map, Option, Some, None, Result}
-use Rattle.std.proofs.Common.{Ok, Err, refl, sym, ap, subst, ◌∙◌, arith}
+use Rattle.std.proofs.Common.{◌≡◌, ◌↔◌, ℕ, ◌≤◌, Bool, false, cond, ltb, ◌||◌, List, [], ◌∷◌, length, map, Option, Some, None, Result}
+use Rattle.std.proofs.Common.{Ok, Err, refl, ap, subst, arith}
 use Rattle.std.specs.Prelude.{is_some}
 use Rattle.std.specs.List.{list_any}
 use Rattle.std.proofs.lemmas.List.{length-map}
-use Rattle.std.proofs.lemmas.Option.{same_Some}
-use Rattle.std.proofs.lemmas.Bool.{or_parts, ltb-true, ltb-false, le-ltb, lt-ltb}
+use Rattle.std.proofs.lemmas.Bool.{or_parts, le-ltb, lt-ltb}
 use Rattle.pass_forms.specs.declared.fault.FormFault.{FormFault}
 use Rattle.pass_forms.specs.declared.fault.FormFault.TheVariants.{TooLong, Malformed, ThirdParty, TooMany, Memory}
 use Rattle.pass_forms.specs.Laws.{ComputesSpelled, OnePassEach}
@@ -13,6 +12,9 @@ use Rattle.pass_forms.specs.Pass.{Plain, WideCaveat, WidePass, is_third_party, h
 use Rattle.pass_forms.specs.Reading.{max_text_len, max_caveats, IsReadAs}
 use Rattle.pass_forms.specs.computed.Reading.{checked_if_any, reading_of}
 use Rattle.std.proofs.Common.{arith}
+use Rattle.std.proofs.lemmas.Bool.Decides.{nat_tests}
+use Rattle.std.proofs.Common.{arith}
+use Rattle.std.proofs.lemmas.Grind.{common_steps}
 use Rattle.std.proofs.lemmas.Bool.Decides.{nat_tests}
 
 -- ---- a wide pass with no third party's caveat is a pass
@@ -28,14 +30,14 @@ all_first_party (caveat ∷ caveats) e =
     cc (is_first_party caveat.identifier caveat.verifier_id caveat.location both.0, all_first_party caveats both.1)
 
 widened-first_party : (wide : WidePass) → has_third_party wide ≡ false → as_wide_pass (first_party wide) ≡ wide
-widened-first_party wide e = rw (all_first_party wide.caveats e) refl
+widened-first_party wide e = grind (arith, all_first_party)
 
 first_party_caveats : (caveats : List (List ℕ)) → map first_party_caveat (map widened_caveat caveats) ≡ caveats
 first_party_caveats [] = refl
 first_party_caveats (caveat ∷ caveats) = ap (λ (cs : List (List ℕ)). caveat ∷ cs) (first_party_caveats caveats)
 
 first_party-widened : (pass : Plain) → first_party (as_wide_pass pass) ≡ pass
-first_party-widened pass = rw (first_party_caveats pass.caveats) refl
+first_party-widened pass = grind (arith, first_party_caveats)
 
 no_third_party : (caveats : List (List ℕ)) → list_any is_third_party (map widened_caveat caveats) ≡ false
 no_third_party [] = refl
@@ -54,10 +56,7 @@ nothing_computed (Some wide) none = absurd (none wide refl)
 module _ (len : ℕ) (Spelled : WidePass → Type 0) where
   checked_by : (wide : WidePass) (third many : Bool) → has_third_party wide ≡ third → ltb max_caveats (length wide.caveats) ≡ many → len ≤ max_text_len →
       Spelled wide → IsReadAs len Spelled (cond third (Err ThirdParty) (cond many (Err TooMany) (Ok (first_party wide))))
-  checked_by wide true many et em within spelling = (within, wide, spelling, et)
-  checked_by wide false true et em within spelling = (within, wide, spelling, et, ltb-true _ _ em)
-  checked_by wide false false et em within spelling =
-      (within, subst Spelled (sym (widened-first_party wide et)) spelling, omega (arith, ltb-false _ _ em, length-map wide.caveats first_party_caveat))
+  checked_by wide third many et em within spelling = grind (arith, nat_tests, common_steps, widened-first_party)
 
   pub checked_if_any_is : (computed : Option WidePass) → Computes Spelled computed → len ≤ max_text_len → IsReadAs len Spelled (checked_if_any computed)
   checked_if_any_is computed exact within = grind (arith, nat_tests, checked_by)
@@ -92,4 +91,4 @@ module _ (len : ℕ) (Spelled : WidePass → Type 0) where
 -- ---- of a form whose computed wide pass is the one that bytes spell
 
 pub one_each : (Spells : List ℕ → WidePass → Type 0) (wide_at : List ℕ → Option WidePass) → ComputesSpelled Spells wide_at → OnePassEach Spells
-one_each Spells wide_at exact bytes one other h k = same_Some one other (sym ((exact bytes one).0 h) ∙ (exact bytes other).0 k)
+one_each Spells wide_at exact bytes one other h k = grind (arith, exact)

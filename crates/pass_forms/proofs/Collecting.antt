@@ -1,17 +1,16 @@
 -- A pass that is collected from the fields that were opened is the one that was read.
-use Rattle.std.proofs.Common.{◌≡◌, ℕ, List, [], ◌∷◌, ◌++◌, map, Result, Ok, Err, sym, ap, ◌∙◌, append_assoc, subst}
+use Rattle.std.proofs.Common.{◌≡◌, ℕ, List, [], ◌∷◌, ◌++◌, map, Result, Ok, sym, ap, ◌∙◌, append_assoc}
 use Rattle.std.proofs.lemmas.List.{append-nil}
 use Rattle.pass_forms.specs.declared.fault.FormFault.{FormFault}
 use Rattle.pass_forms.specs.FieldSource.{IsOpening, PassField, caveat_field, pass_fields, no_fields, opening_of, signature_field, with_fields}
 use Rattle.pass_forms.specs.Pass.{Plain}
+use Rattle.std.proofs.Common.{arith, append_assoc}
+use Rattle.std.proofs.Common.{arith, append_assoc}
 
 -- An opening is right if the reading is.
 pub opens : (Reads : Result Plain FormFault → Type 0) (reading : Result Plain FormFault) (answer : Result (List PassField) FormFault) → Reads reading →
     answer ≡ opening_of reading → IsOpening Reads answer
-opens Reads (Ok pass) (Ok fields) h e = (pass, h, cc)
-opens Reads (Ok pass) (Err fault) h e = absurd cc
-opens Reads (Err fault) (Ok fields) h e = absurd cc
-opens Reads (Err fault) (Err other) h e = subst (λ (f : FormFault). Reads (Err f)) (cc) h
+opens Reads reading answer h e = grind arith
 
 -- caveats, and then the signature
 last_fields : (location identifier : List ℕ) (front caveats : List (List ℕ)) (before signature : List ℕ) →
@@ -27,11 +26,8 @@ last_fields location identifier front (caveat ∷ caveats) before signature =
     (append_assoc front (caveat ∷ []) caveats)
 
 all_fields : (pass : Plain) → with_fields no_fields (pass_fields pass) ≡ pass
-all_fields pass = last_fields pass.location pass.identifier [] pass.caveats no_fields.signature pass.signature
+all_fields pass = grind (arith, last_fields)
 
 -- Fields were opened, so a pass is read, and the fields are its own.
 pub was_read : (reading : Result Plain FormFault) (fields : List PassField) → Ok fields ≡ opening_of reading → reading ≡ Ok (with_fields no_fields fields)
-was_read (Ok pass) fields e =
-    let same : fields ≡ pass_fields pass = cc in
-    ap (λ (p : Plain). Ok p) (sym (all_fields pass) ∙ ap (with_fields no_fields) (sym same))
-was_read (Err fault) fields e = absurd cc
+was_read reading fields e = grind (arith, all_fields)

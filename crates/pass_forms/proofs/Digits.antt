@@ -1,10 +1,14 @@
 -- A digit that is read is the digit that was written, and so are four of them.
-use Rattle.std.proofs.Common.{◌≡◌, ℕ, ◌+◌, ◌*◌, ◌/◌, ◌%◌, ◌^◌, ◌<◌, List, [], ◌∷◌, ◌++◌, Option, Some, None, refl, arith}
+use Rattle.std.proofs.Common.{◌≡◌, ℕ, ◌+◌, ◌*◌, ◌^◌, ◌<◌, List, [], ◌∷◌, ◌++◌, Option, Some, None, refl, arith}
 use Rattle.std.proofs.lemmas.Bool.Decides.{nat_tests}
 use Rattle.std.proofs.lemmas.Option.{same_Some}
 use Rattle.pass_forms.specs.V1.{hex_digit, four_hex_digits}
 use Rattle.pass_forms.specs.computed.Parts.{◌>>=◌}
 use Rattle.pass_forms.specs.computed.V1Reading.{digit_value, len_at}
+use Rattle.std.proofs.Common.{arith}
+use Rattle.std.proofs.lemmas.Bool.Decides.{nat_tests}
+use Rattle.std.proofs.Common.{arith}
+use Rattle.std.proofs.lemmas.Bool.Decides.{nat_tests}
 use Rattle.std.proofs.Common.{arith}
 use Rattle.std.proofs.lemmas.Bool.Decides.{nat_tests}
 
@@ -19,12 +23,7 @@ value x y z w = x * 4096 + y * 256 + z * 16 + w
 
 digits_of_value : (x y z w : ℕ) → x < 16 → y < 16 → z < 16 → w < 16
     → four_hex_digits (value x y z w) ≡ hex_digit x ∷ hex_digit y ∷ hex_digit z ∷ hex_digit w ∷ []
-digits_of_value x y z w hx hy hz hw =
-    let first : value x y z w / 4096 ≡ x = omega arith in
-    let second : value x y z w / 256 % 16 ≡ y = omega arith in
-    let third : value x y z w / 16 % 16 ≡ z = omega arith in
-    let fourth : value x y z w % 16 ≡ w = omega arith in
-    rw (first, second, third, fourth) refl
+digits_of_value x y z w hx hy hz hw = grind arith
 
 -- the number that a step gave, if none was refused
 pub bind_some : {A B : Type 0} (o : Option A) (f : A → Option B) (y : B) → (o >>= f) ≡ Some y → (x : A) × (o ≡ Some x) × (f x ≡ Some y)

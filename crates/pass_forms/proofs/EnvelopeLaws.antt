@@ -2,7 +2,6 @@
 use Rattle.std.proofs.Common.{◌≡◌, ◌↔◌, ◌≤◌, ℕ, false, List, length, refl, sym, subst, ◌∙◌, inl, inr, Result, Ok, Err, Option, None, Some, arith, rules}
 use Rattle.std.specs.Option.{ok_or, option_and_then}
 use Rattle.std.proofs.lemmas.Bool.{cases_Bool, cases_lt, lt-ltb, le-ltb}
-use Rattle.base64.specs.GeneralPurpose.{IsBytes}
 use Rattle.pass_forms.specs.declared.fault.FormFault.{FormFault}
 use Rattle.pass_forms.specs.declared.fault.FormFault.TheVariants.{TooLong, Malformed}
 use Rattle.pass_forms.specs.declared.form.Form.{Form}
@@ -12,6 +11,8 @@ use Rattle.pass_forms.specs.Reading.{max_text_len}
 use Rattle.pass_forms.proofs.Base64Decoding.{from_base64_spells, spells_from_base64}
 use Rattle.pass_forms.proofs.Base64Spelling.{spelling_brace, spells_one}
 use Rattle.std.proofs.Common.{option_map}
+use Rattle.std.proofs.Common.{rules, arith}
+use Rattle.std.proofs.Common.{rules, arith}
 
 -- A text wraps one form and one list of bytes at most.
 pub wraps_one : (text : List ℕ) (f g : Form) (a b : List ℕ) → Wraps text f a → Wraps text g b → (f ≡ g) × (a ≡ b)
@@ -22,11 +23,6 @@ wraps_one text f g a b (inr x) (inr y) =
     let same = spells_one text a b x.0 y.0 in
     let content = sym x.1 ∙ rw (sym same) at y.1 in
     (cc content, same)
-
--- What it wraps is bytes, if the text is.
-pub wraps_bytes : (text : List ℕ) (form : Form) (b : List ℕ) → IsBytes text → Wraps text form b → IsBytes b
-wraps_bytes text form b bytes (inl plain) = subst IsBytes (sym plain.2) bytes
-wraps_bytes text form b bytes (inr content) = content.0.are_bytes
 
 abbrev pub Answer : Type 0
 Answer = Result (Form × List ℕ) FormFault

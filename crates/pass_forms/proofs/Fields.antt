@@ -1,15 +1,16 @@
 -- A field that is read is the field that was written, and what was written is read, whatever follows.
-use Rattle.std.proofs.Common.{◌≡◌, ℕ, zero, suc, ◌+◌, ◌-◌, ◌*◌, ◌/◌, ◌%◌, ◌^◌, ◌<◌, ◌≤◌, false, ltb, eqb, List, [], ◌∷◌, ◌++◌, length}
-use Rattle.std.proofs.Common.{Option, Some, None, refl, sym, ap, ◌∙◌, append_assoc, arith, inl, inr}
+use Rattle.std.proofs.Common.{◌≡◌, ℕ, zero, suc, ◌+◌, ◌-◌, ◌*◌, ◌/◌, ◌%◌, ◌^◌, ◌<◌, ◌≤◌, List, [], ◌∷◌, ◌++◌, length}
+use Rattle.std.proofs.Common.{Option, Some, None, refl, sym, ap, ◌∙◌, arith, inl, inr}
 use Rattle.std.proofs.lemmas.Bool.{cases_lt, lt-ltb, le-ltb}
 use Rattle.std.proofs.lemmas.Bool.Decides.{nat_tests}
-use Rattle.std.proofs.lemmas.Option.{some_pair_parts}
-use Rattle.std.proofs.lemmas.List.{take-append-drop, length-append}
-use Rattle.pass_forms.specs.computed.Parts.{◌>>=◌, after_prefix}
+use Rattle.std.proofs.lemmas.List.{take-append-drop}
 use Rattle.pass_forms.specs.V2.{groups, varint, field, optional_field}
 use Rattle.pass_forms.specs.computed.V2Reading.{varint_up_to, counted_at, field_at, optional_at}
 use Rattle.pass_forms.proofs.Packets.{after_prefix_takes, after_prefix_again}
 use Rattle.pass_forms.proofs.Varints.{varint_last, varint_more, above_some}
+use Rattle.std.proofs.Common.{arith}
+use Rattle.std.proofs.lemmas.Grind.{common_steps}
+use Rattle.std.proofs.lemmas.Bool.Decides.{nat_tests}
 use Rattle.std.proofs.Common.{arith}
 use Rattle.std.proofs.lemmas.Grind.{common_steps}
 use Rattle.std.proofs.lemmas.Bool.Decides.{nat_tests}
@@ -48,22 +49,15 @@ varint_small n small = groups_enough n n small
 
 -- a number of more than seven bits, but no more than fourteen
 pub varint_of_two : (n : ℕ) → 128 ≤ n → n < 2 ^ 14 → varint n ≡ (128 + n % 128) ∷ n / 128 ∷ []
-varint_of_two n large small =
-    varint_large n large ∙ ap (λ (x : List ℕ). (128 + n % 128) ∷ x) (varint_small (n / 128) (omega arith))
+varint_of_two n large small = grind (arith, varint_large, varint_small)
 
 last_takes : (byte : ℕ) (bytes : List ℕ) (n : ℕ) (rest : List ℕ) → byte < 128 → ◌≡◌ {A = Option (ℕ × List ℕ)} (Some (byte, bytes)) (Some (n, rest)) →
     byte ∷ bytes ≡ varint n ++ rest
-last_takes byte bytes n rest small e =
-    let same = some_pair_parts byte n bytes rest e in
-    rw (same.0, same.1) (ap (λ (x : List ℕ). x ++ rest) (sym (varint_small n (omega (arith, same.0)))))
+last_takes byte bytes n rest small e = grind (arith, common_steps, varint_small)
 
 more_takes : (byte : ℕ) (bytes : List ℕ) (n high : ℕ) (rest : List ℕ) → 128 ≤ byte → byte < 256 → 0 < high → n ≡ (byte - 128) + 128 * high →
     bytes ≡ varint high ++ rest → byte ∷ bytes ≡ varint n ++ rest
-more_takes byte bytes n high rest low top positive is_n others =
-    let first : 128 + n % 128 ≡ byte = omega arith in
-    let above_is : n / 128 ≡ high = omega arith in
-    let groups_are : varint n ≡ byte ∷ varint high = varint_large n (omega arith) ∙ rw (first, above_is) refl in
-    ap (λ (x : List ℕ). byte ∷ x) others ∙ ap (λ (x : List ℕ). x ++ rest) (sym groups_are)
+more_takes byte bytes n high rest low top positive is_n others = grind (arith, common_steps, varint_large)
 
 varint_takes : (most : ℕ) (bytes : List ℕ) (n : ℕ) (rest : List ℕ) → varint_up_to most bytes ≡ Some (n, rest) → bytes ≡ varint n ++ rest
 unfolding varint_up_to
@@ -83,15 +77,10 @@ varint_takes most (byte ∷ bytes) n rest e = elim (cases_lt most byte) [
 
 large_again : (most n : ℕ) (rest : List ℕ) → 128 ≤ n → n ≤ most → varint_up_to (most / 128) (varint (n / 128) ++ rest) ≡ Some (n / 128, rest) →
     varint_up_to most (varint n ++ rest) ≡ Some (n, rest)
-large_again most n rest large within others =
-    let some : eqb (n / 128) 0 ≡ false = grind (arith, nat_tests) in
-    let fits : ltb (most - n / 128 * 128) ((128 + n % 128) - 128) ≡ false = le-ltb _ _ (omega arith) in
-    let sum : n / 128 * 128 + ((128 + n % 128) - 128) ≡ n = omega arith in
-    ap (λ (x : List ℕ). varint_up_to most (x ++ rest)) (varint_large n large)
-    ∙ varint_more most (128 + n % 128) (varint (n / 128) ++ rest) (omega arith) (omega arith) (omega arith) ∙ rw (others, some, fits, sum) refl
+large_again most n rest large within others = grind (arith, nat_tests, common_steps, varint_large, varint_more)
 
 small_again : (most n : ℕ) (rest : List ℕ) → n < 128 → n ≤ most → varint_up_to most (varint n ++ rest) ≡ Some (n, rest)
-small_again most n rest small within = ap (λ (x : List ℕ). varint_up_to most (x ++ rest)) (varint_small n small) ∙ varint_last most n rest within small
+small_again most n rest small within = grind (arith, common_steps, varint_small, varint_last)
 
 again_below : (bound most n : ℕ) (rest : List ℕ) → n ≤ bound → n ≤ most → varint_up_to most (varint n ++ rest) ≡ Some (n, rest)
 again_below zero most n rest b within = small_again most n rest (omega arith) within
@@ -117,16 +106,7 @@ field_takes type bytes text rest e = grind (arith, common_steps, after_prefix_ta
 
 pub field_again : (type : ℕ) (text rest : List ℕ) → field_at type (field type text ++ rest) ≡ Some (text, rest)
 unfolding field_at
-field_again type text rest =
-    let regrouped : field type text ++ rest ≡ (type ∷ []) ++ (varint (length text) ++ (text ++ rest)) =
-    ap (λ (x : List ℕ). type ∷ x) (append_assoc (varint (length text)) text rest) in
-    let within : length text ≤ length (varint (length text) ++ (text ++ rest)) =
-    omega (arith, length-append (varint (length text)) (text ++ rest), length-append text rest) in
-    ap (λ (x : List ℕ). after_prefix (type ∷ []) x >>= λ r. varint_up_to (length r) r >>= counted_at) regrouped ∙ rw (
-      after_prefix_again (type ∷ []) (varint (length text) ++ (text ++ rest)),
-      varint_again (length text) (text ++ rest) within,
-      counted_again text rest,
-    ) refl
+field_again type text rest = grind (arith, common_steps, after_prefix_again, varint_again, counted_again)
 
 pub optional_takes : (type : ℕ) (bytes : List ℕ) → bytes ≡ optional_field type (optional_at type bytes).0 ++ (optional_at type bytes).1
 optional_takes type bytes = grind (arith, field_takes type bytes)

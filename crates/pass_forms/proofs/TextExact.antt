@@ -13,6 +13,7 @@ use Rattle.pass_forms.specs.computed.Text.{in_form, reading_in, text_reading}
 use Rattle.pass_forms.proofs.EnvelopeLaws.{wraps_one, unwrapped_answers}
 use Rattle.pass_forms.proofs.Checking.{Computes, checked_if_any_is, checked_determined}
 use Rattle.std.proofs.Common.{rules, arith}
+use Rattle.std.proofs.Common.{rules, arith}
 
 abbrev Reader : Type 0
 Reader = Form → List ℕ → Option WidePass
@@ -40,8 +41,7 @@ module _ (wide_at : Reader) (text : List ℕ) where
 
   in_form_is : (form : Form) (answer : Result Plain FormFault) → IsReadAs (length text) (SpellsIn form) answer → IsReadAs (length text) SpellsAny answer →
       IsTextReading (Spells wide_at) text (in_form form answer)
-  in_form_is form (Ok pass) here any = here
-  in_form_is form (Err fault) here any = any
+  in_form_is form answer here any = grind arith
 
   reading_in_is : (wrapped : Result (Form × List ℕ) FormFault) → IsUnwrapped text wrapped → IsTextReading (Spells wide_at) text (reading_in wide_at wrapped)
   reading_in_is (Ok (form, bytes)) h =

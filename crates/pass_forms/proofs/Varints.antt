@@ -1,8 +1,11 @@
 -- Numbers in groups of seven bits, up to a bound.
-use Rattle.std.proofs.Common.{◌≡◌, ℕ, ◌+◌, ◌-◌, ◌*◌, ◌/◌, ◌<◌, ◌≤◌, cond, ltb, List, [], ◌∷◌, length, Option, Some, None, refl, arith}
+use Rattle.std.proofs.Common.{◌≡◌, ℕ, ◌+◌, ◌-◌, ◌*◌, ◌/◌, ◌<◌, ◌≤◌, List, ◌∷◌, length, Option, Some, None, refl, arith}
 use Rattle.std.proofs.lemmas.Bool.{lt-ltb, le-ltb}
 use Rattle.std.proofs.lemmas.Bool.Decides.{nat_tests}
 use Rattle.pass_forms.specs.computed.V2Reading.{above, varint_up_to}
+use Rattle.std.proofs.Common.{arith}
+use Rattle.std.proofs.lemmas.Grind.{common_steps}
+use Rattle.std.proofs.lemmas.Bool.Decides.{nat_tests}
 
 -- a byte with more after it
 pub varint_more : (most byte : ℕ) (rest : List ℕ) → byte ≤ most → 128 ≤ byte → byte < 256 →
@@ -30,11 +33,4 @@ above_some most low (Some (high, after)) n rest e =
 
 pub no_bytes : (most : ℕ) (bytes : List ℕ) → length bytes ≡ 0 → varint_up_to most bytes ≡ None
 unfolding varint_up_to
-no_bytes most [] len = refl
-no_bytes most (byte ∷ bytes) len = absurd (omega arith)
-
-pub varint_step : (most : ℕ) (bytes : List ℕ) (first : ℕ) (others : List ℕ) → bytes ≡ first ∷ others → first < 256 →
-    varint_up_to most bytes
-    ≡ cond (ltb most first) None (cond (ltb first 128) (Some (first, others)) (above most (first - 128) (varint_up_to (most / 128) others)))
-unfolding varint_up_to
-varint_step most bytes first others is top = rw (is, lt-ltb first 256 top) refl
+no_bytes most bytes len = grind (arith, common_steps)

@@ -1,5 +1,5 @@
 -- A pass that is read from packets is the pass that they spell, and a pass that is spelled is read.
-use Rattle.std.proofs.Common.{◌≡◌, ℕ, ◌≤◌, List, [], ◌++◌, length, Some, None, refl, sym, ap, subst, ◌∙◌, arith}
+use Rattle.std.proofs.Common.{◌≡◌, ℕ, ◌≤◌, List, [], ◌++◌, length, Some, None, refl, ap, subst, ◌∙◌, arith}
 use Rattle.std.specs.List.{flat_map}
 use Rattle.std.proofs.lemmas.List.{append-nil, length-append}
 use Rattle.std.proofs.lemmas.Option.{same_Some}
@@ -16,6 +16,8 @@ use Rattle.pass_forms.proofs.Digits.{bind_some}
 use Rattle.pass_forms.proofs.Packets.{packet_takes, packet_again, packet_other}
 use Rattle.pass_forms.proofs.CaveatPackets.{EndsCaveat, exact_caveats, caveat_has_bytes}
 use Rattle.pass_forms.proofs.CaveatTexts.{caveats_take, caveats_again, caveats_fit}
+use Rattle.std.proofs.Common.{arith}
+use Rattle.std.proofs.Common.{arith}
 
 signature_takes : (bytes signature : List ℕ) → signature_at bytes ≡ Some signature → (bytes ≡ packet signature_key signature) × (length signature ≡ 32)
 unfolding signature_at
@@ -24,31 +26,19 @@ signature_takes bytes signature e =
     ((packet_takes signature_key bytes signature [] s.0).0 ∙ append-nil (packet signature_key signature), s.1)
 
 -- A signature of 32 bytes fits a packet, and is neither a caveat nor a part of one.
-signature_fits : (signature : List ℕ) → length signature ≡ 32 → FitsPacket signature_key signature
-signature_fits signature len = omega arith
-
 signature_again : (signature : List ℕ) → length signature ≡ 32 → signature_at (packet signature_key signature) ≡ Some signature
 unfolding signature_at
-signature_again signature len =
-    let read : packet_at signature_key (packet signature_key signature) ≡ Some (signature, []) =
-    ap (packet_at signature_key) (sym (append-nil (packet signature_key signature))) ∙ packet_again signature_key signature [] (signature_fits signature len) in
-    rw (read, len) refl
+signature_again signature len = rw (← append-nil (packet signature_key signature)) (rw (packet_again signature_key signature [] (omega arith), len) refl)
 
 signature_ends : (signature : List ℕ) → EndsCaveat (packet signature_key signature)
-signature_ends signature =
-    let more = sym (append-nil (packet signature_key signature)) in
-    record {
-      verifier_id = ap (packet_at verifier_id_key) more ∙ packet_other verifier_id_key signature_key signature [] (λ tail. refl);
-      location = ap (packet_at caveat_location_key) more ∙ packet_other caveat_location_key signature_key signature [] (λ tail. refl);
-    }
+signature_ends signature = record {
+  verifier_id = rw (← append-nil (packet signature_key signature)) (packet_other verifier_id_key signature_key signature [] (λ tail. refl));
+  location = rw (← append-nil (packet signature_key signature)) (packet_other caveat_location_key signature_key signature [] (λ tail. refl));
+}
 
 signature_is_no_caveat : (signature : List ℕ) → caveat_at (packet signature_key signature) ≡ None
 unfolding caveat_at
-signature_is_no_caveat signature =
-    let none : packet_at caveat_key (packet signature_key signature) ≡ None =
-    ap (packet_at caveat_key) (sym (append-nil (packet signature_key signature))) ∙ packet_other caveat_key signature_key signature []
-    (λ tail. refl) in
-    rw none refl
+signature_is_no_caveat signature = rw (← append-nil (packet signature_key signature), packet_other caveat_key signature_key signature [] (λ tail. refl)) refl
 
 header_takes : (bytes : List ℕ) (header : List ℕ × List ℕ × List ℕ) → header_at bytes ≡ Some header →
     (bytes ≡ packet location_key header.0 ++ (packet identifier_key header.1 ++ header.2)) × FitsPacket location_key header.0 × FitsPacket identifier_key

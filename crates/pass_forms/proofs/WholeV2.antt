@@ -17,6 +17,8 @@ use Rattle.pass_forms.proofs.Checking.{exactly}
 use Rattle.pass_forms.proofs.WholePass.{last_takes, made, whole_parts, whole_again}
 use Rattle.std.proofs.Common.{arith}
 use Rattle.std.proofs.lemmas.Grind.{common_steps}
+use Rattle.std.proofs.Common.{arith, append_assoc}
+use Rattle.std.proofs.lemmas.Grind.{common_steps}
 
 -- ---- caveats
 

@@ -1,5 +1,5 @@
 -- The base64 text of a pass, in either form of its bytes.
-use Rattle.std.proofs.Common.{◌≡◌, ◌↔◌, ℕ, ◌≤◌, Bool, true, false, cond, ltb, List, length, Some, Result, Ok, Err, refl, subst, arith}
+use Rattle.std.proofs.Common.{◌≡◌, ◌↔◌, ℕ, ◌≤◌, Bool, true, false, cond, ltb, List, length, Some, Result, Ok, Err, refl, arith}
 use Rattle.std.specs.Prelude.{IfErr, IfOk, IsOk, MatchResult}
 use Rattle.std.proofs.lemmas.Bool.{ltb-false, ltb-true}
 use Rattle.base64.specs.GeneralPurpose.{IsBytes}
@@ -13,6 +13,7 @@ use Rattle.pass_forms.specs.Reading.{max_caveats, max_text_len}
 use Rattle.pass_forms.specs.Writing.{FailsAs, IsReadBack, IsWriteFault, IsWriting, IsTextBy, IsWritableText, in_base64}
 use Rattle.pass_forms.specs.computed.Writing.{writing_of}
 use Rattle.pass_forms.proofs.WrittenTexts.{bytes_fit, unwraps}
+use Rattle.std.proofs.Common.{arith}
 use Rattle.std.proofs.Common.{arith}
 
 -- A form: the bytes of a pass, and which bytes spell a pass.
@@ -28,14 +29,7 @@ IsTextIn f pass text = IsTextBy f.bytes_of f.Spells pass text
 
 module _ (f : BytesForm) (pass : Plain) where
   pub reads_back : (text : List ℕ) → IsBytes (f.bytes_of pass) → IsWritableText (IsTextIn f) pass text → IsReadBack f.Spells f.form (f.bytes_of pass) pass text
-  reads_back text are written =
-      let spelling = written.is_text.spelling in
-      let encoding : text ≡ in_base64 (f.bytes_of pass) = written.is_text.encoding in
-      let short : length (f.bytes_of pass) ≤ buffer_len = bytes_fit (f.bytes_of pass) (rw (← encoding) written.short) in
-      record {
-        content = rw encoding (unwraps f.form (f.bytes_of pass) are short (f.has_form pass spelling));
-        read = (omega arith, spelling, written.few);
-      }
+  reads_back text are written = grind (arith, bytes_fit, unwraps)
 
   -- ---- the result, a text or a fault
 
@@ -59,10 +53,7 @@ module _ (f : BytesForm) (pass : Plain) where
 
   pub exact : (answer : Result (List ℕ) FormFault) → (IsOk (writing_of (f.bytes_of pass) pass) → length pass.signature ≡ 32)
       → (writing_of (f.bytes_of pass) pass ≡ answer) ↔ IsWriting (IsTextIn f) pass answer
-  exact answer len =
-      let allowed = allowed_by (ltb max_caveats (length pass.caveats)) (ltb max_text_len (length (in_base64 (f.bytes_of pass)))) len refl refl in
-      let Allows : Result (List ℕ) FormFault → Type 0 = λ r. IsWriting (IsTextIn f) pass r in
-      ((λ e. subst Allows e allowed), (λ h. one_result _ answer allowed h))
+  exact answer len = grind (arith, allowed_by, one_result)
 
   -- ---- what a writer promises of its result
 

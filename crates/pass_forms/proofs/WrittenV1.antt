@@ -1,8 +1,7 @@
 -- What is written of a pass in V1.
-use Rattle.std.proofs.Common.{◌≡◌, ◌↔◌, ℕ, ◌+◌, ◌/◌, ◌<◌, ◌≤◌, List, [], ◌∷◌, ◌++◌, length, map, Result, Some, refl, ap, ◌∙◌, arith}
+use Rattle.std.proofs.Common.{◌≡◌, ◌↔◌, ℕ, ◌/◌, ◌<◌, ◌≤◌, List, [], ◌∷◌, length, map, Result, Some, refl, arith}
 use Rattle.std.specs.List.{flat_map, AllByRecursion}
 use Rattle.std.proofs.lemmas.Bool.Decides.{nat_tests}
-use Rattle.std.proofs.lemmas.List.{append-nil, length-append}
 use Rattle.pass_forms.specs.declared.fault.FormFault.{FormFault}
 use Rattle.pass_forms.specs.declared.form.Form.TheVariants.{V1}
 use Rattle.pass_forms.specs.Envelope.{form_of, form_of_byte}
@@ -13,39 +12,24 @@ use Rattle.pass_forms.specs.V1.{packet_len}
 use Rattle.pass_forms.specs.V1.{packets_of}
 use Rattle.pass_forms.specs.Writing.{HasBytes, IsReadBack, IsV1Text, IsWritableText, IsWriting, v1_bytes}
 use Rattle.pass_forms.specs.computed.Writing.{writing_v1}
-use Rattle.pass_forms.proofs.FieldNames.{caveat_key, identifier_key, location_key, signature_key}
+use Rattle.pass_forms.proofs.FieldNames.{location_key}
 use Rattle.pass_forms.proofs.Packets.{length-packet}
 use Rattle.pass_forms.proofs.WrittenBytes.{v1_is_bytes}
 use Rattle.pass_forms.proofs.WrittenForm.{BytesForm, exact, reads_back}
+use Rattle.std.proofs.Common.{arith}
+use Rattle.std.proofs.lemmas.Grind.{common_steps}
+use Rattle.std.proofs.lemmas.Bool.Decides.{nat_tests}
 
 fits_packet : (key bytes : List ℕ) → length (packet key bytes) ≤ buffer_len → FitsPacket key bytes
-fits_packet key bytes h = omega (arith, length-packet key bytes)
+fits_packet key bytes h = grind (arith, length-packet)
 
 fit_caveats : (caveats : List (List ℕ)) → length (flat_map caveat_packets (map widened_caveat caveats)) ≤ buffer_len →
     AllByRecursion FitsCaveat (map widened_caveat caveats)
 fit_caveats [] h = tt
-fit_caveats (caveat ∷ caveats) h =
-    let first : List ℕ = packet caveat_key caveat ++ [] in
-    let others : List ℕ = flat_map caveat_packets (map widened_caveat caveats) in
-    let split : length (first ++ others) ≡ length (packet caveat_key caveat) + length others =
-    length-append first others ∙ ap (λ (x : List ℕ). length x + length others) (append-nil (packet caveat_key caveat)) in
-    (record { identifier = fits_packet caveat_key caveat (omega arith); verifier_id = tt; location = tt }, fit_caveats caveats (omega arith))
+fit_caveats (caveat ∷ caveats) h = grind (arith, common_steps, fits_packet, fit_caveats caveats)
 
 fits_buffer : (pass : Plain) → length (packets_of (as_wide_pass pass)) ≤ buffer_len → length pass.signature ≡ 32 → FitsPackets (as_wide_pass pass)
-fits_buffer pass h len =
-    let location : List ℕ = packet location_key pass.location in
-    let identifier : List ℕ = packet identifier_key pass.identifier in
-    let caveats : List ℕ = flat_map caveat_packets (map widened_caveat pass.caveats) in
-    let signature : List ℕ = packet signature_key pass.signature in
-    let one = length-append location (identifier ++ (caveats ++ signature)) in
-    let two = length-append identifier (caveats ++ signature) in
-    let three = length-append caveats signature in
-    record {
-      location = fits_packet location_key pass.location (omega (arith, one));
-      identifier = fits_packet identifier_key pass.identifier (omega (arith, one, two));
-      caveats = fit_caveats pass.caveats (omega (arith, one, two, three));
-      signature = len;
-    }
+fits_buffer pass h len = grind (arith, common_steps, fits_packet, fit_caveats pass.caveats)
 
 pub spells_v1 : (pass : Plain) → length (v1_bytes pass) ≤ buffer_len → length pass.signature ≡ 32 → SpellsV1 (v1_bytes pass) (as_wide_pass pass)
 unfolding v1_bytes

@@ -1,5 +1,5 @@
 -- What is written of a pass in V2.
-use Rattle.std.proofs.Common.{◌≡◌, ◌↔◌, ℕ, List, [], ◌∷◌, length, Result, Some, refl}
+use Rattle.std.proofs.Common.{◌≡◌, ◌↔◌, ℕ, List, [], length, Result, Some, refl}
 use Rattle.std.specs.Prelude.{unwrap_or}
 use Rattle.pass_forms.specs.declared.fault.FormFault.{FormFault}
 use Rattle.pass_forms.specs.declared.form.Form.TheVariants.{V2}
@@ -10,10 +10,10 @@ use Rattle.pass_forms.specs.Writing.{HasBytes, IsReadBack, IsV2Text, IsWritableT
 use Rattle.pass_forms.specs.computed.Writing.{writing_v2}
 use Rattle.pass_forms.proofs.WrittenBytes.{v2_is_bytes}
 use Rattle.pass_forms.proofs.WrittenForm.{BytesForm, exact, reads_back}
+use Rattle.std.proofs.Common.{arith}
 
 nonempty_is : (location : List ℕ) → unwrap_or (nonempty_location location) [] ≡ location
-nonempty_is [] = refl
-nonempty_is (byte ∷ bytes) = refl
+nonempty_is location = grind arith
 
 pub spells_v2 : (pass : Plain) → length pass.signature ≡ 32 → SpellsV2 (v2_bytes pass) (as_wide_pass pass)
 unfolding v2_bytes

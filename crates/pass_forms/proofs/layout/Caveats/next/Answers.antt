@@ -1,9 +1,14 @@
 use Rattle.std.proofs.Common.{◌≡◌, suc, arith}
-use Rattle.pass_forms.proofs.CaveatRuns.{one_found}
+use Rattle.std.proofs.lemmas.Grind.{common_steps}
+use Rattle.pass_forms.proofs.CaveatRuns.{no_more, one_more}
 use Rattle.pass_forms.proofs.layout.Caveats.next.Goals as goal
+
+pub returns-in_err-self-clause-none : goal.returns-in_err-self-clause-none
+returns-in_err-self-clause-none g c =
+    let none : c.args.self.now.count ≡ 0 = omega (arith, c.in_err-self.ensures) in
+    grind (arith, common_steps, no_more g.L.Layout.caveat_at c.args.self.now.bytes.now)
 
 pub returns-clause-some : goal.returns-clause-some
 returns-clause-some g c =
-    let first = c.in_ok-first.first in
     let one_less : c.args.self.now.count ≡ suc c.in_ok-self.field-0 = omega (arith, c.in_ok-self.ensures) in
-    one_found g.L.Layout.caveat_at _ _ _ (first.identifier.now, first.third_party, first.rest.now) one_less c.in_ok-first.ensures
+    grind (arith, common_steps, one_more g.L.Layout.caveat_at _ _ c.args.self.now.bytes.now one_less)
