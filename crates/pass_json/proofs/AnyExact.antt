@@ -1,8 +1,7 @@
 -- The reading of a text in any form is exact.
-use Rattle.std.proofs.Common.{◌≡◌, ◌↔◌, ◌∙◌, ℕ, List, length, Some, Result, Ok, Err, sym}
+use Rattle.std.proofs.Common.{◌≡◌, ◌↔◌, ℕ, List, length, Some, Result, Ok, Err}
 use Rattle.pass_forms.specs.declared.fault.FormFault.{FormFault}
 use Rattle.pass_forms.specs.declared.form.Form.{Form}
-use Rattle.pass_forms.specs.declared.form.Form.TheVariants.{V1, V2, Json}
 use Rattle.pass_forms.specs.Pass.{Plain, WidePass}
 use Rattle.pass_forms.specs.Text.{SpellsText, IsTextReading}
 use Rattle.pass_forms.specs.Laws.{ReadsTextsExactly, ComputesSpelled}
@@ -16,6 +15,7 @@ use Rattle.pass_json.specs.computed.AnyForm.{reading, wide_in}
 use Rattle.pass_json.specs.Json.{SpellsJson}
 use Rattle.pass_json.specs.computed.JsonReading.{wide_json}
 use Rattle.pass_json.proofs.SameReading.{same_answer}
+use Rattle.std.proofs.Common.{arith}
 
 abbrev Relation : Type 1
 Relation = Form → List ℕ → WidePass → Type 0
@@ -44,9 +44,7 @@ module _ (packets : ComputesSpelled SpellsV1 v1.wide_at) (sections : ComputesSpe
     (json : ComputesSpelled SpellsJson wide_json) (texts : ReadsTextsExactly) where
   in_each : (form : Form) (bytes : List ℕ) (wide : WidePass) → SpellsForm form bytes wide ↔ Computed form bytes wide
   unfolding wide_in
-  in_each V1 bytes wide = packets bytes wide
-  in_each V2 bytes wide = sections bytes wide
-  in_each Json bytes wide = json bytes wide
+  in_each form bytes wide = grind (arith, packets, sections, json)
 
   pub reading_exact : (text : List ℕ) (answer : Result (Form × Plain) FormFault) → IsAnyReading text answer ↔ (reading text ≡ answer)
   unfolding reading
@@ -57,4 +55,4 @@ module _ (packets : ComputesSpelled SpellsV1 v1.wide_at) (sections : ComputesSpe
       (λ h. exact.0 (same_reading SpellsForm Computed to from text answer h), λ e. same_reading Computed SpellsForm from to text answer (exact.1 e))
 
   pub one_reading : OneReadingEachText
-  one_reading text one other p q = sym ((reading_exact text one).0 p) ∙ (reading_exact text other).0 q
+  one_reading text one other p q = grind (arith, reading_exact text)

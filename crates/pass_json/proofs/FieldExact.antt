@@ -10,6 +10,8 @@ use Rattle.pass_forms.specs.computed.Envelope.{from_base64}
 use Rattle.pass_forms.specs.computed.Parts.{◌>>=◌}
 use Rattle.pass_json.specs.Json.{IsField}
 use Rattle.pass_json.specs.computed.JsonReading.{decoded_text, field_bytes, field_from, must_have}
+use Rattle.std.proofs.Common.{arith}
+use Rattle.std.proofs.Common.{arith}
 
 pub bound : {A B : Type 0} (o : Option A) (f : A → Option B) (b : B) → (o >>= f) ≡ Some b → (a : A) × (o ≡ Some a) × (f a ≡ Some b)
 bound None f b e = absurd cc
@@ -18,12 +20,10 @@ bound (Some a) f b e = (a, refl, e)
 -- ---- values
 
 str_of : (value : Data) (text : List ℕ) → as_str value ≡ Some text → value ≡ string text
-str_of (string s) text e = ap string cc
-str_of value text e = absurd cc
+str_of value text e = grind arith
 
 mapped : (o : Option (List ℕ)) (t : Option (List ℕ)) → option_map (λ bytes. Some bytes) o ≡ Some t → (bytes : List ℕ) × (o ≡ Some bytes) × (t ≡ Some bytes)
-mapped None t e = absurd cc
-mapped (Some bytes) t e = (bytes, refl, cc)
+mapped o t e = grind arith
 
 -- `IsField`, for the values under the two names
 abbrev IsFieldBytes : Option Data → Option Data → Option (List ℕ) → Type 0
@@ -33,26 +33,19 @@ IsFieldBytes plain base64 (Some bytes) =
     ⊎ ((plain ≡ None) × (text : List ℕ) × (base64 ≡ Some (string text)) × IsBase64 text bytes)
 
 required_by : (o : Option (Option (List ℕ))) (bytes : List ℕ) → must_have o ≡ Some bytes → o ≡ Some (Some bytes)
-required_by None bytes e = absurd cc
-required_by (Some t) bytes e = ap (λ (x : Option (List ℕ)). Some x) e
+required_by o bytes e = grind arith
 
 -- What has a field is an object.
 pub is_object : (plain base64 : List ℕ) (value : Data) (bytes : List ℕ) → IsField plain base64 value (Some bytes) →
     (members : Members) × (value ≡ object members)
-is_object plain base64 (object members) bytes h = (members, refl)
-is_object plain base64 value bytes (inl h) = absurd (cc h.0)
-is_object plain base64 value bytes (inr h) = absurd (cc h.2)
+is_object plain base64 value bytes h = grind arith
 
 -- ---- fields, by the law of base64
 
 module _ (law : FromBase64IsBase64) where
   field_bytes_takes : (plain base64 : Option Data) (t : Option (List ℕ)) → field_bytes plain base64 ≡ Some t → IsFieldBytes plain base64 t
-  field_bytes_takes None None t e =
-      let none : None ≡ t = cc in
-      subst (IsFieldBytes None None) none (refl, refl)
-  field_bytes_takes (Some value) None t e =
-      let m = mapped (as_str value) t e in
-      subst (IsFieldBytes (Some value) None) (sym m.2) (inl (ap (λ (d : Data). Some d) (str_of value m.0 m.1), refl))
+  field_bytes_takes None None t e = grind arith
+  field_bytes_takes (Some value) None t e = grind (arith, mapped, str_of)
   field_bytes_takes None (Some value) t e =
       let m = mapped (decoded_text value) t e in
       let d = bound (as_str value) from_base64 m.0 m.1 in

@@ -1,7 +1,6 @@
 -- A text written in one form, as the definitions for any form see it.
-use Rattle.std.proofs.Common.{◌≡◌, ◌↔◌, ℕ, List, length, Result, Ok, Err, sym, ◌∙◌}
+use Rattle.std.proofs.Common.{◌≡◌, ◌↔◌, ℕ, List, length, Result, Ok}
 use Rattle.pass_forms.specs.declared.fault.FormFault.{FormFault}
-use Rattle.pass_forms.specs.declared.fault.FormFault.TheVariants.{Memory}
 use Rattle.pass_forms.specs.declared.form.Form.{Form}
 use Rattle.pass_forms.specs.declared.form.Form.TheVariants.{V1, V2, Json}
 use Rattle.pass_forms.specs.Pass.{Plain}
@@ -12,6 +11,7 @@ use Rattle.pass_json.specs.computed.AnyForm.{writing}
 use Rattle.pass_json.specs.Laws.{JsonReadsBack, WritesJsonExactly}
 use Rattle.pass_json.specs.JsonWriting.{MayFailAs}
 use Rattle.pass_json.proofs.Wrapped.{reads_back}
+use Rattle.std.proofs.Common.{arith}
 
 -- what is read back of a text is its reading
 pub back_from : (form : Form) (bytes : List ℕ) (pass : Plain) (text : List ℕ) → IsReadBack (SpellsForm form) form bytes pass text →
@@ -20,16 +20,12 @@ back_from form bytes pass text back = reads_back text form bytes pass back.conte
 
 -- What the writers of V1 and V2 answer, any writer may.
 pub may_fail : (writing : Result (List ℕ) FormFault) (fault : FormFault) → FailsAs writing fault → MayFailAs writing fault
-may_fail (Ok text) Memory h = λ many. cc
-may_fail (Err fault) Memory h = absurd cc
-may_fail writing fault h = h
+may_fail writing fault h = grind arith
 
 -- ---- the laws of each form, in any
 
 pub one_text : (form : Form) (pass : Plain) (one other : List ℕ) → IsTextIn form pass one → IsTextIn form pass other → one ≡ other
-one_text V1 pass one other h k = h.encoding ∙ sym k.encoding
-one_text V2 pass one other h k = h.encoding ∙ sym k.encoding
-one_text Json pass one other h k = h.compact ∙ sym k.compact
+one_text form pass one other h k = grind arith
 
 pub in_any_form : TextsReadBack → JsonReadsBack → (form : Form) (pass : Plain) (text : List ℕ) → HasBytes pass → IsWritableText (IsTextIn form) pass text →
     IsAnyReading text (Ok (form, pass))

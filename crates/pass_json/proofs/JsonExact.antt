@@ -1,12 +1,12 @@
 -- What is computed of JSON is what it spells.
-use Rattle.std.proofs.Common.{◌≡◌, ◌↔◌, ℕ, Bool, true, false, cond, eqb, ◌&&◌, List, [], ◌∷◌, codes, length, Option, Some, None, Result, refl, sym, ap, subst}
+use Rattle.std.proofs.Common.{◌≡◌, ◌↔◌, ℕ, Bool, true, cond, eqb, ◌&&◌, List, [], ◌∷◌, codes, length, Option, Some, None, Result, refl, sym, ap, subst}
 use Rattle.std.proofs.Common.{◌∙◌}
 use Rattle.std.specs.Option.{unwrap_or}
 use Rattle.std.specs.Str.{IsUtf8, is_utf8}
 use Rattle.std.proofs.lemmas.Bool.{and_parts, eq-eqb, eqb-true}
 use Rattle.std.proofs.lemmas.Option.{cond_some}
 use Rattle.std.proofs.lemmas.Str.{IsUtf8-from_is_utf8, is_utf8-from_IsUtf8}
-use Rattle.serde_json.specs.Data.{Data, number, array, object, unsigned, Items, no_items, item, Members}
+use Rattle.serde_json.specs.Data.{Data, array, object, Items, no_items, item, Members}
 use Rattle.serde_json.specs.Find.{get, as_array}
 use Rattle.serde_json.specs.Read.{read}
 use Rattle.pass_forms.specs.declared.fault.FormFault.{FormFault}
@@ -19,53 +19,38 @@ use Rattle.pass_json.specs.computed.JsonReading.{signature_from, pass_from, valu
 use Rattle.pass_json.proofs.SameReading.{same_answer}
 use Rattle.pass_json.proofs.FieldExact.{bound, field_takes, field_again, required_takes, required_again, is_object}
 use Rattle.pass_json.proofs.NamesExact.{has_only_takes, has_only_again}
+use Rattle.std.proofs.Common.{arith}
+use Rattle.std.proofs.lemmas.Bool.Decides.{nat_tests}
+use Rattle.std.proofs.Common.{arith}
+use Rattle.std.proofs.lemmas.Bool.Decides.{nat_tests}
 
 has_only_of : (names : List (List ℕ)) (value : Data) (found : (members : Members) × (value ≡ object members)) → HasOnly names value →
     has_only_names names value ≡ true
-has_only_of names value found h =
-    ap (has_only_names names) found.1 ∙ has_only_again names found.0 (subst (HasOnly names) found.1 h)
+has_only_of names value found h = grind (arith, has_only_again)
 
 array_of : (value : Data) (items : Items) → as_array value ≡ Some items → value ≡ array items
-array_of (array found) items e = ap array cc
-array_of value items e = absurd cc
+array_of value items e = grind arith
 
 -- ---- the version
 
 version_takes : (found : Option Data) → is_version found ≡ true → IsVersion found
-version_takes None e = tt
-version_takes (Some (number (unsigned n))) e = ap (λ (k : ℕ). number (unsigned k)) (eqb-true n 2 e)
-version_takes (Some value) e = absurd cc
+version_takes found e = grind (arith, nat_tests)
 
 version_again : (found : Option Data) → IsVersion found → is_version found ≡ true
-version_again None h = refl
-version_again (Some value) h = rw h refl
+version_again found h = grind arith
 
 -- ---- parts of a pass
 
 value_takes : (bytes : List ℕ) (test : Bool) (value : Data) → is_utf8 bytes ≡ test → cond test (read bytes) None ≡ Some value →
     IsUtf8 bytes × (read bytes ≡ Some value)
-value_takes bytes true value utf8 e = (IsUtf8-from_is_utf8 bytes utf8, e)
-value_takes bytes false value utf8 e = absurd cc
+value_takes bytes test value utf8 e = grind (arith, IsUtf8-from_is_utf8)
 
 -- ---- the pass, by the law of base64
 
 module _ (law : FromBase64IsBase64) where
   caveat_takes : (value : Data) (caveat : WideCaveat) → caveat_from value ≡ Some caveat → IsCaveatObject value caveat
   unfolding caveat_from
-  caveat_takes value caveat e =
-      let names = bound (cond (has_only_names caveat_names value) (Some value) None) _ caveat e in
-      let identifier = bound (must_have (field_from (codes "i") (codes "i64") value)) _ caveat names.2 in
-      let verifier_id = bound (field_from (codes "v") (codes "v64") value) _ caveat identifier.2 in
-      let location = bound (field_from (codes "l") (codes "l64") value) _ caveat verifier_id.2 in
-      let w : WideCaveat = record { identifier = identifier.0; verifier_id = verifier_id.0; location = location.0 } in
-      let is : w ≡ caveat = cc location.2 in
-      let spelling : IsCaveatObject value w = record {
-        names = has_only_takes caveat_names value (cond_some (has_only_names caveat_names value) value names.0 names.1).0;
-        identifier = required_takes law (codes "i") (codes "i64") value identifier.0 identifier.1;
-        verifier_id = field_takes law (codes "v") (codes "v64") value verifier_id.0 verifier_id.1;
-        location = field_takes law (codes "l") (codes "l64") value location.0 location.1;
-      } in
-      subst (IsCaveatObject value) is spelling
+  caveat_takes value caveat e = grind (arith, has_only_takes, required_takes law, field_takes law)
 
   caveat_again : (value : Data) (caveat : WideCaveat) → IsCaveatObject value caveat → caveat_from value ≡ Some caveat
   unfolding caveat_from
@@ -80,17 +65,8 @@ module _ (law : FromBase64IsBase64) where
 
   caveats_take : (items : Items) (caveats : List WideCaveat) → caveats_of items ≡ Some caveats → AreCaveats items caveats
   unfolding caveats_of
-  caveats_take no_items [] e = tt
-  caveats_take (item value values) (caveat ∷ caveats) e =
-      let one = bound (caveat_from value) _ (caveat ∷ caveats) e in
-      let more = bound (caveats_of values) _ (caveat ∷ caveats) one.2 in
-      let first : one.0 ≡ caveat = cc more.2 in
-      let rest : more.0 ≡ caveats = cc more.2 in
-      (subst (IsCaveatObject value) first (caveat_takes value one.0 one.1), caveats_take values caveats (more.1 ∙ ap (λ (cs : List WideCaveat). Some cs) rest))
-  caveats_take no_items caveats e = absurd cc
-  caveats_take (item value values) [] e =
-      let one = bound (caveat_from value) _ [] e in
-      absurd (cc (bound (caveats_of values) _ [] one.2).2)
+  caveats_take no_items caveats e = grind arith
+  caveats_take (item value values) caveats e = grind (arith, caveat_takes value, caveats_take values)
 
   caveats_again : (items : Items) (caveats : List WideCaveat) → AreCaveats items caveats → caveats_of items ≡ Some caveats
   unfolding caveats_of
@@ -99,14 +75,10 @@ module _ (law : FromBase64IsBase64) where
   caveats_again items caveats h = absurd h
 
   listed_takes : (found : Option Data) (caveats : List WideCaveat) → caveat_list found ≡ Some caveats → IsCaveatList found caveats
-  listed_takes None caveats e = cc
-  listed_takes (Some value) caveats e =
-      let items = bound (as_array value) caveats_of caveats e in
-      (items.0, array_of value items.0 items.1, caveats_take items.0 caveats items.2)
+  listed_takes found caveats e = grind (arith, array_of, caveats_take)
 
   listed_again : (found : Option Data) (caveats : List WideCaveat) → IsCaveatList found caveats → caveat_list found ≡ Some caveats
-  listed_again None caveats h = rw h refl
-  listed_again (Some value) caveats h = rw h.1 (caveats_again h.0 caveats h.2)
+  listed_again found caveats h = grind (arith, caveats_again)
 
   pub pass_takes : (value : Data) (wide : WidePass) → pass_from value ≡ Some wide → IsPass value wide
   unfolding pass_from
@@ -153,10 +125,7 @@ module _ (law : FromBase64IsBase64) where
 
   pub json_takes : (bytes : List ℕ) (wide : WidePass) → wide_json bytes ≡ Some wide → SpellsJson bytes wide
   unfolding wide_json value_of
-  json_takes bytes wide e =
-      let value = bound (value_of bytes) pass_from wide e in
-      let both = value_takes bytes (is_utf8 bytes) value.0 refl value.1 in
-      record { value = value.0; utf8 = both.0; is_read = both.1; is_pass = pass_takes value.0 wide value.2 }
+  json_takes bytes wide e = grind (arith, value_takes, pass_takes)
 
   pub json_again : (bytes : List ℕ) (wide : WidePass) → SpellsJson bytes wide → wide_json bytes ≡ Some wide
   unfolding wide_json value_of

@@ -1,5 +1,5 @@
 -- The names of a map's entries are those of the object's members.
-use Rattle.std.proofs.Common.{◌≡◌, ℕ, Bool, ◌||◌, ◌&&◌, List, [], ◌∷◌, map, Bor, refl, ap, ◌∙◌}
+use Rattle.std.proofs.Common.{◌≡◌, ℕ, List, [], ◌∷◌, map, Bor, refl}
 use Rattle.std.specs.List.{list_all, list_any}
 use Rattle.std.specs.Map.{keys_of}
 use Rattle.std.specs.Str.{bytes_eq}
@@ -9,17 +9,15 @@ use Rattle.std.specs.declared.string.String.{String}
 use Rattle.serde_json.specs.View.{members_view}
 use Rattle.serde_json.specs.declared.value.Value.{Value}
 use Rattle.pass_json.specs.computed.JsonReading.{only_among}
+use Rattle.std.proofs.Common.{arith}
 
 one_among : (key : List ℕ) (names : List (Bor (List ℕ))) →
     list_any (λ name. bytes_eq key name.now) names ≡ list_any (bytes_eq key) (map (λ name. name.now) names)
 one_among key [] = refl
-one_among key (name ∷ names) = ap (λ (b : Bool). bytes_eq key name.now || b) (one_among key names)
+one_among key (name ∷ names) = grind (arith, one_among key names)
 
 pub all_among : (entries : List (String Global × Value)) (names : List (Bor (List ℕ)))
     → list_all (λ key. list_any (λ name. bytes_eq (string_bytes key) name.now) names) (keys_of entries) ≡ only_among (map (λ name. name.now) names)
     (members_view entries)
 all_among [] names = refl
-all_among (entry ∷ entries) names =
-    ap (λ (b : Bool). b && list_all (λ key. list_any (λ name. bytes_eq (string_bytes key) name.now) names) (keys_of entries))
-    (one_among (string_bytes entry.0) names)
-    ∙ ap (λ (b : Bool). list_any (bytes_eq (string_bytes entry.0)) (map (λ name. name.now) names) && b) (all_among entries names)
+all_among (entry ∷ entries) names = grind (arith, one_among (string_bytes entry.0) names, all_among entries names)

@@ -1,47 +1,41 @@
 -- The test of the names, computed, is what is spelled.
 use Rattle.std.proofs.Common.{◌≡◌, ℕ, true, List, Option, Some, refl, sym, ◌∙◌, ◌⊎◌, inl, inr, Contains}
-use Rattle.std.proofs.lemmas.Bool.{and_parts}
 use Rattle.std.proofs.lemmas.Cmp.{nat_list_eq_equiv}
 use Rattle.std.proofs.lemmas.Map.Views.{Contains-from_any, list_any-from_Contains}
-use Rattle.std.specs.List.{list_any}
 use Rattle.std.specs.Option.{IsSome}
 use Rattle.std.specs.Ordering.{nat_cmp, match_ordering, is_eq}
 use Rattle.std.specs.declared.cmp.Ordering.{Ordering}
-use Rattle.std.specs.declared.cmp.Ordering.TheVariants.{Equal}
 use Rattle.std.specs.Cmp.Lexicographic.{slice_cmp}
-use Rattle.std.specs.Str.{bytes_eq}
 use Rattle.std.proofs.lemmas.Slice.Eq.{bytes_eq-Decides}
 use Rattle.std.proofs.lemmas.Map.Text.{is_eq-slice_cmp}
 use Rattle.serde_json.specs.Data.{Data, object, Members, no_members, member}
 use Rattle.serde_json.specs.Find.{get_member}
 use Rattle.pass_json.specs.Json.{HasOnly}
 use Rattle.pass_json.specs.computed.JsonReading.{only_among, has_only_names}
+use Rattle.std.proofs.Common.{arith}
+use Rattle.std.proofs.Common.{arith}
 
 -- what is found is at the first member or among the others
 found_at : (order : Ordering) (later : Option Data) (value : Data) → IsSome (match_ordering order later (Some value) later) →
     (is_eq order ≡ true) ⊎ IsSome later
-found_at Equal later value h = inl refl
-found_at order later value h = inr h
+found_at order later value h = grind arith
 
 only_takes : (names : List (List ℕ)) (members : Members) → only_among names members ≡ true → (name : List ℕ) → IsSome (get_member name members) →
     Contains names name
 only_takes names no_members e name found = absurd cc
 only_takes names (member key value members) e name found =
-    let both = and_parts (list_any (bytes_eq key) names) (only_among names members) e in
     elim (found_at (slice_cmp nat_cmp name key) (get_member name members) value found) [
       | inl here ↦
           let same : name ≡ key = (bytes_eq-Decides name key).0 (sym (is_eq-slice_cmp name key) ∙ here) in
-          rw same (Contains-from_any (λ a b. (bytes_eq-Decides a b).0) key names both.0)
-      | inr later ↦ only_takes names members both.1 name later
+          rw same (Contains-from_any (λ a b. (bytes_eq-Decides a b).0) key names (grind arith))
+      | inr later ↦ only_takes names members (grind arith) name later
     ]
 
 still_found : (order : Ordering) (later : Option Data) (value : Data) → IsSome later → IsSome (match_ordering order later (Some value) later)
-still_found Equal later value h = refl
-still_found order later value h = h
+still_found order later value h = grind arith
 
 first_found : (order : Ordering) (later : Option Data) (value : Data) → is_eq order ≡ true → IsSome (match_ordering order later (Some value) later)
-first_found Equal later value e = refl
-first_found order later value e = absurd cc
+first_found order later value e = grind arith
 
 only_again : (names : List (List ℕ)) (members : Members) → ((name : List ℕ) → IsSome (get_member name members) → Contains names name) →
     only_among names members ≡ true
@@ -55,8 +49,7 @@ only_again names (member key value members) h =
 
 pub has_only_takes : (names : List (List ℕ)) (value : Data) → has_only_names names value ≡ true → HasOnly names value
 unfolding has_only_names
-has_only_takes names (object members) e = only_takes names members e
-has_only_takes names value e = absurd cc
+has_only_takes names value e = grind (arith, only_takes)
 
 pub has_only_again : (names : List (List ℕ)) (members : Members) → HasOnly names (object members) → has_only_names names (object members) ≡ true
 unfolding has_only_names

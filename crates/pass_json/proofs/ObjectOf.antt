@@ -17,6 +17,7 @@ use Rattle.serde_json.proofs.OnLiterals.{serde_json_on_literals}
 use Rattle.pass_forms.specs.Pass.{Plain}
 use Rattle.pass_json.specs.JsonWriting.{caveat_object, caveat_objects, object_of, put_member, with_location}
 use Rattle.pass_json.proofs.ReadsText.{HasTexts, ItemsHaveTexts, MembersHaveTexts}
+use Rattle.std.proofs.Common.{arith}
 
 -- Whether bytes are under the plain name, and their text.
 abbrev pub FieldText : Type 0
@@ -60,23 +61,20 @@ put_text plain base64 (false, text) rest = put base64 (string text) rest
 put_by : (test : Bool) (plain base64 bytes : List ℕ) (rest : Members) → is_utf8 bytes ≡ test →
     put_member plain base64 bytes rest ≡ put_text plain base64 (text_by_test test bytes) rest
 unfolding put_member
-put_by true plain base64 bytes rest e = rw e refl
-put_by false plain base64 bytes rest e = rw e refl
+put_by test plain base64 bytes rest e = grind arith
 
 put_is : (plain base64 bytes : List ℕ) (rest : Members) → put_member plain base64 bytes rest ≡ put_text plain base64 (field_text bytes) rest
 put_is plain base64 bytes rest = put_by (is_utf8 bytes) plain base64 bytes rest refl
 
 -- It may be the first.
 put_first : (plain base64 : List ℕ) (one : FieldText) → put_text plain base64 one no_members ≡ named plain base64 one no_members
-put_first plain base64 (true, text) = refl
-put_first plain base64 (false, text) = refl
+put_first plain base64 one = grind arith
 
 pub caveat_is : (bytes : List ℕ) → caveat_object bytes ≡ object (identified (field_text bytes) no_members)
 caveat_is bytes = ap object (put_is (codes "i") (codes "i64") bytes no_members ∙ put_first (codes "i") (codes "i64") (field_text bytes))
 
 location_is : (location : List ℕ) → with_location location no_members ≡ located (location_text location) no_members
-location_is [] = refl
-location_is (byte ∷ bytes) = put_is (codes "l") (codes "l64") (byte ∷ bytes) no_members ∙ put_first (codes "l") (codes "l64") (field_text (byte ∷ bytes))
+location_is location = grind (arith, put_is, put_first)
 
 -- the other members
 with_others : Items → List ℕ → Members → Data
@@ -86,23 +84,12 @@ with_others caveats signature members =
 others_are : (caveats : Items) (identifier : FieldText) (location : Option FieldText) (signature : List ℕ)
     → with_others caveats signature (put_text (codes "i") (codes "i64") identifier (located location no_members)) ≡ whole caveats identifier location signature
 unfolding with_others
-others_are caveats (true, i) None signature = refl
-others_are caveats (false, i) None signature = refl
-others_are caveats (true, i) (Some (true, l)) signature = refl
-others_are caveats (false, i) (Some (true, l)) signature = refl
-others_are caveats (true, i) (Some (false, l)) signature = refl
-others_are caveats (false, i) (Some (false, l)) signature = refl
+others_are caveats identifier location signature = grind arith
 
 pub object_is : (pass : Plain) →
     object_of pass ≡ whole (caveat_objects pass.caveats) (field_text pass.identifier) (location_text pass.location) (encode_of url_safe_no_pad pass.signature)
 unfolding object_of with_others
-object_is pass =
-    let caveats : Items = caveat_objects pass.caveats in
-    let signature : List ℕ = encode_of url_safe_no_pad pass.signature in
-    let location : Option FieldText = location_text pass.location in
-    ap (λ (members : Members). with_others caveats signature (put_member (codes "i") (codes "i64") pass.identifier members)) (location_is pass.location)
-    ∙ ap (with_others caveats signature) (put_is (codes "i") (codes "i64") pass.identifier (located location no_members))
-    ∙ others_are caveats (field_text pass.identifier) location signature
+object_is pass = grind (arith, location_is, put_is, others_are)
 
 -- ---- it is read back
 
@@ -111,29 +98,22 @@ unfolding serde_json_on_literals digits
 two_is_two = refl
 
 identified_reads : (field_text : FieldText) → of_json (outline (object (identified field_text no_members))) ≡ Some (object (identified field_text no_members))
-identified_reads (true, text) = refl
-identified_reads (false, text) = refl
+identified_reads field_text = grind arith
 
 caveat_reads : (bytes : List ℕ) → of_json (outline (caveat_object bytes)) ≡ Some (caveat_object bytes)
 caveat_reads bytes = subst (λ (d : Data). of_json (outline d) ≡ Some d) (sym (caveat_is bytes)) (identified_reads (field_text bytes))
 
 one_reads : (d : Data) (ds : Items) → of_json (outline d) ≡ Some d → of_items (items_outline ds) ≡ Some ds →
     of_items (items_outline (item d ds)) ≡ Some (item d ds)
-one_reads d ds e f = rw (e, f) refl
+one_reads d ds e f = grind arith
 
 caveats_read : (caveats : List (List ℕ)) → of_items (items_outline (caveat_objects caveats)) ≡ Some (caveat_objects caveats)
 caveats_read [] = refl
-caveats_read (caveat ∷ caveats) =
-    one_reads (caveat_object caveat) (caveat_objects caveats) (caveat_reads caveat) (caveats_read caveats)
+caveats_read (caveat ∷ caveats) = grind (arith, caveat_reads caveat, caveats_read caveats)
 
 whole_reads : (caveats : Items) (identifier : FieldText) (location : Option FieldText) (signature : List ℕ) → of_items (items_outline caveats) ≡ Some caveats
     → of_json (outline (whole caveats identifier location signature)) ≡ Some (whole caveats identifier location signature)
-whole_reads caveats (true, i) None signature e = rw (e, two_is_two) refl
-whole_reads caveats (false, i) None signature e = rw (e, two_is_two) refl
-whole_reads caveats (true, i) (Some (true, l)) signature e = rw (e, two_is_two) refl
-whole_reads caveats (false, i) (Some (true, l)) signature e = rw (e, two_is_two) refl
-whole_reads caveats (true, i) (Some (false, l)) signature e = rw (e, two_is_two) refl
-whole_reads caveats (false, i) (Some (false, l)) signature e = rw (e, two_is_two) refl
+whole_reads caveats identifier location signature e = grind (arith, two_is_two)
 
 pub object_reads : (pass : Plain) → of_json (outline (object_of pass)) ≡ Some (object_of pass)
 object_reads pass =

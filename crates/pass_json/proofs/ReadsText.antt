@@ -15,6 +15,8 @@ use Rattle.serde_json.specs.Data.{Data, null, boolean, number, string, array, ob
 use Rattle.serde_json.specs.Read.{max_depth, of_json, read}
 use Rattle.serde_json.specs.Written.{comma_if, compact_text, items_text, members_text, number_text, outline}
 use Rattle.serde_json.proofs.Texts.{print-outline}
+use Rattle.std.proofs.Common.{append_assoc}
+use Rattle.std.proofs.Common.{append_assoc}
 
 -- what follows the grammar's reading
 abbrev of_parsed : Option (Json × List Token) → Option Data

@@ -1,7 +1,7 @@
 -- The reading of a text by what it wraps.
-use Rattle.std.proofs.Common.{◌≡◌, ◌↔◌, ℕ, ◌≤◌, List, length, Result, Ok, Err, refl, subst, ◌⊎◌, inl, inr, arith}
+use Rattle.std.proofs.Common.{◌≡◌, ◌↔◌, ℕ, ◌≤◌, List, length, Result, Ok, Err, ◌⊎◌, inl, inr, arith}
 use Rattle.pass_forms.specs.declared.fault.FormFault.{FormFault}
-use Rattle.pass_forms.specs.declared.fault.FormFault.TheVariants.{TooLong, Malformed, Memory}
+use Rattle.pass_forms.specs.declared.fault.FormFault.TheVariants.{TooLong, Malformed}
 use Rattle.pass_forms.specs.declared.form.Form.{Form}
 use Rattle.pass_forms.specs.declared.form.Form.TheVariants.{Json}
 use Rattle.pass_forms.specs.Envelope.{IsUnwrapped, Wraps}
@@ -11,6 +11,8 @@ use Rattle.pass_forms.specs.Reading.{IsReadAs, max_text_len}
 use Rattle.pass_forms.specs.Text.{SpellsText}
 use Rattle.pass_json.specs.AnyForm.{IsAnyReading, IsReadingInForm, MayRunOut, SpellsForm}
 use Rattle.pass_json.proofs.SameReading.{Spelling, same_answer}
+use Rattle.std.proofs.Common.{arith}
+use Rattle.std.proofs.Common.{arith}
 
 -- what the envelope refuses
 pub refused_wrapping : (text : List ℕ) (fault : FormFault) → IsUnwrapped text (Err fault) → IsAnyReading text (Err fault)
@@ -27,9 +29,7 @@ reads_back text form bytes pass content read = (content.0, (bytes, content.1, re
 -- The text spells what the bytes that it wraps spell, in their form and in no other.
 spelled : WrapsOne → (text bytes : List ℕ) (form other : Form) (wide : WidePass) → Wraps text form bytes → SpellsText SpellsForm text other wide →
     (other ≡ form) × SpellsForm form bytes wide
-spelled one text bytes form other wide wraps h =
-    let same = one text other form h.0 bytes h.1 wraps in
-    (same.0, subst (λ (x : Form × List ℕ). SpellsForm x.0 x.1 wide) (rw (same.0, same.1) refl) h.2)
+spelled one text bytes form other wide wraps h = grind (arith, one text other form h.0 bytes h.1 wraps)
 
 abbrev SpellsAny : List ℕ → Spelling
 SpellsAny text wide = (form : Form) × SpellsText SpellsForm text form wide
@@ -52,11 +52,7 @@ reads_wrapped one text bytes form (Err fault) content short =
 
 -- ---- memory
 
--- It doesn't run out there.
-pub never_out_of_memory : (text : List ℕ) (fault : FormFault) → IsUnwrapped text (Err fault) → fault ≡ Memory → MayRunOut text
-never_out_of_memory text fault is e = absurd (subst (λ (f : FormFault). IsUnwrapped text (Err f)) e is)
-
 pub may_run_out : (text : List ℕ) (form : Form) (bytes : List ℕ) → IsUnwrapped text (Ok (form, bytes))
     → ((pass : Plain) × IsReadAs (length bytes) (SpellsForm form bytes) (Ok pass)) ⊎ (form ≡ Json) → MayRunOut text
 may_run_out text form bytes content (inl read) = inl ((form, read.0), reads_back text form bytes read.0 content read.1)
-may_run_out text form bytes content (inr is) = inr (bytes, subst (λ (f : Form). IsUnwrapped text (Ok (f, bytes))) is content)
+may_run_out text form bytes content (inr is) = grind arith

@@ -1,5 +1,5 @@
 -- What is written of a pass in JSON spells it, and is read back.
-use Rattle.std.proofs.Common.{◌≡◌, ℕ, Bool, true, false, eqb, List, [], ◌∷◌, length, map, Option, Some, None, inl, refl, ap, ◌∙◌, arith}
+use Rattle.std.proofs.Common.{◌≡◌, ℕ, Bool, true, false, eqb, List, [], ◌∷◌, length, map, Option, Some, None, refl, ap, ◌∙◌, arith}
 use Rattle.std.specs.List.{AllByRecursion}
 use Rattle.std.specs.Str.{IsUtf8, is_utf8}
 use Rattle.std.proofs.lemmas.Bool.{eq-eqb}
@@ -20,6 +20,8 @@ use Rattle.pass_json.proofs.ObjectOf.{FieldText, caveat_is, identified, object_i
 use Rattle.pass_json.proofs.ObjectOf.{text_by_test}
 use Rattle.pass_json.proofs.ObjectOf.{location_text, whole}
 use Rattle.pass_json.proofs.ReadsText.{reads_text, utf8_text}
+use Rattle.std.proofs.Common.{arith}
+use Rattle.std.proofs.Common.{arith}
 
 -- ---- the members hold the parts of the pass
 
@@ -35,8 +37,7 @@ YieldsIfAny (Some text) bytes = YieldsBytes text bytes
 caveat_from_text : (identifier : FieldText) (bytes : List ℕ) → YieldsBytes identifier bytes →
     caveat_from (object (identified identifier no_members)) ≡ Some (widened_caveat bytes)
 unfolding caveat_from field_from has_only_names
-caveat_from_text (true, text) bytes e = rw e refl
-caveat_from_text (false, text) bytes e = rw e refl
+caveat_from_text identifier bytes e = grind arith
 
 pass_from_texts : (items : Items) (caveats : List WideCaveat) (i : FieldText) (identifier : List ℕ) (l : Option FieldText) (location : List ℕ)
     (text signature : List ℕ)
@@ -44,12 +45,7 @@ pass_from_texts : (items : Items) (caveats : List WideCaveat) (i : FieldText) (i
     → eqb (length signature) 32 ≡ true
     → pass_from (whole items i l text) ≡ Some (record { location = location; identifier = identifier; caveats = caveats; signature = signature })
 unfolding pass_from field_from has_only_names
-pass_from_texts items caveats (true, i) identifier None location text signature c ti tl s len = rw (c, ti, tl, s, len) refl
-pass_from_texts items caveats (false, i) identifier None location text signature c ti tl s len = rw (c, ti, tl, s, len) refl
-pass_from_texts items caveats (true, i) identifier (Some (true, l)) location text signature c ti tl s len = rw (c, ti, tl, s, len) refl
-pass_from_texts items caveats (false, i) identifier (Some (true, l)) location text signature c ti tl s len = rw (c, ti, tl, s, len) refl
-pass_from_texts items caveats (true, i) identifier (Some (false, l)) location text signature c ti tl s len = rw (c, ti, tl, s, len) refl
-pass_from_texts items caveats (false, i) identifier (Some (false, l)) location text signature c ti tl s len = rw (c, ti, tl, s, len) refl
+pass_from_texts items caveats i identifier l location text signature c ti tl s len = grind arith
 
 -- ---- the text
 
@@ -71,18 +67,16 @@ starts_json pass = refl
 
 module _ (law : FromBase64IsBase64) where
   base64_yields : (bytes : List ℕ) → IsBytes bytes → from_base64 (encode_of url_safe_no_pad bytes) ≡ Some bytes
-  base64_yields bytes are = (law (encode_of url_safe_no_pad bytes) bytes).1 (record { are_bytes = are; spelling = inl refl })
+  base64_yields bytes are = grind (arith, law)
 
   text_by_test_yields : (test : Bool) (bytes : List ℕ) → IsBytes bytes → YieldsBytes (text_by_test test bytes) bytes
-  text_by_test_yields true bytes are = refl
-  text_by_test_yields false bytes are = base64_yields bytes are
+  text_by_test_yields test bytes are = grind (arith, base64_yields)
 
   field_text_yields : (bytes : List ℕ) → IsBytes bytes → YieldsBytes (field_text bytes) bytes
   field_text_yields bytes are = text_by_test_yields (is_utf8 bytes) bytes are
 
   location_yields : (bytes : List ℕ) → IsBytes bytes → YieldsIfAny (location_text bytes) bytes
-  location_yields [] are = refl
-  location_yields (byte ∷ bytes) are = field_text_yields (byte ∷ bytes) are
+  location_yields location are = grind (arith, field_text_yields)
 
   caveat_reads_back : (bytes : List ℕ) → IsBytes bytes → caveat_from (caveat_object bytes) ≡ Some (widened_caveat bytes)
   caveat_reads_back bytes are = ap caveat_from (caveat_is bytes) ∙ caveat_from_text (field_text bytes) bytes (field_text_yields bytes are)
@@ -90,7 +84,7 @@ module _ (law : FromBase64IsBase64) where
   caveats_read_back : (caveats : List (List ℕ)) → AllByRecursion IsBytes caveats → caveats_of (caveat_objects caveats) ≡ Some (map widened_caveat caveats)
   unfolding caveats_of
   caveats_read_back [] are = refl
-  caveats_read_back (caveat ∷ caveats) are = rw (caveat_reads_back caveat are.0, caveats_read_back caveats are.1) refl
+  caveats_read_back (caveat ∷ caveats) are = grind (arith, caveat_reads_back, caveats_read_back caveats)
 
   object_reads_back : (pass : Plain) → HasBytes pass → length pass.signature ≡ 32 → pass_from (object_of pass) ≡ Some (as_wide_pass pass)
   object_reads_back pass are len =

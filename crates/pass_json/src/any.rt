@@ -78,6 +78,7 @@ fn in_form(alloc: Global, form: Form, bytes: &[u8]) -> Result<Pass, FormFault>
 ///
 /// `TooMany` for more than 64 caveats, else `TooLong` if the pass has no such text of at most 8,192
 /// bytes. `Memory` only if an allocation fails; in JSON also for a text that is too long.
+#[tactic(auto, using(crate::proofs::InEachForm::may_fail), unfolding(crate::specs::computed::AnyForm::writing))]
 pub fn write_any(alloc: Global, form: Form, pass: &Pass) -> Result<String, FormFault>
     ensures ok { IfOk result (λ text. IsWritableText (IsTextIn form) pass.now (string_bytes text)) }
     ensures err { IfErr result (IsRefusedIn form pass.now) }
