@@ -19,6 +19,7 @@ use Rattle.pass_caveats.specs.computed.CaveatOf.{candidate, actions_from, action
 use Rattle.club_values.proofs.GuessLemmas.{two_again, day_of-day_text, moment_of-moment_text}
 use Rattle.pass_caveats.proofs.PartLemmas.{names_again}
 use Rattle.pass_caveats.proofs.ChoiceLemmas.{AreWords, choice_again}
+use Rattle.std.proofs.Common.{arith}
 
 pub action_words : AreWords action_text all_actions
 action_words = record { distinct = refl; plain = refl }

@@ -1,5 +1,5 @@
 -- The functions agree with the definitions.
-use Rattle.std.proofs.Common.{◌≡◌, ◌↔◌, ℕ, ◌+◌, Bool, true, false, List, [], ◌∷◌, ◌++◌, length, map, ◌⊎◌, Option, Some, None, inl, inr, refl, sym, ap}
+use Rattle.std.proofs.Common.{◌≡◌, ◌↔◌, ℕ, ◌+◌, Bool, true, false, List, [], ◌∷◌, ◌++◌, length, map, ◌⊎◌, Option, Some, None, inl, inr, refl, sym}
 use Rattle.std.proofs.lemmas.Option.{cond_some}
 use Rattle.std.proofs.lemmas.Bool.{false_from_ne_true, both_ways}
 use Rattle.std.proofs.Common.{subst, ◌∙◌, arith, add-zero}
@@ -18,12 +18,12 @@ use Rattle.pass_caveats.specs.Fault.{first_fault_from, first_fault_of}
 use Rattle.pass_caveats.specs.Fault.{Allows, Allowed, AreUnderstoodAs, IsUnknown, Denies, IsFaultAt, IsFirstFault}
 use Rattle.pass_caveats.proofs.CandidateLemmas.{candidate-caveat_text}
 use Rattle.pass_caveats.proofs.DecisionLemmas.{Decides-spells, Decides-permits}
+use Rattle.std.proofs.Common.{arith, append_assoc}
+use Rattle.std.proofs.Common.{arith, append_assoc}
 
 pub caveat_of-understood : (text : List ℕ) (caveat : Caveat) → Understood text caveat → caveat_of text ≡ Some caveat
 unfolding caveat_of
-caveat_of-understood text caveat h =
-    let e : candidate text ≡ caveat = ap candidate h.line.spelling ∙ candidate-caveat_text caveat h.line.real in
-    rw (e, (Decides-spells text caveat).1 h) refl
+caveat_of-understood text caveat h = grind (arith, candidate-caveat_text, Decides-spells)
 
 pub understood-caveat_of : (text : List ℕ) (caveat : Caveat) → caveat_of text ≡ Some caveat → Understood text caveat
 unfolding caveat_of
@@ -33,7 +33,7 @@ understood-caveat_of text caveat e =
 
 pub caveat_of-unknown : (text : List ℕ) → IsUnknown text → caveat_of text ≡ None
 unfolding caveat_of
-caveat_of-unknown text h = rw (false_from_ne_true (spells text (candidate text)) (λ e. h (candidate text) ((Decides-spells text (candidate text)).0 e)))
+caveat_of-unknown text h = grind (arith, Decides-spells, h (candidate text))
 
 -- a parser returns what the function returns
 pub reads_caveat_of : (text : List ℕ) (r : Option Caveat) → Reads (Understood text) r → r ≡ caveat_of text
@@ -58,12 +58,12 @@ all_passed n (text ∷ texts) ask h =
     (all_passed (n + 1) texts ask (All-tail (λ t. Allows t ask) text texts h))
 
 -- the function returns the first fault
-pub first_fault-is : (texts : List (List ℕ)) (ask : Ask) (r : Option CaveatFault) → IsFirstFault texts ask r → r ≡ first_fault_of (map caveat_of texts) ask
-first_fault-is texts ask None h = sym (all_passed 1 texts ask h)
-first_fault-is texts ask (Some (NotUnderstood n)) h =
+pub is_first_fault : (texts : List (List ℕ)) (ask : Ask) (r : Option CaveatFault) → IsFirstFault texts ask r → r ≡ first_fault_of (map caveat_of texts) ask
+is_first_fault texts ask None h = sym (all_passed 1 texts ask h)
+is_first_fault texts ask (Some (NotUnderstood n)) h =
     let number : 1 + length h.front ≡ n = omega (arith, h.number) in
     sym (rw h.place (passed 1 h.front (h.text ∷ h.rest) ask h.before ∙ rw (caveat_of-unknown h.text h.fault, number) refl))
-first_fault-is texts ask (Some (Denied n)) h =
+is_first_fault texts ask (Some (Denied n)) h =
     let number : 1 + length h.front ≡ n = omega (arith, h.number) in
     let denied = false_from_ne_true (permits h.fault.0 ask) (λ e. h.fault.2 ((Decides-permits h.fault.0 ask).0 e)) in
     sym (rw h.place (passed 1 h.front (h.text ∷ h.rest) ask h.before ∙ rw (caveat_of-understood h.text h.fault.0 h.fault.1, denied, number) refl))
@@ -71,11 +71,8 @@ first_fault-is texts ask (Some (Denied n)) h =
 -- the caveats as which texts are understood are those that the function returns
 pub all_caveats_of : (texts : List (List ℕ)) (caveats : List (Option Caveat)) → AreUnderstoodAs texts caveats → caveats ≡ map caveat_of texts
 all_caveats_of [] [] h = refl
-all_caveats_of [] (caveat ∷ caveats) h = absurd h
-all_caveats_of (text ∷ texts) [] h = absurd h
-all_caveats_of (text ∷ texts) (caveat ∷ caveats) h =
-    ap (λ (one : Option Caveat). one ∷ caveats) (reads_caveat_of text caveat h.0)
-    ∙ ap (λ (others : List (Option Caveat)). caveat_of text ∷ others) (all_caveats_of texts caveats h.1)
+all_caveats_of (text ∷ texts) (caveat ∷ caveats) h = grind (arith, reads_caveat_of, all_caveats_of texts caveats h.1)
+all_caveats_of texts caveats h = absurd h
 
 verdict_on : (text : List ℕ) (ask : Ask) (caveat : Caveat) (b : Bool) → Understood text caveat → permits caveat ask ≡ b →
     Allows text ask ⊎ (IsUnknown text ⊎ Denies text ask)
@@ -112,23 +109,19 @@ pub first_fault_of-is_first : (texts : List (List ℕ)) (ask : Ask) → IsFirstF
 first_fault_of-is_first texts ask =
     let found = some_fault [] texts ask (All-nil (λ t. Allows t ask)) in
     let P : Option CaveatFault → Type 0 = λ r. IsFirstFault texts ask r in
-    subst P (first_fault-is texts ask found.0 found.1) found.1
+    subst P (is_first_fault texts ask found.0 found.1) found.1
 
 -- the first fault of a list with one more caveat
 pub fault_of_one_more : (n : ℕ) (caveats : List (Option Caveat)) (caveat : Option Caveat) (ask : Ask) →
     first_fault_from n (caveats ++ caveat ∷ []) ask ≡ option_or (first_fault_from n caveats ask) (first_fault_from (n + length caveats) (caveat ∷ []) ask)
-fault_of_one_more n [] caveat ask = rw add-zero refl
-fault_of_one_more n (None ∷ caveats) caveat ask = refl
-fault_of_one_more n (Some first ∷ caveats) caveat ask =
-    let next : n + 1 + length caveats ≡ n + length (Some first ∷ caveats) = omega arith in
-    let rest = rw next at (fault_of_one_more (n + 1) caveats caveat ask) in
-    grind arith
+fault_of_one_more n [] caveat ask = grind arith
+fault_of_one_more n (first ∷ caveats) caveat ask = grind (arith, fault_of_one_more (n + 1) caveats caveat ask)
 
 -- the fault of one text
-pub fault_at-is : (text : List ℕ) (n : ℕ) (ask : Ask) (r : Option CaveatFault) → IsFaultAt text n ask r → r ≡ first_fault_from n (caveat_of text ∷ []) ask
-fault_at-is text n ask None h = rw (caveat_of-understood text h.0 h.1, (Decides-permits h.0 ask).1 h.2) refl
-fault_at-is text n ask (Some (NotUnderstood m)) h = rw (caveat_of-unknown text h.1, h.0) refl
-fault_at-is text n ask (Some (Denied m)) h =
+pub is_fault_at : (text : List ℕ) (n : ℕ) (ask : Ask) (r : Option CaveatFault) → IsFaultAt text n ask r → r ≡ first_fault_from n (caveat_of text ∷ []) ask
+is_fault_at text n ask None h = rw (caveat_of-understood text h.0 h.1, (Decides-permits h.0 ask).1 h.2) refl
+is_fault_at text n ask (Some (NotUnderstood m)) h = rw (caveat_of-unknown text h.1, h.0) refl
+is_fault_at text n ask (Some (Denied m)) h =
     let denied = false_from_ne_true (permits h.1.0 ask) (λ e. h.1.2 ((Decides-permits h.1.0 ask).0 e)) in
     rw (caveat_of-understood text h.1.0 h.1.1, denied, h.0) refl
 
@@ -146,12 +139,12 @@ pub finds_fault_at : (text : List ℕ) (n : ℕ) (ask : Ask) (fault : Option Cav
 finds_fault_at text n ask fault =
     let there = fault_there text n ask in
     let P : Option CaveatFault → Type 0 = λ r. IsFaultAt text n ask r in
-    (fault_at-is text n ask fault, λ e. subst P (fault_at-is text n ask there.0 there.1 ∙ sym e) there.1)
+    (is_fault_at text n ask fault, λ e. subst P (is_fault_at text n ask there.0 there.1 ∙ sym e) there.1)
 
 pub none_where_allowed : (texts : List (List ℕ)) (ask : Ask) (fault : Option CaveatFault) → IsFirstFault texts ask fault → (fault ≡ None) ↔ Allowed texts ask
 none_where_allowed texts ask fault h =
     let P : Option CaveatFault → Type 0 = λ r. IsFirstFault texts ask r in
-    ((λ e. subst P e h), (λ allowed. first_fault-is texts ask fault h ∙ all_passed 1 texts ask allowed))
+    ((λ e. subst P e h), (λ allowed. is_first_fault texts ask fault h ∙ all_passed 1 texts ask allowed))
 
 pub narrower : (texts more : List (List ℕ)) (ask : Ask) → Allowed (texts ++ more) ask → Allowed texts ask
 narrower [] more ask h = All-nil (λ t. Allows t ask)

@@ -1,18 +1,23 @@
 -- Some words of a list, in its order: how their text is parsed, word after word.
 use Rattle.std.proofs.Common.{◌≡◌, ◌≢◌, ℕ, ◌<◌, Bool, true, false, cond, List, [], ◌∷◌, ◌++◌, length, map, Option, Some, None, refl, sym, ap, ◌∙◌, arith}
 use Rattle.std.proofs.lemmas.Bool.{cond_both}
-use Rattle.std.proofs.Common.{Decides, Bor}
+use Rattle.std.proofs.Common.{Bor}
 use Rattle.std.specs.Prelude.{◌==◌, ◌&&◌, ◌||◌, not, filter, is_some, All}
 use Rattle.std.specs.Option.{option_copied}
 use Rattle.std.specs.List.{list_all}
 use Rattle.std.specs.Str.{bytes_eq}
-use Rattle.std.proofs.lemmas.Bool.Decides.{Decides-by_and}
 use Rattle.std.proofs.lemmas.List.{length-map, append-nil}
 use Rattle.std.proofs.lemmas.List.Elements.{All-head, All-tail, All-nil, All-cons}
 use Rattle.std.proofs.lemmas.Slice.Eq.{bytes_eq-Decides}
 use Rattle.pass_caveats.specs.Parts.{comma_parts, comma_list, parts_left, Skips}
 use Rattle.pass_caveats.specs.computed.CaveatOf.{is_next, after_next, words_found}
 use Rattle.pass_caveats.proofs.PartLemmas.{HasNoComma, all_left, parts_of-joined, joined-parts_of, skip_leaves, skip_takes, some_part}
+use Rattle.std.proofs.Common.{arith}
+use Rattle.std.proofs.lemmas.Grind.{common_steps}
+use Rattle.std.proofs.lemmas.Bool.Decides.{nat_tests}
+use Rattle.std.proofs.Common.{arith}
+use Rattle.std.proofs.lemmas.Grind.{common_steps}
+use Rattle.std.proofs.lemmas.Bool.Decides.{nat_tests}
 
 -- the words whose flag is set
 abbrev chosen : List Bool → List (List ℕ) → List (List ℕ)
@@ -55,9 +60,7 @@ found_again : (flags : List Bool) (words : List (List ℕ)) → length flags ≡
     (words_found words (chosen flags words) ≡ flags) × (left_after words (chosen flags words) ≡ [])
 found_again [] [] same distinct = (refl, refl)
 found_again (flag ∷ flags) (word ∷ words) same distinct =
-    let rest = found_again flags words (omega arith) (grind arith) in
-    let other = not_next word flags words (grind arith) in
-    grind (arith, bytes_eq-Decides word word, all_left word (chosen flags words))
+    grind (arith, found_again flags words, not_next word flags words, bytes_eq-Decides word word, all_left word (chosen flags words))
 found_again flags words same distinct = absurd (omega arith)
 
 -- the steps of a parser: for each word its flag, and what is left after it
@@ -76,15 +79,11 @@ steps_take flags words parts last e = absurd e
 
 steps_leave : (flags : List Bool) (words parts last : List (List ℕ)) → Steps flags words parts last → last ≡ left_after words parts
 steps_leave [] [] parts last e = sym e
-steps_leave (flag ∷ flags) (word ∷ words) parts last s = rw (skip_leaves word parts s.0 flag s.1) at (steps_leave flags words s.0 last s.2)
+steps_leave (flag ∷ flags) (word ∷ words) parts last s = grind (arith, skip_leaves word parts s.0 flag s.1, steps_leave flags words s.0 last s.2)
 steps_leave flags words parts last e = absurd e
 
 plain_words : (words : List (List ℕ)) → are_plain words ≡ true → All HasNoComma words
-plain_words words e =
-    let byte : (n : ℕ) → Decides (not (n == 44)) ((n == 44) ≡ false) = λ n. grind arith in
-    let word : (w : List ℕ) → Decides (list_all (λ n. not (n == 44)) w) (HasNoComma w) =
-    λ w. Decides-by_and _ _ (list_all (λ n. not (n == 44))) byte refl (λ _ _. refl) w in
-    (Decides-by_and _ _ (list_all (list_all (λ n. not (n == 44)))) word refl (λ _ _. refl) words).0 e
+plain_words words e = grind (arith, common_steps, nat_tests)
 
 chosen_plain : (flags : List Bool) (words : List (List ℕ)) → All HasNoComma words → All HasNoComma (chosen flags words)
 chosen_plain (flag ∷ flags) (word ∷ words) h =
@@ -100,8 +99,7 @@ some_of (x ∷ xs) h = omega arith
 -- what is chosen is the list of the parts of its text
 parts_again : (flags : List Bool) (words : List (List ℕ)) → are_plain words ≡ true → chosen flags words ≢ [] →
     comma_parts (comma_list (chosen flags words)) ≡ chosen flags words
-parts_again flags words plain some =
-    parts_of-joined (chosen flags words) (some_of (chosen flags words) some) (chosen_plain flags words (plain_words words plain))
+parts_again flags words plain some = grind (arith, parts_of-joined, some_of, chosen_plain, plain_words)
 
 same_length : {A : Type 0} (test : A → Bool) (text : A → List ℕ) (xs : List A) → length (map test xs) ≡ length (map text xs)
 same_length test text xs = length-map xs test ∙ sym (length-map xs text)
@@ -128,11 +126,7 @@ no_choice text xs are found t last some steps test chooses e =
 -- the words that are found in a text are those of its items
 pub choice_again : {A : Type 0} (test : A → Bool) (text : A → List ℕ) (xs : List A) → AreWords text xs → map text (filter test xs) ≢ [] →
     words_found (map text xs) (comma_parts (comma_list (map text (filter test xs)))) ≡ map test xs
-choice_again test text xs are chooses =
-    let items = chosen_is test text xs in
-    ap (λ (texts : List (List ℕ)). words_found (map text xs) (comma_parts (comma_list texts))) items
-    ∙ (ap (words_found (map text xs)) (parts_again (map test xs) (map text xs) are.plain (λ none. chooses (items ∙ none)))
-    ∙ (found_again (map test xs) (map text xs) (same_length test text xs) are.distinct).0)
+choice_again test text xs are chooses = grind (arith, chosen_is, parts_again, found_again, same_length)
 
 -- the two ends of a parser
 pub something_left : (rest : Option (Bor (List ℕ))) → is_some rest ≡ true → parts_left (option_copied rest) ≢ []
@@ -140,5 +134,4 @@ something_left (Some text) e none = absurd (omega (arith, some_part text.now, ap
 something_left None e none = cc
 
 pub nothing_left : (rest : Option (Bor (List ℕ))) → is_some rest ≡ false → parts_left (option_copied rest) ≡ []
-nothing_left (Some text) e = cc
-nothing_left None e = refl
+nothing_left rest e = grind arith

@@ -1,5 +1,5 @@
 -- The tests decide what they test.
-use Rattle.std.proofs.Common.{IsTrue, ◌↔◌, ◌≡◌, ◌≢◌, ℕ, ◌+◌, Bool, false, nat_lt, List, [], length, Option, Some, None, refl, arith, Decides, ap}
+use Rattle.std.proofs.Common.{IsTrue, ◌↔◌, ◌≡◌, ◌≢◌, ℕ, ◌+◌, Bool, false, nat_lt, List, [], length, Option, Some, refl, arith, Decides, ap}
 use Rattle.std.specs.Prelude.{◌&&◌, Contains, IsSomeAnd, is_some}
 use Rattle.std.specs.List.{list_all, list_any}
 use Rattle.std.specs.Option.{option_map_or}
@@ -14,14 +14,16 @@ use Rattle.club_values.specs.declared.slot.Slot.{Slot}
 use Rattle.pass_caveats.specs.declared.ask.Ask.{Ask}
 use Rattle.club_values.specs.Name.{IsName}
 use Rattle.pass_caveats.specs.Names.{AreNames}
-use Rattle.pass_caveats.specs.Actions.{action_texts}
-use Rattle.pass_caveats.specs.Weekdays.{weekday_texts}
-use Rattle.pass_caveats.specs.Caveat.{IsCaveat, caveat_text, Understood, Permits}
+use Rattle.pass_caveats.specs.Caveat.{IsCaveat, Understood, Permits}
 use Rattle.pass_caveats.specs.Tests.{is_kind, permits}
 use Rattle.club_values.specs.computed.TextOf.{is_name}
-use Rattle.club_values.proofs.TestLemmas.{Decides-leb, Decides-range, Decides-is_name}
+use Rattle.club_values.proofs.TestLemmas.{Decides-leb, Decides-is_name}
 use Rattle.pass_caveats.specs.computed.CaveatOf.{is_caveat, spells}
 use Rattle.pass_caveats.proofs.ChoiceLemmas.{some_of}
+use Rattle.std.proofs.Common.{arith}
+use Rattle.std.proofs.lemmas.Bool.Decides.{nat_tests}
+use Rattle.std.proofs.Common.{arith}
+use Rattle.std.proofs.lemmas.Bool.Decides.{nat_tests}
 
 Decides-are_names : (names : List (List ℕ)) → Decides (is_caveat (Facility names)) (AreNames names)
 Decides-are_names names =
@@ -34,35 +36,18 @@ Decides-some texts =
     Decides-like _ (λ h e. absurd (omega (arith, ap (length {A = List ℕ}) e, h))) (some_of texts) (Decides-ltb 0 (length texts))
 
 Decides-is_caveat : (caveat : Caveat) → Decides (is_caveat caveat) (IsCaveat caveat)
-Decides-is_caveat (Facility names) = Decides-are_names names
-Decides-is_caveat (Kind kind) = ((λ e. tt), (λ h. refl))
-Decides-is_caveat (Hours from until) = Decides-and _ _ (Decides-ltb from until) (Decides-leb until 24)
-Decides-is_caveat (Days first last) =
-    Decides-like _ (λ h. (h.0.0, h.0.1, h.1)) (λ h. ((h.0, h.1), h.2))
-    (Decides-and _ _ (Decides-and _ _ (Decides-range 10957 47481 first) (Decides-range 10957 47481 last)) (Decides-leb first last))
-Decides-is_caveat (Weekdays set) = Decides-some (weekday_texts set)
-Decides-is_caveat (Until moment) = Decides-range 15_778_080 68_374_079 moment
-Decides-is_caveat (Guests n) = Decides-leb n 49
-Decides-is_caveat (Spend n) = Decides-leb n 999_999_999
-Decides-is_caveat (Actions actions) = Decides-some (action_texts actions)
+Decides-is_caveat caveat = grind (arith, nat_tests, Decides-are_names, Decides-some)
 
 pub Decides-spells : (text : List ℕ) (caveat : Caveat) → Decides (spells text caveat) (Understood text caveat)
-Decides-spells text caveat =
-    Decides-like _ (λ h. record { line = record { real = h.0.0; spelling = h.0.1 }; short = h.1 }) (λ h. ((h.line.real, h.line.spelling), h.short))
-    (Decides-and _ _ (Decides-and _ _ (Decides-is_caveat caveat) (bytes_eq-Decides text (caveat_text caveat))) (Decides-leb (length text) 256))
+Decides-spells text caveat = grind (arith, nat_tests, Decides-is_caveat, bytes_eq-Decides)
 
 Decides-slot : (slot : Option Slot) (p : Slot → Bool) (P : Slot → Type 0) → ((s : Slot) → Decides (p s) (P s)) →
     Decides (option_map_or p slot false) (IsSomeAnd slot P)
-Decides-slot None p P h = ((λ e. cc), (λ h. absurd h))
-Decides-slot (Some slot) p P h = h slot
-
-Decides-is_kind : (known : Option AKind) (kind : AKind) → Decides (is_kind known kind) (known ≡ Some kind)
-Decides-is_kind known kind = grind arith
+Decides-slot slot p P h = grind (arith, h)
 
 Decides-kind_of_slot : (slot : Option Slot) (known : Option AKind) (kind : AKind) →
     Decides (is_some slot && is_kind known kind) (IsSomeAnd slot (λ _. known ≡ Some kind))
-Decides-kind_of_slot None known kind = ((λ e. cc), (λ h. absurd h))
-Decides-kind_of_slot (Some slot) known kind = Decides-is_kind known kind
+Decides-kind_of_slot slot known kind = grind arith
 
 Decides-has : (names : List (List ℕ)) (name : List ℕ) → Decides (list_any (λ n. bytes_eq n name) names) (Contains names name)
 Decides-has names name =

@@ -1,21 +1,21 @@
 -- Lists of caveats.
-use Rattle.std.proofs.Common.{◌≡◌, ℕ, ◌+◌, ◌<◌, List, [], ◌∷◌, ◌++◌, length, get_or, take, drop, map, add-one, Vec, Some, refl, sym, ap, ◌∙◌, arith}
+use Rattle.std.proofs.Common.{◌≡◌, ℕ, ◌+◌, ◌<◌, List, [], ◌∷◌, ◌++◌, length, get_or, take, drop, map, add-one, Vec, Some, sym, ap, arith}
 use Rattle.std.specs.Vec.{vec_items}
-use Rattle.std.proofs.lemmas.List.{take-append-drop, length-take-le, get_or-map}
+use Rattle.std.proofs.lemmas.List.{take-append-drop, length-take-le}
 use Rattle.std.proofs.lemmas.List.Elements.{All-push}
-use Rattle.std.proofs.Math.Seq.{take-suc, drop-cons}
+use Rattle.std.proofs.Math.Seq.{take-suc}
 use Rattle.pass_caveats.specs.declared.ask.Ask.{Ask}
 use Rattle.pass_caveats.specs.declared.fault.CaveatFault.{CaveatFault}
-use Rattle.pass_caveats.specs.declared.fault.CaveatFault.TheVariants.{NotUnderstood, Denied}
-use Rattle.pass_caveats.specs.Fault.{Allows, Allowed, IsUnknown, Denies, IsFaultAt, IsFirstAt, IsFirstFault}
+use Rattle.pass_caveats.specs.Fault.{Allows, Allowed, IsFaultAt, IsFirstAt, IsFirstFault}
+use Rattle.std.proofs.Common.{arith}
+use Rattle.std.proofs.lemmas.Grind.{common_steps}
 
 pub text_at : {Z : Type 0} (vs : List (Vec ℕ Z)) (i : ℕ) (v : Vec ℕ Z) (text : List ℕ) → i < length vs → v ≡ get_or vs i v → text ≡ vec_items v →
     get_or (map vec_items vs) i [] ≡ text
-text_at vs i v text h at e = get_or-map vec_items vs i v [] h ∙ (ap vec_items (sym at) ∙ sym e)
+text_at vs i v text h at e = grind (arith, common_steps)
 
 split_here : (texts : List (List ℕ)) (i : ℕ) → i < length texts → texts ≡ take i texts ++ get_or texts i [] ∷ drop (i + 1) texts
-split_here texts i h =
-    sym (take-append-drop i texts) ∙ ap (λ (rest : List (List ℕ)). take i texts ++ rest) (drop-cons texts i [] h ∙ rw add-one refl)
+split_here texts i h = grind (arith, common_steps, take-append-drop)
 
 first_at : (texts : List (List ℕ)) (ask : Ask) (i : ℕ) (text : List ℕ) (Fault : List ℕ → Type 0) → i < length texts → get_or texts i [] ≡ text →
     Allowed (take i texts) ask → Fault text → IsFirstAt texts ask (i + 1) Fault
@@ -33,8 +33,7 @@ first_at texts ask i text Fault h at before fault =
 -- the fault of the text at i, before which all allow the request, is the first
 pub first_fault_at : (texts : List (List ℕ)) (ask : Ask) (i : ℕ) (text : List ℕ) (fault : CaveatFault) → i < length texts → get_or texts i [] ≡ text →
     Allowed (take i texts) ask → IsFaultAt text (i + 1) ask (Some fault) → IsFirstFault texts ask (Some fault)
-first_fault_at texts ask i text (NotUnderstood m) h at before fault = rw fault.0 (first_at texts ask i text IsUnknown h at before fault.1)
-first_fault_at texts ask i text (Denied m) h at before fault = rw fault.0 (first_at texts ask i text (λ t. Denies t ask) h at before fault.1)
+first_fault_at texts ask i text fault h at before is = grind (arith, first_at)
 
 pub one_more : (texts : List (List ℕ)) (ask : Ask) (i : ℕ) (text : List ℕ) → i < length texts → get_or texts i [] ≡ text → Allowed (take i texts) ask →
     Allows text ask → Allowed (take (i + 1) texts) ask

@@ -1,29 +1,23 @@
 -- A caveat that isn't on the kind has the same fault for each kind.
-use Rattle.std.proofs.Common.{◌≡◌, ℕ, false, List, [], ◌∷◌, Option, Some, None, refl, sym, ◌∙◌}
+use Rattle.std.proofs.Common.{◌≡◌, ℕ, false, List, [], ◌∷◌, Option, Some}
 use Rattle.club_values.specs.declared.kind.Kind.{Kind as AKind}
 use Rattle.pass_caveats.specs.declared.ask.Ask.{Ask}
 use Rattle.pass_caveats.specs.declared.caveat.Caveat.{Caveat}
-use Rattle.pass_caveats.specs.declared.caveat.Caveat.TheVariants.{Kind}
 use Rattle.pass_caveats.specs.Kinds.{IsBlindToKind, at_kind, is_on_kind}
 use Rattle.pass_caveats.specs.computed.CaveatOf.{caveat_of}
 use Rattle.pass_caveats.specs.Tests.{permits}
 use Rattle.pass_caveats.specs.Fault.{first_fault_from}
 use Rattle.pass_caveats.proofs.CaveatOfLemmas.{finds_fault_at}
+use Rattle.std.proofs.Common.{arith}
 
 permits_alike : (caveat : Caveat) (ask : Ask) (kind : Option AKind) → is_on_kind (Some caveat) ≡ false
     → permits caveat (at_kind kind ask) ≡ permits caveat ask
 unfolding permits
-permits_alike (Kind one) ask kind h = absurd (cc)
-permits_alike caveat ask kind h = refl
+permits_alike caveat ask kind h = grind arith
 
 fault_alike : (number : ℕ) (caveat : Option Caveat) (ask : Ask) (kind : Option AKind) → is_on_kind caveat ≡ false
     → first_fault_from number (caveat ∷ []) (at_kind kind ask) ≡ first_fault_from number (caveat ∷ []) ask
-fault_alike number None ask kind h = refl
-fault_alike number (Some caveat) ask kind h = rw (permits_alike caveat ask kind h)
+fault_alike number caveat ask kind h = grind (arith, permits_alike)
 
 pub blind_to_kind : (text : List ℕ) → is_on_kind (caveat_of text) ≡ false → IsBlindToKind text
-blind_to_kind text h number ask kind fault =
-    let there = finds_fault_at text number (at_kind kind ask) fault in
-    let here = finds_fault_at text number ask fault in
-    let alike = fault_alike number (caveat_of text) ask kind h in
-    (λ f. here.1 (there.0 f ∙ alike), λ f. there.1 (here.0 f ∙ sym alike))
+blind_to_kind text h number ask kind fault = grind (arith, finds_fault_at, fault_alike)

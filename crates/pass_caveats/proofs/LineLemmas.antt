@@ -1,5 +1,5 @@
 -- The lines with dates, and numbers that are too large.
-use Rattle.std.proofs.Common.{◌≡◌, ℕ, ◌<◌, ◌≤◌, List, [], ◌++◌, length, take, drop, Option, Some, None, refl, sym, ap, subst, ◌∙◌, arith}
+use Rattle.std.proofs.Common.{◌≡◌, ℕ, ◌<◌, ◌≤◌, List, [], ◌++◌, length, take, drop, Option, refl, sym, ap, subst, ◌∙◌, arith}
 use Rattle.std.specs.Prelude.{codes}
 use Rattle.std.proofs.lemmas.List.{take-append-drop}
 use Rattle.std.proofs.lemmas.Fmt.{decimal_injective}
@@ -15,11 +15,14 @@ use Rattle.club_values.specs.Moment.{SpellsMoment}
 use Rattle.pass_caveats.specs.Caveat.{SpellsCaveat}
 use Rattle.club_values.proofs.DayLemmas.{day_text-spells, spells-day_text, day_text_injective}
 use Rattle.club_values.proofs.MomentLemmas.{moment_text-spells, spells-moment_text}
+use Rattle.std.proofs.Common.{arith}
+use Rattle.std.proofs.lemmas.Grind.{common_steps}
+use Rattle.std.proofs.Common.{arith}
+use Rattle.std.proofs.lemmas.Grind.{common_steps}
 
 -- a parser of one thing is a parser of another if the same texts spell both
 reads_as : {A : Type 0} (P Q : A → Type 0) (r : Option A) → Reads P r → ((x : A) → P x → Q x) → ((x : A) → Q x → P x) → Reads Q r
-reads_as P Q (Some x) h to from = to x h
-reads_as P Q None never to from = λ x q. never x (from x q)
+reads_as P Q r h to from = grind arith
 
 pub reads_until : (text rest : List ℕ) (r : Option ℕ) → text ≡ codes "until < " ++ rest → Reads (SpellsMoment rest) r →
     Reads (λ moment. SpellsCaveat text (Until moment)) r
@@ -32,9 +35,7 @@ reads_until text rest r e h =
 -- a number above 49 isn't a number of guests
 pub too_many_guests : (text rest : List ℕ) (n : ℕ) → text ≡ codes "guests <= " ++ rest → SpellsNumber rest n → 49 < n → (x : ℕ) → SpellsCaveat text (Guests x)
     → ⊥
-too_many_guests text rest n e s large x h =
-    let same : n ≡ x = decimal_injective n x (omega (arith, s.within)) (omega (arith, h.real)) (sym s.spelling ∙ ap (drop 10) (sym e ∙ h.spelling)) in
-    absurd (omega (arith, h.real))
+too_many_guests text rest n e s large x h = grind (arith, common_steps, decimal_injective)
 
 -- the dates of a line: ten bytes, two dots, and what follows
 pub record AreDates (rest : List ℕ) (a b : ℕ) : Type 0 where
@@ -44,9 +45,7 @@ pub record AreDates (rest : List ℕ) (a b : ℕ) : Type 0 where
 
 pub dates_of : (text rest : List ℕ) (a b : ℕ) → text ≡ codes "days = " ++ rest → SpellsCaveat text (Days a b) → AreDates rest a b
 unfolding day_text
-dates_of text rest a b e h =
-    let apart : rest ≡ day_text a ++ (codes ".." ++ day_text b) = ap (drop 7) (sym e ∙ h.spelling) in
-    record { first = ap (take 10) apart; second = ap (drop 10) apart; long = ap (length {A = ℕ}) apart }
+dates_of text rest a b e h = grind (arith, common_steps, h.spelling)
 
 pub no_first_day : (text rest front : List ℕ) → text ≡ codes "days = " ++ rest → front ≡ take 10 rest → ((n : ℕ) → SpellsDay front n → ⊥) → (x : ℕ × ℕ) →
     SpellsCaveat text (Days x.0 x.1) → ⊥

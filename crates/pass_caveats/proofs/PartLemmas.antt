@@ -1,9 +1,7 @@
 -- The parts of a list with commas.
-use Rattle.std.proofs.Common.{◌≡◌, ◌≢◌, ℕ, ◌+◌, ◌<◌, ◌≤◌, ◌↔◌, ◌-◌, Bool, true, false, cond, List, [], ◌∷◌, ◌++◌, length, get_or, take, drop, add-one, refl}
-use Rattle.std.proofs.lemmas.Bool.{false_from_ne_true}
-use Rattle.std.proofs.Common.{sym, ap, ◌∙◌, arith, IsTrue}
-use Rattle.std.proofs.lemmas.List.{take-append-drop, length-take-le, get_or-take, take_all, length-drop}
-use Rattle.std.proofs.Math.Seq.{drop-cons}
+use Rattle.std.proofs.Common.{◌≡◌, ◌≢◌, ℕ, ◌+◌, ◌<◌, ◌≤◌, ◌↔◌, ◌-◌, Bool, true, false, cond, List, [], ◌∷◌, ◌++◌, length, get_or, take, drop, refl}
+use Rattle.std.proofs.Common.{ap, ◌∙◌, arith, IsTrue}
+use Rattle.std.proofs.lemmas.List.{take-append-drop}
 use Rattle.std.specs.Prelude.{All, Contains}
 use Rattle.std.specs.Bool.{MatchBool}
 use Rattle.std.specs.Prelude.{◌==◌}
@@ -15,8 +13,13 @@ use Rattle.club_values.specs.Name.{is_name_byte, IsName}
 use Rattle.pass_caveats.specs.Names.{AreNames}
 use Rattle.pass_caveats.specs.Parts.{comma_parts, comma_list, Skips}
 use Rattle.pass_caveats.specs.computed.CaveatOf.{is_next, after_next}
-use Rattle.std.specs.Str.{bytes_eq}
 use Rattle.std.proofs.lemmas.Slice.Eq.{bytes_eq-Decides}
+use Rattle.std.proofs.Common.{arith}
+use Rattle.std.proofs.lemmas.Grind.{common_steps}
+use Rattle.std.proofs.lemmas.Bool.Decides.{nat_tests}
+use Rattle.std.proofs.Common.{arith}
+use Rattle.std.proofs.lemmas.Grind.{common_steps}
+use Rattle.std.proofs.lemmas.Bool.Decides.{nat_tests}
 
 -- what `any` returns for the items that are x
 pub contains_from_any : (r : Bool) (xs : List (List ℕ)) (x : List ℕ) →
@@ -47,8 +50,7 @@ pub parts_of-joined : (parts : List (List ℕ)) → 0 < length parts → All Has
 parts_of-joined [] some h = absurd (omega arith)
 parts_of-joined (x ∷ []) some h = slice_split_none (λ byte. byte == 44) x (All-head HasNoComma x [] h)
 parts_of-joined (x ∷ y ∷ rest) some h =
-    slice_split_at (λ byte. byte == 44) x 44 (comma_list (y ∷ rest)) (All-head HasNoComma x (y ∷ rest) h) refl
-    ∙ ap (λ (parts : List (List ℕ)). x ∷ parts) (parts_of-joined (y ∷ rest) (omega arith) (All-tail HasNoComma x (y ∷ rest) h))
+    grind (arith, slice_split_at, All-head HasNoComma x (y ∷ rest) h, parts_of-joined (y ∷ rest), All-tail HasNoComma x (y ∷ rest) h)
 
 pub names_again : (names : List (List ℕ)) → AreNames names → comma_parts (comma_list names) ≡ names
 names_again names h = parts_of-joined names h.some (no_commas names h.each_is_name)
@@ -62,18 +64,14 @@ some_part text = omega (arith, length-slice_split (λ byte. byte == 44) text)
 
 -- a text that spells names has them as its parts
 pub names_are_parts : (text : List ℕ) (names : List (List ℕ)) → AreNames names × (text ≡ comma_list names) → AreNames (comma_parts text)
-names_are_parts text names h = rw (h.1, names_again names h.0) h.0
+names_are_parts text names h = grind (arith, names_again)
 
 -- cut at the first comma
 at_comma : (text : List ℕ) (i : ℕ) → i < length text → get_or text i 0 ≡ 44 → text ≡ take i text ++ 44 ∷ drop (i + 1) text
-at_comma text i h e =
-    sym (take-append-drop i text) ∙ ap (λ (rest : List ℕ). take i text ++ rest) (drop-cons text i 0 h ∙ rw (e, add-one) refl)
+at_comma text i h e = grind (arith, common_steps, take-append-drop)
 
 no_comma_before : (text : List ℕ) (i : ℕ) → i ≤ length text → AllWithin (λ byte. byte ≢ 44) text 0 i → All (λ byte. (byte == 44) ≡ false) (take i text)
-no_comma_before text i h none = λ k d within.
-    let below : k < i = omega (arith, length-take-le i text h) in
-    let other : get_or text k d ≢ 44 = none k d (omega arith) below in
-    rw get_or-take (grind (arith, nat_tests))
+no_comma_before text i h none = grind (arith, nat_tests, common_steps)
 
 pub parts_of-comma : (text rest : List ℕ) (i : ℕ) → i < length text → HoldsAt (λ byte. byte ≡ 44) text i → AllWithin (λ byte. byte ≢ 44) text 0 i →
     rest ≡ drop (i + 1) text → comma_parts text ≡ take i text ∷ comma_parts rest
@@ -82,28 +80,22 @@ parts_of-comma text rest i h here before e =
     (no_comma_before text i (omega arith) before) refl)
 
 pub parts_of-no_comma : (text : List ℕ) → AllWithin (λ byte. byte ≢ 44) text 0 (length text) → comma_parts text ≡ text ∷ []
-parts_of-no_comma text none =
-    slice_split_none (λ byte. byte == 44) text (λ k d within. let other : get_or text k d ≢ 44 = none k d (omega arith) within in grind (arith, nat_tests))
+parts_of-no_comma text none = grind (arith, nat_tests, common_steps, slice_split_none)
 
 pub tail_is : (text : List ℕ) (i : ℕ) → take (length text - (i + 1)) (drop (i + 1) text) ≡ drop (i + 1) text
-tail_is text i = take_all (length text - (i + 1)) (drop (i + 1) text) (omega (arith, length-drop (i + 1) text))
+tail_is text i = grind (arith, common_steps)
 
 -- what a step takes from the front
 pub skip_takes : (word : List ℕ) (parts left : List (List ℕ)) (b : Bool) → Skips word parts b left → parts ≡ cond b (word ∷ left) left
-skip_takes word parts left true s = s
-skip_takes word parts left false s = sym s.0
+skip_takes word parts left b s = grind arith
 
 -- ---- a step, as it is computed
 
 not_first : (word : List ℕ) (parts : List (List ℕ)) → ((others : List (List ℕ)) → parts ≢ word ∷ others) → is_next word parts ≡ false
-not_first word [] none = refl
-not_first word (part ∷ parts) none =
-    false_from_ne_true (bytes_eq part word) (λ e. none parts (ap (λ (first : List ℕ). first ∷ parts) ((bytes_eq-Decides part word).0 e)))
+not_first word parts none = grind (arith, bytes_eq-Decides)
 
 pub all_left : (word : List ℕ) (parts : List (List ℕ)) → is_next word parts ≡ false → after_next word parts ≡ parts
-all_left word [] e = refl
-all_left word (part ∷ parts) e = rw e refl
+all_left word parts e = grind arith
 
 pub skip_leaves : (word : List ℕ) (parts left : List (List ℕ)) (b : Bool) → Skips word parts b left → left ≡ after_next word parts
-skip_leaves word parts left true s = rw (s, (bytes_eq-Decides word word).1 refl) refl
-skip_leaves word parts left false s = s.0 ∙ sym (all_left word parts (not_first word parts s.1))
+skip_leaves word parts left b s = grind (arith, bytes_eq-Decides, all_left, not_first)

@@ -1,6 +1,6 @@
 -- What was spent before changes the first fault of a list only under a spend limit, and only if something is owed.
-use Rattle.std.proofs.Common.{◌≡◌, ℕ, zero, suc, ◌+◌, ◌-◌, ◌≤◌, ◌==◌, ◌||◌, true, false, cond, nat_le, List, [], ◌∷◌, ◌<◌}
-use Rattle.std.proofs.Common.{Option, Some, None, refl, subst, ◌∙◌, arith}
+use Rattle.std.proofs.Common.{◌≡◌, ℕ, ◌+◌, ◌-◌, ◌≤◌, ◌==◌, ◌||◌, true, false, cond, nat_le, List, [], ◌∷◌}
+use Rattle.std.proofs.Common.{Option, Some, None, refl, subst, arith}
 use Rattle.std.specs.Prelude.{All, IfSome}
 use Rattle.std.proofs.lemmas.List.Elements.{All-head, All-tail}
 use Rattle.std.proofs.lemmas.Bool.Decides.{nat_tests}
@@ -15,16 +15,18 @@ use Rattle.club_values.specs.Number.{number_limit}
 use Rattle.pass_caveats.specs.Spending.{HoldsWithin, IsWithin, LimitsNoMore, after_spending, slack_under}
 use Rattle.pass_caveats.proofs.CandidateLemmas.{one_caveat}
 use Rattle.pass_caveats.proofs.DecisionLemmas.{Decides-permits}
-
--- a spend limit that allows more allows less
-within_less : (owed less more n : ℕ) → less ≤ more → (owed == 0 || nat_le (more + owed) n) ≡ true → (owed == 0 || nat_le (less + owed) n) ≡ true
-within_less owed less more n short h = grind (arith, nat_tests)
+use Rattle.std.proofs.Common.{arith}
+use Rattle.std.proofs.lemmas.Grind.{common_steps}
+use Rattle.std.proofs.lemmas.Bool.Decides.{nat_tests}
+use Rattle.std.proofs.Common.{arith}
+use Rattle.std.proofs.lemmas.Grind.{common_steps}
+use Rattle.std.proofs.lemmas.Bool.Decides.{nat_tests}
 
 -- a key that spent less is allowed at least as much
 permits_less : (caveat : Caveat) (ask : Ask) (less more : ℕ) → less ≤ more → permits caveat (after_spending more ask) ≡ true
     → permits caveat (after_spending less ask) ≡ true
 unfolding permits
-permits_less (Spend n) ask less more short h = within_less ask.owed less more n short h
+permits_less (Spend n) ask less more short h = grind (arith, nat_tests)
 permits_less caveat ask less more short h = h
 
 -- if nothing is owed, what was spent makes no difference
@@ -34,44 +36,30 @@ free_within owed one other n free = rw free refl
 permits_free : (caveat : Caveat) (ask : Ask) (one other : ℕ) → ask.owed ≡ 0
     → permits caveat (after_spending one ask) ≡ permits caveat (after_spending other ask)
 unfolding permits
-permits_free (Spend n) ask one other free = free_within ask.owed one other n free
-permits_free caveat ask one other free = refl
+permits_free caveat ask one other free = grind (arith, free_within)
 
 -- no caveat is at fault before the first
 numbered : (n : ℕ) (caveats : List (Option Caveat)) (ask : Ask) (m : ℕ) → first_fault_from n caveats ask ≡ Some (Denied m) → n ≤ m
 numbered n [] ask m e = absurd (cc)
-numbered n (None ∷ caveats) ask m e = absurd (cc)
-numbered n (Some caveat ∷ caveats) ask m e = grind (arith, numbered (n + 1) caveats ask m)
+numbered n (caveat ∷ caveats) ask m e = grind (arith, numbered (n + 1) caveats ask m)
 
 pub free : (n : ℕ) (caveats : List (Option Caveat)) (ask : Ask) (spent : ℕ) → ask.owed ≡ 0
     → first_fault_from n caveats (after_spending spent ask) ≡ first_fault_from n caveats (after_spending 0 ask)
 free n [] ask spent nothing = refl
-free n (None ∷ caveats) ask spent nothing = refl
-free n (Some caveat ∷ caveats) ask spent nothing =
-    rw (permits_free caveat ask spent 0 nothing, free (n + 1) caveats ask spent nothing) refl
+free n (caveat ∷ caveats) ask spent nothing = grind (arith, permits_free, free (n + 1) caveats ask spent nothing)
 
 between : (n : ℕ) (caveats : List (Option Caveat)) (ask : Ask) (spent most : ℕ) → spent ≤ most
     → first_fault_from n caveats (after_spending most ask) ≡ first_fault_from n caveats (after_spending 0 ask)
     → first_fault_from n caveats (after_spending spent ask) ≡ first_fault_from n caveats (after_spending 0 ask)
 between n [] ask spent most short e = refl
-between n (None ∷ caveats) ask spent most short e = refl
-between n (Some caveat ∷ caveats) ask spent most short e =
-    grind (
-      arith,
-      permits_less caveat ask spent most short,
-      permits_less caveat ask 0 spent,
-      between (n + 1) caveats ask spent most short,
-      numbered (n + 1) caveats (after_spending 0 ask) n,
-    )
+between n (caveat ∷ caveats) ask spent most short e =
+    grind (arith, permits_less, between (n + 1) caveats ask spent most short, numbered (n + 1) caveats (after_spending 0 ask) n)
 
 -- no limit allows a charge after spending that much
-within_beyond : (owed spent most n : ℕ) → n ≤ most → most ≤ spent → (owed == 0 || nat_le (spent + owed) n) ≡ (owed == 0 || nat_le (most + owed) n)
-within_beyond owed spent most n far more = grind (arith, nat_tests)
-
 permits_beyond : (caveat : Caveat) (ask : Ask) (spent most : ℕ) → IsCaveat caveat → number_limit ≤ most → most ≤ spent
     → permits caveat (after_spending spent ask) ≡ permits caveat (after_spending most ask)
 unfolding permits
-permits_beyond (Spend n) ask spent most real far more = within_beyond ask.owed spent most n (omega (arith, real, far)) more
+permits_beyond (Spend n) ask spent most real far more = grind (arith, nat_tests)
 permits_beyond caveat ask spent most real far more = refl
 
 -- after spending at least that much the first fault is always the same
@@ -85,40 +73,29 @@ beyond n (Some caveat ∷ caveats) ask spent most real far more =
     rw (permits_beyond caveat ask spent most first far more, beyond (n + 1) caveats ask spent most others far more) refl
 
 pub limits_no_more : LimitsNoMore
-limits_no_more caveats ask spent most real far same =
-    let early : spent ≤ most → first_fault_from 1 caveats (after_spending spent ask) ≡ first_fault_from 1 caveats (after_spending 0 ask) =
-    λ less. between 1 caveats ask spent most less same in
-    let late : most < spent → number_limit < spent → first_fault_from 1 caveats (after_spending spent ask) ≡ first_fault_from 1 caveats (after_spending 0 ask) =
-    λ more great. beyond 1 caveats ask spent most real (omega (arith, far, great)) (omega arith) ∙ same in
-    grind (arith, far)
+limits_no_more caveats ask spent most real far same = grind (arith, common_steps, between, beyond, far)
 
 -- ---- one caveat
 
 limited : (owed spent n : ℕ) → (owed == 0 || nat_le (0 + owed) n) ≡ true
     → ((owed == 0 || nat_le (spent + owed) n) ≡ true → IsWithin (cond (owed == 0) None (Some (n - owed))) spent)
     × (IsWithin (cond (owed == 0) None (Some (n - owed))) spent → (owed == 0 || nat_le (spent + owed) n) ≡ true)
-limited zero spent n h = (λ _. tt, λ _. refl)
-limited (suc owed) spent n h = (λ e. grind (arith, nat_tests), λ e. grind (arith, nat_tests))
+limited owed spent n h = grind (arith, nat_tests)
 
 -- a caveat that allows a request of a key that spent nothing allows it just within its slack
 pub permits_within : (caveat : Caveat) (ask : Ask) (spent : ℕ) → permits caveat (after_spending 0 ask) ≡ true
     → (permits caveat (after_spending spent ask) ≡ true → IsWithin (slack_under caveat ask) spent)
     × (IsWithin (slack_under caveat ask) spent → permits caveat (after_spending spent ask) ≡ true)
 unfolding permits
-permits_within (Spend n) ask spent h = limited ask.owed spent n h
-permits_within caveat ask spent h = (λ _. tt, λ _. h)
+permits_within caveat ask spent h = grind (arith, limited)
 
 never : (caveat : Caveat) (ask : Ask) (spent : ℕ) → permits caveat (after_spending 0 ask) ≡ false → ¬ Permits caveat (after_spending spent ask)
-never caveat ask spent h permitted =
-    let allowed = permits_less caveat ask 0 spent (omega arith) ((Decides-permits caveat (after_spending spent ask)).1 permitted) in absurd (cc)
+never caveat ask spent h permitted = grind (arith, permits_less, Decides-permits)
 
 module _ (text : List ℕ) (n : ℕ) (ask : Ask) (caveat : Caveat) (understood : Understood text caveat) where
   -- a caveat that denies a key that spent nothing denies it whatever it spent
   pub holds_denied : permits caveat (after_spending 0 ask) ≡ false → HoldsWithin text n ask (Some (Denied n)) None
-  holds_denied denies = record {
-    within = λ spent h. (refl, (caveat, understood, never caveat ask spent denies));
-    beyond = λ spent h. absurd (h tt);
-  }
+  holds_denied denies = grind (arith, never)
 
   -- one that allows it has no fault just within its slack
   pub holds_allowed : permits caveat (after_spending 0 ask) ≡ true → HoldsWithin text n ask None (slack_under caveat ask)

@@ -95,6 +95,7 @@ fn short_line_of(text: &[u8]) -> Option<Caveat<'_>>
 
 /// The caveat of a text; `None` if the text isn't a line of the language, or is longer than 256
 /// bytes.
+#[tactic(auto, using(crate::proofs::CaveatOfLemmas::reads_caveat_of))]
 pub fn read(bytes: &[u8]) -> Option<Caveat<'_>>
     ensures understood { Reads (Understood bytes.now) result }
     ensures function { result ≡ caveat_of bytes.now }
@@ -142,6 +143,7 @@ pub fn allows(caveat: &Caveat, ask: &Ask) -> bool
 
 /// Whether a text is a caveat on the kind of the slot's facility. Any other text has the same fault
 /// for each kind.
+#[tactic(auto, using(crate::proofs::KindLemmas::blind_to_kind))]
 pub fn looks_at_kind(text: &[u8]) -> bool
     ensures function { result ≡ is_on_kind (caveat_of text.now) }
     ensures blind { result ≡ false → IsBlindToKind text.now }

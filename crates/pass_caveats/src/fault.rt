@@ -51,6 +51,7 @@ fn fault_of_text(text: &[u8], number: usize, ask: &Ask) -> Option<CaveatFault>
 /// The fault of one caveat with this number in its list; `None` if it allows the request. A caller
 /// that tests caveats one by one numbers them from 1; the first fault that comes is that of the
 /// list.
+#[tactic(auto, using(crate::proofs::CaveatOfLemmas::is_fault_at))]
 pub fn fault_at(text: &[u8], number: usize, ask: &Ask) -> Option<CaveatFault>
     ensures cases { IsFaultAt text.now number ask.now result }
     ensures function { result ≡ first_fault_from number (caveat_of text.now ∷ []) ask.now }
@@ -70,6 +71,7 @@ fn fault_of(caveats: &[Vec<u8>], ask: &Ask) -> Option<CaveatFault>
 }
 
 /// The first caveat that isn't understood or denies the request; `None` if all allow it.
+#[tactic(auto, using(crate::proofs::CaveatOfLemmas::is_first_fault))]
 pub fn first_fault(caveats: &[Vec<u8>], ask: &Ask) -> Option<CaveatFault>
     ensures first { IsFirstFault (map vec_items caveats.now) ask.now result }
     ensures function { result ≡ first_fault_of (map caveat_of (map vec_items caveats.now)) ask.now }

@@ -18,6 +18,7 @@ pub fn narrows()
 {}
 
 /// The first fault is none exactly if the request is allowed.
+#[tactic(auto, using(crate::proofs::CaveatOfLemmas::none_where_allowed))]
 pub fn faults_only_where_not_allowed()
     ensures { FaultsOnlyWhereNotAllowed }
 {}
@@ -36,6 +37,7 @@ pub fn finds_the_fault_at()
 
 /// With one more caveat the first fault is that of the caveats before, or else that of the last
 /// one, whose number is one more than the number of those before.
+#[tactic(auto, using(crate::proofs::CaveatOfLemmas::fault_of_one_more))]
 pub fn finds_the_fault_of_one_more()
     ensures { FindsTheFaultOfOneMore }
 {}
@@ -56,6 +58,7 @@ pub fn is_understood_once()
 {}
 
 /// If nothing is owed, the first fault of a list doesn't depend on what the key has spent.
+#[tactic(auto, using(crate::proofs::SpendingLemmas::free))]
 pub fn owes_nothing()
     ensures { OwesNothing }
 {}
@@ -63,6 +66,7 @@ pub fn owes_nothing()
 /// If the first fault of a list is the same with nothing spent and with some amount, it is the same
 /// for any smaller one. No spend limit is above 999,999,999 points: with that much it is the same
 /// for any amount.
+#[tactic(auto, using(crate::proofs::SpendingLemmas::limits_no_more))]
 pub fn limits_no_more()
     ensures { LimitsNoMore }
 {}
