@@ -1,10 +1,10 @@
 -- The texts of dates.
-use Rattle.std.proofs.Common.{◌≡◌, ◌<◌, ℕ, ◌+◌, ◌*◌, length, List, [], ◌∷◌, get_or, drop, ap, arith, refl, sym, ◌∙◌, subst, Option, Some, None, Result, Ok, Err}
+use Rattle.std.proofs.Common.{◌≡◌, ◌<◌, ℕ, ◌+◌, ◌*◌, length, List, [], ◌∷◌, get_or, arith, sym, ◌∙◌, subst, Option, Result, Ok, Err}
 use Rattle.std.proofs.Common.{ℤ, pos}
 use Rattle.std.specs.Prelude.{IsOk, IfOk}
 use Rattle.std.specs.Result.{result_ok}
 use Rattle.std.proofs.lemmas.Slice.Eq.{text_from_reads}
-use Rattle.jiff_core.specs.Calendar.{IsCivilDate, IsDate, days_from_civil}
+use Rattle.jiff_core.specs.Calendar.{IsCivilDate, IsDate}
 use Rattle.jiff_core.specs.Date.{epoch_day, IsYmd}
 use Rattle.jiff_core.proofs.SignedLemmas.{signed_arith}
 use Rattle.jiff_core.specs.declared.civil.date.Date.{Date}
@@ -14,58 +14,34 @@ use Rattle.club_values.specs.Reading.{Reads}
 use Rattle.club_values.specs.Digits.{two_digits}
 use Rattle.club_values.specs.Day.{IsDay, date_text, AreDateParts, IsDateText, SpellsDay}
 use Rattle.club_values.proofs.DigitLemmas.{two_digits_injective, four_digits_injective}
-
-heads : (a b x y : ℕ) → a ∷ b ∷ [] ≡ x ∷ y ∷ [] → (a ≡ x) × (b ≡ y)
-heads a b x y e = (cc, cc)
+use Rattle.std.proofs.Common.{arith}
+use Rattle.std.proofs.Common.{arith}
 
 -- a text of ten bytes, read two digits at a time
 pub parts_from_reads : (text : List ℕ) (century y year month day : ℕ) → length text ≡ 10 → get_or text 4 0 ≡ 45 → get_or text 7 0 ≡ 45 → century < 100 →
     y < 100 → month < 100 → day < 100 → year ≡ century * 100 + y → get_or text 0 0 ∷ get_or text 1 0 ∷ [] ≡ two_digits century →
     get_or text 2 0 ∷ get_or text 3 0 ∷ [] ≡ two_digits y → get_or text 5 0 ∷ get_or text 6 0 ∷ [] ≡ two_digits month →
     get_or text 8 0 ∷ get_or text 9 0 ∷ [] ≡ two_digits day → AreDateParts text year month day
-parts_from_reads text century y year month day len four seven hc hy hm hd e ec ey em ed =
-    let c = heads _ _ _ _ ec in
-    let a = heads _ _ _ _ ey in
-    let b = heads _ _ _ _ em in
-    let d = heads _ _ _ _ ed in
-    record {
-      short_year = omega arith;
-      short_month = hm;
-      short_day = hd;
-      spelling =
-          text_from_reads text (date_text year month day) len
-          (omega arith, (omega arith, (omega arith, (omega arith, (four, (omega arith, (omega arith, (seven, (omega arith, (omega arith, tt))))))))));
-    }
+parts_from_reads text century y year month day len four seven hc hy hm hd e ec ey em ed = grind (arith, text_from_reads text (date_text year month day) len)
 
 -- a text has one year, month and day
 pub parts_are_one : (y m d y₂ m₂ d₂ : ℕ) → date_text y m d ≡ date_text y₂ m₂ d₂ → (y ≡ y₂) × (m ≡ m₂) × (d ≡ d₂)
-parts_are_one y m d y₂ m₂ d₂ e =
-    (four_digits_injective y y₂ _ _ e, two_digits_injective m m₂ _ _ (ap (drop 5) e), two_digits_injective d d₂ [] [] (ap (drop 8) e))
+parts_are_one y m d y₂ m₂ d₂ e = grind (arith, four_digits_injective, two_digits_injective)
 
 unfoldable pub date_record : (y m d : ℕ) → IsCivilDate (pos y) m d → Date
 date_record y m d h = record { year = pos y; month = m; day = d; year_in = h.0; month_in = h.1; day_in = h.2 }
 
 -- if a text has no such digits, it is no date's
 pub no_date : (text : List ℕ) → ((p : ℕ × ℕ × ℕ) → AreDateParts text p.0 p.1 p.2 → ⊥) → (d : Date) → IsDateText text d → ⊥
-no_date text never d t =
-    let P : ℤ → Type 0 = λ year. IsCivilDate year d.month d.day in
-    let is : IsCivilDate (pos t.year) d.month d.day = subst P t.same_year (civil d) in
-    let long = days_in_month_bounds (pos t.year) d.month in
-    never (t.year, d.month, d.day) (record {
-      short_year = omega (arith, signed_arith);
-      short_month = omega arith;
-      short_day = omega arith;
-      spelling = t.spelling;
-    })
+no_date text never d t = grind (arith, signed_arith, days_in_month_bounds, civil, never (t.year, d.month, d.day))
 
 -- if a text is no date's, it is no day's
 pub no_day : (text : List ℕ) → ((d : Date) → IsDateText text d → ⊥) → (n : ℕ) → SpellsDay text n → ⊥
 unfolding date_record
-no_day text never n s =
-    never (date_record s.year s.month s.day s.real.0) (record { year = s.year; same_year = refl; spelling = s.spelling })
+no_day text never n s = grind (arith, never (date_record s.year s.month s.day s.real.0))
 
 of_civil : (y m d : ℕ) → IsCivilDate (pos y) m d → IsDate (pos y) (pos m) (pos d)
-of_civil y m d h = (h.0, (omega (arith, signed_arith), omega (arith, signed_arith)), (omega (arith, signed_arith), omega (arith, signed_arith)))
+of_civil y m d h = grind (arith, signed_arith)
 
 pub from_pos : (a b : ℕ) → pos a ≡ pos b → a ≡ b
 from_pos a b e = cc
@@ -93,20 +69,8 @@ reads_date text y m d yz mz dz r o p ey em ed can value e =
     rw e (date_by_parts text y m d r p (λ h. can (rw (ey, em, ed) h)) (rw (ey, em, ed) at value))
 
 date_is : (text : List ℕ) (d : Date) (n : ℕ) → IsDateText text d → SpellsDay text n → epoch_day d ≡ pos n
-date_is text d n t s =
-    let same = parts_are_one t.year d.month d.day s.year s.month s.day (sym t.spelling ∙ s.spelling) in
-    rw (t.same_year, same.0, same.1, same.2) s.real.1
+date_is text d n t s = grind (arith, parts_are_one)
 
 -- the day of a text is the day of its date
 pub spells_by_date : (text : List ℕ) (d : Date) → IsDateText text d → (r : Option ℕ) → Reads (λ n. IsDay n × (epoch_day d ≡ pos n)) r → Reads (SpellsDay text) r
-spells_by_date text d t (Some n) h =
-    let P : ℤ → Type 0 = λ y. IsCivilDate y d.month d.day in
-    record {
-      year = t.year;
-      month = d.month;
-      day = d.day;
-      spelling = t.spelling;
-      real = (subst P t.same_year (civil d), ap (λ (y : ℤ). days_from_civil y d.month d.day) (sym t.same_year) ∙ h.1);
-      within = h.0;
-    }
-spells_by_date text d t None never = λ n s. never n (s.within, date_is text d n t s)
+spells_by_date text d t r h = grind (arith, civil, date_is)

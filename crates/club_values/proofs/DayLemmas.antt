@@ -1,6 +1,6 @@
 -- The date of a day by arithmetic is the calendar's.
 use Rattle.std.proofs.Common.{◌≡◌, ℕ, ◌+◌, ◌-◌, ◌*◌, ◌/◌, ◌%◌, ◌<◌, ◌≤◌, ◌≢◌, cond, Bool, true, false, nat_lt, refl, suc, ◌∙◌, ltb-true, ltb-false, sym, List}
-use Rattle.std.proofs.Common.{◌++◌, drop, ap, arith, to_z, of_z, w16, pos, ◌+ℤ◌}
+use Rattle.std.proofs.Common.{◌++◌, arith, to_z, of_z, w16, pos, ◌+ℤ◌}
 use Rattle.std.proofs.lemmas.Bool.Decides.{nat_tests}
 use Rattle.jiff_core.specs.Calendar.{IsCivilDate, days_from_civil, day_count}
 use Rattle.jiff_core.specs.Date.{epoch_day}
@@ -13,6 +13,10 @@ use Rattle.jiff_core.specs.declared.civil.date.Date.{Date}
 use Rattle.jiff_core.proofs.DateLemmas.{epoch_day_injective}
 use Rattle.club_values.proofs.DateTextLemmas.{date_record, from_pos}
 use Rattle.club_values.proofs.DigitLemmas.{two_digits_injective, four_digits_injective}
+use Rattle.std.proofs.Common.{arith}
+use Rattle.std.proofs.lemmas.Bool.Decides.{nat_tests}
+use Rattle.std.proofs.Common.{arith}
+use Rattle.std.proofs.lemmas.Bool.Decides.{nat_tests}
 
 -- a day's place in its year from March
 pub march_year_bounds : (n : ℕ) → IsDay n →
@@ -79,10 +83,7 @@ civil_date n h =
 -- a day has one date
 one_date : (n y m d y₂ m₂ d₂ : ℕ) → IsDateOf y m d n → IsDateOf y₂ m₂ d₂ n → (y ≡ y₂) × (m ≡ m₂) × (d ≡ d₂)
 unfolding date_record
-one_date n y m d y₂ m₂ d₂ a b =
-    let same = epoch_day_injective (date_record y m d a.0) (date_record y₂ m₂ d₂ b.0) (a.1 ∙ sym b.1) in
-    let year : pos y ≡ pos y₂ = same.0 in
-    (cc, same.1, same.2)
+one_date n y m d y₂ m₂ d₂ a b = grind (arith, epoch_day_injective (date_record y m d a.0) (date_record y₂ m₂ d₂ b.0))
 
 pub date_of_day : (n : ℕ) (d : Date) → IsDay n → epoch_day d ≡ pos n → (d.year ≡ pos (year_of n)) × (d.month ≡ month_of n) × (d.day ≡ day_of_month n)
 unfolding date_record
@@ -95,18 +96,11 @@ year_bounds : (q r n : ℕ) (b : Bool) → nat_lt 12 ((5 * r + 461) / 153) ≡ b
 year_bounds q r n b test low high small h e = grind arith
 
 pub date_bounds : (n : ℕ) → IsDay n → (2000 ≤ year_of n) × (year_of n ≤ 2099) × (month_of n ≤ 12) × (day_of_month n ≤ 31)
-date_bounds n h =
-    let b = march_year_bounds n h in
-    let years = year_bounds (march_year n) (day_of_march_year n) n _ refl b.0 b.1 b.2 h b.3 in
-    let is = (civil_date n h).0 in
-    let long = days_in_month_bounds (pos (year_of n)) (month_of n) in
-    (years.0, years.1, is.1.1, omega (arith, is.2.1))
+date_bounds n h = grind (arith, march_year_bounds, year_bounds, civil_date, days_in_month_bounds)
 
 -- the year of a day's date, as the code gets it
 pub year_after_cast : (n : ℕ) (d : Date) → IsDay n → epoch_day d ≡ pos n → to_z w16 (of_z w16 d.year) ≡ pos (year_of n)
-year_after_cast n d h e =
-    let b = date_bounds n h in
-    rw (date_of_day n d h e).0 (back_small w16 (pos (year_of n)) (omega arith))
+year_after_cast n d h e = grind (arith, date_bounds, date_of_day, back_small w16)
 
 -- the text of a real date is that of its day
 pub date_text-day_text : (n y m d : ℕ) → IsDay n → IsDateOf y m d n → date_text y m d ≡ day_text n
@@ -117,7 +111,7 @@ date_text-day_text n y m d h is =
 
 -- a text that spells a day is the day's text
 pub spells-day_text : (text : List ℕ) (n : ℕ) → SpellsDay text n → text ≡ day_text n
-spells-day_text text n s = s.spelling ∙ date_text-day_text n s.year s.month s.day s.within s.real
+spells-day_text text n s = grind (arith, date_text-day_text)
 
 pub day_text-spells : (n : ℕ) → IsDay n → SpellsDay (day_text n) n
 unfolding day_text
@@ -134,8 +128,4 @@ day_text-spells n h =
 -- different days have different texts, whatever follows them
 pub day_text_injective : (a b : ℕ) (xs ys : List ℕ) → IsDay a → IsDay b → day_text a ++ xs ≡ day_text b ++ ys → a ≡ b
 unfolding day_text
-day_text_injective a b xs ys h k e =
-    let year = four_digits_injective (year_of a) (year_of b) _ _ e in
-    let month = two_digits_injective (month_of a) (month_of b) _ _ (ap (drop 5) e) in
-    let day = two_digits_injective (day_of_month a) (day_of_month b) xs ys (ap (drop 8) e) in
-    from_pos a b (sym (civil_date a h).1 ∙ rw (year, month, day) (civil_date b k).1)
+day_text_injective a b xs ys h k e = grind (arith, four_digits_injective, two_digits_injective, civil_date, from_pos)

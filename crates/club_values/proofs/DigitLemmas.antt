@@ -1,6 +1,7 @@
 -- Digits of a fixed width determine their number.
-use Rattle.std.proofs.Common.{◌≡◌, ℕ, ◌+◌, ◌/◌, ◌%◌, List, ◌++◌, get_or, drop, ap, arith}
+use Rattle.std.proofs.Common.{◌≡◌, ℕ, ◌+◌, ◌/◌, ◌%◌, List, ◌++◌, get_or, ap, arith}
 use Rattle.club_values.specs.Digits.{two_digits, four_digits}
+use Rattle.std.proofs.Common.{arith}
 
 -- if the first digits agree, whatever follows
 pub two_digits_injective : (a b : ℕ) (xs ys : List ℕ) → two_digits a ++ xs ≡ two_digits b ++ ys → a ≡ b
@@ -10,7 +11,4 @@ two_digits_injective a b xs ys e =
     omega arith
 
 pub four_digits_injective : (a b : ℕ) (xs ys : List ℕ) → four_digits a ++ xs ≡ four_digits b ++ ys → a ≡ b
-four_digits_injective a b xs ys e =
-    let front = two_digits_injective (a / 100) (b / 100) (two_digits (a % 100) ++ xs) (two_digits (b % 100) ++ ys) e in
-    let back = two_digits_injective (a % 100) (b % 100) xs ys (ap (drop 2) e) in
-    omega arith
+four_digits_injective a b xs ys e = grind (arith, two_digits_injective)

@@ -1,10 +1,11 @@
 -- The value that a text can be is the one whose text it is.
-use Rattle.std.proofs.Common.{◌≡◌, ℕ, ◌+◌, ◌-◌, ◌*◌, ◌/◌, ◌%◌, ◌<◌, ◌≤◌, Bool, cond, nat_lt, List, ◌++◌, refl, arith}
+use Rattle.std.proofs.Common.{◌≡◌, ℕ, ◌+◌, ◌-◌, ◌*◌, ◌/◌, ◌%◌, ◌<◌, ◌≤◌, Bool, cond, nat_lt, List, ◌++◌, arith}
 use Rattle.jiff_core.proofs.MarchLemmas.{month_and_day}
-use Rattle.club_values.specs.Day.{IsDay, march_year, day_of_march_year, year_of, month_of, day_of_month, day_text}
-use Rattle.club_values.specs.Moment.{IsMoment, time_text, moment_text}
+use Rattle.club_values.specs.Day.{IsDay, year_of, month_of, day_of_month, day_text}
+use Rattle.club_values.specs.Moment.{IsMoment, moment_text}
 use Rattle.club_values.specs.computed.TextOf.{number_of_date, day_of, moment_of}
 use Rattle.club_values.proofs.DayLemmas.{march_year_bounds}
+use Rattle.std.proofs.Common.{arith}
 
 pub two_again : (n : ℕ) → 10 * (48 + n / 10 - 48) + (48 + n % 10 - 48) ≡ n
 two_again n = omega arith
@@ -15,9 +16,7 @@ number_again q r n b test low high small e = grind (arith, month_and_day r small
 
 -- the day of a date is the day
 day_again : (n : ℕ) → IsDay n → number_of_date (year_of n) (month_of n) (day_of_month n) ≡ n
-day_again n h =
-    let b = march_year_bounds n h in
-    number_again (march_year n) (day_of_march_year n) n _ refl b.0 b.1 b.2 b.3
+day_again n h = grind (arith, march_year_bounds, number_again)
 
 -- the digits of a date
 year_again : (y : ℕ) → 100 * (10 * (48 + y / 100 / 10 - 48) + (48 + y / 100 % 10 - 48)) + (10 * (48 + y % 100 / 10 - 48) + (48 + y % 100 % 10 - 48)) ≡ y
@@ -25,11 +24,8 @@ year_again y = omega arith
 
 pub day_of-day_text : (n : ℕ) (rest : List ℕ) → IsDay n → day_of (day_text n ++ rest) ≡ n
 unfolding day_text
-day_of-day_text n rest h = rw (year_again (year_of n), two_again (month_of n), two_again (day_of_month n)) (day_again n h)
+day_of-day_text n rest h = grind (arith, year_again, two_again, day_again)
 
 pub moment_of-moment_text : (n : ℕ) → IsMoment n → moment_of (moment_text n) ≡ n
 unfolding moment_text day_text
-moment_of-moment_text n h =
-    let hour = two_again (n % 1440 / 60) in
-    let minute = two_again (n % 60) in
-    omega (arith, day_of-day_text (n / 1440) (time_text (n % 1440 / 60) (n % 60)) (omega arith, omega arith))
+moment_of-moment_text n h = grind (arith, two_again, day_of-day_text)

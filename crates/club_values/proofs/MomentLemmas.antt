@@ -1,24 +1,24 @@
 -- The texts of moments.
-use Rattle.std.proofs.Common.{◌≡◌, ℕ, ◌/◌, ◌%◌, List, [], ◌∷◌, take, drop, get_or, ap, sym, subst, refl, ◌∙◌, arith}
+use Rattle.std.proofs.Common.{◌≡◌, ℕ, ◌/◌, ◌%◌, List, [], ◌∷◌, take, drop, get_or, ap, refl, arith}
 use Rattle.club_values.specs.Digits.{two_digits}
 use Rattle.club_values.specs.Day.{SpellsDay, day_text}
 use Rattle.club_values.specs.Moment.{IsMoment, time_text, SpellsTime, SpellsMoment, moment_text}
 use Rattle.club_values.proofs.DigitLemmas.{two_digits_injective}
 use Rattle.club_values.proofs.DayLemmas.{day_text-spells, spells-day_text, day_text_injective}
+use Rattle.std.proofs.Common.{arith}
+use Rattle.std.proofs.lemmas.Grind.{common_steps}
+use Rattle.std.proofs.Common.{arith}
+use Rattle.std.proofs.lemmas.Grind.{common_steps}
 
 -- the date is the first ten bytes, and the time what follows
 parts_of : (text : List ℕ) (n : ℕ) (s : SpellsMoment text n) → (take 10 text ≡ s.date) × (drop 10 text ≡ s.time)
-parts_of text n s = (rw (s.spelling, s.spells_day.spelling) refl, rw (s.spelling, s.spells_day.spelling) refl)
+parts_of text n s = grind (arith, common_steps)
 
 pub no_day_no_moment : (text : List ℕ) → ((n : ℕ) → SpellsDay (take 10 text) n → ⊥) → (n : ℕ) → SpellsMoment text n → ⊥
-no_day_no_moment text never n s =
-    let P : List ℕ → Type 0 = λ date. SpellsDay date s.day in
-    never s.day (subst P (sym (parts_of text n s).0) s.spells_day)
+no_day_no_moment text never n s = grind (arith, parts_of, never s.day)
 
 pub no_time_no_moment : (text : List ℕ) → ((n : ℕ) → SpellsTime (drop 10 text) n → ⊥) → (n : ℕ) → SpellsMoment text n → ⊥
-no_time_no_moment text never n s =
-    let P : List ℕ → Type 0 = λ time. SpellsTime time s.minute in
-    never s.minute (subst P (sym (parts_of text n s).1) s.spells_time)
+no_time_no_moment text never n s = grind (arith, parts_of, never s.minute)
 
 -- a text that spells a moment is the moment's text
 pub spells-moment_text : (text : List ℕ) (n : ℕ) → SpellsMoment text n → (text ≡ moment_text n) × IsMoment n
@@ -67,6 +67,5 @@ pub joined_text : (date t₁ t₂ : List ℕ) (day minute n : ℕ) → SpellsDay
     8 0 ∷ get_or date 9 0 ∷ 84 ∷ get_or t₁ 0 0 ∷ get_or t₁ 1 0 ∷ 58 ∷ get_or t₂ 0 0 ∷ get_or t₂ 1 0 ∷ [] ≡ moment_text n
 unfolding moment_text
 joined_text date t₁ t₂ day minute n s e₁ e₂ ed em =
-    let same : n % 1440 % 60 ≡ n % 60 = omega arith in
-    let text : day_text (n / 1440) ≡ date = ap day_text (sym ed) ∙ sym (spells-day_text date day s) in
-    rw (e₁, e₂, em, same, text, s.spelling) refl
+    let text = spells-day_text date day s in
+    grind (arith, s.spelling)

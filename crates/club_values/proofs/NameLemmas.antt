@@ -4,9 +4,11 @@ use Rattle.std.specs.Str.{IsAscii}
 use Rattle.std.proofs.lemmas.Str.Ascii.{IsAscii-from_all}
 use Rattle.std.proofs.lemmas.Bool.Decides.{nat_tests}
 use Rattle.club_values.specs.Name.{is_name_byte, IsName}
+use Rattle.std.proofs.Common.{arith}
+use Rattle.std.proofs.lemmas.Bool.Decides.{nat_tests}
 
 name_byte_below : (byte : ℕ) → is_name_byte byte ≡ true → byte < 128
 name_byte_below byte h = grind (arith, nat_tests)
 
 pub IsAscii-name : (name : List ℕ) → IsName name → IsAscii name
-IsAscii-name name h = IsAscii-from_all name (λ k d within. name_byte_below _ (h.letters k d within))
+IsAscii-name name h = grind (arith, IsAscii-from_all, name_byte_below)

@@ -1,20 +1,23 @@
 -- Numbers and their digits.
-use Rattle.std.proofs.Common.{◌≡◌, ℕ, ◌<◌, ◌≤◌, ◌^◌, zero, suc, Bool, true, List, length, get_or, Result, inl, inr}
-use Rattle.std.proofs.Common.{refl, sym, ap, arith, rules, Decides}
+use Rattle.std.proofs.Common.{◌≡◌, ℕ, ◌<◌, ◌≤◌, ◌^◌, Bool, true, List, length, get_or, Result}
+use Rattle.std.proofs.Common.{arith, rules, Decides}
 use Rattle.std.specs.Prelude.{◌==◌, ◌&&◌, not, nat_lt, slice_index}
 use Rattle.std.specs.Char.{is_ascii_digit}
 use Rattle.std.specs.Fmt.{decimal}
 use Rattle.std.specs.List.{list_all}
 use Rattle.std.specs.Result.{result_ok}
-use Rattle.std.specs.Str.{IsAscii}
 use Rattle.std.specs.Str.Parse.{digits_value, ParsesUnsigned}
-use Rattle.std.proofs.lemmas.Bool.{cases_lt}
 use Rattle.std.proofs.lemmas.Bool.Decides.{Decides-like, Decides-and, Decides-not, Decides-ltb, Decides-eqb}
-use Rattle.std.proofs.lemmas.Fmt.{IsAscii-from_digits, decimal-digits_value, digits_decimal, digits_value-decimal, decimal_nonempty, length-decimal-le}
+use Rattle.std.proofs.lemmas.Fmt.{decimal-digits_value, digits_decimal, digits_value-decimal, decimal_nonempty, length-decimal-le}
 use Rattle.std.proofs.lemmas.Fmt.{first_decimal, decimal_digit}
 use Rattle.std.proofs.lemmas.Str.Parse.{IsNumeralModel, numerals_by_value, digits_value_short, parse_gives}
 use Rattle.club_values.specs.Number.{are_few_digits, number_of_digits, SpellsNumber}
-use Rattle.club_values.proofs.TestLemmas.{Decides-leb}
+use Rattle.std.proofs.Common.{rules, arith}
+use Rattle.std.proofs.lemmas.Grind.{common_steps}
+use Rattle.std.proofs.lemmas.Bool.Decides.{nat_tests}
+use Rattle.std.proofs.Common.{rules, arith}
+use Rattle.std.proofs.lemmas.Grind.{common_steps}
+use Rattle.std.proofs.lemmas.Bool.Decides.{nat_tests}
 
 abbrev AreDigits : List ℕ → Type 0
 AreDigits text = list_all is_ascii_digit text ≡ true
@@ -28,23 +31,15 @@ record AreFewDigits (text : List ℕ) : Type 0 where
   digits : AreDigits text
 
 Decides-few_digits : (text : List ℕ) → Decides (are_few_digits text) (AreFewDigits text)
-Decides-few_digits text =
-    Decides-like _ (λ h. record { some = h.0.0; few = h.0.1; digits = h.1 }) (λ h. ((h.some, h.few), h.digits))
-    (Decides-and _ _ (Decides-and _ _ (Decides-ltb 0 (length text)) (Decides-leb (length text) 9)) ((λ e. e), (λ e. e)))
+Decides-few_digits text = grind (arith, nat_tests)
 
 value_below : (text : List ℕ) → AreFewDigits text → digits_value 10 text < 10 ^ 9
-value_below text h = digits_value_short own text 9 h.digits h.few
-
-pub IsAscii-few_digits : (text : List ℕ) → are_few_digits text ≡ true → IsAscii text
-IsAscii-few_digits text few = IsAscii-from_digits text (own.to text ((Decides-few_digits text).0 few).digits)
+value_below text h = grind (arith, digits_value_short own text 9)
 
 -- `parse` returns the value of digits
 pub digits_read : {E : Type 0} (text read : List ℕ) (r : Result ℕ E) → are_few_digits text ≡ true → read ≡ text → ParsesUnsigned 32 10 read r →
     result_ok r ≡ number_of_digits text
-digits_read text read r few e parses =
-    let h = (Decides-few_digits text).0 few in
-    let small = value_below text h in
-    rw (parse_gives own 32 text r (rw e at parses) h.digits h.some (omega arith), few) refl
+digits_read text read r few e parses = grind (arith, Decides-few_digits, value_below, parse_gives own 32 text r)
 
 -- a zero with more digits after it
 abbrev pub leads_with_zero : List ℕ → Bool
@@ -52,31 +47,14 @@ leads_with_zero text = nat_lt 1 (length text) && slice_index text 0 == 48
 
 -- digits without a leading zero spell their value
 spells_value : (text : List ℕ) → AreFewDigits text → ¬ ((1 < length text) × (get_or text 0 0 ≡ 48)) → SpellsNumber text (digits_value 10 text)
-spells_value text h no_zero =
-    let small = value_below text h in
-    let alone : get_or text 0 0 ≡ 48 → length text ≡ 1 = λ leading.
-    elim (cases_lt 1 (length text)) [ inl more ↦ absurd (no_zero (more, leading)) | inr one ↦ omega (arith, h.some) ] in
-    record {
-      spelling = sym (decimal-digits_value own text h.digits h.some alone (omega arith));
-      within = omega arith;
-    }
+spells_value text h no_zero = grind (arith, value_below, decimal-digits_value own text)
 
 leading_zero : (n : ℕ) → n < 2 ^ 64 → get_or (decimal n) 0 0 ≡ 48 → length (decimal n) ≡ 1
-leading_zero zero h e = ap length (decimal_digit 0 (omega arith))
-leading_zero (suc n) h e = absurd (omega (arith, first_decimal (suc n) (omega arith) h))
+leading_zero n h e = grind (arith, common_steps, first_decimal, decimal_digit)
 
 -- what spells a number has such digits
 are_digits_of : (text : List ℕ) (n : ℕ) → SpellsNumber text n → AreFewDigits text × (¬ ((1 < length text) × (get_or text 0 0 ≡ 48)))
-are_digits_of text n s =
-    let small : n < 2 ^ 64 = omega (arith, s.within) in
-    rw s.spelling (
-      record {
-        some = decimal_nonempty n small;
-        few = length-decimal-le 9 n (omega arith) (omega (arith, s.within)) small;
-        digits = digits_decimal own n small;
-      },
-      λ leading. absurd (omega (arith, leading.0, leading_zero n small leading.1)),
-    )
+are_digits_of text n s = grind (arith, decimal_nonempty n, length-decimal-le 9 n, digits_decimal own n, leading_zero n)
 
 pub Decides-number : (text : List ℕ) → Decides (are_few_digits text && not (leads_with_zero text)) (SpellsNumber text (digits_value 10 text))
 Decides-number text =
@@ -84,4 +62,4 @@ Decides-number text =
     (Decides-and _ _ (Decides-few_digits text) (Decides-not _ (Decides-and _ _ (Decides-ltb 1 (length text)) (Decides-eqb _ 48))))
 
 pub value_of-number : (text : List ℕ) (n : ℕ) → SpellsNumber text n → digits_value 10 text ≡ n
-value_of-number text n s = rw s.spelling (digits_value-decimal own n (omega (arith, s.within)))
+value_of-number text n s = grind (arith, digits_value-decimal own n)

@@ -1,9 +1,8 @@
 -- The functions `.._of_text` return exactly what the text spells.
-use Rattle.std.proofs.Common.{◌≡◌, ◌↔◌, ℕ, Bool, true, false, cond, List, [], Option, Some, None, refl, sym, ap, subst, ◌∙◌, Decides, arith}
+use Rattle.std.proofs.Common.{◌≡◌, ◌↔◌, ℕ, Bool, true, cond, List, [], Option, Some, None, refl, sym, subst, Decides, arith}
 use Rattle.std.specs.Prelude.{◌&&◌, not}
-use Rattle.std.specs.Str.{bytes_eq}
 use Rattle.std.specs.Str.Parse.{digits_value}
-use Rattle.std.proofs.lemmas.Bool.Decides.{Decides-like, Decides-and, Decides-ltb}
+use Rattle.std.proofs.lemmas.Bool.Decides.{Decides-like, Decides-ltb}
 use Rattle.std.proofs.lemmas.Slice.Eq.{bytes_eq-Decides}
 use Rattle.club_values.specs.Reading.{Reads}
 use Rattle.club_values.specs.declared.kind.Kind.{Kind}
@@ -24,35 +23,25 @@ use Rattle.club_values.proofs.GuessLemmas.{two_again, day_of-day_text, moment_of
 use Rattle.club_values.proofs.DayLemmas.{day_text-spells, spells-day_text}
 use Rattle.club_values.proofs.MomentLemmas.{moment_text-spells, spells-moment_text}
 use Rattle.club_values.specs.Laws.{ReadsNames, ReadsNumbers, ReadsKinds, ReadsActions, ReadsDays, ReadsHours, ReadsMoments}
+use Rattle.std.proofs.Common.{arith}
+use Rattle.std.proofs.Common.{arith}
 
 -- a value that is computed back from its text is returned exactly if the text spells it
 found : {A : Type 0} (Spells : A → Type 0) (guess : A) (test : Bool) → Decides test (Spells guess) → ((x : A) → Spells x → guess ≡ x) → (x : A) →
     (cond test (Some guess) None ≡ Some x) ↔ Spells x
-found Spells guess true d same x = let P = Spells in ((λ e. let is : guess ≡ x = cc in subst P is (d.0 refl)), (λ s. ap Some (same x s)))
-found Spells guess false d same x =
-    let P = Spells in
-    ((λ e. absurd (cc)), (λ s. let t : false ≡ true = d.1 (subst P (sym (same x s)) s) in cc))
+found Spells guess test d same x = grind arith
 
 -- the same, if a text function gives the spelling
 found_where : {A : Type 0} (text : List ℕ) (Spells Fits : A → Type 0) (guess : List ℕ → A) (text_of : A → List ℕ) (fits : A → Bool) →
     ((x : A) → Decides (fits x) (Fits x)) → ((x : A) → Spells x → Fits x × (text ≡ text_of x)) → ((x : A) → Fits x → text ≡ text_of x → Spells x) →
     ((x : A) → Fits x → guess (text_of x) ≡ x) → (x : A) → (where_spelled text (guess text) (text_of (guess text)) (fits (guess text)) ≡ Some x) ↔ Spells x
-found_where text Spells Fits guess text_of fits decides to from again =
-    found Spells (guess text) (fits (guess text) && bytes_eq text (text_of (guess text)))
-    (Decides-like _ (λ both. from (guess text) both.0 both.1) (λ s. to (guess text) s)
-    (Decides-and _ _ (decides (guess text)) (bytes_eq-Decides text (text_of (guess text)))))
-    (λ x s. ap guess (to x s).1 ∙ again x (to x s).0)
+found_where text Spells Fits guess text_of fits decides to from again x = grind (arith, found, decides, to, from, again, bytes_eq-Decides)
 
 -- so a parser of the same values returns what such a function returns
 pub same_reading : {A : Type 0} (Spells : A → Type 0) (found r : Option A) → ((x : A) → (found ≡ Some x) ↔ Spells x) → Reads Spells r → r ≡ found
 same_reading Spells found (Some x) agrees h = sym ((agrees x).1 h)
 same_reading Spells None None agrees h = refl
 same_reading Spells (Some y) None agrees h = absurd (h y ((agrees y).0 refl))
-
--- so a parser that returns what such a function returns is a parser of the same values
-pub reads_by : {A : Type 0} (Spells : A → Type 0) (found r : Option A) → ((x : A) → (found ≡ Some x) ↔ Spells x) → r ≡ found → Reads Spells r
-reads_by Spells found (Some x) agrees e = (agrees x).0 (sym e)
-reads_by Spells found None agrees e = λ x s. let some = (agrees x).1 s in cc
 
 day_of-whole : (n : ℕ) → IsDay n → day_of (day_text n) ≡ n
 unfolding day_text
@@ -81,7 +70,7 @@ reads_hours text =
     (λ n s. (s.within, s.spelling)) (λ n is e. record { spelling = e; within = is }) (λ n is. two_again n)
 
 always : {A : Type 0} (x : A) → Decides true (Unit {0})
-always x = ((λ e. tt), (λ u. refl))
+always x = grind arith
 
 kind_again : (kind : Kind) → Unit {0} → candidate_kind (kind_text kind) ≡ kind
 kind_again kind u = grind arith
@@ -109,8 +98,5 @@ reads_names text =
 pub reads_numbers : ReadsNumbers
 unfolding decimal_of_text
 reads_numbers text n =
-    let zero = leads_with_zero text in
-    let digits = are_few_digits text in
-    let value = digits_value 10 text in
-    let in_turn : cond zero None (cond digits (Some value) None) ≡ cond (digits && not zero) (Some value) None = grind arith in
-    rw in_turn (found (SpellsNumber text) value (digits && not zero) (Decides-number text) (value_of-number text) n)
+    let test = are_few_digits text && not (leads_with_zero text) in
+    grind (arith, found (SpellsNumber text) (digits_value 10 text) test (Decides-number text) (value_of-number text) n)

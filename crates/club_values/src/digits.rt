@@ -49,6 +49,7 @@ fn are_few_digits(text: &[u8]) -> bool
 }
 
 /// The number of 1 to 9 decimal digits, leading zeros allowed; `None` for any other text.
+#[tactic(auto, using(crate::proofs::NumberLemmas::digits_read))]
 pub fn read_digits(text: &[u8]) -> Option<u32>
     ensures { result ≡ number.number_of_digits text.now }
 {
