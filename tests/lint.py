@@ -10,7 +10,8 @@ Prints each, with its place; the status is 1 if there is one.
 - a number in a public docstring without a unit (a guess: it looks for a word after the number, or a unit's word in the text);
 - another version than that of VERSION: in the code, as both programs print it, or in the newest heading of CHANGELOG.md;
 - files that nothing uses: modules of specs and proofs that no file imports, files of code that no `mod` names, scripts that no
-  page names, and edits of must-fail/ and more-edits/ whose old text doesn't stand once in its file.
+  page names, names that a crate's proofs/Common passes on and no proof takes from it, and edits of must-fail/ and more-edits/ whose old
+  text doesn't stand once in its file.
 Not part of the gate.
   tests/lint.py                  every crate
   tests/lint.py club_core ..     these crates
@@ -129,6 +130,15 @@ def unused_modules(crate, part):
             yield f"imported nowhere: {file}"
 
 
+def unused_names(crate):
+    """Names that proofs/Common.antt passes on, and that no proof takes from there."""
+    common = Path("crates", crate, "proofs", "Common.antt")
+    taken = "".join(names + ", " for text in of_crate(crate, "proofs", ".antt").values()
+                    for names in re.findall(rf"^use Rattle\.{crate}\.proofs\.Common\.\{{(.*)\}}$", text, re.MULTILINE))
+    for names in re.findall(r"^(?:unfoldable )?pub use .*\.\{(.*)\}$", FILES.get(common, ""), re.MULTILINE):
+        yield from (f"nothing takes {name} from {common}" for name in names.split(", ") if name not in taken.split(", "))
+
+
 def unused_code(crate):
     for file in of_crate(crate, "src", ".rt"):
         above = [file.parent.with_suffix(".rt"), file.parent / "lib.rt", file.parent / "main.rt"]
@@ -165,7 +175,7 @@ def main(named):
     slips = list(twice_defined(crates))
     for crate in crates:
         slips += [*too_long(crate), *too_large(crate), *without_unit(crate), *unused_modules(crate, "specs"), *unused_modules(crate, "proofs"),
-                  *unused_code(crate), *stale_edits(crate)]
+                  *unused_names(crate), *unused_code(crate), *stale_edits(crate)]
     slips += [] if named else [*other_versions(), *unnamed_scripts()]
     print(*slips, f"{len(slips)} slips", sep="\n")
     return 1 if slips else 0
