@@ -1,34 +1,17 @@
 -- What a text decodes to, and as which event the machine sees an event at the desk.
-use Rattle.std.proofs.Common.{◌≡◌, ◌↔◌, ℕ, Bool, true, false, IsTrue, List, [], ◌∷◌, map, Option, Some, None, Result, Ok, Err, All, refl, sym, ap, ◌∙◌, subst}
+use Rattle.club_gate.proofs.Common.{◌≡◌, ◌↔◌, ℕ, Bool, true, false, IsTrue, List, [], ◌∷◌, map, Option, Some, None, Result, Ok, Err, All, refl, sym, ap, ◌∙◌}
+use Rattle.club_gate.proofs.Common.{subst, All-head, All-tail, IsBytes, Caveat, caveat_of, ReadsWhatIsUnderstood, FormFault, Form, Plain, IsSigned}
+use Rattle.club_gate.proofs.Common.{DecidesSigned, is_signed, IsAnyReading, ReadsAnyFormExactly, reading, Request, Pass, Words, AreWordsOf, IsDecoded, IsSeenAs}
+use Rattle.club_gate.proofs.Common.{AreEventsOf, IsEventOfBytes, IsEventOf, FindsNames, key_name_in, Decodes, SeenAlike, SeesEvents, identifier_of}
+use Rattle.club_gate.proofs.Common.{decoded_or_fault, decoded_pass, decoded_words, machine_event, machine_events, machine_pass, without_form}
 use Rattle.std.specs.List.{AllZip}
 use Rattle.std.proofs.Math.Path.{fun_ext}
-use Rattle.std.proofs.lemmas.List.Elements.{All-head, All-tail}
-use Rattle.base64.specs.GeneralPurpose.{IsBytes}
-use Rattle.pass_caveats.specs.declared.caveat.Caveat.{Caveat}
 use Rattle.pass_caveats.specs.Caveat.{Understood}
-use Rattle.pass_caveats.specs.computed.CaveatOf.{caveat_of}
-use Rattle.pass_caveats.specs.Laws.{ReadsWhatIsUnderstood}
-use Rattle.pass_forms.specs.declared.fault.FormFault.{FormFault}
-use Rattle.pass_forms.specs.declared.form.Form.{Form}
-use Rattle.pass_forms.specs.Pass.{Plain, IsSigned}
-use Rattle.pass_forms.specs.Laws.{DecidesSigned}
-use Rattle.pass_forms.specs.computed.Pass.{is_signed}
-use Rattle.pass_json.specs.AnyForm.{IsAnyReading}
-use Rattle.pass_json.specs.Laws.{ReadsAnyFormExactly}
-use Rattle.pass_json.specs.computed.AnyForm.{reading}
 use Rattle.club_values.specs.Name.{IsName}
 use Rattle.club_core.specs.declared.pass_fault.PassFault.{PassFault}
-use Rattle.club_core.specs.declared.request.Request.{Request}
-use Rattle.club_core.specs.Pass.{Pass, Words}
 use Rattle.club_core.specs.Run as machine
 use Rattle.club_gate.specs.declared.event.Event.{Event}
 use Rattle.club_gate.specs.declared.event.Event.TheVariants as events
-use Rattle.club_gate.specs.DecodedPass.{AreWordsOf, IsDecoded, IsSeenAs}
-use Rattle.club_gate.specs.Events.{AreEventsOf, IsEventOfBytes, IsEventOf}
-use Rattle.club_gate.specs.Identifier.{FindsNames, key_name_in}
-use Rattle.club_gate.specs.Laws.{Decodes, SeenAlike, SeesEvents}
-use Rattle.club_gate.specs.Minted.{identifier_of}
-use Rattle.club_gate.specs.computed.DecodedPass.{decoded_or_fault, decoded_pass, decoded_words, machine_event, machine_events, machine_pass, without_form}
 
 -- two options with a value in the same cases are the same
 same_found : {A : Type 0} (a b : Option A) (P : A → Type 0) → ((x : A) → (a ≡ Some x) ↔ P x) → ((x : A) → (b ≡ Some x) ↔ P x) → a ≡ b

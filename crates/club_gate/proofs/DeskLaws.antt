@@ -1,42 +1,15 @@
 -- The laws of the desk, from the response to one event.
-use Rattle.std.proofs.Common.{◌≡◌, ◌≢◌, ◌⊎◌, inl, inr, ℕ, List, [], ◌∷◌, ◌++◌, map, Option, Some, None, Result, Ok, Err, All}
-use Rattle.std.proofs.Common.{refl, sym, ap, ◌∙◌, subst}
-use Rattle.std.proofs.lemmas.List.{map-append}
-use Rattle.std.proofs.lemmas.List.Elements.{All-nil, All-cons, All-head, All-tail}
-use Rattle.base64.specs.GeneralPurpose.{IsBytes}
-use Rattle.pass_caveats.specs.declared.ask.Ask.{Ask}
-use Rattle.pass_caveats.specs.declared.caveat.Caveat.{Caveat}
-use Rattle.pass_caveats.specs.computed.CaveatOf.{caveat_of}
-use Rattle.pass_caveats.specs.Fault.{Allowed, Allows}
-use Rattle.pass_caveats.specs.Laws.{ReadsWhatIsUnderstood}
-use Rattle.pass_forms.specs.declared.fault.FormFault.{FormFault}
-use Rattle.pass_forms.specs.declared.form.Form.{Form}
-use Rattle.pass_forms.specs.Pass.{Plain}
-use Rattle.pass_forms.specs.Laws.{DecidesSigned}
-use Rattle.pass_json.specs.AnyForm.{IsAnyReading}
-use Rattle.pass_json.specs.Laws.{ReadsAnyFormExactly}
-use Rattle.pass_json.specs.computed.AnyForm.{reading}
-use Rattle.club_rows.specs.declared.key.Key.{Key}
+use Rattle.club_gate.proofs.Common.{◌≡◌, ◌≢◌, ◌⊎◌, inl, inr, ℕ, List, [], ◌∷◌, ◌++◌, map, Option, Some, None, Result, Ok, Err, All, refl, sym, ap, ◌∙◌, subst}
+use Rattle.club_gate.proofs.Common.{map-append, All-nil, All-cons, All-head, All-tail, IsBytes, Ask, Caveat, caveat_of, Allowed, Allows, ReadsWhatIsUnderstood}
+use Rattle.club_gate.proofs.Common.{FormFault, Form, Plain, DecidesSigned, IsAnyReading, ReadsAnyFormExactly, reading, Key, Unavailable, Reply, Request}
+use Rattle.club_gate.proofs.Common.{Verdict, ask_of, verdict_in, basis_of, basis_under, key_of, view_of, Club, key_named, Pass, Words, IsSignedUnder}
+use Rattle.club_gate.proofs.Common.{DependsOnTheBasisAlone, MoreCaveatsNeverOpenMore, RefusesWithoutABasis, ServesOnlyTheEntitled, words_with, HasFailed}
+use Rattle.club_gate.proofs.Common.{IsDecidedBy, FindsNames, key_name_in, identifier_of, machine_pass, decoded_pass, decoded_or_fault, without_form}
+use Rattle.club_gate.proofs.Common.{decoded_words, AreWordsOf, Decodes, NamesItsRows, unavailable}
 use Rattle.club_core.specs.declared.pass_fault.PassFault.{PassFault}
-use Rattle.club_core.specs.declared.refusal.Refusal.TheVariants.{Unavailable}
-use Rattle.club_core.specs.declared.reply.Reply.{Reply}
-use Rattle.club_core.specs.declared.request.Request.{Request}
-use Rattle.club_core.specs.declared.verdict.Verdict.{Verdict}
 use Rattle.club_core.specs.Acceptance.{IsAllowedBy, IsServed}
-use Rattle.club_core.specs.Answer.{ask_of, verdict_in}
-use Rattle.club_core.specs.Basis.{basis_of, basis_under, key_of, view_of}
-use Rattle.club_core.specs.Club.{Club, key_named}
-use Rattle.club_core.specs.Pass.{Pass, Words, IsSignedUnder}
-use Rattle.club_laws.specs.SingleRequest.{DependsOnTheBasisAlone, MoreCaveatsNeverOpenMore, RefusesWithoutABasis, ServesOnlyTheEntitled, words_with}
-use Rattle.club_gate.specs.Desk.{HasFailed, IsDecidedBy}
-use Rattle.club_gate.specs.Identifier.{FindsNames, key_name_in}
-use Rattle.club_gate.specs.Minted.{identifier_of}
-use Rattle.club_gate.specs.computed.DecodedPass.{machine_pass, decoded_pass, decoded_or_fault, without_form, decoded_words}
-use Rattle.club_gate.specs.DecodedPass.{AreWordsOf}
-use Rattle.club_gate.specs.Laws.{Decodes, NamesItsRows}
 use Rattle.club_gate.specs.Served.{EntitlesTo, IsLawful, IsNarrowedText}
 use Rattle.club_gate.proofs.Decoding.{decoded_text, decodes_as, words_are}
-use Rattle.club_gate.specs.Response.{unavailable}
 
 -- the reply is the verdict's, or it says that the request failed
 pub reply_or_failure : {S : Type 0} (Represents : S → Club → List Club → Type 0) (new : S) (club : Club) (others : List Club) (verdict : Verdict)

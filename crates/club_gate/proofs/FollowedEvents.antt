@@ -1,18 +1,10 @@
 -- One event more after a list of events that was followed.
-use Rattle.std.proofs.Common.{◌≡◌, ◌∙◌, inl, inr, Bool, true, false, cond, List, [], ◌∷◌, ◌++◌, length, All, Contains}
-use Rattle.std.proofs.Common.{Option, Some, None, Result, Ok, Err, refl, sym, ap, subst, arith, append_assoc}
-use Rattle.std.proofs.lemmas.List.{length-append}
-use Rattle.std.proofs.lemmas.List.Elements.{All-nil, All-cons, All-append, All-weaker, All-contains_itself}
-use Rattle.club_core.specs.declared.change.Change.{Change}
+use Rattle.club_gate.proofs.Common.{◌≡◌, ◌∙◌, inl, inr, Bool, true, false, cond, List, [], ◌∷◌, ◌++◌, length, All, Contains, Option, Some, None, Result, Ok}
+use Rattle.club_gate.proofs.Common.{Err, refl, sym, ap, subst, arith, append_assoc, length-append, All-nil, All-cons, All-append, All-weaker}
+use Rattle.club_gate.proofs.Common.{All-contains_itself, Change, Club, office_verdict, Event, Asked, Commanded, after_change, command_outcome, step, has_failed}
+use Rattle.club_gate.proofs.Common.{IsStep, IsRun, IsAnsweredBy, IsRefusedBy, Steps, change_by, change_of, others_after, FailedLast, IsFollowed, MakesNoChange}
+use Rattle.club_gate.proofs.Common.{MayBeLeft, DeskResponse, events_answered, desk_presentation}
 use Rattle.club_core.specs.declared.command.OfficeFault.{OfficeFault}
-use Rattle.club_core.specs.Club.{Club}
-use Rattle.club_core.specs.Office.{office_verdict}
-use Rattle.club_core.specs.Run.{Event, Asked, Commanded, after_change, command_outcome, step}
-use Rattle.club_laws.specs.Failed.{has_failed, IsStep, IsRun}
-use Rattle.club_gate.specs.Desk.{IsAnsweredBy, IsRefusedBy, Steps, change_by, change_of, others_after}
-use Rattle.club_gate.specs.Runs.{FailedLast, IsFollowed, MakesNoChange, MayBeLeft}
-use Rattle.club_gate.specs.Runs.{DeskResponse, events_answered}
-use Rattle.club_gate.specs.Response.{desk_presentation}
 
 -- an event that changes nothing keeps the club
 kept_by : (club : Club) (event : Event) → change_of club event ≡ None → (step club event).club ≡ club

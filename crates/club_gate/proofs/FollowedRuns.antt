@@ -1,21 +1,14 @@
 -- The laws of runs, for a list of events that was followed.
-use Rattle.std.proofs.Common.{◌≡◌, inl, inr, List, All, Some, Result, Ok, Err, IfOk, OnOk, sym, subst}
-use Rattle.club_core.specs.Club.{Club, empty_club, member_named, IsSound}
-use Rattle.club_core.specs.Events.{IsEvent}
-use Rattle.club_core.specs.Run.{Event, replies_of}
+use Rattle.club_gate.proofs.Common.{◌≡◌, inl, inr, List, All, Some, Result, Ok, Err, IfOk, OnOk, sym, subst, Club, empty_club, member_named, IsSound, IsEvent}
+use Rattle.club_gate.proofs.Common.{Event, replies_of, IsRun, LeavesOutFailed, AreEventsOf, IsEventOfBytes, SeesEvents, machine_events, Conserves}
+use Rattle.club_gate.proofs.Common.{IsAnsweredRun, IsFollowed, IsLawfulRun, IsOnce, LeavesClub, MayBeLeft, DeskResponse, events_answered, club_left}
+use Rattle.club_gate.proofs.Common.{desk_presentation}
 use Rattle.club_laws.specs.RunsWithFailures.{ConservesWithFailures, SoloLawWithFailures, SoloLawOfTwoWithFailures, SoundWithFailures, RepeatsServedReplies}
 use Rattle.club_laws.specs.RunsWithFailures.{RepeatsAfterOneMore}
 use Rattle.club_laws.specs.RunsWithFailures.{RepeatsWithFailures}
 use Rattle.club_laws.specs.Conservation.{IsConserved, SoundClubsHavePlaces}
-use Rattle.club_laws.specs.Failed.{IsRun, LeavesOutFailed}
 use Rattle.club_gate.specs.declared.event.Event.{Event as DeskEvent}
 use Rattle.club_gate.specs.declared.event.OfficeReply.{OfficeReply}
-use Rattle.club_gate.specs.Events.{AreEventsOf, IsEventOfBytes}
-use Rattle.club_gate.specs.Laws.{SeesEvents}
-use Rattle.club_gate.specs.computed.DecodedPass.{machine_events}
-use Rattle.club_gate.specs.Runs.{Conserves, IsAnsweredRun, IsFollowed, IsLawfulRun, IsOnce}
-use Rattle.club_gate.specs.Runs.{LeavesClub, MayBeLeft, DeskResponse, events_answered, club_left}
-use Rattle.club_gate.specs.Response.{desk_presentation}
 
 -- What holds of the computed events of a followed list, and of the responses to it, holds of all events as which the machine sees that list, and
 -- of the responses that the desk returns.

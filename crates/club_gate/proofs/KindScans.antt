@@ -1,14 +1,8 @@
 -- What a scan for caveats on the kind of a facility tells.
-use Rattle.std.proofs.Common.{◌≡◌, ℕ, ◌+◌, List, [], ◌∷◌, ◌++◌, map, Option, refl, sym, subst}
-use Rattle.pass_caveats.specs.declared.ask.Ask.{Ask}
-use Rattle.pass_caveats.specs.computed.CaveatOf.{caveat_of}
-use Rattle.pass_caveats.specs.Fault.{first_fault_from}
+use Rattle.club_gate.proofs.Common.{◌≡◌, ℕ, ◌+◌, List, [], ◌∷◌, ◌++◌, map, Option, refl, sym, subst, Ask, caveat_of, first_fault_from, FindsTheFaultAt}
+use Rattle.club_gate.proofs.Common.{ReadsWhatIsUnderstood, PassField, caveat_field, signature_field, pass_fields, Plain, IsBlindPass}
 use Rattle.pass_caveats.specs.Kinds.{IsBlindToKind, at_kind}
-use Rattle.pass_caveats.specs.Laws.{FindsTheFaultAt, ReadsWhatIsUnderstood}
 use Rattle.club_values.specs.declared.kind.Kind.{Kind}
-use Rattle.pass_forms.specs.FieldSource.{PassField, caveat_field, signature_field, pass_fields}
-use Rattle.pass_forms.specs.Pass.{Plain}
-use Rattle.club_gate.specs.Reading.{IsBlindPass}
 use Rattle.club_gate.proofs.Walking.{fault_is, fault_on}
 
 -- each caveat among these fields has one fault for all kinds

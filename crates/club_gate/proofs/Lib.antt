@@ -1,3 +1,4 @@
+pub mod Common
 pub mod Walking
 pub mod SigningLemmas
 pub mod Signers

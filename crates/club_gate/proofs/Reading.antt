@@ -1,36 +1,19 @@
 -- What is read for a signed pass gives the answer by its key's whole view.
-use Rattle.std.proofs.Common.{◌≡◌, inl, inr, ℕ, true, List, Ok, map, refl, sym, ap, ◌∙◌, Option, Some, None, is_some, option_map, option_and_then}
-use Rattle.std.proofs.Common.{if◌then◌else◌}
-use Rattle.std.proofs.lemmas.Option.{same_Some}
+use Rattle.club_gate.proofs.Common.{◌≡◌, inl, inr, ℕ, true, List, Ok, map, refl, sym, ap, ◌∙◌, Option, Some, None, is_some, option_map, option_and_then}
+use Rattle.club_gate.proofs.Common.{if◌then◌else◌, same_Some, caveat_of, first_fault_of, after_spending, Plain, Key, KeyRow, row_of_key, Request, View}
+use Rattle.club_gate.proofs.Common.{answer_by_view, ask_of, owed_at, verdict_in, Basis, account_named, slot_use, state_of, view_in, view_of, Club, IsSound}
+use Rattle.club_gate.proofs.Common.{bookings_of, key_named, is_signed_under, booking_under, count_to_come, spent_under, words_with, key_in, AgreesOnRecord}
+use Rattle.club_gate.proofs.Common.{IsOnRecord, signer_of, machine_pass}
 use Rattle.pass_caveats.specs.declared.fault.CaveatFault.{CaveatFault}
 use Rattle.pass_caveats.specs.declared.fault.CaveatFault.TheVariants.{Denied, NotUnderstood}
-use Rattle.pass_caveats.specs.computed.CaveatOf.{caveat_of}
-use Rattle.pass_caveats.specs.Fault.{first_fault_of}
-use Rattle.pass_caveats.specs.Spending.{after_spending}
-use Rattle.pass_forms.specs.Pass.{Plain}
 use Rattle.club_values.specs.declared.slot.Slot.{Slot}
 use Rattle.club_rows.specs.declared.booking.Booking.{Booking}
 use Rattle.club_rows.specs.declared.facility.Facility.{Facility}
-use Rattle.club_rows.specs.declared.key.Key.{Key}
-use Rattle.club_rows.specs.declared.key.KeyRow.{KeyRow}
-use Rattle.club_rows.specs.Key.{row_of_key}
 use Rattle.club_core.specs.declared.account.MemberAccount.{MemberAccount}
-use Rattle.club_core.specs.declared.request.Request.{Request}
 use Rattle.club_core.specs.declared.request.Request.TheVariants as asked
-use Rattle.club_core.specs.declared.view.View.{View}
-use Rattle.club_core.specs.Answer.{answer_by_view, ask_of, owed_at, verdict_in}
-use Rattle.club_core.specs.Basis.{Basis, account_named, slot_use, state_of, view_in, view_of}
-use Rattle.club_core.specs.Club.{Club, IsSound, bookings_of, key_named}
 use Rattle.club_core.specs.Laws.{OwnBookings}
 use Rattle.club_core.specs.Looks.{bare_view, books_anew}
 use Rattle.club_core.specs.Request.{request_number, request_slot}
-use Rattle.club_core.specs.Pass.{is_signed_under}
-use Rattle.club_core.specs.Sums.{booking_under, count_to_come, spent_under}
-use Rattle.club_laws.specs.SingleRequest.{words_with}
-use Rattle.club_gate.specs.Identifier.{key_in}
-use Rattle.club_gate.specs.Reading.{AgreesOnRecord, IsOnRecord}
-use Rattle.club_gate.specs.Verify.{signer_of}
-use Rattle.club_gate.specs.computed.DecodedPass.{machine_pass}
 use Rattle.club_gate.proofs.Signers.{IsOwned, is_signer, key_there, owner}
 
 -- ---- what is read for a signed pass

@@ -1,32 +1,15 @@
 -- The key that a pass is signed under, by the key's row alone; and the key's member.
-use Rattle.std.proofs.Common.{◌≡◌, ℕ, zero, suc, Bool, true, false, cond, not, List, [], ◌∷◌, map, refl, sym, ap, ◌∙◌, arith}
-use Rattle.std.proofs.Common.{Option, Some, None, Result, Ok, Err, option_map, option_and_then}
-use Rattle.std.specs.Prelude.{Contains, find}
-use Rattle.std.specs.Str.{bytes_eq}
-use Rattle.std.proofs.lemmas.List.Elements.{All-contains}
-use Rattle.std.proofs.lemmas.Option.{option_and_then_some}
+use Rattle.club_gate.proofs.Common.{◌≡◌, ℕ, zero, suc, Bool, true, false, cond, not, List, [], ◌∷◌, map, refl, sym, ap, ◌∙◌, arith, Option, Some, None, Result}
+use Rattle.club_gate.proofs.Common.{Ok, Err, option_map, option_and_then, Contains, find, bytes_eq, All-contains, option_and_then_some, Plain, Key, KeyRow}
+use Rattle.club_gate.proofs.Common.{row_of_key, KeyRevoked, NotVerified, Request, Verdict, answer_to, verdict_in, basis_under, Club, IsSound, bookings_of}
+use Rattle.club_gate.proofs.Common.{key_named, member_named, is_signed_under, booking_under, spent_under, words_with, key_in, key_name_in, machine_pass}
+use Rattle.club_gate.proofs.Common.{signer_of}
 use Rattle.std.proofs.lemmas.Slice.Eq.{bytes_eq-Decides}
-use Rattle.pass_forms.specs.Pass.{Plain}
-use Rattle.club_rows.specs.declared.key.Key.{Key}
-use Rattle.club_rows.specs.declared.key.KeyRow.{KeyRow}
-use Rattle.club_rows.specs.Key.{row_of_key}
 use Rattle.club_rows.specs.declared.member.Member.{Member}
 use Rattle.club_core.specs.declared.refusal.Refusal.{Refusal}
-use Rattle.club_core.specs.declared.refusal.Refusal.TheVariants.{KeyRevoked, NotVerified}
-use Rattle.club_core.specs.declared.request.Request.{Request}
-use Rattle.club_core.specs.declared.verdict.Verdict.{Verdict}
-use Rattle.club_core.specs.Answer.{answer_to, verdict_in}
-use Rattle.club_core.specs.Basis.{basis_under}
-use Rattle.club_core.specs.Club.{Club, IsSound, bookings_of, key_named, member_named}
 use Rattle.club_core.specs.Laws.{OwnBookings}
 use Rattle.club_core.specs.Lines.{line_if, first_of}
-use Rattle.club_core.specs.Pass.{is_signed_under}
-use Rattle.club_core.specs.Sums.{booking_under, spent_under}
 use Rattle.club_core.specs.Verdict.{refusal_verdict}
-use Rattle.club_laws.specs.SingleRequest.{words_with}
-use Rattle.club_gate.specs.Identifier.{key_in, key_name_in}
-use Rattle.club_gate.specs.computed.DecodedPass.{machine_pass}
-use Rattle.club_gate.specs.Verify.{signer_of}
 
 -- ---- rows that are found
 

@@ -1,15 +1,8 @@
 -- A pass is signed if the chain under one of the good roots ends in its signature.
-use Rattle.std.proofs.Common.{◌≡◌, ℕ, Bool, List, [], ◌∷◌, ◌++◌, drop, map, Option, Some, refl, ◌∙◌}
-use Rattle.std.specs.Str.{bytes_eq}
+use Rattle.club_gate.proofs.Common.{◌≡◌, ℕ, Bool, List, [], ◌∷◌, ◌++◌, drop, map, Option, Some, refl, ◌∙◌, bytes_eq, PassField, caveat_field, signature_field}
+use Rattle.club_gate.proofs.Common.{pass_fields, Plain, is_signed, Key, KeyRow, key_of_row, older_root_at, row_of_key, Club, key_named}
 use Rattle.pass_mac.specs.Chain.{chain, derived_key, extended_signature}
-use Rattle.pass_forms.specs.FieldSource.{PassField, caveat_field, signature_field, pass_fields}
-use Rattle.pass_forms.specs.Pass.{Plain}
-use Rattle.pass_forms.specs.computed.Pass.{is_signed}
-use Rattle.club_rows.specs.declared.key.Key.{Key}
-use Rattle.club_rows.specs.declared.key.KeyRow.{KeyRow}
 use Rattle.club_rows.specs.declared.key.OlderRoot.{OlderRoot}
-use Rattle.club_rows.specs.Key.{key_of_row, older_root_at, row_of_key}
-use Rattle.club_core.specs.Club.{Club, key_named}
 use Rattle.club_core.specs.KeyParts.{older_root_of}
 
 -- the chain of a pass's identifier that begins here ends in the signature after these fields, if the answer is true

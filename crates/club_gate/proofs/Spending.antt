@@ -1,18 +1,8 @@
 -- What a key has spent is within what its member's account has used.
-use Rattle.std.proofs.Common.{◌≡◌, ℕ, ◌-◌, ◌≤◌, Some, Ok, sym, subst, arith}
-use Rattle.std.specs.Prelude.{sum_by}
-use Rattle.std.specs.Str.{bytes_eq}
-use Rattle.pass_forms.specs.Pass.{Plain}
-use Rattle.club_rows.specs.declared.key.Key.{Key}
-use Rattle.club_rows.specs.declared.key.KeyRow.{KeyRow}
+use Rattle.club_gate.proofs.Common.{◌≡◌, ℕ, ◌-◌, ◌≤◌, Some, Ok, sym, subst, arith, sum_by, bytes_eq, Plain, Key, KeyRow, account_named, Club, IsSound}
+use Rattle.club_gate.proofs.Common.{bookings_of, cost_of, spent_under, key_in, IsOnRecord, signer_of}
 use Rattle.club_core.specs.declared.account.MemberAccount.{MemberAccount}
-use Rattle.club_core.specs.Basis.{account_named}
-use Rattle.club_core.specs.Club.{Club, IsSound, bookings_of}
-use Rattle.club_core.specs.Sums.{cost_of, spent_under}
 use Rattle.club_laws.specs.Spending.{AccountsShowWhatIsUsed, SpendsWithinItsMember}
-use Rattle.club_gate.specs.Identifier.{key_in}
-use Rattle.club_gate.specs.Reading.{IsOnRecord}
-use Rattle.club_gate.specs.Verify.{signer_of}
 use Rattle.club_gate.proofs.Signers.{found, is_signer, key_there}
 
 -- the row by which a pass is signed is that of a key of the club

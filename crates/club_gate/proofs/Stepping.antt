@@ -1,33 +1,16 @@
 -- An event that was decided: its change was applied, or the store failed.
-use Rattle.std.proofs.Common.{◌≡◌, ◌≢◌, inl, inr, ℕ, true, false, List, [], ◌∷◌, Option, Some, None, Result, Ok, Err, refl, sym, ap, ◌∙◌}
-use Rattle.std.specs.Prelude.{IsErr}
-use Rattle.base64.specs.GeneralPurpose.{IsBytes}
-use Rattle.club_core.specs.declared.change.Change.{Change}
+use Rattle.club_gate.proofs.Common.{◌≡◌, ◌≢◌, inl, inr, ℕ, true, false, List, [], ◌∷◌, Option, Some, None, Result, Ok, Err, refl, sym, ap, ◌∙◌, IsErr, IsBytes}
+use Rattle.club_gate.proofs.Common.{Change, Unavailable, Reply, Request, StoreFault, Verdict, verdict_in, Club, IsSound, IsEvent, office_verdict, Words, Asked}
+use Rattle.club_gate.proofs.Common.{Commanded, after_change, done_answer, ToMember, ToOffice, is_unavailable, NeverUnavailable, IsRead, decoded_words}
+use Rattle.club_gate.proofs.Common.{AreWordsOf, Decodes, DecidesOrFails, FailsAt, FitsIfAny, HasFailed, IsAnsweredBy, IsDecidedBy, IsRefusedBy, Steps}
+use Rattle.club_gate.proofs.Common.{others_after, answer_or_fault, is_failure, reply_or_unavailable, office_reply_of, unavailable}
 use Rattle.club_core.specs.declared.command.Command.{Command}
 use Rattle.club_core.specs.declared.command.Command.TheVariants.{AddKey}
 use Rattle.club_core.specs.declared.command.OfficeAnswer.{OfficeAnswer}
-use Rattle.club_core.specs.declared.refusal.Refusal.TheVariants.{Unavailable}
-use Rattle.club_core.specs.declared.reply.Reply.{Reply}
 use Rattle.club_core.specs.declared.reply.Reply.TheVariants.{Refused}
-use Rattle.club_core.specs.declared.request.Request.{Request}
-use Rattle.club_core.specs.declared.store.StoreFault.{StoreFault}
-use Rattle.club_core.specs.declared.verdict.Verdict.{Verdict}
 use Rattle.club_core.specs.After.{after}
-use Rattle.club_core.specs.Answer.{verdict_in}
-use Rattle.club_core.specs.Club.{Club, IsSound}
-use Rattle.club_core.specs.Events.{IsEvent}
-use Rattle.club_core.specs.Office.{office_verdict}
-use Rattle.club_core.specs.Pass.{Words}
-use Rattle.club_core.specs.Run.{Asked, Commanded, after_change, done_answer, ToMember, ToOffice}
-use Rattle.club_laws.specs.Failed.{is_unavailable, NeverUnavailable}
 use Rattle.club_laws.specs.SoundRuns.{ChangesFit}
-use Rattle.club_core.specs.Store.{IsRead}
-use Rattle.club_gate.specs.computed.DecodedPass.{decoded_words}
-use Rattle.club_gate.specs.DecodedPass.{AreWordsOf}
-use Rattle.club_gate.specs.Laws.{Decodes}
-use Rattle.club_gate.specs.Desk.{DecidesOrFails, FailsAt, FitsIfAny, HasFailed, IsAnsweredBy, IsDecidedBy, IsRefusedBy, Steps, others_after}
 use Rattle.club_gate.proofs.Decoding.{words_are}
-use Rattle.club_gate.specs.Response.{answer_or_fault, is_failure, reply_or_unavailable, office_reply_of, unavailable}
 
 -- a command that is done is no failure
 done_is_no_failure : (command : Command) → is_failure (office_reply_of (done_answer command)) ≡ false

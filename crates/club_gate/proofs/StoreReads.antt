@@ -1,11 +1,6 @@
 -- A read of the store, by what it returns of a sound club.
-use Rattle.std.proofs.Common.{List, ◌∷◌, Option, None, Result, IfOk, All}
-use Rattle.std.specs.Prelude.{MatchResult}
-use Rattle.std.proofs.lemmas.List.Elements.{All-head}
-use Rattle.club_core.specs.declared.change.Change.{Change}
-use Rattle.club_core.specs.declared.store.StoreFault.{StoreFault}
-use Rattle.club_core.specs.Club.{Club, IsSound}
-use Rattle.club_core.specs.Store.{IsRead, KeepsClub, ReadsStore}
+use Rattle.club_gate.proofs.Common.{List, ◌∷◌, Option, None, Result, IfOk, All, MatchResult, All-head, Change, StoreFault, Club, IsSound, IsRead, KeepsClub}
+use Rattle.club_gate.proofs.Common.{ReadsStore}
 
 pub reads : {S A : Type 0} {IsClean : S → Type 0} {Represents : S → Club → List Club → Type 0} {Fails : Option Change → S → StoreFault → S → Type 0}
     {old new : S} {result : Result A StoreFault} {IsReturned : Club → A → Type 0}

@@ -1,35 +1,19 @@
 -- From the pass that a source yields to the text that spells it.
-use Rattle.std.proofs.Common.{◌≡◌, ◌≢◌, inl, inr, ℕ, ◌≤◌, length, List, Option, Result, Ok, Err, refl, ap, ◌∙◌, subst}
-use Rattle.std.specs.Prelude.{IfOk}
-use Rattle.base64.specs.GeneralPurpose.{IsBytes}
-use Rattle.pass_forms.specs.declared.fault.FormFault.{FormFault}
-use Rattle.pass_forms.specs.declared.form.Form.{Form}
+use Rattle.club_gate.proofs.Common.{◌≡◌, ◌≢◌, inl, inr, ℕ, ◌≤◌, length, List, Option, Result, Ok, Err, refl, ap, ◌∙◌, subst, IfOk, IsBytes, FormFault, Form}
+use Rattle.club_gate.proofs.Common.{PassField, pass_fields, ReadsExactly, Plain, IsReadingInForm, SpellsForm, ReadsAnyFormExactly, ReadsWhatIsWrapped, reading}
+use Rattle.club_gate.proofs.Common.{reading_in_form, Change, Request, StoreFault, Verdict, verdict_in, Club, words_with, machine_pass, without_form}
+use Rattle.club_gate.proofs.Common.{decoded_words, words_in_form, OfItsPass, ReadsOrLacksMemory}
 use Rattle.pass_forms.specs.declared.form.Form.TheVariants.{V1, V2, Json}
-use Rattle.pass_forms.specs.FieldSource.{PassField, pass_fields}
 use Rattle.pass_forms.specs.Envelope.{IsUnwrapped}
-use Rattle.pass_forms.specs.Laws.{ReadsExactly}
-use Rattle.pass_forms.specs.Pass.{Plain}
 use Rattle.pass_forms.specs.Reading.{IsReadAs, max_caveats, max_text_len}
 use Rattle.pass_forms.specs.V1.{SpellsV1}
 use Rattle.pass_forms.specs.V2.{SpellsV2}
 use Rattle.pass_forms.specs.computed.Text.{in_form}
 use Rattle.pass_forms.specs.computed.V1Reading.{reading_v1}
 use Rattle.pass_forms.specs.computed.V2Reading.{reading_v2}
-use Rattle.pass_json.specs.AnyForm.{IsReadingInForm, SpellsForm}
 use Rattle.pass_json.specs.Json.{SpellsJson}
-use Rattle.pass_json.specs.Laws.{ReadsAnyFormExactly, ReadsWhatIsWrapped}
-use Rattle.pass_json.specs.computed.AnyForm.{reading, reading_in_form}
 use Rattle.pass_json.specs.computed.JsonReading.{reading_json}
-use Rattle.club_core.specs.declared.change.Change.{Change}
-use Rattle.club_core.specs.declared.request.Request.{Request}
-use Rattle.club_core.specs.declared.store.StoreFault.{StoreFault}
-use Rattle.club_core.specs.declared.verdict.Verdict.{Verdict}
-use Rattle.club_core.specs.Answer.{verdict_in}
-use Rattle.club_core.specs.Club.{Club}
-use Rattle.club_laws.specs.SingleRequest.{words_with}
-use Rattle.club_gate.specs.computed.DecodedPass.{machine_pass, without_form, decoded_words, words_in_form}
 use Rattle.club_gate.specs.Served.{IsJson}
-use Rattle.club_gate.specs.Verify.{OfItsPass, ReadsOrLacksMemory}
 
 abbrev IsVerdict : Result Verdict StoreFault → Verdict → Type 0
 IsVerdict result verdict = IfOk result (λ found. found ≡ verdict)

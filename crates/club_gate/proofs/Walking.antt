@@ -1,20 +1,14 @@
 -- The result of a scan of the caveats among the fields of a pass.
-use Rattle.std.proofs.Common.{Bor, ◌≡◌, ℕ, ◌+◌, ◌-◌, ◌^◌, ◌≤◌, ◌<◌, min, List, [], ◌∷◌, ◌++◌, length, map, Option, Some, None}
-use Rattle.std.proofs.Common.{Bool, true, false, cond, ◌↔◌, is_some, refl, sym, ◌∙◌, arith}
+use Rattle.club_gate.proofs.Common.{Bor, ◌≡◌, ℕ, ◌+◌, ◌-◌, ◌^◌, ◌≤◌, ◌<◌, min, List, [], ◌∷◌, ◌++◌, length, map, Option, Some, None, Bool, true, false, cond}
+use Rattle.club_gate.proofs.Common.{◌↔◌, is_some, refl, sym, ◌∙◌, arith, Ask, Caveat, caveat_of, IsFaultAt, first_fault_from, FindsTheFaultAt}
+use Rattle.club_gate.proofs.Common.{ReadsWhatIsUnderstood, PassField, caveat_field, signature_field, pass_fields, as_field, Plain}
 use Rattle.std.specs.Option.{option_or}
-use Rattle.pass_caveats.specs.declared.ask.Ask.{Ask}
-use Rattle.pass_caveats.specs.declared.caveat.Caveat.{Caveat}
 use Rattle.pass_caveats.specs.declared.fault.CaveatFault.{CaveatFault}
 use Rattle.pass_caveats.specs.declared.fault.CaveatFault.TheVariants.{Denied}
-use Rattle.pass_caveats.specs.computed.CaveatOf.{caveat_of}
 use Rattle.pass_caveats.specs.Caveat.{Understood}
 use Rattle.pass_caveats.specs.Tests.{permits}
-use Rattle.pass_caveats.specs.Fault.{IsFaultAt, first_fault_from}
-use Rattle.pass_caveats.specs.Laws.{FindsTheFaultAt, ReadsWhatIsUnderstood}
 use Rattle.pass_forms.specs.declared.field_source.Field.{Field}
 use Rattle.pass_forms.specs.declared.field_source.Field.TheVariants as fields
-use Rattle.pass_forms.specs.FieldSource.{PassField, caveat_field, signature_field, pass_fields, as_field}
-use Rattle.pass_forms.specs.Pass.{Plain}
 use Rattle.club_values.specs.Reading.{Reads}
 
 -- ---- the caveats

@@ -1,33 +1,13 @@
 -- The ways in which a request is answered and a command is decided, each with what it rests on.
-use Rattle.std.proofs.Common.{◌≡◌, ℕ, ◌+◌, ◌-◌, true, false, Option, Some, None, Ok, refl, ◌∙◌, arith, List, ◌≤◌, Err}
-use Rattle.std.proofs.lemmas.Slice.Eq.{bytes_eq-Decides}
+use Rattle.club_laws.proofs.Common.{◌≡◌, ℕ, ◌+◌, ◌-◌, true, false, Option, Some, None, Ok, refl, ◌∙◌, arith, List, ◌≤◌, Err, bytes_eq-Decides, Result, ◌&&◌}
+use Rattle.club_laws.proofs.Common.{◌==◌, nat_lt, bytes_eq, Slot, Member, Facility, Key, Booking, Verdict, Reply, Booked, Cancelled, Refused, Request}
+use Rattle.club_laws.proofs.Common.{same_slot, refund_at, Pass, Words, Club, facility_named, is_key_of, bookings_of, is_closed, key_named, member_named}
+use Rattle.club_laws.proofs.Common.{taken_in, balance_of, booking_under, Basis, basis_of, view_of, state_of, key_of, answer_to, verdict_in, request_slot}
+use Rattle.club_laws.proofs.Common.{Change, InsertMember, AddCredit, InsertFacility, InsertKey, MarkRevoked, ReplaceRoot, MarkClosed, Command, AddMember}
+use Rattle.club_laws.proofs.Common.{Credit, AddFacility, AddKey, RevokeKey, RotateKey, CloseSlot, OfficeFault, office_verdict, are_limits}
 use Rattle.club_laws.proofs.FoundRows.{is_numbered, numbered, found_passes, found_is_there, find-filter, any_passes, any-filter, named}
-use Rattle.std.specs.Prelude.{Result, ◌&&◌, ◌==◌, nat_lt}
-use Rattle.std.specs.Str.{bytes_eq}
-use Rattle.club_values.specs.declared.slot.Slot.{Slot}
-use Rattle.club_rows.specs.declared.member.Member.{Member}
-use Rattle.club_rows.specs.declared.facility.Facility.{Facility}
-use Rattle.club_rows.specs.declared.key.Key.{Key}
-use Rattle.club_rows.specs.declared.booking.Booking.{Booking}
-use Rattle.club_core.specs.declared.verdict.Verdict.{Verdict}
-use Rattle.club_core.specs.declared.reply.Reply.{Reply}
-use Rattle.club_core.specs.declared.reply.Reply.TheVariants.{Booked, Cancelled, Refused}
-use Rattle.club_core.specs.declared.request.Request.{Request}
-use Rattle.club_rows.specs.Booking.{same_slot, refund_at}
 use Rattle.club_rows.specs.Facility.{charge_of}
 use Rattle.club_core.specs.declared.pass_fault.PassFault.{PassFault}
-use Rattle.club_core.specs.Pass.{Pass, Words}
-use Rattle.club_core.specs.Club.{Club, facility_named, is_key_of, bookings_of, is_closed, key_named, member_named}
-use Rattle.club_core.specs.Sums.{taken_in, balance_of, booking_under}
-use Rattle.club_core.specs.Basis.{Basis, basis_of, view_of, state_of, key_of}
-use Rattle.club_core.specs.Answer.{answer_to, verdict_in}
-use Rattle.club_core.specs.Request.{request_slot}
-use Rattle.club_core.specs.declared.change.Change.{Change}
-use Rattle.club_core.specs.declared.change.Change.TheVariants.{InsertMember, AddCredit, InsertFacility, InsertKey, MarkRevoked, ReplaceRoot, MarkClosed}
-use Rattle.club_core.specs.declared.command.Command.{Command}
-use Rattle.club_core.specs.declared.command.Command.TheVariants.{AddMember, Credit, AddFacility, AddKey, RevokeKey, RotateKey, CloseSlot}
-use Rattle.club_core.specs.declared.command.OfficeFault.{OfficeFault}
-use Rattle.club_core.specs.Office.{office_verdict, are_limits}
 use Rattle.std.proofs.lemmas.Bool.Decides.{nat_tests}
 use Rattle.club_core.specs.declared.refusal.Refusal.TheVariants as refusals
 use Rattle.club_core.specs.declared.request.Request.TheVariants as asked

@@ -1,21 +1,12 @@
 -- Runs in which events failed: these are left out, one by one, so the laws hold of them too. The machine itself never fails.
-use Rattle.std.proofs.Common.{◌≡◌, ◌≢◌, ℕ, false, arith, inl, [], ◌∷◌, refl, List, ◌++◌, length, append_assoc}
+use Rattle.club_laws.proofs.Common.{◌≡◌, ◌≢◌, ℕ, false, arith, inl, [], ◌∷◌, refl, List, ◌++◌, length, append_assoc, Refused, Verdict, verdict_in, Club}
+use Rattle.club_laws.proofs.Common.{empty_club, Words, Event, Asked, Commanded, step, ToMember, Response, All-nil, All-cons, All-head, All-tail, IsEvent}
+use Rattle.club_laws.proofs.Common.{TestsTheSet, Reply, TestsTheSignature}
 use Rattle.club_core.specs.declared.refusal.Refusal.TheVariants.{Unavailable}
-use Rattle.club_core.specs.declared.reply.Reply.TheVariants.{Refused}
-use Rattle.club_core.specs.declared.verdict.Verdict.{Verdict}
-use Rattle.club_core.specs.Answer.{verdict_in}
-use Rattle.club_core.specs.Club.{Club, empty_club}
-use Rattle.club_core.specs.Pass.{Words}
-use Rattle.club_core.specs.Run.{Event, Asked, Commanded, step, ToMember, Response}
 use Rattle.club_laws.specs.Failed.{is_unavailable, CutsRuns, JoinsRuns, LeavesEvents, LeavesOutFailed, RunsWithoutFailures, Presentation, present_reply}
 use Rattle.club_laws.specs.Failed.{has_failed, answered_events, IsStep, IsRun}
 use Rattle.club_laws.proofs.AnswerCases.{answer_cases}
-use Rattle.std.proofs.lemmas.List.Elements.{All-nil, All-cons, All-head, All-tail}
 use Rattle.club_core.specs.declared.command.OfficeAnswer.{OfficeAnswer}
-use Rattle.club_core.specs.Events.{IsEvent}
-use Rattle.pass_caveats.specs.Laws.{TestsTheSet}
-use Rattle.club_core.specs.declared.reply.Reply.{Reply}
-use Rattle.club_core.specs.Laws.{TestsTheSignature}
 use Rattle.club_laws.specs.RunsWithFailures.{ConservesWithFailures, PlacesWithFailures, SoundWithFailures, RepeatsWithFailures, RepeatsAfterOneMore}
 use Rattle.club_laws.specs.RunsWithFailures.{WasReturned}
 use Rattle.club_laws.specs.Repeats.{IsBookedOrCancelled, WasServed}

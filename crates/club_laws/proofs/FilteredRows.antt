@@ -1,8 +1,6 @@
 -- Filters of lists that grow, are mapped, or were filtered before.
-use Rattle.std.proofs.Common.{◌≡◌, Bool, true, false, ◌&&◌, List, [], ◌∷◌, map, filter, All, refl, sym, ◌∙◌, arith, ℕ, ◌+◌, ◌≤◌, cond, ◌++◌, ap}
-use Rattle.std.specs.List.{list_any}
-use Rattle.std.proofs.lemmas.List.Elements.{filter_agree, All-head, All-tail, filter-append}
-use Rattle.std.specs.Prelude.{All, filter, not, sum_by}
+use Rattle.club_laws.proofs.Common.{◌≡◌, Bool, true, false, ◌&&◌, List, [], ◌∷◌, map, filter, All, refl, sym, ◌∙◌, arith, ℕ, ◌+◌, ◌≤◌, cond, ◌++◌, ap, list_any}
+use Rattle.club_laws.proofs.Common.{filter_agree, All-head, All-tail, filter-append, not, sum_by}
 use Rattle.std.proofs.lemmas.List.Filters.{sum_by-filter_both}
 use Rattle.std.proofs.lemmas.List.Sums.{sum_by-cons, sum_by-append}
 

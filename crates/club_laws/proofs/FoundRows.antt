@@ -1,19 +1,10 @@
 -- What `find` finds, and lists whose elements a test distinguishes.
-use Rattle.std.proofs.Common.{◌≡◌, ℕ, suc, Bool, true, false, ◌&&◌, ◌||◌, List, [], ◌∷◌, ◌++◌, get_or, map, Some, None, refl, ap, ◌∙◌, arith, option_map, ◌≢◌}
-use Rattle.std.proofs.Common.{sym, subst}
-use Rattle.std.specs.Prelude.{All, AllPairs, Contains, find, filter, ◌&&◌, ◌==◌}
-use Rattle.std.specs.List.{list_any}
+use Rattle.club_laws.proofs.Common.{◌≡◌, ℕ, suc, Bool, true, false, ◌&&◌, ◌||◌, List, [], ◌∷◌, ◌++◌, get_or, map, Some, None, refl, ap, ◌∙◌, arith, option_map}
+use Rattle.club_laws.proofs.Common.{◌≢◌, sym, subst, All, AllPairs, Contains, find, filter, ◌==◌, list_any, All-cons, All-nil, All-contains}
+use Rattle.club_laws.proofs.Common.{Contains-append_left, Contains-append_right, Contains-push, All-map, All-weaker, bytes_eq, list_any_at, find-append}
+use Rattle.club_laws.proofs.Common.{bytes_eq-Decides, false_from_ne_true, both_ways, Slot, Booking, same_slot, is_under}
 use Rattle.std.proofs.lemmas.List.{length-map, get_or-map, map-append}
-use Rattle.std.proofs.lemmas.List.Elements.{All-cons, All-nil, All-contains, Contains-append_left, Contains-append_right, Contains-push, All-map, All-weaker}
 use Rattle.std.proofs.lemmas.List.Kept.{AllPairs-cons}
-use Rattle.std.specs.Str.{bytes_eq}
-use Rattle.std.proofs.lemmas.List.Folds.{list_any_at, find-append}
-use Rattle.std.proofs.lemmas.Slice.Eq.{bytes_eq-Decides}
-use Rattle.std.proofs.lemmas.Bool.{false_from_ne_true, both_ways}
-use Rattle.club_values.specs.declared.slot.Slot.{Slot}
-use Rattle.club_rows.specs.declared.booking.Booking.{Booking}
-use Rattle.club_rows.specs.Booking.{same_slot}
-use Rattle.club_core.specs.Sums.{is_under}
 
 pub found_passes : {X : Type 0} (p : X → Bool) (xs : List X) (x : X) → find p xs ≡ Some x → p x ≡ true
 found_passes p [] x e = absurd (cc)

@@ -1,13 +1,6 @@
 -- What every change keeps, every run keeps; and runs over two lists, one after the other.
-use Rattle.std.proofs.Common.{List, [], ◌∷◌, ◌++◌, Option, Some, None, Ok, Err, refl, ap, ◌≡◌}
-use Rattle.std.specs.Prelude.{Result}
-use Rattle.club_core.specs.declared.change.Change.{Change}
-use Rattle.club_core.specs.declared.command.OfficeFault.{OfficeFault}
-use Rattle.club_core.specs.Club.{Club}
-use Rattle.club_core.specs.Answer.{verdict_in}
-use Rattle.club_core.specs.After.{after}
-use Rattle.club_core.specs.Office.{office_verdict}
-use Rattle.club_core.specs.Run.{Event, Asked, Commanded, step, after_change, command_outcome, replies_of, club_after, EventReply}
+use Rattle.club_laws.proofs.Common.{List, [], ◌∷◌, ◌++◌, Option, Some, None, Ok, Err, refl, ap, ◌≡◌, Result, Change, OfficeFault, Club, verdict_in, after}
+use Rattle.club_laws.proofs.Common.{office_verdict, Event, Asked, Commanded, step, after_change, command_outcome, replies_of, club_after, EventReply}
 
 module _ (P : Club → Type 0) (kept : (club : Club) (change : Change) → P club → P (after change club)) where
   kept_by_change : (club : Club) (change : Option Change) → P club → P (after_change change club)

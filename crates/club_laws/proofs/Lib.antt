@@ -1,3 +1,4 @@
+pub mod Common
 pub mod KeptByRuns
 pub mod FoundRows
 pub mod AnswerCases

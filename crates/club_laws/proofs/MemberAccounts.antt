@@ -1,23 +1,9 @@
 -- A member's keys and credit, computed from a run's events and replies.
-use Rattle.std.proofs.Common.{◌≡◌, ℕ, ◌+◌, Bool, true, false, cond, List, [], ◌∷◌, map, Option, Some, None, arith}
-use Rattle.std.proofs.lemmas.Slice.Eq.{bytes_eq-Decides}
-use Rattle.std.specs.Prelude.{Result, ◌||◌, find, is_some}
-use Rattle.std.specs.Str.{bytes_eq}
-use Rattle.std.specs.List.{list_any}
-use Rattle.std.proofs.lemmas.List.Folds.{list_any-append, find-append}
-use Rattle.club_rows.specs.declared.member.Member.{Member}
-use Rattle.club_core.specs.After.{after}
-use Rattle.club_core.specs.Run.{ToOffice, done_answer}
-use Rattle.club_core.specs.declared.verdict.Verdict.{Verdict}
-use Rattle.club_core.specs.declared.change.Change.{Change}
-use Rattle.club_core.specs.declared.command.Command.{Command}
-use Rattle.club_core.specs.declared.command.Command.TheVariants.{AddMember, Credit, AddKey, RevokeKey, RotateKey}
-use Rattle.club_core.specs.declared.command.OfficeFault.{OfficeFault}
-use Rattle.club_core.specs.Pass.{Words}
-use Rattle.club_core.specs.Club.{Club, member_named, is_key_of}
-use Rattle.club_core.specs.Answer.{verdict_in}
-use Rattle.club_core.specs.After.{credited_member, revoked_key, rotated_key}
-use Rattle.club_core.specs.Run.{Event, Asked, Commanded, step, after_change, command_outcome, replies_of, club_after}
+use Rattle.club_laws.proofs.Common.{◌≡◌, ℕ, ◌+◌, Bool, true, false, cond, List, [], ◌∷◌, map, Option, Some, None, arith, bytes_eq-Decides, Result, ◌||◌, find}
+use Rattle.club_laws.proofs.Common.{is_some, bytes_eq, list_any, list_any-append, find-append, Member, after, ToOffice, done_answer, Verdict, Change, Command}
+use Rattle.club_laws.proofs.Common.{AddMember, Credit, AddKey, RevokeKey, RotateKey, OfficeFault, Words, Club, member_named, is_key_of, verdict_in}
+use Rattle.club_laws.proofs.Common.{credited_member, revoked_key, rotated_key, Event, Asked, Commanded, step, after_change, command_outcome, replies_of}
+use Rattle.club_laws.proofs.Common.{club_after}
 use Rattle.club_laws.specs.Points.{key_given, keys_given, credit_accepted, credits_accepted}
 use Rattle.club_laws.proofs.MemberParts.{is_key_of-added, is_key_of-edited}
 use Rattle.club_laws.proofs.AnswerCases.{answer_cases, command_cases, CommandRestsOn, change_of}

@@ -1,33 +1,19 @@
 -- Whose keys are, and a member's part: what each kind of change makes of them.
-use Rattle.std.proofs.Common.{◌≡◌, ◌≢◌, ℕ, Bool, true, List, [], ◌∷◌, ◌++◌, get_or, map, Option, Some, sym, ◌∙◌, arith, false, cond, filter, None, All}
-use Rattle.std.proofs.Common.{Contains, append-nil, bytes_eq, refl, find, AllPairs, Result}
-use Rattle.std.proofs.lemmas.Slice.Eq.{bytes_eq-Decides}
-use Rattle.std.specs.Prelude.{All, AllPairs, Contains, ◌&&◌, ◌||◌}
-use Rattle.std.specs.Str.{bytes_eq}
-use Rattle.std.specs.List.{list_any}
-use Rattle.std.proofs.lemmas.List.Folds.{list_any-append, Any-from_list_any}
-use Rattle.club_rows.specs.declared.key.Key.{Key}
+use Rattle.club_laws.proofs.Common.{◌≡◌, ◌≢◌, ℕ, Bool, true, List, [], ◌∷◌, ◌++◌, get_or, map, Option, Some, sym, ◌∙◌, arith, false, cond, filter, None, All}
+use Rattle.club_laws.proofs.Common.{Contains, append-nil, refl, find, AllPairs, Result, bytes_eq-Decides, ◌&&◌, ◌||◌, bytes_eq, list_any, list_any-append}
+use Rattle.club_laws.proofs.Common.{Any-from_list_any, Key, Booking, Club, key_named, is_key_of, bookings_of, keys_of, IsSound, Contains-push, All-contains}
+use Rattle.club_laws.proofs.Common.{filter-append, All-push, All-map, Member, Change, InsertMember, AddCredit, InsertFacility, InsertKey, MarkRevoked}
+use Rattle.club_laws.proofs.Common.{ReplaceRoot, MarkClosed, InsertBooking, MarkCancelled, after, credited_member, revoked_key, rotated_key, cancelled_booking}
+use Rattle.club_laws.proofs.Common.{map-map, Verdict, Command, AddKey, RevokeKey, RotateKey, OfficeFault, Event, Asked, Commanded, step, after_change}
+use Rattle.club_laws.proofs.Common.{command_outcome}
+use Rattle.std.proofs.Common.{bytes_eq}
 use Rattle.club_rows.specs.declared.key.OlderRoot.{OlderRoot}
-use Rattle.club_rows.specs.declared.booking.Booking.{Booking}
-use Rattle.club_core.specs.Club.{Club, key_named, is_key_of, bookings_of, keys_of, IsSound}
 use Rattle.club_laws.proofs.FoundRows.{AllPairs-head, AllPairs-tail, any-filter, any-map, fresh_differs, only_named, none_named, other_bytes, AllPairs-map}
 use Rattle.club_laws.proofs.FoundRows.{still_there, named_there}
 use Rattle.club_laws.proofs.FilteredRows.{filter_same, filter_fixed, fixed_where_none, filter-map}
-use Rattle.std.proofs.lemmas.List.Elements.{Contains-push, All-contains, filter-append, All-push, All-map}
-use Rattle.club_rows.specs.declared.member.Member.{Member}
-use Rattle.club_core.specs.declared.change.Change.{Change}
-use Rattle.club_core.specs.declared.change.Change.TheVariants.{InsertMember, AddCredit, InsertFacility, InsertKey, MarkRevoked, ReplaceRoot, MarkClosed}
-use Rattle.club_core.specs.declared.change.Change.TheVariants.{InsertBooking, MarkCancelled}
-use Rattle.club_core.specs.After.{after, credited_member, revoked_key, rotated_key, cancelled_booking}
 use Rattle.club_core.specs.Solo.{part_of}
 use Rattle.club_laws.specs.Frame.{ChangesThePartAlike, part_after}
 use Rattle.std.proofs.lemmas.List.Quantifiers.{all_pairs_push}
-use Rattle.std.proofs.lemmas.Simd.{map-map}
-use Rattle.club_core.specs.declared.verdict.Verdict.{Verdict}
-use Rattle.club_core.specs.declared.command.Command.{Command}
-use Rattle.club_core.specs.declared.command.Command.TheVariants.{AddKey, RevokeKey, RotateKey}
-use Rattle.club_core.specs.declared.command.OfficeFault.{OfficeFault}
-use Rattle.club_core.specs.Run.{Event, Asked, Commanded, step, after_change, command_outcome}
 use Rattle.club_laws.proofs.AnswerCases.{answer_cases, written, CommandRestsOn, change_of, command_cases}
 
 -- whether the key has this name and this member

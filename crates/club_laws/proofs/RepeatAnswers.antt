@@ -1,32 +1,13 @@
 -- What was served is on record, stays there, and answers each repeat.
-use Rattle.std.proofs.Common.{◌≡◌, ℕ, true, List, [], ◌∷◌, Some, refl, arith, find, ap, option_map, ◌∙◌, ◌++◌, sym}
-use Rattle.club_rows.specs.declared.member.Member.{Member}
-use Rattle.std.specs.Prelude.{◌&&◌, ◌==◌}
-use Rattle.club_rows.specs.declared.key.Key.{Key}
-use Rattle.club_rows.specs.declared.booking.Booking.{Booking}
-use Rattle.club_core.specs.declared.verdict.Verdict.{Verdict}
-use Rattle.club_core.specs.declared.change.Change.{Change}
-use Rattle.club_core.specs.declared.change.Change.TheVariants.{InsertBooking, MarkCancelled}
-use Rattle.club_core.specs.declared.reply.Reply.{Reply}
-use Rattle.club_core.specs.declared.reply.Reply.TheVariants.{Booked, Cancelled}
-use Rattle.club_core.specs.declared.request.Request.{Request}
-use Rattle.club_rows.specs.Booking.{same_slot, refund_at}
-use Rattle.club_core.specs.Sums.{booking_under}
-use Rattle.club_core.specs.Pass.{Words}
-use Rattle.club_core.specs.Club.{Club}
-use Rattle.club_core.specs.Basis.{key_of, Basis, basis_of, view_of}
-use Rattle.club_core.specs.Answer.{verdict_in}
-use Rattle.club_core.specs.After.{after, cancelled_booking}
-use Rattle.club_core.specs.Run.{Event, after_change, club_after, Asked, Outcome, step, verdict_outcome, replies_of, ToMember}
+use Rattle.club_laws.proofs.Common.{◌≡◌, ℕ, true, List, [], ◌∷◌, Some, refl, arith, find, ap, option_map, ◌∙◌, ◌++◌, sym, Member, ◌&&◌, ◌==◌, Key, Booking}
+use Rattle.club_laws.proofs.Common.{Verdict, Change, InsertBooking, MarkCancelled, Reply, Booked, Cancelled, Request, same_slot, refund_at, booking_under}
+use Rattle.club_laws.proofs.Common.{Words, Club, key_of, Basis, basis_of, view_of, verdict_in, after, cancelled_booking, Event, after_change, club_after, Asked}
+use Rattle.club_laws.proofs.Common.{Outcome, step, verdict_outcome, replies_of, ToMember, request_number, TestsTheSet, TestsTheSignature, IsAcceptedIn}
 use Rattle.club_laws.specs.Repeats.{IsBookedOrCancelled, RepeatsReturnTheSame, RepeatsMayBeLeftOut, WasServed}
 use Rattle.club_laws.proofs.FoundRows.{found_before, found_last, find-map, is_numbered, same_slots, self_numbered}
 use Rattle.club_laws.proofs.AnswerCases.{written, answer_cases, Knows, own_booking, known_rows, whole_basis}
 use Rattle.club_laws.proofs.KeptByRuns.{kept_by_run, club_after-append, replies_of-append}
-use Rattle.club_core.specs.Request.{request_number}
-use Rattle.pass_caveats.specs.Laws.{TestsTheSet}
 use Rattle.club_core.specs.declared.view.View.{View}
-use Rattle.club_core.specs.Laws.{TestsTheSignature}
-use Rattle.club_core.specs.Acceptance.{IsAcceptedIn}
 use Rattle.club_laws.proofs.ServedPasses.{accepted_under}
 use Rattle.club_core.specs.declared.request.Request.TheVariants as asked
 use Rattle.club_core.specs.Verdict as verdicts

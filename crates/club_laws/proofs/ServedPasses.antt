@@ -1,38 +1,22 @@
 -- What a served request shows of its pass; and that a revoked key stays revoked.
-use Rattle.std.proofs.Common.{◌≡◌, ℕ, ◌+◌, true, false, List, [], ◌∷◌, ◌++◌, Option, Some, None, Result, Ok, Err, arith, All, refl, sym, ap, ◌∙◌, subst}
-use Rattle.std.proofs.Common.{option_map}
-use Rattle.std.proofs.lemmas.Bool.{false_from_ne_true}
+use Rattle.club_laws.proofs.Common.{◌≡◌, ℕ, ◌+◌, true, false, List, [], ◌∷◌, ◌++◌, Option, Some, None, Result, Ok, Err, arith, All, refl, sym, ap, ◌∙◌, subst}
+use Rattle.club_laws.proofs.Common.{option_map, false_from_ne_true, All-nil, All-cons, All-head, All-tail, TestsTheSet, TestsTheSignature, Key, Request, Pass}
+use Rattle.club_laws.proofs.Common.{Words, is_signed_under, Club, key_named, Basis, basis_of, key_of, view_of, answer_to, ask_of, form_refusal, IsServed}
+use Rattle.club_laws.proofs.Common.{IsAllowedBy, IsAcceptedPass, IsEntitled, OfficeFault, Change, InsertKey, MarkRevoked, ReplaceRoot, RevokeKey, after}
+use Rattle.club_laws.proofs.Common.{revoked_key, rotated_key, Event, Commanded, step, command_outcome, club_after, ToOffice, find-append}
 use Rattle.std.proofs.lemmas.Option.{same_Some}
-use Rattle.std.proofs.lemmas.List.Elements.{All-nil, All-cons, All-head, All-tail}
 use Rattle.pass_caveats.specs.declared.ask.Ask.{Ask}
 use Rattle.pass_caveats.specs.declared.caveat.Caveat.{Caveat}
 use Rattle.pass_caveats.specs.Fault.{first_fault_from, first_fault_of}
-use Rattle.pass_caveats.specs.Laws.{TestsTheSet}
-use Rattle.club_core.specs.Laws.{TestsTheSignature}
-use Rattle.club_rows.specs.declared.key.Key.{Key}
 use Rattle.club_core.specs.declared.refusal.Refusal.TheVariants.{NotVerified, KeyRevoked, CaveatNotUnderstood, CaveatDenies}
-use Rattle.club_core.specs.declared.request.Request.{Request}
 use Rattle.club_core.specs.declared.pass_fault.PassFault.{PassFault}
-use Rattle.club_core.specs.Pass.{Pass, Words, is_signed_under}
-use Rattle.club_core.specs.Club.{Club, key_named}
-use Rattle.club_core.specs.Basis.{Basis, basis_of, key_of, view_of}
-use Rattle.club_core.specs.Answer.{answer_to, ask_of, form_refusal}
 use Rattle.club_core.specs.Verdict.{refusal_verdict, verdict_of}
-use Rattle.club_core.specs.Acceptance.{IsServed, IsAllowedBy, IsAcceptedPass, IsEntitled}
 use Rattle.club_laws.specs.SingleRequest.{RefusesTheUnsigned, MoreCaveatsNeverOpenMore, blind_refusal, words_with}
 use Rattle.club_laws.proofs.AnswerCases.{known_rows, command_cases}
-use Rattle.std.specs.Prelude.{Result}
-use Rattle.club_core.specs.declared.command.OfficeFault.{OfficeFault}
-use Rattle.club_core.specs.declared.change.Change.{Change}
-use Rattle.club_core.specs.declared.change.Change.TheVariants.{InsertKey, MarkRevoked, ReplaceRoot}
-use Rattle.club_core.specs.declared.command.Command.TheVariants.{RevokeKey}
-use Rattle.club_core.specs.After.{after, revoked_key, rotated_key}
 use Rattle.club_core.specs.declared.command.OfficeAnswer.TheVariants.{Done}
-use Rattle.club_core.specs.Run.{Event, Commanded, step, command_outcome, club_after, ToOffice}
 use Rattle.club_laws.specs.Revoked.{ServesNoRevokedKey, WasRevoked}
 use Rattle.club_laws.proofs.FoundRows.{find-map, found_passes}
 use Rattle.club_laws.proofs.MemberParts.{has_name}
-use Rattle.std.proofs.lemmas.List.Folds.{find-append}
 use Rattle.club_laws.proofs.KeptByRuns.{kept_by_run, club_after-append}
 
 -- the pass passes the tests of the answer

@@ -1,15 +1,10 @@
 -- The solo law: a member's part follows each event of the club by the member's own entry for it.
-use Rattle.std.proofs.Common.{subst, ◌≡◌, ℕ, ◌+◌, Bool, List, Option, Some, None, option_map, refl, sym, ap, true, false, cond, [], ◌∷◌, Result, bytes_eq, ◌∙◌}
-use Rattle.std.proofs.Common.{arith, ◌++◌, map}
-use Rattle.club_values.specs.declared.slot.Slot.{Slot}
-use Rattle.club_rows.specs.declared.facility.Facility.{Facility}
-use Rattle.club_rows.specs.declared.booking.Booking.{Booking}
-use Rattle.club_rows.specs.Booking.{persons_of, refund_at}
-use Rattle.club_core.specs.Sums.{is_in}
-use Rattle.club_core.specs.Request.{request_slot}
-use Rattle.club_core.specs.Pass.{Words}
-use Rattle.club_core.specs.Club.{Club, key_named, member_named, keys_of, is_key_of, bookings_of}
-use Rattle.club_core.specs.Basis.{Basis, SlotState, basis_of, state_of, key_of}
+use Rattle.club_laws.proofs.Common.{subst, ◌≡◌, ℕ, ◌+◌, Bool, List, Option, Some, None, option_map, refl, sym, ap, true, false, cond, [], ◌∷◌, Result, ◌∙◌}
+use Rattle.club_laws.proofs.Common.{arith, ◌++◌, map, Slot, Facility, Booking, persons_of, refund_at, is_in, request_slot, Words, Club, key_named, member_named}
+use Rattle.club_laws.proofs.Common.{keys_of, is_key_of, bookings_of, Basis, SlotState, basis_of, state_of, key_of, bytes_eq-Decides, Change, InsertBooking}
+use Rattle.club_laws.proofs.Common.{MarkCancelled, Verdict, Command, OfficeFault, after, answer_by_basis, verdict_in, office_verdict, Event, Asked, Commanded}
+use Rattle.club_laws.proofs.Common.{step, after_change, command_outcome, EventReply, ToMember, replies_of, club_after, map-map}
+use Rattle.std.proofs.Common.{bytes_eq}
 use Rattle.club_core.specs.declared.slot_use.SlotUse.{SlotUse}
 use Rattle.club_core.specs.Solo.{outside, part_of, with_others, OwnEvent, OwnAsk, OwnChange, own_ask, own_change, own_part, solo_verdict, own_events}
 use Rattle.club_core.specs.Solo.{solo_replies}
@@ -17,17 +12,6 @@ use Rattle.club_laws.proofs.FoundRows.{found_passes, find_filtered, bytes_same, 
 use Rattle.club_laws.proofs.FilteredRows.{filter_twice, sum_in_parts}
 use Rattle.club_laws.proofs.MemberParts.{is_named, is_owned, has_name, is_under_one, IsFresh, part_changed, owner, IsKeyed, keyed_step, keyed_from_sound}
 use Rattle.club_laws.proofs.AnswerCases.{known_rows, whole_basis, is_own_key, answer_cases, written, change_of, command_cases}
-use Rattle.std.proofs.lemmas.Slice.Eq.{bytes_eq-Decides}
-use Rattle.club_core.specs.declared.change.Change.{Change}
-use Rattle.club_core.specs.declared.change.Change.TheVariants.{InsertBooking, MarkCancelled}
-use Rattle.club_core.specs.declared.verdict.Verdict.{Verdict}
-use Rattle.club_core.specs.declared.command.Command.{Command}
-use Rattle.club_core.specs.declared.command.OfficeFault.{OfficeFault}
-use Rattle.club_core.specs.After.{after}
-use Rattle.club_core.specs.Answer.{answer_by_basis, verdict_in}
-use Rattle.club_core.specs.Office.{office_verdict}
-use Rattle.club_core.specs.Run.{Event, Asked, Commanded, step, after_change, command_outcome, EventReply, ToMember, replies_of, club_after}
-use Rattle.std.proofs.lemmas.Simd.{map-map}
 use Rattle.club_laws.specs.RunsWithFailures.{SoloLawWithFailures}
 use Rattle.club_laws.specs.Frame.{LeavesThePart}
 use Rattle.club_laws.specs.SoloLaw.{SoloLaw, EndsWithThePart, is_ask, replies_to, solo_part}

@@ -1,44 +1,24 @@
 -- Steps and runs keep a sound club, and each change fits.
-use Rattle.std.proofs.Common.{None, ◌≡◌, ◌≢◌, ℕ, ◌≤◌, Bool, false, List, [], ◌∷◌, ◌++◌, get_or, map, ap, arith, ◌+◌, true, cond, All, subst, Option, Some, Ok}
-use Rattle.std.proofs.Common.{Err}
-use Rattle.std.specs.Prelude.{All, Contains, Option, Some, IfSome, sum_by, ◌||◌, Result}
-use Rattle.std.specs.Str.{bytes_eq}
-use Rattle.std.proofs.lemmas.List.Elements.{All-push, All-map, All-head, All-tail}
+use Rattle.club_laws.proofs.Common.{None, ◌≡◌, ◌≢◌, ℕ, ◌≤◌, Bool, false, List, [], ◌∷◌, ◌++◌, get_or, map, ap, arith, ◌+◌, true, cond, All, subst, Option, Some}
+use Rattle.club_laws.proofs.Common.{Ok, Err, Contains, IfSome, sum_by, ◌||◌, Result, bytes_eq, All-push, All-map, All-head, All-tail, map-map, cond_both}
+use Rattle.club_laws.proofs.Common.{both_ways, Slot, Member, Facility, Key, Booking, persons_of, same_slot, refund_at, cost_of, is_in, taken_in}
+use Rattle.club_laws.proofs.Common.{credited_member, revoked_key, good_until, rotated_key, after, is_marked, cancelled_booking, Club, keys_of, is_key_of}
+use Rattle.club_laws.proofs.Common.{bookings_of, IsSound, HasReferences, Command, AddMember, Credit, AddFacility, AddKey, RevokeKey, RotateKey, CloseSlot}
+use Rattle.club_laws.proofs.Common.{IsCommand, IsRequest, IsEvent, bytes_eq-Decides, Verdict, Words, verdict_in, after_change, Asked, Commanded, step}
+use Rattle.club_laws.proofs.Common.{command_outcome, Change, OfficeFault, office_verdict}
 use Rattle.std.proofs.lemmas.List.Quantifiers.{all_pairs_push}
-use Rattle.std.proofs.lemmas.Simd.{map-map}
-use Rattle.std.proofs.lemmas.Bool.{cond_both, both_ways}
-use Rattle.club_values.specs.declared.slot.Slot.{Slot}
-use Rattle.club_rows.specs.declared.member.Member.{Member}
-use Rattle.club_rows.specs.declared.facility.Facility.{Facility}
-use Rattle.club_rows.specs.declared.key.Key.{Key}
 use Rattle.club_rows.specs.declared.key.OlderRoot.{OlderRoot}
-use Rattle.club_rows.specs.declared.booking.Booking.{Booking}
 use Rattle.club_rows.specs.Limits.{IsRoot}
 use Rattle.club_values.specs.Moment.{IsMoment}
 use Rattle.club_rows.specs.Rows.{IsMember, IsFacility, IsOlderRoot, IsKey, IsSlot, IsBooking}
-use Rattle.club_rows.specs.Booking.{persons_of, same_slot, refund_at}
-use Rattle.club_core.specs.Sums.{cost_of, is_in, taken_in}
-use Rattle.club_core.specs.After.{credited_member, revoked_key, good_until, rotated_key, after, is_marked, cancelled_booking}
-use Rattle.club_core.specs.Club.{Club, keys_of, is_key_of, bookings_of, IsSound, HasReferences}
 use Rattle.club_laws.proofs.FoundRows.{AreApart, AllPairs-map, All-each, fresh_differs, still_there, still_all, none_named, named_there, only_named}
 use Rattle.club_laws.proofs.FoundRows.{none_passes}
 use Rattle.club_laws.proofs.FoundRows.{same_slots, at_found, none_found, slots_same, is_numbered, only_numbered, found_by_own, found_passes, numbered}
 use Rattle.club_laws.proofs.FilteredRows.{filter_none, sum_one_more, sum_no_more}
 use Rattle.club_laws.proofs.MemberParts.{edited, bookings_of-added, bookings_of-edited, owner}
 use Rattle.std.proofs.lemmas.Bool.Decides.{nat_tests}
-use Rattle.club_core.specs.declared.command.Command.{Command}
-use Rattle.club_core.specs.declared.command.Command.TheVariants.{AddMember, Credit, AddFacility, AddKey, RevokeKey, RotateKey, CloseSlot}
-use Rattle.club_core.specs.Events.{IsCommand, IsRequest, IsEvent}
 use Rattle.club_laws.proofs.AnswerCases.{CommandRestsOn, change_of, Knows, Books, Cancels, written, answer_cases, command_cases}
-use Rattle.std.proofs.lemmas.Slice.Eq.{bytes_eq-Decides}
 use Rattle.std.proofs.lemmas.Nat.{mul-le}
-use Rattle.club_core.specs.declared.verdict.Verdict.{Verdict}
-use Rattle.club_core.specs.Pass.{Words}
-use Rattle.club_core.specs.Answer.{verdict_in}
-use Rattle.club_core.specs.Run.{after_change, Asked, Commanded, step, command_outcome}
-use Rattle.club_core.specs.declared.change.Change.{Change}
-use Rattle.club_core.specs.declared.command.OfficeFault.{OfficeFault}
-use Rattle.club_core.specs.Office.{office_verdict}
 use Rattle.club_core.specs.Store.{IsTrueOf}
 use Rattle.club_laws.specs.SoundRuns.{ChangesFit, RunsKeepSound, StepsKeepSound}
 use Rattle.club_core.specs.declared.request.Request.TheVariants as asked

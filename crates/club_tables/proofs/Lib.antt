@@ -1,3 +1,4 @@
+pub mod Common
 pub mod lists
 pub mod statements
 pub mod queries

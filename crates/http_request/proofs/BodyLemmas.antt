@@ -1,10 +1,7 @@
 -- The parts of a body.
-use Rattle.std.proofs.Common.{◌≡◌, ℕ, ◌&&◌, Bool, true, false, cond, List, [], ◌∷◌, Option, Some, None, Result, inl, inr, refl, ap}
-use Rattle.std.specs.Prelude.{MatchResult}
-use Rattle.std.specs.Option.{ok_or, option_and_then}
-use Rattle.std.specs.List.{list_all}
+use Rattle.http_request.proofs.Common.{◌≡◌, ℕ, ◌&&◌, Bool, true, false, cond, List, [], ◌∷◌, Option, Some, None, Result, inl, inr, refl, ap, MatchResult, ok_or}
+use Rattle.http_request.proofs.Common.{option_and_then, list_all, bytes_eq, IsUtf8, is_utf8, only_named}
 use Rattle.std.specs.Map.{keys_of}
-use Rattle.std.specs.Str.{bytes_eq, IsUtf8, is_utf8}
 use Rattle.std.specs.String.{string_bytes}
 use Rattle.std.specs.declared.alloc.Global.{Global}
 use Rattle.std.specs.declared.string.String.{String}
@@ -14,7 +11,6 @@ use Rattle.serde_json.specs.View.{members_view}
 use Rattle.serde_json.specs.declared.value.Value.{Value}
 use Rattle.club_core.specs.declared.refusal.Refusal.{Refusal}
 use Rattle.club_core.specs.declared.refusal.Refusal.TheVariants.{BadRequest}
-use Rattle.http_request.specs.Body.{only_named}
 use Rattle.http_request.specs.Refused.{Refuses}
 
 -- the names of a map's entries are those of the object's members

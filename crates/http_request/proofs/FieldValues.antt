@@ -1,9 +1,6 @@
 -- The values of fields, one field at a time.
-use Rattle.std.proofs.Common.{◌≡◌, ℕ, ◌+◌, ◌<◌, Bool, List, ◌∷◌, cond, length, get_or, drop, refl}
-use Rattle.std.proofs.lemmas.List.{at_drop_more}
-use Rattle.httparse.specs.declared.spans.HeaderSpan.{HeaderSpan}
+use Rattle.http_request.proofs.Common.{◌≡◌, ℕ, ◌+◌, ◌<◌, Bool, List, ◌∷◌, cond, length, get_or, drop, refl, at_drop_more, HeaderSpan, same_word, values_in_head}
 use Rattle.httparse.specs.Spans.{header_bytes}
-use Rattle.http_request.specs.Fields.{same_word, values_in_head}
 
 -- a parser's buffer before it is written to
 abbrev pub no_field : HeaderSpan

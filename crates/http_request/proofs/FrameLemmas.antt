@@ -1,16 +1,9 @@
 -- Bytes have one frame.
-use Rattle.std.proofs.Common.{◌≡◌, ℕ, ◌<◌, ◌≤◌, inl, inr, false, List, [], ◌++◌, length, take, drop, nat_eq, sym, ap, ◌∙◌, arith, length-append}
-use Rattle.std.specs.List.{ends_with}
+use Rattle.http_request.proofs.Common.{◌≡◌, ℕ, ◌<◌, ◌≤◌, inl, inr, false, List, [], ◌++◌, length, take, drop, nat_eq, sym, ap, ◌∙◌, arith, length-append}
+use Rattle.http_request.proofs.Common.{ends_with, cases_order, take-append-le, take-append-drop, length-take-le, HeaderSpan, RequestHead, Head, empty_line}
+use Rattle.http_request.proofs.Common.{IsHeadOf, IsPiece, AsksForBody, IsFramed, IsOneRequest, IsRefusedHead, HasNoPiece, IsHeadAt}
 use Rattle.std.proofs.Math.Seq.{take-append_seam, drop-append_seam}
-use Rattle.std.proofs.lemmas.Bool.{cases_order}
-use Rattle.std.proofs.lemmas.List.{take-append-le, take-append-drop, length-take-le}
-use Rattle.httparse.specs.declared.spans.HeaderSpan.{HeaderSpan}
-use Rattle.httparse.specs.Grammar.{RequestHead}
 use Rattle.httparse.proofs.GrammarLemmas.{request_unique}
-use Rattle.http_request.specs.declared.front.Head.{Head}
-use Rattle.http_request.specs.Head.{empty_line, IsHeadOf, IsPiece}
-use Rattle.http_request.specs.Frame.{AsksForBody, IsFramed, IsOneRequest, IsRefusedHead, HasNoPiece}
-use Rattle.http_request.specs.Front.{IsHeadAt}
 
 -- the bytes are a piece and the rest
 pub record IsCut (bytes piece rest : List ℕ) : Type 0 where

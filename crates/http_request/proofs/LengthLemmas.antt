@@ -1,17 +1,9 @@
 -- No body has more than 256 bytes.
-use Rattle.std.proofs.Common.{◌≡◌, ℕ, ◌-◌, ◌<◌, ◌≤◌, ◌||◌, Bool, true, false, cond, eqb, leb, List, [], ◌∷◌, length, Option, Some, None}
-use Rattle.std.proofs.Common.{arith, codes, take}
-use Rattle.std.proofs.lemmas.Bool.Decides.{nat_tests}
-use Rattle.std.proofs.lemmas.List.{length-take-le}
-use Rattle.std.specs.Prelude.{option_and_then}
-use Rattle.std.specs.Str.{bytes_eq}
-use Rattle.httparse.specs.declared.spans.HeaderSpan.{HeaderSpan}
+use Rattle.http_request.proofs.Common.{◌≡◌, ℕ, ◌-◌, ◌<◌, ◌≤◌, ◌||◌, Bool, true, false, cond, eqb, leb, List, [], ◌∷◌, length, Option, Some, None, arith, codes}
+use Rattle.http_request.proofs.Common.{take, nat_tests, length-take-le, bytes_eq, HeaderSpan, Head, values_of, header_fields, IsHeadAt}
+use Rattle.std.proofs.Common.{option_and_then}
 use Rattle.club_values.specs.Number.{number_of_digits}
-use Rattle.http_request.specs.declared.front.Head.{Head}
-use Rattle.http_request.specs.Fields.{values_of}
 use Rattle.http_request.specs.Length.{body_length, declared_length, where_allowed, unless_coded}
-use Rattle.http_request.specs.Frame.{header_fields}
-use Rattle.http_request.specs.Front.{IsHeadAt}
 
 -- the length is at most that of the longest body
 abbrev IsFew : Option ℕ → Type 0

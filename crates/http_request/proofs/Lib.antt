@@ -1,3 +1,4 @@
+pub mod Common
 mod ScanLemmas
 mod FieldValues
 mod Segments

@@ -1,10 +1,8 @@
 -- The computed place of a target is the one that it names.
-use Rattle.std.proofs.Common.{◌≡◌, ℕ, ◌==◌, Bool, true, false, cond, List, [], ◌∷◌, Option, Some, None, codes, refl, sym, ap, ◌∙◌, arith}
-use Rattle.std.specs.Prelude.{◌&&◌, nat_le, option_map, IfSome}
+use Rattle.http_request.proofs.Common.{◌≡◌, ℕ, ◌==◌, Bool, true, false, cond, List, [], ◌∷◌, Option, Some, None, codes, refl, sym, ap, ◌∙◌, arith, ◌&&◌, nat_le}
+use Rattle.http_request.proofs.Common.{option_map, IfSome, bytes_eq, cond-true, eqb-true, nat_tests, segments, account_at, place_of, under_root, under_slots}
+use Rattle.http_request.proofs.Common.{ReadsPlaces}
 use Rattle.std.specs.Fmt.{decimal}
-use Rattle.std.specs.Str.{bytes_eq}
-use Rattle.std.proofs.lemmas.Bool.{cond-true, eqb-true}
-use Rattle.std.proofs.lemmas.Bool.Decides.{nat_tests}
 use Rattle.std.proofs.lemmas.Option.{IfSome_then}
 use Rattle.std.proofs.lemmas.Slice.Eq.{bytes_eq-Decides}
 use Rattle.club_values.specs.declared.slot.Slot.{Slot}
@@ -16,11 +14,8 @@ use Rattle.club_rows.specs.Limits.{IsBookingNumber, booking_number_limit}
 use Rattle.club_rows.specs.Rows.{IsSlot}
 use Rattle.http_request.specs.declared.path.Place.{Place}
 use Rattle.http_request.specs.declared.path.Place.TheVariants.{SlotPlace, BookingPlace, AccountPlace}
-use Rattle.http_request.specs.Parts.{segments}
 use Rattle.http_request.specs.Path.{HasRealValues, IsPlace, place_parts}
 use Rattle.http_request.specs.computed.Parts.{number_of_text, slot_of_parts, within_limits, ◌>>=◌}
-use Rattle.http_request.specs.computed.Path.{account_at, place_of, under_root, under_slots}
-use Rattle.http_request.specs.Laws.{ReadsPlaces}
 
 -- what is so of a value that is found: by a test, by two steps, or by a function of what was found
 if_all : {A : Type 0} (P : A → Type 0) (test : Bool) (found : Option A) → (test ≡ true → IfSome found P) → IfSome (cond test found None) P

@@ -1,9 +1,6 @@
 -- Paths with more parts than a place has.
-use Rattle.std.proofs.Common.{◌≡◌, List, ◌∷◌, ℕ, Bor, Option, Some, None, true, refl}
-use Rattle.std.specs.Option.{is_some}
+use Rattle.http_request.proofs.Common.{◌≡◌, List, ◌∷◌, ℕ, Bor, Option, Some, None, true, refl, is_some, following_parts, at_slot, account_at}
 use Rattle.club_values.specs.declared.slot.Slot.{Slot}
-use Rattle.http_request.specs.Parts.{following_parts}
-use Rattle.http_request.specs.computed.Path.{at_slot, account_at}
 use Rattle.http_request.proofs.Segments.{first_part}
 
 pub past_number : (slot : Slot) (word number : List ℕ) (rest : Option (Bor (List ℕ))) → is_some rest ≡ true

@@ -1,9 +1,7 @@
 -- Every place of the desk has a route.
-use Rattle.std.proofs.Common.{◌≡◌, ℕ, ◌<◌, List, [], ◌∷◌, ◌++◌, length, Some}
-use Rattle.std.proofs.Common.{true, false, cond, ◌==◌, append-nil, codes, refl, sym, ap, subst, ◌∙◌, arith}
-use Rattle.std.specs.Prelude.{IsSome}
+use Rattle.http_request.proofs.Common.{◌≡◌, ℕ, ◌<◌, List, [], ◌∷◌, ◌++◌, length, Some, true, false, cond, ◌==◌, append-nil, codes, refl, sym, ap, subst, ◌∙◌}
+use Rattle.http_request.proofs.Common.{arith, IsSome, eqb-true, ReadsPlaces, with_front, segments}
 use Rattle.std.specs.Fmt.{decimal}
-use Rattle.std.proofs.lemmas.Bool.{eqb-true}
 use Rattle.std.proofs.lemmas.Fmt.{decimal_nonempty}
 use Rattle.matchit.specs.Rows.{RowsOf, param_token}
 use Rattle.matchit.specs.Seek.{has_slash, seek, first, own, step, param_step}
@@ -11,8 +9,6 @@ use Rattle.club_values.specs.Day.{day_text}
 use Rattle.club_values.specs.Digits.{two_digits}
 use Rattle.http_request.specs.declared.path.Place.{Place}
 use Rattle.http_request.specs.declared.path.Place.TheVariants.{SlotPlace, BookingPlace, AccountPlace}
-use Rattle.http_request.specs.Laws.{ReadsPlaces}
-use Rattle.http_request.specs.Parts.{with_front, segments}
 use Rattle.http_request.specs.Path.{HasRealValues, IsPlace, place_parts}
 use Rattle.http_request.specs.Routes.{KnowsPlaces}
 use Rattle.http_request.proofs.Segments.{first_part}

@@ -1,12 +1,6 @@
 -- The scan for the end of a head, and the tests of what it found.
-use Rattle.std.proofs.Common.{◌≡◌, ℕ, ◌+◌, ◌<◌, ◌≤◌, ◌↔◌, inl, inr, true, false, leb, List, length, take, nat_eq, arith}
-use Rattle.std.specs.Prelude.{IsTrue}
-use Rattle.std.specs.List.{ends_with}
-use Rattle.std.proofs.lemmas.Bool.{cases_lt, le-leb, leb-true}
-use Rattle.std.proofs.lemmas.Bool.Decides.{nat_tests}
-use Rattle.std.proofs.lemmas.List.{length-take-le, take-take}
-use Rattle.http_request.specs.Head.{empty_line, IsPiece}
-use Rattle.http_request.specs.Frame.{HasNoPiece}
+use Rattle.http_request.proofs.Common.{◌≡◌, ℕ, ◌+◌, ◌<◌, ◌≤◌, ◌↔◌, inl, inr, true, false, leb, List, length, take, nat_eq, arith, IsTrue, ends_with, cases_lt}
+use Rattle.http_request.proofs.Common.{le-leb, leb-true, nat_tests, length-take-le, take-take, empty_line, IsPiece, HasNoPiece}
 
 -- a piece that was found is the shortest
 pub piece_at : (bytes : List ℕ) (n : ℕ) → n ≤ length bytes → n ≤ 16384 → ends_with nat_eq (take n bytes) empty_line ≡ true

@@ -1,9 +1,7 @@
 -- A path, one part at a time.
-use Rattle.std.proofs.Common.{◌≡◌, ℕ, ◌+◌, ◌-◌, ◌<◌, ◌≤◌, Bool, true, false, List, [], ◌∷◌, ◌++◌, cond, eqb, length, get_or, take, drop, refl, sym, ap, ◌∙◌}
-use Rattle.std.proofs.Common.{append_assoc, append-nil, arith}
+use Rattle.http_request.proofs.Common.{◌≡◌, ℕ, ◌+◌, ◌-◌, ◌<◌, ◌≤◌, Bool, true, false, List, [], ◌∷◌, ◌++◌, cond, eqb, length, get_or, take, drop, refl, sym, ap}
+use Rattle.http_request.proofs.Common.{◌∙◌, append_assoc, append-nil, arith, at_drop_more, length-drop, take_more, take_all, with_front, segments}
 use Rattle.std.proofs.Math.ListN.{drop_of_length-le}
-use Rattle.std.proofs.lemmas.List.{at_drop_more, length-drop, take_more, take_all}
-use Rattle.http_request.specs.Parts.{with_front, segments}
 
 joined-joined : (a b : List ℕ) (parts : List (List ℕ)) → with_front a (with_front b parts) ≡ with_front (a ++ b) parts
 joined-joined a b [] = refl

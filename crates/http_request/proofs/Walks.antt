@@ -1,11 +1,8 @@
 -- Which paths have a route: a walk of matchit over one part of a path.
-use Rattle.std.proofs.Common.{◌≡◌, ℕ, zero, suc, ◌-◌, ◌<◌, List, [], ◌∷◌, ◌++◌, length, drop, Option, Some}
-use Rattle.std.proofs.Common.{None, true, false, cond, ◌==◌, ltb, nat_eq, refl, ap, ◌∙◌, arith, length-append}
-use Rattle.std.specs.Prelude.{IsSome}
+use Rattle.http_request.proofs.Common.{◌≡◌, ℕ, zero, suc, ◌-◌, ◌<◌, List, [], ◌∷◌, ◌++◌, length, drop, Option, Some, None, true, false, cond, ◌==◌, ltb, nat_eq}
+use Rattle.http_request.proofs.Common.{refl, ap, ◌∙◌, arith, length-append, IsSome, and_right, nat_tests}
 use Rattle.std.specs.Cmp.Lexicographic.{pointwise}
 use Rattle.std.proofs.Math.Seq.{drop-append_seam}
-use Rattle.std.proofs.lemmas.Bool.{and_right}
-use Rattle.std.proofs.lemmas.Bool.Decides.{nat_tests}
 use Rattle.matchit.specs.Rows.{RowsOf, param_token}
 use Rattle.matchit.specs.Seek.{segment, has_slash, cuts, step, or_else, param_step, seek}
 

@@ -1,16 +1,11 @@
 -- When a request is whole, and what follows it.
-use Rattle.std.proofs.Common.{◌≡◌, ◌⊎◌, ℕ, ◌-◌, ◌<◌, ◌≤◌, ◌↔◌, inl, inr, List, ◌++◌, length, take, drop, sym, ap, ◌∙◌, arith}
-use Rattle.std.proofs.Common.{append_assoc, length-append}
-use Rattle.std.proofs.lemmas.List.{take-append-le, take-append-drop, length-drop}
-use Rattle.httparse.specs.declared.spans.HeaderSpan.{HeaderSpan}
-use Rattle.httparse.specs.Grammar.{RequestHead}
-use Rattle.http_request.specs.declared.front.Head.{Head}
+use Rattle.http_request.proofs.Common.{◌≡◌, ◌⊎◌, ℕ, ◌-◌, ◌<◌, ◌≤◌, ◌↔◌, inl, inr, List, ◌++◌, length, take, drop, sym, ap, ◌∙◌, arith, append_assoc}
+use Rattle.http_request.proofs.Common.{length-append, take-append-le, take-append-drop, length-drop, HeaderSpan, RequestHead, Head, IsFramed, IsOneRequest}
+use Rattle.http_request.proofs.Common.{IsRefusedHead, HasNoPiece, IsWhole, has_frame, endless, bad_head, IsHeadAt, IsFrontOf, OneReading, ReadsPlaces}
+use Rattle.http_request.proofs.Common.{WholeKeepsItsReading, BodyStays}
 use Rattle.http_request.specs.declared.front.Front.{Front}
 use Rattle.http_request.specs.declared.front.Front.TheVariants.{Refused, Asking}
-use Rattle.http_request.specs.Frame.{IsFramed, IsOneRequest, IsRefusedHead, HasNoPiece, IsWhole, has_frame, endless, bad_head}
-use Rattle.http_request.specs.Front.{IsHeadAt, IsFrontOf}
 use Rattle.http_request.specs.Words as words
-use Rattle.http_request.specs.Laws.{OneReading, ReadsPlaces, WholeKeepsItsReading, BodyStays}
 use Rattle.http_request.proofs.FrameLemmas.{Asks, asks_at, cut_frame, framed, no_piece, not_refused, only, same_asked, same_parts}
 
 -- if no head has ended within the limit, the bytes hold no whole request

@@ -1,9 +1,8 @@
 -- The one caveat that a text can be.
-use Rattle.std.proofs.Common.{◌≡◌, ◌≢◌, ℕ, List, [], ◌++◌, drop, refl, sym, ap, ◌∙◌, arith}
-use Rattle.std.specs.Prelude.{codes}
+use Rattle.pass_caveats.proofs.Common.{◌≡◌, ◌≢◌, ℕ, List, [], ◌++◌, drop, refl, sym, ap, ◌∙◌, arith, codes, Caveat, Facility, Kind, Hours, Days, Weekdays}
+use Rattle.pass_caveats.proofs.Common.{Until, Guests, Spend, Actions, comma_list, IsCaveat, caveat_text, Understood, candidate, actions_from, actions_of}
+use Rattle.pass_caveats.proofs.Common.{weekdays_from, weekdays_of}
 use Rattle.std.proofs.lemmas.Fmt.{decimal_is_IsNumeral}
-use Rattle.pass_caveats.specs.declared.caveat.Caveat.{Caveat}
-use Rattle.pass_caveats.specs.declared.caveat.Caveat.TheVariants.{Facility, Kind, Hours, Days, Weekdays, Until, Guests, Spend, Actions}
 use Rattle.club_values.specs.declared.kind.Kind.TheVariants.{Court, Boat, Room}
 use Rattle.club_values.specs.Day.{IsDay, day_text}
 use Rattle.club_values.specs.Action.{action_text}
@@ -12,14 +11,10 @@ use Rattle.pass_caveats.specs.declared.actions.Actions.{Actions as SomeActions}
 use Rattle.pass_caveats.specs.declared.weekdays.Weekdays.{Weekdays as SomeWeekdays}
 use Rattle.pass_caveats.specs.Actions.{all_actions, has_action, action_texts}
 use Rattle.pass_caveats.specs.Weekdays.{weekday_text, has_weekday, weekday_texts}
-use Rattle.pass_caveats.specs.Parts.{comma_list}
-use Rattle.pass_caveats.specs.Caveat.{IsCaveat, caveat_text, Understood}
 use Rattle.club_values.specs.computed.TextOf.{day_of}
-use Rattle.pass_caveats.specs.computed.CaveatOf.{candidate, actions_from, actions_of, weekdays_from, weekdays_of}
 use Rattle.club_values.proofs.GuessLemmas.{two_again, day_of-day_text, moment_of-moment_text}
 use Rattle.pass_caveats.proofs.PartLemmas.{names_again}
 use Rattle.pass_caveats.proofs.ChoiceLemmas.{AreWords, choice_again}
-use Rattle.std.proofs.Common.{arith}
 
 pub action_words : AreWords action_text all_actions
 action_words = record { distinct = refl; plain = refl }

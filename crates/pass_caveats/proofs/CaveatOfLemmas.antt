@@ -1,25 +1,15 @@
 -- The functions agree with the definitions.
-use Rattle.std.proofs.Common.{◌≡◌, ◌↔◌, ℕ, ◌+◌, Bool, true, false, List, [], ◌∷◌, ◌++◌, length, map, ◌⊎◌, Option, Some, None, inl, inr, refl, sym}
+use Rattle.pass_caveats.proofs.Common.{◌≡◌, ◌↔◌, ℕ, ◌+◌, Bool, true, false, List, [], ◌∷◌, ◌++◌, length, map, ◌⊎◌, Option, Some, None, inl, inr, refl, sym}
+use Rattle.pass_caveats.proofs.Common.{subst, ◌∙◌, arith, add-zero, option_or, All-head, All-tail, All-push, All-nil, All-cons, append-nil, Caveat, Ask}
+use Rattle.pass_caveats.proofs.Common.{CaveatFault, Understood, permits, candidate, spells, caveat_of, first_fault_from, first_fault_of, Allows, Allowed}
+use Rattle.pass_caveats.proofs.Common.{AreUnderstoodAs, IsUnknown, Denies, IsFaultAt, IsFirstFault, append_assoc}
 use Rattle.std.proofs.lemmas.Option.{cond_some}
 use Rattle.std.proofs.lemmas.Bool.{false_from_ne_true, both_ways}
-use Rattle.std.proofs.Common.{subst, ◌∙◌, arith, add-zero}
-use Rattle.std.specs.Option.{option_or}
-use Rattle.std.proofs.lemmas.List.Elements.{All-head, All-tail, All-push, All-nil, All-cons}
-use Rattle.std.proofs.lemmas.List.{append_assoc, append-nil}
-use Rattle.pass_caveats.specs.declared.caveat.Caveat.{Caveat}
-use Rattle.pass_caveats.specs.declared.ask.Ask.{Ask}
-use Rattle.pass_caveats.specs.declared.fault.CaveatFault.{CaveatFault}
+use Rattle.std.proofs.lemmas.List.{append_assoc}
 use Rattle.pass_caveats.specs.declared.fault.CaveatFault.TheVariants.{NotUnderstood, Denied}
 use Rattle.club_values.specs.Reading.{Reads}
-use Rattle.pass_caveats.specs.Caveat.{Understood}
-use Rattle.pass_caveats.specs.Tests.{permits}
-use Rattle.pass_caveats.specs.computed.CaveatOf.{candidate, spells, caveat_of}
-use Rattle.pass_caveats.specs.Fault.{first_fault_from, first_fault_of}
-use Rattle.pass_caveats.specs.Fault.{Allows, Allowed, AreUnderstoodAs, IsUnknown, Denies, IsFaultAt, IsFirstFault}
 use Rattle.pass_caveats.proofs.CandidateLemmas.{candidate-caveat_text}
 use Rattle.pass_caveats.proofs.DecisionLemmas.{Decides-spells, Decides-permits}
-use Rattle.std.proofs.Common.{arith, append_assoc}
-use Rattle.std.proofs.Common.{arith, append_assoc}
 
 pub caveat_of-understood : (text : List ℕ) (caveat : Caveat) → Understood text caveat → caveat_of text ≡ Some caveat
 unfolding caveat_of

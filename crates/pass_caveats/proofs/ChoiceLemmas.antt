@@ -1,23 +1,11 @@
 -- Some words of a list, in its order: how their text is parsed, word after word.
-use Rattle.std.proofs.Common.{◌≡◌, ◌≢◌, ℕ, ◌<◌, Bool, true, false, cond, List, [], ◌∷◌, ◌++◌, length, map, Option, Some, None, refl, sym, ap, ◌∙◌, arith}
+use Rattle.pass_caveats.proofs.Common.{◌≡◌, ◌≢◌, ℕ, ◌<◌, Bool, true, false, cond, List, [], ◌∷◌, ◌++◌, length, map, Option, Some, None, refl, sym, ap, ◌∙◌}
+use Rattle.pass_caveats.proofs.Common.{arith, Bor, ◌==◌, ◌&&◌, ◌||◌, not, filter, is_some, All, option_copied, list_all, length-map, append-nil, All-head}
+use Rattle.pass_caveats.proofs.Common.{All-tail, All-nil, All-cons, bytes_eq-Decides, comma_parts, comma_list, parts_left, Skips, is_next, after_next}
+use Rattle.pass_caveats.proofs.Common.{words_found, common_steps, nat_tests}
 use Rattle.std.proofs.lemmas.Bool.{cond_both}
-use Rattle.std.proofs.Common.{Bor}
-use Rattle.std.specs.Prelude.{◌==◌, ◌&&◌, ◌||◌, not, filter, is_some, All}
-use Rattle.std.specs.Option.{option_copied}
-use Rattle.std.specs.List.{list_all}
 use Rattle.std.specs.Str.{bytes_eq}
-use Rattle.std.proofs.lemmas.List.{length-map, append-nil}
-use Rattle.std.proofs.lemmas.List.Elements.{All-head, All-tail, All-nil, All-cons}
-use Rattle.std.proofs.lemmas.Slice.Eq.{bytes_eq-Decides}
-use Rattle.pass_caveats.specs.Parts.{comma_parts, comma_list, parts_left, Skips}
-use Rattle.pass_caveats.specs.computed.CaveatOf.{is_next, after_next, words_found}
 use Rattle.pass_caveats.proofs.PartLemmas.{HasNoComma, all_left, parts_of-joined, joined-parts_of, skip_leaves, skip_takes, some_part}
-use Rattle.std.proofs.Common.{arith}
-use Rattle.std.proofs.lemmas.Grind.{common_steps}
-use Rattle.std.proofs.lemmas.Bool.Decides.{nat_tests}
-use Rattle.std.proofs.Common.{arith}
-use Rattle.std.proofs.lemmas.Grind.{common_steps}
-use Rattle.std.proofs.lemmas.Bool.Decides.{nat_tests}
 
 -- the words whose flag is set
 abbrev chosen : List Bool → List (List ℕ) → List (List ℕ)

@@ -1,29 +1,15 @@
 -- The tests decide what they test.
-use Rattle.std.proofs.Common.{IsTrue, ◌↔◌, ◌≡◌, ◌≢◌, ℕ, ◌+◌, Bool, false, nat_lt, List, [], length, Option, Some, refl, arith, Decides, ap}
-use Rattle.std.specs.Prelude.{◌&&◌, Contains, IsSomeAnd, is_some}
-use Rattle.std.specs.List.{list_all, list_any}
-use Rattle.std.specs.Option.{option_map_or}
+use Rattle.pass_caveats.proofs.Common.{IsTrue, ◌↔◌, ◌≡◌, ◌≢◌, ℕ, ◌+◌, Bool, false, nat_lt, List, [], length, Option, Some, refl, arith, Decides, ap, ◌&&◌}
+use Rattle.pass_caveats.proofs.Common.{Contains, IsSomeAnd, is_some, list_all, list_any, option_map_or, same_from_decides, Decides-like, Decides-and}
+use Rattle.pass_caveats.proofs.Common.{Decides-or, Decides-ltb, Decides-eqb, Decides-by_and, Decides-by_or, at_from_Contains, bytes_eq-Decides, Caveat}
+use Rattle.pass_caveats.proofs.Common.{Facility, Kind, Hours, Days, Weekdays, Until, Guests, Spend, Actions, Ask, IsName, AreNames, IsCaveat, Understood}
+use Rattle.pass_caveats.proofs.Common.{Permits, is_kind, permits, is_caveat, spells, nat_tests}
 use Rattle.std.specs.Str.{bytes_eq}
-use Rattle.std.proofs.lemmas.Bool.Decides.{same_from_decides, Decides-like, Decides-and, Decides-or, Decides-ltb, Decides-eqb, Decides-by_and, Decides-by_or}
-use Rattle.std.proofs.lemmas.List.Elements.{at_from_Contains}
-use Rattle.std.proofs.lemmas.Slice.Eq.{bytes_eq-Decides}
-use Rattle.pass_caveats.specs.declared.caveat.Caveat.{Caveat}
-use Rattle.pass_caveats.specs.declared.caveat.Caveat.TheVariants.{Facility, Kind, Hours, Days, Weekdays, Until, Guests, Spend, Actions}
 use Rattle.club_values.specs.declared.kind.Kind.{Kind as AKind}
 use Rattle.club_values.specs.declared.slot.Slot.{Slot}
-use Rattle.pass_caveats.specs.declared.ask.Ask.{Ask}
-use Rattle.club_values.specs.Name.{IsName}
-use Rattle.pass_caveats.specs.Names.{AreNames}
-use Rattle.pass_caveats.specs.Caveat.{IsCaveat, Understood, Permits}
-use Rattle.pass_caveats.specs.Tests.{is_kind, permits}
 use Rattle.club_values.specs.computed.TextOf.{is_name}
 use Rattle.club_values.proofs.TestLemmas.{Decides-leb, Decides-is_name}
-use Rattle.pass_caveats.specs.computed.CaveatOf.{is_caveat, spells}
 use Rattle.pass_caveats.proofs.ChoiceLemmas.{some_of}
-use Rattle.std.proofs.Common.{arith}
-use Rattle.std.proofs.lemmas.Bool.Decides.{nat_tests}
-use Rattle.std.proofs.Common.{arith}
-use Rattle.std.proofs.lemmas.Bool.Decides.{nat_tests}
 
 Decides-are_names : (names : List (List ℕ)) → Decides (is_caveat (Facility names)) (AreNames names)
 Decides-are_names names =

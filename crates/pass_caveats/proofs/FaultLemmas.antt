@@ -1,14 +1,8 @@
 -- Lists of caveats.
-use Rattle.std.proofs.Common.{◌≡◌, ℕ, ◌+◌, ◌<◌, List, [], ◌∷◌, ◌++◌, length, get_or, take, drop, map, add-one, Vec, Some, sym, ap, arith}
-use Rattle.std.specs.Vec.{vec_items}
-use Rattle.std.proofs.lemmas.List.{take-append-drop, length-take-le}
-use Rattle.std.proofs.lemmas.List.Elements.{All-push}
+use Rattle.pass_caveats.proofs.Common.{◌≡◌, ℕ, ◌+◌, ◌<◌, List, [], ◌∷◌, ◌++◌, length, get_or, take, drop, map, add-one, Vec, Some, sym, ap, arith, vec_items}
+use Rattle.pass_caveats.proofs.Common.{take-append-drop, length-take-le, All-push, Ask, CaveatFault, Allows, Allowed, IsFaultAt, IsFirstAt, IsFirstFault}
+use Rattle.pass_caveats.proofs.Common.{common_steps}
 use Rattle.std.proofs.Math.Seq.{take-suc}
-use Rattle.pass_caveats.specs.declared.ask.Ask.{Ask}
-use Rattle.pass_caveats.specs.declared.fault.CaveatFault.{CaveatFault}
-use Rattle.pass_caveats.specs.Fault.{Allows, Allowed, IsFaultAt, IsFirstAt, IsFirstFault}
-use Rattle.std.proofs.Common.{arith}
-use Rattle.std.proofs.lemmas.Grind.{common_steps}
 
 pub text_at : {Z : Type 0} (vs : List (Vec ℕ Z)) (i : ℕ) (v : Vec ℕ Z) (text : List ℕ) → i < length vs → v ≡ get_or vs i v → text ≡ vec_items v →
     get_or (map vec_items vs) i [] ≡ text

@@ -1,14 +1,8 @@
 -- A caveat that isn't on the kind has the same fault for each kind.
-use Rattle.std.proofs.Common.{◌≡◌, ℕ, false, List, [], ◌∷◌, Option, Some}
+use Rattle.pass_caveats.proofs.Common.{◌≡◌, ℕ, false, List, [], ◌∷◌, Option, Some, Ask, Caveat, caveat_of, permits, first_fault_from, arith}
 use Rattle.club_values.specs.declared.kind.Kind.{Kind as AKind}
-use Rattle.pass_caveats.specs.declared.ask.Ask.{Ask}
-use Rattle.pass_caveats.specs.declared.caveat.Caveat.{Caveat}
 use Rattle.pass_caveats.specs.Kinds.{IsBlindToKind, at_kind, is_on_kind}
-use Rattle.pass_caveats.specs.computed.CaveatOf.{caveat_of}
-use Rattle.pass_caveats.specs.Tests.{permits}
-use Rattle.pass_caveats.specs.Fault.{first_fault_from}
 use Rattle.pass_caveats.proofs.CaveatOfLemmas.{finds_fault_at}
-use Rattle.std.proofs.Common.{arith}
 
 permits_alike : (caveat : Caveat) (ask : Ask) (kind : Option AKind) → is_on_kind (Some caveat) ≡ false
     → permits caveat (at_kind kind ask) ≡ permits caveat ask

@@ -1,3 +1,4 @@
+pub mod Common
 pub mod PartLemmas
 pub mod ChoiceLemmas
 pub mod LineLemmas

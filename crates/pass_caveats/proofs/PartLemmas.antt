@@ -1,25 +1,9 @@
 -- The parts of a list with commas.
-use Rattle.std.proofs.Common.{◌≡◌, ◌≢◌, ℕ, ◌+◌, ◌<◌, ◌≤◌, ◌↔◌, ◌-◌, Bool, true, false, cond, List, [], ◌∷◌, ◌++◌, length, get_or, take, drop, refl}
-use Rattle.std.proofs.Common.{ap, ◌∙◌, arith, IsTrue}
-use Rattle.std.proofs.lemmas.List.{take-append-drop}
-use Rattle.std.specs.Prelude.{All, Contains}
+use Rattle.pass_caveats.proofs.Common.{◌≡◌, ◌≢◌, ℕ, ◌+◌, ◌<◌, ◌≤◌, ◌↔◌, ◌-◌, Bool, true, false, cond, List, [], ◌∷◌, ◌++◌, length, get_or, take, drop, refl, ap}
+use Rattle.pass_caveats.proofs.Common.{◌∙◌, arith, IsTrue, take-append-drop, All, Contains, ◌==◌, HoldsAt, AllWithin, nat_tests, All-head, All-tail}
+use Rattle.pass_caveats.proofs.Common.{is_name_byte, IsName, AreNames, comma_parts, comma_list, Skips, is_next, after_next, bytes_eq-Decides, common_steps}
 use Rattle.std.specs.Bool.{MatchBool}
-use Rattle.std.specs.Prelude.{◌==◌}
-use Rattle.std.specs.List.{HoldsAt, AllWithin}
-use Rattle.std.proofs.lemmas.Bool.Decides.{nat_tests}
-use Rattle.std.proofs.lemmas.List.Elements.{All-head, All-tail}
 use Rattle.std.proofs.lemmas.List.Splits.{slice_split_none, slice_split_at, length-slice_split, join_with_byte-slice_split}
-use Rattle.club_values.specs.Name.{is_name_byte, IsName}
-use Rattle.pass_caveats.specs.Names.{AreNames}
-use Rattle.pass_caveats.specs.Parts.{comma_parts, comma_list, Skips}
-use Rattle.pass_caveats.specs.computed.CaveatOf.{is_next, after_next}
-use Rattle.std.proofs.lemmas.Slice.Eq.{bytes_eq-Decides}
-use Rattle.std.proofs.Common.{arith}
-use Rattle.std.proofs.lemmas.Grind.{common_steps}
-use Rattle.std.proofs.lemmas.Bool.Decides.{nat_tests}
-use Rattle.std.proofs.Common.{arith}
-use Rattle.std.proofs.lemmas.Grind.{common_steps}
-use Rattle.std.proofs.lemmas.Bool.Decides.{nat_tests}
 
 -- what `any` returns for the items that are x
 pub contains_from_any : (r : Bool) (xs : List (List ℕ)) (x : List ℕ) →

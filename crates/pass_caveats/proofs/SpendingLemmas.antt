@@ -1,26 +1,12 @@
 -- What was spent before changes the first fault of a list only under a spend limit, and only if something is owed.
-use Rattle.std.proofs.Common.{◌≡◌, ℕ, ◌+◌, ◌-◌, ◌≤◌, ◌==◌, ◌||◌, true, false, cond, nat_le, List, [], ◌∷◌}
-use Rattle.std.proofs.Common.{Option, Some, None, refl, subst, arith}
-use Rattle.std.specs.Prelude.{All, IfSome}
-use Rattle.std.proofs.lemmas.List.Elements.{All-head, All-tail}
-use Rattle.std.proofs.lemmas.Bool.Decides.{nat_tests}
-use Rattle.pass_caveats.specs.declared.ask.Ask.{Ask}
-use Rattle.pass_caveats.specs.declared.caveat.Caveat.{Caveat}
-use Rattle.pass_caveats.specs.declared.caveat.Caveat.TheVariants.{Spend}
+use Rattle.pass_caveats.proofs.Common.{◌≡◌, ℕ, ◌+◌, ◌-◌, ◌≤◌, ◌==◌, ◌||◌, true, false, cond, nat_le, List, [], ◌∷◌, Option, Some, None, refl, subst, arith, All}
+use Rattle.pass_caveats.proofs.Common.{IfSome, All-head, All-tail, nat_tests, Ask, Caveat, Spend, IsCaveat, Permits, Understood, permits, first_fault_from}
+use Rattle.pass_caveats.proofs.Common.{common_steps}
 use Rattle.pass_caveats.specs.declared.fault.CaveatFault.TheVariants.{Denied}
-use Rattle.pass_caveats.specs.Caveat.{IsCaveat, Permits, Understood}
-use Rattle.pass_caveats.specs.Tests.{permits}
-use Rattle.pass_caveats.specs.Fault.{first_fault_from}
 use Rattle.club_values.specs.Number.{number_limit}
 use Rattle.pass_caveats.specs.Spending.{HoldsWithin, IsWithin, LimitsNoMore, after_spending, slack_under}
 use Rattle.pass_caveats.proofs.CandidateLemmas.{one_caveat}
 use Rattle.pass_caveats.proofs.DecisionLemmas.{Decides-permits}
-use Rattle.std.proofs.Common.{arith}
-use Rattle.std.proofs.lemmas.Grind.{common_steps}
-use Rattle.std.proofs.lemmas.Bool.Decides.{nat_tests}
-use Rattle.std.proofs.Common.{arith}
-use Rattle.std.proofs.lemmas.Grind.{common_steps}
-use Rattle.std.proofs.lemmas.Bool.Decides.{nat_tests}
 
 -- a key that spent less is allowed at least as much
 permits_less : (caveat : Caveat) (ask : Ask) (less more : ℕ) → less ≤ more → permits caveat (after_spending more ask) ≡ true

@@ -1,25 +1,17 @@
 -- What decodes is a list of bytes.
-use Rattle.std.proofs.Common.{◌≡◌, ℕ, zero, suc, ◌+◌, ◌*◌, ◌/◌, ◌<◌, Bool, true, ltb, List, [], ◌∷◌, ◌++◌, length, take, drop, slice_index, refl}
-use Rattle.std.proofs.Common.{arith}
-use Rattle.std.specs.List.{list_all}
-use Rattle.std.proofs.lemmas.Bool.{lt-ltb}
-use Rattle.std.proofs.lemmas.List.{get_or-drop, take-append-drop}
+use Rattle.pass_forms.proofs.Common.{◌≡◌, ℕ, zero, suc, ◌+◌, ◌*◌, ◌/◌, ◌<◌, Bool, true, ltb, List, [], ◌∷◌, ◌++◌, length, take, drop, slice_index, refl, arith}
+use Rattle.pass_forms.proofs.Common.{list_all, lt-ltb, get_or-drop, take-append-drop, DecodeError, GeneralPurpose, IsBytes, decode_of, elements, nat_tests}
+use Rattle.pass_forms.proofs.Common.{IfOk}
 use Rattle.std.specs.declared.option.Option.{Option}
 use Rattle.std.specs.declared.option.Option.TheVariants.{None}
 use Rattle.std.specs.declared.result.Result.{Result}
 use Rattle.std.specs.declared.result.Result.TheVariants.{Ok, Err}
-use Rattle.base64.specs.declared.decode.DecodeError.{DecodeError}
 use Rattle.base64.specs.declared.engine.DecodePaddingMode.{DecodePaddingMode}
-use Rattle.base64.specs.declared.engine.general_purpose.GeneralPurpose.{GeneralPurpose}
 use Rattle.base64.specs.Decode.{IsDecodeTable, decode_error, decode_group, decode_outcome, decoded_bytes, group_bytes, group_error, groups_before_last}
 use Rattle.base64.specs.Decode.{groups_bytes, groups_error, no_leftover, push_leftover, scan_last, scan_steps, suffix_bytes}
-use Rattle.base64.specs.GeneralPurpose.{IsBytes, decode_of}
 use Rattle.base64.proofs.Decoding.{IsLeftover, IsLeftover_next}
 use Rattle.base64.proofs.EngineFacts.{decode_of_bytes, front_bytes}
 use Rattle.base64.proofs.Tables.{IsDecodeTable_from, are_tables_inverse}
-use Rattle.std.proofs.lemmas.Grind.{elements}
-use Rattle.std.proofs.lemmas.Bool.Decides.{nat_tests}
-use Rattle.std.specs.Result.{IfOk}
 use Rattle.base64.specs.Decode.{scan_bytes}
 
 abbrev TypeOf : {A : Type 0} → A → Type 0

@@ -1,27 +1,17 @@
 -- What is base64 of which bytes, and the engine that takes it off.
-use Rattle.std.proofs.Common.{◌≡◌, ℕ, ◌==◌, not, Bool, true, false, List, [], ◌∷◌, drop, map, refl, sym, ◌∙◌, inl, inr}
-use Rattle.std.proofs.lemmas.Bool.Decides.{Decides-eqb}
+use Rattle.pass_forms.proofs.Common.{◌≡◌, ℕ, ◌==◌, not, Bool, true, false, List, [], ◌∷◌, drop, map, refl, sym, ◌∙◌, inl, inr, Decides-eqb, list_all, result_ok}
+use Rattle.pass_forms.proofs.Common.{standard, url_safe, IsBytes, IsConsistent, IsStrict, decode_of, decoded_of, encode_of, engine_symbols, encode, DecodeError}
+use Rattle.pass_forms.proofs.Common.{GeneralPurpose, IsBase64, starts_with_brace, url_safe_no_pad, standard_no_pad, ◌⊎◌, arith}
 use Rattle.std.proofs.lemmas.Slice.Eq.{starts_is}
-use Rattle.std.specs.List.{list_all}
-use Rattle.std.specs.Result.{result_ok}
 use Rattle.std.specs.declared.option.Option.TheVariants.{Some}
 use Rattle.std.specs.declared.result.Result.{Result}
 use Rattle.std.specs.declared.result.Result.TheVariants.{Ok}
-use Rattle.base64.specs.Engines.{standard, url_safe}
-use Rattle.base64.specs.GeneralPurpose.{IsBytes, IsConsistent, IsStrict, decode_of, decoded_of, encode_of, engine_symbols}
-use Rattle.base64.specs.Rfc4648.{encode}
 use Rattle.base64.specs.Decode.{decoded_bytes}
 use Rattle.base64.specs.declared.engine.DecodePaddingMode.TheVariants.{Indifferent}
 use Rattle.base64.proofs.RoundTrip.{decode-encode}
-use Rattle.base64.specs.declared.decode.DecodeError.{DecodeError}
-use Rattle.base64.specs.declared.engine.general_purpose.GeneralPurpose.{GeneralPurpose}
 use Rattle.base64.proofs.EngineFacts.{decode_of-encode_of, decode_of_strict}
-use Rattle.pass_forms.specs.Envelope.{IsBase64, starts_with_brace}
 use Rattle.pass_forms.proofs.Base64Bytes.{decode_of_are_bytes}
 use Rattle.pass_forms.proofs.Base64Symbols.{encode_map, encode_passes, standard_symbol}
-use Rattle.base64.specs.Engines.{url_safe_no_pad, standard_no_pad}
-use Rattle.std.proofs.Common.{◌⊎◌}
-use Rattle.std.proofs.Common.{arith}
 
 -- the two alphabets
 abbrev standard_symbols : List ℕ

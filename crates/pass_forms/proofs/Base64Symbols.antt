@@ -1,13 +1,6 @@
 -- The symbols of an encoding: which bytes they are, and what they are in the standard alphabet.
-use Rattle.std.proofs.Common.{◌≡◌, ℕ, zero, suc, ◌+◌, ◌*◌, ◌/◌, ◌%◌, ◌==◌, if◌then◌else◌, Bool, true, List, [], ◌∷◌, replicate}
-use Rattle.std.proofs.Common.{slice_index, map, refl, ap}
-use Rattle.std.specs.List.{list_all}
-use Rattle.std.proofs.lemmas.Bool.{and_parts}
-use Rattle.base64.specs.Rfc4648.{encode, encode_symbols}
-use Rattle.std.proofs.Common.{arith}
-use Rattle.std.proofs.lemmas.Grind.{common_steps}
-use Rattle.std.proofs.Common.{arith}
-use Rattle.std.proofs.lemmas.Grind.{common_steps}
+use Rattle.pass_forms.proofs.Common.{◌≡◌, ℕ, zero, suc, ◌+◌, ◌*◌, ◌/◌, ◌%◌, ◌==◌, if◌then◌else◌, Bool, true, List, [], ◌∷◌, replicate, slice_index, map, refl}
+use Rattle.pass_forms.proofs.Common.{ap, list_all, and_parts, encode, encode_symbols, arith, common_steps}
 
 -- a test that 0 and each symbol of a table pass, at any place of the table
 passes_at : (p : ℕ → Bool) (t : List ℕ) (i : ℕ) → p 0 ≡ true → list_all p t ≡ true → p (slice_index t i) ≡ true

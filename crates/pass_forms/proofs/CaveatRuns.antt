@@ -1,11 +1,6 @@
 -- A scan over caveats one by one, in either layout: the caveats found so far and those left are the whole list.
-use Rattle.std.proofs.Common.{◌≡◌, ℕ, zero, suc, ◌+◌, Bool, ◌||◌, List, [], length, Option, Some, None, option_map, refl}
-use Rattle.std.proofs.Common.{arith}
-use Rattle.std.specs.List.{list_any}
-use Rattle.pass_forms.specs.computed.Caveats.{and_others, caveats_at, summary}
-use Rattle.pass_forms.specs.Pass.{WideCaveat, is_third_party}
-use Rattle.std.proofs.Common.{arith}
-use Rattle.std.proofs.Common.{arith}
+use Rattle.pass_forms.proofs.Common.{◌≡◌, ℕ, zero, suc, ◌+◌, Bool, ◌||◌, List, [], length, Option, Some, None, option_map, refl, arith, list_any, and_others}
+use Rattle.pass_forms.proofs.Common.{caveats_at, summary, WideCaveat, is_third_party}
 
 abbrev pub Reader : Type 0
 Reader = List ℕ → Option (WideCaveat × List ℕ)

@@ -1,14 +1,8 @@
 -- The caveats that are read are the caveats that were written, and the reverse, in either layout.
-use Rattle.std.proofs.Common.{◌≡◌, ℕ, zero, suc, ◌≤◌, List, [], ◌∷◌, ◌++◌, length, Some, None, refl, sym, ap, ◌∙◌, subst, arith}
-use Rattle.std.specs.List.{flat_map, AllByRecursion}
+use Rattle.pass_forms.proofs.Common.{◌≡◌, ℕ, zero, suc, ◌≤◌, List, [], ◌∷◌, ◌++◌, length, Some, None, refl, sym, ap, ◌∙◌, subst, arith, flat_map}
+use Rattle.pass_forms.proofs.Common.{AllByRecursion, length-append, and_others, caveats_at, WideCaveat, common_steps}
 use Rattle.std.proofs.lemmas.List.Concat.{flat_map-cons}
-use Rattle.std.proofs.lemmas.List.{length-append}
-use Rattle.pass_forms.specs.computed.Caveats.{and_others, caveats_at}
-use Rattle.pass_forms.specs.Pass.{WideCaveat}
 use Rattle.pass_forms.proofs.CaveatRuns.{Reader}
-use Rattle.std.proofs.Common.{arith}
-use Rattle.std.proofs.Common.{arith}
-use Rattle.std.proofs.lemmas.Grind.{common_steps}
 
 -- A layout reads the texts of the caveats that fit it, if what follows ends a caveat.
 pub record Exact (at : Reader) (text : WideCaveat → List ℕ) (Fits : WideCaveat → Type 0) (Ends : List ℕ → Type 0) : Type 0 where

@@ -1,21 +1,9 @@
 -- From one wide pass at most for each text to the one reading of it.
-use Rattle.std.proofs.Common.{◌≡◌, ◌↔◌, ℕ, ◌≤◌, Bool, false, cond, ltb, ◌||◌, List, [], ◌∷◌, length, map, Option, Some, None, Result}
-use Rattle.std.proofs.Common.{Ok, Err, refl, ap, subst, arith}
-use Rattle.std.specs.Prelude.{is_some}
-use Rattle.std.specs.List.{list_any}
-use Rattle.std.proofs.lemmas.List.{length-map}
-use Rattle.std.proofs.lemmas.Bool.{or_parts, le-ltb, lt-ltb}
-use Rattle.pass_forms.specs.declared.fault.FormFault.{FormFault}
-use Rattle.pass_forms.specs.declared.fault.FormFault.TheVariants.{TooLong, Malformed, ThirdParty, TooMany, Memory}
-use Rattle.pass_forms.specs.Laws.{ComputesSpelled, OnePassEach}
-use Rattle.pass_forms.specs.Pass.{Plain, WideCaveat, WidePass, is_third_party, has_third_party, widened_caveat, as_wide_pass, first_party_caveat, first_party}
-use Rattle.pass_forms.specs.Reading.{max_text_len, max_caveats, IsReadAs}
+use Rattle.pass_forms.proofs.Common.{◌≡◌, ◌↔◌, ℕ, ◌≤◌, Bool, false, cond, ltb, ◌||◌, List, [], ◌∷◌, length, map, Option, Some, None, Result, Ok, Err, refl, ap}
+use Rattle.pass_forms.proofs.Common.{subst, arith, is_some, list_any, length-map, or_parts, le-ltb, lt-ltb, FormFault, TooLong, Malformed, ThirdParty, TooMany}
+use Rattle.pass_forms.proofs.Common.{Memory, ComputesSpelled, OnePassEach, Plain, WideCaveat, WidePass, is_third_party, has_third_party, widened_caveat}
+use Rattle.pass_forms.proofs.Common.{as_wide_pass, first_party_caveat, first_party, max_text_len, max_caveats, IsReadAs, nat_tests, common_steps}
 use Rattle.pass_forms.specs.computed.Reading.{checked_if_any, reading_of}
-use Rattle.std.proofs.Common.{arith}
-use Rattle.std.proofs.lemmas.Bool.Decides.{nat_tests}
-use Rattle.std.proofs.Common.{arith}
-use Rattle.std.proofs.lemmas.Grind.{common_steps}
-use Rattle.std.proofs.lemmas.Bool.Decides.{nat_tests}
 
 -- ---- a wide pass with no third party's caveat is a pass
 

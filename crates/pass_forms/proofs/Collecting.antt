@@ -1,11 +1,6 @@
 -- A pass that is collected from the fields that were opened is the one that was read.
-use Rattle.std.proofs.Common.{◌≡◌, ℕ, List, [], ◌∷◌, ◌++◌, map, Result, Ok, sym, ap, ◌∙◌, append_assoc}
-use Rattle.std.proofs.lemmas.List.{append-nil}
-use Rattle.pass_forms.specs.declared.fault.FormFault.{FormFault}
-use Rattle.pass_forms.specs.FieldSource.{IsOpening, PassField, caveat_field, pass_fields, no_fields, opening_of, signature_field, with_fields}
-use Rattle.pass_forms.specs.Pass.{Plain}
-use Rattle.std.proofs.Common.{arith, append_assoc}
-use Rattle.std.proofs.Common.{arith, append_assoc}
+use Rattle.pass_forms.proofs.Common.{◌≡◌, ℕ, List, [], ◌∷◌, ◌++◌, map, Result, Ok, sym, ap, ◌∙◌, append_assoc, append-nil, FormFault, IsOpening, PassField}
+use Rattle.pass_forms.proofs.Common.{caveat_field, pass_fields, no_fields, opening_of, signature_field, with_fields, Plain, arith}
 
 -- An opening is right if the reading is.
 pub opens : (Reads : Result Plain FormFault → Type 0) (reading : Result Plain FormFault) (answer : Result (List PassField) FormFault) → Reads reading →

@@ -1,16 +1,6 @@
 -- A digit that is read is the digit that was written, and so are four of them.
-use Rattle.std.proofs.Common.{◌≡◌, ℕ, ◌+◌, ◌*◌, ◌^◌, ◌<◌, List, [], ◌∷◌, ◌++◌, Option, Some, None, refl, arith}
-use Rattle.std.proofs.lemmas.Bool.Decides.{nat_tests}
-use Rattle.std.proofs.lemmas.Option.{same_Some}
-use Rattle.pass_forms.specs.V1.{hex_digit, four_hex_digits}
-use Rattle.pass_forms.specs.computed.Parts.{◌>>=◌}
-use Rattle.pass_forms.specs.computed.V1Reading.{digit_value, len_at}
-use Rattle.std.proofs.Common.{arith}
-use Rattle.std.proofs.lemmas.Bool.Decides.{nat_tests}
-use Rattle.std.proofs.Common.{arith}
-use Rattle.std.proofs.lemmas.Bool.Decides.{nat_tests}
-use Rattle.std.proofs.Common.{arith}
-use Rattle.std.proofs.lemmas.Bool.Decides.{nat_tests}
+use Rattle.pass_forms.proofs.Common.{◌≡◌, ℕ, ◌+◌, ◌*◌, ◌^◌, ◌<◌, List, [], ◌∷◌, ◌++◌, Option, Some, None, refl, arith, nat_tests, same_Some, hex_digit}
+use Rattle.pass_forms.proofs.Common.{four_hex_digits, ◌>>=◌, digit_value, len_at}
 
 pub digit_again : (n : ℕ) → n < 16 → digit_value (hex_digit n) ≡ Some n
 digit_again n h = grind (arith, nat_tests)

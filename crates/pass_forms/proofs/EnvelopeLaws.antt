@@ -1,18 +1,10 @@
 -- What a text wraps, and the result of unwrapping it.
-use Rattle.std.proofs.Common.{◌≡◌, ◌↔◌, ◌≤◌, ℕ, false, List, length, refl, sym, subst, ◌∙◌, inl, inr, Result, Ok, Err, Option, None, Some, arith, rules}
+use Rattle.pass_forms.proofs.Common.{◌≡◌, ◌↔◌, ◌≤◌, ℕ, false, List, length, refl, sym, subst, ◌∙◌, inl, inr, Result, Ok, Err, Option, None, Some, arith, rules}
+use Rattle.pass_forms.proofs.Common.{cases_Bool, cases_lt, lt-ltb, le-ltb, FormFault, TooLong, Malformed, Form, IsBase64, IsUnwrapped, Wraps, form_of}
+use Rattle.pass_forms.proofs.Common.{starts_with_brace, from_base64, unwrapping, with_its_form, max_text_len, option_map}
 use Rattle.std.specs.Option.{ok_or, option_and_then}
-use Rattle.std.proofs.lemmas.Bool.{cases_Bool, cases_lt, lt-ltb, le-ltb}
-use Rattle.pass_forms.specs.declared.fault.FormFault.{FormFault}
-use Rattle.pass_forms.specs.declared.fault.FormFault.TheVariants.{TooLong, Malformed}
-use Rattle.pass_forms.specs.declared.form.Form.{Form}
-use Rattle.pass_forms.specs.Envelope.{IsBase64, IsUnwrapped, Wraps, form_of, starts_with_brace}
-use Rattle.pass_forms.specs.computed.Envelope.{from_base64, unwrapping, with_its_form}
-use Rattle.pass_forms.specs.Reading.{max_text_len}
 use Rattle.pass_forms.proofs.Base64Decoding.{from_base64_spells, spells_from_base64}
 use Rattle.pass_forms.proofs.Base64Spelling.{spelling_brace, spells_one}
-use Rattle.std.proofs.Common.{option_map}
-use Rattle.std.proofs.Common.{rules, arith}
-use Rattle.std.proofs.Common.{rules, arith}
 
 -- A text wraps one form and one list of bytes at most.
 pub wraps_one : (text : List ℕ) (f g : Form) (a b : List ℕ) → Wraps text f a → Wraps text g b → (f ≡ g) × (a ≡ b)

@@ -1,6 +1,5 @@
 -- The keys of V1's packets, by the names that lemmas give them.
-use Rattle.std.proofs.Common.{ℕ, List}
-use Rattle.std.specs.Prelude.{codes}
+use Rattle.pass_forms.proofs.Common.{ℕ, List, codes}
 
 abbrev pub location_key : List ℕ
 location_key = codes "location "

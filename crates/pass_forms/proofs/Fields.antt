@@ -1,19 +1,10 @@
 -- A field that is read is the field that was written, and what was written is read, whatever follows.
-use Rattle.std.proofs.Common.{◌≡◌, ℕ, zero, suc, ◌+◌, ◌-◌, ◌*◌, ◌/◌, ◌%◌, ◌^◌, ◌<◌, ◌≤◌, List, [], ◌∷◌, ◌++◌, length}
-use Rattle.std.proofs.Common.{Option, Some, None, refl, sym, ap, ◌∙◌, arith, inl, inr}
-use Rattle.std.proofs.lemmas.Bool.{cases_lt, lt-ltb, le-ltb}
-use Rattle.std.proofs.lemmas.Bool.Decides.{nat_tests}
-use Rattle.std.proofs.lemmas.List.{take-append-drop}
-use Rattle.pass_forms.specs.V2.{groups, varint, field, optional_field}
-use Rattle.pass_forms.specs.computed.V2Reading.{varint_up_to, counted_at, field_at, optional_at}
+use Rattle.pass_forms.proofs.Common.{◌≡◌, ℕ, zero, suc, ◌+◌, ◌-◌, ◌*◌, ◌/◌, ◌%◌, ◌^◌, ◌<◌, ◌≤◌, List, [], ◌∷◌, ◌++◌, length, Option, Some, None, refl, sym, ap}
+use Rattle.pass_forms.proofs.Common.{◌∙◌, arith, inl, inr, cases_lt, lt-ltb, le-ltb, nat_tests, take-append-drop, groups, varint, field, optional_field}
+use Rattle.pass_forms.proofs.Common.{varint_up_to, counted_at, field_at, common_steps}
+use Rattle.pass_forms.specs.computed.V2Reading.{optional_at}
 use Rattle.pass_forms.proofs.Packets.{after_prefix_takes, after_prefix_again}
 use Rattle.pass_forms.proofs.Varints.{varint_last, varint_more, above_some}
-use Rattle.std.proofs.Common.{arith}
-use Rattle.std.proofs.lemmas.Grind.{common_steps}
-use Rattle.std.proofs.lemmas.Bool.Decides.{nat_tests}
-use Rattle.std.proofs.Common.{arith}
-use Rattle.std.proofs.lemmas.Grind.{common_steps}
-use Rattle.std.proofs.lemmas.Bool.Decides.{nat_tests}
 
 -- ---- numbers
 

@@ -1,3 +1,4 @@
+pub mod Common
 pub mod FieldNames
 pub mod Varints
 pub mod Base64Bytes

@@ -1,19 +1,11 @@
 -- A packet that is read is the packet that was written, and what was written is read, whatever follows.
-use Rattle.std.proofs.Common.{◌≡◌, ℕ, ◌+◌, ◌-◌, ◌^◌, ◌<◌, ◌≤◌, ◌&&◌, leb, List, [], ◌∷◌, ◌++◌, length, take, drop, Some}
-use Rattle.std.proofs.Common.{None, refl, sym, ap, ◌∙◌, append_assoc, arith}
-use Rattle.std.proofs.lemmas.Bool.{and_parts, leb-true}
+use Rattle.pass_forms.proofs.Common.{◌≡◌, ℕ, ◌+◌, ◌-◌, ◌^◌, ◌<◌, ◌≤◌, ◌&&◌, leb, List, [], ◌∷◌, ◌++◌, length, take, drop, Some, None, refl, sym, ap, ◌∙◌}
+use Rattle.pass_forms.proofs.Common.{append_assoc, arith, and_parts, leb-true, cond_some, some_pair_parts, drop-take, take-take, take_at, drop_at}
+use Rattle.pass_forms.proofs.Common.{take-append-drop, length-append, length-take, length-drop, four_hex_digits, packet_len, packet, FitsPacket, after_prefix}
+use Rattle.pass_forms.proofs.Common.{before_suffix, len_at, packet_at, common_steps}
 use Rattle.std.proofs.Math.Seq.{take-append-add}
-use Rattle.std.proofs.lemmas.Option.{cond_some, some_pair_parts}
-use Rattle.std.proofs.lemmas.List.{drop-take, take-take, take_at, drop_at, take-append-drop, length-append, length-take, length-drop}
 use Rattle.std.proofs.lemmas.Slice.Eq.{bytes_eq-Decides}
-use Rattle.pass_forms.specs.V1.{four_hex_digits, packet_len, packet, FitsPacket}
-use Rattle.pass_forms.specs.computed.Parts.{after_prefix, before_suffix}
-use Rattle.pass_forms.specs.computed.V1Reading.{len_at, packet_at}
 use Rattle.pass_forms.proofs.Digits.{bind_some, len_takes, len_again}
-use Rattle.std.proofs.Common.{arith, append_assoc}
-use Rattle.std.proofs.lemmas.Grind.{common_steps}
-use Rattle.std.proofs.Common.{arith, append_assoc}
-use Rattle.std.proofs.lemmas.Grind.{common_steps}
 
 pub after_prefix_takes : (prefix bytes rest : List ℕ) → after_prefix prefix bytes ≡ Some rest → bytes ≡ prefix ++ rest
 after_prefix_takes prefix bytes rest e = grind (arith, common_steps, take-append-drop, bytes_eq-Decides)

@@ -1,7 +1,5 @@
 -- Caveats that are put one after the other.
-use Rattle.std.proofs.Common.{Vec, Global, ℕ, List, map, drop}
-use Rattle.std.specs.List.{flat_map}
-use Rattle.pass_forms.specs.Pass.{WideCaveat, widened_caveat}
+use Rattle.pass_forms.proofs.Common.{Vec, Global, ℕ, List, map, drop, flat_map, WideCaveat, widened_caveat}
 
 -- the bytes of the caveats from the i-th on, if each has this text
 abbrev pub left_from : (WideCaveat → List ℕ) → List (Vec ℕ Global) → ℕ → List ℕ

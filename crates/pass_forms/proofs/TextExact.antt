@@ -1,19 +1,12 @@
 -- The reading of a text in any form is exact, if the reading of bytes is.
-use Rattle.std.proofs.Common.{◌≡◌, ◌↔◌, ℕ, ◌≤◌, List, length, Option, Some, Result, Ok, Err, refl, sym, ap, subst, ◌∙◌, arith, rules}
-use Rattle.pass_forms.specs.declared.fault.FormFault.{FormFault}
-use Rattle.pass_forms.specs.declared.fault.FormFault.TheVariants.{TooLong, Malformed, ThirdParty, TooMany}
-use Rattle.pass_forms.specs.declared.form.Form.{Form}
-use Rattle.pass_forms.specs.Envelope.{Wraps, IsUnwrapped}
-use Rattle.pass_forms.specs.computed.Envelope.{unwrapping}
-use Rattle.pass_forms.specs.Pass.{Plain, WidePass, as_wide_pass}
-use Rattle.pass_forms.specs.Reading.{max_text_len, IsReadAs}
+use Rattle.pass_forms.proofs.Common.{◌≡◌, ◌↔◌, ℕ, ◌≤◌, List, length, Option, Some, Result, Ok, Err, refl, sym, ap, subst, ◌∙◌, arith, rules, FormFault, TooLong}
+use Rattle.pass_forms.proofs.Common.{Malformed, ThirdParty, TooMany, Form, Wraps, IsUnwrapped, unwrapping, Plain, WidePass, as_wide_pass, max_text_len}
+use Rattle.pass_forms.proofs.Common.{IsReadAs}
 use Rattle.pass_forms.specs.computed.Reading.{checked_if_any}
 use Rattle.pass_forms.specs.Text.{SpellsText, IsTextReading}
 use Rattle.pass_forms.specs.computed.Text.{in_form, reading_in, text_reading}
 use Rattle.pass_forms.proofs.EnvelopeLaws.{wraps_one, unwrapped_answers}
 use Rattle.pass_forms.proofs.Checking.{Computes, checked_if_any_is, checked_determined}
-use Rattle.std.proofs.Common.{rules, arith}
-use Rattle.std.proofs.Common.{rules, arith}
 
 abbrev Reader : Type 0
 Reader = Form → List ℕ → Option WidePass

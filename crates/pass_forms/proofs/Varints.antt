@@ -1,11 +1,6 @@
 -- Numbers in groups of seven bits, up to a bound.
-use Rattle.std.proofs.Common.{◌≡◌, ℕ, ◌+◌, ◌-◌, ◌*◌, ◌/◌, ◌<◌, ◌≤◌, List, ◌∷◌, length, Option, Some, None, refl, arith}
-use Rattle.std.proofs.lemmas.Bool.{lt-ltb, le-ltb}
-use Rattle.std.proofs.lemmas.Bool.Decides.{nat_tests}
-use Rattle.pass_forms.specs.computed.V2Reading.{above, varint_up_to}
-use Rattle.std.proofs.Common.{arith}
-use Rattle.std.proofs.lemmas.Grind.{common_steps}
-use Rattle.std.proofs.lemmas.Bool.Decides.{nat_tests}
+use Rattle.pass_forms.proofs.Common.{◌≡◌, ℕ, ◌+◌, ◌-◌, ◌*◌, ◌/◌, ◌<◌, ◌≤◌, List, ◌∷◌, length, Option, Some, None, refl, arith, lt-ltb, le-ltb, nat_tests, above}
+use Rattle.pass_forms.proofs.Common.{varint_up_to, common_steps}
 
 -- a byte with more after it
 pub varint_more : (most byte : ℕ) (rest : List ℕ) → byte ≤ most → 128 ≤ byte → byte < 256 →

@@ -1,8 +1,8 @@
 -- The result of a walk over the fields of a pass that compares its signature.
-use Rattle.std.proofs.Common.{◌≡◌, ℕ, List, [], ◌∷◌, ◌++◌, fold, map, Bool, false, refl}
+use Rattle.pass_forms.proofs.Common.{◌≡◌, ℕ, List, [], ◌∷◌, ◌++◌, fold, map, Bool, false, refl, PassField, caveat_field, signature_field, location_field}
+use Rattle.pass_forms.proofs.Common.{identifier_field}
 use Rattle.std.specs.Str.{bytes_eq}
 use Rattle.pass_mac.specs.Hmac.{hmac}
-use Rattle.pass_forms.specs.FieldSource.{PassField, caveat_field, signature_field, location_field, identifier_field}
 
 -- whether these fields end in the signature of a chain
 abbrev pub signed_in : List ℕ → List PassField → Bool

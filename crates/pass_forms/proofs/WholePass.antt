@@ -1,15 +1,7 @@
 -- From the parts that were found one after another to the whole pass.
-use Rattle.std.proofs.Common.{◌≡◌, ℕ, List, [], length, Option, Some}
-use Rattle.pass_forms.specs.computed.Caveats.{caveats_at, whole_at}
-use Rattle.pass_forms.specs.computed.Parts.{◌>>=◌, last_signature}
-use Rattle.pass_forms.specs.Pass.{WideCaveat, WidePass}
+use Rattle.pass_forms.proofs.Common.{◌≡◌, ℕ, List, [], length, Option, Some, caveats_at, whole_at, ◌>>=◌, last_signature, WideCaveat, WidePass, arith}
+use Rattle.pass_forms.proofs.Common.{common_steps, nat_tests}
 use Rattle.pass_forms.proofs.CaveatRuns.{Reader}
-use Rattle.std.proofs.Common.{arith}
-use Rattle.std.proofs.lemmas.Grind.{common_steps}
-use Rattle.std.proofs.lemmas.Bool.Decides.{nat_tests}
-use Rattle.std.proofs.Common.{arith}
-use Rattle.std.proofs.lemmas.Grind.{common_steps}
-use Rattle.std.proofs.lemmas.Bool.Decides.{nat_tests}
 
 -- the pass of a header, the caveats and a signature
 abbrev pub made : List ℕ × List ℕ × List ℕ → List WideCaveat → List ℕ → WidePass

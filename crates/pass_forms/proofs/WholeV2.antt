@@ -1,24 +1,15 @@
 -- A pass that is read from sections is the pass that they spell, and a pass that is spelled is read.
-use Rattle.std.proofs.Common.{◌≡◌, ℕ, ◌≤◌, List, [], ◌∷◌, ◌++◌, length, Option, Some, None, refl, sym, ap, subst, ◌∙◌, append_assoc, arith}
+use Rattle.pass_forms.proofs.Common.{◌≡◌, ℕ, ◌≤◌, List, [], ◌∷◌, ◌++◌, length, Option, Some, None, refl, sym, ap, subst, ◌∙◌, append_assoc, arith, flat_map}
+use Rattle.pass_forms.proofs.Common.{AllByRecursion, append-nil, length-append, caveats_at, WideCaveat, WidePass, field, optional_field, end_of_section}
+use Rattle.pass_forms.proofs.Common.{caveat_section, types, sections, SpellsV2, field_at, footer_at, reading_v2, ComputesSpelled, ReadsExactly, common_steps}
 use Rattle.std.specs.Prelude.{unwrap_or}
-use Rattle.std.specs.List.{flat_map, AllByRecursion}
-use Rattle.std.proofs.lemmas.List.{append-nil, length-append}
-use Rattle.pass_forms.specs.computed.Caveats.{caveats_at}
-use Rattle.pass_forms.specs.Pass.{WideCaveat, WidePass}
-use Rattle.pass_forms.specs.V2.{field, optional_field, end_of_section, caveat_section, types}
-use Rattle.pass_forms.specs.V2.{sections, SpellsV2, types}
-use Rattle.pass_forms.specs.computed.V2Reading.{field_at, caveat_at, header_at, footer_at, wide_at, reading_v2}
+use Rattle.pass_forms.specs.computed.V2Reading.{caveat_at, header_at, wide_at}
 use Rattle.pass_forms.proofs.CaveatTexts.{Exact, caveats_take, caveats_again, caveats_fit}
 use Rattle.pass_forms.proofs.Digits.{bind_some}
 use Rattle.pass_forms.proofs.Fields.{field_takes, field_again, optional_takes, optional_again}
 use Rattle.pass_forms.proofs.Packets.{after_prefix_takes}
-use Rattle.pass_forms.specs.Laws.{ComputesSpelled, ReadsExactly}
 use Rattle.pass_forms.proofs.Checking.{exactly}
 use Rattle.pass_forms.proofs.WholePass.{last_takes, made, whole_parts, whole_again}
-use Rattle.std.proofs.Common.{arith}
-use Rattle.std.proofs.lemmas.Grind.{common_steps}
-use Rattle.std.proofs.Common.{arith, append_assoc}
-use Rattle.std.proofs.lemmas.Grind.{common_steps}
 
 -- ---- caveats
 

@@ -1,18 +1,10 @@
 -- The bytes that are written of a pass are bytes, where its parts are.
-use Rattle.std.proofs.Common.{◌≡◌, ℕ, zero, suc, ◌+◌, ◌/◌, ◌%◌, ◌^◌, ◌<◌, ◌≤◌, true, ltb, List, [], ◌∷◌, ◌++◌, map, refl, arith, inl, inr}
-use Rattle.std.specs.List.{AllByRecursion, flat_map, list_all}
-use Rattle.std.proofs.lemmas.Bool.{cases_lt, lt-ltb, le-ltb}
-use Rattle.std.proofs.lemmas.Bool.Decides.{nat_tests}
-use Rattle.base64.specs.GeneralPurpose.{IsBytes}
-use Rattle.pass_forms.specs.Pass.{Plain, as_wide_pass, widened_caveat}
-use Rattle.pass_forms.specs.V1.{FitsPackets, FitsCaveat, FitsPacket, caveat_packets, four_hex_digits, hex_digit}
-use Rattle.pass_forms.specs.V1.{packet}
-use Rattle.pass_forms.specs.V2.{caveat_section, end_of_section, field, groups, optional_field, varint, types}
-use Rattle.pass_forms.specs.Writing.{HasBytes, nonempty_location, v1_bytes, v2_bytes}
+use Rattle.pass_forms.proofs.Common.{◌≡◌, ℕ, zero, suc, ◌+◌, ◌/◌, ◌%◌, ◌^◌, ◌<◌, ◌≤◌, true, ltb, List, [], ◌∷◌, ◌++◌, map, refl, arith, inl, inr}
+use Rattle.pass_forms.proofs.Common.{AllByRecursion, flat_map, list_all, cases_lt, lt-ltb, le-ltb, nat_tests, IsBytes, Plain, as_wide_pass, widened_caveat}
+use Rattle.pass_forms.proofs.Common.{FitsPackets, FitsCaveat, FitsPacket, caveat_packets, four_hex_digits, hex_digit, packet, caveat_section, end_of_section}
+use Rattle.pass_forms.proofs.Common.{field, groups, optional_field, varint, types, HasBytes, nonempty_location, v1_bytes, v2_bytes, rules}
 use Rattle.pass_forms.proofs.FieldNames.{caveat_key, identifier_key, location_key, signature_key}
 use Rattle.pass_forms.proofs.Base64Bytes.{append_is_bytes, bytes_from_passes, nil_is_bytes, one_more}
-use Rattle.std.proofs.Common.{rules, arith}
-use Rattle.std.proofs.lemmas.Bool.Decides.{nat_tests}
 
 -- ---- V1
 

@@ -1,20 +1,10 @@
 -- The base64 text of a pass, in either form of its bytes.
-use Rattle.std.proofs.Common.{◌≡◌, ◌↔◌, ℕ, ◌≤◌, Bool, true, false, cond, ltb, List, length, Some, Result, Ok, Err, refl, arith}
-use Rattle.std.specs.Prelude.{IfErr, IfOk, IsOk, MatchResult}
-use Rattle.std.proofs.lemmas.Bool.{ltb-false, ltb-true}
-use Rattle.base64.specs.GeneralPurpose.{IsBytes}
-use Rattle.pass_forms.specs.declared.fault.FormFault.{FormFault}
-use Rattle.pass_forms.specs.declared.fault.FormFault.TheVariants.{TooLong, TooMany, Memory}
-use Rattle.pass_forms.specs.declared.form.Form.{Form}
-use Rattle.pass_forms.specs.Envelope.{form_of}
-use Rattle.pass_forms.specs.Pass.{Plain, WidePass, as_wide_pass}
-use Rattle.pass_forms.specs.Putting.{buffer_len}
-use Rattle.pass_forms.specs.Reading.{max_caveats, max_text_len}
-use Rattle.pass_forms.specs.Writing.{FailsAs, IsReadBack, IsWriteFault, IsWriting, IsTextBy, IsWritableText, in_base64}
-use Rattle.pass_forms.specs.computed.Writing.{writing_of}
+use Rattle.pass_forms.proofs.Common.{◌≡◌, ◌↔◌, ℕ, ◌≤◌, Bool, true, false, cond, ltb, List, length, Some, Result, Ok, Err, refl, arith, IsOk, MatchResult}
+use Rattle.pass_forms.proofs.Common.{ltb-false, ltb-true, IsBytes, FormFault, TooLong, TooMany, Memory, Form, form_of, Plain, WidePass, as_wide_pass}
+use Rattle.pass_forms.proofs.Common.{buffer_len, max_caveats, max_text_len, FailsAs, IsReadBack, IsWriteFault, IsWriting, IsTextBy, IsWritableText, in_base64}
+use Rattle.pass_forms.proofs.Common.{writing_of}
+use Rattle.std.proofs.Common.{IfErr, IfOk}
 use Rattle.pass_forms.proofs.WrittenTexts.{bytes_fit, unwraps}
-use Rattle.std.proofs.Common.{arith}
-use Rattle.std.proofs.Common.{arith}
 
 -- A form: the bytes of a pass, and which bytes spell a pass.
 pub record BytesForm : Type 1 where

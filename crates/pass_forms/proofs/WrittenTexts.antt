@@ -1,22 +1,7 @@
 -- The text that is written of a pass: how long it is, and that it is read back, whatever the form.
-use Rattle.std.proofs.Common.{◌≡◌, ℕ, ◌<◌, ◌≤◌, List, length, Ok, Err, Some, arith}
-use Rattle.std.proofs.lemmas.List.{append-nil}
-use Rattle.base64.specs.Engines.{url_safe_no_pad}
-use Rattle.base64.specs.GeneralPurpose.{IsBytes, engine_symbols}
-use Rattle.base64.specs.Rfc4648.{unpadded_len}
+use Rattle.pass_forms.proofs.Common.{◌≡◌, ℕ, ◌<◌, ◌≤◌, List, length, Ok, Err, Some, arith, append-nil, url_safe_no_pad, IsBytes, engine_symbols, unpadded_len}
+use Rattle.pass_forms.proofs.Common.{TooLong, Form, IsUnwrapped, form_of, Plain, buffer_len, max_caveats, max_text_len, in_base64, writing_of, nat_tests}
 use Rattle.base64.proofs.RoundTrip.{length-encode_symbols}
-use Rattle.pass_forms.specs.declared.fault.FormFault.TheVariants.{TooLong}
-use Rattle.pass_forms.specs.declared.form.Form.{Form}
-use Rattle.pass_forms.specs.Envelope.{IsUnwrapped, form_of}
-use Rattle.pass_forms.specs.Pass.{Plain}
-use Rattle.pass_forms.specs.Putting.{buffer_len}
-use Rattle.pass_forms.specs.Reading.{max_caveats, max_text_len}
-use Rattle.pass_forms.specs.Writing.{in_base64}
-use Rattle.pass_forms.specs.computed.Writing.{writing_of}
-use Rattle.std.proofs.Common.{arith}
-use Rattle.std.proofs.lemmas.Bool.Decides.{nat_tests}
-use Rattle.std.proofs.Common.{arith}
-use Rattle.std.proofs.lemmas.Bool.Decides.{nat_tests}
 
 length-in_base64 : (bytes : List ℕ) → length (in_base64 bytes) ≡ unpadded_len (length bytes)
 length-in_base64 bytes = rw append-nil (length-encode_symbols (engine_symbols url_safe_no_pad) bytes)

@@ -1,24 +1,13 @@
 -- What is written of a pass in V1.
-use Rattle.std.proofs.Common.{◌≡◌, ◌↔◌, ℕ, ◌/◌, ◌<◌, ◌≤◌, List, [], ◌∷◌, length, map, Result, Some, refl, arith}
-use Rattle.std.specs.List.{flat_map, AllByRecursion}
-use Rattle.std.proofs.lemmas.Bool.Decides.{nat_tests}
-use Rattle.pass_forms.specs.declared.fault.FormFault.{FormFault}
+use Rattle.pass_forms.proofs.Common.{◌≡◌, ◌↔◌, ℕ, ◌/◌, ◌<◌, ◌≤◌, List, [], ◌∷◌, length, map, Result, Some, refl, arith, flat_map, AllByRecursion, nat_tests}
+use Rattle.pass_forms.proofs.Common.{FormFault, form_of, form_of_byte, Plain, as_wide_pass, widened_caveat, buffer_len, FitsPackets, FitsCaveat, FitsPacket}
+use Rattle.pass_forms.proofs.Common.{SpellsV1, caveat_packets, hex_digit, packet, packet_len, packets_of, HasBytes, IsReadBack, IsV1Text, IsWritableText}
+use Rattle.pass_forms.proofs.Common.{IsWriting, v1_bytes, writing_v1, common_steps}
 use Rattle.pass_forms.specs.declared.form.Form.TheVariants.{V1}
-use Rattle.pass_forms.specs.Envelope.{form_of, form_of_byte}
-use Rattle.pass_forms.specs.Pass.{Plain, as_wide_pass, widened_caveat}
-use Rattle.pass_forms.specs.Putting.{buffer_len}
-use Rattle.pass_forms.specs.V1.{FitsPackets, FitsCaveat, FitsPacket, SpellsV1, caveat_packets, hex_digit, packet}
-use Rattle.pass_forms.specs.V1.{packet_len}
-use Rattle.pass_forms.specs.V1.{packets_of}
-use Rattle.pass_forms.specs.Writing.{HasBytes, IsReadBack, IsV1Text, IsWritableText, IsWriting, v1_bytes}
-use Rattle.pass_forms.specs.computed.Writing.{writing_v1}
 use Rattle.pass_forms.proofs.FieldNames.{location_key}
 use Rattle.pass_forms.proofs.Packets.{length-packet}
 use Rattle.pass_forms.proofs.WrittenBytes.{v1_is_bytes}
 use Rattle.pass_forms.proofs.WrittenForm.{BytesForm, exact, reads_back}
-use Rattle.std.proofs.Common.{arith}
-use Rattle.std.proofs.lemmas.Grind.{common_steps}
-use Rattle.std.proofs.lemmas.Bool.Decides.{nat_tests}
 
 fits_packet : (key bytes : List ℕ) → length (packet key bytes) ≤ buffer_len → FitsPacket key bytes
 fits_packet key bytes h = grind (arith, length-packet)

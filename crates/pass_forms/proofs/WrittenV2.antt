@@ -1,16 +1,10 @@
 -- What is written of a pass in V2.
-use Rattle.std.proofs.Common.{◌≡◌, ◌↔◌, ℕ, List, [], length, Result, Some, refl}
+use Rattle.pass_forms.proofs.Common.{◌≡◌, ◌↔◌, ℕ, List, [], length, Result, Some, refl, FormFault, form_of, Plain, as_wide_pass, SpellsV2, HasBytes, IsReadBack}
+use Rattle.pass_forms.proofs.Common.{IsV2Text, IsWritableText, IsWriting, nonempty_location, v2_bytes, writing_v2, arith}
 use Rattle.std.specs.Prelude.{unwrap_or}
-use Rattle.pass_forms.specs.declared.fault.FormFault.{FormFault}
 use Rattle.pass_forms.specs.declared.form.Form.TheVariants.{V2}
-use Rattle.pass_forms.specs.Envelope.{form_of}
-use Rattle.pass_forms.specs.Pass.{Plain, as_wide_pass}
-use Rattle.pass_forms.specs.V2.{SpellsV2}
-use Rattle.pass_forms.specs.Writing.{HasBytes, IsReadBack, IsV2Text, IsWritableText, IsWriting, nonempty_location, v2_bytes}
-use Rattle.pass_forms.specs.computed.Writing.{writing_v2}
 use Rattle.pass_forms.proofs.WrittenBytes.{v2_is_bytes}
 use Rattle.pass_forms.proofs.WrittenForm.{BytesForm, exact, reads_back}
-use Rattle.std.proofs.Common.{arith}
 
 nonempty_is : (location : List ℕ) → unwrap_or (nonempty_location location) [] ≡ location
 nonempty_is location = grind arith

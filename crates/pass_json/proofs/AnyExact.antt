@@ -1,21 +1,12 @@
 -- The reading of a text in any form is exact.
-use Rattle.std.proofs.Common.{◌≡◌, ◌↔◌, ℕ, List, length, Some, Result, Ok, Err}
-use Rattle.pass_forms.specs.declared.fault.FormFault.{FormFault}
-use Rattle.pass_forms.specs.declared.form.Form.{Form}
-use Rattle.pass_forms.specs.Pass.{Plain, WidePass}
+use Rattle.pass_json.proofs.Common.{◌≡◌, ◌↔◌, ℕ, List, length, Some, Result, Ok, Err, FormFault, Form, Plain, WidePass, ReadsTextsExactly, ComputesSpelled}
+use Rattle.pass_json.proofs.Common.{SpellsForm, IsAnyReading, OneReadingEachText, reading, wide_in, SpellsJson, wide_json, arith}
 use Rattle.pass_forms.specs.Text.{SpellsText, IsTextReading}
-use Rattle.pass_forms.specs.Laws.{ReadsTextsExactly, ComputesSpelled}
 use Rattle.pass_forms.specs.V1.{SpellsV1}
 use Rattle.pass_forms.specs.computed.V1Reading as v1
 use Rattle.pass_forms.specs.V2.{SpellsV2}
 use Rattle.pass_forms.specs.computed.V2Reading as v2
-use Rattle.pass_json.specs.AnyForm.{SpellsForm, IsAnyReading}
-use Rattle.pass_json.specs.Laws.{OneReadingEachText}
-use Rattle.pass_json.specs.computed.AnyForm.{reading, wide_in}
-use Rattle.pass_json.specs.Json.{SpellsJson}
-use Rattle.pass_json.specs.computed.JsonReading.{wide_json}
 use Rattle.pass_json.proofs.SameReading.{same_answer}
-use Rattle.std.proofs.Common.{arith}
 
 abbrev Relation : Type 1
 Relation = Form → List ℕ → WidePass → Type 0

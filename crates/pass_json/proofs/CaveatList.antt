@@ -1,18 +1,9 @@
 -- The caveats of a list, read one after another.
-use Rattle.std.proofs.Common.{◌≡◌, ℕ, ◌+◌, ◌<◌, ◌≤◌, Bool, ◌||◌, List, [], ◌∷◌, ◌++◌, length, drop, get_or, Option, Some}
-use Rattle.std.proofs.Common.{None}
-use Rattle.std.specs.Option.{option_map}
-use Rattle.pass_forms.specs.declared.fault.FormFault.{FormFault}
+use Rattle.pass_json.proofs.Common.{◌≡◌, ℕ, ◌+◌, ◌<◌, ◌≤◌, Bool, ◌||◌, List, [], ◌∷◌, ◌++◌, length, drop, get_or, Option, Some, None, option_map, FormFault}
+use Rattle.pass_json.proofs.Common.{WideCaveat, Items, item, items_view, view, caveat_from, caveats_of, kept_caveat, kept_caveats, RefusesPart, arith}
+use Rattle.pass_json.proofs.Common.{common_steps}
 use Rattle.pass_forms.specs.computed.Parts.{◌>>=◌}
-use Rattle.pass_forms.specs.Pass.{WideCaveat}
-use Rattle.serde_json.specs.Data.{Items, item}
-use Rattle.serde_json.specs.View.{items_view, view}
 use Rattle.serde_json.specs.declared.value.Value.{Value}
-use Rattle.pass_json.specs.computed.JsonReading.{caveat_from, caveats_of, kept_caveat, kept_caveats, RefusesPart}
-use Rattle.std.proofs.Common.{arith}
-use Rattle.std.proofs.lemmas.Grind.{common_steps}
-use Rattle.std.proofs.Common.{arith}
-use Rattle.std.proofs.lemmas.Grind.{common_steps}
 
 -- what is kept of all caveats
 abbrev pub kept_of : Items → Option (List (List ℕ) × Bool)

@@ -1,17 +1,8 @@
 -- A field, computed, is what is spelled.
-use Rattle.std.proofs.Common.{◌≡◌, ℕ, List, Option, Some, None, refl, sym, ap, subst, ◌⊎◌}
-use Rattle.std.proofs.Common.{inl, inr}
-use Rattle.std.specs.Option.{option_map}
-use Rattle.serde_json.specs.Data.{Data, string, object, Members}
-use Rattle.serde_json.specs.Find.{get, as_str}
-use Rattle.pass_forms.specs.Laws.{FromBase64IsBase64}
-use Rattle.pass_forms.specs.Envelope.{IsBase64}
+use Rattle.pass_json.proofs.Common.{◌≡◌, ℕ, List, Option, Some, None, refl, sym, ap, subst, ◌⊎◌, inl, inr, option_map, Data, string, object, Members, get}
+use Rattle.pass_json.proofs.Common.{as_str, FromBase64IsBase64, IsBase64, IsField, decoded_text, field_bytes, field_from, must_have, arith}
 use Rattle.pass_forms.specs.computed.Envelope.{from_base64}
 use Rattle.pass_forms.specs.computed.Parts.{◌>>=◌}
-use Rattle.pass_json.specs.Json.{IsField}
-use Rattle.pass_json.specs.computed.JsonReading.{decoded_text, field_bytes, field_from, must_have}
-use Rattle.std.proofs.Common.{arith}
-use Rattle.std.proofs.Common.{arith}
 
 pub bound : {A B : Type 0} (o : Option A) (f : A → Option B) (b : B) → (o >>= f) ≡ Some b → (a : A) × (o ≡ Some a) × (f a ≡ Some b)
 bound None f b e = absurd cc

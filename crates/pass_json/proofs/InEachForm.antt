@@ -1,17 +1,8 @@
 -- A text written in one form, as the definitions for any form see it.
-use Rattle.std.proofs.Common.{◌≡◌, ◌↔◌, ℕ, List, length, Result, Ok}
-use Rattle.pass_forms.specs.declared.fault.FormFault.{FormFault}
-use Rattle.pass_forms.specs.declared.form.Form.{Form}
-use Rattle.pass_forms.specs.declared.form.Form.TheVariants.{V1, V2, Json}
-use Rattle.pass_forms.specs.Pass.{Plain}
-use Rattle.pass_forms.specs.Writing.{FailsAs, HasBytes, IsReadBack, IsWritableText, IsWriting, v1_bytes, v2_bytes}
-use Rattle.pass_forms.specs.Laws.{TextsReadBack, WritesExactly}
-use Rattle.pass_json.specs.AnyForm.{IsAnyReading, IsTextIn, SpellsForm}
-use Rattle.pass_json.specs.computed.AnyForm.{writing}
-use Rattle.pass_json.specs.Laws.{JsonReadsBack, WritesJsonExactly}
-use Rattle.pass_json.specs.JsonWriting.{MayFailAs}
+use Rattle.pass_json.proofs.Common.{◌≡◌, ◌↔◌, ℕ, List, length, Result, Ok, FormFault, Form, V1, V2, Json, Plain, FailsAs, HasBytes, IsReadBack, IsWritableText}
+use Rattle.pass_json.proofs.Common.{IsWriting, v1_bytes, v2_bytes, TextsReadBack, WritesExactly, IsAnyReading, IsTextIn, SpellsForm, writing, JsonReadsBack}
+use Rattle.pass_json.proofs.Common.{WritesJsonExactly, MayFailAs, arith}
 use Rattle.pass_json.proofs.Wrapped.{reads_back}
-use Rattle.std.proofs.Common.{arith}
 
 -- what is read back of a text is its reading
 pub back_from : (form : Form) (bytes : List ℕ) (pass : Plain) (text : List ℕ) → IsReadBack (SpellsForm form) form bytes pass text →

@@ -1,27 +1,15 @@
 -- What is computed of JSON is what it spells.
-use Rattle.std.proofs.Common.{◌≡◌, ◌↔◌, ℕ, Bool, true, cond, eqb, ◌&&◌, List, [], ◌∷◌, codes, length, Option, Some, None, Result, refl, sym, ap, subst}
-use Rattle.std.proofs.Common.{◌∙◌}
-use Rattle.std.specs.Option.{unwrap_or}
-use Rattle.std.specs.Str.{IsUtf8, is_utf8}
-use Rattle.std.proofs.lemmas.Bool.{and_parts, eq-eqb, eqb-true}
+use Rattle.pass_json.proofs.Common.{◌≡◌, ◌↔◌, ℕ, Bool, true, cond, eqb, ◌&&◌, List, [], ◌∷◌, codes, length, Option, Some, None, Result, refl, sym, ap, subst}
+use Rattle.pass_json.proofs.Common.{◌∙◌, unwrap_or, IsUtf8, is_utf8, and_parts, eq-eqb, eqb-true, IsUtf8-from_is_utf8, is_utf8-from_IsUtf8, Data, array, object}
+use Rattle.pass_json.proofs.Common.{Items, no_items, item, Members, get, as_array, read, FormFault, FromBase64IsBase64, AnswersExactly, Plain, WideCaveat}
+use Rattle.pass_json.proofs.Common.{WidePass, IsReadAs, HasOnly, IsCaveatObject, AreCaveats, IsCaveatList, IsVersion, IsPass, SpellsJson, caveat_names}
+use Rattle.pass_json.proofs.Common.{pass_names, field_from, must_have, has_only_names, caveat_from, caveats_of, caveat_list, is_version, of_length}
+use Rattle.pass_json.proofs.Common.{signature_from, pass_from, value_of, wide_json, reading_json, arith}
 use Rattle.std.proofs.lemmas.Option.{cond_some}
-use Rattle.std.proofs.lemmas.Str.{IsUtf8-from_is_utf8, is_utf8-from_IsUtf8}
-use Rattle.serde_json.specs.Data.{Data, array, object, Items, no_items, item, Members}
-use Rattle.serde_json.specs.Find.{get, as_array}
-use Rattle.serde_json.specs.Read.{read}
-use Rattle.pass_forms.specs.declared.fault.FormFault.{FormFault}
-use Rattle.pass_forms.specs.Laws.{FromBase64IsBase64, AnswersExactly}
-use Rattle.pass_forms.specs.Pass.{Plain, WideCaveat, WidePass}
-use Rattle.pass_forms.specs.Reading.{IsReadAs}
-use Rattle.pass_json.specs.Json.{HasOnly, IsCaveatObject, AreCaveats, IsCaveatList, IsVersion, IsPass, SpellsJson, caveat_names, pass_names}
-use Rattle.pass_json.specs.computed.JsonReading.{field_from, must_have, has_only_names, caveat_from, caveats_of, caveat_list, is_version, of_length}
-use Rattle.pass_json.specs.computed.JsonReading.{signature_from, pass_from, value_of, wide_json, reading_json}
 use Rattle.pass_json.proofs.SameReading.{same_answer}
 use Rattle.pass_json.proofs.FieldExact.{bound, field_takes, field_again, required_takes, required_again, is_object}
 use Rattle.pass_json.proofs.NamesExact.{has_only_takes, has_only_again}
-use Rattle.std.proofs.Common.{arith}
 use Rattle.std.proofs.lemmas.Bool.Decides.{nat_tests}
-use Rattle.std.proofs.Common.{arith}
 use Rattle.std.proofs.lemmas.Bool.Decides.{nat_tests}
 
 has_only_of : (names : List (List ℕ)) (value : Data) (found : (members : Members) × (value ≡ object members)) → HasOnly names value →

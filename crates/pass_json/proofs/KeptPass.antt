@@ -1,15 +1,8 @@
 -- What the reader keeps of an object is what it keeps of the pass.
-use Rattle.std.proofs.Common.{◌≡◌, ℕ, Bool, true, List, [], codes, length, map, Option, Some}
-use Rattle.std.specs.List.{list_any}
-use Rattle.std.specs.Option.{option_map, unwrap_or}
-use Rattle.serde_json.specs.Data.{Data}
-use Rattle.serde_json.specs.Find.{get}
-use Rattle.pass_forms.specs.Pass.{WideCaveat, is_third_party, first_party_caveat}
+use Rattle.pass_json.proofs.Common.{◌≡◌, ℕ, Bool, true, List, [], codes, length, map, Option, Some, list_any, option_map, unwrap_or, Data, get, WideCaveat}
+use Rattle.pass_json.proofs.Common.{is_third_party, first_party_caveat, pass_names, field_from, has_only_names, is_version, kept_caveats, caveat_list}
+use Rattle.pass_json.proofs.Common.{pass_from, must_have, signature_from, arith, common_steps}
 use Rattle.pass_forms.specs.computed.Reading.{pass_summary}
-use Rattle.pass_json.specs.Json.{pass_names}
-use Rattle.pass_json.specs.computed.JsonReading.{field_from, has_only_names, is_version, kept_caveats, caveat_list, pass_from, must_have, signature_from}
-use Rattle.std.proofs.Common.{arith}
-use Rattle.std.proofs.lemmas.Grind.{common_steps}
 
 were_kept : (found : Option (List WideCaveat)) (identifiers : List (List ℕ)) (third_party : Bool) →
     option_map kept_caveats found ≡ Some (identifiers, third_party)

@@ -1,15 +1,10 @@
 -- The names of a map's entries are those of the object's members.
-use Rattle.std.proofs.Common.{◌≡◌, ℕ, List, [], ◌∷◌, map, Bor, refl}
-use Rattle.std.specs.List.{list_all, list_any}
+use Rattle.pass_json.proofs.Common.{◌≡◌, ℕ, List, [], ◌∷◌, map, Bor, refl, list_all, list_any, bytes_eq, members_view, only_among, arith}
 use Rattle.std.specs.Map.{keys_of}
-use Rattle.std.specs.Str.{bytes_eq}
 use Rattle.std.specs.String.{string_bytes}
 use Rattle.std.specs.declared.alloc.Global.{Global}
 use Rattle.std.specs.declared.string.String.{String}
-use Rattle.serde_json.specs.View.{members_view}
 use Rattle.serde_json.specs.declared.value.Value.{Value}
-use Rattle.pass_json.specs.computed.JsonReading.{only_among}
-use Rattle.std.proofs.Common.{arith}
 
 one_among : (key : List ℕ) (names : List (Bor (List ℕ))) →
     list_any (λ name. bytes_eq key name.now) names ≡ list_any (bytes_eq key) (map (λ name. name.now) names)

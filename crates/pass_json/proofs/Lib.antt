@@ -1,3 +1,4 @@
+pub mod Common
 pub mod KnownNames
 pub mod CaveatList
 pub mod SameReading

@@ -1,7 +1,7 @@
 -- The text of a value is read back as the value, and is UTF-8 if its strings are.
-use Rattle.std.proofs.Common.{◌≡◌, ℕ, ◌≤◌, ◌++◌, Bool, true, false, List, [], ◌∷◌, Option, option_and_then, refl, sym, ap, subst, ◌∙◌, append-nil, append_assoc}
-use Rattle.std.specs.Str.{IsUtf8}
-use Rattle.std.proofs.lemmas.Str.{IsUtf8-append}
+use Rattle.pass_json.proofs.Common.{◌≡◌, ℕ, ◌≤◌, ◌++◌, Bool, true, false, List, [], ◌∷◌, Option, option_and_then, refl, sym, ap, subst, ◌∙◌, append-nil}
+use Rattle.pass_json.proofs.Common.{append_assoc, IsUtf8, IsUtf8-append, Data, null, boolean, number, string, array, object, Items, no_items, item, Members}
+use Rattle.pass_json.proofs.Common.{no_members, member, max_depth, of_json, read, comma_if, compact_text, items_text, members_text, number_text, outline}
 use Rattle.json.specs.Json.{Json, if_last, value}
 use Rattle.json.specs.Lex.{tokens}
 use Rattle.json.specs.Print.{quoted}
@@ -11,12 +11,7 @@ use Rattle.json.specs.Tree as tree
 use Rattle.json.proofs.Printed.Tokens.{tokens-print}
 use Rattle.json.proofs.Printed.Trees.{ArePrintable-json_tokens, value-json_tokens}
 use Rattle.json.proofs.Printed.Utf8.{IsUtf8-are_ascii, IsUtf8-boolean, IsUtf8-key, IsUtf8-quoted}
-use Rattle.serde_json.specs.Data.{Data, null, boolean, number, string, array, object, Items, no_items, item, Members, no_members, member}
-use Rattle.serde_json.specs.Read.{max_depth, of_json, read}
-use Rattle.serde_json.specs.Written.{comma_if, compact_text, items_text, members_text, number_text, outline}
 use Rattle.serde_json.proofs.Texts.{print-outline}
-use Rattle.std.proofs.Common.{append_assoc}
-use Rattle.std.proofs.Common.{append_assoc}
 
 -- what follows the grammar's reading
 abbrev of_parsed : Option (Json × List Token) → Option Data

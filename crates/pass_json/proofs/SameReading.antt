@@ -1,9 +1,5 @@
 -- Two spellings of the same pass have the same reading, by texts that are both within the limit or both above it.
-use Rattle.std.proofs.Common.{ℕ, ◌<◌, ◌≤◌, Result}
-use Rattle.pass_forms.specs.declared.fault.FormFault.{FormFault}
-use Rattle.pass_forms.specs.Pass.{Plain, WidePass}
-use Rattle.pass_forms.specs.Reading.{IsReadAs, UnlessMemory, max_text_len}
-use Rattle.std.proofs.Common.{arith}
+use Rattle.pass_json.proofs.Common.{ℕ, ◌<◌, ◌≤◌, Result, FormFault, Plain, WidePass, IsReadAs, UnlessMemory, max_text_len, arith}
 
 abbrev pub Spelling : Type 1
 Spelling = WidePass → Type 0

@@ -1,18 +1,9 @@
 -- The reading of a text by what it wraps.
-use Rattle.std.proofs.Common.{◌≡◌, ◌↔◌, ℕ, ◌≤◌, List, length, Result, Ok, Err, ◌⊎◌, inl, inr, arith}
-use Rattle.pass_forms.specs.declared.fault.FormFault.{FormFault}
-use Rattle.pass_forms.specs.declared.fault.FormFault.TheVariants.{TooLong, Malformed}
-use Rattle.pass_forms.specs.declared.form.Form.{Form}
-use Rattle.pass_forms.specs.declared.form.Form.TheVariants.{Json}
-use Rattle.pass_forms.specs.Envelope.{IsUnwrapped, Wraps}
-use Rattle.pass_forms.specs.Laws.{WrapsOne}
-use Rattle.pass_forms.specs.Pass.{Plain, WidePass, as_wide_pass}
-use Rattle.pass_forms.specs.Reading.{IsReadAs, max_text_len}
+use Rattle.pass_json.proofs.Common.{◌≡◌, ◌↔◌, ℕ, ◌≤◌, List, length, Result, Ok, Err, ◌⊎◌, inl, inr, arith, FormFault, TooLong, Malformed, Form, Json}
+use Rattle.pass_json.proofs.Common.{IsUnwrapped, Wraps, WrapsOne, Plain, WidePass, as_wide_pass, IsReadAs, max_text_len, IsAnyReading, IsReadingInForm}
+use Rattle.pass_json.proofs.Common.{MayRunOut, SpellsForm}
 use Rattle.pass_forms.specs.Text.{SpellsText}
-use Rattle.pass_json.specs.AnyForm.{IsAnyReading, IsReadingInForm, MayRunOut, SpellsForm}
 use Rattle.pass_json.proofs.SameReading.{Spelling, same_answer}
-use Rattle.std.proofs.Common.{arith}
-use Rattle.std.proofs.Common.{arith}
 
 -- what the envelope refuses
 pub refused_wrapping : (text : List ℕ) (fault : FormFault) → IsUnwrapped text (Err fault) → IsAnyReading text (Err fault)

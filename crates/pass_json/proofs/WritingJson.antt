@@ -1,20 +1,11 @@
 -- What the writer of JSON answers, and that its text is read back.
-use Rattle.std.proofs.Common.{◌≡◌, ◌↔◌, ℕ, Bool, cond, ltb, List, length, Result, Ok, Err, refl}
+use Rattle.pass_json.proofs.Common.{◌≡◌, ◌↔◌, ℕ, Bool, cond, ltb, List, length, Result, Ok, Err, refl, FormFault, TooLong, TooMany, Json, FromBase64IsBase64}
+use Rattle.pass_json.proofs.Common.{Plain, max_caveats, max_text_len, HasBytes, IsReadBack, IsWritableText, IsWriting, SpellsJson, IsJsonText, IsRefusedJson}
+use Rattle.pass_json.proofs.Common.{MayFailAs, json_text, WritesJsonExactly, arith}
 use Rattle.std.specs.Result.{IfErr, IfOk, MatchResult, OnOk}
-use Rattle.pass_forms.specs.declared.fault.FormFault.{FormFault}
-use Rattle.pass_forms.specs.declared.fault.FormFault.TheVariants.{TooLong, TooMany}
-use Rattle.pass_forms.specs.declared.form.Form.TheVariants.{Json}
-use Rattle.pass_forms.specs.Laws.{FromBase64IsBase64}
-use Rattle.pass_forms.specs.Pass.{Plain}
-use Rattle.pass_forms.specs.Reading.{max_caveats, max_text_len}
-use Rattle.pass_forms.specs.Writing.{HasBytes, IsReadBack, IsWritableText, IsWriting}
-use Rattle.pass_json.specs.Json.{SpellsJson}
-use Rattle.pass_json.specs.JsonWriting.{IsJsonText, IsRefusedJson, MayFailAs, json_text}
-use Rattle.pass_json.specs.Laws.{WritesJsonExactly}
 use Rattle.pass_json.specs.computed.JsonWriting.{writing_json}
 use Rattle.pass_json.proofs.WritingOnce.{one_writing_for_each_form}
 use Rattle.pass_json.proofs.WrittenJson.{spells_json, starts_json}
-use Rattle.std.proofs.Common.{arith}
 use Rattle.std.proofs.lemmas.Bool.Decides.{nat_tests}
 
 abbrev answer_by : Bool → Bool → List ℕ → Result (List ℕ) FormFault

@@ -1,27 +1,15 @@
 -- What is written of a pass in JSON spells it, and is read back.
-use Rattle.std.proofs.Common.{◌≡◌, ℕ, Bool, true, false, eqb, List, [], ◌∷◌, length, map, Option, Some, None, refl, ap, ◌∙◌, arith}
-use Rattle.std.specs.List.{AllByRecursion}
-use Rattle.std.specs.Str.{IsUtf8, is_utf8}
-use Rattle.std.proofs.lemmas.Bool.{eq-eqb}
+use Rattle.pass_json.proofs.Common.{◌≡◌, ℕ, Bool, true, false, eqb, List, [], ◌∷◌, length, map, Option, Some, None, refl, ap, ◌∙◌, arith, AllByRecursion}
+use Rattle.pass_json.proofs.Common.{IsUtf8, is_utf8, eq-eqb, IsBytes, encode_of, object, Items, no_members, read, FromBase64IsBase64, starts_with_brace, Plain}
+use Rattle.pass_json.proofs.Common.{WideCaveat, as_wide_pass, widened_caveat, HasBytes, SpellsJson, caveat_from, caveats_of, field_from, has_only_names}
+use Rattle.pass_json.proofs.Common.{pass_from, caveat_object, caveat_objects, json_text, object_of}
 use Rattle.base64.specs.Engines.{url_safe_no_pad}
-use Rattle.base64.specs.GeneralPurpose.{IsBytes, encode_of}
-use Rattle.serde_json.specs.Data.{object, Items, no_members}
-use Rattle.serde_json.specs.Read.{read}
-use Rattle.pass_forms.specs.Laws.{FromBase64IsBase64}
-use Rattle.pass_forms.specs.Envelope.{starts_with_brace}
 use Rattle.pass_forms.specs.computed.Envelope.{from_base64}
-use Rattle.pass_forms.specs.Pass.{Plain, WideCaveat, as_wide_pass, widened_caveat}
-use Rattle.pass_forms.specs.Writing.{HasBytes}
-use Rattle.pass_json.specs.Json.{SpellsJson}
-use Rattle.pass_json.specs.computed.JsonReading.{caveat_from, caveats_of, field_from, has_only_names, pass_from}
-use Rattle.pass_json.specs.JsonWriting.{caveat_object, caveat_objects, json_text, object_of}
 use Rattle.pass_json.proofs.JsonExact.{pass_takes}
 use Rattle.pass_json.proofs.ObjectOf.{FieldText, caveat_is, identified, object_is, object_is_fine, object_reads, field_text}
 use Rattle.pass_json.proofs.ObjectOf.{text_by_test}
 use Rattle.pass_json.proofs.ObjectOf.{location_text, whole}
 use Rattle.pass_json.proofs.ReadsText.{reads_text, utf8_text}
-use Rattle.std.proofs.Common.{arith}
-use Rattle.std.proofs.Common.{arith}
 
 -- ---- the members hold the parts of the pass
 

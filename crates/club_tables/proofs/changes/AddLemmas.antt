@@ -1,57 +1,20 @@
 -- What the statements make of the tables that insert a row, or put the row of a slot or of an older root.
-use Rattle.std.proofs.Common.{pos, List, [], map, ◌∷◌, ◌++◌, refl, sym, subst, ◌≡◌, ◌≢◌, ◌≤◌, ℕ, ◌/◌, ℤ, true, false, if◌then◌else◌, Some, Option, length, ap}
-use Rattle.std.proofs.Common.{◌∙◌, Bool, filter, slice_get, None, unwrap_or, find, cond}
-use Rattle.std.specs.Prelude.{AllPairs, option_map}
-use Rattle.std.specs.List.{AllByRecursion}
-use Rattle.std.specs.Str.{bytes_eq}
-use Rattle.std.proofs.lemmas.Slice.Eq.{bytes_eq-Decides}
-use Rattle.std.proofs.Math.Bool.{and-true, or-false}
-use Rattle.sqlite_tied.specs.Compute.{everything}
-use Rattle.sqlite_value.specs.declared.value.Value.TheVariants.{Null, Int, Text}
-use Rattle.sqlite.specs.Table.{Table}
-use Rattle.sqlite.specs.Term.{Term, lit, col, op2, eval_all}
-use Rattle.sqlite.specs.Source.TheVariants.{Values}
-use Rattle.sqlite.specs.Command.TheVariants.{Insert}
-use Rattle.sqlite.specs.Listing.{understood}
-use Rattle.sqlite_value.specs.declared.value.Value.{Value}
-use Rattle.sqlite_sql.specs.declared.ops.BinaryOp.TheVariants.{Arith}
-use Rattle.sqlite_sql.specs.declared.ops.ArithOp.TheVariants.{Add}
-use Rattle.sqlite_sql.specs.Ops.{binary}
-use Rattle.sqlite.specs.Order.{Row, column}
-use Rattle.sqlite.specs.Tree.{rowid}
+use Rattle.club_tables.proofs.Common.{pos, List, [], map, ◌∷◌, ◌++◌, refl, sym, subst, ◌≡◌, ◌≢◌, ◌≤◌, ℕ, ◌/◌, ℤ, true, false, if◌then◌else◌, Some, Option}
+use Rattle.club_tables.proofs.Common.{length, ap, ◌∙◌, Bool, filter, slice_get, None, find, cond, AllPairs, option_map, AllByRecursion, bytes_eq}
+use Rattle.club_tables.proofs.Common.{bytes_eq-Decides, and-true, or-false, everything, Null, Int, Text, Table, Term, lit, col, op2, eval_all, Values, Insert}
+use Rattle.club_tables.proofs.Common.{understood, Value, Arith, Add, binary, Row, column, rowid, cast, cast_row, next_rowid, shown, value_rows, command_of}
+use Rattle.club_tables.proofs.Common.{first_key, conflicts, Database, works, Enforced, All-contains_itself, recursion_from_All, arith, truth, Member, Facility}
+use Rattle.club_tables.proofs.Common.{Key, Booking, Slot, same_slot, SlotUse, OlderRoot, MemberRow, ADD_MEMBER, ADD_FACILITY, ADD_KEY, ADD_BOOKING, CLOSE_SLOT}
+use Rattle.club_tables.proofs.Common.{ADD_TAKEN, PUT_OLDER_ROOT, members_table, facilities_table, keys_table, bookings_table, club_schema, slots_table}
+use Rattle.club_tables.proofs.Common.{old_roots_table, whole, member_values, facility_values, key_values, booking_values, flag, name_values, use_values}
+use Rattle.club_tables.proofs.Common.{slot_values, older_root_values, older_values, Rows, SlotRow, no_slot_use, OlderRow, older_by, stored_slot_use, row_of}
+use Rattle.club_tables.proofs.Common.{Holds, members_tree, facilities_tree, keys_tree, bookings_tree, HoldsRows, slots_tree, olders_tree}
+use Rattle.std.proofs.Common.{unwrap_or}
 use Rattle.sqlite.specs.Kind.TheVariants.{Integer}
-use Rattle.sqlite.specs.Cast.{cast, cast_row}
-use Rattle.sqlite.specs.Edit.{next_rowid}
-use Rattle.sqlite.specs.Rows.{shown}
-use Rattle.sqlite.specs.Effect.{value_rows}
-use Rattle.sqlite.proofs.Callers.{command_of}
-use Rattle.sqlite_value.specs.Keys.{first_key}
-use Rattle.sqlite_rules.specs.Keys.{conflicts}
-use Rattle.sqlite.specs.Effect.{Database}
-use Rattle.sqlite_rules.specs.Action.{works}
-use Rattle.sqlite_schema.specs.declared.schema.Keys.TheVariants.{Enforced}
-use Rattle.std.proofs.lemmas.List.Elements.{All-contains_itself, recursion_from_All}
 use Rattle.club_tables.proofs.statements.PassLemmas.{contains_counts}
 use Rattle.club_tables.proofs.statements.SelectLemmas.{one_passes}
 use Rattle.club_tables.proofs.statements.MeansLemmas.{Wrote}
 use Rattle.club_tables.proofs.lists.KeyedRows.{absent}
-use Rattle.std.proofs.Common.{arith}
-use Rattle.club_rows.specs.Columns.{truth}
-use Rattle.club_rows.specs.declared.member.Member.{Member}
-use Rattle.club_rows.specs.declared.facility.Facility.{Facility}
-use Rattle.club_rows.specs.declared.key.Key.{Key}
-use Rattle.club_rows.specs.declared.booking.Booking.{Booking}
-use Rattle.club_values.specs.declared.slot.Slot.{Slot}
-use Rattle.club_rows.specs.Booking.{same_slot}
-use Rattle.club_core.specs.declared.slot_use.SlotUse.{SlotUse}
-use Rattle.club_rows.specs.declared.key.OlderRoot.{OlderRoot}
-use Rattle.club_tables.specs.declared.row.MemberRow.{MemberRow}
-use Rattle.club_tables.specs.declared.texts.TheConstants.{ADD_MEMBER, ADD_FACILITY, ADD_KEY, ADD_BOOKING, CLOSE_SLOT, ADD_TAKEN, PUT_OLDER_ROOT}
-use Rattle.club_tables.specs.Schema.{members_table, facilities_table, keys_table, bookings_table, club_schema, slots_table, old_roots_table}
-use Rattle.club_tables.specs.Columns.{whole, member_values, facility_values, key_values, booking_values, flag, name_values, use_values, slot_values}
-use Rattle.club_tables.specs.Columns.{older_root_values, older_values}
-use Rattle.club_tables.specs.Stored.{Rows, SlotRow, no_slot_use, OlderRow, older_by, stored_slot_use, row_of}
-use Rattle.club_tables.specs.Tables.{Holds, members_tree, facilities_tree, keys_tree, bookings_tree, HoldsRows, slots_tree, olders_tree}
 use Rattle.club_tables.proofs.statements.MeansLemmas.{Means, on_members, on_facilities, on_keys, on_bookings, Steps, on_slots, on_olders}
 use Rattle.club_tables.proofs.statements.InsertLemmas.{inserts, cast_null, cast_int}
 use Rattle.club_tables.proofs.lists.RowLemmas.{holds_more}

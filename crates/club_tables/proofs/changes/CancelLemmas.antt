@@ -1,44 +1,11 @@
 -- What the statement that cancels a booking makes of the tables, and the rows of the club after it, as they are stored.
-use Rattle.std.proofs.lemmas.Bool.{cases_Bool}
-use Rattle.std.proofs.Common.{inl, inr}
-use Rattle.std.proofs.Common.{rules}
-use Rattle.std.proofs.Common.{◌≡◌, ℕ, ◌≤◌, pos, Some, Bool, true, false, ◌||◌, List, [], ◌∷◌, ◌++◌, map, refl, sym, ap, subst, ◌∙◌, All}
-use Rattle.std.proofs.Common.{arith, ◌+◌, ◌-◌, if◌then◌else◌, Contains}
-use Rattle.std.specs.Cmp.{unsigned_Decides}
-use Rattle.std.proofs.lemmas.Slice.Eq.{bytes_eq-Decides}
-use Rattle.std.proofs.lemmas.Bool.{and_parts}
-use Rattle.std.proofs.Math.Bool.{or-true, or-false}
-use Rattle.std.specs.List.{list_all, AllByRecursion}
-use Rattle.std.specs.Str.{bytes_eq}
-use Rattle.std.proofs.lemmas.List.{length-map, get_or-map}
-use Rattle.sqlite_tied.specs.Compute.{everything}
-use Rattle.sqlite_value.specs.declared.value.Value.TheVariants.{Int, Text}
-use Rattle.sqlite_value.specs.declared.keys.Collation.TheVariants.{Binary}
-use Rattle.sqlite_sql.specs.declared.ops.BinaryOp.TheVariants.{Compare}
-use Rattle.sqlite_sql.specs.declared.ops.CompareOp.TheVariants.{Eq}
-use Rattle.sqlite_sql.specs.Ops.{binary, is_true}
-use Rattle.sqlite.specs.Order.{Row}
-use Rattle.sqlite.specs.Term.{Term, lit, col, holds}
-use Rattle.sqlite.specs.Query.{inner, end}
-use Rattle.sqlite.specs.Command.TheVariants.{Update}
-use Rattle.sqlite.specs.Listing.{understood}
-use Rattle.club_rows.specs.Columns.{truth}
-use Rattle.club_rows.specs.declared.booking.Booking.{Booking}
-use Rattle.club_core.specs.After.{cancelled_booking, is_marked}
-use Rattle.club_core.specs.Sums.{booking_under, is_in, taken_in, cost_of}
-use Rattle.club_values.specs.declared.slot.Slot.{Slot}
-use Rattle.club_rows.specs.declared.member.Member.{Member}
-use Rattle.club_rows.specs.Booking.{same_slot, persons_of}
-use Rattle.club_core.specs.Club.{Club, IsSound, is_key_of}
-use Rattle.club_rows.specs.Rows.{IsBooking}
-use Rattle.club_core.specs.Store.{IsOwnedBy, IsToCancel}
-use Rattle.club_tables.specs.declared.texts.TheConstants.{CANCEL_BOOKING}
-use Rattle.club_tables.specs.Schema.{club_schema}
-use Rattle.club_tables.specs.Columns.{whole, booking_values}
-use Rattle.club_tables.specs.Statements.{select, is_given}
-use Rattle.club_tables.specs.Stored.{Rows, member_row, used_by}
-use Rattle.club_tables.specs.Tables.{bookings_tree}
-use Rattle.club_tables.specs.declared.row.MemberRow.{MemberRow}
+use Rattle.club_tables.proofs.Common.{cases_Bool, inl, inr, rules, ◌≡◌, ℕ, ◌≤◌, pos, Some, Bool, true, false, ◌||◌, List, [], ◌∷◌, ◌++◌, map, refl, sym, ap}
+use Rattle.club_tables.proofs.Common.{subst, ◌∙◌, All, arith, ◌+◌, ◌-◌, if◌then◌else◌, Contains, unsigned_Decides, bytes_eq-Decides, and_parts, or-true}
+use Rattle.club_tables.proofs.Common.{or-false, list_all, AllByRecursion, bytes_eq, length-map, get_or-map, everything, Int, Text, Binary, Compare, Eq, binary}
+use Rattle.club_tables.proofs.Common.{is_true, Row, Term, lit, col, holds, inner, end, Update, understood, truth, Booking, cancelled_booking, is_marked}
+use Rattle.club_tables.proofs.Common.{booking_under, is_in, taken_in, cost_of, Slot, Member, same_slot, persons_of, Club, IsSound, is_key_of, IsBooking}
+use Rattle.club_tables.proofs.Common.{IsOwnedBy, IsToCancel, CANCEL_BOOKING, club_schema, whole, booking_values, select, is_given, Rows, member_row, used_by}
+use Rattle.club_tables.proofs.Common.{bookings_tree, MemberRow}
 use Rattle.club_tables.proofs.statements.MeansLemmas.{Means, on_bookings, Steps}
 use Rattle.club_tables.proofs.statements.InsertLemmas.{cast_int}
 use Rattle.club_tables.proofs.statements.PassLemmas.{found, Implies}

@@ -1,42 +1,11 @@
 -- What the statements that change a row of a member or of a key make of the tables.
-use Rattle.std.proofs.Common.{rules}
-use Rattle.std.proofs.Common.{◌≡◌, ◌+◌, ◌≤◌, ℕ, ℤ, pos, Ok, Some, Bool, true, ◌&&◌, if◌then◌else◌, List, [], ◌∷◌, length, map, ◌≢◌, refl, sym, ap, ◌∙◌}
-use Rattle.std.proofs.Common.{false, subst}
-use Rattle.std.specs.Prelude.{filter, find, AllPairs}
-use Rattle.std.specs.List.{list_all}
-use Rattle.std.specs.Str.{bytes_eq}
-use Rattle.std.proofs.lemmas.Bool.{and_parts}
-use Rattle.std.proofs.lemmas.Slice.Eq.{bytes_eq-Decides}
-use Rattle.std.proofs.Math.Bool.{and-true, or-true, or-false}
-use Rattle.sqlite_tied.specs.Compute.{everything}
-use Rattle.sqlite_value.specs.declared.value.Value.TheVariants.{Int, Text, Blob}
-use Rattle.sqlite_value.specs.declared.keys.Collation.TheVariants.{Binary}
-use Rattle.sqlite_sql.specs.declared.ops.BinaryOp.TheVariants.{Arith, Compare}
-use Rattle.sqlite_sql.specs.declared.ops.ArithOp.TheVariants.{Add}
-use Rattle.sqlite_sql.specs.declared.ops.CompareOp.TheVariants.{Eq}
-use Rattle.sqlite_sql.specs.Ops.{binary}
-use Rattle.sqlite.specs.Cast.{cast_row}
-use Rattle.sqlite.specs.Order.{Row}
-use Rattle.sqlite.specs.Table.{Table}
-use Rattle.sqlite.specs.Term.{Term, col, op2, holds, lit}
-use Rattle.sqlite.specs.Query.{Query, inner, end, counted}
-use Rattle.sqlite.specs.Command.TheVariants.{Update}
-use Rattle.sqlite.specs.Listing.{understood}
-use Rattle.sqlite.specs.State.{State, Executes}
-use Rattle.club_rows.specs.declared.key.Key.{Key}
-use Rattle.club_core.specs.After.{credited_member, revoked_key, rotated_key}
-use Rattle.club_rows.specs.Columns.{truth}
-use Rattle.club_tables.specs.declared.row.MemberRow.{MemberRow}
-use Rattle.club_tables.specs.declared.texts.TheConstants.{ADD_CREDIT, ADD_USED, REVOKE_KEY, SET_ROOT}
-use Rattle.club_tables.specs.Schema.{club_schema}
-use Rattle.club_tables.specs.ChangeStatements.{used_values}
-use Rattle.club_tables.specs.Columns.{whole, member_values, key_values}
-use Rattle.club_tables.specs.Statements.{select, is_given}
-use Rattle.club_tables.specs.Stored.{Rows}
-use Rattle.club_tables.specs.Transaction.{BoundStatement}
+use Rattle.club_tables.proofs.Common.{rules, ◌≡◌, ◌+◌, ◌≤◌, ℕ, ℤ, pos, Ok, Some, Bool, true, ◌&&◌, if◌then◌else◌, List, [], ◌∷◌, length, map, ◌≢◌, refl, sym}
+use Rattle.club_tables.proofs.Common.{ap, ◌∙◌, false, subst, filter, find, AllPairs, list_all, bytes_eq, and_parts, bytes_eq-Decides, and-true, or-true}
+use Rattle.club_tables.proofs.Common.{or-false, everything, Int, Text, Blob, Binary, Arith, Compare, Add, Eq, binary, cast_row, Row, Table, Term, col, op2}
+use Rattle.club_tables.proofs.Common.{holds, lit, Query, inner, end, counted, Update, understood, State, Executes, Key, credited_member, revoked_key}
+use Rattle.club_tables.proofs.Common.{rotated_key, truth, MemberRow, ADD_CREDIT, ADD_USED, REVOKE_KEY, SET_ROOT, club_schema, used_values, whole, member_values}
+use Rattle.club_tables.proofs.Common.{key_values, select, is_given, Rows, BoundStatement, Holds, HoldsRows, members_tree, keys_tree}
 use Rattle.club_tables.proofs.statements.MeansLemmas.{Wrote}
-use Rattle.club_tables.specs.Tables.{Holds}
-use Rattle.club_tables.specs.Tables.{HoldsRows, members_tree, keys_tree}
 use Rattle.club_tables.proofs.statements.MeansLemmas.{Means, on_members, on_keys, Steps}
 use Rattle.club_tables.proofs.statements.InsertLemmas.{cast_int}
 use Rattle.club_tables.proofs.queries.KeyLemmas.{both_tests, one_named}

@@ -1,50 +1,16 @@
 -- A change that was made is true of the club, and what the statements of one that fits do, one after the other.
-use Rattle.std.proofs.Common.{rules}
-use Rattle.std.proofs.Common.{◌≡◌, ℕ, ◌≤◌, ℤ, pos, neg_ℤ, Bool, Ok, None, List, Option, Some, refl, sym, subst, ◌∙◌, ◌≢◌, ◌+◌, ◌-◌, true}
-use Rattle.std.proofs.Common.{if◌then◌else◌, [], ◌∷◌, ◌++◌, map, Contains, ap, arith, zero, suc, IsTrue, inl, inr}
-use Rattle.std.proofs.lemmas.List.Elements.{recursion_from_All, All-contains}
-use Rattle.std.proofs.lemmas.Slice.Eq.{bytes_eq-Decides}
-use Rattle.std.specs.Prelude.{find, option_map, IsSome}
-use Rattle.std.specs.Str.{bytes_eq}
-use Rattle.sqlite.specs.Effect.{Database}
-use Rattle.sqlite.specs.Held.{Held, state}
-use Rattle.sqlite.specs.Order.{Row}
-use Rattle.sqlite_sql.specs.Ops.{binary}
-use Rattle.sqlite_sql.specs.declared.ops.BinaryOp.TheVariants.{Arith}
-use Rattle.sqlite_sql.specs.declared.ops.ArithOp.TheVariants.{Add}
-use Rattle.std.proofs.Common.{◌<◌, ◌^◌, cond}
+use Rattle.club_tables.proofs.Common.{rules, ◌≡◌, ℕ, ◌≤◌, ℤ, pos, neg_ℤ, Bool, Ok, None, List, Option, Some, refl, sym, subst, ◌∙◌, ◌≢◌, ◌+◌, ◌-◌, true}
+use Rattle.club_tables.proofs.Common.{if◌then◌else◌, [], ◌∷◌, ◌++◌, map, Contains, ap, arith, zero, suc, IsTrue, inl, inr, recursion_from_All, All-contains}
+use Rattle.club_tables.proofs.Common.{bytes_eq-Decides, find, option_map, IsSome, bytes_eq, Database, Held, state, Row, binary, Arith, Add, ◌<◌, ◌^◌, cond}
+use Rattle.club_tables.proofs.Common.{SlotUse, IsMember, IsFacility, Executes, State, Ghosts, Int, good_until, after, cancelled_booking, credited_member, Club}
+use Rattle.club_tables.proofs.Common.{member_named, key_named, IsSound, IsOwnedBy, IsTrueOf, FitsClub, booking_under, cost_of, taken_in, InsertMember}
+use Rattle.club_tables.proofs.Common.{AddCredit, InsertFacility, InsertKey, MarkRevoked, ReplaceRoot, MarkClosed, InsertBooking, MarkCancelled, StoreFault}
+use Rattle.club_tables.proofs.Common.{same_slot, persons_of, IsBooking, Booking, Facility, Key, OlderRoot, Member, Slot, used_values, statements_of}
+use Rattle.club_tables.proofs.Common.{with_totals, adding_booking, cancelling, whole, name_values, FailsInTurn, HasOlderRoot, Rows, member_row, used_by}
+use Rattle.club_tables.proofs.Common.{persons_taken, IsStoredAs, HoldsClub, HoldsRows, Ran, transaction_start, BoundStatement, RanInTurn, MemberRow, ADD_USED}
 use Rattle.club_rows.specs.Limits.{places_limit}
-use Rattle.club_core.specs.declared.slot_use.SlotUse.{SlotUse}
-use Rattle.club_rows.specs.Rows.{IsMember, IsFacility}
-use Rattle.sqlite.specs.State.{Executes, State}
-use Rattle.sqlite.specs.Store.{Ghosts}
-use Rattle.sqlite_value.specs.declared.value.Value.TheVariants.{Int}
-use Rattle.club_core.specs.After.{good_until, after, cancelled_booking, credited_member}
-use Rattle.club_core.specs.Club.{Club, member_named, key_named, IsSound}
-use Rattle.club_core.specs.Store.{IsOwnedBy, IsTrueOf, FitsClub}
-use Rattle.club_core.specs.Sums.{booking_under, cost_of, taken_in}
 use Rattle.club_core.specs.declared.change.Change.{Change}
-use Rattle.club_core.specs.declared.change.Change.TheVariants.{InsertMember, AddCredit, InsertFacility, InsertKey, MarkRevoked, ReplaceRoot, MarkClosed}
-use Rattle.club_core.specs.declared.change.Change.TheVariants.{InsertBooking, MarkCancelled}
-use Rattle.club_core.specs.declared.store.StoreFault.{StoreFault}
-use Rattle.club_rows.specs.Booking.{same_slot, persons_of}
 use Rattle.club_rows.specs.Limits.{credited_limit}
-use Rattle.club_rows.specs.Rows.{IsBooking}
-use Rattle.club_rows.specs.declared.booking.Booking.{Booking}
-use Rattle.club_rows.specs.declared.facility.Facility.{Facility}
-use Rattle.club_rows.specs.declared.key.Key.{Key}
-use Rattle.club_rows.specs.declared.key.OlderRoot.{OlderRoot}
-use Rattle.club_rows.specs.declared.member.Member.{Member}
-use Rattle.club_values.specs.declared.slot.Slot.{Slot}
-use Rattle.club_tables.specs.ChangeStatements.{used_values, statements_of, with_totals, adding_booking, cancelling}
-use Rattle.club_tables.specs.Columns.{whole, name_values}
-use Rattle.club_tables.specs.Fault.{FailsInTurn}
-use Rattle.club_tables.specs.ReadsAndChanges.{HasOlderRoot}
-use Rattle.club_tables.specs.Stored.{Rows, member_row, used_by, persons_taken, IsStoredAs}
-use Rattle.club_tables.specs.Tables.{HoldsClub, HoldsRows}
-use Rattle.club_tables.specs.Transaction.{Ran, transaction_start, BoundStatement, RanInTurn}
-use Rattle.club_tables.specs.declared.row.MemberRow.{MemberRow}
-use Rattle.club_tables.specs.declared.texts.TheConstants.{ADD_USED}
 use Rattle.club_tables.proofs.changes.AddLemmas.{booking_put, member_put, facility_put, key_put, slot_taken, slot_closed, older_represents, put_older}
 use Rattle.club_tables.proofs.changes.CancelLemmas.{booking_cancelled, cancel_found, there, used_back, taken_back, mapped_holds, used_less, taken_less}
 use Rattle.club_tables.proofs.changes.ChangeLemmas.{owner_found, AreKeysOnce, StoresKey, name_of, member_used, AreNamedOnce, used_row, StoresMember, one_found}

@@ -1,35 +1,13 @@
 -- The rows of the club after each change, as they are stored.
+use Rattle.club_tables.proofs.Common.{◌≡◌, ◌≢◌, ℕ, ◌+◌, Bool, true, false, not, ◌&&◌, ◌||◌, cond, if◌then◌else◌, List, [], ◌∷◌, ◌++◌, map, Option, Some, None}
+use Rattle.club_tables.proofs.Common.{Contains, refl, sym, ap, subst, ◌∙◌, arith, true≢false, rules, filter, find, sum_by, option_and_then, AllPairs}
+use Rattle.club_tables.proofs.Common.{option_map, AllByRecursion, list_any, bytes_eq, map-append, list_any-append, find-append, filter-append, option_or}
+use Rattle.club_tables.proofs.Common.{bytes_eq-Decides, or-true, or-false, recursion_from_All, Slot, Booking, Facility, Key, OlderRoot, Member, SlotUse}
+use Rattle.club_tables.proofs.Common.{InsertMember, AddCredit, InsertFacility, InsertKey, MarkRevoked, ReplaceRoot, MarkClosed, InsertBooking, after}
+use Rattle.club_tables.proofs.Common.{credited_member, revoked_key, good_until, rotated_key, same_slot, persons_of, Club, IsSound, key_named, is_key_of}
+use Rattle.club_tables.proofs.Common.{is_closed, slot_use, older_root_of, IsOwnedBy, HasRoot, is_in, taken_in, cost_of, MemberRow, Rows, OlderRow, IsStoredAs}
+use Rattle.club_tables.proofs.Common.{older_by, member_row, used_by, persons_taken, map-map}
 use Rattle.club_tables.proofs.queries.MemberLemmas.{any_filtered}
-use Rattle.std.proofs.Common.{◌≡◌, ◌≢◌, ℕ, ◌+◌, Bool, true, false, not, ◌&&◌, ◌||◌, cond, if◌then◌else◌, List, [], ◌∷◌, ◌++◌, map, Option, Some, None, Contains}
-use Rattle.std.proofs.Common.{refl, sym, ap, subst, ◌∙◌, arith, true≢false, rules}
-use Rattle.std.specs.Prelude.{filter, find, sum_by, option_and_then, AllPairs, option_map}
-use Rattle.std.specs.List.{AllByRecursion, list_any}
-use Rattle.std.specs.Str.{bytes_eq}
-use Rattle.std.proofs.lemmas.List.{map-append}
-use Rattle.std.proofs.lemmas.List.Folds.{list_any-append, find-append}
-use Rattle.std.proofs.lemmas.List.Elements.{filter-append}
-use Rattle.std.specs.Option.{option_or}
-use Rattle.std.proofs.lemmas.Slice.Eq.{bytes_eq-Decides}
-use Rattle.std.proofs.Math.Bool.{or-true, or-false}
-use Rattle.std.proofs.lemmas.List.Elements.{recursion_from_All}
-use Rattle.club_values.specs.declared.slot.Slot.{Slot}
-use Rattle.club_rows.specs.declared.booking.Booking.{Booking}
-use Rattle.club_rows.specs.declared.facility.Facility.{Facility}
-use Rattle.club_rows.specs.declared.key.Key.{Key}
-use Rattle.club_rows.specs.declared.key.OlderRoot.{OlderRoot}
-use Rattle.club_rows.specs.declared.member.Member.{Member}
-use Rattle.club_core.specs.declared.slot_use.SlotUse.{SlotUse}
-use Rattle.club_core.specs.declared.change.Change.TheVariants.{InsertMember, AddCredit, InsertFacility, InsertKey, MarkRevoked, ReplaceRoot, MarkClosed}
-use Rattle.club_core.specs.declared.change.Change.TheVariants.{InsertBooking}
-use Rattle.club_core.specs.After.{after, credited_member, revoked_key, good_until, rotated_key}
-use Rattle.club_rows.specs.Booking.{same_slot, persons_of}
-use Rattle.club_core.specs.Club.{Club, IsSound, key_named, is_key_of, is_closed}
-use Rattle.club_core.specs.Basis.{slot_use}
-use Rattle.club_core.specs.KeyParts.{older_root_of}
-use Rattle.club_core.specs.Store.{IsOwnedBy, HasRoot}
-use Rattle.club_core.specs.Sums.{is_in, taken_in, cost_of}
-use Rattle.club_tables.specs.declared.row.MemberRow.{MemberRow}
-use Rattle.club_tables.specs.Stored.{Rows, OlderRow, IsStoredAs, older_by, member_row, used_by, persons_taken}
 use Rattle.club_tables.proofs.changes.AddLemmas.{new_row, close_use, take_use, put_older, older_put, put_once as olders_once}
 use Rattle.club_tables.proofs.changes.ChangeLemmas.{credited_row, used_row}
 use Rattle.club_tables.proofs.statements.SelectLemmas.{apart_from_pairs, none_pass, filter_same, none_of}
@@ -38,7 +16,6 @@ use Rattle.club_tables.proofs.lists.OwnerLemmas.{map_agree, apart_last, not_amon
 use Rattle.club_tables.proofs.lists.KeyedRows.{put_slot, use_put, slot_once}
 use Rattle.club_tables.proofs.statements.PassLemmas.{found}
 use Rattle.club_tables.proofs.queries.KeyLemmas.{find_mapped}
-use Rattle.sqlite_trees.proofs.ListLemmas.{map-map}
 
 -- ---- members
 

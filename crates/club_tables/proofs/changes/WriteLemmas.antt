@@ -1,23 +1,10 @@
 -- Which club is represented after statements that write, whether they succeed or fail.
+use Rattle.club_tables.proofs.Common.{◌≡◌, ◌<◌, length, List, [], ◌∷◌, IsTrue, Result, Ok, Err, OnOk, OnErr, inl, inr, refl, sym, subst, arith, IsErr}
+use Rattle.club_tables.proofs.Common.{MatchResult, IfErr-weaker, on_err_weaker, Trees, Ghosts, Database, HasCleanDisk, Survives, Held, state, after, IsTrueOf}
+use Rattle.club_tables.proofs.Common.{Club, StoreFault, HoldsClub, IsLeftOf, Represents, ChangesClub, IsChangeFault, IsRunFault, HasOlderRoot, BoundStatement}
+use Rattle.club_tables.proofs.Common.{Ran, IsKept, transaction_start, Commits, FailsToRun, AreStatementsOf, statements_of}
 use Rattle.club_tables.proofs.crashes.RepresentsLemmas.{represents_by}
-use Rattle.std.proofs.Common.{◌≡◌, ◌<◌, length, List, [], ◌∷◌, IsTrue, Result, Ok, Err, OnOk, OnErr, inl, inr, refl, sym, subst, arith}
-use Rattle.std.specs.Prelude.{IsErr, MatchResult}
-use Rattle.std.proofs.lemmas.Result.{IfErr-weaker, on_err_weaker}
-use Rattle.sqlite.specs.Tree.{Trees}
-use Rattle.sqlite.specs.Store.{Ghosts}
-use Rattle.sqlite.specs.Effect.{Database}
-use Rattle.sqlite.specs.State.{HasCleanDisk, Survives}
-use Rattle.sqlite.specs.Held.{Held, state}
 use Rattle.club_core.specs.declared.change.Change.{Change}
-use Rattle.club_core.specs.After.{after}
-use Rattle.club_core.specs.Store.{IsTrueOf}
-use Rattle.club_core.specs.Club.{Club}
-use Rattle.club_core.specs.declared.store.StoreFault.{StoreFault}
-use Rattle.club_tables.specs.Tables.{HoldsClub, IsLeftOf, Represents}
-use Rattle.club_tables.specs.ReadsAndChanges.{ChangesClub, IsChangeFault, IsRunFault, HasOlderRoot}
-use Rattle.club_tables.specs.Transaction.{BoundStatement, Ran, IsKept, transaction_start}
-use Rattle.club_tables.specs.Fault.{Commits, FailsToRun}
-use Rattle.club_tables.specs.ChangeStatements.{AreStatementsOf, statements_of}
 use Rattle.club_tables.proofs.opening.OpenLemmas.{IsSettled, settles}
 use Rattle.club_tables.proofs.queries.ReadLemmas.{at_once}
 use Rattle.club_tables.proofs.crashes.SurviveLemmas.{may_commit}

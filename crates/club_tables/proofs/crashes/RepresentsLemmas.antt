@@ -1,31 +1,9 @@
 -- A call that changes nothing leaves the club that is represented.
-use Rattle.std.proofs.Common.{rules}
-use Rattle.sqlite.specs.Tree.{Trees}
-use Rattle.club_tables.specs.Tables.{IsLeftOf}
-use Rattle.std.specs.Prelude.{filter, IsPermutation}
-use Rattle.std.specs.List.{list_all}
-use Rattle.std.proofs.Common.{◌≡◌, ℕ, ℤ, Bool, false, List, [], ◌∷◌, map, IsTrue}
-use Rattle.std.proofs.Common.{sym, subst}
-use Rattle.sqlite_value.specs.declared.value.Value.TheVariants.{Int}
-use Rattle.sqlite.specs.Order.{Row}
-use Rattle.sqlite.specs.Schema.{Schema}
-use Rattle.sqlite.specs.Store.{Ghosts}
-use Rattle.sqlite.specs.Effect.{Database, Reads}
-use Rattle.sqlite.specs.Command.TheVariants.{Select}
-use Rattle.sqlite.specs.Term.{Term, holds, eval_all}
-use Rattle.sqlite.specs.Query.{Query, inner, end}
-use Rattle.sqlite.specs.Listing.{understood, reads_listing}
-use Rattle.sqlite.specs.State.{State, HasCleanDisk, Survives, Shown}
-use Rattle.sqlite.specs.Held.{Held, state}
-use Rattle.sqlite.proofs.StateLemmas.{survives_then}
-use Rattle.sqlite.proofs.Callers.{IsPlain, command_of, reads_as}
-use Rattle.club_core.specs.Club.{Club}
-use Rattle.club_tables.specs.Schema.{club_schema}
-use Rattle.club_tables.specs.Columns.{key_values, booking_values}
-use Rattle.club_tables.specs.Tables.{HoldsClub, Holds, RepresentsBy, Represents, keys_tree}
-use Rattle.club_tables.specs.Tables.{bookings_tree}
-use Rattle.club_tables.specs.Statements.{select}
-use Rattle.club_tables.specs.Transaction.{BoundStatement, Asked, IsKept, transaction_start}
+use Rattle.club_tables.proofs.Common.{rules, Trees, IsLeftOf, filter, IsPermutation, list_all, ◌≡◌, ℕ, ℤ, Bool, false, List, [], ◌∷◌, map, IsTrue, sym, subst}
+use Rattle.club_tables.proofs.Common.{Int, Row, Schema, Ghosts, Database, Reads, Select, Term, holds, eval_all, Query, inner, end, understood, reads_listing}
+use Rattle.club_tables.proofs.Common.{State, HasCleanDisk, Survives, Shown, Held, state, survives_then, IsPlain, command_of, reads_as, Club, club_schema}
+use Rattle.club_tables.proofs.Common.{key_values, booking_values, HoldsClub, Holds, RepresentsBy, Represents, keys_tree, bookings_tree, select, BoundStatement}
+use Rattle.club_tables.proofs.Common.{Asked, IsKept, transaction_start}
 use Rattle.club_tables.proofs.statements.SelectLemmas.{selected}
 
 -- the state represents the same club, by whichever predicate a database holds it, if a crash leaves one of these

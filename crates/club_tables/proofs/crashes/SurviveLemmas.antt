@@ -1,19 +1,8 @@
 -- What a crash may leave of statements in a transaction, and what a call in it leaves unchanged.
-use Rattle.std.proofs.Common.{◌≡◌, ℕ, List, refl, arith, Err, IsTrue, true, rules}
-use Rattle.sqlite.specs.Store.{Ghosts}
-use Rattle.sqlite.specs.Tree.{Trees}
-use Rattle.sqlite.specs.Effect.{Database}
-use Rattle.sqlite.specs.State.{State, HasCleanDisk, Survives, IsRolledBack, Shown, FailsToQuery, IsNotRun, IsTooLate}
-use Rattle.sqlite.specs.State.{ExecutesInside}
-use Rattle.sqlite.specs.Held.{Held, state}
-use Rattle.sqlite.proofs.StateLemmas.{survives_then}
-use Rattle.sqlite.specs.Order.{Row}
-use Rattle.sqlite.specs.declared.error.Error.{Error}
+use Rattle.club_tables.proofs.Common.{◌≡◌, ℕ, List, refl, arith, Err, IsTrue, true, rules, Ghosts, Trees, Database, State, HasCleanDisk, Survives, IsRolledBack}
+use Rattle.club_tables.proofs.Common.{Shown, FailsToQuery, IsNotRun, IsTooLate, ExecutesInside, Held, state, survives_then, Row, Error, StoreFault}
+use Rattle.club_tables.proofs.Common.{BoundStatement, Ran, IsUntouched, MayCommit, IsAfterReadings, IsOpeningFault}
 use Rattle.sqlite.specs.Steps.{FailsToCommit}
-use Rattle.club_core.specs.declared.store.StoreFault.{StoreFault}
-use Rattle.club_tables.specs.Transaction.{BoundStatement, Ran, IsUntouched, MayCommit}
-use Rattle.club_tables.specs.Answers.{IsAfterReadings}
-use Rattle.club_tables.specs.Opening.{IsOpeningFault}
 
 pub was_clean : (old new : State) (P : Trees → Type 0) → Survives old new P → HasCleanDisk new → HasCleanDisk old
 was_clean old new P survives clean = omega (arith, survives.clean)

@@ -1,21 +1,11 @@
 -- Statements that are run in turn.
-use Rattle.std.proofs.Common.{◌≡◌, ℕ, ◌+◌, ◌<◌, ◌≤◌, List, [], ◌∷◌, ◌++◌, length, map, take, get_or, zero, suc, Ok}
-use Rattle.std.proofs.Common.{IsTrue, inl, inr, refl, sym, subst, add-one, arith}
+use Rattle.club_tables.proofs.Common.{◌≡◌, ℕ, ◌+◌, ◌<◌, ◌≤◌, List, [], ◌∷◌, ◌++◌, length, map, take, get_or, zero, suc, Ok, IsTrue, inl, inr, refl, sym, subst}
+use Rattle.club_tables.proofs.Common.{add-one, arith, length-map, map-append, Ghosts, Trees, Database, HasCleanDisk, Survives, Executes, Held, state, Error}
+use Rattle.club_tables.proofs.Common.{survives_then, survives_begin, StoreFault, BoundStatement, bound_statement, Ran, RanInTurn, transaction_start, fault_by}
+use Rattle.club_tables.proofs.Common.{StopsAt, FailsInTurn}
 use Rattle.std.proofs.Math.Seq.{take-suc, take_all}
-use Rattle.std.proofs.lemmas.List.{length-map, map-append}
-use Rattle.sqlite.specs.Store.{Ghosts}
-use Rattle.sqlite.specs.Tree.{Trees}
-use Rattle.sqlite.specs.Effect.{Database}
-use Rattle.sqlite.specs.State.{HasCleanDisk, Survives, Executes}
 use Rattle.sqlite.specs.Steps.{FailsToCommit}
-use Rattle.sqlite.specs.Held.{Held, state}
-use Rattle.sqlite.specs.declared.error.Error.{Error}
-use Rattle.sqlite.proofs.StateLemmas.{survives_then}
-use Rattle.sqlite.proofs.Callers.{survives_begin}
 use Rattle.club_tables.specs.declared.transaction.Statement.{Statement}
-use Rattle.club_core.specs.declared.store.StoreFault.{StoreFault}
-use Rattle.club_tables.specs.Transaction.{BoundStatement, bound_statement, Ran, RanInTurn, transaction_start, fault_by}
-use Rattle.club_tables.specs.Fault.{StopsAt, FailsInTurn}
 
 module _ {S : Type 0} (g : Ghosts S) (fewest : ℕ) where
   -- one statement more

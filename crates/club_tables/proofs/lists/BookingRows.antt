@@ -1,36 +1,17 @@
 -- Rows, and what is read from them: a row is decoded to the value of which it was made.
-use Rattle.std.proofs.Common.{ap, ◌≡◌, ℕ, zero, suc, ◌+◌, ◌<◌, Bool, true, false, List, [], ◌∷◌, ◌++◌, length, take, map, refl, sym, subst, ◌∙◌, arith, inl}
-use Rattle.std.proofs.Common.{inr, get_or, Option, Some, None, if◌then◌else◌, ◌==◌}
-use Rattle.std.specs.Prelude.{All, slice_index_or, option_map}
-use Rattle.std.specs.List.{AllByRecursion}
-use Rattle.std.proofs.lemmas.List.{take_more}
-use Rattle.std.proofs.lemmas.List.Elements.{All-from_recursion}
-use Rattle.sqlite_value.specs.declared.value.Value.{Value}
-use Rattle.sqlite_value.specs.declared.value.Value.TheVariants.{Text, Blob}
-use Rattle.sqlite.specs.Order.{Row, column}
-use Rattle.club_rows.specs.Columns.{truth}
-use Rattle.club_rows.specs.declared.booking.Booking.{Booking}
-use Rattle.club_core.specs.Club.{Club}
-use Rattle.club_rows.specs.Rows.{IsBooking}
+use Rattle.club_tables.proofs.Common.{ap, ◌≡◌, ℕ, zero, suc, ◌+◌, ◌<◌, Bool, true, false, List, [], ◌∷◌, ◌++◌, length, take, map, refl, sym, subst, ◌∙◌, arith}
+use Rattle.club_tables.proofs.Common.{inl, inr, get_or, Option, Some, None, if◌then◌else◌, ◌==◌, All, slice_index_or, option_map, AllByRecursion, take_more}
+use Rattle.club_tables.proofs.Common.{All-from_recursion, Value, Text, Blob, Row, column, truth, Booking, Club, IsBooking, Slot, SlotUse, slot_use}
+use Rattle.club_tables.proofs.Common.{booking_values, HasValues, use_values, whole_in, key_values, older_root_values, member_values, facility_values, ShowsDay}
+use Rattle.club_tables.proofs.Common.{AreBookings, IsUse, IsFirst, IsBookingIn, IsBookingNamed, option_to_list, Facility, Key, OlderRoot, MemberRow}
 use Rattle.club_core.specs.Sheet.{AreRowsOf}
-use Rattle.club_values.specs.declared.slot.Slot.{Slot}
-use Rattle.club_core.specs.declared.slot_use.SlotUse.{SlotUse}
-use Rattle.club_core.specs.Basis.{slot_use}
-use Rattle.club_tables.specs.Columns.{booking_values, HasValues, use_values, whole_in, key_values, older_root_values, member_values, facility_values}
-use Rattle.club_tables.specs.Sheet.{ShowsDay, AreBookings}
-use Rattle.club_tables.specs.Answers.{IsUse, IsFirst, IsBookingIn, IsBookingNamed}
 use Rattle.club_tables.specs.Use.{ShowsUse}
 use Rattle.club_tables.proofs.lists.RowLemmas.{zip_more}
-use Rattle.std.specs.Option.{option_to_list}
 use Rattle.std.proofs.lemmas.Iterator.Adapters.{option_map_id}
 use Rattle.club_values.specs.declared.kind.Kind.{Kind}
 use Rattle.club_values.specs.declared.kind.Kind.TheVariants.{Court, Boat, Room}
 use Rattle.club_values.specs.Kind.{kind_text}
-use Rattle.club_rows.specs.declared.facility.Facility.{Facility}
-use Rattle.club_rows.specs.declared.key.Key.{Key}
 use Rattle.club_rows.specs.declared.key.KeyRow.{KeyRow}
-use Rattle.club_rows.specs.declared.key.OlderRoot.{OlderRoot}
-use Rattle.club_tables.specs.declared.row.MemberRow.{MemberRow}
 use Rattle.club_rows.specs.Key.{key_of_row, row_of_key}
 
 pub truths : (a b : Bool) → truth a ≡ truth b → a ≡ b

@@ -1,27 +1,10 @@
 -- Rows that are found by their keys, and those of slots, once the row of one key is put.
-use Rattle.std.proofs.Common.{◌≡◌, ◌≢◌, Bool, true, false, cond, if◌then◌else◌, Option, Some, None, List, [], ◌∷◌, ◌++◌, map, refl, sym, ap, subst, ◌∙◌}
-use Rattle.std.proofs.Common.{true≢false, ℤ, ◌==◌}
-use Rattle.std.specs.Prelude.{find, option_map, AllPairs, unwrap_or}
-use Rattle.std.specs.Option.{option_or}
-use Rattle.std.specs.List.{list_any}
-use Rattle.std.proofs.lemmas.Bool.{false_from_ne_true, or_parts}
-use Rattle.std.proofs.lemmas.List.Folds.{find-append, list_any_at}
-use Rattle.std.specs.Str.{bytes_eq}
-use Rattle.std.proofs.lemmas.Cmp.{nat_list_eq_equiv, nat_eq_equiv}
-use Rattle.std.proofs.Math.Bool.{or-false}
+use Rattle.club_tables.proofs.Common.{◌≡◌, ◌≢◌, Bool, true, false, cond, if◌then◌else◌, Option, Some, None, List, [], ◌∷◌, ◌++◌, map, refl, sym, ap, subst, ◌∙◌}
+use Rattle.club_tables.proofs.Common.{true≢false, ℤ, ◌==◌, find, option_map, AllPairs, unwrap_or, option_or, list_any, false_from_ne_true, or_parts}
+use Rattle.club_tables.proofs.Common.{find-append, list_any_at, bytes_eq, nat_list_eq_equiv, nat_eq_equiv, or-false, Value, Int, first_key, Table, conflicts}
+use Rattle.club_tables.proofs.Common.{Slot, SlotUse, same_slot, slots_table, club_schema, name_values, slot_values, SlotRow, no_slot_use, stored_slot_use}
+use Rattle.club_tables.proofs.Common.{slots_tree}
 use Rattle.std.proofs.lemmas.List.Quantifiers.{all_pairs_push}
-use Rattle.sqlite_value.specs.declared.value.Value.{Value}
-use Rattle.sqlite_value.specs.declared.value.Value.TheVariants.{Int}
-use Rattle.sqlite_value.specs.Keys.{first_key}
-use Rattle.sqlite.specs.Table.{Table}
-use Rattle.sqlite_rules.specs.Keys.{conflicts}
-use Rattle.club_values.specs.declared.slot.Slot.{Slot}
-use Rattle.club_core.specs.declared.slot_use.SlotUse.{SlotUse}
-use Rattle.club_rows.specs.Booking.{same_slot}
-use Rattle.club_tables.specs.Schema.{slots_table, club_schema}
-use Rattle.club_tables.specs.Columns.{name_values, slot_values}
-use Rattle.club_tables.specs.Stored.{SlotRow, no_slot_use, stored_slot_use}
-use Rattle.club_tables.specs.Tables.{slots_tree}
 use Rattle.club_tables.proofs.statements.PassLemmas.{any_counts, find_some, found}
 use Rattle.club_tables.proofs.statements.SelectLemmas.{Apart, apart_from_pairs, text_equal, whole_equal, pairs_mapped}
 use Rattle.club_tables.proofs.queries.KeyLemmas.{same_slots, three, find_mapped}

@@ -1,22 +1,10 @@
 -- Lists, sums over parts of them, and whose a booking is.
-use Rattle.std.proofs.Common.{◌≡◌, ◌≢◌, ℕ, ◌+◌, Bool, true, false, cond, List, [], ◌∷◌, ◌++◌, map, Some, Contains, refl, sym, ap, ◌∙◌}
-use Rattle.std.proofs.Common.{arith}
-use Rattle.std.specs.Prelude.{filter, find, sum_by}
-use Rattle.std.specs.List.{AllByRecursion, list_any}
-use Rattle.std.specs.Str.{bytes_eq}
-use Rattle.std.proofs.lemmas.Bool.{false_from_ne_true}
-use Rattle.std.proofs.lemmas.List.Sums.{sum_by-cons, sum_by_push}
-use Rattle.std.proofs.lemmas.Slice.Eq.{bytes_eq-Decides}
-use Rattle.std.proofs.lemmas.Cmp.{nat_list_eq_equiv}
-use Rattle.std.proofs.Math.Bool.{and_comm, or-false}
-use Rattle.std.specs.Option.{option_to_list}
-use Rattle.club_rows.specs.declared.key.Key.{Key}
-use Rattle.club_core.specs.Club.{Club, IsSound, is_key_of}
-use Rattle.club_core.specs.Store.{IsOwnedBy}
+use Rattle.club_tables.proofs.Common.{◌≡◌, ◌≢◌, ℕ, ◌+◌, Bool, true, false, cond, List, [], ◌∷◌, ◌++◌, map, Some, Contains, refl, sym, ap, ◌∙◌, arith, filter}
+use Rattle.club_tables.proofs.Common.{find, sum_by, AllByRecursion, list_any, bytes_eq, false_from_ne_true, sum_by-cons, sum_by_push, bytes_eq-Decides}
+use Rattle.club_tables.proofs.Common.{nat_list_eq_equiv, and_comm, or-false, option_to_list, Key, Club, IsSound, is_key_of, IsOwnedBy, all_weaker, all-map}
+use Rattle.club_tables.proofs.Common.{all_has, has_last, has_contained}
 use Rattle.club_tables.proofs.queries.MemberLemmas.{any_filtered}
 use Rattle.club_tables.proofs.statements.SelectLemmas.{Apart}
-use Rattle.sqlite_trees.proofs.ListLemmas.{all_weaker, all-map}
-use Rattle.sqlite_rules.proofs.ListLemmas.{all_has, has_last, has_contained}
 use Rattle.club_tables.proofs.queries.KeyLemmas.{one_listed, one_named}
 
 -- ---- lists

@@ -1,7 +1,5 @@
 -- Rows of which one is put by its key.
-use Rattle.std.proofs.Common.{◌≡◌, Bool, true, List, [], ◌∷◌, ◌++◌, map, if◌then◌else◌}
-use Rattle.sqlite.specs.Order.{Row}
-use Rattle.std.specs.List.{list_any}
+use Rattle.club_tables.proofs.Common.{◌≡◌, Bool, true, List, [], ◌∷◌, ◌++◌, map, if◌then◌else◌, Row, list_any}
 
 -- the elements that pass are those of the key
 module _ {X : Type 0} (values : X → Row) (p : X → Bool) where

@@ -1,16 +1,11 @@
 -- A row that is put after those of a list.
-use Rattle.std.proofs.Common.{◌≡◌, ℤ, pos, ◌+ℤ◌, List, [], ◌∷◌, ◌++◌, Less, refl, sym, ap, ◌∙◌, arith}
-use Rattle.std.specs.Cmp.{int_cmp_is}
-use Rattle.std.specs.List.{AllByRecursion, AllZip}
-use Rattle.std.specs.Prelude.{fold}
+use Rattle.club_tables.proofs.Common.{◌≡◌, ℤ, pos, ◌+ℤ◌, List, [], ◌∷◌, ◌++◌, Less, refl, sym, ap, ◌∙◌, arith, int_cmp_is, AllByRecursion, AllZip, fold, Int}
+use Rattle.club_tables.proofs.Common.{value_cmp_total, value_cmp-Int, id_in, IsRowOf, Holds}
 use Rattle.std.proofs.lemmas.Int.{ints}
-use Rattle.sqlite_value.specs.declared.value.Value.TheVariants.{Int}
 use Rattle.sqlite_value.specs.Order.{Row, value_cmp}
-use Rattle.sqlite_value.proofs.OrderLemmas.{value_cmp_total, value_cmp-Int}
 use Rattle.sqlite_trees.specs.Tree.{rowid, put_row, IsTable}
 use Rattle.sqlite_trees.proofs.TreeLemmas.{IsTable-put_row}
-use Rattle.sqlite_rules.specs.Edit.{id_in, next_rowid}
-use Rattle.club_tables.specs.Tables.{IsRowOf, Holds}
+use Rattle.sqlite_rules.specs.Edit.{next_rowid}
 
 -- the rowid is an integer
 abbrev pub IsKeyed : Row → Type 0

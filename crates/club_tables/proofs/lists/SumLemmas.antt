@@ -1,14 +1,7 @@
 -- The cost of a row, and costs of rows as those of bookings.
-use Rattle.std.proofs.Common.{◌≡◌, ℕ, ◌+◌, ◌-◌, ◌<◌, List, [], ◌∷◌, length, get_or, map, refl, sym, ap, subst, ◌∙◌, arith}
-use Rattle.std.specs.Prelude.{sum_by, IsPermutation}
-use Rattle.std.proofs.lemmas.List.Elements.{All-get_or}
-use Rattle.std.proofs.lemmas.List.Sums.{sum_by-cons}
-use Rattle.std.proofs.lemmas.List.Sorted.{sum_by-IsPermutation}
+use Rattle.club_tables.proofs.Common.{◌≡◌, ℕ, ◌+◌, ◌-◌, ◌<◌, List, [], ◌∷◌, length, get_or, map, refl, sym, ap, subst, ◌∙◌, arith, sum_by, IsPermutation}
+use Rattle.club_tables.proofs.Common.{All-get_or, sum_by-cons, sum_by-IsPermutation, Booking, cost_of, AreCosts, cost_values, cost_in, IsCostIn, IsCostRow}
 use Rattle.sqlite_value.specs.Order.{Row}
-use Rattle.club_rows.specs.declared.booking.Booking.{Booking}
-use Rattle.club_core.specs.Sums.{cost_of}
-use Rattle.club_tables.specs.Answers.{AreCosts}
-use Rattle.club_tables.specs.Columns.{cost_values, cost_in, IsCostIn, IsCostRow}
 
 pub cost_in_is : (row : Row) (cost : ℕ) → IsCostIn row cost → cost_in row ≡ cost
 cost_in_is row cost h = let low : h.charge - h.refund ≡ cost = omega arith in rw (h.charge_column, h.refund_column) low

@@ -1,21 +1,10 @@
 -- What the texts of the tables mean, each over the tables before it.
-use Rattle.std.proofs.Common.{◌≡◌, ℕ, List, [], ◌∷◌, false, refl, sym, ap, ◌∙◌, true≢false}
-use Rattle.sqlite.specs.Store.{Ghosts}
-use Rattle.sqlite.specs.Effect.{Database}
-use Rattle.sqlite.specs.State.{ExecutesIn}
-use Rattle.sqlite.specs.Held.{Held, state}
-use Rattle.club_tables.specs.Transaction.{BoundStatement, Ran}
-use Rattle.std.specs.Prelude.{is_ok}
-use Rattle.sqlite_tied.specs.Compute.{everything}
-use Rattle.sqlite.specs.Schema.{Schema}
-use Rattle.sqlite.specs.Table.{Table}
-use Rattle.sqlite.specs.Change.{created}
-use Rattle.sqlite.specs.Listing.{understood}
+use Rattle.club_tables.proofs.Common.{◌≡◌, ℕ, List, [], ◌∷◌, false, refl, sym, ap, ◌∙◌, true≢false, Ghosts, Database, ExecutesIn, Held, state, BoundStatement}
+use Rattle.club_tables.proofs.Common.{Ran, is_ok, everything, Schema, Table, created, understood, no_schema, desk_table, members_table, facilities_table}
+use Rattle.club_tables.proofs.Common.{keys_table, slots_table, bookings_table, six_tables, old_roots_table, keys_by_member, first_schema, unindexed_schema}
+use Rattle.club_tables.proofs.Common.{bookings_by_key, club_schema, MAKE_DESK, MAKE_MEMBERS, MAKE_FACILITIES, MAKE_KEYS, MAKE_SLOTS, MAKE_BOOKINGS}
+use Rattle.club_tables.proofs.Common.{MAKE_KEYS_BY_MEMBER, MAKE_OLD_ROOTS, MAKE_BOOKINGS_BY_KEY, DROP_BOOKINGS_BY_KEY}
 use Rattle.club_tables.proofs.statements.MeansLemmas.{Makes, MakesIndex}
-use Rattle.club_tables.specs.Schema.{no_schema, desk_table, members_table, facilities_table, keys_table, slots_table, bookings_table, six_tables}
-use Rattle.club_tables.specs.Schema.{old_roots_table, keys_by_member, first_schema, unindexed_schema, bookings_by_key, club_schema}
-use Rattle.club_tables.specs.declared.texts.TheConstants.{MAKE_DESK, MAKE_MEMBERS, MAKE_FACILITIES, MAKE_KEYS, MAKE_SLOTS, MAKE_BOOKINGS, MAKE_KEYS_BY_MEMBER}
-use Rattle.club_tables.specs.declared.texts.TheConstants.{MAKE_OLD_ROOTS, MAKE_BOOKINGS_BY_KEY, DROP_BOOKINGS_BY_KEY}
 
 -- each text makes a table over those before it
 abbrev pub MakesEach : Schema → List (List ℕ × Table) → Type 0

@@ -1,29 +1,10 @@
 -- The batches that make the tables, migrate those of version 1, and make the index of the bookings.
-use Rattle.std.proofs.Common.{◌≡◌, pos, List, [], ◌∷◌, refl, sym, ap, subst, ◌∙◌, arith, ℕ, true, inl, inr}
-use Rattle.std.specs.Prelude.{is_ok}
-use Rattle.std.proofs.Common.{rules}
-use Rattle.sqlite_tied.specs.Compute.{everything}
-use Rattle.sqlite_value.specs.declared.value.Value.TheVariants.{Null, Int}
-use Rattle.sqlite.specs.Store.{Ghosts}
-use Rattle.sqlite.specs.Term.{Term, lit, col}
-use Rattle.sqlite.specs.Source.TheVariants.{Values}
-use Rattle.sqlite.specs.Command.TheVariants.{Insert, Update}
-use Rattle.sqlite.specs.Effect.{Database}
-use Rattle.sqlite.specs.Listing.{understood}
-use Rattle.sqlite.specs.State.{ExecutesIn, HasCleanDisk, Survives}
-use Rattle.sqlite.specs.Held.{Held, state}
-use Rattle.sqlite.specs.Query.{inner, end}
-use Rattle.sqlite.specs.Table.{Table}
-use Rattle.club_core.specs.Club.{IsSound, empty_club, Club}
-use Rattle.club_tables.specs.declared.texts.TheConstants.{ADD_VERSION, SET_VERSION, DROP_BOOKINGS_BY_KEY}
-use Rattle.club_tables.specs.Schema.{no_schema, desk_table, club_schema, unindexed_schema}
-use Rattle.club_tables.specs.Columns.{whole, version_values}
-use Rattle.club_tables.specs.Opening.{table_batch, HasNoDesk, migration, index_batch}
-use Rattle.club_tables.specs.Stored.{Rows, IsStoredAs}
-use Rattle.club_tables.specs.Tables.{HoldsClub, HoldsRows, Holds, HoldsClubVersion1, HoldsRowsVersion1, HoldsTrees, RepresentsVersion1, desk_tree}
-use Rattle.club_tables.specs.Tables.{HoldsClubUnindexed, HoldsRowsWith, Represents, RepresentsVersion2, HoldsClubVersion2}
-use Rattle.club_tables.specs.Transaction.{Ran, transaction_start, IsKept, IsUnderstood}
-use Rattle.club_tables.specs.Statements.{select}
+use Rattle.club_tables.proofs.Common.{◌≡◌, pos, List, [], ◌∷◌, refl, sym, ap, subst, ◌∙◌, arith, ℕ, true, inl, inr, is_ok, rules, everything, Null, Int, Ghosts}
+use Rattle.club_tables.proofs.Common.{Term, lit, col, Values, Insert, Update, Database, understood, ExecutesIn, HasCleanDisk, Survives, Held, state, inner, end}
+use Rattle.club_tables.proofs.Common.{Table, IsSound, empty_club, Club, ADD_VERSION, SET_VERSION, DROP_BOOKINGS_BY_KEY, no_schema, desk_table, club_schema}
+use Rattle.club_tables.proofs.Common.{unindexed_schema, whole, version_values, table_batch, HasNoDesk, migration, index_batch, Rows, IsStoredAs, HoldsClub}
+use Rattle.club_tables.proofs.Common.{HoldsRows, Holds, HoldsClubVersion1, HoldsRowsVersion1, HoldsTrees, RepresentsVersion1, desk_tree, HoldsClubUnindexed}
+use Rattle.club_tables.proofs.Common.{HoldsRowsWith, Represents, RepresentsVersion2, HoldsClubVersion2, Ran, transaction_start, IsKept, IsUnderstood, select}
 use Rattle.club_tables.proofs.statements.MeansLemmas.{Means, but, others_kept, trees_kept}
 use Rattle.club_tables.proofs.statements.InsertLemmas.{creates, indexes, inserts, cast_null, cast_int}
 use Rattle.club_tables.proofs.lists.RowLemmas.{holds_more, holds_none}

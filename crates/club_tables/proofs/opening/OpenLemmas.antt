@@ -1,31 +1,11 @@
 -- What an opening finds, and what it makes.
-use Rattle.std.proofs.Common.{rules}
+use Rattle.club_tables.proofs.Common.{rules, ◌≡◌, ◌⊎◌, ℕ, List, [], ◌∷◌, Result, IsTrue, true, false, true≢false, codes, inl, inr, refl, sym, subst, ap, ◌∙◌}
+use Rattle.club_tables.proofs.Common.{arith, is_ok, on_ok_weaker, on_err_weaker, everything, Row, Schema, col, inner, end, understood, listing_schema, VERSION}
+use Rattle.club_tables.proofs.Common.{HasValues, version_values, select, Ghosts, Trees, Database, State, HasCleanDisk, Shown, Held, state, Club, StoreFault}
+use Rattle.club_tables.proofs.Common.{club_schema, first_schema, unindexed_schema, no_schema, HoldsClub, HoldsClubVersion2, Holds, desk_tree, RepresentsBy}
+use Rattle.club_tables.proofs.Common.{Represents, RepresentsVersion1, RepresentsVersion2, IsFound, IsOpeningBatch, RunsBatch, table_batch, BoundStatement}
+use Rattle.club_tables.proofs.Common.{Asked, Ran, IsKept, Commits}
 use Rattle.club_tables.proofs.crashes.RepresentsLemmas.{represents_by}
-use Rattle.std.proofs.Common.{◌≡◌, ◌⊎◌, ℕ, List, [], ◌∷◌, Result, IsTrue, true, false, true≢false, codes, inl, inr, refl, sym, subst, ap, ◌∙◌, arith}
-use Rattle.std.specs.Prelude.{is_ok}
-use Rattle.std.proofs.lemmas.Result.{on_ok_weaker, on_err_weaker}
-use Rattle.sqlite_tied.specs.Compute.{everything}
-use Rattle.sqlite.specs.Order.{Row}
-use Rattle.sqlite.specs.Schema.{Schema}
-use Rattle.sqlite.specs.Term.{col}
-use Rattle.sqlite.specs.Query.{inner, end}
-use Rattle.sqlite.specs.Listing.{understood, listing_schema}
-use Rattle.club_tables.specs.declared.texts.TheConstants.{VERSION}
-use Rattle.club_tables.specs.Columns.{HasValues, version_values}
-use Rattle.club_tables.specs.Statements.{select}
-use Rattle.sqlite.specs.Store.{Ghosts}
-use Rattle.sqlite.specs.Tree.{Trees}
-use Rattle.sqlite.specs.Effect.{Database}
-use Rattle.sqlite.specs.State.{State, HasCleanDisk, Shown}
-use Rattle.sqlite.specs.Held.{Held, state}
-use Rattle.club_core.specs.Club.{Club}
-use Rattle.club_core.specs.declared.store.StoreFault.{StoreFault}
-use Rattle.club_tables.specs.Schema.{club_schema, first_schema, unindexed_schema, no_schema}
-use Rattle.club_tables.specs.Tables.{HoldsClub, HoldsClubVersion2, Holds, desk_tree}
-use Rattle.club_tables.specs.Tables.{RepresentsBy, Represents, RepresentsVersion1, RepresentsVersion2, IsFound}
-use Rattle.club_tables.specs.Opening.{IsOpeningBatch, RunsBatch, table_batch}
-use Rattle.club_tables.specs.Transaction.{BoundStatement, Asked, Ran, IsKept}
-use Rattle.club_tables.specs.Fault.{Commits}
 use Rattle.club_tables.proofs.statements.SelectLemmas.{selected, short_permutation}
 use Rattle.club_tables.proofs.crashes.RepresentsLemmas.{Asks, asked_open, asked_reads}
 use Rattle.club_tables.proofs.crashes.SurviveLemmas.{may_commit, was_clean}

@@ -1,25 +1,10 @@
 -- Steps of an opening that follow a read, tables that are ready for one, and statements that are prepared in turn.
-use Rattle.std.proofs.Common.{rules}
-use Rattle.std.proofs.Common.{List, Result, Err, inl, inr, ◌≡◌, ℕ, [], ◌∷◌, IsTrue, All, sym, subst, ◌+◌, ◌<◌, ◌≤◌, ◌++◌, length, map, take, get_or}
-use Rattle.std.proofs.Common.{zero, suc, Bor, add-one, arith}
-use Rattle.std.proofs.lemmas.Result.{IfErr-weaker, on_ok_weaker, on_err_weaker}
+use Rattle.club_tables.proofs.Common.{rules, List, Result, Err, inl, inr, ◌≡◌, ℕ, [], ◌∷◌, IsTrue, All, sym, subst, ◌+◌, ◌<◌, ◌≤◌, ◌++◌, length, map, take}
+use Rattle.club_tables.proofs.Common.{get_or, zero, suc, Bor, add-one, arith, IfErr-weaker, on_ok_weaker, on_err_weaker, map-append, All-push, Ghosts, Database}
+use Rattle.club_tables.proofs.Common.{HasCleanDisk, Survives, State, Held, state, Row, Club, StoreFault, IsAfterReadings, FailsToRun, IsOpeningBatch}
+use Rattle.club_tables.proofs.Common.{IsOpeningFault, Opens, YieldsRows, FoundReady, OneOf, RepresentsBy, BoundStatement, IsUntouched, IsKept, IsIdle}
+use Rattle.club_tables.proofs.Common.{IsUnderstood, VERSION, HasValues, version_values}
 use Rattle.std.proofs.Math.Seq.{take-suc, take_all}
-use Rattle.std.proofs.lemmas.List.{map-append}
-use Rattle.std.proofs.lemmas.List.Elements.{All-push}
-use Rattle.sqlite.specs.Store.{Ghosts}
-use Rattle.sqlite.specs.Effect.{Database}
-use Rattle.sqlite.specs.State.{HasCleanDisk, Survives, State}
-use Rattle.sqlite.specs.Held.{Held, state}
-use Rattle.sqlite.specs.Order.{Row}
-use Rattle.club_core.specs.Club.{Club}
-use Rattle.club_core.specs.declared.store.StoreFault.{StoreFault}
-use Rattle.club_tables.specs.Answers.{IsAfterReadings}
-use Rattle.club_tables.specs.Fault.{FailsToRun}
-use Rattle.club_tables.specs.Opening.{IsOpeningBatch, IsOpeningFault, Opens, YieldsRows, FoundReady, OneOf}
-use Rattle.club_tables.specs.Tables.{RepresentsBy}
-use Rattle.club_tables.specs.Transaction.{BoundStatement, IsUntouched, IsKept, IsIdle, IsUnderstood}
-use Rattle.club_tables.specs.declared.texts.TheConstants.{VERSION}
-use Rattle.club_tables.specs.Columns.{HasValues, version_values}
 use Rattle.club_tables.proofs.crashes.SurviveLemmas.{after_one, commits_after, was_clean}
 
 -- a batch that is refused after a read

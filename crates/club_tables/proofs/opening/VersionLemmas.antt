@@ -1,19 +1,12 @@
 -- What the texts of the version and of its table are, over any tables.
-use Rattle.std.proofs.Common.{◌≡◌, ℕ, List, [], false, Option, None, Ok, Err, inl, inr, refl, sym, subst, ap, ◌∙◌, true≢false, ◌∷◌, Bool, true, codes}
-use Rattle.std.specs.Prelude.{is_ok, if◌then◌else◌}
-use Rattle.std.proofs.lemmas.Bool.{cases_Bool}
-use Rattle.std.specs.Option.{option_or}
-use Rattle.sqlite_tied.specs.Compute.{everything}
+use Rattle.club_tables.proofs.Common.{◌≡◌, ℕ, List, [], false, Option, None, Ok, Err, inl, inr, refl, sym, subst, ap, ◌∙◌, true≢false, ◌∷◌, Bool, true, codes}
+use Rattle.club_tables.proofs.Common.{is_ok, if◌then◌else◌, cases_Bool, option_or, everything, Schema, Row, Reads, understood, reads_listing, listing_schema}
+use Rattle.club_tables.proofs.Common.{if_select, IsSourceOf, State, Shown, VERSION, MAKE_DESK, YieldsRows, HasNoDesk, arith}
 use Rattle.sqlite_schema.specs.declared.command.Command.{Command}
 use Rattle.sqlite_schema.specs.declared.command.Returning.{Returning}
 use Rattle.sqlite_resolve.specs.declared.compiled.Compiled.{Compiled}
 use Rattle.sqlite_resolve.specs.Lowering.{Checked, and_then, take_slot}
 use Rattle.sqlite_resolve.specs.Compile.{first, returning, command, meaning, planned, with_command, compiled, is_reserved, creates, is_attached, read}
-use Rattle.sqlite.specs.Schema.{Schema}
-use Rattle.sqlite.specs.Order.{Row}
-use Rattle.sqlite.specs.Effect.{Reads}
-use Rattle.sqlite.specs.Listing.{understood, reads_listing, listing_schema, if_select, IsSourceOf}
-use Rattle.sqlite.specs.State.{State, Shown}
 use Rattle.sqlite_ast.specs.declared.Source.{Source, out-Source}
 use Rattle.sqlite_ast.specs.declared.Core.{out-Core}
 use Rattle.sqlite_ast.specs.declared.Select.{Select, out-Select}
@@ -26,11 +19,8 @@ use Rattle.sqlite_resolve.specs.declared.error.CompileError.TheVariants.{NoSuchT
 use Rattle.sqlite_resolve.specs.Body.{table_in, bound, bounds, body}
 use Rattle.sqlite_resolve.specs.Select.{constant_or, parts, named, paging}
 use Rattle.sqlite_resolve.specs.Program.{source, sources, viewing, single, alone, whole, with as with_tables, level, query_to, query}
-use Rattle.club_tables.specs.declared.texts.TheConstants.{VERSION, MAKE_DESK}
-use Rattle.club_tables.specs.Opening.{YieldsRows, HasNoDesk}
 use Rattle.sqlite_ast.specs.declared.Origin.TheVariants as origin
 use Rattle.sqlite_ast.specs.declared.Statement.TheVariants as written
-use Rattle.std.proofs.Common.{arith}
 
 abbrev returned_by : Checked Compiled → Option Returning
 returned_by (Ok c) = c.returning

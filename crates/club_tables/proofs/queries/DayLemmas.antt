@@ -1,35 +1,14 @@
 -- The bookings of a day, as they are asked for.
-use Rattle.std.proofs.Common.{◌≢◌, ◌≡◌, ℕ, ◌<◌, ◌⊎◌, inl, inr, pos, false, List, [], ◌∷◌, map, refl, sym, subst, ◌∙◌, arith, Ordering, Less, Equal}
-use Rattle.std.proofs.Common.{Greater, nat_cmp, int_cmp, ◌==◌, not}
-use Rattle.std.specs.Prelude.{filter, IsSorted, slice_index_or}
-use Rattle.std.specs.Ordering.{on, then_cmp, is_gt, ordering_then}
-use Rattle.std.specs.Cmp.{IsTotalOrder}
+use Rattle.club_tables.proofs.Common.{◌≢◌, ◌≡◌, ℕ, ◌<◌, ◌⊎◌, inl, inr, pos, false, List, [], ◌∷◌, map, refl, sym, subst, ◌∙◌, arith, Ordering, Less, Equal}
+use Rattle.club_tables.proofs.Common.{Greater, nat_cmp, ◌==◌, not, filter, IsSorted, slice_index_or, on, then_cmp, is_gt, ordering_then, IsTotalOrder}
+use Rattle.club_tables.proofs.Common.{nat_tests, ranked, nat_cmp_total, nat_list_cmp_total, on_total, then_total, and-true, and_comm, everything, Text, Binary}
+use Rattle.club_tables.proofs.Common.{ascending, value_cmp-Int, value_cmp-Text, then-Equal, Row, value_cmp, Ghosts, Term, col, inner, end, key_cmp, understood}
+use Rattle.club_tables.proofs.Common.{Held, state, truth, Booking, DAY, club_schema, whole, booking_values, ShowsDay, bookings_tree, select, in_order, is_given}
+use Rattle.std.proofs.Common.{int_cmp}
 use Rattle.std.specs.Cmp.Lexicographic.{slice_cmp}
-use Rattle.std.proofs.lemmas.Bool.Decides.{nat_tests}
-use Rattle.std.proofs.lemmas.Cmp.{ranked, nat_cmp_total, nat_list_cmp_total, on_total, then_total}
 use Rattle.std.proofs.lemmas.List.Kept.{AllPairs-filter}
 use Rattle.std.proofs.lemmas.Map.Lookups.{exact_bytes, exact_unsigned}
-use Rattle.std.proofs.Math.Bool.{and-true, and_comm}
-use Rattle.sqlite_tied.specs.Compute.{everything}
-use Rattle.sqlite_value.specs.declared.value.Value.TheVariants.{Text}
-use Rattle.sqlite_value.specs.declared.keys.Collation.TheVariants.{Binary}
-use Rattle.sqlite_value.specs.Keys.{ascending}
-use Rattle.sqlite_value.proofs.OrderLemmas.{value_cmp-Int, value_cmp-Text, then-Equal}
-use Rattle.sqlite.specs.Order.{Row, value_cmp}
-use Rattle.sqlite.specs.Store.{Ghosts}
-use Rattle.sqlite.specs.Term.{Term, col}
-use Rattle.sqlite.specs.Query.{inner, end, key_cmp}
-use Rattle.sqlite.specs.Listing.{understood}
-use Rattle.sqlite.specs.Held.{Held, state}
-use Rattle.club_rows.specs.Columns.{truth}
-use Rattle.club_rows.specs.declared.booking.Booking.{Booking}
 use Rattle.club_core.specs.Sheet.{is_on, Precedes}
-use Rattle.club_tables.specs.declared.texts.TheConstants.{DAY}
-use Rattle.club_tables.specs.Schema.{club_schema}
-use Rattle.club_tables.specs.Columns.{whole, booking_values}
-use Rattle.club_tables.specs.Sheet.{ShowsDay}
-use Rattle.club_tables.specs.Tables.{bookings_tree}
-use Rattle.club_tables.specs.Statements.{select, in_order, is_given}
 use Rattle.club_tables.proofs.statements.SelectLemmas.{whole_equal, apart_from_pairs, pairs_from_apart, selected_in_order, none_greater, apart-permutation}
 use Rattle.club_tables.proofs.crashes.RepresentsLemmas.{Asks, Shows, asked_tables, asked_reads, bookings_held}
 use Rattle.club_tables.proofs.queries.KeyLemmas.{booking_terms, booking_names, is_uncancelled, no_truth}

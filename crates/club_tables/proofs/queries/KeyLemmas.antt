@@ -1,43 +1,13 @@
 -- Rows that are asked for by name, by slot, by key and number, and by key.
-use Rattle.std.proofs.Common.{◌≡◌, ℕ, ◌≤◌, List, [], ◌∷◌, length, map, codes, Option, Some, None, cond, subst, false, Bool, true, ◌&&◌, ◌≢◌, slice_get, refl}
-use Rattle.std.proofs.Common.{sym, ap, ◌∙◌, arith, pos, not, ◌==◌, inl, inr}
-use Rattle.std.specs.Prelude.{filter, find, option_map, AllPairs, IsPermutation, unwrap_or}
-use Rattle.std.proofs.lemmas.List.{length-map}
-use Rattle.std.specs.Option.{option_to_list}
-use Rattle.std.specs.Str.{bytes_eq}
-use Rattle.std.proofs.lemmas.Slice.Eq.{bytes_eq-Decides}
-use Rattle.std.proofs.Math.Bool.{and-true, and_assoc}
-use Rattle.std.specs.Cmp.{unsigned_Decides}
-use Rattle.std.proofs.lemmas.Bool.{and_parts}
-use Rattle.sqlite_tied.specs.Compute.{everything}
-use Rattle.sqlite_value.specs.declared.value.Value.TheVariants.{Text, Int}
-use Rattle.sqlite.specs.Order.{Row}
-use Rattle.sqlite.specs.Store.{Ghosts}
-use Rattle.sqlite.specs.Term.{col, Term, lit, op2}
-use Rattle.sqlite.specs.Query.{inner, end}
-use Rattle.sqlite.specs.Listing.{understood}
-use Rattle.sqlite.specs.Held.{Held}
-use Rattle.sqlite_value.specs.declared.keys.Collation.TheVariants.{Binary}
-use Rattle.sqlite_sql.specs.declared.ops.BinaryOp.TheVariants.{Compare}
-use Rattle.sqlite_sql.specs.declared.ops.CompareOp.TheVariants.{Eq}
-use Rattle.club_rows.specs.declared.key.Key.{Key}
-use Rattle.club_rows.specs.declared.facility.Facility.{Facility}
-use Rattle.club_core.specs.Club.{key_named, member_named, facility_named, Club}
-use Rattle.club_core.specs.KeyParts.{older_root_of}
-use Rattle.club_values.specs.declared.slot.Slot.{Slot}
-use Rattle.club_rows.specs.Columns.{truth}
-use Rattle.club_rows.specs.declared.booking.Booking.{Booking}
-use Rattle.club_rows.specs.Booking.{same_slot}
-use Rattle.club_core.specs.Sums.{is_under, booking_under}
-use Rattle.club_core.specs.Basis.{slot_use}
-use Rattle.club_tables.specs.declared.row.MemberRow.{MemberRow}
-use Rattle.club_tables.specs.declared.texts.TheConstants.{KEY, MEMBER, FACILITY, OLDER_ROOT, SLOT, BOOKING, COSTS_UNDER_KEY}
-use Rattle.club_tables.specs.Schema.{club_schema}
-use Rattle.club_tables.specs.Columns.{key_values, member_values, facility_values, older_values, older_root_values, whole, name_values, slot_values}
-use Rattle.club_tables.specs.Columns.{use_values, booking_values, cost_values}
-use Rattle.club_tables.specs.Stored.{OlderRow, member_row, SlotRow, no_slot_use, row_of}
-use Rattle.club_tables.specs.Tables.{Holds, keys_tree, members_tree, facilities_tree, olders_tree, slots_tree, bookings_tree}
-use Rattle.club_tables.specs.Statements.{select, is_given}
+use Rattle.club_tables.proofs.Common.{◌≡◌, ℕ, ◌≤◌, List, [], ◌∷◌, length, map, codes, Option, Some, None, cond, subst, false, Bool, true, ◌&&◌, ◌≢◌, slice_get}
+use Rattle.club_tables.proofs.Common.{refl, sym, ap, ◌∙◌, arith, pos, not, ◌==◌, inl, inr, filter, find, option_map, AllPairs, IsPermutation, unwrap_or}
+use Rattle.club_tables.proofs.Common.{length-map, option_to_list, bytes_eq, bytes_eq-Decides, and-true, and_assoc, unsigned_Decides, and_parts, everything}
+use Rattle.club_tables.proofs.Common.{Text, Int, Row, Ghosts, col, Term, lit, op2, inner, end, understood, Held, Binary, Compare, Eq, Key, Facility, key_named}
+use Rattle.club_tables.proofs.Common.{member_named, facility_named, Club, older_root_of, Slot, truth, Booking, same_slot, is_under, booking_under, slot_use}
+use Rattle.club_tables.proofs.Common.{MemberRow, KEY, MEMBER, FACILITY, OLDER_ROOT, SLOT, BOOKING, COSTS_UNDER_KEY, club_schema, key_values, member_values}
+use Rattle.club_tables.proofs.Common.{facility_values, older_values, older_root_values, whole, name_values, slot_values, use_values, booking_values}
+use Rattle.club_tables.proofs.Common.{cost_values, OlderRow, member_row, SlotRow, no_slot_use, row_of, Holds, keys_tree, members_tree, facilities_tree}
+use Rattle.club_tables.proofs.Common.{olders_tree, slots_tree, bookings_tree, select, is_given}
 use Rattle.club_tables.specs.Use.{ShowsUse}
 use Rattle.club_tables.proofs.statements.SelectLemmas.{pairs_mapped, text_equal, find_first, apart_from_pairs, one_passes, short_permutation, whole_equal}
 use Rattle.club_tables.proofs.crashes.RepresentsLemmas.{Asks, Shows, asked_tables, asked_shows, keys_held, bookings_held}

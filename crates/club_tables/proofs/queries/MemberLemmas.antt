@@ -1,51 +1,17 @@
 -- What is asked of the bookings of all keys of a member.
-use Rattle.std.proofs.Common.{◌≡◌, ◌≢◌, ℕ, ◌+◌, ◌*◌, ◌/◌, ◌<◌, ◌≤◌, ◌^◌, pos, Bool, true, false}
-use Rattle.std.proofs.Common.{not, cond, ◌&&◌, ◌||◌, List, [], ◌∷◌, map, codes, length, refl}
-use Rattle.std.proofs.Common.{sym, ap, ◌∙◌, arith}
-use Rattle.std.specs.Prelude.{filter, flat_map, slice_index_or, nat_lt, nat_le, AllPairs, IsPermutation}
-use Rattle.std.specs.List.{list_any}
-use Rattle.std.specs.Str.{bytes_eq}
-use Rattle.std.specs.Ordering.{is_gt, is_ge, int_cmp}
-use Rattle.std.proofs.lemmas.Bool.{and_parts, lt-ltb, false_from_ne_true}
-use Rattle.std.proofs.lemmas.Bool.Decides.{nat_tests}
-use Rattle.std.proofs.lemmas.List.{length-map}
-use Rattle.std.proofs.lemmas.List.Elements.{All-filter, filter_agree, recursion_from_All, All-weaker}
-use Rattle.std.proofs.lemmas.List.Sorted.{length_permutation}
-use Rattle.std.proofs.lemmas.Slice.Eq.{bytes_eq-Decides}
-use Rattle.std.proofs.Math.Bool.{and-true, and-false, and_comm}
-use Rattle.std.proofs.lemmas.List.Folds.{list_any_none}
-use Rattle.sqlite_tied.specs.Compute.{everything}
-use Rattle.sqlite_value.specs.declared.value.Value.{Value}
-use Rattle.sqlite_value.specs.declared.value.Value.TheVariants.{Int, Text}
-use Rattle.sqlite_value.specs.declared.keys.Collation.TheVariants.{Binary}
-use Rattle.sqlite_value.proofs.OrderLemmas.{value_cmp-Int}
-use Rattle.sqlite_sql.specs.declared.ops.ArithOp.TheVariants.{Add, Mul}
-use Rattle.sqlite_sql.specs.declared.ops.BinaryOp.TheVariants.{Arith, Compare}
-use Rattle.sqlite_sql.specs.declared.ops.CompareOp.TheVariants.{Eq, Gt, Ge}
-use Rattle.sqlite_sql.specs.Ops.{binary, is_true}
-use Rattle.sqlite.specs.Order.{Row}
-use Rattle.sqlite.specs.Store.{Ghosts}
-use Rattle.sqlite.specs.Term.{Term, lit, col, op2}
-use Rattle.sqlite.specs.Query.{inner, end}
-use Rattle.sqlite.specs.Listing.{understood}
-use Rattle.sqlite.specs.Held.{Held, state}
+use Rattle.club_tables.proofs.Common.{◌≡◌, ◌≢◌, ℕ, ◌+◌, ◌*◌, ◌/◌, ◌<◌, ◌≤◌, ◌^◌, pos, Bool, true, false, not, cond, ◌&&◌, ◌||◌, List, [], ◌∷◌, map, codes}
+use Rattle.club_tables.proofs.Common.{length, refl, sym, ap, ◌∙◌, arith, filter, flat_map, slice_index_or, nat_lt, nat_le, AllPairs, IsPermutation, list_any}
+use Rattle.club_tables.proofs.Common.{bytes_eq, is_gt, is_ge, int_cmp, and_parts, lt-ltb, false_from_ne_true, nat_tests, length-map, All-filter, filter_agree}
+use Rattle.club_tables.proofs.Common.{recursion_from_All, All-weaker, length_permutation, bytes_eq-Decides, and-true, and-false, and_comm, list_any_none}
+use Rattle.club_tables.proofs.Common.{everything, Value, Int, Text, Binary, value_cmp-Int, Add, Mul, Arith, Compare, Eq, Gt, Ge, binary, is_true, Row, Ghosts}
+use Rattle.club_tables.proofs.Common.{Term, lit, col, op2, inner, end, understood, Held, state, truth, Key, Booking, IsBooking, is_to_come, count_to_come, Club}
+use Rattle.club_tables.proofs.Common.{is_key_of, bookings_of, OPEN, club_schema, whole, key_values, booking_values, keys_tree, bookings_tree, select, is_given}
+use Rattle.club_tables.proofs.Common.{map-flat_map}
 use Rattle.club_values.specs.Slot.{start_of}
-use Rattle.club_rows.specs.Columns.{truth}
-use Rattle.club_rows.specs.declared.key.Key.{Key}
-use Rattle.club_rows.specs.declared.booking.Booking.{Booking}
-use Rattle.club_rows.specs.Rows.{IsBooking}
-use Rattle.club_core.specs.Sums.{is_to_come, count_to_come}
-use Rattle.club_core.specs.Club.{Club, is_key_of, bookings_of}
-use Rattle.club_tables.specs.declared.texts.TheConstants.{OPEN}
-use Rattle.club_tables.specs.Schema.{club_schema}
-use Rattle.club_tables.specs.Columns.{whole, key_values, booking_values}
-use Rattle.club_tables.specs.Tables.{keys_tree, bookings_tree}
-use Rattle.club_tables.specs.Statements.{select, is_given}
 use Rattle.club_tables.proofs.statements.SelectLemmas.{apart_from_pairs, from_truth_is, text_equal, whole_equal, filter_same}
 use Rattle.club_tables.proofs.statements.JoinLemmas.{filter_filter, IsElsewhere, pairs_counted, selected_both}
 use Rattle.club_tables.proofs.crashes.RepresentsLemmas.{Asks, Shows, asked_tables, asked_reads, keys_held, bookings_held}
 use Rattle.club_tables.proofs.queries.KeyLemmas.{no_truth}
-use Rattle.sqlite_trees.proofs.ListLemmas.{map-flat_map}
 
 -- the booking's key is the key
 abbrev under_it : Term

@@ -1,18 +1,10 @@
 -- What makes a reading, and which fault it has.
-use Rattle.std.proofs.Common.{List, Result, IfOk, IfErr, inl, inr, arith}
-use Rattle.std.proofs.lemmas.Result.{IfErr-weaker, IfOk-weaker}
-use Rattle.sqlite.specs.Order.{Row}
-use Rattle.sqlite.specs.Store.{Ghosts}
-use Rattle.sqlite.specs.State.{HasCleanDisk, Survives}
-use Rattle.sqlite.specs.Held.{Held, state}
-use Rattle.club_core.specs.declared.store.StoreFault.{StoreFault}
-use Rattle.club_core.specs.Club.{Club}
-use Rattle.club_tables.specs.Answers.{Answers, FailsAtReading, FailsToRead, IsAfterReadings, IsReadFault, Reading, CanRead, reading_statement}
-use Rattle.club_tables.specs.ReadsAndChanges.{ReadsClub}
-use Rattle.club_tables.specs.Transaction.{Asked, IsKept, BoundStatement}
+use Rattle.club_tables.proofs.Common.{List, Result, IfOk, IfErr, inl, inr, arith, IfErr-weaker, IfOk-weaker, Row, Ghosts, HasCleanDisk, Survives, Held, state}
+use Rattle.club_tables.proofs.Common.{StoreFault, Club, FailsAtReading, FailsToRead, IsAfterReadings, IsReadFault, Reading, CanRead, reading_statement}
+use Rattle.club_tables.proofs.Common.{ReadsClub, Asked, IsKept, BoundStatement, HoldsClub}
+use Rattle.club_tables.specs.Answers.{Answers}
 use Rattle.club_tables.proofs.crashes.RepresentsLemmas.{Shows, represents_on}
 use Rattle.club_tables.proofs.crashes.SurviveLemmas.{kept_when_idle}
-use Rattle.club_tables.specs.Tables.{HoldsClub}
 
 -- no reading before
 pub at_once : {S : Type 0} (g : Ghosts S) (held : Held S) → HasCleanDisk (state g held) → IsAfterReadings g held held

@@ -1,39 +1,17 @@
 -- An INSERT of one row, and CREATE TABLE.
-use Rattle.std.proofs.Common.{◌≡◌, ◌≢◌, ◌⊎◌, ◌≤◌, inl, inr, ℕ, ◌/◌, Bool, true, false, cond, None, Some, Option, Ok, Err, Result, List, [], ◌∷◌, length, map}
-use Rattle.std.proofs.Common.{slice_get, refl}
-use Rattle.std.proofs.Common.{sym, ap, subst, subst₂, ◌∙◌, append-nil, arith}
-use Rattle.std.specs.Prelude.{MatchBool, drop, unwrap_or}
-use Rattle.std.proofs.lemmas.List.{length-map}
+use Rattle.club_tables.proofs.Common.{◌≡◌, ◌≢◌, ◌⊎◌, ◌≤◌, inl, inr, ℕ, ◌/◌, Bool, true, false, cond, None, Some, Option, Ok, Err, Result, List, [], ◌∷◌, length}
+use Rattle.club_tables.proofs.Common.{map, slice_get, refl, sym, ap, subst, subst₂, ◌∙◌, append-nil, arith, MatchBool, drop, unwrap_or, length-map}
+use Rattle.club_tables.proofs.Common.{AllByRecursion, Value, Null, Int, Row, Trees, put_row, Term, Schema, Table, Values, Command, Insert, CreateTable}
+use Rattle.club_tables.proofs.Common.{CreateIndex, created, next_tree, is_used, KeepsRows, cast, cast_row, Chosen, Above, Edit, edit_of, edited, next_rowid}
+use Rattle.club_tables.proofs.Common.{with_rowid, taken_by, works, Enforced, Written, Task, stamped, count_of, rowids_for, Error, Database, IsDatabase}
+use Rattle.club_tables.proofs.Common.{value_rows, understood, State, mode_of, Runs, Writes, Executes, statement_of, runs_as, one_step}
 use Rattle.sqlite_rules.proofs.RowLemmas.{length-numbered}
-use Rattle.std.specs.List.{AllByRecursion}
-use Rattle.sqlite_value.specs.declared.value.Value.{Value}
-use Rattle.sqlite_value.specs.declared.value.Value.TheVariants.{Null, Int}
-use Rattle.sqlite.specs.Order.{Row}
-use Rattle.sqlite.specs.Tree.{Trees, put_row}
-use Rattle.sqlite.specs.Term.{Term}
 use Rattle.sqlite.specs.Ops.{unary}
-use Rattle.sqlite.specs.Schema.{Schema}
-use Rattle.sqlite.specs.Table.{Table}
 use Rattle.sqlite.specs.Kind.TheVariants.{Integer}
-use Rattle.sqlite.specs.Source.TheVariants.{Values}
-use Rattle.sqlite.specs.Command.{Command}
-use Rattle.sqlite.specs.Command.TheVariants.{Insert, CreateTable, CreateIndex}
 use Rattle.sqlite_schema.specs.declared.schema.Index.{Index}
 use Rattle.sqlite_catalog.specs.Change.{indexed}
-use Rattle.sqlite.specs.Change.{created, next_tree, is_used, KeepsRows}
-use Rattle.sqlite.specs.Cast.{cast, cast_row}
-use Rattle.sqlite.specs.Rowids.TheVariants.{Chosen, Above}
-use Rattle.sqlite.specs.Edit.{Edit, edit_of, edited, next_rowid, with_rowid}
-use Rattle.sqlite_rules.specs.Edit.{taken_by}
-use Rattle.sqlite_rules.specs.Action.{works, Writes as ActionWrites}
-use Rattle.sqlite_schema.specs.declared.schema.Keys.TheVariants.{Enforced}
+use Rattle.sqlite_rules.specs.Action.{Writes as ActionWrites}
 use Rattle.sqlite.specs.Does.{Tally, Does, OnTable, OnRows, WritesRows, lacks_sequence}
-use Rattle.sqlite.specs.Rows.{Written, Task, stamped, count_of, rowids_for}
-use Rattle.sqlite.specs.declared.error.Error.{Error}
-use Rattle.sqlite.specs.Effect.{Database, IsDatabase, value_rows}
-use Rattle.sqlite.specs.Listing.{understood}
-use Rattle.sqlite.specs.State.{State, mode_of, Runs, Writes, Executes}
-use Rattle.sqlite.proofs.Callers.{statement_of, runs_as, one_step}
 use Rattle.club_tables.proofs.statements.MeansLemmas.{Makes, MakesIndex, Means, Wrote}
 
 -- a part that gave a value did not stop on the way

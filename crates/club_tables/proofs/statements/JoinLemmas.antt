@@ -1,23 +1,9 @@
 -- What a query over two tables gives: both joined, or one with EXISTS over the other.
-use Rattle.std.proofs.Common.{◌≡◌, ℕ, ℤ, Bool, true, false, cond, ◌||◌, ◌&&◌, List, [], ◌∷◌, map, refl, ap, subst, ◌∙◌, ◌≤◌, pos, min, length}
-use Rattle.std.proofs.Common.{arith}
-use Rattle.std.specs.Prelude.{filter, flat_map, IsPermutation}
-use Rattle.std.specs.List.{AllByRecursion, list_all, list_any}
-use Rattle.std.proofs.lemmas.List.{length-map}
-use Rattle.sqlite_value.specs.declared.value.Value.TheVariants.{Int}
-use Rattle.sqlite.specs.Order.{Row}
-use Rattle.sqlite.specs.Term.{Term, Env, holds, eval_all}
-use Rattle.sqlite.specs.Query.{inner, end, IsAnswer, output, counted}
-use Rattle.sqlite.specs.Command.TheVariants.{Select}
-use Rattle.sqlite.specs.Effect.{Database, Reads, Answers}
-use Rattle.sqlite_trees.proofs.ListLemmas.{map-map, map-flat_map, flat_map-map, flat_map_same_on, filter-filter}
-use Rattle.std.proofs.lemmas.List.Elements.{filter_agree}
-use Rattle.std.proofs.Math.Bool.{and-true}
-use Rattle.std.proofs.Common.{not, sym, ◌+◌, length-append}
+use Rattle.club_tables.proofs.Common.{◌≡◌, ℕ, ℤ, Bool, true, false, cond, ◌||◌, ◌&&◌, List, [], ◌∷◌, map, refl, ap, subst, ◌∙◌, ◌≤◌, pos, min, length, arith}
+use Rattle.club_tables.proofs.Common.{filter, flat_map, IsPermutation, AllByRecursion, list_all, list_any, length-map, Int, Row, Term, Env, holds, eval_all}
+use Rattle.club_tables.proofs.Common.{inner, end, IsAnswer, output, counted, Select, Database, Reads, Answers, map-map, map-flat_map, flat_map-map}
+use Rattle.club_tables.proofs.Common.{flat_map_same_on, filter-filter, filter_agree, and-true, not, sym, ◌+◌, length-append, is_true, Holds, select}
 use Rattle.std.proofs.lemmas.List.Filters.{length-filter_both}
-use Rattle.sqlite_sql.specs.Ops.{is_true}
-use Rattle.club_tables.specs.Tables.{Holds}
-use Rattle.club_tables.specs.Statements.{select}
 use Rattle.club_tables.proofs.statements.SelectLemmas.{Apart, pick_by_if, plain_answer, picked, none_of, shown_of, row_of, paired as with_rowids}
 use Rattle.club_tables.proofs.statements.PassLemmas.{as_many, each_row}
 

@@ -1,31 +1,14 @@
 -- What a text is, as sqlite understands it, and the tables after a statement that wrote to one of them.
-use Rattle.std.proofs.Common.{◌≡◌, ◌≢◌, ℕ, List, Ok, Some, slice_get, false, Bool, true, ◌==◌, if◌then◌else◌, [], ◌∷◌, refl, sym, subst, ◌∙◌, true≢false, ◌≤◌}
-use Rattle.std.specs.List.{AllByRecursion}
-use Rattle.std.specs.Cmp.{unsigned_Decides}
-use Rattle.sqlite.specs.Table.{Table}
-use Rattle.sqlite.specs.Effect.{Database, IsDatabase}
-use Rattle.sqlite.specs.Schema.{Schema}
-use Rattle.sqlite.specs.Command.{Command}
-use Rattle.sqlite.specs.Command.TheVariants.{CreateTable, CreateIndex}
+use Rattle.club_tables.proofs.Common.{◌≡◌, ◌≢◌, ℕ, List, Ok, Some, slice_get, false, Bool, true, ◌==◌, if◌then◌else◌, [], ◌∷◌, refl, sym, subst, ◌∙◌}
+use Rattle.club_tables.proofs.Common.{true≢false, ◌≤◌, AllByRecursion, unsigned_Decides, Table, Database, IsDatabase, Schema, Command, CreateTable, CreateIndex}
+use Rattle.club_tables.proofs.Common.{created, understood, IsPlain, command_of, statement_of, Trees, State, Executes, Facility, Key, Booking, club_schema}
+use Rattle.club_tables.proofs.Common.{version_values, member_values, facility_values, key_values, slot_values, booking_values, older_values, MemberRow, Rows}
+use Rattle.club_tables.proofs.Common.{SlotRow, OlderRow, Holds, HoldsTrees, HoldsRows, desk_tree, members_tree, facilities_tree, keys_tree, slots_tree}
+use Rattle.club_tables.proofs.Common.{bookings_tree, olders_tree, BoundStatement}
 use Rattle.sqlite.specs.Compile.{table_defined_by}
 use Rattle.sqlite_resolve.specs.Compile.{index_defined_by}
 use Rattle.sqlite_schema.specs.declared.schema.Index.{Index}
-use Rattle.sqlite.specs.Change.{created}
 use Rattle.sqlite.specs.Does.{lacks_sequence}
-use Rattle.sqlite.specs.Listing.{understood}
-use Rattle.sqlite.proofs.Callers.{IsPlain, command_of, statement_of}
-use Rattle.sqlite.specs.Tree.{Trees}
-use Rattle.sqlite.specs.State.{State, Executes}
-use Rattle.club_rows.specs.declared.facility.Facility.{Facility}
-use Rattle.club_rows.specs.declared.key.Key.{Key}
-use Rattle.club_rows.specs.declared.booking.Booking.{Booking}
-use Rattle.club_tables.specs.Schema.{club_schema}
-use Rattle.club_tables.specs.Columns.{version_values, member_values, facility_values, key_values, slot_values, booking_values, older_values}
-use Rattle.club_tables.specs.declared.row.MemberRow.{MemberRow}
-use Rattle.club_tables.specs.Stored.{Rows, SlotRow, OlderRow}
-use Rattle.club_tables.specs.Tables.{Holds, HoldsTrees, HoldsRows, desk_tree, members_tree, facilities_tree, keys_tree, slots_tree, bookings_tree}
-use Rattle.club_tables.specs.Tables.{olders_tree}
-use Rattle.club_tables.specs.Transaction.{BoundStatement}
 
 -- over these tables the text is this command
 pub record Means (schema : Schema) (text : List ℕ) (command : Command) : Type 0 where

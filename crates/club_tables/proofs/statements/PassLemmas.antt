@@ -1,20 +1,9 @@
 -- What an UPDATE found that wrote a row.
-use Rattle.std.proofs.Common.{◌≡◌, ◌≤◌, ℤ, Contains, Bool, true, false, ◌||◌, cond, Some, List, [], ◌∷◌, length, refl, sym, ap, ◌∙◌, not, arith}
-use Rattle.std.proofs.Common.{true≢false, slice_get, suc, ◌==◌}
-use Rattle.std.proofs.lemmas.Bool.Decides.{nat_tests}
-use Rattle.std.specs.Prelude.{filter, find, Contains}
-use Rattle.std.specs.List.{AllByRecursion, AllZip, list_any}
-use Rattle.std.proofs.lemmas.List.Folds.{list_any_at}
+use Rattle.club_tables.proofs.Common.{◌≡◌, ◌≤◌, ℤ, Contains, Bool, true, false, ◌||◌, cond, Some, List, [], ◌∷◌, length, refl, sym, ap, ◌∙◌, not, arith}
+use Rattle.club_tables.proofs.Common.{true≢false, slice_get, suc, ◌==◌, nat_tests, filter, find, AllByRecursion, AllZip, list_any, list_any_at, Int, Row}
+use Rattle.club_tables.proofs.Common.{filter-filter, has_found, has_kept, contains_had, all_from, Has, false_from_ne_true, inl, inr, IsRowOf}
 use Rattle.std.proofs.lemmas.List.Filters.{length-filter_both}
 use Rattle.std.proofs.lemmas.Option.{slice_get_within}
-use Rattle.sqlite_value.specs.declared.value.Value.TheVariants.{Int}
-use Rattle.sqlite.specs.Order.{Row}
-use Rattle.sqlite_trees.proofs.ListLemmas.{filter-filter}
-use Rattle.sqlite_rules.proofs.ListLemmas.{has_found, has_kept, contains_had, all_from}
-use Rattle.sqlite_rules.specs.Lists.{Has}
-use Rattle.std.proofs.lemmas.Bool.{false_from_ne_true}
-use Rattle.std.proofs.Common.{inl, inr}
-use Rattle.club_tables.specs.Tables.{IsRowOf}
 use Rattle.club_tables.proofs.statements.SelectLemmas.{find_first, filter_same, only}
 
 -- a test of the columns passes if the element does

@@ -1,47 +1,18 @@
 -- What a statement leaves that puts a row by its key: an INSERT with ON CONFLICT DO UPDATE.
-use Rattle.std.proofs.Common.{◌≡◌, ◌≤◌, inl, inr, ℕ, ◌/◌, ℤ, Bool, true, false, None, Some, Option, Ok, List, [], ◌∷◌, ◌++◌, length, map, slice_get, refl, sym}
-use Rattle.std.proofs.Common.{ap, subst, ◌∙◌, append-nil, arith, not, ◌==◌}
-use Rattle.std.specs.Prelude.{filter, IsPermutation}
-use Rattle.std.specs.Ordering.{is_eq, ordering_reverse}
-use Rattle.std.proofs.lemmas.Cmp.{tied_itself}
-use Rattle.std.proofs.lemmas.List.Elements.{filter_agree}
-use Rattle.sqlite_value.proofs.OrderLemmas.{value_cmp_total}
-use Rattle.sqlite.specs.Tree.{has_rowid, IsTable, Trees, put_row, rowid}
-use Rattle.sqlite_trees.proofs.ListLemmas.{filter-map, all_from_map}
-use Rattle.sqlite_rules.proofs.ListLemmas.{all_has, has_kept, has_filtered}
-use Rattle.sqlite.proofs.Callers.{one_permutation, IsPlain, command_of}
-use Rattle.std.proofs.lemmas.List.{length-map}
-use Rattle.std.specs.List.{AllByRecursion, list_any}
-use Rattle.std.proofs.Math.Bool.{and-true}
-use Rattle.sqlite_value.specs.declared.value.Value.TheVariants.{Null, Int}
-use Rattle.sqlite_value.specs.declared.keys.Collation.TheVariants.{Binary}
-use Rattle.sqlite_sql.specs.declared.ops.BinaryOp.TheVariants.{Compare}
-use Rattle.sqlite_sql.specs.declared.ops.CompareOp.TheVariants.{Eq}
-use Rattle.sqlite.specs.Order.{Row, column, value_cmp}
-use Rattle.sqlite.specs.Term.{Term, col, op2, eval_all}
-use Rattle.sqlite.specs.Query.{inner, end}
-use Rattle.sqlite.specs.Source.TheVariants.{Values}
-use Rattle.sqlite.specs.Command.{Command}
-use Rattle.sqlite.specs.Command.TheVariants.{InsertOr}
+use Rattle.club_tables.proofs.Common.{◌≡◌, ◌≤◌, inl, inr, ℕ, ◌/◌, ℤ, Bool, true, false, None, Some, Option, Ok, List, [], ◌∷◌, ◌++◌, length, map, slice_get}
+use Rattle.club_tables.proofs.Common.{refl, sym, ap, subst, ◌∙◌, append-nil, arith, not, ◌==◌, filter, IsPermutation, is_eq, ordering_reverse, tied_itself}
+use Rattle.club_tables.proofs.Common.{filter_agree, value_cmp_total, has_rowid, IsTable, Trees, put_row, rowid, filter-map, all_from_map, all_has, has_kept}
+use Rattle.club_tables.proofs.Common.{has_filtered, one_permutation, IsPlain, command_of, length-map, AllByRecursion, list_any, and-true, Null, Int, Binary}
+use Rattle.club_tables.proofs.Common.{Compare, Eq, Row, column, value_cmp, Term, col, op2, eval_all, inner, end, Values, Command, InsertOr, conflicts}
+use Rattle.club_tables.proofs.Common.{AreConflicts, Table, cast_row, Edit, next_rowid, with_rowid, Chosen, Enforced, Written, Task, nothing, shown, count_of}
+use Rattle.club_tables.proofs.Common.{Upserts, Clears, Puts, Resolves, Tries, TriesEach, Meets, value_rows, State, Executes, understood, table_of, club_schema}
+use Rattle.club_tables.proofs.Common.{select, Holds, Equal-is, binary, is_true, Has}
 use Rattle.sqlite_schema.specs.declared.command.Conflict.TheVariants.{Abort}
 use Rattle.sqlite_schema.specs.declared.command.Upsert.{Upsert}
 use Rattle.sqlite_schema.specs.declared.program.Program.{Program}
 use Rattle.sqlite_schema.specs.declared.schema.Column.{Column}
 use Rattle.sqlite_schema.specs.declared.schema.Reference.{Reference}
-use Rattle.sqlite_rules.specs.Keys.{conflicts, AreConflicts}
-use Rattle.sqlite.specs.Table.{Table}
-use Rattle.sqlite.specs.Cast.{cast_row}
-use Rattle.sqlite.specs.Edit.{Edit, next_rowid, with_rowid}
-use Rattle.sqlite.specs.Rowids.TheVariants.{Chosen}
 use Rattle.sqlite_rules.specs.Action.{Writes as ActionWrites}
-use Rattle.sqlite_schema.specs.declared.schema.Keys.TheVariants.{Enforced}
-use Rattle.sqlite.specs.Rows.{Written, Task, nothing, shown, count_of, Upserts, Clears, Puts, Resolves, Tries, TriesEach, Meets}
-use Rattle.sqlite.specs.Effect.{value_rows}
-use Rattle.sqlite.specs.State.{State, Executes}
-use Rattle.sqlite.specs.Listing.{understood}
-use Rattle.club_tables.specs.Schema.{table_of, club_schema}
-use Rattle.club_tables.specs.Statements.{select}
-use Rattle.club_tables.specs.Tables.{Holds}
 use Rattle.club_tables.proofs.lists.RowLemmas.{holds_more}
 use Rattle.club_tables.proofs.statements.InsertLemmas.{Leaves, task_of, went, same_value, wrote_rows, edited_alone}
 use Rattle.club_tables.proofs.statements.MeansLemmas.{Means, Wrote}
@@ -49,9 +20,6 @@ use Rattle.club_tables.proofs.statements.UpdateLemmas.{Updates, updated, no_work
 use Rattle.club_tables.proofs.statements.PassLemmas.{any_filtered_is}
 use Rattle.club_tables.proofs.statements.SelectLemmas.{Apart, one_passes, test, shows, answered, row_of, Paired, paired, only, from_truth_is}
 use Rattle.club_tables.proofs.lists.PutRows.{IsLone, put_among}
-use Rattle.std.specs.Cmp.{Equal-is}
-use Rattle.sqlite_sql.specs.Ops.{binary, is_true}
-use Rattle.sqlite_rules.specs.Lists.{Has}
 
 -- `=` of two rowids
 pub id_equal : (a b : ℤ) → is_true (binary (Compare Eq Binary) (Int a) (Int b)) ≡ is_eq (value_cmp (Int a) (Int b))

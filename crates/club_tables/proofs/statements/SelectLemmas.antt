@@ -1,42 +1,20 @@
 -- What a SELECT over one table gives, with ORDER BY or without, if the table holds a list.
-use Rattle.std.proofs.Common.{◌≡◌, ◌≤◌, ℕ, suc, ◌-◌, ◌^◌, ℤ, pos, Bool, true, false, cond, ◌==◌, None, Some, List, [], ◌∷◌, ◌++◌, length, map, slice_get, refl}
-use Rattle.std.proofs.Common.{sym, ap, subst, ◌∙◌, arith, inl, inr, ◌+◌}
+use Rattle.club_tables.proofs.Common.{◌≡◌, ◌≤◌, ℕ, suc, ◌-◌, ◌^◌, ℤ, pos, Bool, true, false, cond, ◌==◌, None, Some, List, [], ◌∷◌, ◌++◌, length, map}
+use Rattle.club_tables.proofs.Common.{slice_get, refl, sym, ap, subst, ◌∙◌, arith, inl, inr, ◌+◌, filter, find, flat_map, AllPairs, IsPermutation, nat_le}
+use Rattle.club_tables.proofs.Common.{unwrap_or, IsSorted, AllByRecursion, AllZip, list_all, bytes_eq, is_eq, int_cmp, is_lt, nat_tests, IsPermutation-map}
+use Rattle.club_tables.proofs.Common.{length_permutation, sorted_far, ranks_by, IsPermutation-refl, IsPermutation-cons, IsPermutation-middle}
+use Rattle.club_tables.proofs.Common.{IsPermutation-trans, recursion_from_All, All-from_recursion, filter_passes, Int, Text, Blob, Null, Binary, value_cmp-Int}
+use Rattle.club_tables.proofs.Common.{value_cmp-Text, value_cmp-Blob, Compare, Eq, binary, is_true, from_truth, Row, Trees, Term, Env, holds, eval_all, inner}
+use Rattle.club_tables.proofs.Common.{end, IsAnswer, Output, output, Query, output_cmp, key_cmp, Select, Database, Reads, Answers, one_permutation, IsRowOf}
+use Rattle.club_tables.proofs.Common.{Holds, select, Has, map-map, filter-map, ascending-filter, ascending-map, all_of, pull_back, all-permutation}
+use Rattle.club_tables.proofs.Common.{along_permutation, Less, Equal, Greater, is_gt, ordering_reverse, IsTotalOrder, length-map, get_or-map}
 use Rattle.std.proofs.Math.Path.{ap₂}
-use Rattle.std.specs.Prelude.{filter, find, flat_map, AllPairs, IsPermutation, nat_le, unwrap_or, IsSorted}
-use Rattle.std.specs.List.{AllByRecursion, AllZip, list_all}
-use Rattle.std.specs.Str.{bytes_eq}
-use Rattle.std.specs.Ordering.{is_eq, int_cmp, is_lt}
-use Rattle.std.proofs.lemmas.Bool.Decides.{nat_tests}
 use Rattle.std.proofs.lemmas.Map.Text.{is_eq-slice_cmp}
-use Rattle.std.proofs.lemmas.List.Sorted.{IsPermutation-map, length_permutation, sorted_far, ranks_by, IsPermutation-refl, IsPermutation-cons}
-use Rattle.std.proofs.lemmas.List.Sorted.{IsPermutation-middle, IsPermutation-trans}
-use Rattle.std.proofs.lemmas.List.Elements.{recursion_from_All, All-from_recursion, filter_passes}
 use Rattle.std.proofs.lemmas.List.Kept.{AllPairs-cons}
-use Rattle.sqlite_value.specs.declared.value.Value.TheVariants.{Int, Text, Blob, Null}
-use Rattle.sqlite_value.specs.declared.keys.Collation.TheVariants.{Binary}
-use Rattle.sqlite_value.proofs.OrderLemmas.{value_cmp-Int, value_cmp-Text, value_cmp-Blob}
-use Rattle.sqlite_sql.specs.declared.ops.BinaryOp.TheVariants.{Compare}
-use Rattle.sqlite_sql.specs.declared.ops.CompareOp.TheVariants.{Eq}
-use Rattle.sqlite_sql.specs.Ops.{binary, is_true, from_truth}
-use Rattle.sqlite.specs.Order.{Row}
-use Rattle.sqlite.specs.Tree.{Trees}
-use Rattle.sqlite.specs.Term.{Term, Env, holds, eval_all}
-use Rattle.sqlite.specs.Query.{inner, end, IsAnswer, Output, output, Query, output_cmp, key_cmp}
 use Rattle.sqlite.specs.Program.{overlay}
-use Rattle.sqlite.specs.Command.TheVariants.{Select}
-use Rattle.sqlite.specs.Effect.{Database, Reads, Answers}
-use Rattle.sqlite.proofs.Callers.{one_permutation}
-use Rattle.club_tables.specs.Tables.{IsRowOf, Holds}
-use Rattle.club_tables.specs.Statements.{select}
-use Rattle.sqlite_rules.specs.Lists.{Has}
 use Rattle.sqlite_trees.specs.Tree.{IsAscending}
-use Rattle.sqlite_trees.proofs.ListLemmas.{map-map, filter-map, ascending-filter, ascending-map, all_of, pull_back, all-permutation, along_permutation}
 pub use Rattle.sqlite_trees.proofs.ListLemmas.{filter_same, filter_none as none_pass}
 use Rattle.std.specs.declared.cmp.Ordering.{Ordering}
-use Rattle.std.proofs.Common.{Less, Equal, Greater}
-use Rattle.std.specs.Ordering.{is_gt, ordering_reverse}
-use Rattle.std.specs.Cmp.{IsTotalOrder}
-use Rattle.std.proofs.lemmas.List.{length-map, get_or-map}
 use Rattle.sqlite_value.specs.declared.keys.Key.{Key}
 
 -- ---- tests

@@ -1,45 +1,21 @@
 -- An UPDATE that changes one row at most: the list whose table had one row replaced.
-use Rattle.std.proofs.Common.{◌≡◌, ◌≤◌, ℕ, ℤ, ◌==◌, Bool, true, false, Some, Ok, List, [], ◌∷◌, length, map, slice_get, refl, sym, ap, subst, ◌∙◌, arith, not}
-use Rattle.std.proofs.Common.{cond, subst₂, inl, Less, Greater}
-use Rattle.std.specs.Prelude.{flat_map, filter, find, drop, IsPermutation}
-use Rattle.std.proofs.lemmas.List.{length-map}
-use Rattle.std.proofs.lemmas.List.Sorted.{length_permutation}
-use Rattle.sqlite.specs.Cast.{cast_row}
+use Rattle.club_tables.proofs.Common.{◌≡◌, ◌≤◌, ℕ, ℤ, ◌==◌, Bool, true, false, Some, Ok, List, [], ◌∷◌, length, map, slice_get, refl, sym, ap, subst, ◌∙◌}
+use Rattle.club_tables.proofs.Common.{arith, not, cond, subst₂, inl, Less, Greater, flat_map, filter, find, drop, IsPermutation, length-map, length_permutation}
+use Rattle.club_tables.proofs.Common.{cast_row, AllByRecursion, AllZip, filter_map, Int, Term, Row, value_cmp, Query, inner, end, Table, Update, Given, edit_of}
+use Rattle.club_tables.proofs.Common.{edited, taken_by, works, work_by, pairs, deed_for, Enforced, Written, Answers, Database, State, Executes, club_schema}
+use Rattle.club_tables.proofs.Common.{select, Holds, IsRowOf, is_eq, ordering_reverse, tied_itself, Value, value_cmp_total, rowid, has_rowid, put_row}
+use Rattle.club_tables.proofs.Common.{without_rowid, IsTable, filter-map, filter_all, filter_same, all_weaker, all_both, all_from_map, ascending-map}
+use Rattle.club_tables.proofs.Common.{ascending_from_map, all_has, has_filtered, one_permutation}
 use Rattle.sqlite_rules.proofs.RowLemmas.{length-numbered}
-use Rattle.std.specs.List.{AllByRecursion, AllZip, filter_map}
-use Rattle.sqlite_value.specs.declared.value.Value.TheVariants.{Int}
-use Rattle.sqlite.specs.Term.{Term}
-use Rattle.sqlite.specs.Order.{Row, value_cmp}
-use Rattle.sqlite.specs.Query.{Query, inner, end}
-use Rattle.sqlite.specs.Table.{Table}
-use Rattle.sqlite.specs.Command.TheVariants.{Update}
-use Rattle.sqlite.specs.Rowids.TheVariants.{Given}
-use Rattle.sqlite.specs.Edit.{edit_of, edited}
-use Rattle.sqlite_rules.specs.Edit.{taken_by}
 use Rattle.sqlite_rules.specs.Calls.{ids_of}
-use Rattle.sqlite_rules.specs.Action.{works, work_by, pairs, deed_for}
 use Rattle.sqlite_schema.specs.Rules.{parent_key}
-use Rattle.sqlite_schema.specs.declared.schema.Keys.TheVariants.{Enforced}
-use Rattle.sqlite.specs.Rows.{Written, Updates as WritesUpdate}
-use Rattle.sqlite.specs.Effect.{Answers, Database}
-use Rattle.sqlite.specs.State.{State, Executes}
+use Rattle.sqlite.specs.Rows.{Updates as WritesUpdate}
 pub use Rattle.sqlite_trees.proofs.ListLemmas.{all_of as each_of}
-use Rattle.club_tables.specs.Schema.{club_schema}
-use Rattle.club_tables.specs.Statements.{select}
-use Rattle.club_tables.specs.Tables.{Holds, IsRowOf}
 use Rattle.club_tables.proofs.statements.InsertLemmas.{Leaves, task_of, went, same_value, wrote_rows, edited_alone}
 use Rattle.club_tables.proofs.statements.MeansLemmas.{Means, Wrote}
 use Rattle.club_tables.proofs.statements.PassLemmas.{each_row, as_many, find_some}
 use Rattle.club_tables.proofs.statements.SelectLemmas.{answered, shows, test, row_of, paired, short_permutation}
 use Rattle.std.proofs.Math.Path.{ap₂}
-use Rattle.std.specs.Ordering.{is_eq, ordering_reverse}
-use Rattle.std.proofs.lemmas.Cmp.{tied_itself}
-use Rattle.sqlite_value.specs.declared.value.Value.{Value}
-use Rattle.sqlite_value.proofs.OrderLemmas.{value_cmp_total}
-use Rattle.sqlite.specs.Tree.{rowid, has_rowid, put_row, without_rowid, IsTable}
-use Rattle.sqlite_trees.proofs.ListLemmas.{filter-map, filter_all, filter_same, all_weaker, all_both, all_from_map, ascending-map, ascending_from_map}
-use Rattle.sqlite_rules.proofs.ListLemmas.{all_has, has_filtered}
-use Rattle.sqlite.proofs.Callers.{one_permutation}
 
 abbrev pub Below : Row → Row → Type 0
 Below r s = value_cmp (rowid r) (rowid s) ≡ Less

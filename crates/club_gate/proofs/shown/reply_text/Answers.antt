@@ -1,4 +1,4 @@
-use Rattle.std.proofs.Common.{◌≡◌, List, ℕ, [], ◌∷◌, ◌++◌, ◌∙◌, append_assoc, ap, refl, sym}
+use Rattle.club_gate.proofs.Common.{◌≡◌, List, ℕ, [], ◌∷◌, ◌++◌, ◌∙◌, append_assoc, ap, refl, sym}
 use Rattle.club_gate.specs.Shown.{lines, values_of_slot, values_of_state}
 use Rattle.club_gate.proofs.shown.reply_text.Goals as goal
 

@@ -1,5 +1,5 @@
 -- The first fault from here on is the first of all fields.
-use Rattle.std.proofs.Common.{◌≡◌, length}
+use Rattle.club_gate.proofs.Common.{◌≡◌, length}
 use Rattle.club_gate.proofs.Walking.{fault_in}
 use Rattle.club_gate.proofs.walk.fault_after.Given as goal
 

@@ -1,5 +1,5 @@
 -- If the fields from here on are blind to kinds, all are.
-use Rattle.std.proofs.Common.{length}
+use Rattle.club_gate.proofs.Common.{length}
 use Rattle.club_gate.proofs.KindScans.{AreBlind}
 use Rattle.club_gate.proofs.walk.has_kind.Given as goal
 

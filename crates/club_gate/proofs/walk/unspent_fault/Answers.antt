@@ -1,7 +1,4 @@
-use Rattle.std.proofs.Common.{◌≡◌, true, [], ◌∷◌, is_some, sym, ◌∙◌}
-use Rattle.pass_caveats.specs.computed.CaveatOf.{caveat_of}
-use Rattle.pass_caveats.specs.Fault.{first_fault_from}
-use Rattle.pass_caveats.specs.Spending.{after_spending}
+use Rattle.club_gate.proofs.Common.{◌≡◌, true, [], ◌∷◌, is_some, sym, ◌∙◌, caveat_of, first_fault_from, after_spending}
 use Rattle.club_gate.proofs.Walking.{fault_at_last, fault_comes, fault_is, no_fault_comes}
 use Rattle.club_gate.proofs.walk.unspent_fault.Goals as goal
 

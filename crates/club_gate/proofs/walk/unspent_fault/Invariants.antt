@@ -1,6 +1,5 @@
 -- For any amount within the slack, the first fault from here on is the first of all fields.
-use Rattle.std.proofs.Common.{◌≡◌, ℕ, length}
-use Rattle.pass_caveats.specs.Spending.{IsWithin, after_spending}
+use Rattle.club_gate.proofs.Common.{◌≡◌, ℕ, length, IsWithin, after_spending}
 use Rattle.club_gate.proofs.Walking.{fault_in}
 use Rattle.club_gate.proofs.walk.unspent_fault.Given as goal
 

@@ -1,4 +1,4 @@
-use Rattle.std.proofs.Common.{arith}
+use Rattle.club_tables.proofs.Common.{arith}
 use Rattle.club_tables.proofs.lists.BookingRows.{bookings_more, no_bookings}
 use Rattle.club_tables.proofs.row.bookings_in.Goals as goal
 

@@ -1,5 +1,4 @@
-use Rattle.std.proofs.Common.{◌≡◌, ◌≤◌, length, take, vec_len, vec_capacity}
-use Rattle.club_tables.specs.Sheet.{AreBookings}
+use Rattle.club_tables.proofs.Common.{◌≡◌, ◌≤◌, length, take, vec_len, vec_capacity, AreBookings}
 use Rattle.club_tables.proofs.row.bookings_in.Given as goal
 
 abbrev pub invariant-loop-row : goal.invariant-loop-row

@@ -1,8 +1,7 @@
-use Rattle.std.proofs.Common.{◌≡◌, ◌+◌, length, true, false, ap, sym, ◌∙◌}
+use Rattle.http_request.proofs.Common.{◌≡◌, ◌+◌, length, true, false, ap, sym, ◌∙◌, values_in_head}
 use Rattle.std.proofs.Math.ListN.{drop_of_length-le}
 use Rattle.std.proofs.lemmas.List.Elements.{All-drop, All-same}
 use Rattle.httparse.specs.Spans.{IsHeaderWithin}
-use Rattle.http_request.specs.Fields.{values_in_head}
 use Rattle.http_request.proofs.FieldValues.{value_at, values_at}
 use Rattle.http_request.proofs.Segments.{rest_of}
 use Rattle.http_request.proofs.fields.next_value.Goals as goal

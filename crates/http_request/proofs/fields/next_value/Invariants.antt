@@ -1,5 +1,4 @@
-use Rattle.std.proofs.Common.{◌≡◌, drop}
-use Rattle.http_request.specs.Fields.{values_in_head}
+use Rattle.http_request.proofs.Common.{◌≡◌, drop, values_in_head}
 use Rattle.http_request.proofs.fields.next_value.Given as goal
 
 abbrev pub invariant-loop-i : goal.invariant-loop-i

@@ -1,8 +1,4 @@
-use Rattle.std.proofs.Common.{ℕ, List, take, drop, sym, ◌∙◌}
-use Rattle.std.proofs.lemmas.List.{take-append-drop}
-use Rattle.httparse.specs.Grammar.{RequestHead}
-use Rattle.http_request.specs.Head.{IsPiece}
-use Rattle.http_request.specs.Frame.{AsksForBody, IsRefusedHead}
+use Rattle.http_request.proofs.Common.{ℕ, List, take, drop, sym, ◌∙◌, take-append-drop, RequestHead, IsPiece, AsksForBody, IsRefusedHead}
 use Rattle.http_request.proofs.FrameLemmas.{one_head}
 use Rattle.http_request.proofs.front.front_of.Goals as goal
 

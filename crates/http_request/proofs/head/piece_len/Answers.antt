@@ -1,4 +1,4 @@
-use Rattle.std.proofs.Common.{arith, sym, ◌∙◌}
+use Rattle.http_request.proofs.Common.{arith, sym, ◌∙◌}
 use Rattle.http_request.proofs.ScanLemmas.{ends_none, piece_at}
 use Rattle.http_request.proofs.head.piece_len.Goals as goal
 

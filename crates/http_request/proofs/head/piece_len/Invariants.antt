@@ -1,6 +1,4 @@
-use Rattle.std.proofs.Common.{◌≡◌, ℕ, ◌<◌, ◌≤◌, false, take, nat_eq}
-use Rattle.std.specs.List.{ends_with}
-use Rattle.http_request.specs.Head.{empty_line}
+use Rattle.http_request.proofs.Common.{◌≡◌, ℕ, ◌<◌, ◌≤◌, false, take, nat_eq, ends_with, empty_line}
 use Rattle.http_request.proofs.head.piece_len.Given as goal
 
 abbrev pub invariant-loop-end : goal.invariant-loop-end

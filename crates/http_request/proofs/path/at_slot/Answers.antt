@@ -1,5 +1,4 @@
-use Rattle.std.proofs.Common.{◌≡◌, List, ◌∷◌, ℕ, sym, ap, ◌∙◌}
-use Rattle.http_request.specs.Parts.{following_parts, segments}
+use Rattle.http_request.proofs.Common.{◌≡◌, List, ◌∷◌, ℕ, sym, ap, ◌∙◌, following_parts, segments}
 use Rattle.http_request.proofs.Places.{past_number}
 use Rattle.http_request.proofs.path.at_slot.Goals as goal
 

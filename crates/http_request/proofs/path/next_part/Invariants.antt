@@ -1,5 +1,4 @@
-use Rattle.std.proofs.Common.{◌≡◌, take, drop}
-use Rattle.http_request.specs.Parts.{with_front, segments}
+use Rattle.http_request.proofs.Common.{◌≡◌, take, drop, with_front, segments}
 use Rattle.http_request.proofs.path.next_part.Given as goal
 
 abbrev pub invariant-loop-i : goal.invariant-loop-i

@@ -1,15 +1,9 @@
-use Rattle.std.proofs.Common.{◌≡◌, List, ℕ, Result, Ok, Err, refl, inl, inr}
-use Rattle.httparse.specs.declared.spans.HeaderSpan.{HeaderSpan}
-use Rattle.httparse.specs.Grammar.{RequestHead}
+use Rattle.http_request.proofs.Common.{◌≡◌, List, ℕ, Result, Ok, Err, refl, inl, inr, HeaderSpan, RequestHead, Head, IsFramed, IsFrontOf, place_of}
 use Rattle.club_core.specs.declared.refusal.Refusal.{Refusal}
 use Rattle.club_core.specs.declared.sent_words.SentWords.{SentWords as Words}
-use Rattle.http_request.specs.declared.front.Head.{Head}
 use Rattle.http_request.specs.declared.front.Front.{Front}
 use Rattle.http_request.specs.declared.front.Front.TheVariants.{NoPiece, Refused, Asking}
-use Rattle.http_request.specs.Frame.{IsFramed}
-use Rattle.http_request.specs.Front.{IsFrontOf}
 use Rattle.http_request.specs.Words.{DecodedRequest, has_frame, HoldsBody, IsRequestReading, lacks_frame, OrUnavailable}
-use Rattle.http_request.specs.computed.Path.{place_of}
 use Rattle.http_request.proofs.FrameLemmas.{asks_at, cut_frame, framed, no_piece, not_refused, whole_frame}
 use Rattle.http_request.proofs.routes.words_by_scan.Goals as goal
 

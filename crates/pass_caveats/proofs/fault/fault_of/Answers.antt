@@ -1,6 +1,4 @@
-use Rattle.std.proofs.Common.{map, arith}
-use Rattle.std.specs.Vec.{vec_items}
-use Rattle.std.proofs.lemmas.List.{length-map, take_all}
+use Rattle.pass_caveats.proofs.Common.{map, arith, vec_items, length-map, take_all}
 use Rattle.pass_caveats.proofs.FaultLemmas.{text_at, first_fault_at, one_more}
 use Rattle.pass_caveats.proofs.fault.fault_of.Goals as goal
 

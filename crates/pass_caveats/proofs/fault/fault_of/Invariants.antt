@@ -1,6 +1,4 @@
-use Rattle.std.proofs.Common.{map, take}
-use Rattle.std.specs.Vec.{vec_items}
-use Rattle.pass_caveats.specs.Fault.{Allowed}
+use Rattle.pass_caveats.proofs.Common.{map, take, vec_items, Allowed}
 use Rattle.pass_caveats.proofs.fault.fault_of.Given as goal
 
 -- all caveats so far allow the request

@@ -1,4 +1,4 @@
-use Rattle.std.proofs.Common.{refl}
+use Rattle.pass_caveats.proofs.Common.{refl}
 use Rattle.pass_caveats.proofs.fault.fault_of_text.Goals as goal
 
 pub returns-in_default : goal.returns-in_default

@@ -1,6 +1,4 @@
-use Rattle.std.proofs.Common.{◌≡◌, ◌↔◌, [], ◌∷◌, Option, subst, sym}
-use Rattle.pass_caveats.specs.declared.caveat.Caveat.{Caveat}
-use Rattle.pass_caveats.specs.Fault.{IsFaultAt, first_fault_from}
+use Rattle.pass_caveats.proofs.Common.{◌≡◌, ◌↔◌, [], ◌∷◌, Option, subst, sym, Caveat, IsFaultAt, first_fault_from}
 use Rattle.pass_caveats.proofs.CaveatOfLemmas.{finds_fault_at, reads_caveat_of}
 use Rattle.pass_caveats.proofs.laws.finds_the_fault_at.Goals as goal
 

@@ -1,5 +1,4 @@
-use Rattle.std.proofs.lemmas.Bool.Decides.{Decides-eqb}
-use Rattle.std.proofs.lemmas.Slice.Eq.{strip_prefix_is}
+use Rattle.pass_caveats.proofs.Common.{Decides-eqb, strip_prefix_is}
 use Rattle.pass_caveats.proofs.lines.after.Goals as goal
 
 pub returns : goal.returns

@@ -1,5 +1,4 @@
-use Rattle.std.proofs.Common.{arith}
-use Rattle.std.proofs.lemmas.Bool.Decides.{nat_tests}
+use Rattle.pass_caveats.proofs.Common.{arith, nat_tests}
 use Rattle.pass_caveats.proofs.LineLemmas.{dates_of, no_first_day, no_dots, no_second_day, spells_days, days_fall}
 use Rattle.pass_caveats.proofs.lines.read_days.Goals as goal
 

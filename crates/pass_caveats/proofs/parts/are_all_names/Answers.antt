@@ -1,9 +1,4 @@
-use Rattle.std.specs.Prelude.{◌==◌}
-use Rattle.std.proofs.Common.{rules, List, ℕ}
-use borrow.Author.Tests.{tests}
-use Rattle.std.proofs.lemmas.Iterator.{cases_from_all}
-use Rattle.std.proofs.lemmas.Iterator.Splits.{YieldsList-from_slice_split}
-use Rattle.club_values.specs.Name.{IsName}
+use Rattle.pass_caveats.proofs.Common.{◌==◌, rules, List, ℕ, tests, cases_from_all, YieldsList-from_slice_split, IsName}
 use Rattle.pass_caveats.proofs.PartLemmas.{all_from_all}
 use Rattle.pass_caveats.proofs.parts.are_all_names.Goals as goal
 

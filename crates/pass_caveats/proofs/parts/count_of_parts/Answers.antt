@@ -1,8 +1,5 @@
-use Rattle.std.specs.Prelude.{◌==◌}
-use Rattle.std.proofs.Common.{rules}
-use borrow.Author.Tests.{tests}
+use Rattle.pass_caveats.proofs.Common.{◌==◌, rules, tests, YieldsList-from_slice_split}
 use Rattle.std.proofs.lemmas.Iterator.Consumers.{count_from_yields_List}
-use Rattle.std.proofs.lemmas.Iterator.Splits.{YieldsList-from_slice_split}
 use Rattle.pass_caveats.proofs.parts.count_of_parts.Goals as goal
 
 pub returns : goal.returns

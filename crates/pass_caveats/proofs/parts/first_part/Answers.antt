@@ -1,6 +1,4 @@
-use Rattle.std.proofs.Common.{rules, ◌≡◌, ◌≢◌}
-use borrow.Author.Tests.{tests}
-use Rattle.std.proofs.lemmas.Iterator.{IsFirst-from_position, YieldsList-from_slice}
+use Rattle.pass_caveats.proofs.Common.{rules, ◌≡◌, ◌≢◌, tests, IsFirst-from_position, YieldsList-from_slice}
 use Rattle.pass_caveats.proofs.PartLemmas.{parts_of-comma, parts_of-no_comma, tail_is}
 use Rattle.pass_caveats.proofs.parts.first_part.Goals as goal
 

@@ -1,8 +1,4 @@
-use Rattle.std.specs.Prelude.{◌==◌}
-use Rattle.std.proofs.Common.{rules, List, ℕ, ◌≡◌, ◌≢◌}
-use borrow.Author.Tests.{tests}
-use Rattle.std.proofs.lemmas.Iterator.{cases_from_any}
-use Rattle.std.proofs.lemmas.Iterator.Splits.{YieldsList-from_slice_split}
+use Rattle.pass_caveats.proofs.Common.{◌==◌, rules, List, ℕ, ◌≡◌, ◌≢◌, tests, cases_from_any, YieldsList-from_slice_split}
 use Rattle.pass_caveats.proofs.PartLemmas.{contains_from_any}
 use Rattle.pass_caveats.proofs.parts.has_part.Goals as goal
 

@@ -1,5 +1,4 @@
-use Rattle.std.proofs.Common.{◌≡◌, ℕ, true, false, Option, None, sym, subst}
-use Rattle.pass_caveats.specs.Tests.{permits}
+use Rattle.pass_caveats.proofs.Common.{◌≡◌, ℕ, true, false, Option, None, sym, subst, permits}
 use Rattle.pass_caveats.specs.Spending.{HoldsWithin, after_spending}
 use Rattle.pass_caveats.proofs.SpendingLemmas.{holds_allowed, holds_denied}
 use Rattle.pass_caveats.proofs.unspent.unspent_at.Goals as goal

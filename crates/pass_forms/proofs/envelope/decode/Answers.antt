@@ -1,7 +1,5 @@
 -- `decoded_of` is opened, since the constants' proof that they are engines isn't the one of the specification's.
-use Rattle.std.proofs.Common.{refl, ◌∙◌, arith}
-use Rattle.base64.specs.GeneralPurpose.{decoded_of}
-use Rattle.pass_forms.specs.computed.Envelope.{by_decoders}
+use Rattle.pass_forms.proofs.Common.{refl, ◌∙◌, arith, decoded_of, by_decoders}
 use Rattle.pass_forms.proofs.Base64Decoding.{from_base64_is}
 use Rattle.pass_forms.proofs.envelope.decode.Goals as goal
 

@@ -1,7 +1,4 @@
-use Rattle.std.proofs.Common.{◌≡◌, ◌↔◌, List, ℕ, Option, None, Some, sym, ◌∙◌, arith, rules}
-use Rattle.std.proofs.lemmas.Grind.{common_steps}
-use Rattle.pass_forms.specs.Envelope.{IsBase64}
-use Rattle.pass_forms.specs.computed.Envelope.{from_base64}
+use Rattle.pass_forms.proofs.Common.{◌≡◌, ◌↔◌, List, ℕ, Option, None, Some, sym, ◌∙◌, arith, rules, common_steps, IsBase64, from_base64}
 use Rattle.pass_forms.proofs.Base64Decoding.{from_base64_spells, spells_from_base64}
 use Rattle.pass_forms.proofs.envelope.decode_base64.Goals as goal
 

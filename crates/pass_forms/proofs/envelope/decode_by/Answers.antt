@@ -1,4 +1,4 @@
-use Rattle.std.proofs.Common.{arith}
+use Rattle.pass_forms.proofs.Common.{arith}
 use Rattle.pass_forms.proofs.Base64Decoding.{decoded_into, decoded_within}
 use Rattle.pass_forms.proofs.envelope.decode_by.Goals as goal
 

@@ -1,6 +1,4 @@
-use Rattle.std.proofs.Common.{Ok, Err, rules, take}
-use Rattle.pass_forms.specs.declared.fault.FormFault.TheVariants.{Malformed}
-use Rattle.pass_forms.specs.computed.Envelope.{unwrapping}
+use Rattle.pass_forms.proofs.Common.{Ok, Err, rules, take, Malformed, unwrapping}
 use Rattle.pass_forms.proofs.EnvelopeLaws.{answers_as}
 use Rattle.pass_forms.proofs.envelope.unwrap_text.Goals as goal
 

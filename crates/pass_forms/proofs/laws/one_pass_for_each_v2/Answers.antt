@@ -1,4 +1,4 @@
-use Rattle.pass_forms.specs.V2.{SpellsV2}
+use Rattle.pass_forms.proofs.Common.{SpellsV2}
 use Rattle.pass_forms.specs.computed.V2Reading.{wide_at}
 use Rattle.pass_forms.proofs.Checking.{one_each}
 use Rattle.pass_forms.proofs.WholeV2.{computes_v2}

@@ -1,5 +1,4 @@
-use Rattle.std.proofs.Common.{Ok, ap, ◌∙◌, sym}
-use Rattle.pass_forms.specs.Pass.{Plain}
+use Rattle.pass_forms.proofs.Common.{Ok, ap, ◌∙◌, sym, Plain}
 use Rattle.pass_forms.proofs.Collecting.{was_read}
 use Rattle.pass_forms.proofs.layout.read.Goals as goal
 

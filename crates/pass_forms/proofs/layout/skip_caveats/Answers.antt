@@ -1,5 +1,4 @@
-use Rattle.std.proofs.Common.{◌≡◌, ◌+◌, ◌-◌, suc, length, arith}
-use Rattle.std.proofs.lemmas.Grind.{common_steps}
+use Rattle.pass_forms.proofs.Common.{◌≡◌, ◌+◌, ◌-◌, suc, length, arith, common_steps}
 use Rattle.pass_forms.proofs.CaveatRuns.{no_more, one_more}
 use Rattle.pass_forms.proofs.layout.skip_caveats.Goals as goal
 

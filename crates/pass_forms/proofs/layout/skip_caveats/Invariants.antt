@@ -1,6 +1,5 @@
 -- The caveats so far and those that are left make all of them.
-use Rattle.std.proofs.Common.{length, ◌≤◌, ◌-◌}
-use Rattle.pass_forms.specs.computed.Caveats.{caveats_at}
+use Rattle.pass_forms.proofs.Common.{length, ◌≤◌, ◌-◌, caveats_at}
 use Rattle.pass_forms.proofs.CaveatRuns.{Keeps}
 use Rattle.pass_forms.proofs.layout.skip_caveats.Given as goal
 

@@ -1,9 +1,5 @@
-use Rattle.std.proofs.Common.{◌≤◌, ℕ, List, ◌++◌, length, Ok, refl, ap, sym, ◌∙◌, arith}
-use Rattle.std.proofs.lemmas.List.{length-map}
+use Rattle.pass_forms.proofs.Common.{◌≤◌, ℕ, List, ◌++◌, length, Ok, refl, ap, sym, ◌∙◌, arith, length-map, buffer_len, max_caveats, in_base64}
 use Rattle.std.proofs.lemmas.Result.{err_from_is_err_and}
-use Rattle.pass_forms.specs.Putting.{buffer_len}
-use Rattle.pass_forms.specs.Reading.{max_caveats}
-use Rattle.pass_forms.specs.Writing.{in_base64}
 use Rattle.pass_forms.proofs.WrittenTexts.{too_long, written}
 use Rattle.pass_forms.proofs.write.write_in.Goals as goal
 

@@ -1,6 +1,4 @@
-use Rattle.std.proofs.Common.{◌≡◌, arith}
-use Rattle.pass_json.specs.AnyForm.{IsAnyReading}
-use Rattle.pass_json.specs.computed.AnyForm.{reading}
+use Rattle.pass_json.proofs.Common.{◌≡◌, arith, IsAnyReading, reading}
 use Rattle.pass_json.proofs.SameReading.{unless_memory}
 use Rattle.pass_json.proofs.any.read_any.Goals as goal
 

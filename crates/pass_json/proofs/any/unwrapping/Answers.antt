@@ -1,10 +1,5 @@
-use Rattle.std.proofs.Common.{◌≡◌, rules, ◌≤◌, length, Ok, Err, ap}
-use Rattle.std.proofs.lemmas.Result.{err_from_is_err_and}
-use Rattle.pass_forms.specs.declared.fault.FormFault.{FormFault}
-use Rattle.pass_forms.specs.declared.fault.FormFault.TheVariants.{Memory}
-use Rattle.pass_forms.specs.Envelope.{IsUnwrapped}
-use Rattle.pass_forms.specs.Reading.{max_text_len}
-use Rattle.pass_json.specs.AnyForm.{IsAnyReading, IsReadingInForm}
+use Rattle.pass_json.proofs.Common.{◌≡◌, rules, ◌≤◌, length, Ok, Err, ap, err_from_is_err_and, FormFault, Memory, IsUnwrapped, max_text_len, IsAnyReading}
+use Rattle.pass_json.proofs.Common.{IsReadingInForm}
 use Rattle.pass_json.proofs.SameReading.{unless_memory}
 use Rattle.pass_json.proofs.Wrapped.{may_run_out}
 use Rattle.pass_json.proofs.any.unwrapping.Goals as goal

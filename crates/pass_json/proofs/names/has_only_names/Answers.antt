@@ -1,7 +1,4 @@
-use Rattle.std.proofs.Common.{false, map, Option, ap, ◌∙◌}
-use Rattle.std.specs.Option.{option_map, unwrap_or}
-use Rattle.serde_json.specs.Data.{Members}
-use Rattle.pass_json.specs.computed.JsonReading.{has_only_names, only_among}
+use Rattle.pass_json.proofs.Common.{false, map, Option, ap, ◌∙◌, option_map, unwrap_or, Members, has_only_names, only_among}
 use Rattle.pass_json.proofs.KnownNames.{all_among}
 use Rattle.pass_json.proofs.names.has_only_names.Goals as goal
 

@@ -1,6 +1,4 @@
-use Rattle.std.proofs.Common.{◌≡◌, ℕ, [], length, map, arith, sym, ap, ◌∙◌, Vec, Global, List}
-use Rattle.std.specs.Option.{option_map, unwrap_or}
-use Rattle.std.proofs.lemmas.Grind.{common_steps}
+use Rattle.pass_json.proofs.Common.{◌≡◌, ℕ, [], length, map, arith, sym, ap, ◌∙◌, Vec, Global, List, option_map, unwrap_or, common_steps}
 use Rattle.std.proofs.lemmas.List.{length-map}
 use Rattle.pass_json.proofs.KeptPass.{kept_pass, location_or_none}
 use Rattle.pass_json.proofs.object.pass_from.Goals as goal

@@ -1,7 +1,4 @@
-use Rattle.std.proofs.Common.{◌≡◌, length}
-use Rattle.pass_forms.specs.Reading.{IsReadAs}
-use Rattle.pass_json.specs.Json.{SpellsJson}
-use Rattle.pass_json.specs.computed.JsonReading.{reading_json}
+use Rattle.pass_json.proofs.Common.{◌≡◌, length, IsReadAs, SpellsJson, reading_json}
 use Rattle.pass_json.proofs.SameReading.{unless_memory}
 use Rattle.pass_json.proofs.read.read_json.Goals as goal
 

@@ -1,9 +1,5 @@
-use Rattle.std.proofs.Common.{◌≡◌, ℕ, List, Bool, true, false, cond, Option, None, refl}
-use Rattle.std.specs.Str.{IsUtf8, is_utf8}
-use Rattle.std.proofs.lemmas.Str.{IsUtf8-from_is_utf8, is_utf8-from_IsUtf8}
-use Rattle.serde_json.specs.Data.{Data}
-use Rattle.serde_json.specs.Read.{read}
-use Rattle.pass_json.specs.computed.JsonReading.{value_of}
+use Rattle.pass_json.proofs.Common.{◌≡◌, ℕ, List, Bool, true, false, cond, Option, None, refl, IsUtf8, is_utf8, IsUtf8-from_is_utf8, is_utf8-from_IsUtf8, Data}
+use Rattle.pass_json.proofs.Common.{read, value_of}
 use Rattle.pass_json.proofs.read.value_of.Goals as goal
 
 -- either no text in UTF-8 or no JSON

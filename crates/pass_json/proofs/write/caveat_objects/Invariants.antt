@@ -1,9 +1,5 @@
 -- The objects so far are those of the caveats so far, which are bytes.
-use Rattle.std.proofs.Common.{◌≡◌, map, take}
-use Rattle.std.specs.List.{AllByRecursion}
-use Rattle.base64.specs.GeneralPurpose.{IsBytes}
-use Rattle.serde_json.specs.View.{view}
-use Rattle.pass_json.specs.JsonWriting.{caveat_object}
+use Rattle.pass_json.proofs.Common.{◌≡◌, map, take, AllByRecursion, IsBytes, view, caveat_object}
 use Rattle.pass_json.proofs.write.caveat_objects.Given as goal
 
 abbrev pub invariant-loop-caveat : goal.invariant-loop-caveat

@@ -1,7 +1,4 @@
-use Rattle.std.proofs.Common.{◌≡◌, ℕ, List, Bool, true, false, refl}
-use Rattle.std.specs.Str.{IsUtf8, is_utf8}
-use Rattle.std.proofs.lemmas.Str.{IsUtf8-from_is_utf8, is_utf8-from_IsUtf8}
-use Rattle.pass_json.specs.JsonWriting.{put_member}
+use Rattle.pass_json.proofs.Common.{◌≡◌, ℕ, List, Bool, true, false, refl, IsUtf8, is_utf8, IsUtf8-from_is_utf8, is_utf8-from_IsUtf8, put_member}
 use Rattle.pass_json.proofs.write.put_field.Goals as goal
 
 no_utf8 : (bytes : List ℕ) (test : Bool) → is_utf8 bytes ≡ test → ¬ IsUtf8 bytes → test ≡ false

@@ -1,8 +1,4 @@
-use Rattle.std.proofs.Common.{◌≡◌, ap, ◌∙◌, false}
-use Rattle.std.proofs.lemmas.Result.{IfOk-weaker}
-use Rattle.serde_json.specs.View.{view}
-use Rattle.serde_json.specs.Written.{compact_text, has_float}
-use Rattle.pass_json.specs.JsonWriting.{json_text}
+use Rattle.pass_json.proofs.Common.{◌≡◌, ap, ◌∙◌, false, IfOk-weaker, view, compact_text, has_float, json_text}
 use Rattle.pass_json.proofs.ObjectOf.{object_is_fine}
 use Rattle.pass_json.proofs.write.text_of.Goals as goal
 

@@ -1,5 +1,5 @@
+use Rattle.pass_json.proofs.Common.{IfOk-weaker}
 use Rattle.std.specs.String.{string_bytes}
-use Rattle.std.proofs.lemmas.Result.{IfOk-weaker}
 use Rattle.pass_json.proofs.WritingJson.{refused_if, written_if}
 use Rattle.pass_json.proofs.write.write_json.Goals as goal
 

@@ -1,9 +1,4 @@
-use Rattle.std.proofs.Common.{◌≡◌, List, Ok, inl, inr, sym}
-use Rattle.std.proofs.lemmas.List.Elements.{All-head}
-use Rattle.club_core.specs.Club.{Club, IsSound}
-use Rattle.club_core.specs.Office.{office_verdict}
-use Rattle.club_core.specs.Run.{Commanded}
-use Rattle.club_core.specs.Store.{FitsClub}
+use Rattle.club_gate.proofs.Common.{◌≡◌, List, Ok, inl, inr, sym, All-head, Club, IsSound, office_verdict, Commanded, FitsClub}
 use Rattle.club_gate.proofs.Stepping.{command_done, command_failed}
 use Rattle.club_gate.proofs.desk.Desk.answer_to.Given as given
 use Rattle.club_gate.proofs.desk.Desk.answer_to.Goals as goal

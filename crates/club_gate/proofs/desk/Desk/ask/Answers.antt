@@ -1,10 +1,5 @@
-use Rattle.std.proofs.Common.{◌≡◌, Result, Ok, Err, refl, ◌∙◌}
+use Rattle.club_gate.proofs.Common.{◌≡◌, Result, Ok, Err, refl, ◌∙◌, Reply, StoreFault, verdict_in, decoded_words, reply_or_unavailable, unavailable}
 use Rattle.std.specs.Result.{result_unwrap_or}
-use Rattle.club_core.specs.declared.reply.Reply.{Reply}
-use Rattle.club_core.specs.declared.store.StoreFault.{StoreFault}
-use Rattle.club_core.specs.Answer.{verdict_in}
-use Rattle.club_gate.specs.computed.DecodedPass.{decoded_words}
-use Rattle.club_gate.specs.Response.{reply_or_unavailable, unavailable}
 use Rattle.club_gate.proofs.Decoding.{decoded_text}
 use Rattle.club_gate.proofs.DeskLaws.{reply_or_failure, lawful}
 use Rattle.club_gate.proofs.desk.Desk.ask.Goals as goal

@@ -1,4 +1,4 @@
-use Rattle.std.proofs.Common.{refl}
+use Rattle.club_gate.proofs.Common.{refl}
 use Rattle.club_core.specs.Run as machine
 use Rattle.club_gate.proofs.Stepping.{asked_steps}
 use Rattle.club_gate.proofs.desk.Desk.event.Goals as goal

@@ -1,15 +1,8 @@
-use Rattle.std.proofs.Common.{◌≡◌, [], ◌∷◌, ◌++◌, ◌+◌, ◌∙◌, length, take, ap, sym, subst, arith}
+use Rattle.club_gate.proofs.Common.{◌≡◌, [], ◌∷◌, ◌++◌, ◌+◌, ◌∙◌, length, take, ap, sym, subst, arith, length-map, length-take, map-append, take_more, All-nil}
+use Rattle.club_gate.proofs.Common.{All-push, IsEvent, Steps, response_of, responses_of, IsEventOfBytes, machine_events, machine_event}
 use Rattle.std.proofs.lemmas.Grind.{common_steps}
-use Rattle.std.proofs.lemmas.List.{length-map, length-take, map-append, take_more}
-use Rattle.std.proofs.lemmas.List.Elements.{All-nil, All-push}
-use Rattle.club_core.specs.Events.{IsEvent}
 use Rattle.club_core.specs.Run as machine
-use Rattle.club_gate.specs.Desk.{Steps}
-use Rattle.club_gate.specs.Response.{response_of}
-use Rattle.club_gate.specs.Runs.{responses_of}
 use Rattle.club_gate.specs.Runs.AreHandled.{no_event, one_event}
-use Rattle.club_gate.specs.Events.{IsEventOfBytes}
-use Rattle.club_gate.specs.computed.DecodedPass.{machine_events, machine_event}
 use Rattle.club_gate.proofs.Decoding.{event_is}
 use Rattle.club_gate.proofs.FollowedEvents.{followed_none, followed_more}
 use Rattle.club_gate.proofs.desk.Desk.follow.Goals as goal

@@ -1,9 +1,5 @@
-use Rattle.std.proofs.Common.{◌≡◌, All, List, ◌≤◌, length, take, vec_capacity, vec_len}
-use Rattle.club_core.specs.Club.{Club}
-use Rattle.club_core.specs.Events.{IsEvent}
-use Rattle.club_gate.specs.Runs.{AreHandled, IsFollowed, responses_of}
-use Rattle.club_gate.specs.Events.{IsEventOfBytes}
-use Rattle.club_gate.specs.computed.DecodedPass.{machine_events}
+use Rattle.club_gate.proofs.Common.{◌≡◌, All, List, ◌≤◌, length, take, vec_capacity, vec_len, Club, IsEvent, AreHandled, IsFollowed, responses_of}
+use Rattle.club_gate.proofs.Common.{IsEventOfBytes, machine_events}
 use Rattle.club_gate.proofs.desk.Desk.follow.Given as goal
 
 abbrev pub invariant-loop-event : goal.invariant-loop-event

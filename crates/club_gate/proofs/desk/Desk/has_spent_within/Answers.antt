@@ -1,4 +1,4 @@
-use Rattle.std.proofs.Common.{◌≤◌, sym, ◌∙◌, arith, rules}
+use Rattle.club_gate.proofs.Common.{◌≤◌, sym, ◌∙◌, arith, rules}
 use Rattle.std.proofs.lemmas.Bool.Decides.{nat_tests}
 use Rattle.club_gate.proofs.Spending.{spent_within}
 use Rattle.club_gate.proofs.StoreReads.{reads}

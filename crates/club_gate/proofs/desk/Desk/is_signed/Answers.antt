@@ -1,9 +1,4 @@
-use Rattle.std.proofs.Common.{◌≡◌, refl, sym, ◌∙◌, drop, rules}
-use Rattle.pass_forms.specs.FieldSource.{pass_fields}
-use Rattle.pass_forms.specs.Pass.{Plain}
-use Rattle.pass_forms.specs.computed.Pass.{is_signed}
-use Rattle.club_rows.specs.declared.key.Key.{Key}
-use Rattle.club_rows.specs.Key.{row_of_key}
+use Rattle.club_gate.proofs.Common.{◌≡◌, refl, sym, ◌∙◌, drop, rules, pass_fields, Plain, is_signed, Key, row_of_key}
 use Rattle.club_gate.proofs.SigningLemmas.{older_of, signed_by}
 use Rattle.club_gate.proofs.StoreReads.{reads}
 use Rattle.club_gate.proofs.desk.Desk.is_signed.Given as given

@@ -1,6 +1,5 @@
-use Rattle.std.proofs.Common.{◌≡◌, true, false, Some, refl, ap, ◌∙◌, rules}
+use Rattle.club_gate.proofs.Common.{◌≡◌, true, false, Some, refl, ap, ◌∙◌, rules, View}
 use Rattle.std.proofs.lemmas.Result.{IfOk-weaker}
-use Rattle.club_core.specs.declared.view.View.{View}
 use Rattle.club_core.specs.Looks.{books_anew}
 use Rattle.club_gate.proofs.Reading.{last_reads, with_member}
 use Rattle.club_gate.proofs.StoreReads.{reads}

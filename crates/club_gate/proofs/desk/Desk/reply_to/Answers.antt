@@ -1,9 +1,4 @@
-use Rattle.std.proofs.Common.{◌≡◌, List, inl, inr, ◌∙◌}
-use Rattle.std.proofs.lemmas.List.Elements.{All-head}
-use Rattle.club_core.specs.Answer.{verdict_in}
-use Rattle.club_core.specs.Club.{Club, IsSound}
-use Rattle.club_gate.specs.Desk.{FitsIfAny}
-use Rattle.club_gate.specs.computed.DecodedPass.{decoded_words}
+use Rattle.club_gate.proofs.Common.{◌≡◌, List, inl, inr, ◌∙◌, All-head, verdict_in, Club, IsSound, FitsIfAny, decoded_words}
 use Rattle.club_gate.proofs.Stepping.{always_decided, ask_done, ask_failed, ask_fits, changed_fault, fails_at_its_words}
 use Rattle.club_gate.proofs.desk.Desk.reply_to.Given as given
 use Rattle.club_gate.proofs.desk.Desk.reply_to.Goals as goal

@@ -1,7 +1,4 @@
-use Rattle.std.proofs.lemmas.List.Elements.{All-head}
-use Rattle.club_core.specs.Club.{IsSound}
-use Rattle.club_gate.specs.Runs.{IsLawfulRun, LeavesClub, responses_of}
-use Rattle.club_gate.specs.computed.DecodedPass.{machine_events}
+use Rattle.club_gate.proofs.Common.{All-head, IsSound, IsLawfulRun, LeavesClub, responses_of, machine_events}
 use Rattle.club_gate.proofs.FollowedRuns.{for_seen, lawful, leaves_club}
 use Rattle.club_gate.proofs.desk.Desk.run.Goals as goal
 

@@ -1,10 +1,5 @@
-use Rattle.std.proofs.Common.{◌≡◌, List, true, false, Ok, Err, refl, ◌∙◌, sym, rules}
-use Rattle.pass_forms.specs.FieldSource.{pass_fields}
-use Rattle.pass_forms.specs.Pass.{Plain}
-use Rattle.club_core.specs.declared.refusal.Refusal.TheVariants.{KeyRevoked, NotVerified}
-use Rattle.club_core.specs.Club.{Club}
-use Rattle.club_gate.specs.Identifier.{key_in}
-use Rattle.club_gate.specs.Verify.{signer_of}
+use Rattle.club_gate.proofs.Common.{◌≡◌, List, true, false, Ok, Err, refl, ◌∙◌, sym, rules, pass_fields, Plain, KeyRevoked, NotVerified, Club, key_in}
+use Rattle.club_gate.proofs.Common.{signer_of}
 use Rattle.club_gate.proofs.Signers.{by_tests, signer_by_tests}
 use Rattle.club_gate.proofs.StoreReads.{reads}
 use Rattle.club_gate.proofs.desk.Desk.signer.Given as given

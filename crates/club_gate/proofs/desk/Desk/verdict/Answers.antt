@@ -1,6 +1,5 @@
-use Rattle.std.proofs.Common.{◌≡◌}
+use Rattle.club_gate.proofs.Common.{◌≡◌, reading, reading_in_form}
 use Rattle.pass_forms.specs.computed.Text.{in_form}
-use Rattle.pass_json.specs.computed.AnyForm.{reading, reading_in_form}
 use Rattle.club_gate.proofs.Verifying.{verdict_by_text, fault_in, lacks_memory, other_form}
 use Rattle.club_gate.proofs.desk.Desk.verdict.Given as given
 use Rattle.club_gate.proofs.desk.Desk.verdict.Goals as goal

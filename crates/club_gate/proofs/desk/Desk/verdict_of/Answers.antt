@@ -1,4 +1,4 @@
-use Rattle.std.proofs.Common.{sym, ◌∙◌, rules}
+use Rattle.club_gate.proofs.Common.{sym, ◌∙◌, rules}
 use Rattle.std.proofs.lemmas.Result.{IfOk-weaker}
 use Rattle.club_gate.proofs.Signers.{refused_by_row}
 use Rattle.club_gate.proofs.StoreReads.{reads}

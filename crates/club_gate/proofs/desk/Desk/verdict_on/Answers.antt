@@ -1,6 +1,4 @@
-use Rattle.std.proofs.Common.{◌∙◌, Ok, ap}
-use Rattle.pass_forms.specs.declared.form.Form.{Form}
-use Rattle.pass_json.specs.computed.AnyForm.{reading_in_form}
+use Rattle.club_gate.proofs.Common.{◌∙◌, Ok, ap, Form, reading_in_form}
 use Rattle.club_gate.proofs.Verifying.{verdict_by_bytes}
 use Rattle.club_gate.proofs.desk.Desk.verdict_on.Goals as goal
 

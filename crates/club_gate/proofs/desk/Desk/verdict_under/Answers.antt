@@ -1,4 +1,4 @@
-use Rattle.std.proofs.Common.{◌≡◌, None, sym, ◌∙◌, arith, rules}
+use Rattle.club_gate.proofs.Common.{◌≡◌, None, sym, ◌∙◌, arith, rules}
 use Rattle.std.proofs.lemmas.Grind.{common_steps}
 use Rattle.club_gate.proofs.Reading.{verdict_read}
 use Rattle.club_gate.proofs.Spending.{on_record}

@@ -1,5 +1,4 @@
-use Rattle.std.proofs.Common.{sym, ◌∙◌, rules}
-use Rattle.club_core.specs.Basis.{account_named}
+use Rattle.club_gate.proofs.Common.{sym, ◌∙◌, rules, account_named}
 use Rattle.club_gate.proofs.Reading.{sums_read}
 use Rattle.club_gate.proofs.StoreReads.{reads}
 use Rattle.club_gate.proofs.desk.Desk.with_sums.Goals as goal

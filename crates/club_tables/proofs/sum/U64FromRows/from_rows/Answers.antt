@@ -1,9 +1,4 @@
-use Rattle.std.proofs.Common.{rules, ap, sym, subst, ◌∙◌, arith, take}
-use Rattle.std.specs.Prelude.{sum_by}
-use Rattle.std.proofs.lemmas.List.{take_all}
-use Rattle.std.proofs.lemmas.List.Elements.{All-more, All-same}
-use Rattle.std.proofs.lemmas.List.Sums.{sum_by_more}
-use Rattle.club_tables.specs.Columns.{cost_in, IsCostIn, IsCostRow}
+use Rattle.club_tables.proofs.Common.{rules, ap, sym, subst, ◌∙◌, arith, take, sum_by, take_all, All-more, All-same, sum_by_more, cost_in, IsCostIn, IsCostRow}
 use Rattle.club_tables.proofs.lists.SumLemmas.{cost_in_is, no_costs}
 use Rattle.club_tables.proofs.sum.U64FromRows.from_rows.Goals as goal
 

@@ -1,6 +1,4 @@
-use Rattle.std.proofs.Common.{◌≡◌, ◌<◌, ◌^◌, take}
-use Rattle.std.specs.Prelude.{sum_by, All}
-use Rattle.club_tables.specs.Columns.{cost_in, IsCostRow}
+use Rattle.club_tables.proofs.Common.{◌≡◌, ◌<◌, ◌^◌, take, sum_by, All, cost_in, IsCostRow}
 use Rattle.club_tables.proofs.sum.U64FromRows.from_rows.Given as goal
 
 abbrev pub invariant-loop-row : goal.invariant-loop-row

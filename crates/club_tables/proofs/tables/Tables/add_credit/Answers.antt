@@ -1,4 +1,4 @@
-use Rattle.club_core.specs.declared.change.Change.TheVariants.{AddCredit}
+use Rattle.club_tables.proofs.Common.{AddCredit}
 use Rattle.club_tables.proofs.changes.WriteLemmas.{changes}
 use Rattle.club_tables.proofs.tables.Tables.add_credit.Goals as goal
 

@@ -1,9 +1,5 @@
-use Rattle.std.proofs.Common.{arith, inl, inr, refl}
-use Rattle.sqlite.specs.State.{HasCleanDisk}
+use Rattle.club_tables.proofs.Common.{arith, inl, inr, refl, HasCleanDisk, state, FailsToQuery, transaction_start}
 use Rattle.sqlite.specs.Values.{bound}
-use Rattle.sqlite.specs.Held.{state}
-use Rattle.sqlite.specs.State.{FailsToQuery}
-use Rattle.club_tables.specs.Transaction.{transaction_start}
 use Rattle.club_tables.proofs.crashes.SurviveLemmas.{Keeps, shown_keeps, fails_keeps, too_late_keeps, then_rolled}
 use Rattle.club_tables.proofs.tables.Tables.ask.Goals as goal
 

@@ -1,15 +1,7 @@
-use Rattle.std.proofs.Common.{rules, ◌≡◌, List, ℕ, Option, Result}
-use Rattle.sqlite.specs.Store.{Ghosts}
-use Rattle.sqlite.specs.State.{Survives}
-use Rattle.sqlite.specs.Held.{Held, state}
-use Rattle.club_rows.specs.declared.booking.Booking.{Booking}
-use Rattle.club_core.specs.declared.store.StoreFault.{StoreFault}
-use Rattle.club_core.specs.Sums.{booking_under}
-use Rattle.club_tables.specs.Answers.{Answers, OfBooking, IsFirst, IsBookingNamed, reading_statement}
-use Rattle.club_tables.specs.ReadsAndChanges.{ReadsClub}
-use Rattle.club_tables.specs.Transaction.{IsKept}
+use Rattle.club_tables.proofs.Common.{rules, ◌≡◌, List, ℕ, Option, Result, Ghosts, Survives, Held, state, Booking, StoreFault, booking_under, OfBooking}
+use Rattle.club_tables.proofs.Common.{IsFirst, IsBookingNamed, reading_statement, ReadsClub, IsKept, booking_values}
+use Rattle.club_tables.specs.Answers.{Answers}
 use Rattle.club_tables.proofs.lists.BookingRows.{first_held, unnamed, one_booking}
-use Rattle.club_tables.specs.Columns.{booking_values}
 use Rattle.club_tables.proofs.queries.ReadLemmas.{read_answer, fewer_read}
 use Rattle.club_tables.proofs.queries.KeyLemmas.{booking_shown}
 use Rattle.club_tables.proofs.tables.Tables.booking.Goals as goal

@@ -1,4 +1,4 @@
-use Rattle.club_core.specs.declared.change.Change.TheVariants.{MarkCancelled}
+use Rattle.club_tables.proofs.Common.{MarkCancelled}
 use Rattle.club_tables.proofs.changes.WriteLemmas.{changes}
 use Rattle.club_tables.proofs.tables.Tables.cancel_booking.Goals as goal
 

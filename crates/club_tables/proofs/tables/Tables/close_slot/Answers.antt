@@ -1,4 +1,4 @@
-use Rattle.club_core.specs.declared.change.Change.TheVariants.{MarkClosed}
+use Rattle.club_tables.proofs.Common.{MarkClosed}
 use Rattle.club_tables.proofs.changes.WriteLemmas.{changes}
 use Rattle.club_tables.proofs.tables.Tables.close_slot.Goals as goal
 

@@ -1,12 +1,5 @@
-use Rattle.std.proofs.Common.{◌≡◌, All, IsTrue, inl, inr, sym, subst, ◌∙◌, arith}
-use Rattle.std.proofs.lemmas.List.Elements.{All-push}
-use Rattle.sqlite.specs.Store.{Ghosts}
-use Rattle.sqlite.specs.Effect.{Database}
-use Rattle.sqlite.specs.State.{HasCleanDisk}
-use Rattle.sqlite.specs.Held.{Held, state}
-use Rattle.club_tables.specs.Opening.{HasOrGetsIndex, EnsuresIndex, Understands, texts_by_key, index_text}
-use Rattle.club_tables.specs.Tables.{HoldsClubVersion2}
-use Rattle.club_tables.specs.Transaction.{IsKept, IsUnderstood}
+use Rattle.club_tables.proofs.Common.{◌≡◌, All, IsTrue, inl, inr, sym, subst, ◌∙◌, arith, All-push, Ghosts, Database, HasCleanDisk, Held, state, HasOrGetsIndex}
+use Rattle.club_tables.proofs.Common.{EnsuresIndex, Understands, texts_by_key, index_text, HoldsClubVersion2, IsKept, IsUnderstood}
 use Rattle.club_tables.proofs.opening.StepLemmas.{keeps_after, opens_after, opens_not, kept_then}
 use Rattle.club_tables.proofs.crashes.SurviveLemmas.{opened_after}
 use Rattle.club_tables.proofs.tables.Tables.complete.Goals as goal

@@ -1,9 +1,5 @@
-use Rattle.std.proofs.Common.{rules, Vec}
+use Rattle.club_tables.proofs.Common.{rules, Vec, IfOk-weaker, Booking, OfDay, AreBookings}
 use Rattle.std.specs.declared.alloc.Global.{Global}
-use Rattle.std.proofs.lemmas.Result.{IfOk-weaker}
-use Rattle.club_rows.specs.declared.booking.Booking.{Booking}
-use Rattle.club_tables.specs.Answers.{OfDay}
-use Rattle.club_tables.specs.Sheet.{AreBookings}
 use Rattle.club_tables.proofs.lists.BookingRows.{day_of_rows, within_limits}
 use Rattle.club_tables.proofs.queries.DayLemmas.{day_shown}
 use Rattle.club_tables.proofs.queries.ReadLemmas.{read_by}

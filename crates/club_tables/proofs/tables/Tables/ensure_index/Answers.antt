@@ -1,7 +1,4 @@
-use Rattle.std.proofs.Common.{inl, inr, refl}
-use Rattle.sqlite.specs.Held.{state}
-use Rattle.club_tables.specs.Opening.{IsOpeningBatch, index_batch}
-use Rattle.club_tables.specs.Tables.{HoldsClubVersion2}
+use Rattle.club_tables.proofs.Common.{inl, inr, refl, state, IsOpeningBatch, index_batch, HoldsClubVersion2}
 use Rattle.club_tables.proofs.opening.StepLemmas.{batch_failed, keeps_after, opens_after, opens_not}
 use Rattle.club_tables.proofs.queries.ReadLemmas.{at_once}
 use Rattle.club_tables.proofs.crashes.SurviveLemmas.{commits_nothing, was_clean}

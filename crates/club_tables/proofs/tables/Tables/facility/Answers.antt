@@ -1,7 +1,5 @@
-use Rattle.club_tables.specs.Answers.{OfFacility}
-use Rattle.club_core.specs.Club.{facility_named}
+use Rattle.club_tables.proofs.Common.{OfFacility, facility_named, facility_values}
 use Rattle.club_tables.proofs.lists.BookingRows.{first_held, one_facility}
-use Rattle.club_tables.specs.Columns.{facility_values}
 use Rattle.club_tables.proofs.queries.KeyLemmas.{facility_shown}
 use Rattle.club_tables.proofs.queries.ReadLemmas.{read_answer}
 use Rattle.club_tables.proofs.tables.Tables.facility.Goals as goal

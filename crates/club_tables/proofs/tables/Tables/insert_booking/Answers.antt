@@ -1,4 +1,4 @@
-use Rattle.club_core.specs.declared.change.Change.TheVariants.{InsertBooking}
+use Rattle.club_tables.proofs.Common.{InsertBooking}
 use Rattle.club_tables.proofs.changes.WriteLemmas.{changes}
 use Rattle.club_tables.proofs.tables.Tables.insert_booking.Goals as goal
 

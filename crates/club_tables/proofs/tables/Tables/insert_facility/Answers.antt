@@ -1,4 +1,4 @@
-use Rattle.club_core.specs.declared.change.Change.TheVariants.{InsertFacility}
+use Rattle.club_tables.proofs.Common.{InsertFacility}
 use Rattle.club_tables.proofs.changes.WriteLemmas.{changes}
 use Rattle.club_tables.proofs.tables.Tables.insert_facility.Goals as goal
 

@@ -1,5 +1,4 @@
-use Rattle.std.proofs.Common.{true≢false, sym, ◌∙◌}
-use Rattle.club_core.specs.declared.change.Change.TheVariants.{InsertKey}
+use Rattle.club_tables.proofs.Common.{true≢false, sym, ◌∙◌, InsertKey}
 use Rattle.club_tables.proofs.changes.WriteLemmas.{changes}
 use Rattle.club_tables.proofs.tables.Tables.insert_key.Goals as goal
 

@@ -1,4 +1,4 @@
-use Rattle.club_core.specs.declared.change.Change.TheVariants.{InsertMember}
+use Rattle.club_tables.proofs.Common.{InsertMember}
 use Rattle.club_tables.proofs.changes.WriteLemmas.{changes}
 use Rattle.club_tables.proofs.tables.Tables.insert_member.Goals as goal
 

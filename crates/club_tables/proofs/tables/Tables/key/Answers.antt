@@ -1,7 +1,5 @@
-use Rattle.club_tables.specs.Answers.{OfKey, IsKeyIn}
-use Rattle.club_core.specs.Club.{key_named}
+use Rattle.club_tables.proofs.Common.{OfKey, IsKeyIn, key_named, key_values}
 use Rattle.club_tables.proofs.lists.BookingRows.{first_of, one_key}
-use Rattle.club_tables.specs.Columns.{key_values}
 use Rattle.club_rows.specs.Key.{row_of_key}
 use Rattle.club_tables.proofs.queries.KeyLemmas.{key_shown}
 use Rattle.club_tables.proofs.queries.ReadLemmas.{read_answer}

@@ -1,6 +1,4 @@
-use Rattle.std.proofs.Common.{inl, refl}
-use Rattle.club_tables.specs.Opening.{table_batch}
-use Rattle.club_tables.specs.Tables.{HoldsClubAnyVersion}
+use Rattle.club_tables.proofs.Common.{inl, refl, table_batch, HoldsClubAnyVersion}
 use Rattle.club_tables.proofs.opening.OpenLemmas.{holds_found, runs_batch}
 use Rattle.club_tables.proofs.tables.Tables.make_tables.Goals as goal
 

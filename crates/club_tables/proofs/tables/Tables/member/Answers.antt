@@ -1,9 +1,5 @@
-use Rattle.club_tables.specs.Answers.{OfMember}
-use Rattle.std.specs.Prelude.{option_map}
-use Rattle.club_core.specs.Club.{member_named}
-use Rattle.club_tables.specs.Stored.{member_row}
+use Rattle.club_tables.proofs.Common.{OfMember, option_map, member_named, member_row, member_values}
 use Rattle.club_tables.proofs.lists.BookingRows.{first_held, one_member}
-use Rattle.club_tables.specs.Columns.{member_values}
 use Rattle.club_tables.proofs.queries.KeyLemmas.{member_shown}
 use Rattle.club_tables.proofs.queries.ReadLemmas.{read_answer}
 use Rattle.club_tables.proofs.tables.Tables.member.Goals as goal

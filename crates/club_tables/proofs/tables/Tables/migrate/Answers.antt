@@ -1,10 +1,5 @@
-use Rattle.std.proofs.Common.{[], ◌∷◌, All, inl, inr, refl, subst, arith}
-use Rattle.sqlite.specs.Effect.{Database}
-use Rattle.club_tables.specs.declared.texts.TheConstants.{OLDER_ROOT}
-use Rattle.club_tables.specs.Fault.{FailsToPrepare}
-use Rattle.club_tables.specs.Opening.{first_texts, migration}
-use Rattle.club_tables.specs.Tables.{HoldsClubVersion1}
-use Rattle.club_tables.specs.Transaction.{IsUnderstood}
+use Rattle.club_tables.proofs.Common.{[], ◌∷◌, All, inl, inr, refl, subst, arith, Database, OLDER_ROOT, FailsToPrepare, first_texts, migration}
+use Rattle.club_tables.proofs.Common.{HoldsClubVersion1, IsUnderstood}
 use Rattle.club_tables.proofs.opening.StepLemmas.{batch_failed, keeps_after, opens_after, opens_not, one_more}
 use Rattle.club_tables.proofs.tables.Tables.migrate.Goals as goal
 

@@ -1,7 +1,5 @@
-use Rattle.club_tables.specs.Answers.{OfOlderRoot}
-use Rattle.club_core.specs.KeyParts.{older_root_of}
+use Rattle.club_tables.proofs.Common.{OfOlderRoot, older_root_of, older_root_values}
 use Rattle.club_tables.proofs.lists.BookingRows.{first_held, one_older}
-use Rattle.club_tables.specs.Columns.{older_root_values}
 use Rattle.club_tables.proofs.queries.KeyLemmas.{older_shown}
 use Rattle.club_tables.proofs.queries.ReadLemmas.{read_answer}
 use Rattle.club_tables.proofs.tables.Tables.older_root.Goals as goal

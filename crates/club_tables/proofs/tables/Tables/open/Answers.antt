@@ -1,15 +1,7 @@
-use Rattle.std.proofs.Common.{◌≡◌, ◌≢◌, ◌⊎◌, ℕ, List, [], ◌∷◌, All, IsTrue, inl, inr, refl, sym, subst, ◌∙◌, arith}
-use Rattle.sqlite.specs.Order.{Row}
-use Rattle.sqlite.specs.Store.{Ghosts}
-use Rattle.sqlite.specs.Effect.{Database}
-use Rattle.sqlite.specs.State.{HasCleanDisk}
-use Rattle.sqlite.specs.Held.{Held, state}
-use Rattle.club_tables.specs.Transaction.{BoundStatement, IsIdle, IsKept, IsUnderstood}
-use Rattle.club_tables.specs.declared.texts.TheConstants.{VERSION}
-use Rattle.club_tables.specs.Columns.{HasValues, version_values}
-use Rattle.club_tables.specs.Opening.{HasNoDesk, AcceptsTables, YieldsRows, HasRunOver, Upgrade, EnsuresIndex}
-use Rattle.club_tables.specs.Opening.{first_texts, texts_by_key, indexed_texts, table_batch, migration, index_batch}
-use Rattle.club_tables.specs.Tables.{HoldsClubAnyVersion}
+use Rattle.club_tables.proofs.Common.{◌≡◌, ◌≢◌, ◌⊎◌, ℕ, List, [], ◌∷◌, All, IsTrue, inl, inr, refl, sym, subst, ◌∙◌, arith, Row, Ghosts, Database, HasCleanDisk}
+use Rattle.club_tables.proofs.Common.{Held, state, BoundStatement, IsIdle, IsKept, IsUnderstood, VERSION, HasValues, version_values, HasNoDesk, AcceptsTables}
+use Rattle.club_tables.proofs.Common.{YieldsRows, HasRunOver, Upgrade, EnsuresIndex, first_texts, texts_by_key, indexed_texts, table_batch, migration}
+use Rattle.club_tables.proofs.Common.{index_batch, HoldsClubAnyVersion}
 use Rattle.club_tables.proofs.crashes.SurviveLemmas.{opened_after, was_clean}
 use Rattle.club_tables.proofs.opening.MakingLemmas.{makes_free}
 use Rattle.club_tables.proofs.opening.OpenLemmas.{one_version, first_found, second_found}

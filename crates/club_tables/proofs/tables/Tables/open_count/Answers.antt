@@ -1,5 +1,4 @@
-use Rattle.club_tables.specs.Answers.{OfOpen, IsCount}
-use Rattle.std.proofs.Common.{◌∙◌, rules}
+use Rattle.club_tables.proofs.Common.{OfOpen, IsCount, ◌∙◌, rules}
 use Rattle.club_tables.proofs.queries.MemberLemmas.{open_shown}
 use Rattle.club_tables.proofs.queries.ReadLemmas.{read_answer}
 use Rattle.club_tables.proofs.tables.Tables.open_count.Goals as goal

@@ -1,7 +1,4 @@
-use Rattle.std.proofs.Common.{arith, []}
-use Rattle.sqlite.specs.State.{HasCleanDisk}
-use Rattle.sqlite.specs.Held.{state}
-use Rattle.club_tables.specs.Transaction.{transaction_start}
+use Rattle.club_tables.proofs.Common.{arith, [], HasCleanDisk, state, transaction_start}
 use Rattle.club_tables.proofs.crashes.SurviveLemmas.{Keeps, not_run_keeps, then_rolled}
 use Rattle.club_tables.proofs.tables.Tables.prepare.Goals as goal
 

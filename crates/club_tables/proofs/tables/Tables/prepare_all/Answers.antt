@@ -1,8 +1,5 @@
-use Rattle.std.proofs.Common.{arith}
-use Rattle.sqlite.specs.State.{HasCleanDisk}
-use Rattle.sqlite.specs.Held.{state}
+use Rattle.club_tables.proofs.Common.{arith, HasCleanDisk, state, FailsToPrepare}
 use Rattle.club_tables.proofs.crashes.RepresentsLemmas.{survives_none}
-use Rattle.club_tables.specs.Fault.{FailsToPrepare}
 use Rattle.club_tables.proofs.opening.StepLemmas.{kept_then, one_at, one_understood, all_understood}
 use Rattle.club_tables.proofs.tables.Tables.prepare_all.Goals as goal
 

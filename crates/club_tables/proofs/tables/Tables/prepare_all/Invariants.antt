@@ -1,7 +1,4 @@
-use Rattle.std.proofs.Common.{IsTrue, All, take, map, Bor, List, ℕ}
-use Rattle.sqlite.specs.State.{HasCleanDisk, Survives}
-use Rattle.sqlite.specs.Held.{state}
-use Rattle.club_tables.specs.Transaction.{IsIdle, IsUnderstood, IsUntouched}
+use Rattle.club_tables.proofs.Common.{IsTrue, All, take, map, Bor, List, ℕ, HasCleanDisk, Survives, state, IsIdle, IsUnderstood, IsUntouched}
 use Rattle.club_tables.proofs.tables.Tables.prepare_all.Given as goal
 
 abbrev pub invariant-loop-text : goal.invariant-loop-text

@@ -1,4 +1,4 @@
-use Rattle.club_core.specs.declared.change.Change.TheVariants.{ReplaceRoot}
+use Rattle.club_tables.proofs.Common.{ReplaceRoot}
 use Rattle.club_tables.proofs.changes.WriteLemmas.{changes}
 use Rattle.club_tables.proofs.tables.Tables.replace_root.Goals as goal
 

@@ -1,4 +1,4 @@
-use Rattle.club_core.specs.declared.change.Change.TheVariants.{MarkRevoked}
+use Rattle.club_tables.proofs.Common.{MarkRevoked}
 use Rattle.club_tables.proofs.changes.WriteLemmas.{changes}
 use Rattle.club_tables.proofs.tables.Tables.revoke_key.Goals as goal
 

@@ -1,14 +1,8 @@
-use Rattle.std.proofs.Common.{rules, arith, map, inl, inr, refl, ◌∙◌, ℕ, ◌<◌, List, length, take, get_or, Err}
-use Rattle.club_core.specs.declared.store.StoreFault.{StoreFault}
+use Rattle.club_tables.proofs.Common.{rules, arith, map, inl, inr, refl, ◌∙◌, ℕ, ◌<◌, List, length, take, get_or, Err, StoreFault, Ghosts, HasCleanDisk}
+use Rattle.club_tables.proofs.Common.{Survives, IsRolledBack, Held, state, survives_then, survives_begin, RanInTurn, transaction_start, bound_statement}
+use Rattle.club_tables.proofs.Common.{Commits, StopsAt}
 use Rattle.club_core.specs.declared.store.StoreFault.TheVariants.{Storage}
-use Rattle.sqlite.specs.Store.{Ghosts}
-use Rattle.sqlite.specs.State.{HasCleanDisk, Survives, IsRolledBack}
-use Rattle.sqlite.specs.Held.{Held, state}
-use Rattle.sqlite.proofs.StateLemmas.{survives_then}
-use Rattle.sqlite.proofs.Callers.{survives_begin}
 use Rattle.club_tables.specs.declared.transaction.Statement.{Statement}
-use Rattle.club_tables.specs.Transaction.{RanInTurn, transaction_start, bound_statement}
-use Rattle.club_tables.specs.Fault.{Commits, StopsAt}
 use Rattle.club_tables.proofs.crashes.RepresentsLemmas.{survives_none}
 use Rattle.club_tables.proofs.crashes.SurviveLemmas.{survives_as, was_clean, Keeps, commit_keeps, execute_keeps, then_rolled}
 use Rattle.club_tables.proofs.crashes.TurnLemmas.{turn_at, turn_all, fails_at, fails_last, commit_survives}

@@ -1,7 +1,4 @@
-use Rattle.std.proofs.Common.{◌≡◌, ◌<◌, map, take, IsTrue}
-use Rattle.sqlite.specs.State.{HasCleanDisk, Survives}
-use Rattle.sqlite.specs.Held.{state}
-use Rattle.club_tables.specs.Transaction.{RanInTurn, transaction_start, bound_statement}
+use Rattle.club_tables.proofs.Common.{◌≡◌, ◌<◌, map, take, IsTrue, HasCleanDisk, Survives, state, RanInTurn, transaction_start, bound_statement}
 use Rattle.club_tables.proofs.tables.Tables.run_on_rows.Given as goal
 
 abbrev pub invariant-loop-statement : goal.invariant-loop-statement

@@ -1,4 +1,4 @@
-use Rattle.club_tables.specs.Answers.{OfSlot}
+use Rattle.club_tables.proofs.Common.{OfSlot}
 use Rattle.club_tables.proofs.queries.ReadLemmas.{read_answer}
 use Rattle.club_tables.proofs.lists.BookingRows.{use_is}
 use Rattle.club_tables.proofs.queries.KeyLemmas.{slot_shown}

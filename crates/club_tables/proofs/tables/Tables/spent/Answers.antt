@@ -1,5 +1,4 @@
-use Rattle.std.proofs.Common.{◌∙◌}
-use Rattle.club_tables.specs.Answers.{OfCosts}
+use Rattle.club_tables.proofs.Common.{◌∙◌, OfCosts}
 use Rattle.club_tables.proofs.lists.SumLemmas.{costs_are}
 use Rattle.club_tables.proofs.queries.ReadLemmas.{read_answer}
 use Rattle.club_tables.proofs.queries.KeyLemmas.{costs_shown}

@@ -1,14 +1,8 @@
-use Rattle.std.proofs.Common.{inl, inr}
-use Rattle.std.proofs.lemmas.Result.{IfOk-weaker}
-use Rattle.sqlite.specs.State.{HasCleanDisk}
-use Rattle.sqlite.specs.Effect.{Database}
-use Rattle.sqlite.specs.Held.{state}
-use Rattle.club_core.specs.Club.{Club}
+use Rattle.club_tables.proofs.Common.{inl, inr, IfOk-weaker, HasCleanDisk, Database, state, Club, HoldsClubVersion1, HoldsClubVersion2}
 use Rattle.club_tables.proofs.crashes.RepresentsLemmas.{represents_on}
 use Rattle.club_tables.proofs.crashes.SurviveLemmas.{was_clean}
 use Rattle.club_tables.proofs.opening.OpenLemmas.{version_returned}
 use Rattle.club_tables.proofs.opening.VersionLemmas.{version_answered}
-use Rattle.club_tables.specs.Tables.{HoldsClubVersion1, HoldsClubVersion2}
 use Rattle.club_tables.proofs.tables.Tables.version.Goals as goal
 
 pub returns-clause-ok : goal.returns-clause-ok

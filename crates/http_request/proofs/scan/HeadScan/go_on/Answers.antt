@@ -1,5 +1,4 @@
-use Rattle.std.proofs.Common.{take, drop}
-use Rattle.std.proofs.lemmas.List.{take-append-drop}
+use Rattle.http_request.proofs.Common.{take, drop, take-append-drop}
 use Rattle.http_request.proofs.WholeLemmas.{front_more}
 use Rattle.http_request.proofs.scan.HeadScan.go_on.Goals as goal
 

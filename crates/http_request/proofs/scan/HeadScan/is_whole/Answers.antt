@@ -1,8 +1,4 @@
-use Rattle.std.proofs.Common.{arith, ◌<◌, ◌-◌, length}
-use Rattle.std.proofs.lemmas.Bool.{OnFalse_from}
-use Rattle.std.proofs.lemmas.Bool.Decides.{nat_tests}
-use Rattle.std.proofs.lemmas.List.{length-drop}
-use Rattle.http_request.specs.Frame.{endless, has_frame}
+use Rattle.http_request.proofs.Common.{arith, ◌<◌, ◌-◌, length, OnFalse_from, nat_tests, length-drop, endless, has_frame}
 use Rattle.http_request.proofs.FrameLemmas.{asks_at, whole_frame}
 use Rattle.http_request.proofs.LengthLemmas.{room_for}
 use Rattle.http_request.proofs.ScanLemmas.{tested}

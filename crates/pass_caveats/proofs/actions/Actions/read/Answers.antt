@@ -1,4 +1,4 @@
-use Rattle.std.proofs.Common.{[], ◌∷◌, sym, ◌∙◌, refl}
+use Rattle.pass_caveats.proofs.Common.{[], ◌∷◌, sym, ◌∙◌, refl}
 use Rattle.club_values.specs.Action.{action_text}
 use Rattle.pass_caveats.specs.Actions.{all_actions, has_action}
 use Rattle.pass_caveats.proofs.CandidateLemmas.{action_words}

@@ -1,6 +1,4 @@
-use Rattle.std.proofs.Common.{◌≡◌, true, sym, arith}
-use Rattle.pass_caveats.specs.Names.{AreNames}
-use Rattle.pass_caveats.specs.Parts.{comma_parts}
+use Rattle.pass_caveats.proofs.Common.{◌≡◌, true, sym, arith, AreNames, comma_parts}
 use Rattle.pass_caveats.proofs.PartLemmas.{joined-parts_of, some_part, names_are_parts}
 use Rattle.pass_caveats.proofs.names.Names.read.Goals as goal
 use Rattle.pass_caveats.proofs.names.Names.read.Goals.{else-are_all_names-via-then-are_all_names+else-count_of_parts-le-MAX_NAMES}

@@ -1,4 +1,4 @@
-use Rattle.std.proofs.Common.{[], ◌∷◌, sym, ◌∙◌, refl}
+use Rattle.pass_caveats.proofs.Common.{[], ◌∷◌, sym, ◌∙◌, refl}
 use Rattle.club_values.specs.Weekday.{weekdays}
 use Rattle.pass_caveats.specs.Weekdays.{weekday_text, has_weekday}
 use Rattle.pass_caveats.proofs.CandidateLemmas.{weekday_words}

@@ -1,5 +1,4 @@
-use Rattle.std.proofs.Common.{◌≡◌, suc, arith}
-use Rattle.std.proofs.lemmas.Grind.{common_steps}
+use Rattle.pass_forms.proofs.Common.{◌≡◌, suc, arith, common_steps}
 use Rattle.pass_forms.proofs.CaveatRuns.{no_more, one_more}
 use Rattle.pass_forms.proofs.layout.Caveats.next.Goals as goal
 

@@ -1,6 +1,5 @@
 -- The fields so far and those still to come make the whole pass.
-use Rattle.std.proofs.Common.{◌≡◌, length}
-use Rattle.pass_forms.specs.FieldSource.{with_fields}
+use Rattle.pass_forms.proofs.Common.{◌≡◌, length, with_fields}
 use Rattle.pass_forms.proofs.layout.Fields.into_pass.Given as goal
 
 abbrev pub invariant-loop-field : goal.invariant-loop-field

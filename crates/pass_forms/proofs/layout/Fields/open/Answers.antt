@@ -1,6 +1,4 @@
-use Rattle.std.proofs.Common.{◌∙◌, length, refl, ap, sym}
-use Rattle.pass_forms.specs.FieldSource.{opening_of}
-use Rattle.pass_forms.specs.Reading.{IsReadAs}
+use Rattle.pass_forms.proofs.Common.{◌∙◌, length, refl, ap, sym, opening_of, IsReadAs}
 use Rattle.pass_forms.proofs.Collecting.{opens}
 use Rattle.pass_forms.proofs.layout.Fields.open.Goals as goal
 

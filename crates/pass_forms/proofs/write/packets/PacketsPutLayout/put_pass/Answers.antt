@@ -1,8 +1,4 @@
-use Rattle.std.proofs.Common.{◌≡◌, ◌++◌, ℕ, List, Result, Ok, Err, arith}
-use Rattle.std.proofs.lemmas.Grind.{common_steps}
-use Rattle.pass_forms.specs.declared.fault.FormFault.{FormFault}
-use Rattle.pass_forms.specs.Putting.{Puts}
-use Rattle.pass_forms.specs.Writing.{v1_bytes}
+use Rattle.pass_forms.proofs.Common.{◌≡◌, ◌++◌, ℕ, List, Result, Ok, Err, arith, common_steps, FormFault, Puts, v1_bytes}
 use Rattle.pass_forms.proofs.write.packets.PacketsPutLayout.put_pass.Goals as goal
 
 -- Four parts are put, one after the other.
