@@ -1,11 +1,11 @@
 #!/usr/bin/env -S /usr/bin/python3 -B -m pytest -q -p no:cacheprovider
 """The manual pages are clean to `mandoc`, and have the commands, options and statuses of `--help`.
 
-They have no others. That of office is only held against `mandoc` here, and against its `--help` by tests/office_holds.py. Not part of
-the gate.
+They have no others. That of office is only held against `mandoc` here, and against its `--help` by tests/office_holds.py. It refers to
+the pages of sudo, which has to be there. Not part of the gate.
 """
 # groups: package quick
-# wants: python3-pytest mandoc
+# wants: python3-pytest mandoc sudo
 
 import re
 import subprocess
