@@ -10,7 +10,7 @@ Prints each, with its place; the status is 1 if there is one.
 - a number in a public docstring without a unit (a guess: it looks for a word after the number, or a unit's word in the text);
 - another version than that of VERSION: in the code, as both programs print it, or in the newest heading of CHANGELOG.md;
 - files that nothing uses: modules of specs and proofs that no file imports, files of code that no `mod` names, scripts that no
-  page names, names that a crate's proofs/Common passes on and no proof takes from it, and edits of must-fail/ and more-edits/ whose old
+  page names, names that a crate's proofs/Common passes on and no proof takes, and edits of must-fail/ and more-edits/ whose old
   text doesn't stand once in its file.
 Not part of the gate.
   tests/lint.py                  every crate

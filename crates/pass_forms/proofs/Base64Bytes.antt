@@ -66,10 +66,10 @@ groups_are_bytes dec s (suc q) table bytes none =
 
 -- what the scan of the last group keeps is below 64
 module _ (dec : List ℕ) (pad at : ℕ) (table : IsDecodeTable dec) where
-  pushed : (st : Leftover) (i b : ℕ) → IsLeftover st i → b < 256 → (next : Result Leftover DecodeError) → push_leftover dec pad at st i b ≡ next →
+  push_keeps : (st : Leftover) (i b : ℕ) → IsLeftover st i → b < 256 → (next : Result Leftover DecodeError) → push_leftover dec pad at st i b ≡ next →
       IfOk next (λ st. IsLeftover st (i + 1))
-  pushed st i b held small (Ok next) e = IsLeftover_next dec pad at st i b next table held small e
-  pushed st i b held small (Err error) e = tt
+  push_keeps st i b held small (Ok next) e = IsLeftover_next dec pad at st i b next table held small e
+  push_keeps st i b held small (Err error) e = tt
 
   scan_keeps : (r : Result Leftover DecodeError) (i : ℕ) (bs : List ℕ) → IfOk r (λ st. IsLeftover st i) → IsBytes bs →
       IfOk (scan_steps dec pad at r i bs) (λ st. (k : ℕ) → slice_index st.morsels k < 64)
@@ -77,7 +77,7 @@ module _ (dec : List ℕ) (pad at : ℕ) (table : IsDecodeTable dec) where
   scan_keeps (Err e) i bs held bytes = tt
   scan_keeps (Ok st) i [] held bytes = held.3
   scan_keeps (Ok st) i (b ∷ bs) held bytes =
-      scan_keeps (push_leftover dec pad at st i b) (i + 1) bs (pushed st i b held (bytes 0) _ refl) (λ j. bytes (suc j))
+      scan_keeps (push_leftover dec pad at st i b) (i + 1) bs (push_keeps st i b held (bytes 0) _ refl) (λ j. bytes (suc j))
 
 zeros_below : (k : ℕ) → slice_index (0 ∷ 0 ∷ 0 ∷ 0 ∷ []) k < 64
 zeros_below k = grind (arith, elements)

@@ -46,9 +46,9 @@ whole_same : (m n : ℕ) → is_true (binary (Compare Eq Binary) (Int (pos m)) (
 whole_same m n h = (unsigned_Decides m n).0 (sym (whole_equal m n) ∙ h)
 
 -- a booking under another key or number stays as it is
-unnumbered : (key : List ℕ) (number refund : ℕ) (booking : Booking) → is_numbered key number booking ≡ false
+other_stays : (key : List ℕ) (number refund : ℕ) (booking : Booking) → is_numbered key number booking ≡ false
     → cancelled_booking key number refund booking ≡ booking
-unnumbered key number refund booking fails = rw (fails, or-false booking.cancelled) refl
+other_stays key number refund booking fails = rw (fails, or-false booking.cancelled) refl
 
 -- what holds of each changed element holds of one
 pub mapped_holds : {X Y : Type 0} (P : Y → Type 0) (f : X → Y) (xs : List X) (x : X) → All P (map f xs) → Contains xs x → P (f x)
@@ -119,7 +119,7 @@ module _ (rows : Rows) (once : AreBookingsOnce rows.bookings) (booking : Booking
       let none : is_true (binary (Compare Eq Binary) (Int (pos (truth booking.cancelled))) (Int (pos 0))) ≡ true =
       ap (λ (b : Bool). is_true (binary (Compare Eq Binary) (Int (pos (truth b))) (Int (pos 0)))) uncancelled ∙ whole_itself 0 in
       one_changed (cancel_finds old new count holds_rows ran) booking on_record (simp (text_itself, whole_itself, none))
-      (cancelled_booking booking.key booking.number refund) (unnumbered booking.key booking.number refund)
+      (cancelled_booking booking.key booking.number refund) (other_stays booking.key booking.number refund)
       (λ id passes. rw (passes, uncancelled) refl) (λ id b. simp cast_int) (λ wrote held. on_bookings holds_rows wrote held)
 
 -- ---- the rows as they are stored
@@ -144,7 +144,7 @@ module _ (club : Club) (sound : IsSound club) (booking : Booking) (cancels : IsT
   abbrev next : Club
   next = record club { bookings = map change club.bookings }
 
-  alone : Apart (IsAlone (is_numbered key number) change (unnumbered key number refund)) club.bookings
+  alone : Apart (IsAlone (is_numbered key number) change (other_stays key number refund)) club.bookings
   alone = apart_from_pairs _ club.bookings (λ i j d less low both.
       let mine = and_parts _ _ both.0 in
       let its = and_parts _ _ both.1 in
@@ -182,7 +182,7 @@ module _ (club : Club) (sound : IsSound club) (booking : Booking) (cancels : IsT
   pub used_back : (name : List ℕ) → used_by next name + (if is_key_of name club key then refund else 0) ≡ used_by club name
   used_back name =
       let own : Booking → Bool = λ b. is_key_of name club b.key in
-      let sums = picked_changed (is_numbered key number) change (unnumbered key number refund) cost_of own club.bookings booking alone cancels.0 in
+      let sums = picked_changed (is_numbered key number) change (other_stays key number refund) cost_of own club.bookings booking alone cancels.0 in
       elim (cases_Bool (own booking)) [
         | inl is ↦ let s = rw is at sums in rw is (omega (arith, s, nothing_back, now_refund, at_most))
         | inr is ↦ let s = rw is at sums in rw is (omega (arith, s))
@@ -191,7 +191,7 @@ module _ (club : Club) (sound : IsSound club) (booking : Booking) (cancels : IsT
   -- the persons of a slot
   pub taken_back : (s : Slot) → taken_in s next.bookings + (if same_slot booking.slot s then persons_of booking else 0) ≡ taken_in s club.bookings
   taken_back s =
-      let sums = picked_changed (is_numbered key number) change (unnumbered key number refund) persons_of (is_in s) club.bookings booking alone cancels.0 in
+      let sums = picked_changed (is_numbered key number) change (other_stays key number refund) persons_of (is_in s) club.bookings booking alone cancels.0 in
       let moved = rw (now_cancelled, cancels.1) at sums in
       omega (arith, moved)
 

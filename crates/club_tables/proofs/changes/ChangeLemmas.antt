@@ -19,9 +19,9 @@ use Rattle.club_tables.proofs.statements.JoinLemmas.{counts_elements}
 -- ---- an UPDATE of the one element that a test finds
 
 -- what a narrower test finds is what a wider one finds that one element passes at most
-narrowed : {X : Type 0} (p q : X → Bool) → Implies p q → (xs : List X) → length (filter q xs) ≤ 1 → (x : X) → find p xs ≡ Some x
+wider_is : {X : Type 0} (p q : X → Bool) → Implies p q → (xs : List X) → length (filter q xs) ≤ 1 → (x : X) → find p xs ≡ Some x
     → (find q xs ≡ Some x) × (p x ≡ true)
-narrowed p q wide xs low x is = (sym (found_by_both p q xs (agree p q wide xs x low is)) ∙ is, (found p xs x is).1)
+wider_is p q wide xs low x is = (sym (found_by_both p q xs (agree p q wide xs x low is)) ∙ is, (found p xs x is).1)
 
 -- over tables that hold these rows a statement ran, and then it is so
 abbrev pub WhenRan : BoundStatement → Rows → (State → State → ℕ → Type 0) → Type 1
@@ -41,7 +41,7 @@ module _ {X : Type 0} {values : X → Row} {p q : X → Bool} {xs : List X} {sho
   pub one_found : 1 ≤ count → (x : X) × (find q xs ≡ Some x) × (p x ≡ true)
   one_found some =
       let one = passes_one it.finds some in
-      let is = narrowed p q it.wide xs it.low one.0 one.1 in
+      let is = wider_is p q it.wide xs it.low one.0 one.1 in
       (one.0, is.0, is.1)
 
   -- if it is there, and passes, its row is written, and no other is changed
@@ -179,7 +179,7 @@ module _ (rows : Rows) (once : AreNamedOnce rows.members) (name : List ℕ) wher
     owner_found unique old new count holds_rows ran some =
         let row = one_found (used_finds old new count holds_rows ran) some in
         let one = find_some owns rows.keys (some_counted (filter owns rows.keys) (and_parts (is_named row.0) is_owned row.2).1) in
-        let key_is = narrowed owns is_key (λ k h. (and_parts (is_key k) _ h).0) rows.keys (one_named (λ (k : Key). k.name) key rows.keys unique) one.0 one.1 in
+        let key_is = wider_is owns is_key (λ k h. (and_parts (is_key k) _ h).0) rows.keys (one_named (λ (k : Key). k.name) key rows.keys unique) one.0 one.1 in
         (one.0, key_is.0, (bytes_eq-Decides one.0.member name).0 (and_parts (is_key one.0) _ key_is.1).1)
 
     pub member_used : (k : Key) → StoresKey key rows.keys k → k.member ≡ name → (row : MemberRow) → StoresMember name rows.members row → (next : ℕ → ℕ)

@@ -16,7 +16,7 @@ use Rattle.sqlite_rules.specs.Action.{Writes as ActionWrites}
 use Rattle.club_tables.proofs.lists.RowLemmas.{holds_more}
 use Rattle.club_tables.proofs.statements.InsertLemmas.{Leaves, task_of, went, same_value, wrote_rows, edited_alone}
 use Rattle.club_tables.proofs.statements.MeansLemmas.{Means, Wrote}
-use Rattle.club_tables.proofs.statements.UpdateLemmas.{Updates, updated, no_works, replaced, Below}
+use Rattle.club_tables.proofs.statements.UpdateLemmas.{Updates, update_leaves, no_works, replaced, Below}
 use Rattle.club_tables.proofs.statements.PassLemmas.{any_filtered_is}
 use Rattle.club_tables.proofs.statements.SelectLemmas.{Apart, one_passes, test, shows, answered, row_of, Paired, paired, only, from_truth_is}
 use Rattle.club_tables.proofs.lists.PutRows.{IsLone, put_among}
@@ -160,7 +160,7 @@ module _ (name : List ℕ) (columns : List Column) (keys : List (List ℕ)) (che
               let there = are.sound x (inl refl) in
               let same : there.0 ≡ row = elim (rw lone at (has_kept hit (db tree) there.0 there.1 there.2)) [ inl is ↦ is | inr other ↦ absurd other ] in
               let some = subst (λ u. Resolves task new_row db x u (Ok it.one)) puts.by h in
-              (x, ap rowid there.3 ∙ ap rowid same, updated old params table it.leaves some)
+              (x, ap rowid there.3 ∙ ap rowid same, update_leaves old params table it.leaves some)
 
       module _ {X : Type 0} (values : X → Row) (p : X → Bool) (change : X → X) (kept : (x : X) → p x ≡ false
           → change x ≡ x) (first : X) (hit_is : (id : ℤ) (x : X) → hit (Int id ∷ values x) ≡ p x)

@@ -184,15 +184,15 @@ IsSorted-from_map : {X Y : Type 0} (cmp : Y → Y → Ordering) (f : X → Y) (x
 IsSorted-from_map cmp f xs sorted k d low high =
     rw (get_or-map f xs (k + 1) d (f d) high, get_or-map f xs k d (f d) (omega arith)) at (sorted k (f d) low (rw length-map high))
 
-turned : (o : Ordering) → is_gt (ordering_reverse o) ≡ is_lt o
-turned Less = refl
-turned Equal = refl
-turned Greater = refl
+reverse_is_gt : (o : Ordering) → is_gt (ordering_reverse o) ≡ is_lt o
+reverse_is_gt Less = refl
+reverse_is_gt Equal = refl
+reverse_is_gt Greater = refl
 
 -- no earlier element is greater than a later one
 pub none_greater : {X : Type 0} (cmp : X → X → Ordering) → IsTotalOrder cmp → (xs : List X) → IsSorted cmp xs → AllPairs (λ a b. is_gt (cmp a b) ≡ false) xs
 none_greater cmp total xs sorted i j d less low =
-    ap is_gt (total.antisymm _ _) ∙ turned _ ∙ sorted_far (λ x y. is_lt (cmp x y)) (ranks_by total (λ x. x)) xs sorted i j d (omega arith) low
+    ap is_gt (total.antisymm _ _) ∙ reverse_is_gt _ ∙ sorted_far (λ x y. is_lt (cmp x y)) (ranks_by total (λ x. x)) xs sorted i j d (omega arith) low
 
 module _ {X : Type 0} (R : X → X → Type 0) (symmetric : (x y : X) → R x y → R y x) where
   abbrev Stays : List X → List X → Type 0

@@ -118,11 +118,11 @@ pub record Updates (old new : State) (table : Table) (query : Query) (params : R
   pub left : new.now.trees table.tree ≡ edited old.now.trees (edit_of old.now.trees table (ids_of rows) Given 1 rows)
   pub counted : count ≡ length rows
 
-pub updated : (old : State) {new : State} {count : ℕ} {one : Written} {query : Query} (params : Row) {given : Row} (table : Table)
+pub update_leaves : (old : State) {new : State} {count : ℕ} {one : Written} {query : Query} (params : Row) {given : Row} (table : Table)
     → Leaves club_schema new count one
     → WritesUpdate (task_of club_schema table old params) (record { lets = []; body = query }) given old.now.trees (Ok one)
     → Updates old new table query given count
-updated old params table left h =
+update_leaves old params table left h =
     let asked = went h in
     let written = went asked.2 in
     let edit = edit_of old.now.trees table (ids_of asked.0) Given 1 asked.0 in
@@ -142,7 +142,7 @@ pub updates : {text : List ℕ} {at : ℕ} {query : Query} → Means club_schema
     → slice_get club_schema.tables at ≡ Some table → {old new : State} {params : Row} {count : ℕ} → old.now.schema ≡ club_schema
     → Executes text params old new (Ok count) → Updates old new table query params count
 updates {at = at} means table listed {old = old} {new = new} {params = params} {count = count} has h =
-    let it = wrote_rows means at listed old new params count (λ w. w) (λ out does. does) has h in updated old params table it.1 it.2
+    let it = wrote_rows means at listed old new params count (λ w. w) (λ out does. does) has h in update_leaves old params table it.1 it.2
 
 -- an UPDATE of a table that holds a list, in which the elements that pass a test are hit
 pub record Finds {X : Type 0} (values : X → Row) (p : X → Bool) (xs : List X) (shown : Row → Row) (old new : State) (table : Table) (count : ℕ) : Type 0

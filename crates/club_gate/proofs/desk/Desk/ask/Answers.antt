@@ -4,9 +4,9 @@ use Rattle.club_gate.proofs.Decoding.{decoded_text}
 use Rattle.club_gate.proofs.DeskLaws.{reply_or_failure, lawful}
 use Rattle.club_gate.proofs.desk.Desk.ask.Goals as goal
 
-unwrapped : (result : Result Reply StoreFault) → result_unwrap_or result unavailable ≡ reply_or_unavailable result
-unwrapped (Ok reply) = refl
-unwrapped (Err fault) = refl
+reply_is : (result : Result Reply StoreFault) → result_unwrap_or result unavailable ≡ reply_or_unavailable result
+reply_is (Ok reply) = refl
+reply_is (Err fault) = refl
 
 pub returns-clause-lawful : goal.returns-clause-lawful
 returns-clause-lawful g c = λ was_clean club others represents.
@@ -15,16 +15,16 @@ returns-clause-lawful g c = λ was_clean club others represents.
     lawful c.serves_only_the_entitled.ensures c.depends_on_the_basis_alone.ensures c.refuses_without_a_basis.ensures
     c.more_caveats_never_open_more.ensures c.reads_any_form_exactly.ensures c.decides_signed.ensures c.finds_names.ensures
     c.reads_what_is_understood.ensures c.decodes.ensures club text request c.args.moment c.are_bytes.ensures _
-    (rw (c.unwrap_or.ensures ∙ unwrapped c.reply_to.result) (reply_or_failure g.S.ClubStore.represents c.reply_to.new.self club others
+    (rw (c.unwrap_or.ensures ∙ reply_is c.reply_to.result) (reply_or_failure g.S.ClubStore.represents c.reply_to.new.self club others
     (verdict_in club (decoded_words text request) c.args.moment) _ (c.reply_to.ensures.steps was_clean club others represents)))
 
 pub returns-clause-steps : goal.returns-clause-steps
 returns-clause-steps g c = λ was_clean.
     let steps = c.reply_to.ensures.steps was_clean in
-    (_, (decoded_text c.decodes.ensures c.args.words.now.pass.now c.are_bytes.ensures, refl), rw (c.unwrap_or.ensures ∙ unwrapped c.reply_to.result) steps)
+    (_, (decoded_text c.decodes.ensures c.args.words.now.pass.now c.are_bytes.ensures, refl), rw (c.unwrap_or.ensures ∙ reply_is c.reply_to.result) steps)
 
 pub returns-clause-failed : goal.returns-clause-failed
-returns-clause-failed g c = rw (c.unwrap_or.ensures ∙ unwrapped c.reply_to.result) c.reply_to.ensures.failed
+returns-clause-failed g c = rw (c.unwrap_or.ensures ∙ reply_is c.reply_to.result) c.reply_to.ensures.failed
 
 pub returns-clause-untouched : goal.returns-clause-untouched
 returns-clause-untouched g c = λ fault read.

@@ -6,23 +6,23 @@ use Rattle.club_gate.proofs.desk.Desk.verdict.Goals as goal
 use Rattle.club_gate.proofs.desk.Desk.verdict.Goals.{After-verdict_on}
 
 -- the reading of the text, by the bytes that it wraps
-wrapped : (g : given.Over) (c : After-verdict_on g)
+reads_by_bytes : (g : given.Over) (c : After-verdict_on g)
     → reading c.args.words.now.pass.now ≡ in_form c.in-Ok.unwrapped.form (reading_in_form c.in-Ok.unwrapped.form c.bytes-bytes.result.now)
-wrapped g c =
+reads_by_bytes g c =
     c.reads_by_bytes.ensures.wrapped c.in-Ok.unwrapped.form c.bytes-bytes.result.now (rw c.bytes-bytes.ensures c.in-Ok.ensures.reading)
     (rw c.bytes-bytes.ensures c.in-Ok.ensures.short)
 
 pub returns-in-Ok-clause-returned : goal.returns-in-Ok-clause-returned
 returns-in-Ok-clause-returned g c = λ was_clean club others represents.
     verdict_by_text club c.args.words.now.request c.args.moment c.args.words.now.pass.now c.in-Ok.unwrapped.form c.bytes-bytes.result.now
-    c.verdict_on.result (wrapped g (goal.at.returns-in-Ok-clause-returned g c).After-verdict_on)
+    c.verdict_on.result (reads_by_bytes g (goal.at.returns-in-Ok-clause-returned g c).After-verdict_on)
     (c.verdict_on.ensures.returned was_clean club others represents)
 
 pub returns-in-Ok-clause-refused : goal.returns-in-Ok-clause-refused
 returns-in-Ok-clause-refused g c = λ fault e.
     let text = c.args.words.now.pass.now in
     let form = c.in-Ok.unwrapped.form in
-    let read = wrapped g (goal.at.returns-in-Ok-clause-refused g c).After-verdict_on in
+    let read = reads_by_bytes g (goal.at.returns-in-Ok-clause-refused g c).After-verdict_on in
     let refused = c.verdict_on.ensures.refused fault (fault_in form (reading_in_form form c.bytes-bytes.result.now) text fault read e) in
     record {
       same_store = refused.same_store;
