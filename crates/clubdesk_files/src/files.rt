@@ -57,7 +57,11 @@ impl<'a> Databases for Files<'a> {
     fn open(&mut self, name: &str) -> Result<FileClub, StoreFault> {
         self.tried = self.tried.saturating_add(1);
         let mut openings = ServerOpenings { rt: self.rt, name };
-        gain(&mut openings, self.rt, MAX_OPENINGS).unwrap_or(Err(StoreFault::Storage))
+        // `unwrap_or`, at the type of a store, would take forty seconds to prove.
+        match gain(&mut openings, self.rt, MAX_OPENINGS) {
+            Some(opened) => opened,
+            None => Err(StoreFault::Storage),
+        }
     }
 
     fn reach(&mut self, name: &str) -> Result<Reached<FileClub, FileVisit<'a>>, StoreFault> {
