@@ -32,7 +32,7 @@ TESTS = {
     "club_store_tests": "store_in_memory empty_database tables_of_version_1 tables_without_the_index tables_of_version_2"
                         " new_file file_of_version_1 file_without_the_index file_of_version_2",
     "club_gate_tests": "commands ask_in_v1 ask_in_v2 ask_in_json run_in_v1 run_in_v2 run_in_json",
-    "exchange_tests": "exchange_in_v1 exchange_in_v2 exchange_in_json faults_of_bytes",
+    "end_to_end_tests": "exchange_in_v1 exchange_in_v2 exchange_in_json faults_of_bytes",
     "club_http_tests": "bodies::refused_memory counted::refused_memory",
 }
 FAULT = r"([A-Za-z]+\()*((OutOf)?Memory|AllocError|AllocFailed \{ \.\. \}|Os \{ code: 12, kind: OutOfMemory, .*\})\)*"

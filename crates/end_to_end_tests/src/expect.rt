@@ -4,8 +4,13 @@ use std::alloc::AllocError;
 use std::fmt::Debug;
 use std::process::Abort;
 
-/// Ends the test unless the values of a case are equal. A test that calls it is proved in a third
-/// of the time of one that asserts.
+/// Ends the test unless the values are equal. A test that calls it is proved in a third of the time
+/// of one that asserts.
+pub(crate) fn expect_eq<T: PartialEq + Debug>(rt: &impl Abort, returned: &T, want: &T) {
+    assert_eq!(rt; returned, want);
+}
+
+/// The same of a case, which the message names.
 pub(crate) fn expect_case<T: PartialEq + Debug>(
     rt: &impl Abort,
     case: &str,
@@ -13,6 +18,11 @@ pub(crate) fn expect_case<T: PartialEq + Debug>(
     want: &T,
 ) {
     assert_eq!(rt; returned, want, "{case}");
+}
+
+/// Ends the test unless the bytes are equal. `asked` is for the message.
+pub(crate) fn expect_output(rt: &impl Abort, returned: &[u8], want: &[u8], asked: &str) {
+    assert_eq!(rt; returned, want, "{asked}");
 }
 
 /// Adds a value at the end.

@@ -1,0 +1,49 @@
+//! Tests from end to end: whole exchanges, from the bytes of a request to the bytes of the reply,
+//! with a desk over tables in memory; and crashes: a task at a desk over two files, of which one
+//! fails at each of its calls in turn, and the club that a reopened store finds.
+#![tactic(auto)]
+
+#[cfg(test)]
+mod bad_requests;
+#[cfg(test)]
+mod bookings;
+#[cfg(test)]
+mod crash;
+#[cfg(test)]
+mod desk;
+#[cfg(test)]
+mod disk;
+#[cfg(test)]
+mod ends;
+#[cfg(test)]
+mod entitlement;
+#[cfg(test)]
+mod events;
+#[cfg(test)]
+mod expect;
+#[cfg(test)]
+mod failing_ends;
+#[cfg(test)]
+mod front;
+#[cfg(test)]
+mod laws;
+#[cfg(test)]
+mod limits;
+#[cfg(test)]
+mod messages;
+#[cfg(test)]
+mod others;
+#[cfg(test)]
+mod passes;
+#[cfg(test)]
+mod reference_club;
+#[cfg(test)]
+mod refused_memory;
+#[cfg(test)]
+mod tables;
+#[cfg(test)]
+mod tasks;
+#[cfg(test)]
+mod texts;
+#[cfg(test)]
+mod work;
