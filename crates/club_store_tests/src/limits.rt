@@ -5,7 +5,7 @@ use crate::rows::{day, moment, name, number, slot};
 use crate::steps::adopt;
 use club_core::{Request, StoreFault};
 use club_store::Store;
-use sqlite::MemStore;
+use sqlite::Alter;
 use std::alloc::Global;
 use std::process::Abort;
 use std::test::*;
@@ -207,7 +207,7 @@ fn request(rt: &impl Abort) -> Request {
 }
 
 /// The fault of a reading, if any.
-fn fault_of(rt: &impl Abort, store: &mut Store<MemStore>, read: Read) -> Option<StoreFault> {
+fn fault_of<S: Alter>(rt: &impl Abort, store: &mut Store<S>, read: Read) -> Option<StoreFault> {
     match read {
         Read::Member => store.member(&name(rt, "amy")).err(),
         Read::Key => store.key(&name(rt, "amy-1")).err(),

@@ -9,7 +9,7 @@ use crate::rows::CANCELLED_8;
 use crate::steps::{Asked, Shown, Step, plays};
 use club_core::StoreFault;
 use club_store::Store;
-use sqlite::MemStore;
+use sqlite::{Alter, Connection, MemStore};
 use std::alloc::Global;
 use std::process::Abort;
 use std::test::Fail;
@@ -33,8 +33,12 @@ fn steps_shown(contents: Contents) -> &'static [Step] {
 }
 
 /// The store over a database that holds this, by the second opening if the first is out of memory.
-fn adopted_store(rt: &(impl Abort + Alloc<A = Global>), contents: Contents) -> Store<MemStore> {
-    match Store::adopt(rt.alloc(), database(rt, contents)) {
+fn adopted_store<S: Alter + Drop>(
+    rt: &(impl Abort + Alloc<A = Global>),
+    connection: Connection<S>,
+    contents: Contents,
+) -> Store<S> {
+    match Store::adopt(rt.alloc(), connection) {
         Ok(store) => store,
         Err((fault, mut left)) => {
             expect_eq(rt, &fault, &StoreFault::Memory);
@@ -45,7 +49,8 @@ fn adopted_store(rt: &(impl Abort + Alloc<A = Global>), contents: Contents) -> S
 }
 
 fn opens_in_memory(rt: &(impl Abort + Alloc<A = Global>), contents: Contents) {
-    plays(rt, &mut adopted_store(rt, contents), steps_shown(contents));
+    let mut store = adopted_store(rt, database(rt, contents), contents);
+    plays(rt, &mut store, steps_shown(contents));
 }
 
 #[test]

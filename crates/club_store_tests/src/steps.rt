@@ -282,10 +282,10 @@ fn store_at_start(rt: &(impl Abort + Alloc<A = Global>), start: Start) -> Store<
 }
 
 /// The store over a database that it takes over.
-pub(crate) fn adopt(
+pub(crate) fn adopt<S: Alter + Drop>(
     rt: &(impl Abort + Alloc<A = Global>),
-    connection: Connection<MemStore>,
-) -> Store<MemStore> {
+    connection: Connection<S>,
+) -> Store<S> {
     Store::adopt(rt.alloc(), connection)
         .ok()
         .expect(rt, "adopted")
@@ -293,9 +293,9 @@ pub(crate) fn adopt(
 
 /// Plays the first of these steps over the store, and each of the others once it is opened again
 /// over the same connection.
-fn plays_openings(
+fn plays_openings<S: Alter + Drop>(
     rt: &(impl Abort + Alloc<A = Global>),
-    mut store: Store<MemStore>,
+    mut store: Store<S>,
     openings: &[&[Step]],
 ) {
     let Some((first, others)) = openings.split_first() else {

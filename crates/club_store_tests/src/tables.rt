@@ -10,15 +10,15 @@ use club_core::{Change, SlotUse, StoreFault};
 use club_rows::{OlderRoot, Root};
 use club_tables::{Rotation, Tables};
 use club_values::{Moment, Name};
-use sqlite::{Connection, MemStore};
+use sqlite::{Alter, Connection};
 use std::alloc::Global;
 use std::process::Abort;
 use test_kit::{BOOKING_7, COURT, PlainBooking, PlainFacility, PlainSlot};
 
 /// The tables of a club, over which a test plays its steps.
 #[derive(Drop)]
-struct Played {
-    tables: Tables<MemStore>,
+struct Played<S: Alter> {
+    tables: Tables<S>,
 }
 
 #[derive(Clone, Copy)]
@@ -71,21 +71,7 @@ fn rotation(key: &Name, former: &Root, root: &Root, until: Moment) -> Rotation {
     }
 }
 
-impl Played {
-    /// Those of an empty club.
-    fn empty(rt: &(impl Abort + Alloc<A = Global>)) -> Played {
-        let connection = Connection::open_in_memory(rt.alloc()).expect(rt, "memory");
-        let mut tables = Tables::over(connection);
-        expect_eq(rt, &tables.open(), &Ok(()));
-        Played { tables }
-    }
-
-    fn with_rows(rt: &(impl Abort + Alloc<A = Global>)) -> Played {
-        let mut played = Played::empty(rt);
-        played.plays_all(rt, &FILLS);
-        played
-    }
-
+impl<S: Alter> Played<S> {
     /// Plays the steps, and ends the test at the first that fails.
     fn plays_all(&mut self, rt: &(impl Abort + Alloc<A = Global>), steps: &[Step]) {
         for step in steps {
@@ -208,12 +194,24 @@ impl Played {
     }
 }
 
+/// Plays lists of steps over the tables of an empty club. It is the one function here that names
+/// the type of the tables: the proof of each takes some ten seconds.
+fn plays(rt: &(impl Abort + Alloc<A = Global>), lists: &[&[Step]]) {
+    let connection = Connection::open_in_memory(rt.alloc()).expect(rt, "memory");
+    let tables = Tables::over(connection);
+    let mut played = Played { tables };
+    played.play(rt, &Step::Opens);
+    for steps in lists {
+        played.plays_all(rt, steps);
+    }
+}
+
 /// Plays the steps over the tables of an empty club.
 pub(crate) fn plays_empty(rt: &(impl Abort + Alloc<A = Global>), steps: &[Step]) {
-    Played::empty(rt).plays_all(rt, steps);
+    plays(rt, &[steps]);
 }
 
 /// Plays the steps over the filled tables.
 pub(crate) fn plays_filled(rt: &(impl Abort + Alloc<A = Global>), steps: &[Step]) {
-    Played::with_rows(rt).plays_all(rt, steps);
+    plays(rt, &[&FILLS, steps]);
 }

@@ -8,7 +8,7 @@ use crate::steps::{Asked, Shown, Start, Step, adopt, plays_from, plays_opened};
 use crate::write::Write;
 use club_core::StoreFault;
 use club_store::Store;
-use sqlite::{Connection, MemStore};
+use sqlite::{Alter, Connection};
 use std::alloc::Global;
 use std::process::Abort;
 use std::test::*;
@@ -16,22 +16,22 @@ use test_kit::roots::{ROOT, SECOND_ROOT, THIRD_ROOT};
 use test_kit::version_1::{DESK, WITHOUT_TOTALS};
 
 /// How many indexes of the bookings' name are listed.
-fn indexes(rt: &impl Abort, connection: &mut Connection<MemStore>) -> i64 {
+fn indexes<S: Alter>(rt: &impl Abort, connection: &mut Connection<S>) -> i64 {
     let listed = "SELECT count(*) FROM sqlite_schema \
         WHERE type = 'index' AND name = 'bookings_by_key' AND tbl_name = 'bookings'";
     let row = connection.query_row(listed, &[]).expect(rt, "a count");
     row.get(0).expect(rt, "a number")
 }
 
-fn expect_indexes(rt: &impl Abort, connection: &mut Connection<MemStore>, want: i64) {
+fn expect_indexes<S: Alter>(rt: &impl Abort, connection: &mut Connection<S>, want: i64) {
     expect_eq(rt, &indexes(rt, connection), &want);
 }
 
 /// The database behind a store that opened it. Ends the test unless it has the index.
-fn indexed_database(
+fn indexed_database<S: Alter + Drop>(
     rt: &(impl Abort + Alloc<A = Global>),
-    connection: Connection<MemStore>,
-) -> Connection<MemStore> {
+    connection: Connection<S>,
+) -> Connection<S> {
     let mut opened = adopt(rt, connection).into_connection();
     expect_indexes(rt, &mut opened, 1);
     opened
@@ -161,9 +161,9 @@ static UNINDEXED: [Other; 2] = [
 ];
 
 /// Why a store refuses to open a database, which has this version then.
-fn refusal(
+fn refusal<S: Alter + Drop>(
     rt: &(impl Abort + Alloc<A = Global>),
-    connection: Connection<MemStore>,
+    connection: Connection<S>,
 ) -> (StoreFault, Option<i64>) {
     let refused = Store::adopt(rt.alloc(), connection).err();
     let (fault, mut left) = refused.expect(rt, "a refusal");
