@@ -5,6 +5,7 @@ use club_core::ClubStore;
 use club_store::Store;
 use clubdesk_commands::OfficeDesk;
 use desk_server::Office;
+use std::alloc::Global;
 use std::process::Abort;
 use std::test::*;
 use std::time::Clock;
@@ -59,9 +60,14 @@ fn hand_over<S: ClubStore, C: Clock>(rt: &impl Abort, desk: &mut OfficeDesk<'_, 
     expect_status(rt, desk, WHOLE, 1);
 }
 
+// The same at a desk over this store.
+fn hand_over_to<S: ClubStore + Drop>(rt: &(impl Abort + Alloc<A = Global> + Clock), store: S) {
+    let mut desk = OfficeDesk::new(rt.alloc(), rt, store);
+    hand_over(rt, &mut desk);
+}
+
 #[test]
-fn refuses_bytes_that_are_no_command(rt: HostRuntime) {
-    let store = Store::open_in_memory(rt.alloc()).expect(&rt, "a store");
-    let mut desk = OfficeDesk::new(rt.alloc(), &rt, store);
-    hand_over(&rt, &mut desk);
+fn refuses_bytes_that_are_no_command(rt: HostRuntime) -> Result<(), Fail> {
+    hand_over_to(&rt, Store::open_in_memory(rt.alloc())?);
+    Ok(())
 }

@@ -378,24 +378,33 @@ fn play_lists<S: ClubStore, C: Clock>(
     }
 }
 
-// Plays lists over new tables in memory.
-fn play(rt: &(impl Abort + Alloc<A = Global> + Clock), first: u64) {
-    let store = Store::open_in_memory(rt.alloc()).expect(rt, "a store");
+// Plays lists over a new store.
+fn play_over<S: ClubStore + Drop>(
+    rt: &(impl Abort + Alloc<A = Global> + Clock),
+    store: S,
+    first: u64,
+) {
     let mut desk = OfficeDesk::new(rt.alloc(), rt, store);
     play_lists(rt, &mut desk, first);
 }
 
-#[test]
-fn serves_as_the_reference(rt: HostRuntime) {
-    play(&rt, 2_026);
+// Plays lists over new tables in memory.
+fn play(rt: &(impl Abort + Alloc<A = Global> + Clock), first: u64) -> Result<(), Fail> {
+    play_over(rt, Store::open_in_memory(rt.alloc())?, first);
+    Ok(())
 }
 
 #[test]
-fn serves_a_second_row_of_lists(rt: HostRuntime) {
-    play(&rt, 2_027);
+fn serves_as_the_reference(rt: HostRuntime) -> Result<(), Fail> {
+    play(&rt, 2_026)
 }
 
 #[test]
-fn serves_a_third_row_of_lists(rt: HostRuntime) {
-    play(&rt, 2_028);
+fn serves_a_second_row_of_lists(rt: HostRuntime) -> Result<(), Fail> {
+    play(&rt, 2_027)
+}
+
+#[test]
+fn serves_a_third_row_of_lists(rt: HostRuntime) -> Result<(), Fail> {
+    play(&rt, 2_028)
 }

@@ -1,13 +1,11 @@
 //! A database in memory, and runs of the program over it.
 
-use crate::callers::{Caller, Machine};
-use crate::runs::{Output, Row, Run, arguments_of, expect_output};
+use crate::callers::Machine;
+use crate::runs::{Output, Row, Run, expect_output, run_on, run_over};
 use crate::terminal::{Input, NO_INPUT};
 use club_core::{ClubStore, StoreFault};
-use club_http::WriteOutlet;
 use club_store::Store;
-use clubdesk_commands::run;
-use desk_server::{Databases, Door, LogLines, Reached, Unlogged, Visit};
+use desk_server::{Databases, Door, Reached, Unlogged, Visit};
 use std::alloc::AllocError;
 use std::cell::Cell;
 use std::io::{self, Write};
@@ -203,30 +201,6 @@ pub struct SceneOutcome {
     removed: Option<u64>,
 }
 
-// Runs the program over the database.
-fn run_in<D: Databases>(
-    rt: &HostRuntime,
-    databases: &mut D,
-    machine: &Machine,
-    asked: Run<'_>,
-) -> Result<Output, AllocError> {
-    let arguments = arguments_of(rt, asked.line)?;
-    let mut input = asked.input;
-    let mut caller = Caller::new(rt, &asked);
-    let mut log = Vec::new(rt.alloc());
-    let mut lines = LogLines::new(WriteOutlet::new(&mut log), machine);
-    let outcome = run(
-        rt,
-        machine,
-        databases,
-        arguments.as_slice(),
-        &mut input,
-        &mut caller,
-        &mut lines,
-    );
-    Output::of(rt, &outcome, caller, log)
-}
-
 /// The line of a command over the database.
 pub fn line_of(rt: &HostRuntime, row: &Row<'_>) -> Result<String, AllocError> {
     let Row(command, arguments, _) = row;
@@ -241,7 +215,7 @@ fn expect_row_in<D: Databases>(
 ) -> Result<(), Fail> {
     let line = line_of(rt, row)?;
     let machine = Machine::new(Some(0), 0);
-    let output = run_in(rt, databases, &machine, Run::of(line.as_str()))?;
+    let output = run_over(rt, &machine, databases, Run::of(line.as_str()))?;
     expect_output(rt, row, output.returned.as_str())
 }
 
@@ -271,7 +245,7 @@ fn run_scene<D: Databases>(
         ..Run::of(line)
     };
     let machine = Machine::new(scene.second, scene.later);
-    let output = run_in(rt, databases, &machine, asked)?;
+    let output = run_over(rt, &machine, databases, asked)?;
     expect_in(rt, databases, scene.after)?;
     Ok(output)
 }
@@ -305,8 +279,8 @@ fn play_over<S: ClubStore + Drop>(
     })
 }
 
-/// Plays a scene with a run on this line. It is the one function here that has a store in memory:
-/// the proof of one that does more with it takes a minute.
+/// Plays a scene with a run on this line. A function that does more with a store in memory takes a
+/// minute to prove.
 pub fn play(rt: &HostRuntime, scene: &Scene<'_>, line: &str) -> Result<SceneOutcome, Fail> {
     play_over(rt, Store::open_in_memory(rt.alloc())?, scene, line)
 }
@@ -394,36 +368,32 @@ impl Write for Watching<'_> {
     }
 }
 
-// How often the database was closed when a run on this line wrote first.
+// How often a database in a store was closed when a run on this line wrote first.
 fn watch_over<S: ClubStore + Drop>(
     rt: &HostRuntime,
-    closed: &Cell<u64>,
     store: S,
     line: &str,
 ) -> Result<Option<u64>, Fail> {
+    let closed = Cell::new(0);
     let handed = Cell::new(0);
     let removed = Cell::new(None);
-    let mut databases = InMemory::new(rt, store, None, None, closed, &handed, &removed);
+    let mut databases = InMemory::new(rt, store, None, None, &closed, &handed, &removed);
     let mut writer = Watching {
-        closed,
+        closed: &closed,
         found: None,
     };
-    let arguments = arguments_of(rt, line)?;
-    let arguments = arguments.as_slice();
-    let mut input = NO_INPUT;
-    let outcome = run(
-        rt,
-        rt,
-        &mut databases,
-        arguments,
-        &mut input,
-        &mut writer,
-        &mut Unlogged,
-    );
+    let asked = Run::of(line);
+    let log = &mut Unlogged;
+    let outcome = run_on(rt, rt, &mut databases, &asked, &mut writer, log)?;
     if outcome.is_err() {
         return Err("a run that failed".into());
     }
     Ok(writer.found)
+}
+
+// The same of a new database in memory.
+fn watch(rt: &HostRuntime, line: &str) -> Result<Option<u64>, Fail> {
+    watch_over(rt, Store::open_in_memory(rt.alloc())?, line)
 }
 
 /// A command, and a sheet.
@@ -436,9 +406,7 @@ static ANSWERED: [&str; 2] = [
 #[test]
 fn closed_before_the_answer_is_written(rt: HostRuntime) -> Result<(), Fail> {
     for line in &ANSWERED {
-        let closed = Cell::new(0);
-        let found = watch_over(&rt, &closed, Store::open_in_memory(rt.alloc())?, line)?;
-        if found != Some(1) {
+        if watch(&rt, line)? != Some(1) {
             return Err("written to while the database was open".into());
         }
     }

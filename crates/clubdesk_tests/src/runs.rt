@@ -8,10 +8,12 @@ use club_http::WriteOutlet;
 use clubdesk_arguments::Fault;
 use clubdesk_commands::run;
 use clubdesk_files::{DatabasesUser, run_over_files};
-use desk_server::{Databases, LogLines, Reached};
+use desk_server::{Databases, Log, LogLines, Reached};
 use std::alloc::AllocError;
+use std::io::Write;
 use std::net::TcpListener;
 use std::test::Fail;
+use std::time::Clock;
 use std::{env, fs, process};
 
 /// A command and its arguments without the path, which is its second one, and how it ends: its
@@ -67,8 +69,8 @@ impl Output {
         }
     }
 
-    /// The result of a run that ended so.
-    pub fn of(
+    // The result of a run that ended so.
+    fn of(
         rt: &HostRuntime,
         outcome: &Result<(), Fault>,
         caller: Caller<'_>,
@@ -112,11 +114,6 @@ pub fn remove(rt: &HostRuntime, path: &str) {
     }
 }
 
-/// The arguments of a line.
-pub fn arguments_of<'a>(rt: &HostRuntime, line: &'a str) -> Result<Vec<&'a str>, AllocError> {
-    line.split(' ').collect(rt.alloc())
-}
-
 /// The status of a run, with what it wrote or the line of its fault.
 fn output_text(
     rt: &HostRuntime,
@@ -135,27 +132,32 @@ fn output_text(
     }
 }
 
-// Runs the program.
-fn run_over<D: Databases>(
+/// How a run of the program ends, with this writer and this log.
+pub fn run_on<C: Clock, D: Databases, W: Write, G: Log>(
     rt: &HostRuntime,
+    machine: &C,
+    databases: &mut D,
+    asked: &Run<'_>,
+    writer: &mut W,
+    log: &mut G,
+) -> Result<Result<(), Fault>, AllocError> {
+    let arguments: Vec<&str> = asked.line.split(' ').collect(rt.alloc())?;
+    let arguments = arguments.as_slice();
+    let mut input = asked.input;
+    Ok(run(rt, machine, databases, arguments, &mut input, writer, log))
+}
+
+/// Runs the program by this clock of the machine.
+pub fn run_over<C: Clock, D: Databases>(
+    rt: &HostRuntime,
+    machine: &C,
     databases: &mut D,
     asked: Run<'_>,
 ) -> Result<Output, AllocError> {
-    let arguments = arguments_of(rt, asked.line)?;
-    let mut input = asked.input;
     let mut caller = Caller::new(rt, &asked);
     let mut log = Vec::new(rt.alloc());
-    let mut lines = LogLines::new(WriteOutlet::new(&mut log), rt);
-    let arguments = arguments.as_slice();
-    let outcome = run(
-        rt,
-        rt,
-        databases,
-        arguments,
-        &mut input,
-        &mut caller,
-        &mut lines,
-    );
+    let mut lines = LogLines::new(WriteOutlet::new(&mut log), machine);
+    let outcome = run_on(rt, machine, databases, &asked, &mut caller, &mut lines)?;
     Output::of(rt, &outcome, caller, log)
 }
 
@@ -175,7 +177,7 @@ fn work_over<D: Databases>(
     work: Work<'_>,
 ) -> Result<Output, Fail> {
     match work {
-        Work::Run(asked) => Ok(run_over(rt, databases, asked)?),
+        Work::Run(asked) => Ok(run_over(rt, rt, databases, asked)?),
         Work::Serve(path, listener) => {
             serve_and_drop(rt, databases, path, listener)?;
             Ok(Output::none(rt))
