@@ -20,11 +20,6 @@ pub(crate) fn expect_case<T: PartialEq + Debug>(
     assert_eq!(rt; returned, want, "{case}");
 }
 
-/// Ends the test unless the bytes are equal. `asked` is for the message.
-pub(crate) fn expect_output(rt: &impl Abort, returned: &[u8], want: &[u8], asked: &str) {
-    assert_eq!(rt; returned, want, "{asked}");
-}
-
 /// Adds a value at the end.
 pub(crate) fn push<T: Drop>(rt: &impl Abort, values: &mut Vec<T>, value: T) {
     values.push(value).expect(rt, "memory");

@@ -1,7 +1,7 @@
 //! Requests that are cut, and writers that fail.
 
 use crate::ends::{Giver, Taker, WHOLE};
-use crate::expect::{expect_eq, expect_output};
+use crate::expect::{expect_case, expect_eq};
 use crate::front::{Front, Scene, play};
 use crate::messages::{ACCOUNT, ACCOUNT_AFTER, BOOK_7, BOOKED_7, NOT_YET, Step};
 use club_core::ClubStore;
@@ -34,11 +34,11 @@ fn is_booked<S: ClubStore>(
 ) {
     let fault = front.exchange(rt, NOON, giver, taker);
     expect_eq(rt, &fault, &None);
-    expect_output(
+    expect_case(
         rt,
-        taker.written_bytes(),
-        exchanges::BOOKED_7.as_bytes(),
         exchanges::BOOK_7,
+        &taker.written_bytes(),
+        &exchanges::BOOKED_7.as_bytes(),
     );
 }
 
@@ -117,11 +117,11 @@ fn narrow_writer(rt: HostRuntime) {
 /// Cut by an end of the input it is a bad request.
 fn is_cut_by_its_end<S: ClubStore>(rt: &impl Abort, front: &mut Front<S>, bytes: &[u8]) {
     let taker = front.written_to(rt, NOON, bytes);
-    expect_output(
+    expect_case(
         rt,
-        taker.written_bytes(),
-        exchanges::BAD_REQUEST.as_bytes(),
         "a cut request",
+        &taker.written_bytes(),
+        &exchanges::BAD_REQUEST.as_bytes(),
     );
 }
 

@@ -1,7 +1,7 @@
 //! A desk over the tables in memory behind its face.
 
 use crate::ends::{Giver, Taker};
-use crate::expect::{expect_eq, expect_output};
+use crate::expect::{expect_case, expect_eq};
 use crate::messages::{Asked, HttpReply, Step};
 use crate::passes::text_in;
 use club_core::{ClubStore, Command};
@@ -116,7 +116,7 @@ impl<S: ClubStore> Front<S> {
     ) {
         let want = returned.text(rt);
         let taker = self.written_to(rt, at, bytes.as_bytes());
-        expect_output(rt, taker.written_bytes(), want.as_bytes(), bytes);
+        expect_case(rt, bytes, &taker.written_bytes(), &want.as_bytes());
     }
 
     /// Fails the test unless the request gets this reply under a pass at a moment.

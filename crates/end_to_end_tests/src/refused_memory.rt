@@ -3,7 +3,7 @@
 //! after what it is about.
 
 use crate::ends::Taker;
-use crate::expect::expect_output;
+use crate::expect::expect_case;
 use crate::front::{Front, Scene, play, plays_in_form};
 use crate::messages::{
     ACCOUNT, ACCOUNT_AFTER, Asked, BOOK_7, BOOKED_7, HttpReply, NOT_YET, PASS_MALFORMED, PUT_7,
@@ -46,7 +46,7 @@ fn expect_reply_or_end<S: ClubStore>(
         panic!(rt; "Memory");
     }
     let want = returned.text(rt);
-    expect_output(rt, taker.written_bytes(), want.as_bytes(), asked.0);
+    expect_case(rt, asked.0, &taker.written_bytes(), &want.as_bytes());
 }
 
 /// The booking is kept.
@@ -70,11 +70,11 @@ fn is_booked_or_unavailable<S: ClubStore>(
     if is_unavailable(taker) {
         front.plays(rt, form, &NOT_YET);
     } else {
-        expect_output(
+        expect_case(
             rt,
-            taker.written_bytes(),
-            exchanges::BOOKED_7.as_bytes(),
             PUT_7,
+            &taker.written_bytes(),
+            &exchanges::BOOKED_7.as_bytes(),
         );
         booking_is_kept(rt, front, form);
     }
