@@ -28,7 +28,7 @@ from more_edits import crates_below
 
 # Of each crate its tests; those without another module are in `refused_memory`.
 TESTS = {
-    "pass_json_tests": "known_pass known_pass_without_its_caveat example",
+    "pass_forms_tests": "known_pass known_pass_without_its_caveat example",
     "club_store_tests": "store_in_memory empty_database tables_of_version_1 tables_without_the_index tables_of_version_2"
                         " new_file file_of_version_1 file_without_the_index file_of_version_2",
     "club_gate_tests": "commands ask_in_v1 ask_in_v2 ask_in_json run_in_v1 run_in_v2 run_in_json",

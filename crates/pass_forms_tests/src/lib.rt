@@ -1,6 +1,9 @@
-//! Tests of passes as bytes: signature chains, V1 and V2, and the envelope of a text.
+//! Tests of passes as bytes and texts: signature chains, V1, V2 and JSON, and the envelope of a
+//! text.
 #![tactic(auto)]
 
+#[cfg(test)]
+mod any;
 #[cfg(test)]
 mod calls;
 #[cfg(test)]
@@ -8,9 +11,13 @@ mod chain;
 #[cfg(test)]
 mod envelope;
 #[cfg(test)]
+mod json;
+#[cfg(test)]
 mod parts;
 #[cfg(test)]
 mod read;
+#[cfg(test)]
+mod refused_memory;
 #[cfg(test)]
 mod rows;
 #[cfg(test)]

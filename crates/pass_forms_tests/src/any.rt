@@ -1,7 +1,8 @@
 //! Passes that are read and written in any form.
 
-use crate::calls::{read_any, write_any};
-use crate::rows::{Fields, KEYID_FIELDS, Piece, expect_eq, expect_pass, join, pass_of};
+use crate::json::calls::{read_any, write_any};
+use crate::json::rows::{KEYID_FIELDS, Piece, join, pass_of};
+use crate::rows::{Fields, expect_eq, expect_pass};
 use pass_forms::{Form, FormFault, Pass};
 use std::alloc::Global;
 use std::process::Abort;

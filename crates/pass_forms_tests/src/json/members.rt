@@ -1,8 +1,9 @@
 //! Members of the object that is a pass in JSON.
 
-use crate::calls::read_json;
-use crate::read::{OPEN_SHORT, is_refused};
-use crate::rows::{expect_eq, join};
+use crate::json::calls::read_json;
+use crate::json::read::{OPEN_SHORT, is_refused};
+use crate::json::rows::join;
+use crate::rows::expect_eq;
 use pass_forms::FormFault;
 use std::process::Abort;
 

@@ -1,8 +1,10 @@
 //! Passes that are read from JSON.
 
-use crate::calls::read_json;
-use crate::fields::expect_fields_twice;
-use crate::rows::{Fields, KEYID_FIELDS, KNOWN_FIELDS, Piece, expect_eq, expect_pass, join};
+use crate::json::calls::read_json;
+use crate::json::fields::expect_fields_twice;
+use crate::json::rows::{KEYID_FIELDS, Piece, join};
+use crate::rows::{Fields, expect_eq, expect_pass};
+use crate::v1::KNOWN_FIELDS;
 use pass_forms::FormFault;
 use std::process::Abort;
 

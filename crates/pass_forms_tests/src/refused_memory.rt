@@ -3,7 +3,7 @@
 //! what it asks for.
 
 use crate::any::{BARE, EXAMPLE, KNOWN};
-use crate::calls::{read_any, write_any};
+use crate::json::calls::{read_any, write_any};
 use crate::rows::expect_eq;
 use pass_forms::{Form, FormFault, Pass};
 use std::process::Abort;

@@ -1,6 +1,7 @@
 //! The fields of a pass that was read, one after the other.
 
-use crate::calls::{again, fields_over, next};
+use crate::calls::{again, next};
+use crate::json::calls::fields_over;
 use crate::rows::{Fields, expect_eq};
 use pass_forms::{Field, Pass};
 use pass_json::JsonFields;

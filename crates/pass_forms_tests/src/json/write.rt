@@ -1,7 +1,8 @@
 //! Passes that are written in JSON.
 
-use crate::calls::{new_pass, read_json, write_json};
-use crate::rows::{expect_eq, pass_of};
+use crate::json::calls::{new_pass, read_json, write_json};
+use crate::json::rows::pass_of;
+use crate::rows::expect_eq;
 use pass_forms::{FormFault, Pass};
 use std::alloc::Global;
 use std::process::Abort;

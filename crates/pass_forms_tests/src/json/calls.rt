@@ -1,7 +1,7 @@
 //! The tested calls without their contracts, which the tests don't need: a test over them is proved
 //! in a fraction of the time.
 
-use pass_forms::{Field, FieldSource, Form, FormFault, Pass};
+use pass_forms::{Form, FormFault, Pass};
 use pass_json::JsonFields;
 use std::alloc::Global;
 
@@ -23,14 +23,6 @@ pub(crate) fn write_any(alloc: Global, form: Form, pass: &Pass) -> Result<String
 
 pub(crate) fn fields_over(pass: &Pass) -> JsonFields<'_> {
     JsonFields::over(pass)
-}
-
-pub(crate) fn next<'a>(fields: &mut JsonFields<'a>) -> Option<Field<'a>> {
-    fields.next()
-}
-
-pub(crate) fn again<'a>(fields: &JsonFields<'a>) -> JsonFields<'a> {
-    fields.again()
 }
 
 // A pass with no location.
