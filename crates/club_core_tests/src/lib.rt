@@ -1,4 +1,5 @@
-//! Tests of a club's rows, and of the answers to requests and commands by their views.
+//! Tests of a club's rows, of the answers to requests and commands by their views, and of the
+//! reference machine.
 #![tactic(auto)]
 
 #[cfg(test)]
@@ -17,6 +18,8 @@ mod expect;
 mod fixture;
 #[cfg(test)]
 mod office;
+#[cfg(test)]
+mod reference;
 #[cfg(test)]
 mod rotation;
 #[cfg(test)]

@@ -1,6 +1,6 @@
 //! Passes as plain values, and the steps of worked lists.
 
-use crate::answers::Answer;
+use crate::reference::answers::Answer;
 use club_core::{Command, OfficeAnswer, PassFault, Reply, Request};
 use club_reference::{Pass, Words};
 use club_values::{Moment, Name};

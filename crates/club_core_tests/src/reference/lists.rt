@@ -1,8 +1,8 @@
 //! Worked lists of requests and commands, with their replies.
 
-use crate::answers::Answer;
-use crate::messages::{AMY, AMY_CHANGED, BOB, Shown, Step};
-use crate::play::{plays_anew, plays_list};
+use crate::reference::answers::Answer;
+use crate::reference::messages::{AMY, AMY_CHANGED, BOB, Shown, Step};
+use crate::reference::play::{plays_anew, plays_list};
 use club_core::{OfficeFault, PassFault, Refusal};
 use std::alloc::Global;
 use std::process::Abort;

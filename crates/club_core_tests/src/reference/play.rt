@@ -1,7 +1,7 @@
 //! Steps, played on the reference machine.
 
 use crate::expect::{expect_eq, expect_reply};
-use crate::messages::{Event, EventReply, Step};
+use crate::reference::messages::{Event, EventReply, Step};
 use club_core::OfficeAnswer;
 use club_reference::Club;
 use std::alloc::Global;

@@ -1,8 +1,8 @@
 //! Worked lists with rotations of a key.
 
-use crate::answers::Answer;
-use crate::messages::{AMY, AMY_CHANGED, Shown, Step};
-use crate::play::plays_anew;
+use crate::reference::answers::Answer;
+use crate::reference::messages::{AMY, AMY_CHANGED, Shown, Step};
+use crate::reference::play::plays_anew;
 use club_core::OfficeFault;
 use std::test::*;
 use test_kit::moments::{BEFORE_UNTIL, NOON, UNTIL};

@@ -1,9 +1,9 @@
 //! A copy of a club, and a member's part of it.
 
-use crate::answers::Answer;
 use crate::expect::{expect_eq, expect_reply};
-use crate::messages::{AMY, AMY_CHANGED, BOB, Event, EventReply, Step};
-use crate::play::{fixture_club, plays};
+use crate::reference::answers::Answer;
+use crate::reference::messages::{AMY, AMY_CHANGED, BOB, Event, EventReply, Step};
+use crate::reference::play::{fixture_club, plays};
 use club_core::SlotUse;
 use club_reference::Club;
 use club_values::{Name, Slot};

@@ -1,0 +1,8 @@
+//! The reference machine.
+
+mod answers;
+mod lists;
+mod messages;
+mod parts;
+mod play;
+mod rotation;
