@@ -1,4 +1,4 @@
-//! The reference machine.
+//! Tests of the reference machine.
 
 mod answers;
 mod lists;

@@ -279,8 +279,8 @@ fn play_over<S: ClubStore + Drop>(
     })
 }
 
-/// Plays a scene with a run on this line. A function that does more with a store in memory takes a
-/// minute to prove.
+/// Plays a scene with a run on this line. All that is done with the store is in functions over any
+/// store, which are proved sooner.
 pub fn play(rt: &HostRuntime, scene: &Scene<'_>, line: &str) -> Result<SceneOutcome, Fail> {
     play_over(rt, Store::open_in_memory(rt.alloc())?, scene, line)
 }

@@ -1,4 +1,4 @@
-//! Passes in JSON.
+//! Tests of passes in JSON.
 
 pub(crate) mod calls;
 mod fields;

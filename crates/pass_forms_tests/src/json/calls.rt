@@ -24,13 +24,3 @@ pub(crate) fn write_any(alloc: Global, form: Form, pass: &Pass) -> Result<String
 pub(crate) fn fields_over(pass: &Pass) -> JsonFields<'_> {
     JsonFields::over(pass)
 }
-
-// A pass with no location.
-pub(crate) fn new_pass(
-    alloc: Global,
-    identifier: Vec<u8>,
-    caveats: Vec<Vec<u8>>,
-    signature: [u8; 32],
-) -> Pass {
-    Pass::new(Vec::new(alloc), identifier, caveats, signature)
-}

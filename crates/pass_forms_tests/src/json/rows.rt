@@ -1,6 +1,6 @@
 //! What the rows of the tests are made of.
 
-use crate::json::calls::new_pass;
+use crate::calls::new_pass;
 use crate::rows::Fields;
 use pass_forms::Pass;
 use std::process::Abort;
@@ -23,8 +23,8 @@ pub(crate) fn join(rt: &(impl Abort + AllocGlobal), pieces: &[Piece]) -> String 
     text
 }
 
-/// The signature of most of the passes.
-pub(crate) const SIGNATURE: &[u8; 32] =
+// The signature of most of the passes.
+const SIGNATURE: &[u8; 32] =
     b"\x7c\xde\xe7\x92\x51\x1c\x5b\xc6\xf5\x28\x48\x58\x05\xdf\xe9\xb2\x4e\x78\x5e\x28\xe2\xa9\x93\x01\xf9\xd7\x11\xc6\x09\xe3\x8e\xf7";
 
 /// A pass that has the identifier `keyid` alone.
@@ -51,5 +51,5 @@ pub(crate) fn pass_of(
 ) -> Pass {
     let caveats = empty_caveats(rt, caveat_count);
     let identifier = vec![in rt.alloc(); b'x'; identifier_len].expect(rt, "memory");
-    new_pass(rt.alloc(), identifier, caveats, [0xff; 32])
+    new_pass(Vec::new(rt.alloc()), identifier, caveats, [0xff; 32])
 }

@@ -1,6 +1,7 @@
 //! Passes that are written in JSON.
 
-use crate::json::calls::{new_pass, read_json, write_json};
+use crate::calls::new_pass;
+use crate::json::calls::{read_json, write_json};
 use crate::json::rows::pass_of;
 use crate::rows::expect_eq;
 use pass_forms::{FormFault, Pass};
@@ -56,7 +57,8 @@ fn writes_one_text(rt: HostRuntime) {
 
 fn pass_of_identifier(rt: &(impl Abort + AllocGlobal), identifier: &[u8]) -> Pass {
     let identifier = Vec::from_slice(rt.alloc(), identifier).expect(rt, "memory");
-    new_pass(rt.alloc(), identifier, Vec::new(rt.alloc()), [0xff; 32])
+    let none = Vec::new(rt.alloc());
+    new_pass(Vec::new(rt.alloc()), identifier, none, [0xff; 32])
 }
 
 // RFC 8259's short escapes, `\u` for the other control bytes, and all else as it is.
