@@ -1,8 +1,9 @@
 //! Which benchmark the words choose.
 
-/// A benchmark, and how often it asks.
+/// A benchmark, and how often it measures a task, or asks.
 #[derive(Clone, Copy)]
 pub(crate) enum Choice {
+    Passes { count: u32 },
     Desk { count: u16 },
     Http { count: u16 },
 }
@@ -14,10 +15,16 @@ impl Choice {
         let [_, name, count] = words else {
             return None;
         };
-        let count = count.as_str().parse::<u16>().ok()?;
         match name.as_str() {
-            "desk" => Some(Choice::Desk { count }),
-            "http" => Some(Choice::Http { count }),
+            "passes" => Some(Choice::Passes {
+                count: count.as_str().parse::<u32>().ok()?,
+            }),
+            "desk" => Some(Choice::Desk {
+                count: count.as_str().parse::<u16>().ok()?,
+            }),
+            "http" => Some(Choice::Http {
+                count: count.as_str().parse::<u16>().ok()?,
+            }),
             _ => None,
         }
     }

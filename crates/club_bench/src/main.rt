@@ -1,5 +1,6 @@
-//! Benchmarks over a club. The first word chooses one:
+//! Benchmarks of passes and of a club's desk. The first word chooses one:
 //!
+//! - `club_bench passes COUNT`: passes signed, read and verified;
 //! - `club_bench desk COUNT`: requests to the desk;
 //! - `club_bench http COUNT`: exchanges over memory, and their parts.
 #![tactic(auto)]
@@ -10,6 +11,7 @@ mod desk;
 mod http;
 mod known;
 mod memory;
+mod passes;
 mod rate;
 mod sent;
 mod wish;
@@ -19,12 +21,14 @@ use choice::Choice;
 use std::env;
 
 const USAGE: &str = "\
-usage: club_bench desk COUNT
+usage: club_bench passes COUNT
+       club_bench desk COUNT
        club_bench http COUNT";
 
 fn main(rt: HostRuntime) -> Result<()> {
     let words: Vec<String> = env::args(&rt)?.collect(rt.alloc())?;
     match Choice::read(words.as_slice()) {
+        Some(Choice::Passes { count }) => passes::compare(&rt, count),
         Some(Choice::Desk { count }) => desk::compare(&rt, count),
         Some(Choice::Http { count }) => http::compare(&rt, count),
         None => Ok(println!(rt; "{USAGE}")?),

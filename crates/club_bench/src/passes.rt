@@ -1,17 +1,16 @@
-//! Measures how many passes of three caveats are signed, read and verified in a second: `pass_bench
-//! COUNT`. Reading and verifying are measured twice: with a `Pass` in memory, and field by field
-//! without one.
-#![tactic(auto)]
+//! How many passes of three caveats are signed, read and verified in a second, COUNT times each.
+//! Reading and verifying are measured twice: with a `Pass` in memory, and field by field without
+//! one.
 
 mod task;
 
+use crate::rate::rate;
 use anyhow::Result;
 use pass_forms::{Form, FormFault, MAX_BYTES, Pass, narrow, unwrap_text};
 use pass_json::write_any;
 use std::alloc::Global;
-use std::env;
 use std::rt::Clock;
-use std::time::{Duration, Instant};
+use std::time::Instant;
 use task::{CAVEATS, ROOT, Task, Written};
 
 static TASKS: [(&str, Task); 5] = [
@@ -24,22 +23,8 @@ static TASKS: [(&str, Task); 5] = [
 
 static FORMS: [(&str, Form); 2] = [("V1", Form::V1), ("V2", Form::V2)];
 
-fn main(rt: HostRuntime) -> Result<()> {
-    match asked_count(&rt)? {
-        Some(count) => compare(&rt, count),
-        None => Ok(println!(rt; "usage: pass_bench COUNT")?),
-    }
-}
-
-// The argument after the program's name, as a number.
-fn asked_count(rt: &HostRuntime) -> Result<Option<u32>> {
-    match env::args(rt)?.nth(1) {
-        Some(word) => Ok(word.as_str().parse::<u32>().ok()),
-        None => Ok(None),
-    }
-}
-
-fn compare(rt: &HostRuntime, count: u32) -> Result<()> {
+/// Prints the rates for each form.
+pub(crate) fn compare(rt: &HostRuntime, count: u32) -> Result<()> {
     let pass = new_pass(rt.alloc())?;
     for &(name, form) in &FORMS {
         let text = write_any(rt.alloc(), form, &pass)?;
@@ -81,11 +66,7 @@ fn measure(
 ) -> Result<()> {
     let start = Instant::now(rt)?;
     let folded = fold(rt.alloc(), task, written, count)?;
-    print_row(rt, what, rate(count, start.elapsed(rt)?), folded)
-}
-
-fn rate(count: u32, time: Duration) -> u128 {
-    u128::from(count) * 1_000_000 / time.as_micros().max(1)
+    print_row(rt, what, rate(count as usize, start.elapsed(rt)?), folded)
 }
 
 fn print_row(rt: &impl Print, what: &str, rate: u128, folded: u8) -> Result<()> {

@@ -1,5 +1,5 @@
 use Rattle.std.proofs.Common.{length}
-use Rattle.pass_bench.proofs.task.is_signed.Given as goal
+use Rattle.club_bench.proofs.passes.task.is_signed.Given as goal
 
 abbrev pub decreases-loop-field : goal.decreases-loop-field
 decreases-loop-field g l = length (g.S.FieldSource.left l.fields)

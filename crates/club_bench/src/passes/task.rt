@@ -8,9 +8,9 @@ use pass_json::read_any;
 use pass_mac::{Chain, same};
 use std::alloc::Global;
 
-pub const ROOT: &[u8] = b"this is our super secret key; only we should know it";
+pub(crate) const ROOT: &[u8] = b"this is our super secret key; only we should know it";
 
-pub static CAVEATS: [&[u8]; 3] = [
+pub(crate) static CAVEATS: [&[u8]; 3] = [
     b"kind = court",
     b"until < 2026-05-01T18:00",
     b"spend <= 600",
@@ -18,7 +18,7 @@ pub static CAVEATS: [&[u8]; 3] = [
 
 /// A task on a pass in V1 or V2.
 #[derive(Clone, Copy)]
-pub enum Task {
+pub(crate) enum Task {
     /// Its signature is computed.
     Sign,
     /// Its bytes are read to a `Pass`.
@@ -33,15 +33,15 @@ pub enum Task {
 
 /// A pass in one of the two forms: its text, and the bytes that the text wraps.
 #[derive(Clone, Copy)]
-pub struct Written<'a> {
-    pub form: Form,
-    pub text: &'a [u8],
-    pub bytes: &'a [u8],
+pub(crate) struct Written<'a> {
+    pub(crate) form: Form,
+    pub(crate) text: &'a [u8],
+    pub(crate) bytes: &'a [u8],
 }
 
 impl Task {
     /// Runs it once. Returns a byte of the result, so that the compiler can't remove the work.
-    pub fn once(self, alloc: Global, written: &Written<'_>) -> Result<u8, FormFault> {
+    pub(crate) fn once(self, alloc: Global, written: &Written<'_>) -> Result<u8, FormFault> {
         match self {
             Task::Sign => Ok(sign()),
             Task::ReadWhole => read_whole(alloc, written.form, written.bytes),
