@@ -1,11 +1,13 @@
-//! Tests of a club's rows, of the answers to requests and commands by their views, and of the
-//! reference machine.
+//! Tests of the caveat language and its values, of a club's rows, of the answers to requests and
+//! commands by their views, and of the reference machine.
 #![tactic(auto)]
 
 #[cfg(test)]
 mod answers;
 #[cfg(test)]
 mod bookings;
+#[cfg(test)]
+mod caveats;
 #[cfg(test)]
 mod commands;
 #[cfg(test)]

@@ -1,6 +1,6 @@
 //! Comparing a row of a test with the result, and values parsed from texts.
 
-use crate::calls::{read_day, read_hour, read_moment, read_name};
+use super::calls::{read_day, read_hour, read_moment, read_name};
 use club_values::{Moment, Slot};
 use std::fmt::Debug;
 use std::process::Abort;

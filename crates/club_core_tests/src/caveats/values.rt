@@ -1,10 +1,10 @@
 //! Names, kinds, actions, days, hours, moments and slots.
 
-use crate::calls::{
+use super::calls::{
     day_numbered, hour_numbered, is_name, moment_at, moment_numbered, read_action, read_day,
     read_hour, read_kind, read_moment, read_name,
 };
-use crate::rows::{expect_eq, moment, slot};
+use super::rows::{expect_eq, moment, slot};
 use club_values::ascii::text_of;
 use club_values::digits::{read_digits, read_number, read_two, two_digits};
 use club_values::{Day, Moment, Weekday};

@@ -1,7 +1,7 @@
 //! Which texts are understood as caveats.
 
-use crate::calls::is_understood;
-use crate::rows::expect_eq;
+use super::calls::is_understood;
+use super::rows::expect_eq;
 use std::process::Abort;
 
 // Texts, and whether they are understood.

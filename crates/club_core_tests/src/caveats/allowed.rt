@@ -1,7 +1,7 @@
 //! Which requests caveats allow.
 
-use crate::calls::{answer, day_numbered, fault_at, first_fault, hour_numbered, read_name};
-use crate::rows::{expect_eq, moment, slot};
+use super::calls::{answer, day_numbered, fault_at, first_fault, hour_numbered, read_name};
+use super::rows::{expect_eq, moment, slot};
 use club_values::{Action, Kind};
 use pass_caveats::{Ask, CaveatFault};
 use std::process::Abort;
