@@ -1,6 +1,6 @@
 //! Verifying, and texts that are no pass.
 
-use crate::runs::{
+use super::runs::{
     Arguments, JSON_TEXT, MALFORMED, OTHER_TEXT, OTHER_V2, ROOT, Row, SHOW, TEXT, TO_V1, V2_TEXT,
     VERIFY, expect, expect_rows,
 };

@@ -1,7 +1,7 @@
 //! Runs of the program over memory, and how they end. The pass and its root are those of
 //! libmacaroons' documentation; other values were computed by a program of another language.
 
-use crate::doubles::no_input;
+use super::doubles::no_input;
 use crate::expect::{expect_end, expect_eq};
 use passtool_commands::{Fault, run};
 use std::io::{Read, Write};

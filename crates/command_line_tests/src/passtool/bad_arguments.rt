@@ -1,11 +1,11 @@
 //! Arguments that are refused before the input is read, and help.
 
-use crate::doubles::no_input;
-use crate::expect::{expect_end, expect_eq};
-use crate::runs::{
+use super::doubles::no_input;
+use super::runs::{
     Arguments, MALFORMED, ROOT, expect, expect_all_unread, expect_unread, output_of,
     output_of_fault,
 };
+use crate::expect::{expect_end, expect_eq};
 use command_line::text_fault;
 use passtool_commands::{BadValue, Fault, Name};
 use std::process::Abort;

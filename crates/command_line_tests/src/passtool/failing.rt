@@ -1,11 +1,11 @@
 //! Readers that give pieces, are interrupted or fail, and writers that are interrupted or fail.
 
-use crate::doubles::{Narrow, Pieces};
-use crate::expect::{expect_end, expect_eq};
-use crate::runs::{
+use super::doubles::{Narrow, Pieces};
+use super::runs::{
     Arguments, BARE_TEXT, MINT, NARROW, SHOW, SHOWN, TEXT, TO_V2, V2_TEXT, VERIFY, ended_by,
     output_of,
 };
+use crate::expect::{expect_end, expect_eq};
 use std::process::Abort;
 use test_kit::End;
 use test_kit::End::{Prints, Writes};

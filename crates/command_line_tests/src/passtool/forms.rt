@@ -1,6 +1,6 @@
 //! Passes made, narrowed and written in each form.
 
-use crate::runs::{
+use super::runs::{
     Arguments, BARE_TEXT, IDENTIFIER, JSON_TEXT, MALFORMED, MINT, NARROW, OTHER_JSON, OTHER_TEXT,
     OTHER_V2, ROOT, Row, SHOW, SHOWN, TEXT, TO_JSON, TO_V1, TO_V2, V2_TEXT, VERIFY, expect,
     expect_all_unread, expect_rows, expect_unread,

@@ -1,6 +1,6 @@
 //! What `show` prints.
 
-use crate::runs::{BARE_TEXT, JSON_TEXT, Row, SHOW, SHOWN, TEXT, expect_rows};
+use super::runs::{BARE_TEXT, JSON_TEXT, Row, SHOW, SHOWN, TEXT, expect_rows};
 use test_kit::End::Writes;
 
 static PASSES: [Row; 4] = [

@@ -1,10 +1,10 @@
 //! The limits of passes.
 
-use crate::doubles::no_input;
-use crate::expect::{expect_end, expect_eq};
-use crate::runs::{
+use super::doubles::no_input;
+use super::runs::{
     Arguments, BARE_TEXT, IDENTIFIER, MALFORMED, ROOT, SHOW, TEXT, TOO_MANY, expect, output_of,
 };
+use crate::expect::{expect_end, expect_eq};
 use base64::engine::general_purpose::URL_SAFE_NO_PAD;
 use std::process::Abort;
 use test_kit::End;

@@ -1,7 +1,7 @@
 //! Arguments that are refused, and help.
 
+use super::tasks::arguments_of;
 use crate::expect::expect_end;
-use crate::tasks::arguments_of;
 use clubdesk_arguments::{CommandName, Fault, Job};
 use command_line::{ArgumentsFault, Asked, read_job, text_fault};
 use std::process::Abort;
@@ -28,7 +28,8 @@ fn output_of(rt: &(impl Abort + AllocGlobal), arguments: &[&str]) -> Output {
 fn expect_refused(rt: &(impl Abort + AllocGlobal), lines: &[&str], end: &End) {
     for line in lines {
         let arguments = arguments_of(rt, line);
-        expect_end(rt, &output_of(rt, arguments.as_slice()), end);
+        let arguments = arguments.as_slice();
+        expect_end(rt, &output_of(rt, arguments), end, arguments);
     }
 }
 
@@ -201,7 +202,7 @@ const NOT_TEXT: End = Prints(
 #[test]
 fn arguments_that_are_no_text(rt: HostRuntime) {
     let fault = Fault::from(text_fault::<CommandName, ()>(rt.alloc()));
-    expect_end(&rt, &output_of_fault(&rt, &fault), &NOT_TEXT);
+    expect_end(&rt, &output_of_fault(&rt, &fault), &NOT_TEXT, &["no text"]);
 }
 
 static HELP: [&str; 8] = [

@@ -10,6 +10,16 @@ pub(crate) fn expect_eq<T: PartialEq + Debug>(rt: &impl Abort, returned: &T, wan
     assert_eq!(rt; returned, want);
 }
 
+/// The same of the values of a case.
+pub(crate) fn expect_case<T: PartialEq + Debug>(
+    rt: &impl Abort,
+    case: &str,
+    returned: &T,
+    want: &T,
+) {
+    assert_eq!(rt; returned, want, "{case}");
+}
+
 /// Ends the test of this row unless a run ended so.
 pub(crate) fn expect_end(rt: &impl Abort, output: &Output, end: &End, row: &[&str]) {
     assert!(rt; end.fits(output), "{row:?}: {output:?}, and not {end:?}");

@@ -1,8 +1,8 @@
 //! The lines of faults on standard error.
 
-use crate::doubles::no_input;
+use super::doubles::no_input;
+use super::runs::{Arguments, SHOW};
 use crate::expect::expect_eq;
-use crate::runs::{Arguments, SHOW};
 use command_line::text_fault;
 use passtool_commands::{BadValue, Fault, Name, run};
 use std::alloc::Global;

@@ -1,0 +1,11 @@
+//! Tests of `passtool`'s commands.
+
+mod bad_arguments;
+mod doubles;
+mod failing;
+mod forms;
+mod limits;
+mod reports;
+mod runs;
+mod showing;
+mod verifying;
