@@ -1,5 +1,5 @@
 -- What a reopened store holds after a crash (ours).
-use Rattle.std.specs.Prelude.{◌≡◌, ◌⊎◌, List, [], Contains}
+use Rattle.std.specs.Prelude.{◌≡◌, ◌⊎◌, List, [], ◌∷◌, All, Contains, IsTrue}
 use Rattle.sqlite_disk.specs.declared.Disk as disk
 use Rattle.sqlite.specs.declared.FileStore.{FileStore}
 use Rattle.sqlite.specs.FileStore as file
@@ -8,11 +8,12 @@ use Rattle.sqlite.specs.Held.{Held}
 use Rattle.sqlite.specs.Recovery.{Image}
 use Rattle.sqlite.specs.Start.{FindsIn}
 use Rattle.sqlite.specs.State.{State}
+use Rattle.sqlite.specs.Store.{Ghosts}
 use Rattle.sqlite.specs.View.{IsClean}
-use Rattle.club_core.specs.Club.{Club}
+use Rattle.club_core.specs.Club.{Club, IsSound}
 use Rattle.club_core.specs.Run as machine
 use Rattle.club_laws.specs.RunsWithFailures.{RepeatsServedReplies}
-use Rattle.club_store.specs.Crash.{CrashLeaves, IsOpenedOn, RepresentsOne}
+use Rattle.club_store.specs.Crash.{CrashLeaves, IsOpenedOn, LeavesOneOf, RepresentsOne}
 use Rattle.club_store.specs.Opening.{OpensFrom}
 use Rattle.club_tables.specs.Tables.{Represents}
 use Rattle.club_tables.specs.ReadsAndChanges.{sound_in}
@@ -45,6 +46,17 @@ pub record IsAdoptedFrom {E : Type 0} {e : disk.Ghosts E} (start : Image) (now :
 -- the same by `Store::open_file`, or by `Store::adopt`
 abbrev pub IsReopened : {E : Type 0} {e : disk.Ghosts E} → Image → Held (FileStore E e) → Type 0
 IsReopened start now = OpensFrom start now ⊎ IsAdoptedFrom start now
+
+-- A store of the engine that a run from this club has left. After any crash it is a database of the club that the answered events leave, or
+-- of another possible crash state of the run. In these, as far as they are one event from it, a repeat of a served request gets the same reply.
+pub record IsLeftByRun {S : Type 0} (g : Ghosts S) (store : S) (club : Club) (others : List Club) (events : List machine.Event)
+    (returned : List DeskResponse) : Type 0 where
+  pub left : List Club
+  pub sound : All IsSound (club_left club events returned ∷ left)
+  pub one_of : LeavesOneOf g store (club_left club events returned ∷ left)
+  pub numbered : IsTrue (g.view store).is_numbered
+  pub each : All (MayBeLeft club others (club_left club events returned) events returned) left
+  pub again : (now : Club) → IsWithinOneEvent (club_left club events returned) now → RepeatsServedReplies now events returned
 
 -- After a run and a crash, a reopened store holds exactly one club, and no further crash leaves another: the club that the answered events
 -- leave, or another possible crash state of the run. If it is that club or one event from it, a repeat of a served request gets the same

@@ -10,13 +10,13 @@ ghost use Rattle.club_laws.specs.RunsWithFailures.{RepeatsServedReplies};
 ghost use Rattle.club_tables.specs.ReadsAndChanges.{sound_in};
 ghost use Rattle.club_gate.specs.Events.{AreEventsOf};
 ghost use Rattle.club_gate.specs.Runs.{IsAnsweredRun, DeskResponse, responses_of};
-ghost use Rattle.desk_theorem.specs.Crash.{OpensAgain, SurvivesCrash};
+ghost use Rattle.desk_theorem.specs.Crash.{IsLeftByRun, OpensAgain, SurvivesCrash};
 
 use club_core::StoreFault;
 use club_gate::{Desk, Event, EventReply};
 use club_store::Store;
 use club_store::laws::{files_hold_one_of, one_club_recovered};
-use sqlite::{FileFrom, FileStore, Start};
+use sqlite::{Alter, FileFrom, FileStore, Start};
 use sqlite_disk::Disk;
 
 /// The crash law. Reopening the files after a crash recovers exactly one of the clubs that the old
@@ -33,6 +33,29 @@ pub fn served_survives_a_crash<D: Disk, Q: Start>(
     one_club_recovered(before, after);
 }
 
+// Runs a list of events at a desk over any store of the engine, and returns the responses and that
+// store. A function over a file that made each of these calls would be proved in twice the time.
+fn run_to_end<S: Alter + Drop>(
+    mut desk: Desk<Store<S>>,
+    events: &[Event],
+) -> Result<(Vec<EventReply>, S), StoreFault>
+    ensures answered { IfOk result (λ left. IsClean (S.Store.view left.1)
+        → (club : Club) (others : List Club)
+        → sound_in S.Store desk club others
+        → (seen : List machine.Event) → AreEventsOf events.now seen
+        → IsAnsweredRun club seen (responses_of left.0.items)) }
+    ensures leaves { IfOk result (λ left. IsClean (S.Store.view left.1)
+        → (club : Club) (others : List Club)
+        → sound_in S.Store desk club others
+        → (seen : List machine.Event) → AreEventsOf events.now seen
+        → IsLeftByRun S.Store left.1 club others seen (responses_of left.0.items)) }
+{
+    match desk.run(events) {
+        Ok(replies) => Ok((replies, desk.into_store().into_store())),
+        Err(_) => Err(StoreFault::Memory),
+    }
+}
+
 /// Runs a list of events at a desk over a file, and returns the responses and the store. The
 /// machine may stop in the run or after it: a crash in a call is a disk that fails from there on.
 /// A store that is opened on the files then, over a disk `E`, has the change of every answered
@@ -42,7 +65,7 @@ pub fn served_survives_a_crash<D: Disk, Q: Start>(
 ///
 /// There was no memory for the replies. No event was answered.
 pub fn run_and_leave<D: Disk + Drop, E: Disk>(
-    mut desk: Desk<Store<FileStore<D>>>,
+    desk: Desk<Store<FileStore<D>>>,
     events: &[Event],
 ) -> Result<(Vec<EventReply>, FileStore<D>), StoreFault>
     // The replies are the machine's, failed events left out.
@@ -61,12 +84,7 @@ pub fn run_and_leave<D: Disk + Drop, E: Disk>(
         → (seen : List machine.Event) → AreEventsOf events.now seen
         → OpensAgain E.Disk left.1 club others seen (responses_of left.0.items)) }
 {
-    match desk.run(events) {
-        Ok(replies) => {
-            let store = desk.into_store().into_store();
-            files_hold_one_of(&store);
-            Ok((replies, store))
-        }
-        Err(_) => Err(StoreFault::Memory),
-    }
+    let (replies, store) = run_to_end(desk, events)?;
+    files_hold_one_of(&store);
+    Ok((replies, store))
 }

@@ -6,13 +6,12 @@ use Rattle.sqlite.specs.declared.FileStore.{FileStore}
 use Rattle.sqlite.specs.Files.{file_state}
 use Rattle.sqlite.specs.Held.{Held}
 use Rattle.sqlite.specs.Recovery.{Image}
-use Rattle.sqlite.specs.State.{HasCleanDisk}
 use Rattle.sqlite.specs.Tree.{Trees}
 use Rattle.club_core.specs.Club.{Club, IsSound}
 use Rattle.club_core.specs.Run.{Event}
 use Rattle.club_laws.specs.RunsWithFailures.{RepeatsServedReplies}
 use Rattle.club_store.specs.Crash.{HoldsOneOf, RepresentsOne}
-use Rattle.club_tables.specs.Tables.{IsLeftOf, Represents}
+use Rattle.club_tables.specs.Tables.{IsLeftOf}
 use Rattle.club_gate.specs.Runs.{IsWithinOneEvent, MayBeLeft, DeskResponse, club_left, responses_of}
 use Rattle.desk_theorem.specs.Crash.{IsReopened, RecoversAfterRun}
 use Rattle.desk_theorem.proofs.crash.run_and_leave.Goals as goal
@@ -48,26 +47,17 @@ reopened_as_one left opened (inr adopts) clubs holds =
       left = subst (λ (trees : Trees). IsLeftOf trees clubs) (sym (adopts.found.holds holds.0 holds.1)) holds.2;
     })
 
-pub returns-in-Ok-clause-answered : goal.returns-in-Ok-clause-answered
-returns-in-Ok-clause-answered g c = λ clean club others represents seen are.
-    let was_clean = subst (λ held. HasCleanDisk (file_state held)) c.into_store.ensures (c.into_store-store.ensures.was_clean clean) in
-    (c.in-Ok.ensures.lawful was_clean club others represents seen are).run
+pub returns-clause-answered : goal.returns-clause-answered
+returns-clause-answered g c = c.in_ok-replies.ensures.answered
 
-pub returns-in-Ok-clause-again : goal.returns-in-Ok-clause-again
-returns-in-Ok-clause-again g c = λ club others represents events are left opened by reopened.
-    let returned = responses_of c.in-Ok.replies.items in
+pub returns-clause-again : goal.returns-clause-again
+returns-clause-again g c = λ club others represents events are left opened by reopened.
+    let returned = responses_of c.in_ok-replies.replies.items in
     let last = club_left club events returned in
-    let was_clean = subst (λ held. HasCleanDisk (file_state held)) c.into_store.ensures (c.into_store-store.ensures.was_clean by.0) in
-    let ran = c.in-Ok.ensures.represents was_clean club others represents events are in
-    let kept = subst (λ held. Represents (file_state held) last ran.left) (sym c.into_store.ensures) ran.represents.1 in
+    let ran = c.in_ok-replies.ensures.leaves by.0 club others represents events are in
     let clubs = last ∷ ran.left in
     let each = All-cons (IsOf club others events returned) last ran.left (inl refl)
     (All-weaker (MayBeLeft club others last events returned) (IsOf club others events returned) (λ now may. inr may) ran.left ran.each) in
-    let held = c.files_hold_one_of.ensures clubs left (record {
-      clean = by.0;
-      numbers = c.into_store-store.ensures.numbered by.0;
-      one_of = c.into_store-store.ensures.left last ran.left kept;
-      files = by.1;
-    }) in
-    ∥∥₁_map held (λ holds. recovers_after_run opened club others events returned ran.again clubs ran.represents.0 each
+    let held = c.files_hold_one_of.ensures clubs left (record { clean = by.0; numbers = ran.numbered; one_of = ran.one_of; files = by.1 }) in
+    ∥∥₁_map held (λ holds. recovers_after_run opened club others events returned ran.again clubs ran.sound each
     (reopened_as_one left opened reopened clubs holds))
