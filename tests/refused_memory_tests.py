@@ -9,8 +9,8 @@ proved and built first. Not part of the gate.
 Name tests that pass each fault on, or compare what they get with out of memory and with the right answer: one that expects
 another fault fails if memory is refused instead.
   tests/refused_memory_tests.py                                              the tests of the list below
-  tests/refused_memory_tests.py club_store_tests                                  those of one crate
-  tests/refused_memory_tests.py club_store_tests store::shows_what_a_key_sees ..  any tests of a crate
+  tests/refused_memory_tests.py club_gate_tests                                         those of one crate
+  tests/refused_memory_tests.py club_gate_tests store::shown::shows_what_a_key_sees ..  any tests of a crate
 """
 # groups: proofs
 # minutes: 600
@@ -26,12 +26,13 @@ import time
 import desk
 from more_edits import crates_below
 
+OPENINGS = """store_in_memory empty_database tables_of_version_1 tables_without_the_index tables_of_version_2
+              new_file file_of_version_1 file_without_the_index file_of_version_2"""
 # Of each crate its tests; those without another module are in `refused_memory`.
 TESTS = {
     "pass_forms_tests": "known_pass known_pass_without_its_caveat example",
-    "club_store_tests": "store_in_memory empty_database tables_of_version_1 tables_without_the_index tables_of_version_2"
-                        " new_file file_of_version_1 file_without_the_index file_of_version_2",
-    "club_gate_tests": "commands ask_in_v1 ask_in_v2 ask_in_json run_in_v1 run_in_v2 run_in_json",
+    "club_gate_tests": " ".join(["commands ask_in_v1 ask_in_v2 ask_in_json run_in_v1 run_in_v2 run_in_json",
+                                 *(f"store::refused_memory::{it}" for it in OPENINGS.split())]),
     "end_to_end_tests": "exchange_in_v1 exchange_in_v2 exchange_in_json faults_of_bytes",
     "club_http_tests": "bodies::refused_memory counted::refused_memory",
 }

@@ -9,7 +9,7 @@ use club_gate::{Desk, OfficeReply, Words};
 use club_store::Store;
 use club_values::Kind;
 use desk_theorem::{reply_from_nothing, run_and_leave, run_from_nothing};
-use sqlite::{Connection, Files, Options};
+use sqlite::{Alter, Connection, Files, Options};
 use sqlite_disk::{Disk, Memory};
 use std::alloc::Global;
 use std::process::Abort;
@@ -65,6 +65,15 @@ fn answers_after_a_list(rt: HostRuntime) {
     expect_reply_after(&rt, &[], &NOT_VERIFIED);
 }
 
+/// The desk of a database that was just opened.
+fn desk_over<S: Alter + Drop>(
+    rt: &(impl Abort + Alloc<A = Global>),
+    connection: Connection<S>,
+) -> Desk<Store<S>> {
+    let store = Store::adopt(rt.alloc(), connection).ok();
+    Desk::new(rt.alloc(), store.expect(rt, "tables"))
+}
+
 /// What is left of these files once the rows happened at a desk over them; `None` if they may not
 /// be used.
 fn files_left<D: Disk + Drop>(
@@ -76,8 +85,7 @@ fn files_left<D: Disk + Drop>(
         return None;
     }
     let connection = Connection::open_files(rt.alloc(), files, Options::new(7)).ok();
-    let store = Store::adopt(rt.alloc(), connection.expect(rt, "a database")).ok();
-    let desk = Desk::new(rt.alloc(), store.expect(rt, "tables"));
+    let desk = desk_over(rt, connection.expect(rt, "a database"));
     let events = events(rt, rows);
     let run = run_and_leave::<D, D>(desk, events.as_slice());
     let (replies, store) = run.expect(rt, "replies");

@@ -1,5 +1,5 @@
-//! Tests of the desk over the tables in memory: worked rows, and random lists of events that
-//! are compared with the reference machine.
+//! Tests of the tables and of the store over them; and of the desk over tables in memory: worked
+//! rows, and random lists of events that are compared with the reference machine.
 #![tactic(auto)]
 
 #[cfg(test)]
@@ -46,6 +46,8 @@ mod scene;
 mod sent;
 #[cfg(test)]
 mod shown;
+#[cfg(test)]
+mod store;
 #[cfg(test)]
 mod texts;
 #[cfg(test)]

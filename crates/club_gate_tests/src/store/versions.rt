@@ -1,11 +1,11 @@
 //! Tables of version 1, those of version 2 without the index of the bookings, databases of other
 //! kinds, and the older roots of version 2.
 
-use crate::databases::{Contents, database, runs, version};
+use super::databases::{Contents, database, runs, version};
+use super::rows::{AMY_1, Kept, Older};
+use super::steps::{Asked, Shown, Start, Step, adopt, plays_from, plays_opened};
+use super::write::Write;
 use crate::expect::expect_eq;
-use crate::rows::{AMY_1, Kept, Older};
-use crate::steps::{Asked, Shown, Start, Step, adopt, plays_from, plays_opened};
-use crate::write::Write;
 use club_core::StoreFault;
 use club_store::Store;
 use sqlite::{Alter, Connection};

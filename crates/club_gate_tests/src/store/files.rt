@@ -1,8 +1,8 @@
 //! Real files of a test. `do_in_file` and `make_file` alone open stores in them: the proof of each
 //! takes half a minute or more.
 
-use crate::databases::{bookings, runs_all};
-use crate::steps::{Step, plays};
+use super::databases::{bookings, runs_all};
+use super::steps::{Step, plays};
 use club_core::StoreFault;
 use club_store::{Remains, Store};
 use sqlite::{Alter, Connection, Unknown};

@@ -2,11 +2,11 @@
 //! allocations in turn, and none after it: an opening that is out of memory leaves the database as
 //! it was, and a second one opens it.
 
-use crate::databases::{Contents, database, version};
+use super::databases::{Contents, database, version};
+use super::files::{make_file, path_of, plays_in_file, remove};
+use super::rows::CANCELLED_8;
+use super::steps::{Asked, Shown, Step, plays};
 use crate::expect::expect_eq;
-use crate::files::{make_file, path_of, plays_in_file, remove};
-use crate::rows::CANCELLED_8;
-use crate::steps::{Asked, Shown, Step, plays};
 use club_core::StoreFault;
 use club_store::Store;
 use sqlite::{Alter, Connection, MemStore};

@@ -1,8 +1,8 @@
 //! Tests of a store: what is written to it, and what it shows then.
 
-use crate::rows::{AMY_1, DAY, REVOKED};
-use crate::steps::{Asked, Shown, Start, Step, plays_from};
-use crate::write::Write;
+use super::rows::{AMY_1, DAY, REVOKED};
+use super::steps::{Asked, Shown, Start, Step, plays_from};
+use super::write::Write;
 use std::test::*;
 use test_kit::{
     BOOKING_7, BOOKING_8, COURT_AT_9, COURT_AT_10, COURT_AT_18, FRIDAY, PlainBooking, PlainSlot,

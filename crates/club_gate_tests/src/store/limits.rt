@@ -1,8 +1,8 @@
 //! Rows out of their limits, in tables that take any row: each is a fault of storage if it is read.
 
-use crate::databases::{database_after, runs};
-use crate::rows::{day, moment, name, number, slot};
-use crate::steps::adopt;
+use super::databases::{database_after, runs};
+use super::rows::{day, moment, name, number, slot};
+use super::steps::adopt;
 use club_core::{Request, StoreFault};
 use club_store::Store;
 use sqlite::Alter;

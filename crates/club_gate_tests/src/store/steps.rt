@@ -1,11 +1,11 @@
 //! Steps of a test over a store: what is written to it, and what it shows then.
 
-use crate::databases::{Contents, database};
-use crate::expect::expect_eq;
-use crate::rows::{
+use super::databases::{Contents, database};
+use super::rows::{
     AMY_1, Kept, booking_of, day, facility, key, member, moment, name, number, slot,
 };
-use crate::write::{Write, change};
+use super::write::{Write, change};
+use crate::expect::expect_eq;
 use club_core::{Change, ClubStore, MemberAccount, Request, SlotUse, StoreFault, View, sheet_text};
 use club_store::Store;
 use sqlite::{Alter, Connection, MemStore};

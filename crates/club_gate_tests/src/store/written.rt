@@ -1,8 +1,8 @@
 //! Tests of the changes: the rows that each leaves.
 
-use crate::rows::{AMY_1, DAY, Kept, Older, REVOKED};
-use crate::tables::{Expected, Step, plays_filled};
-use crate::write::Write;
+use super::rows::{AMY_1, DAY, Kept, Older, REVOKED};
+use super::tables::{Expected, Step, plays_filled};
+use super::write::Write;
 use std::test::*;
 use test_kit::roots::{ROOT, SECOND_ROOT};
 use test_kit::{BOOKING_7, COURT_AT_18, COURT_AT_19, PlainBooking};

@@ -1,11 +1,11 @@
 //! Tables in memory, and the steps of a test over them: what is written, and what reads return.
 
-use crate::expect::expect_eq;
-use crate::rows::{
+use super::rows::{
     AMY_1, Kept, Older, booking_of, day, facility_of, key_row_of, member_of, moment, name, number,
     older_root_of, slot,
 };
-use crate::write::{Write, change};
+use super::write::{Write, change};
+use crate::expect::expect_eq;
 use club_core::{Change, SlotUse, StoreFault};
 use club_rows::{OlderRoot, Root};
 use club_tables::{Rotation, Tables};

@@ -1,6 +1,6 @@
 //! Changes of a club, from plain data.
 
-use crate::rows::{
+use super::rows::{
     Kept, Older, booking, facility, key, member, member_of, moment, name, root, slot,
 };
 use club_core::Change;

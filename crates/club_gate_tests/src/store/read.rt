@@ -1,7 +1,7 @@
 //! Tests of the reads of the tables.
 
-use crate::rows::{AMY_1, DAY};
-use crate::tables::{Expected, Step, plays_empty, plays_filled};
+use super::rows::{AMY_1, DAY};
+use super::tables::{Expected, Step, plays_empty, plays_filled};
 use std::test::*;
 use test_kit::{BOOKING_7, COURT, COURT_AT_18, COURT_AT_19};
 

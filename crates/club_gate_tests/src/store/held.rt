@@ -1,8 +1,8 @@
 //! Openings of a file that another program has, of one that can't be opened, and of one whose
 //! tables are refused.
 
+use super::files::{FileWork, Left, do_in_file, make_file, path_of, plays_in_file, remove};
 use crate::expect::expect_eq;
-use crate::files::{FileWork, Left, do_in_file, make_file, path_of, plays_in_file, remove};
 use club_store::Store;
 use sqlite::Alter;
 use std::alloc::Global;
