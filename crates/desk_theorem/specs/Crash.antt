@@ -47,16 +47,10 @@ pub record IsAdoptedFrom {E : Type 0} {e : disk.Ghosts E} (start : Image) (now :
 abbrev pub IsReopened : {E : Type 0} {e : disk.Ghosts E} → Image → Held (FileStore E e) → Type 0
 IsReopened start now = OpensFrom start now ⊎ IsAdoptedFrom start now
 
--- A store of the engine that a run from this club has left. After any crash it is a database of the club that the answered events leave, or
--- of another possible crash state of the run. In these, as far as they are one event from it, a repeat of a served request gets the same reply.
-pub record IsLeftByRun {S : Type 0} (g : Ghosts S) (store : S) (club : Club) (others : List Club) (events : List machine.Event)
-    (returned : List DeskResponse) : Type 0 where
-  pub left : List Club
-  pub sound : All IsSound (club_left club events returned ∷ left)
-  pub one_of : LeavesOneOf g store (club_left club events returned ∷ left)
-  pub numbered : IsTrue (g.view store).is_numbered
-  pub each : All (MayBeLeft club others (club_left club events returned) events returned) left
-  pub again : (now : Club) → IsWithinOneEvent (club_left club events returned) now → RepeatsServedReplies now events returned
+-- Each of these clubs is sound, and after any crash the engine's store is a database of one of them.
+abbrev pub leaves_sound_in : {S : Type 0} → Ghosts S → S → Club → List Club → Type 0
+leaves_sound_in g store club others =
+    All IsSound (club ∷ others) × IsTrue (g.view store).is_numbered × LeavesOneOf g store (club ∷ others)
 
 -- After a run and a crash, a reopened store holds exactly one club, and no further crash leaves another: the club that the answered events
 -- leave, or another possible crash state of the run. If it is that club or one event from it, a repeat of a served request gets the same

@@ -9,8 +9,8 @@ ghost use Rattle.club_core.specs.Run as machine;
 ghost use Rattle.club_laws.specs.RunsWithFailures.{RepeatsServedReplies};
 ghost use Rattle.club_tables.specs.ReadsAndChanges.{sound_in};
 ghost use Rattle.club_gate.specs.Events.{AreEventsOf};
-ghost use Rattle.club_gate.specs.Runs.{IsAnsweredRun, DeskResponse, responses_of};
-ghost use Rattle.desk_theorem.specs.Crash.{IsLeftByRun, OpensAgain, SurvivesCrash};
+ghost use Rattle.club_gate.specs.Runs.{IsAnsweredRun, DeskResponse, LeavesClub, responses_of};
+ghost use Rattle.desk_theorem.specs.Crash.{OpensAgain, SurvivesCrash, leaves_sound_in};
 
 use club_core::StoreFault;
 use club_gate::{Desk, Event, EventReply};
@@ -48,7 +48,8 @@ fn run_to_end<S: Alter + Drop>(
         → (club : Club) (others : List Club)
         → sound_in S.Store desk club others
         → (seen : List machine.Event) → AreEventsOf events.now seen
-        → IsLeftByRun S.Store left.1 club others seen (responses_of left.0.items)) }
+        → LeavesClub (leaves_sound_in S.Store) left.1 club others seen
+        (responses_of left.0.items)) }
 {
     match desk.run(events) {
         Ok(replies) => Ok((replies, desk.into_store().into_store())),

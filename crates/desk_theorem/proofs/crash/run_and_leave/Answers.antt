@@ -58,6 +58,6 @@ returns-clause-again g c = λ club others represents events are left opened by r
     let clubs = last ∷ ran.left in
     let each = All-cons (IsOf club others events returned) last ran.left (inl refl)
     (All-weaker (MayBeLeft club others last events returned) (IsOf club others events returned) (λ now may. inr may) ran.left ran.each) in
-    let held = c.files_hold_one_of.ensures clubs left (record { clean = by.0; numbers = ran.numbered; one_of = ran.one_of; files = by.1 }) in
-    ∥∥₁_map held (λ holds. recovers_after_run opened club others events returned ran.again clubs ran.sound each
+    let held = c.files_hold_one_of.ensures clubs left (record { clean = by.0; numbers = ran.represents.1; one_of = ran.represents.2; files = by.1 }) in
+    ∥∥₁_map held (λ holds. recovers_after_run opened club others events returned ran.again clubs ran.represents.0 each
     (reopened_as_one left opened reopened clubs holds))

@@ -18,9 +18,7 @@ returns-in-Ok-clause-leaves g c = λ clean club others represents seen are.
     let kept = subst (λ held. Represents (state g.S.Store held) last ran.left) (sym c.into_store.ensures) ran.represents.1 in
     record {
       left = ran.left;
-      sound = ran.represents.0;
-      one_of = c.into_store-in-Ok.ensures.left last ran.left kept;
-      numbered = c.into_store-in-Ok.ensures.numbered clean;
+      represents = (ran.represents.0, c.into_store-in-Ok.ensures.numbered clean, c.into_store-in-Ok.ensures.left last ran.left kept);
       each = ran.each;
       again = ran.again;
     }
