@@ -5,7 +5,7 @@ use club_rows::{Booking, BookingNumber, Facility, Key, KeyRow, Member, OlderRoot
 use club_values::{Day, Moment, Name, Slot};
 use std::process::Abort;
 use test_kit::roots::ROOT;
-use test_kit::{BOOKING_8, PlainBooking, PlainFacility, PlainSlot, amy};
+use test_kit::{BOOKING_7, BOOKING_8, PlainBooking, PlainFacility, PlainSlot, amy};
 
 /// The day on which nearly everything happens.
 pub(crate) const DAY: &str = "2026-05-01";
@@ -33,6 +33,12 @@ pub(crate) const AMY_1: Kept = Kept {
 pub(crate) const REVOKED: Kept = Kept {
     revoked: true,
     ..AMY_1
+};
+
+/// The court's booking, cancelled for half its price.
+pub(crate) const CANCELLED_7: PlainBooking = PlainBooking {
+    refund: Some(300),
+    ..BOOKING_7
 };
 
 /// The room's booking, cancelled.

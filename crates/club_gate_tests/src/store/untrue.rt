@@ -1,19 +1,13 @@
 //! Tests of changes that aren't true of the club: each is a fault of storage, and leaves every row
 //! and total.
 
-use super::rows::{AMY_1, CANCELLED_8, DAY, Older};
+use super::rows::{AMY_1, CANCELLED_7, CANCELLED_8, DAY, Older};
 use super::steps::{Asked, Shown, Start, Step as StoreStep, plays_from};
 use super::tables::{Expected, Step, plays_filled};
 use super::write::Write;
 use std::test::*;
 use test_kit::roots::{SECOND_ROOT, THIRD_ROOT};
 use test_kit::{BOOKING_7, BOOKING_8, COURT_AT_18, COURT_AT_19, PlainBooking, ROOM_AT_18};
-
-/// The court's booking, cancelled for half its price.
-const CANCELLED_7: PlainBooking = PlainBooking {
-    refund: Some(300),
-    ..BOOKING_7
-};
 
 /// As it was on record, and as it is.
 static CANCELS_AGAIN: [Step; 9] = [

@@ -1,17 +1,11 @@
 //! Tests of the changes: the rows that each leaves.
 
-use super::rows::{AMY_1, DAY, Kept, Older, REVOKED};
+use super::rows::{AMY_1, CANCELLED_7, DAY, Kept, Older, REVOKED};
 use super::tables::{Expected, Step, plays_filled};
 use super::write::Write;
 use std::test::*;
 use test_kit::roots::{ROOT, SECOND_ROOT};
-use test_kit::{BOOKING_7, COURT_AT_18, COURT_AT_19, PlainBooking};
-
-/// The court's booking, cancelled for half its price.
-const CANCELLED_7: PlainBooking = PlainBooking {
-    refund: Some(300),
-    ..BOOKING_7
-};
+use test_kit::{BOOKING_7, COURT_AT_18, COURT_AT_19};
 
 /// The refund goes back to the member and the key, and the places to the slot.
 static CANCELS: [Step; 7] = [
