@@ -1,6 +1,11 @@
--- A caveat that isn't on the kind has the same fault for each kind.
-use Rattle.pass_caveats.proofs.Common.{◌≡◌, ℕ, false, List, [], ◌∷◌, Option, Some, Ask, Caveat, caveat_of, permits, first_fault_from, arith}
+-- A caveat has the same fault for each kind if and only if it isn't on the kind.
+use Rattle.pass_caveats.proofs.Common.{◌≡◌, ℕ, false, List, [], ◌∷◌, Option, Some, None, refl, sym, ap, ◌∙◌, Ask, Caveat, caveat_of, permits, first_fault_from, arith}
+use Rattle.pass_caveats.proofs.Common.{Facility, Kind, Hours, Days, Weekdays, Until, Guests, Spend, Actions}
+use Rattle.club_values.specs.declared.action.Action.TheVariants.{View}
 use Rattle.club_values.specs.declared.kind.Kind.{Kind as AKind}
+use Rattle.club_values.specs.declared.kind.Kind.TheVariants.{Court, Boat, Room}
+use Rattle.pass_caveats.specs.declared.fault.CaveatFault.{CaveatFault}
+use Rattle.pass_caveats.specs.declared.fault.CaveatFault.TheVariants.{Denied}
 use Rattle.pass_caveats.specs.Kinds.{IsBlindToKind, at_kind, is_on_kind}
 use Rattle.pass_caveats.proofs.CaveatOfLemmas.{finds_fault_at}
 
@@ -15,3 +20,49 @@ fault_alike number caveat ask kind h = grind (arith, permits_alike)
 
 pub blind_to_kind : (text : List ℕ) → is_on_kind (caveat_of text) ≡ false → IsBlindToKind text
 blind_to_kind text h number ask kind fault = grind (arith, finds_fault_at, fault_alike)
+
+-- a request for a slot at a facility that is unknown
+abbrev no_facility : Ask
+no_facility = record {
+  action = View;
+  slot = Some (record { facility = []; day = 0; hour = 0 });
+  kind = None;
+  guests = 0;
+  moment = 0;
+  owed = 0;
+  spent = 0;
+}
+
+allowed_at_its_kind : (kind : AKind) → None ≡ first_fault_from 1 (Some (Kind kind) ∷ []) (at_kind (Some kind) no_facility)
+unfolding permits
+allowed_at_its_kind Court = refl
+allowed_at_its_kind Boat = refl
+allowed_at_its_kind Room = refl
+
+denied_at_none : (kind : AKind) → first_fault_from 1 (Some (Kind kind) ∷ []) no_facility ≡ Some (Denied 1)
+unfolding permits
+denied_at_none Court = refl
+denied_at_none Boat = refl
+denied_at_none Room = refl
+
+blind_of : (text : List ℕ) (caveat : Option Caveat) → caveat_of text ≡ caveat → IsBlindToKind text → is_on_kind caveat ≡ false
+blind_of text None is blind = refl
+blind_of text (Some (Facility names)) is blind = refl
+blind_of text (Some (Kind kind)) is blind =
+    let fault : Ask → Option Caveat → Option CaveatFault = λ ask one. first_fault_from 1 (one ∷ []) ask in
+    let its_kind = at_kind (Some kind) no_facility in
+    let seen = (finds_fault_at text 1 its_kind None).1 (allowed_at_its_kind kind ∙ sym (ap (fault its_kind) is)) in
+    let found = (finds_fault_at text 1 no_facility None).0 ((blind 1 no_facility (Some kind) None).0 seen) in
+    let denied : None ≡ Some (Denied 1) = found ∙ ap (fault no_facility) is ∙ denied_at_none kind in
+    grind (arith, denied)
+blind_of text (Some (Hours from until)) is blind = refl
+blind_of text (Some (Days first last)) is blind = refl
+blind_of text (Some (Weekdays set)) is blind = refl
+blind_of text (Some (Until moment)) is blind = refl
+blind_of text (Some (Guests n)) is blind = refl
+blind_of text (Some (Spend n)) is blind = refl
+blind_of text (Some (Actions actions)) is blind = refl
+
+-- a text that has the same fault for each kind isn't a caveat on the kind
+pub off_kind_if_blind : (text : List ℕ) → IsBlindToKind text → is_on_kind (caveat_of text) ≡ false
+off_kind_if_blind text blind = blind_of text (caveat_of text) refl blind

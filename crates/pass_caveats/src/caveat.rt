@@ -141,12 +141,13 @@ pub fn allows(caveat: &Caveat, ask: &Ask) -> bool
     is_in_set(caveat, ask)
 }
 
-/// Whether a text is a caveat on the kind of the slot's facility. Any other text has the same fault
-/// for each kind.
+/// Whether a text is a caveat on the kind of the slot's facility. It isn't if and only if its fault
+/// is the same for each kind.
 #[tactic(auto, using(crate::proofs::KindLemmas::blind_to_kind))]
 pub fn looks_at_kind(text: &[u8]) -> bool
     ensures function { result ≡ is_on_kind (caveat_of text.now) }
     ensures blind { result ≡ false → IsBlindToKind text.now }
+    ensures off_kind { IsBlindToKind text.now → result ≡ false }
 {
     match read(text) {
         Some(caveat) => caveat.is_on_kind(),
