@@ -1,6 +1,7 @@
 -- The fields of a pass one after the other: the location (which may be empty), the identifier, the caveats in their order,
 -- the signature.
 use Rattle.std.specs.Prelude.{◌≡◌, ℕ, List, [], ◌∷◌, ◌++◌, map, fold, replicate, Option, None, Some, Result, Ok, Err}
+use Rattle.pass_mac.specs.Chain.{extended_signature}
 use Rattle.pass_forms.specs.declared.fault.FormFault.{FormFault}
 use Rattle.pass_forms.specs.declared.field_source.Field.{Field}
 use Rattle.pass_forms.specs.declared.field_source.Field.TheVariants.{Location, Identifier, Caveat, Signature}
@@ -48,6 +49,12 @@ as_field (Location bytes) = location_field bytes.now
 as_field (Identifier bytes) = identifier_field bytes.now
 as_field (Caveat bytes) = caveat_field bytes.now
 as_field (Signature bytes) = signature_field bytes
+
+-- The fields begin with caveats and a signature, and the signature is that of the chain that those caveats extend (NDSS 2014).
+pub record AreSignedBy (chain : List ℕ) (fields : List PassField) : Type 0 where
+  pub caveats : List (List ℕ)
+  pub rest : List PassField
+  pub place : fields ≡ map caveat_field caveats ++ signature_field (extended_signature chain caveats) ∷ rest
 
 -- A pass from fields in any order: each sets its value, and a caveat is appended to the list.
 abbrev pub with_field : Plain → PassField → Plain

@@ -1,19 +1,20 @@
 //! The verifier of a pass, over its fields.
 
-ghost use Rattle.std.specs.Prelude.{◌≡◌, ◌++◌, ◌∷◌, ℕ, List, [], map};
+ghost use Rattle.std.specs.Prelude.{◌≡◌, ◌↔◌, ◌++◌, ◌∷◌, ℕ, IsTrue, List, [], map};
 ghost use Rattle.std.specs.Str.{bytes_eq};
 ghost use Rattle.pass_mac.specs.Chain.{extended_signature};
-ghost use Rattle.pass_forms.specs.FieldSource.{caveat_field, signature_field};
+ghost use Rattle.pass_forms.specs.FieldSource.{AreSignedBy, caveat_field, signature_field};
 
 use crate::{Field, FieldSource};
 use pass_mac::{Chain, same};
 
 /// Whether a chain, extended by the caveats that a source has left, ends in the signature after
 /// them. A pass is signed if the chain is that of its identifier, and the source has yielded its
-/// location and its identifier.
+/// location and its identifier. A source that has these still to yield is not signed by any chain.
 #[tactic(auto, using(crate::proofs::Verifying::signed_behind))]
 pub fn is_signed_by<'a, F: FieldSource<'a>>(mut chain: Chain, source: &mut F) -> bool
-    ensures { (caveats : List (List ℕ)) (signature : List ℕ)
+    ensures signed { IsTrue result ↔ AreSignedBy chain (F.left source.old) }
+    ensures of_pass { (caveats : List (List ℕ)) (signature : List ℕ)
         → F.left source.old ≡ map caveat_field caveats ++ signature_field signature ∷ []
         → result ≡ bytes_eq (extended_signature chain caveats) signature }
 {
