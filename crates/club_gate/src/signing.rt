@@ -21,6 +21,9 @@ impl<S: ClubStore> Desk<S> {
     /// Whether a pass is signed under a root of the key of this row that is good at the moment. It
     /// reads the older root only for a pass that isn't signed under the current one. The source has
     /// already yielded the identifier.
+    ///
+    /// The current root's derived key is cached once a pass is signed under it. Until then the cache
+    /// still has the older root's, if a pass was signed under that before the rotation.
     pub(crate) fn is_signed<'a, F: FieldSource<'a> + Drop>(
         &mut self,
         source: &F,
@@ -36,7 +39,8 @@ impl<S: ClubStore> Desk<S> {
     {
         let mut fields = source.again();
         let current = self.kept.derived(&row.name, &row.root);
-        if is_signed_by(Chain::from_key(&current, identifier), &mut fields) {
+        if is_signed_by(Chain::from_key(current.bytes(), identifier), &mut fields) {
+            self.kept.keep(&row.name, current);
             return Ok(true);
         }
         let key = Key::new(*row, self.store.older_root(&row.name)?);
@@ -44,7 +48,7 @@ impl<S: ClubStore> Desk<S> {
             return Ok(false);
         };
         let mut once_more = source.again();
-        let older = self.kept.derived_before(&row.name, root);
-        Ok(is_signed_by(Chain::from_key(&older, identifier), &mut once_more))
+        let older = self.kept.derived(&row.name, root);
+        Ok(is_signed_by(Chain::from_key(older.bytes(), identifier), &mut once_more))
     }
 }

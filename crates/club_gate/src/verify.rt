@@ -56,7 +56,7 @@ use pass_forms::{Field, FieldSource, Form, FormFault, MAX_BYTES, V1Fields, V2Fie
 use pass_json::laws::{
     reads_any_form_exactly, reads_json_exactly, reads_what_is_wrapped, refuses_what_wraps_nothing,
 };
-use pass_json::read_json;
+use pass_json::{JsonFields, read_json};
 
 // The computed reading of a text is that of the bytes that it wraps, or the fault of its envelope.
 fn reads_by_bytes(text: &[u8])
@@ -221,7 +221,7 @@ impl<S: ClubStore> Desk<S> {
                 Err(fault) => verdict_of_fault(fault),
             },
             Form::Json => match read_json(self.alloc, bytes) {
-                Ok(pass) => self.verdict_of(&pass.fields(), request, moment),
+                Ok(pass) => self.verdict_of(&JsonFields::over(&pass), request, moment),
                 Err(fault) => verdict_of_fault(fault),
             },
         }

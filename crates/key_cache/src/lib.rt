@@ -1,35 +1,68 @@
 //! A cache of derived keys: the 64 that were used last, each with the root it is derived from.
 #![tactic(auto)]
 
-ghost use Rattle.std.specs.Prelude.{◌≡◌, IfSome};
-ghost use Rattle.pass_mac.specs.Chain.{derived_key};
-
 use club_rows::Root;
 use club_values::Name;
 use lru::LruCache;
 use pass_mac::derive;
 use std::alloc::Global;
+use std::marker::Model;
 use std::num::NonZeroUsize;
 
 /// The most entries of the cache.
 pub const MAX_KEPT_KEYS: usize = 64;
 
-/// A root, and its derived key.
+/// A root with its derived key. Contracts see it as the root.
 #[derive(Clone, Copy)]
-struct KeptKey {
+pub struct DerivedKey {
     root: Root,
-    derived: [u8; 32],
-    ghost is_derived: { derived ≡ derived_key root },
+    bytes: [u8; 32],
+}
+
+impl Model for DerivedKey {
+    ghost use Rattle.std.specs.Prelude.{◌≡◌, ℕ, List};
+    ghost use Rattle.pass_mac.specs.Chain.{derived_key};
+
+    ghost Value = { List ℕ };
+
+    ghost view = { λ key. key.root };
+
+    ghost invariant = { λ key. key.bytes ≡ derived_key key.root };
+
+    ghost inverse = { λ root. record { root = root; bytes = derived_key root } };
+}
+
+impl DerivedKey {
+    ghost use Rattle.std.specs.Prelude.{◌≡◌};
+    ghost use Rattle.pass_mac.specs.Chain.{derived_key};
+
+    /// Derives the key of a root.
+    fn of(root: &Root) -> DerivedKey
+        ensures { result ≡ root.now }
+    {
+        DerivedKey {
+            root: *root,
+            bytes: derive(root.as_bytes()),
+        }
+    }
+
+    /// The derived key, 32 bytes.
+    pub fn bytes(&self) -> &[u8; 32]
+        ensures { result.now ≡ derived_key self.now }
+    {
+        &self.bytes
+    }
 }
 
 /// A cache of at most 64 derived keys, by the names of their keys; it keeps those that were used
 /// last. If allocating the cache fails, it stays empty.
 #[derive(Drop)]
 pub struct KeptKeys {
-    cache: Option<LruCache<Name, KeptKey>>,
+    cache: Option<LruCache<Name, DerivedKey>>,
 }
 
 impl KeptKeys {
+    ghost use Rattle.std.specs.Prelude.{◌≡◌, IfSome};
     ghost use Rattle.key_cache.specs.Kept.{IsFresh};
 
     /// An empty cache for 64 keys.
@@ -45,60 +78,31 @@ impl KeptKeys {
     }
 
     /// The cached key of this name, if it is derived from this root.
-    fn kept(&self, name: &Name, root: &Root) -> Option<[u8; 32]>
-        ensures { IfSome result (λ derived. derived ≡ derived_key root.now) }
+    fn kept(&self, name: &Name, root: &Root) -> Option<DerivedKey>
+        ensures { IfSome result (λ key. key ≡ root.now) }
     {
         let kept = self.cache.as_ref()?.peek(name)?;
         if kept.root != *root {
             return None;
         }
-        Some(kept.derived)
+        Some(*kept)
     }
 
-    /// Notes that the cached key of this name was used.
-    fn promote(&mut self, name: &Name) {
+    /// The derived key of a root of the key of this name: from the cache if that holds it, else
+    /// computed. The cache is unchanged.
+    pub fn derived(&self, name: &Name, root: &Root) -> DerivedKey
+        ensures { result ≡ root.now }
+    {
+        self.kept(name, root)
+            .unwrap_or_else(|| DerivedKey::of(root))
+    }
+
+    /// Caches a derived key under this name, in place of any other, as the one used last. If an
+    /// allocation fails the cache is unchanged.
+    pub fn keep(&mut self, name: &Name, key: DerivedKey) {
         if let Some(cache) = &mut self.cache {
-            let _ = cache.promote(name);
+            let _ = cache.put(*name, key);
         }
-    }
-
-    /// Caches a derived key under this name, in place of any other. If an allocation fails the
-    /// cache is unchanged.
-    fn keep(&mut self, name: &Name, root: &Root, derived: [u8; 32])
-        requires { derived ≡ derived_key root.now }
-    {
-        if let Some(cache) = &mut self.cache {
-            let kept = KeptKey {
-                root: *root,
-                derived,
-            };
-            let _ = cache.put(*name, kept);
-        }
-    }
-
-    /// The derived key of an older root, 32 bytes: from the cache if present, else computed. The
-    /// cache is unchanged.
-    pub fn derived_before(&self, name: &Name, root: &Root) -> [u8; 32]
-        ensures { result ≡ derived_key root.now }
-    {
-        match self.kept(name, root) {
-            Some(derived) => derived,
-            None => derive(root.as_bytes()),
-        }
-    }
-
-    /// The derived key of the root of the key of this name, 32 bytes: from the cache if present,
-    /// else computed and cached.
-    pub fn derived(&mut self, name: &Name, root: &Root) -> [u8; 32]
-        ensures { result ≡ derived_key root.now }
-    {
-        if let Some(derived) = self.kept(name, root) {
-            self.promote(name);
-            return derived;
-        }
-        let derived = derive(root.as_bytes());
-        self.keep(name, root, derived);
-        derived
     }
 }
 

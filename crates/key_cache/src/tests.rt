@@ -28,18 +28,27 @@ fn root(rt: &impl Abort, bytes: &[u8; 16]) -> Root {
 }
 
 fn expect_kept(rt: &impl Abort, keys: &KeptKeys, name: &Name, root: &Root, want: Option<[u8; 32]>) {
-    expect_eq(rt, &keys.kept(name, root), &want);
+    expect_eq(rt, &keys.kept(name, root).map(|key| *key.bytes()), &want);
 }
 
-fn expect_derived(rt: &impl Abort, keys: &mut KeptKeys, name: &Name, root: &Root, want: &[u8; 32]) {
-    expect_eq(rt, &keys.derived(name, root), want);
+fn expect_derived(rt: &impl Abort, keys: &KeptKeys, name: &Name, root: &Root, want: &[u8; 32]) {
+    expect_eq(rt, keys.derived(name, root).bytes(), want);
 }
 
-fn expect_older(rt: &impl Abort, keys: &KeptKeys, name: &Name, root: &Root, want: &[u8; 32]) {
-    expect_eq(rt, &keys.derived_before(name, root), want);
+// As the desk does for a root under which a pass is signed.
+fn derive_and_keep(
+    rt: &impl Abort,
+    keys: &mut KeptKeys,
+    name: &Name,
+    root: &Root,
+    want: &[u8; 32],
+) {
+    let key = keys.derived(name, root);
+    expect_eq(rt, key.bytes(), want);
+    keys.keep(name, key);
 }
 
-// The key isn't cached with this root; it is computed, and cached then.
+// The key isn't cached with this root; it is computed, and then kept.
 fn is_derived_anew(
     rt: &impl Abort,
     keys: &mut KeptKeys,
@@ -48,7 +57,7 @@ fn is_derived_anew(
     want: &[u8; 32],
 ) {
     expect_kept(rt, keys, name, root, None);
-    expect_derived(rt, keys, name, root, want);
+    derive_and_keep(rt, keys, name, root, want);
     expect_kept(rt, keys, name, root, Some(*want));
 }
 
@@ -80,7 +89,7 @@ fn keeps_a_key_beside_its_root(rt: HostRuntime) {
 fn derive_many(rt: &impl Abort, keys: &mut KeptKeys, root: &Root, count: u8) {
     for number in 0..count {
         let name = name(rt, &[b'0' + number / 10 % 10, b'0' + number % 10]);
-        expect_derived(rt, keys, &name, root, DERIVED);
+        derive_and_keep(rt, keys, &name, root, DERIVED);
     }
 }
 
@@ -100,25 +109,26 @@ fn keeps_a_key_that_is_used_again(rt: HostRuntime) {
     let root = root(&rt, ROOT);
     let mut keys = KeptKeys::new(rt.alloc());
     derive_many(&rt, &mut keys, &root, 64);
-    expect_derived(&rt, &mut keys, &name(&rt, b"00"), &root, DERIVED);
-    expect_derived(&rt, &mut keys, &name(&rt, b"amy-1"), &root, DERIVED);
+    derive_and_keep(&rt, &mut keys, &name(&rt, b"00"), &root, DERIVED);
+    derive_and_keep(&rt, &mut keys, &name(&rt, b"amy-1"), &root, DERIVED);
     expect_kept(&rt, &keys, &name(&rt, b"00"), &root, Some(*DERIVED));
     expect_kept(&rt, &keys, &name(&rt, b"01"), &root, None);
 }
 
-// The key of an older root isn't cached, and leaves the name's cached key there.
+// A key that is only looked for isn't cached, and the one that was kept stays, as that of the root
+// before a rotation does until a pass is signed under the new one.
 #[test]
-fn keeps_no_older_root(rt: HostRuntime) {
+fn keeps_a_key_until_another_is_kept(rt: HostRuntime) {
     let (root, older) = (root(&rt, ROOT), root(&rt, OTHER_ROOT));
     let name = name(&rt, b"amy-1");
     let mut keys = KeptKeys::new(rt.alloc());
-    expect_older(&rt, &keys, &name, &older, OTHER_DERIVED);
+    derive_and_keep(&rt, &mut keys, &name, &older, OTHER_DERIVED);
+    expect_derived(&rt, &keys, &name, &root, DERIVED);
+    expect_kept(&rt, &keys, &name, &root, None);
+    expect_kept(&rt, &keys, &name, &older, Some(*OTHER_DERIVED));
+    derive_and_keep(&rt, &mut keys, &name, &root, DERIVED);
     expect_kept(&rt, &keys, &name, &older, None);
-    expect_derived(&rt, &mut keys, &name, &root, DERIVED);
-    expect_older(&rt, &keys, &name, &older, OTHER_DERIVED);
-    expect_kept(&rt, &keys, &name, &older, None);
-    expect_kept(&rt, &keys, &name, &root, Some(*DERIVED));
-    expect_older(&rt, &keys, &name, &root, DERIVED);
+    expect_derived(&rt, &keys, &name, &older, OTHER_DERIVED);
 }
 
 // Without memory for the cache each key is computed.
@@ -126,7 +136,7 @@ fn keeps_no_older_root(rt: HostRuntime) {
 fn derives_without_a_cache(rt: HostRuntime) {
     let (name, root) = (name(&rt, b"amy-1"), root(&rt, ROOT));
     let mut keys = KeptKeys { cache: None };
-    expect_derived(&rt, &mut keys, &name, &root, DERIVED);
+    derive_and_keep(&rt, &mut keys, &name, &root, DERIVED);
     expect_kept(&rt, &keys, &name, &root, None);
-    expect_derived(&rt, &mut keys, &name, &root, DERIVED);
+    expect_derived(&rt, &keys, &name, &root, DERIVED);
 }

@@ -1,4 +1,5 @@
-use Rattle.club_gate.proofs.Common.{◌≡◌, refl, sym, ◌∙◌, drop, rules, pass_fields, Plain, is_signed, Key, row_of_key}
+use Rattle.club_gate.proofs.Common.{◌≡◌, refl, sym, ap, ◌∙◌, drop, rules, pass_fields, Plain, is_signed, Key, row_of_key}
+use Rattle.pass_mac.specs.Chain.{derived_key}
 use Rattle.club_gate.proofs.SigningLemmas.{older_of, signed_by}
 use Rattle.club_gate.proofs.StoreReads.{reads}
 use Rattle.club_gate.proofs.desk.Desk.is_signed.Given as given
@@ -10,7 +11,7 @@ by_current : (g : given.Over) (c : After-is_signed_by g) (pass : Plain) (key : K
     → g.F.FieldSource.left c.args.source.now ≡ drop 2 (pass_fields pass) → c.args.row.now ≡ row_of_key key
     → is_signed key.root pass ≡ c.is_signed_by.result
 by_current g c pass key named left same = rw same at (sym (signed_by pass _ _ named (c.again-fields.ensures ∙ left) c.args.row.now.root _ _ _
-    c.derived-current.ensures c.from_key.ensures c.is_signed_by.ensures))
+    (c.bytes.ensures ∙ ap derived_key c.derived-current.ensures) c.from_key.ensures c.is_signed_by.ensures.of_pass))
 
 pub returns-then-is_signed_by : goal.returns-then-is_signed_by
 returns-then-is_signed_by g c = reads g.met.S.ClubStore.sound (search rules) (λ clean club others represents sound pass key named left held same.
@@ -26,6 +27,6 @@ pub returns : goal.returns
 returns g c = reads g.met.S.ClubStore.sound (search rules) (λ clean club others represents sound pass key named left held same.
     let found = c.in_ok-older_root.ensures.returned clean club others (rw (← c.self.view_is) at represents) in
     let older = c.older_root_at.ensures ∙ older_of club key _ _ c.new-key.result c.args.moment held same found c.new-key.ensures in
-    let later = signed_by pass _ _ named (c.again-once_more.ensures ∙ left) c.in-Some.root.now _ _ _ c.derived_before-older.ensures c.from_key-2.ensures
-    c.is_signed_by-2.ensures in
+    let later = signed_by pass _ _ named (c.again-once_more.ensures ∙ left) c.in-Some.root.now _ _ _ (c.bytes-2.ensures ∙ ap derived_key c.derived-older.ensures)
+    c.from_key-2.ensures c.is_signed_by-2.ensures.of_pass in
     rw (by_current g (goal.at.returns g c).After-is_signed_by pass key named left same, c.if-is_signed_by.false, ← older, c.in-Some.is, ← later) refl)
