@@ -10,6 +10,7 @@ use Rattle.club_core.specs.declared.account.MemberAccount.{MemberAccount}
 use Rattle.club_core.specs.declared.pass_fault.PassFault.{PassFault}
 use Rattle.club_core.specs.declared.request.Request.{Request}
 use Rattle.club_core.specs.declared.slot_use.SlotUse.{SlotUse}
+use Rattle.club_core.specs.declared.view.KeyView.{KeyView}
 use Rattle.club_core.specs.declared.view.View.{View}
 use Rattle.club_core.specs.Club.{Club, member_named, facility_named, key_named, bookings_of, is_closed}
 use Rattle.club_core.specs.Request.{request_slot, request_number}
@@ -91,3 +92,11 @@ abbrev pub view_in : Club → List ℕ → Request → ℕ → Option View
 view_in club key request moment =
     option_map (λ (basis : Basis). view_of basis request moment)
     (option_and_then (basis_under club request) (key_named key club))
+
+-- the key of a basis, with its view
+abbrev pub seen_of : Request → ℕ → Basis → KeyView
+seen_of request moment basis = record { key = basis.key; view = view_of basis request moment }
+
+-- the key of this name, with its view of a request at a moment; none if the club has no such key
+abbrev pub key_view_in : Club → List ℕ → Request → ℕ → Option KeyView
+key_view_in club key request moment = option_map (seen_of request moment) (option_and_then (basis_under club request) (key_named key club))

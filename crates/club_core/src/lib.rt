@@ -42,4 +42,4 @@ pub use sheet::sheet_text;
 pub use slot_use::SlotUse;
 pub use store::{ClubStore, StoreFault};
 pub use verdict::Verdict;
-pub use view::View;
+pub use view::{KeyView, View};

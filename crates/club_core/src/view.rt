@@ -4,7 +4,7 @@ ghost use Rattle.std.specs.Prelude.{◌≡◌, is_some};
 ghost use Rattle.club_core.specs.Looks.{bare_view, books_anew as is_new};
 
 use crate::request::Request;
-use club_rows::{Booking, Facility, KeyRow, Member};
+use club_rows::{Booking, Facility, Key, KeyRow, Member};
 use club_values::Moment;
 use pass_caveats::Ask;
 
@@ -28,6 +28,13 @@ pub struct View {
     pub closed: bool,
     /// The key's booking under the request's number.
     pub booking: Option<Booking>,
+}
+
+/// A key, with its older root, and its view of a request.
+#[derive(Clone, Copy, Debug, PartialEq, Eq)]
+pub struct KeyView {
+    pub key: Key,
+    pub view: View,
 }
 
 impl View {

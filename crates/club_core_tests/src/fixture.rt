@@ -2,8 +2,7 @@
 //! and `court-1`.
 
 use crate::values::{name, root};
-use club_core::View;
-use club_reference::KeyView;
+use club_core::{KeyView, View};
 use club_rows::{Booking, Facility, Key};
 use std::process::Abort;
 use test_kit::roots::ROOT;

@@ -18,14 +18,14 @@ use Rattle.club_core.specs.declared.pass_fault.PassFault.{PassFault}
 use Rattle.club_core.specs.declared.request.Request.{Request}
 use Rattle.club_core.specs.declared.slot_use.SlotUse.{SlotUse}
 use Rattle.club_core.specs.Answer.{answer_to}
-use Rattle.club_core.specs.Basis.{Basis}
+use Rattle.club_core.specs.Basis.{Basis, seen_of}
 use Rattle.club_core.specs.Pass.{Pass, Words}
 use Rattle.club_core.specs.Solo.{with_others}
 use Rattle.club_reference.specs.declared.words.Pass.{Pass as PassInCode}
 use Rattle.club_reference.specs.declared.words.Words.{Words as WordsInCode}
 use Rattle.club_reference.specs.Laws.{ModelsWords}
 use Rattle.club_reference.specs.Solo.{with_outside}
-use Rattle.club_reference.specs.Words.{IsModelOf, IsPassModel, IsResultModel, answer_seen, seen_of}
+use Rattle.club_reference.specs.Words.{IsModelOf, IsPassModel, IsResultModel, answer_seen}
 use Rattle.club_reference.specs.computed.Words.{pass_model, pass_result_model, words_model}
 
 Decides-signed : (roots : List (List ℕ)) (root : List ℕ) → Decides (list_any (λ other. bytes_eq other root) roots) (Contains roots root)

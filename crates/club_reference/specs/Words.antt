@@ -6,11 +6,10 @@ use Rattle.club_core.specs.declared.pass_fault.PassFault.{PassFault}
 use Rattle.club_core.specs.declared.refusal.Refusal.TheVariants.{NotVerified}
 use Rattle.club_core.specs.declared.request.Request.{Request}
 use Rattle.club_core.specs.declared.verdict.Verdict.{Verdict}
-use Rattle.club_reference.specs.declared.words.KeyView.{KeyView}
+use Rattle.club_core.specs.declared.view.KeyView.{KeyView}
 use Rattle.club_reference.specs.declared.words.Pass.{Pass as PassInCode}
 use Rattle.club_reference.specs.declared.words.Words.{Words as WordsInCode}
 use Rattle.club_core.specs.Answer.{answer_by_view, ask_of, form_refusal}
-use Rattle.club_core.specs.Basis.{Basis, view_of}
 use Rattle.club_core.specs.Pass.{Pass, Words, is_signed_under}
 use Rattle.club_core.specs.Verdict.{refusal_verdict}
 
@@ -29,10 +28,6 @@ IsResultModel pass model = ⊥
 -- the same request, and the model of the pass
 abbrev pub IsModelOf : WordsInCode → Words → Type 0
 IsModelOf words model = IsResultModel words.pass model.pass × (model.request ≡ words.request)
-
--- the key of a basis, with its view
-abbrev pub seen_of : Request → ℕ → Basis → KeyView
-seen_of request moment basis = record { key = basis.key; view = view_of basis request moment }
 
 -- the answer to a text, by the key that it names and the key's view
 abbrev pub answer_seen : Result Pass PassFault → Request → ℕ → Option KeyView → Verdict

@@ -15,4 +15,4 @@ mod views;
 mod words;
 
 pub use club::Club;
-pub use words::{KeyView, Pass, Words};
+pub use words::{Pass, Words};

@@ -5,8 +5,8 @@ ghost use Rattle.club_core.specs.Office.{rows_seen};
 
 use crate::club::Club;
 use crate::sums::{balance, open_count, persons_in, recorded_booking, spent};
-use crate::words::{KeyView, Words};
-use club_core::{Command, CommandView, Request, SlotUse, View};
+use crate::words::Words;
+use club_core::{Command, CommandView, KeyView, Request, SlotUse, View};
 use club_rows::{Facility, Key, Member};
 use club_values::{Moment, Slot};
 
@@ -25,9 +25,8 @@ fn rows_seen(member: Option<Member>, key: Option<Key>, facility: Option<Facility
 }
 
 impl Club {
-    ghost use Rattle.club_core.specs.Basis.{basis_of, basis_under, slot_use_by};
+    ghost use Rattle.club_core.specs.Basis.{basis_of, basis_under, seen_of, slot_use_by};
     ghost use Rattle.club_core.specs.Office.{command_view};
-    ghost use Rattle.club_reference.specs.Words.{seen_of};
     ghost use Rattle.club_reference.specs.computed.Words.{words_model};
 
     /// The use of a slot: its persons, and whether it is closed; none without a slot.

@@ -5,7 +5,7 @@ ghost use Rattle.std.specs.Option.{option_copied};
 ghost use Rattle.club_core.specs.Pass as rules;
 
 use crate::laws::models_words;
-use club_core::{PassFault, Request, Verdict, View, answer};
+use club_core::{KeyView, PassFault, Request, Verdict, answer};
 use club_rows::{Key, Root};
 use club_values::{Moment, Name};
 use pass_caveats::{Ask, CaveatFault, first_fault};
@@ -27,13 +27,6 @@ pub struct Pass {
 pub struct Words {
     pub pass: Result<Pass, PassFault>,
     pub request: Request,
-}
-
-/// A key with its view of a request.
-#[derive(Clone, Copy, Debug, PartialEq, Eq)]
-pub struct KeyView {
-    pub key: Key,
-    pub view: View,
 }
 
 impl Pass {

@@ -13,7 +13,7 @@ use Rattle.club_core.specs.Club.{Club, bookings_of, key_named, member_named}
 use Rattle.club_core.specs.Laws.{OwnBookings, HasOwnBookings}
 use Rattle.club_core.specs.declared.account.MemberAccount.{MemberAccount}
 use Rattle.club_core.specs.Request.{request_number, request_slot}
-use Rattle.club_core.specs.Basis.{account_named, club_account, state_of, view_in}
+use Rattle.club_core.specs.Basis.{account_named, club_account, key_view_in, state_of}
 use Rattle.club_core.specs.Sums.{balance_of, booking_under, count_to_come, spent_under}
 use Rattle.club_rows.specs.Key.{key_of_row, row_of_key}
 
@@ -39,18 +39,21 @@ accounted club (Some member) account h =
     let same : member ≡ account.member = ap (λ (a : MemberAccount). a.member) (sym e) in
     (ap Some same, ap (λ (a : MemberAccount). a.balance) e ∙ ap (λ (m : Member). balance_of m (bookings_of m.name club)) same)
 
--- the view by all bookings of a key is that by the bookings of its member
+-- the key, with its view by all of its bookings, is as the bookings of its member show it
 pub seen_is : OwnBookings → (club : Club) (name : List ℕ) (key : Key) (account : MemberAccount) (request : Request) (moment : ℕ)
-    → key_named name club ≡ Some key → Some account ≡ account_named key.member club → view_in club name request moment ≡ Some (record {
-      key = row_of_key key;
-      spent = spent_under key.name club.bookings;
-      member = account.member;
-      balance = account.balance;
-      open_count = count_to_come moment (bookings_of account.member.name club);
-      facility = (state_of club (request_slot request)).facility;
-      taken = (state_of club (request_slot request)).held.taken;
-      closed = (state_of club (request_slot request)).held.closed;
-      booking = option_and_then (λ (n : ℕ). booking_under key.name n club.bookings) (request_number request);
+    → key_named name club ≡ Some key → Some account ≡ account_named key.member club → key_view_in club name request moment ≡ Some (record {
+      key = key;
+      view = record {
+        key = row_of_key key;
+        spent = spent_under key.name club.bookings;
+        member = account.member;
+        balance = account.balance;
+        open_count = count_to_come moment (bookings_of account.member.name club);
+        facility = (state_of club (request_slot request)).facility;
+        taken = (state_of club (request_slot request)).held.taken;
+        closed = (state_of club (request_slot request)).held.closed;
+        booking = option_and_then (λ (n : ℕ). booking_under key.name n club.bookings) (request_number request);
+      };
     })
 seen_is law club name key account request moment named owned =
     let there = found (λ (k : Key). bytes_eq k.name name) club.keys key named in

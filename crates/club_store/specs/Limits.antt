@@ -1,11 +1,11 @@
--- The limits of the rows of a view (ours).
+-- The limits of a key and of the rows of its view (ours).
 use Rattle.std.specs.Prelude.{IfSome}
-use Rattle.club_core.specs.declared.view.View.{View}
-use Rattle.club_rows.specs.Rows.{IsMember, IsFacility, IsKeyRow, IsBooking}
+use Rattle.club_core.specs.declared.view.KeyView.{KeyView}
+use Rattle.club_rows.specs.Rows.{IsMember, IsFacility, IsKey, IsBooking}
 
--- the rows of a view are within their limits
-pub record HasLimits (view : View) : Type 0 where
-  pub key : IsKeyRow view.key
-  pub member : IsMember view.member
-  pub facility : IfSome view.facility IsFacility
-  pub booking : IfSome view.booking IsBooking
+-- the key and the rows of its view are within their limits
+pub record HasLimits (seen : KeyView) : Type 0 where
+  pub key : IsKey seen.key
+  pub member : IsMember seen.view.member
+  pub facility : IfSome seen.view.facility IsFacility
+  pub booking : IfSome seen.view.booking IsBooking

@@ -22,7 +22,7 @@ ghost use Rattle.club_core.specs.Club.{Club, bookings_of, empty_club};
 ghost use Rattle.club_core.specs.Club.{key_named, member_named, facility_named};
 ghost use Rattle.club_core.specs.Sheet.{AreRowsOf};
 ghost use Rattle.club_core.specs.Sums.{booking_under, count_to_come, spent_under};
-ghost use Rattle.club_core.specs.Basis.{account_named, slot_use, state_of, view_in};
+ghost use Rattle.club_core.specs.Basis.{account_named, key_view_in, slot_use, state_of};
 ghost use Rattle.club_core.specs.Request.{request_number, request_slot};
 ghost use Rattle.club_rows.specs.Rows.{IsMember, IsFacility, IsKey, IsBooking};
 ghost use Rattle.club_core.specs.declared.change.Change.TheVariants.{
@@ -55,7 +55,7 @@ ghost use Rattle.club_store.specs.Limits.{HasLimits};
 use crate::Remains;
 use crate::remains::remains_of;
 use club_core::laws::own_bookings_suffice;
-use club_core::{Change, MemberAccount, Request, SlotUse, StoreFault, View};
+use club_core::{Change, KeyView, MemberAccount, Request, SlotUse, StoreFault, View};
 use club_rows::{Booking, BookingNumber, Facility, Key, Member, OlderRoot, Root};
 use club_tables::{Rotation, Tables, fault_of};
 use club_values::{Day, Moment, Name, Slot};
@@ -325,18 +325,18 @@ impl<S: Alter> Store<S> {
         }
     }
 
-    /// The view that a key has of a request at a moment: the key's row, what it has spent, its
-    /// booking under the number, its member's row, balance and open bookings, and the slot's state.
-    /// `None` if the key is unknown. A row out of its limits is a fault of storage.
+    /// The key of this name, with its older root, and its view of a request at a moment: what it has
+    /// spent, its booking under the number, its member's row, balance and open bookings, and the
+    /// slot's state. `None` if the key is unknown. A row out of its limits is a fault of storage.
     pub fn view(
         &mut self,
         key: &Name,
         request: &Request,
         moment: Moment,
-    ) -> Result<Option<View>, StoreFault>
+    ) -> Result<Option<KeyView>, StoreFault>
         ensures reads { ReadsClub S.Store self.old self.new result
-            (λ club view. view ≡ view_in club key.now request.now moment) }
-        ensures limits { IfOk result (λ view. IfSome view HasLimits) }
+            (λ club seen. seen ≡ key_view_in club key.now request.now moment) }
+        ensures limits { IfOk result (λ seen. IfSome seen HasLimits) }
     {
         own_bookings_suffice();
         let Some(key) = self.key(key)? else {
@@ -350,7 +350,7 @@ impl<S: Alter> Store<S> {
         let facility = self.facility_for(request)?;
         let SlotUse { taken, closed } = self.use_for(request)?;
         let booking = self.booking_for(&key.name, request)?;
-        Ok(Some(View {
+        let view = View {
             key: key.row(),
             spent,
             member: account.member,
@@ -360,7 +360,8 @@ impl<S: Alter> Store<S> {
             taken: u64::from(taken),
             closed,
             booking,
-        }))
+        };
+        Ok(Some(KeyView { key, view }))
     }
 
     /// Makes a change, in one transaction, if what it says of the club's rows is true. If it isn't,

@@ -6,7 +6,9 @@ use super::rows::{
 };
 use super::write::{Write, change};
 use crate::expect::expect_eq;
-use club_core::{Change, ClubStore, MemberAccount, Request, SlotUse, StoreFault, View, sheet_text};
+use club_core::{
+    Change, ClubStore, KeyView, MemberAccount, Request, SlotUse, StoreFault, sheet_text,
+};
 use club_store::Store;
 use sqlite::{Alter, Connection, MemStore};
 use std::alloc::Global;
@@ -38,6 +40,8 @@ pub(crate) enum Shown {
     /// What `amy-1` sees of a request if all of `BOOKS` was done: so many persons in its slot, and
     /// the booking of its number.
     View(Asked, u64, Option<PlainBooking>),
+    /// The key that comes with a view of the account.
+    ViewKey(Kept),
     /// The sheet of a day.
     Sheet(&'static str, &'static str),
 }
@@ -109,12 +113,20 @@ fn request(rt: &impl Abort, asked: &Asked) -> Request {
 /// The day before the slots.
 const DAY_BEFORE: &str = "2026-04-30T17:00";
 
-/// What `amy-1` sees of a request on the day before the slots.
-fn view<S: Alter>(rt: &impl Abort, store: &mut Store<S>, asked: &Asked) -> View {
+/// What `amy-1` sees of a request on the day before the slots, with the key.
+fn view<S: Alter>(rt: &impl Abort, store: &mut Store<S>, asked: &Asked) -> KeyView {
     let request = request(rt, asked);
     let at = moment(rt, DAY_BEFORE);
     let found = store.view(&name(rt, "amy-1"), &request, at);
     found.expect(rt, "an answer").expect(rt, "a view")
+}
+
+/// The key of a view, with its older root, is this one, and the view has its row.
+fn shows_view_key<S: Alter>(rt: &impl Abort, store: &mut Store<S>, kept: &Kept) {
+    let want = key(rt, kept);
+    let seen = view(rt, store, &Asked::Account);
+    expect_eq(rt, &seen.key, &want);
+    expect_eq(rt, &seen.view.key, &want.row());
 }
 
 /// Of 10,000 points 600 are spent on the court, and of 601 for the room 300 came back.
@@ -122,7 +134,7 @@ fn shows_view<S: Alter>(rt: &impl Abort, store: &mut Store<S>, shown: &Shown) {
     let Shown::View(asked, taken, booked) = shown else {
         return;
     };
-    let view = view(rt, store, asked);
+    let view = view(rt, store, asked).view;
     let account = (view.spent, view.balance, view.open_count);
     expect_eq(rt, &account, &(901, 9_099, 1));
     expect_eq(rt, &(view.taken, view.closed), &(*taken, false));
@@ -183,6 +195,7 @@ fn shows<C: ClubStore>(rt: &(impl Abort + Alloc<A = Global>), store: &mut C, sho
             shows_booking(rt, store, asked, booked);
         }
         Shown::Sheet(date, text) => shows_sheet(rt, store, date, text),
+        Shown::ViewKey(_) => {}
     }
 }
 
@@ -231,6 +244,7 @@ fn plays_any<C: ClubStore>(rt: &(impl Abort + Alloc<A = Global>), store: &mut C,
 fn play<S: Alter>(rt: &(impl Abort + Alloc<A = Global>), store: &mut Store<S>, step: &Step) {
     match step {
         Step::Applies(_) => plays_any(rt, store, step),
+        Step::Shows(Shown::ViewKey(kept)) => shows_view_key(rt, store, kept),
         Step::Shows(shown) => {
             plays_any(rt, store, step);
             shows_view(rt, store, shown);

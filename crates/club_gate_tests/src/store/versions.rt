@@ -63,28 +63,36 @@ const OLDER: Older = Older(ROOT, "2026-04-25T00:00");
 
 static ROTATES: [Step; 1] = [Step::Applies(Write::Rotate("amy-1", OLDER, SECOND_ROOT))];
 
-static ROTATED: [Step; 1] = [Step::Shows(Shown::Key(Kept {
+const ROTATED_ONCE: Kept = Kept {
     name: "amy-1",
     root: SECOND_ROOT,
     older: Some(OLDER),
     revoked: false,
-}))];
+};
+
+static ROTATED: [Step; 2] = [
+    Step::Shows(Shown::Key(ROTATED_ONCE)),
+    Step::Shows(Shown::ViewKey(ROTATED_ONCE)),
+];
 
 #[test]
 fn rotates_a_key_once_migrated(rt: HostRuntime) {
     plays_opened(&rt, Contents::First, &[&ROTATES, &ROTATED]);
 }
 
+const ROTATED_TWICE: Kept = Kept {
+    name: "amy-1",
+    root: THIRD_ROOT,
+    older: Some(Older(SECOND_ROOT, "2099-12-31T23:59")),
+    revoked: false,
+};
+
 /// Of two rotations the second drops the root that the first kept; bookings stay.
-static ROTATES_TWICE: [Step; 4] = [
+static ROTATES_TWICE: [Step; 5] = [
     Step::Applies(Write::Rotate("amy-1", Older(ROOT, "2000-01-01T00:00"), SECOND_ROOT)),
     Step::Applies(Write::Rotate("amy-1", Older(SECOND_ROOT, "2099-12-31T23:59"), THIRD_ROOT)),
-    Step::Shows(Shown::Key(Kept {
-        name: "amy-1",
-        root: THIRD_ROOT,
-        older: Some(Older(SECOND_ROOT, "2099-12-31T23:59")),
-        revoked: false,
-    })),
+    Step::Shows(Shown::Key(ROTATED_TWICE)),
+    Step::Shows(Shown::ViewKey(ROTATED_TWICE)),
     Step::Shows(Shown::View(Asked::Account, 0, None)),
 ];
 
