@@ -12,7 +12,7 @@ ghost use Rattle.club_store.specs.Opening.{OpensFrom};
 
 use crate::Store;
 use sqlite::{FileFrom, FileStore, MemStore, Start};
-use sqlite_disk::Disk;
+use sqlite_disk::{Disk, Fuse, Memory};
 
 /// The file and log of a store after a crash hold a database of one of the store's possible crash
 /// states.
@@ -34,4 +34,15 @@ pub fn one_club_recovered<D: Disk, Q: Start>(
 /// The disk of a store in memory is clean: it returns what was written, and nobody else writes it.
 pub fn memory_disk_is_clean(store: &Store<MemStore>)
     ensures { HasCleanDisk (state over_memory store.now) }
+{}
+
+/// So is the disk of a store over files in memory.
+pub fn disk_of_files_in_memory_is_clean(store: &Store<FileStore<Memory>>)
+    ensures { HasCleanDisk (file_state store.now) }
+{}
+
+/// It stays clean if the files fail from one of their calls on: a crash stops the machine, but no
+/// read returns other bytes than were written.
+pub fn disk_of_files_that_stop_is_clean(store: &Store<FileStore<Fuse<Memory>>>)
+    ensures { HasCleanDisk (file_state store.now) }
 {}

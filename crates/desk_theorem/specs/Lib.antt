@@ -1,1 +1,2 @@
 pub mod Crash
+pub mod FromNothing

@@ -1,11 +1,13 @@
 //! A desk over an empty database in memory. No clause has a premise on the desk or its tables.
 
-ghost use Rattle.std.specs.Prelude.{IfOk, List};
+ghost use Rattle.std.specs.Prelude.{IfErr, IfOk, List};
 ghost use Rattle.club_core.specs.Club.{empty_club};
 ghost use Rattle.club_core.specs.Run as machine;
 ghost use Rattle.club_gate.specs.Events.{AreEventsOf};
 ghost use Rattle.club_gate.specs.Runs.{IsLawfulRun, club_left, responses_of};
 ghost use Rattle.club_gate.specs.Served.{IsLawful, RefusesByFormFault};
+ghost use Rattle.club_store.specs.Opening.{IsMemoryFault};
+ghost use Rattle.desk_theorem.specs.FromNothing.{HandlesFromNothing, RepliesFromNothing};
 
 use club_core::{Reply, StoreFault};
 use club_gate::{Desk, Event, EventReply, Words};
@@ -18,11 +20,14 @@ use std::alloc::Global;
 ///
 /// # Errors
 ///
-/// Memory was refused, or storage, before the first event.
+/// Before the first event: there was no memory, or the tables weren't made.
 pub fn run_from_nothing(alloc: Global, events: &[Event]) -> Result<Vec<EventReply>, StoreFault>
     ensures lawful { IfOk result (λ replies. (seen : List machine.Event)
         → AreEventsOf events.now seen
         → IsLawfulRun empty_club seen (responses_of replies.items)) }
+    // Each event was answered by one step, or the store failed in it, as at `ask` and `office`.
+    ensures handled { IfOk result (λ replies. HandlesFromNothing events.now replies.items) }
+    ensures fault { IfErr result IsMemoryFault }
 {
     empty_is_sound();
     let store = Store::open_in_memory(alloc)?;
@@ -45,7 +50,7 @@ pub struct RunAndReply {
 ///
 /// # Errors
 ///
-/// Memory was refused, or storage, before the first event.
+/// Before the first event: there was no memory, or the tables weren't made.
 pub fn reply_from_nothing(
     alloc: Global,
     events: &[Event],
@@ -60,6 +65,11 @@ pub fn reply_from_nothing(
         → AreEventsOf events.now seen
         → IsLawful (club_left empty_club seen (responses_of returned.replies.items))
         words.now.pass.now words.now.request moment returned.reply) }
+    // Each event was answered by one step, or the store failed in it; and if the reply is
+    // `Unavailable`, the store failed, or there was no memory for a text in JSON.
+    ensures handled { IfOk result (λ returned. RepliesFromNothing events.now
+        returned.replies.items words.now.pass.now words.now.request moment returned.reply) }
+    ensures fault { IfErr result IsMemoryFault }
     // Even without memory, a text that is no pass in V1 or V2 is refused for that.
     ensures in_place { IfOk result
         (λ returned. RefusesByFormFault words.now.pass.now returned.reply) }

@@ -9,4 +9,11 @@ returns-in-Ok c = record {
   lawful =
       c.in-Ok.ensures.lawful (memory_is_clean c.run.new.self) empty_club []
       (rw c.new-desk.ensures (All-cons IsSound empty_club [] c.empty_is_sound.ensures (All-nil IsSound), c.in_ok-store.ensures.opened));
+  handled = record {
+    start = c.new-desk.result;
+    last = c.run.new.self;
+    empty = rw c.new-desk.ensures c.in_ok-store.ensures.opened;
+    handled = c.in-Ok.ensures.handled;
+  };
+  fault = tt;
 }

@@ -1,0 +1,48 @@
+-- How a desk over a new database in memory handles a list of events, and a request after it (ours).
+use Rattle.std.specs.Prelude.{◌≡◌, ◌⊎◌, ℕ, List, [], Option}
+use Rattle.sqlite.specs.declared.MemStore.{MemStore}
+use Rattle.sqlite.specs.Held.{Held, state}
+use Rattle.sqlite.specs.State.{HasCleanDisk}
+use Rattle.sqlite.specs.Steps.{over_memory}
+use Rattle.club_core.specs.declared.change.Change.{Change}
+use Rattle.club_core.specs.declared.reply.Reply.{Reply}
+use Rattle.club_core.specs.declared.request.Request.{Request}
+use Rattle.club_core.specs.declared.store.StoreFault.{StoreFault}
+use Rattle.club_core.specs.Club.{Club, empty_club}
+use Rattle.club_core.specs.Run as machine
+use Rattle.club_tables.specs.Tables.{Represents}
+use Rattle.club_tables.specs.ReadsAndChanges.{sound_in}
+use Rattle.club_store.specs.Failing.{Fails}
+use Rattle.club_gate.specs.declared.event.Event.{Event}
+use Rattle.club_gate.specs.declared.event.EventReply.{EventReply}
+use Rattle.club_gate.specs.Desk.{FailsForCause}
+use Rattle.club_gate.specs.Events.{AreEventsOf}
+use Rattle.club_gate.specs.Runs.{AreHandled, club_left, responses_of}
+
+-- a connection to a database in memory
+abbrev pub InMemory : Type 0
+InMemory = Held MemStore
+
+-- why a read (`None`) or a change failed there
+abbrev pub fails_in_memory : Option Change → InMemory → StoreFault → InMemory → Type 0
+fails_in_memory = Fails over_memory
+
+-- the events were handled one after the other: each was answered by a step, or the store itself failed in it
+abbrev pub AreHandledInMemory : InMemory → List Event → List EventReply → InMemory → Type 0
+AreHandledInMemory = AreHandled (λ held. HasCleanDisk (state over_memory held)) (sound_in over_memory) fails_in_memory
+
+-- the tables of an empty club in memory handled the events
+pub record HandlesFromNothing (events : List Event) (replies : List EventReply) : Type 0 where
+  pub start : InMemory
+  pub last : InMemory
+  pub empty : Represents (state over_memory start) empty_club []
+  pub handled : AreHandledInMemory start events replies last
+
+-- the same, and then a request: if its reply is `Unavailable`, the store itself failed, at a read or at the change of the request; or the text is
+-- JSON, and the store is unchanged
+pub record RepliesFromNothing (events : List Event) (replies : List EventReply) (text : List ℕ) (request : Request) (moment : ℕ) (reply : Reply)
+    : Type 0 where
+  pub run : HandlesFromNothing events replies
+  pub after : InMemory
+  pub cause : (seen : List machine.Event) → AreEventsOf events seen
+      → FailsForCause fails_in_memory run.last after (club_left empty_club seen (responses_of replies)) text request moment reply
