@@ -9,6 +9,8 @@ mod at_once;
 #[cfg(test)]
 mod caveats;
 #[cfg(test)]
+mod commands;
+#[cfg(test)]
 mod counter;
 #[cfg(test)]
 mod expect;

@@ -1,4 +1,4 @@
-//! The desk reads of its store what an answer needs, and no more.
+//! The desk reads of its store what an answer needs, and no more, and its change is the last call.
 
 use crate::counter::{carry_out, furnish, reply};
 use crate::expect::{expect_eq, expect_row};
@@ -280,7 +280,8 @@ static ROTATED: [Row; 3] = [
     ),
 ];
 
-/// The reply to a row's request, and what the desk asked of its store for it.
+/// The reply to a row's request, and what the desk asked of its store for it. Ends the test if the
+/// store is called after a change.
 fn reply_and_calls<S: ClubStore + Drop>(
     rt: &(impl Abort + Alloc<A = Global>),
     mut desk: Desk<Refusing<S>>,
@@ -290,6 +291,7 @@ fn reply_and_calls<S: ClubStore + Drop>(
     let text = shown.text(rt, form);
     let reply = reply(rt, &mut desk, NOON, text.as_bytes(), asked);
     let store = desk.into_store();
+    expect_eq(rt, &store.order.goes_on_after_a_change, &false);
     (reply, store.asked)
 }
 

@@ -3,7 +3,7 @@
 use crate::counter::{furnish, reply};
 use crate::expect::{expect_eq, expect_row};
 use crate::passes::AMY;
-use crate::refusing::{NONE, Refusing};
+use crate::refusing::Refusing;
 use crate::scene::{Scene, play};
 use crate::values::{name, root};
 use club_core::{ClubStore, OfficeFault, Refusal, Reply, StoreFault};
@@ -36,14 +36,9 @@ fn failing_desk<S: ClubStore>(
     desk: Desk<S>,
     failure: &Failure,
 ) -> Desk<Refusing<S>> {
-    let store = Refusing {
-        store: furnish(rt, desk, Form::V2).desk.into_store(),
-        asked: NONE,
-        calls: 0,
-        first: failure.first,
-        fault: failure.fault,
-    };
-    Desk::new(rt.alloc(), store)
+    let store = furnish(rt, desk, Form::V2).desk.into_store();
+    let failing = Refusing::from_call(failure.first, failure.fault, store);
+    Desk::new(rt.alloc(), failing)
 }
 
 /// A booking is unavailable.

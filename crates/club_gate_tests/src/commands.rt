@@ -1,0 +1,167 @@
+//! What the desk asks of its store for a command of the office, call by call: what the command
+//! depends on, and then its change. The commit is the last call.
+
+use crate::counter::furnish;
+use crate::expect::{expect_eq, expect_row};
+use crate::refusing::{Call, Order, Refusing};
+use crate::scene::{Scene, play};
+use club_core::{ClubStore, OfficeFault};
+use club_gate::{Desk, Fault, OfficeReply};
+use club_values::Kind;
+use pass_forms::Form;
+use std::alloc::Global;
+use std::process::Abort;
+use std::test::*;
+use test_kit::minutes::UNTIL;
+use test_kit::roots::{ROOT, SECOND_ROOT};
+use test_kit::{COURT_AT_18, PlainCommand, PlainSlot};
+
+/// A command, whether it is carried out or why not, and the calls of the store in their order.
+type Row = (PlainCommand, Option<OfficeFault>, &'static [Call]);
+
+const NOWHERE: PlainSlot = PlainSlot {
+    facility: "court-9",
+    ..COURT_AT_18
+};
+
+// The fixture has amy with the key `amy-1`, and `court-1`.
+static DONE: [Row; 7] = [
+    (
+        PlainCommand::AddMember("cy", 1),
+        None,
+        &[Call::Account, Call::Change],
+    ),
+    (
+        PlainCommand::Credit("amy", 1),
+        None,
+        &[Call::Account, Call::Change],
+    ),
+    (
+        PlainCommand::AddFacility("boat-1", Kind::Boat, 2, 100, 8, 20),
+        None,
+        &[Call::Facility, Call::Change],
+    ),
+    (
+        PlainCommand::AddKey("amy-2", "amy", ROOT),
+        None,
+        &[Call::Account, Call::Key, Call::Change],
+    ),
+    (
+        PlainCommand::RevokeKey("amy-1"),
+        None,
+        &[Call::Key, Call::OlderRoot, Call::Change],
+    ),
+    (
+        PlainCommand::RotateKey("amy-1", SECOND_ROOT, UNTIL),
+        None,
+        &[Call::Key, Call::OlderRoot, Call::Change],
+    ),
+    (
+        PlainCommand::CloseSlot(COURT_AT_18),
+        None,
+        &[Call::Facility, Call::Slot, Call::Change],
+    ),
+];
+
+// A command that is refused changes nothing.
+static REFUSED: [Row; 7] = [
+    (
+        PlainCommand::AddMember("amy", 1),
+        Some(OfficeFault::Exists),
+        &[Call::Account],
+    ),
+    (
+        PlainCommand::Credit("cy", 1),
+        Some(OfficeFault::Unknown),
+        &[Call::Account],
+    ),
+    (
+        PlainCommand::AddFacility("court-1", Kind::Boat, 2, 100, 8, 20),
+        Some(OfficeFault::Exists),
+        &[Call::Facility],
+    ),
+    (
+        PlainCommand::AddKey("amy-1", "amy", ROOT),
+        Some(OfficeFault::Exists),
+        &[Call::Account, Call::Key, Call::OlderRoot],
+    ),
+    (
+        PlainCommand::RevokeKey("amy-9"),
+        Some(OfficeFault::Unknown),
+        &[Call::Key],
+    ),
+    (
+        PlainCommand::RotateKey("amy-1", ROOT, UNTIL),
+        Some(OfficeFault::Exists),
+        &[Call::Key, Call::OlderRoot],
+    ),
+    (
+        PlainCommand::CloseSlot(NOWHERE),
+        Some(OfficeFault::Unknown),
+        &[Call::Facility, Call::Slot],
+    ),
+];
+
+/// The answer to a command at the desk of the fixture, the order of the store's calls for it, and
+/// how many there were.
+fn answer_and_order<S: ClubStore + Drop>(
+    rt: &(impl Abort + Alloc<A = Global>),
+    desk: Desk<S>,
+    plain: &PlainCommand,
+) -> (OfficeReply, Order, u32) {
+    let store = furnish(rt, desk, Form::V2).desk.into_store();
+    let mut desk = Desk::new(rt.alloc(), Refusing::never(store));
+    let answer = desk.office(&plain.command().expect(rt, "a command"));
+    let store = desk.into_store();
+    (answer, store.order, store.calls)
+}
+
+/// Ends the test unless these are the calls.
+fn expect_calls(rt: &impl Abort, order: &Order, calls: u32, want: &[Call]) {
+    expect_eq(rt, &(calls as usize), &want.len());
+    for (place, call) in want.iter().enumerate() {
+        expect_row(rt, place, &order.at(place), &Some(*call));
+    }
+}
+
+/// The fault of an answer, if it is one of the rules.
+fn fault_of(answer: &OfficeReply) -> Option<OfficeFault> {
+    match answer {
+        OfficeReply::Refused(Fault::Refused(fault)) => Some(*fault),
+        _ => None,
+    }
+}
+
+/// A row over a desk of the fixture.
+#[derive(Clone, Copy)]
+struct Commanded<'a> {
+    place: usize,
+    row: &'a Row,
+}
+
+impl Scene for Commanded<'_> {
+    fn play<S: ClubStore + Drop>(&self, rt: &(impl Abort + Alloc<A = Global>), desk: Desk<S>) {
+        let (plain, fault, want) = self.row;
+        let (answer, order, calls) = answer_and_order(rt, desk, plain);
+        expect_row(rt, self.place, &fault_of(&answer), fault);
+        let is_refused = matches!(answer, OfficeReply::Refused(_));
+        expect_row(rt, self.place, &is_refused, &fault.is_some());
+        expect_calls(rt, &order, calls, want);
+    }
+}
+
+fn are_called(rt: &(impl Abort + Alloc<A = Global>), rows: &[Row]) {
+    for (place, row) in rows.iter().enumerate() {
+        play(rt, &Commanded { place, row });
+    }
+}
+
+#[test]
+fn the_change_of_a_command_is_the_last_call(rt: HostRuntime) {
+    are_called(&rt, &DONE);
+}
+
+#[test]
+fn a_refused_command_only_reads(rt: HostRuntime) {
+    are_called(&rt, &REFUSED);
+}
