@@ -1,8 +1,11 @@
 -- The reply to what was received is also the reply to all that the reader would give.
-use Rattle.std.proofs.Common.{ℕ, inl, inr, List, ◌++◌, Option, Some, None, Ok, Err, append-nil, IfSome}
+use Rattle.std.proofs.Common.{ℕ, inl, inr, List, ◌++◌, Option, Some, None, Result, Ok, Err, append-nil, IfSome}
 use Rattle.club_core.specs.declared.reply.Reply.{Reply}
 use Rattle.http_request.specs.Frame.{IsWhole}
 use Rattle.http_request.specs.Laws.{WholeKeepsItsReading, BodyStays}
+use Rattle.club_http.specs.declared.fault.AnswerFault.{AnswerFault}
+use Rattle.club_http.specs.declared.fault.AnswerFault.TheVariants.{Read, Write}
+use Rattle.club_http.specs.Exchange.{Exchanges, Replies}
 use Rattle.club_http.specs.Received.{Receives}
 use Rattle.club_http.specs.Replied.{AnswerRelation, IsReplied, parser_refusal, desk_reply, out_of_memory}
 
@@ -25,3 +28,28 @@ replied_to_all Answers (Some all) (Some rest) bytes old reply new keeps stays re
   | inl whole ↦ rw received.came (replied_more Answers bytes rest old reply new keeps stays whole replied)
   | inr none ↦ rw (received.came, none, append-nil) replied
 ]
+
+-- an exchange whose request was received, and whose reply is also that to all that the reader would give
+pub exchanged_to_all : {Desk : Type 0} (Answers : AnswerRelation Desk) (before after : Option (List ℕ)) (bytes : List ℕ) (old new : Desk) (Unasked : Type 0)
+    (Writes : List ℕ → Type 0) → WholeKeepsItsReading → BodyStays → Receives before after bytes → (outcome : Result Reply AnswerFault)
+    → Exchanges (λ reply. IsReplied Answers bytes old reply new) ⊥ Writes outcome
+    → Exchanges (λ reply. Replies Answers before after bytes old reply new) Unasked Writes outcome
+exchanged_to_all Answers before after bytes old new Unasked Writes keeps stays received (Ok reply) (replied, written) = (
+  record {
+    receives = received;
+    reply_is = replied;
+    to_all = replied_to_all Answers before after bytes old reply new keeps stays received replied;
+  },
+  written,
+)
+exchanged_to_all Answers before after bytes old new Unasked Writes keeps stays received (Err Read) never = absurd never
+exchanged_to_all Answers before after bytes old new Unasked Writes keeps stays received (Err (Write n)) (reply, replied, fewer, written) = (
+  reply,
+  record {
+    receives = received;
+    reply_is = replied;
+    to_all = replied_to_all Answers before after bytes old reply new keeps stays received replied;
+  },
+  fewer,
+  written,
+)

@@ -1,11 +1,12 @@
--- The calls by which a reader gives a request (ours).
+-- The calls by which a reader gives a request, and by which a writer takes a reply (ours).
 use Rattle.std.specs.Prelude.{◌⊎◌, ℕ, ◌<◌, ◌≤◌, List, [], ◌++◌, length, take, Option, Some, None}
 use Rattle.http_request.specs.Frame.{IsWhole}
 use Rattle.http_request.specs.Limits.{max_request_len}
 
--- what a call does: the reader before, how many bytes it returns, what the buffer holds, and the reader after
+-- What a call does: the reader or writer before, how many bytes it returns, what the buffer of a read holds or what a write was given, and the
+-- reader or writer after.
 abbrev pub Call : Type 0 → Type 1
-Call Reader = Reader → Option ℕ → List ℕ → Reader → Type 0
+Call End = End → Option ℕ → List ℕ → End → Type 0
 
 -- the reader gave the bytes in calls that each gave some, and no call was made once the request was whole
 pub data Gives {Reader : Type 0} (Fills : Call Reader) (old : Reader) : List ℕ → Reader → Type 0 where
@@ -26,3 +27,8 @@ pub record EndsWithNone {Reader : Type 0} (Fills : Call Reader) (old : Reader) (
 pub record ReadsNoFurther {Reader : Type 0} (Fills : Call Reader) (old : Reader) (bytes : List ℕ) (new : Reader) : Type 0 where
   pub within : length bytes ≤ max_request_len
   pub calls : Gives Fills old bytes new ⊎ EndsWithNone Fills old bytes new
+
+-- calls of the writer, one after the other, and nothing else
+pub data ArePut {Writer : Type 0} (Puts : Call Writer) (old : Writer) : Writer → Type 0 where
+  not_put : ArePut Puts old old
+  put_again : (result : Option ℕ) (bytes : List ℕ) (mid new : Writer) → ArePut Puts old mid → Puts mid result bytes new → ArePut Puts old new

@@ -29,6 +29,7 @@ pub trait Inlet {
 /// What a reply is written to.
 pub trait Outlet {
     ghost use Rattle.std.specs.Prelude.{◌≡◌, ◌≤◌, ℕ, List, length, Option, IfSome};
+    ghost use Rattle.club_http.specs.Calls.{Call};
     ghost use Rattle.club_http.specs.Ends.{Takes, put_failures};
 
     // the bytes that it took, if they are known
@@ -37,11 +38,15 @@ pub trait Outlet {
     // how often a call failed, or took none of some bytes
     ghost failures: { Self → ℕ };
 
+    // what one call does with the bytes that it is given, as far as it is known
+    ghost puts: { Call Self };
+
     /// Takes the first of the bytes, and returns how many. `None` means that the call failed.
     fn put(&mut self, bytes: &[u8]) -> Option<usize>
         ensures within { IfSome result (λ n. n ≤ length bytes.now) }
         ensures bytes { Takes (taken self.old) (taken self.new) result bytes.now }
-        ensures counted { failures self.new ≡ put_failures (failures self.old) result bytes.now };
+        ensures counted { failures self.new ≡ put_failures (failures self.old) result bytes.now }
+        ensures called { puts self.old result bytes.now self.new };
 }
 
 /// An inlet over a reader of `std`, such as a connection.
@@ -108,9 +113,14 @@ impl<W: Write> WriteOutlet<W> {
 }
 
 impl<W: Write> Outlet for WriteOutlet<W> {
+    ghost use Rattle.club_http.specs.Ends.{Takes};
+
     ghost taken = { λ outlet. W.contents outlet.writer };
 
     ghost failures = { λ outlet. outlet.failures };
+
+    ghost puts = { λ old result bytes new.
+        Takes (W.contents old.writer) (W.contents new.writer) result bytes };
 
     fn put(&mut self, bytes: &[u8]) -> Option<usize> {
         match self.writer.write(bytes) {

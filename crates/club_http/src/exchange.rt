@@ -1,9 +1,8 @@
 //! One exchange: a request in, a reply out.
 
-ghost use Rattle.std.specs.Prelude.{◌≡◌, Err, IfNone, IfSome};
+ghost use Rattle.std.specs.Prelude.{◌≡◌, Err};
 ghost use Rattle.std.specs.Io.KnownBytes.{Appends};
 ghost use Rattle.club_http.specs.Calls.{ReadsNoFurther};
-ghost use Rattle.club_http.specs.Ends.{read_failures};
 ghost use Rattle.club_http.specs.Received.{IsCutOff};
 ghost use Rattle.club_http.specs.Exchange.{Replies, Exchanges, reader_failures, writer_failures};
 
@@ -11,7 +10,6 @@ use crate::ends::{Inlet, Outlet};
 use crate::face::Face;
 use crate::fault::AnswerFault;
 use crate::responder::Responder;
-use crate::send::send_reply;
 use club_core::Reply;
 use club_values::Moment;
 use http_request::laws::{body_stays, whole_keeps_its_reading};
@@ -49,31 +47,10 @@ pub fn answer<D: Responder, R: Inlet, W: Outlet>(
     ensures reads { R.failures reader.new ≡ reader_failures (R.failures reader.old) result }
     ensures writes { W.failures writer.new ≡ writer_failures (W.failures writer.old) result }
 {
-    let reply = reply_in(face, desk, moment, reader).ok_or(AnswerFault::Read)?;
-    send_reply(&reply, writer).map_err(AnswerFault::Write)?;
-    Ok(reply)
-}
-
-// Reads a request, and returns the reply; `None` if the reader fails before it is whole.
-fn reply_in<D: Responder, R: Inlet>(
-    face: &mut Face,
-    desk: &mut D,
-    moment: Moment,
-    reader: &mut R,
-) -> Option<Reply>
-    ensures replied { IfSome result (λ reply. Replies (D.answers moment)
-        (R.to_come reader.old) (R.to_come reader.new) face.new desk.old reply desk.new) }
-    ensures cut_off { IfNone result (IsCutOff (R.to_come reader.old) (R.to_come reader.new)
-        face.new × (desk.new ≡ desk.old)) }
-    ensures calls { ReadsNoFurther R.fills reader.old face.new reader.new }
-    ensures counted { R.failures reader.new ≡ read_failures (R.failures reader.old) result }
-{
-    match face.receive(reader) {
-        Some(scan) => {
-            whole_keeps_its_reading();
-            body_stays();
-            Some(face.reply(&scan, desk, moment))
-        }
-        None => None,
-    }
+    let Some(scan) = face.receive(reader) else {
+        return Err(AnswerFault::Read);
+    };
+    whole_keeps_its_reading();
+    body_stays();
+    face.respond(&scan, desk, moment, writer)
 }

@@ -1,16 +1,20 @@
 //! The face of the desk: the routes and the buffer that its exchanges share.
 
 ghost use Rattle.std.specs.Prelude.{◌≡◌, ◌↔◌, [], IfNone, IfOk, IfSome, IsTrue};
+ghost use Rattle.std.specs.Io.KnownBytes.{Appends};
 ghost use Rattle.http_request.specs.Frame.{IsOneRequest};
 ghost use Rattle.http_request.specs.Front.{Covers};
-ghost use Rattle.club_http.specs.Calls.{ReadsNoFurther};
+ghost use Rattle.club_http.specs.Calls.{ArePut, ReadsNoFurther};
 ghost use Rattle.club_http.specs.Ends.{read_failures};
+ghost use Rattle.club_http.specs.Exchange.{Exchanges, writer_failures};
 ghost use Rattle.club_http.specs.Received.{IsCutOff, Receives};
 ghost use Rattle.club_http.specs.Replied.{IsReplied};
 
-use crate::ends::Inlet;
+use crate::ends::{Inlet, Outlet};
+use crate::fault::AnswerFault;
 use crate::receive::receive;
 use crate::responder::Responder;
+use crate::send::send_reply;
 use club_core::Reply;
 use club_values::Moment;
 use http_request::{HeadScan, MAX_REQUEST_LEN, Routes, words_by_scan};
@@ -116,6 +120,36 @@ impl Face {
         ensures { IsReplied (D.answers moment) self.now desk.old result desk.new }
     {
         reply_to(&self.routes, self.request(), scan, desk, moment)
+    }
+
+    /// Asks the desk for the reply to the request that the face holds, with the scan that covers it,
+    /// and writes its text: the second step of an exchange, after `receive`.
+    ///
+    /// # Errors
+    ///
+    /// `Write(n)` if the writer failed or took nothing: it took the first n bytes of the reply's
+    /// text, and the desk's decision is not undone.
+    pub fn respond<D: Responder, W: Outlet>(
+        &self,
+        scan: &HeadScan,
+        desk: &mut D,
+        moment: Moment,
+        writer: &mut W,
+    ) -> Result<Reply, AnswerFault>
+        requires { Covers scan.now self.now }
+        ensures exchanged { Exchanges
+            (λ reply. IsReplied (D.answers moment) self.now desk.old reply desk.new)
+            ⊥
+            (Appends (W.taken writer.old) (W.taken writer.new))
+            result }
+        ensures calls { ArePut W.puts writer.old writer.new }
+        ensures writes { W.failures writer.new ≡ writer_failures (W.failures writer.old) result }
+    {
+        let reply = self.reply(scan, desk, moment);
+        match send_reply(&reply, writer) {
+            Ok(()) => Ok(reply),
+            Err(sent) => Err(AnswerFault::Write(sent)),
+        }
     }
 
     /// Whether what the face holds is one request, with nothing after it.

@@ -1,5 +1,6 @@
 //! Writes a reply to an outlet.
 
+ghost use Rattle.club_http.specs.Calls.{ArePut};
 ghost use Rattle.club_http.specs.Ends.{TakesAll};
 ghost use Rattle.http_response.specs.Text.{reply_text};
 
@@ -13,8 +14,9 @@ use http_response::{MAX_REPLY_LEN, reply_bytes};
 ///
 /// How many bytes the writer took before it failed or took nothing.
 pub fn put_all<W: Outlet>(writer: &mut W, bytes: &[u8]) -> Result<(), usize>
-    ensures { TakesAll (W.taken writer.old) (W.taken writer.new)
+    ensures written { TakesAll (W.taken writer.old) (W.taken writer.new)
         (W.failures writer.old) (W.failures writer.new) bytes.now result }
+    ensures calls { ArePut W.puts writer.old writer.new }
 {
     let mut sent = 0;
     while sent < bytes.len() {
@@ -32,8 +34,9 @@ pub fn put_all<W: Outlet>(writer: &mut W, bytes: &[u8]) -> Result<(), usize>
 ///
 /// How many bytes of the text the writer took before it failed or took nothing.
 pub fn send_reply<W: Outlet>(reply: &Reply, writer: &mut W) -> Result<(), usize>
-    ensures { TakesAll (W.taken writer.old) (W.taken writer.new)
+    ensures written { TakesAll (W.taken writer.old) (W.taken writer.new)
         (W.failures writer.old) (W.failures writer.new) (reply_text reply.now) result }
+    ensures calls { ArePut W.puts writer.old writer.new }
 {
     let mut room = [0; MAX_REPLY_LEN];
     let len = reply_bytes(reply, &mut room);

@@ -1,9 +1,18 @@
-use Rattle.std.proofs.Common.{◌≡◌, ◌-◌, take, drop, length, arith}
+use Rattle.std.proofs.Common.{◌≡◌, ◌-◌, take, drop, length, arith, refl}
 use Rattle.std.proofs.Math.Seq.{take-add}
 use Rattle.std.proofs.lemmas.Grind.{common_steps}
 use Rattle.std.proofs.lemmas.List.{take_all}
-use Rattle.std.proofs.KnownBytes.{Appends-trans}
+use Rattle.std.proofs.KnownBytes.{Appends-nil, Appends-trans}
+use Rattle.club_http.specs.Calls.{not_put, put_again}
 use Rattle.club_http.proofs.send.put_all.Goals as goal
+
+pub loop-sent-init : goal.loop-sent-init
+loop-sent-init g c = record {
+  within = omega arith;
+  put = Appends-nil _;
+  counted = refl;
+  calls = not_put;
+}
 
 pub loop-sent-preserved : goal.loop-sent-preserved
 loop-sent-preserved g c =
@@ -15,4 +24,11 @@ loop-sent-preserved g c =
       within = grind (arith, common_steps);
       put = rw (take-add sent c.in-Some.taken bytes) (Appends-trans _ _ _ _ _ c.loop-sent.invariant.put more);
       counted = grind (arith, common_steps);
+      calls = put_again _ _ _ _ c.loop-sent.invariant.calls c.in-Some.ensures.called;
     }
+
+pub returns-in_default-clause-calls : goal.returns-in_default-clause-calls
+returns-in_default-clause-calls g c = put_again _ _ _ _ c.loop-sent.invariant.calls c.put.ensures.called
+
+pub returns-in_default-2-clause-calls : goal.returns-in_default-2-clause-calls
+returns-in_default-2-clause-calls g c = put_again _ _ _ _ c.loop-sent.invariant.calls c.put.ensures.called
