@@ -41,6 +41,8 @@ impl Outlet for Kept {
 
     ghost failures = { λ writer. writer.failures };
 
+    ghost puts = { λ _ _ _ _. Unit {0} };
+
     fn put(&mut self, bytes: &[u8]) -> Option<usize> {
         let n = bytes.len().min(MAX_REPLY_LEN - self.len);
         if n == 0 && !bytes.is_empty() {

@@ -1,4 +1,7 @@
 //! One HTTP/1.1 exchange with the desk: it reads a request, asks the desk, and writes the reply.
+//!
+//! It names again what a program over it uses of the crates below: the desk and its commands, the
+//! values and rows that they are made of, and the lines of a reply's status.
 #![tactic(auto)]
 
 mod desk;
@@ -10,12 +13,17 @@ mod receive;
 mod responder;
 mod send;
 
-pub use club_gate::Desk;
+pub use club_core::{
+    ClubStore, Command, OfficeAnswer, OfficeFault, Refusal, Reply, Request, StoreFault,
+};
+pub use club_gate::{Desk, OfficeReply, key_signature, minted};
+pub use club_rows::Root;
+pub use club_values::{Day, Hour, Kind, Moment, Name, Slot};
 pub use ends::{Inlet, Outlet, ReadInlet, WriteOutlet};
 pub use exchange::answer;
 pub use face::Face;
 pub use fault::AnswerFault;
 pub use http_request::{HeadScan, MAX_REQUEST_LEN, Routes, Words, words_of};
-pub use http_response::{MAX_REPLY_LEN, reply_bytes};
+pub use http_response::{Line, MAX_REPLY_LEN, reply_bytes, status_of};
 pub use responder::Responder;
 pub use send::{put_all, send_reply};

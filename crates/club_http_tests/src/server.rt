@@ -13,6 +13,7 @@ mod limits;
 mod logs;
 mod over_sockets;
 mod request_lines;
+mod told;
 mod zones;
 
 use crate::expect::{expect_eq, expect_shown};
@@ -20,7 +21,7 @@ use crate::rows::{expect_row, moment};
 use club_clock::{Fixed, Moments};
 use club_http::Face;
 use desk_server::{
-    Accepted, Arrival, Arrivals, ClientSocket, ClockOutOfRange, Listening, Unlogged, serve_logged,
+    Accepted, Arrival, Arrivals, ClientSocket, ClockOutOfRange, Listening, serve_on,
 };
 use doubles::{Countdown, Noting, Script, Wire};
 use std::alloc::Global;
@@ -58,7 +59,7 @@ fn serves_with<L: Arrivals, M: Moments>(
     desk: &mut Noting,
 ) -> Result<(), ClockOutOfRange> {
     let mut face = Face::new(rt.alloc()).expect(rt, "a face");
-    serve_logged(arrivals, count, moments, &mut face, desk, &mut Unlogged)
+    serve_on(arrivals, count, moments, &mut face, desk)
 }
 
 /// So many of these connections are served, and how many requests the desk is asked at noon.

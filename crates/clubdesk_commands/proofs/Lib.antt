@@ -1,3 +1,4 @@
 pub mod RunLemmas
 pub mod HandedLemmas
 pub mod MachineLemmas
+pub mod SocketLemmas

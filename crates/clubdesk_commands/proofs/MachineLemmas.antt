@@ -138,11 +138,12 @@ module _ {S : Type 0} (Clean : S → Type 0) (Represents : S → Club → List C
     }
     replies reply (replied.out_of_memory holds is kept) = same kept (λ club. replied.out_of_memory holds is refl)
 
-    exchanges : {old new : S} (outcome : Result Reply AnswerFault) → IsExchanged (AnswersBy Clean Represents Fails moment) bytes old outcome new
-        → Simulates old new (λ club next. IsExchanged (machine_answers moment) bytes club outcome next)
-    exchanges (Ok reply) (is, written) = so (replies reply is) (λ club next gives. (gives, tt))
-    exchanges (Err Read) kept = same kept (λ club. refl)
-    exchanges (Err (Write n)) (reply, is, fewer, written) = so (replies reply is) (λ club next gives. (reply, gives, fewer, tt))
+    exchanges : {old new : S} (written : List ℕ) (outcome : Result Reply AnswerFault)
+        → IsExchanged (AnswersBy Clean Represents Fails moment) bytes old written outcome new
+        → Simulates old new (λ club next. IsExchanged (machine_answers moment) bytes club written outcome next)
+    exchanges written (Ok reply) (is, wrote) = so (replies reply is) (λ club next gives. (gives, wrote))
+    exchanges written (Err Read) (kept, nothing) = same kept (λ club. (refl, nothing))
+    exchanges written (Err (Write n)) (reply, is, fewer, wrote) = so (replies reply is) (λ club next gives. (reply, gives, fewer, wrote))
 
   -- ---- a command
 
@@ -225,13 +226,16 @@ module _ {S : Type 0} (Clean : S → Type 0) (Represents : S → Club → List C
           (λ club next. IsAttended Given machine_answers machine_commands over_socket meanwhile moment line outcome clock club clock' next)
       attended meanwhile moment line outcome clock old clock' new client =
           after (are_commanded client.given old meanwhile clock' client.left client.commanded)
-          (exchanges Fails moment client.exchanged.0 outcome client.exchanged.2)
+          (exchanges Fails moment client.bytes client.written outcome client.exchanged)
           (λ club now next commanded exchanged. record {
             given = client.given;
             left = now;
             gives = client.gives;
             commanded = commanded;
-            exchanged = (client.exchanged.0, client.exchanged.1, exchanged);
+            bytes = client.bytes;
+            written = client.written;
+            begins = client.begins;
+            exchanged = exchanged;
             ended = client.ended;
           })
 
@@ -254,19 +258,18 @@ module _ {S : Type 0} (Clean : S → Type 0) (Represents : S → Club → List C
           after (all clock old f turns c d f1 before) (one c d f1 turn.meanwhile turn.fate c' new f' it)
           (λ club now next before it. served.more turns turn c now f1 c' next f' before due it)
 
-  module _ (Fails : Option Change → S → StoreFault → S → Type 0) (service : Service) (store left : S) (Noted : List Turn → Type 0) where
-    -- a server over a store is one over the club that this represents
+  module _ (Fails : Option Change → S → StoreFault → S → Type 0) (service : Service) (turns : List Turn) (store left : S)
+      (Noted : List Turn → Type 0) where
+    -- a server over a store is one over the club that this represents, in the same turns
     pub follows_machine : (result : Result Unit Fault)
-        → RunsServer (AnswersBy Clean Represents Fails) (CarriesOutBy Clean Represents) service store left Noted result
-        → FollowsMachine Clean Represents service store left Noted result
-    follows_machine result (run.listened outcome last failures is it) =
+        → RunsServer (AnswersBy Clean Represents Fails) (CarriesOutBy Clean Represents) service turns store left Noted result
+        → FollowsMachine Clean Represents service turns store left Noted result
+    follows_machine result (run.listened outcome last failures is it noted) =
         (so (all showing Fails service.clock store 0 it.turns it.last left failures it.before)
         (λ club next before. run.listened outcome last failures is (record {
           turns = it.turns;
           last = it.last;
           before = before;
-          all = it.all;
           ends = it.ends;
-          besides = it.besides;
-        }))).follows
-    follows_machine result (run.not_listened fault kept nothing) = (same kept (λ club. run.not_listened fault refl nothing)).follows
+        }) noted)).follows
+    follows_machine result (run.not_listened fault none kept nothing) = (same kept (λ club. run.not_listened fault none refl nothing)).follows

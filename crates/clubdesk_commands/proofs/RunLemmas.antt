@@ -56,5 +56,5 @@ pub serves_well : {D S R V : Type 0} (databases : DatabasesWords D S R V) (visit
 serves_well _ _ _ _ _ _ written result service Noted (spec.not_opened fault opens is kept nothing) = not_opened written.no_change fault result is kept
 serves_well _ _ _ _ _ _ written result service Noted (spec.no_door fault store between opens closes is kept nothing) =
     not_opened written.no_change fault result is kept
-serves_well _ _ _ _ _ _ written result service Noted (spec.server_done store left between opens serves follows announces closes) =
+serves_well _ _ _ _ _ _ written result service Noted (spec.server_done store left between turns opens serves follows announces closes) =
     announces_well service.port written result announces

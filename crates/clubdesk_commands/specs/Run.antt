@@ -40,9 +40,9 @@ use Rattle.clubdesk_commands.specs.Output.{EndsWork, LogChange, Prints, Stream}
 
 -- ---- the server
 
--- an exchange over a socket may have any outcome: no contract states which bytes a socket gives or takes
+-- no contract states which bytes a socket gives or takes, so an exchange over one may have any outcome
 abbrev pub over_socket : Ends
-over_socket outcome = Unit {0}
+over_socket bytes written outcome = Unit {0}
 
 -- what arrived was noted, if a log is asked for
 abbrev pub IfLogged : Service → (List Turn → Type 0) → List Turn → Type 0
@@ -55,12 +55,13 @@ outcome_of_server (Err stopped) = Err ClockOutOfRange
 
 -- How a server ends: so many clients were served, at moments of its clock, and the commands that came before them and meanwhile; or the clock gave no
 -- moment at one of them. Its log noted the turns of all. Or it couldn't listen or write its address, and served and noted nothing.
-pub data RunsServer {Desk : Type 0} (Answers : ℕ → AnswerRelation Desk) (Carries : served.CommandRelation Desk) (service : Service) (old new : Desk)
-    (Noted : List Turn → Type 0) (result : Result Unit Fault) : Type 0 where
+pub data RunsServer {Desk : Type 0} (Answers : ℕ → AnswerRelation Desk) (Carries : served.CommandRelation Desk) (service : Service) (turns : List Turn)
+    (old new : Desk) (Noted : List Turn → Type 0) (result : Result Unit Fault) : Type 0 where
   listened : (outcome : Result Unit ClockFault) (last : Clock) (failures : ℕ) → result ≡ outcome_of_server outcome
-      → served.Serves showing Answers Carries over_socket service.count service.clock old 0 outcome last new failures (IfLogged service Noted)
-      → RunsServer Answers Carries service old new Noted result
-  not_listened : (result ≡ Err Memory) ⊎ (result ≡ Err InputOutput) → new ≡ old → Noted [] → RunsServer Answers Carries service old new Noted result
+      → served.ServesTurns showing Answers Carries over_socket turns service.count service.clock old 0 outcome last new failures
+      → IfLogged service Noted turns → RunsServer Answers Carries service turns old new Noted result
+  not_listened : (result ≡ Err Memory) ⊎ (result ≡ Err InputOutput) → turns ≡ [] → new ≡ old → Noted [] →
+      RunsServer Answers Carries service turns old new Noted result
 
 -- the line of a server that listens at a port of the loopback address
 abbrev pub listening_line : ℕ → List ℕ
@@ -88,12 +89,12 @@ Announces asked written (Err ClockOutOfRange) = IsAnnounced asked written
 Announces asked written (Err fault) = StopsBefore asked written fault
 
 module _ {Store : Type 0} (Clean : Store → Type 0) (Represents : Store → Club → List Club → Type 0) where
-  -- While the disk returned what was written, the server is also one over the club itself, whose machine makes each step: each reply and each
-  -- answer is the machine's, what failed changed nothing, and the store is left with the club that the machine leaves.
-  abbrev pub FollowsMachine : Service → Store → Store → (List Turn → Type 0) → Result Unit Fault → Type 0
-  FollowsMachine service store left Noted result =
+  -- While the disk returned what was written, the server is also one over the club itself, in the same turns, and its machine makes each step: each
+  -- reply and each answer is the machine's, what failed changed nothing, and the store is left with the club that the machine leaves.
+  abbrev pub FollowsMachine : Service → List Turn → Store → Store → (List Turn → Type 0) → Result Unit Fault → Type 0
+  FollowsMachine service turns store left Noted result =
       Clean left → (club : Club) (others : List Club) → Represents store club others
-      → (last : Club) × (still : List Club) × Represents left last still × RunsServer machine_answers machine_commands service club last Noted result
+      → (last : Club) × (still : List Club) × Represents left last still × RunsServer machine_answers machine_commands service turns club last Noted result
 
 -- ---- a command that is handed over
 
@@ -139,10 +140,10 @@ module _ {D S R V : Type 0} (databases : DatabasesWords D S R V) (visits : Visit
         → Serves file service old new written Noted result
     no_door : (fault : StoreFault) (store : S) (between : D) → databases.opens old file (Ok store) between → databases.closes between store new
         → result ≡ Err (fault_of_opening fault) → written.no_change → Noted [] → Serves file service old new written Noted result
-    server_done : (store left : S) (between : D) → databases.opens old file (Ok store) between
-        → RunsServer (AnswersBy stores.disk_is_clean stores.represents stores.fails) (CarriesOutBy stores.disk_is_clean stores.represents) service store left
-        Noted result
-        → FollowsMachine stores.disk_is_clean stores.represents service store left Noted result → Announces service.port written result
+    server_done : (store left : S) (between : D) (turns : List Turn) → databases.opens old file (Ok store) between
+        → RunsServer (AnswersBy stores.disk_is_clean stores.represents stores.fails) (CarriesOutBy stores.disk_is_clean stores.represents) service turns
+        store left Noted result
+        → FollowsMachine stores.disk_is_clean stores.represents service turns store left Noted result → Announces service.port written result
         → databases.closes between left new → Serves file service old new written Noted result
 
   -- What a run on these arguments did.

@@ -1,7 +1,7 @@
 //! The server over a desk.
 
-ghost use Rattle.std.specs.Prelude.{◌≡◌, IfOk, MatchResult, false};
-ghost use Rattle.desk_server.specs.Served.{AreNoted};
+ghost use Rattle.std.specs.Prelude.{◌≡◌, IfOk, List, MatchResult, false};
+ghost use Rattle.desk_server.specs.Served.{AreNoted, Turn};
 ghost use Rattle.clubdesk_commands.specs.Output.{stream};
 ghost use Rattle.clubdesk_commands.specs.Run as spec;
 
@@ -11,7 +11,7 @@ use club_http::Face;
 use clubdesk_arguments::{Fault, Service};
 use command_line::write_text;
 use desk_server::{
-    ClockOutOfRange, Databases, Door, Listening, Log, Office, Unlogged, serve_logged,
+    ClockOutOfRange, Databases, Door, Listening, Log, Office, serve_logged, serve_on,
 };
 use std::io::Write;
 use std::net::TcpListener;
@@ -87,8 +87,8 @@ pub fn serve<D: Office, C: time::Clock, W: Write, G: Log>(
     writer: &mut W,
     log: &mut G,
 ) -> Result<(), Fault>
-    ensures served { spec.RunsServer D.answers D.commands service.entry
-        desk.old desk.new (λ turns. AreNoted G.begins G.notes log.old turns log.new) result }
+    ensures served { (turns : List Turn) × spec.RunsServer D.answers D.commands service.entry turns
+        desk.old desk.new (λ noted. AreNoted G.begins G.notes log.old noted log.new) result }
     ensures announced { spec.Announces service.entry.port
         (stream W.contents writer.old writer.new) result }
     ensures unlogged { service.entry.log ≡ false → log.new ≡ log.old }
@@ -110,8 +110,7 @@ pub fn serve<D: Office, C: time::Clock, W: Write, G: Log>(
     if logs {
         outcome_of(serve_logged(&mut arrivals, count, &mut moments, &mut face, desk, log))
     } else {
-        let none = &mut Unlogged;
-        outcome_of(serve_logged(&mut arrivals, count, &mut moments, &mut face, desk, none))
+        outcome_of(serve_on(&mut arrivals, count, &mut moments, &mut face, desk))
     }
 }
 

@@ -8,11 +8,11 @@ use club_clock::Moments;
 use club_http::WriteOutlet;
 use club_values::Moment;
 use desk_server::{
-    Accepted, Arrival, Arrivals, Carried, ClientStream, Handover, Office, Waited, Woken,
-    answer_command,
+    Accepted, Arrival, Arrivals, Carried, ClientStream, Handover, Office, TimedStream, Waited,
+    Woken, answer_command,
 };
 use std::alloc::Global;
-use std::cell::{Cell, RefCell};
+use std::cell::RefCell;
 use std::io::{self, Read, Write};
 use std::time::{Clock, Duration};
 
@@ -81,8 +81,8 @@ pub struct Sender<'a> {
     halves: (&'a [u8], &'a [u8]),
     command: Option<&'a [u8]>,
     // how often it was read, and whether the command has come
-    reads: Cell<u64>,
-    commanded: Cell<bool>,
+    reads: u64,
+    commanded: bool,
     written: &'a Written,
 }
 
@@ -91,8 +91,8 @@ impl<'a> Sender<'a> {
         Sender {
             halves: request.split_at(request.len() / 2),
             command,
-            reads: Cell::new(0),
-            commanded: Cell::new(false),
+            reads: 0,
+            commanded: false,
             written,
         }
     }
@@ -109,23 +109,20 @@ fn read_from(bytes: &[u8], room: &mut [u8]) -> Waited
     }
 }
 
-impl<'a> ClientStream for Sender<'a> {
-    type Command = Letter<'a>;
+impl TimedStream for Sender<'_> {
+    ghost use Rattle.std.specs.Prelude.{None};
 
-    fn wait_within(&self, _limit: Duration, _command_first: bool) -> Woken<Letter<'a>> {
-        let written = self.written;
-        match self.command {
-            Some(command) if self.reads.get() > 0 && !self.commanded.get() => {
-                self.commanded.set(true);
-                Woken::Command(Letter { command, written })
-            }
-            _ => Woken::Client,
-        }
-    }
+    ghost to_come = { λ _. None };
 
-    fn read_for(&self, _limit: Duration, room: &mut [u8]) -> Waited {
-        let reads = self.reads.get();
-        self.reads.set(reads.saturating_add(1));
+    ghost taken = { λ _. None };
+
+    ghost reads = { λ _ _ _ _. Unit {0} };
+
+    ghost writes = { λ _ _ _ _. Unit {0} };
+
+    fn read_within(&mut self, _limit: Duration, room: &mut [u8]) -> Waited {
+        let reads = self.reads;
+        self.reads = reads.saturating_add(1);
         match reads {
             0 => read_from(self.halves.0, room),
             1 => read_from(self.halves.1, room),
@@ -133,12 +130,27 @@ impl<'a> ClientStream for Sender<'a> {
         }
     }
 
-    fn write_for(&self, _limit: Duration, bytes: &[u8]) -> Waited {
+    fn write_within(&mut self, _limit: Duration, bytes: &[u8]) -> Waited {
         self.written.add(bytes);
         Waited::Moved(bytes.len())
     }
+}
 
-    fn end_writing(&self) -> bool {
+impl<'a> ClientStream for Sender<'a> {
+    type Command = Letter<'a>;
+
+    fn wait_within(&mut self, _limit: Duration, _command_first: bool) -> Woken<Letter<'a>> {
+        let written = self.written;
+        match self.command {
+            Some(command) if self.reads > 0 && !self.commanded => {
+                self.commanded = true;
+                Woken::Command(Letter { command, written })
+            }
+            _ => Woken::Client,
+        }
+    }
+
+    fn end_writing(&mut self) -> bool {
         false
     }
 }

@@ -6,7 +6,7 @@ use club_core::ClubStore;
 use club_http::Face;
 use club_values::Moment;
 use clubdesk_commands::OfficeDesk;
-use desk_server::{Databases, Listening, Unlogged, serve_logged};
+use desk_server::{Databases, Listening, serve_on};
 use std::io::{Read, Write};
 use std::net::{TcpListener, TcpStream};
 use std::test::Fail;
@@ -29,14 +29,8 @@ fn serve_at<'x, S: ClubStore + Drop>(
     let moment = Moment::read(b"2026-04-20T12:00").ok_or("moment")?;
     let mut desk = OfficeDesk::new(rt.alloc(), rt, store);
     let mut arrivals = Listening::new(listener, None, rt, Duration::from_secs(10));
-    serve_logged(
-        &mut arrivals,
-        1,
-        &mut Fixed { moment },
-        &mut face,
-        &mut desk,
-        &mut Unlogged,
-    )?;
+    let mut moments = Fixed { moment };
+    serve_on(&mut arrivals, 1, &mut moments, &mut face, &mut desk)?;
     Ok(())
 }
 

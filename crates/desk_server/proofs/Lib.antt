@@ -3,3 +3,5 @@ pub mod TimedLemmas
 pub mod LogLemmas
 pub mod MeanwhileLemmas
 pub mod AnswerLemmas
+pub mod AcceptedLemmas
+pub mod ExchangeLemmas

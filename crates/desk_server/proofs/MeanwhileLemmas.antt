@@ -42,9 +42,9 @@ module _ {Clock Desk Log : Type 0} (Given : GivesMoment Clock) (Carries : Comman
     noted = spec.one_note first.fates (Commanded moment carried) l1 begun l' first.noted begins noted;
   }
 
-  module _ (R W : Type 0) where
+  module _ (R : Type 0) where
     abbrev Lent : Type 0
-    Lent = Between R W Clock Desk Log
+    Lent = Between R Clock Desk Log
 
     abbrev Alone : Lent → Lent → Type 0
     Alone old new = CommandsAlone Given Carries Begins Noted old new
@@ -58,7 +58,7 @@ module _ {Clock Desk Log : Type 0} (Given : GivesMoment Clock) (Carries : Comman
       commands = no_commands between.moments.now between.desk.now between.log.now;
     }
 
-    alone_more : (old mid new : Lent) → Alone old mid → Alone mid new → Alone old new
+    pub alone_more : (old mid new : Lent) → Alone old mid → Alone mid new → Alone old new
     alone_more old mid new first second = record {
       same_reader = second.same_reader ∙ first.same_reader;
       same_moments = second.same_moments ∙ first.same_moments;
@@ -71,20 +71,49 @@ module _ {Clock Desk Log : Type 0} (Given : GivesMoment Clock) (Carries : Comman
       };
     }
 
-    -- a request that was read by calls between which there were commands alone
-    module _ (Fills : Call Lent) (one : (old : Lent) (given : Option ℕ) (room : List ℕ) (new : Lent) → Fills old given room new → Alone old new) where
-      given_alone : (old : Lent) (bytes : List ℕ) (new : Lent) → Gives Fills old bytes new → Alone old new
-      given_alone old _ _ calls.nothing = alone_none old
-      given_alone old _ new (calls.more bytes room n mid _ before not_whole some call) =
-          alone_more old mid new (given_alone old bytes mid before) (one mid (Some n) room new call)
+-- what the calls of one reader do for another
+module _ {A B : Type 0} (to : A → B) (From : Call A) (To : Call B)
+    (one : (old : A) (given : Option ℕ) (room : List ℕ) (new : A) → From old given room new → To (to old) given room (to new)) where
+  gives_as : (old : A) (bytes : List ℕ) (new : A) → Gives From old bytes new → Gives To (to old) bytes (to new)
+  gives_as old _ _ calls.nothing = calls.nothing
+  gives_as old _ new (calls.more bytes room n mid _ before not_whole some call) =
+      calls.more bytes room n (to mid) (to new) (gives_as old bytes mid before) not_whole some (one mid (Some n) room new call)
 
-      pub read_alone : (old : Lent) (bytes : List ℕ) (new : Lent) → ReadsNoFurther Fills old bytes new → Alone old new
-      read_alone old bytes new reads = elim reads.calls [
-        | inl gives ↦ given_alone old bytes new gives
-        | inr ended ↦
-            let before = given_alone old bytes ended.mid ended.gave in
-            elim ended.none [
-              | inl call ↦ alone_more old ended.mid new before (one ended.mid (Some 0) ended.room new call)
-              | inr call ↦ alone_more old ended.mid new before (one ended.mid None ended.room new call)
-            ]
-      ]
+  pub reads_as : (old : A) (bytes : List ℕ) (new : A) → ReadsNoFurther From old bytes new → ReadsNoFurther To (to old) bytes (to new)
+  reads_as old bytes new reads = record {
+    within = reads.within;
+    calls = elim reads.calls [
+      | inl gives ↦ inl (gives_as old bytes new gives)
+      | inr ended ↦
+          inr (record {
+            mid = to ended.mid;
+            room = ended.room;
+            gave = gives_as old bytes ended.mid ended.gave;
+            not_whole = ended.not_whole;
+            none = elim ended.none [
+              | inl call ↦ inl (one ended.mid (Some 0) ended.room new call)
+              | inr call ↦ inr (one ended.mid None ended.room new call)
+            ];
+          })
+    ];
+  }
+
+-- what each call keeps, all of them keep
+module _ {A : Type 0} (Fills : Call A) (Kept : A → A → Type 0) (none : (old : A) → Kept old old)
+    (both : (old mid new : A) → Kept old mid → Kept mid new → Kept old new)
+    (one : (old : A) (given : Option ℕ) (room : List ℕ) (new : A) → Fills old given room new → Kept old new) where
+  gives_kept : (old : A) (bytes : List ℕ) (new : A) → Gives Fills old bytes new → Kept old new
+  gives_kept old _ _ calls.nothing = none old
+  gives_kept old _ new (calls.more bytes room n mid _ before not_whole some call) =
+      both old mid new (gives_kept old bytes mid before) (one mid (Some n) room new call)
+
+  pub reads_kept : (old : A) (bytes : List ℕ) (new : A) → ReadsNoFurther Fills old bytes new → Kept old new
+  reads_kept old bytes new reads = elim reads.calls [
+    | inl gives ↦ gives_kept old bytes new gives
+    | inr ended ↦
+        let before = gives_kept old bytes ended.mid ended.gave in
+        elim ended.none [
+          | inl call ↦ both old ended.mid new before (one ended.mid (Some 0) ended.room new call)
+          | inr call ↦ both old ended.mid new before (one ended.mid None ended.room new call)
+        ]
+  ]

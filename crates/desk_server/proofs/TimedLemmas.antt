@@ -15,8 +15,9 @@ filled room part len n k within few =
     ∙ take-append-add (take len room) _ n
     ∙ ap (λ (l : List ℕ). take len room ++ l) (take-append-le n part _ few)
 
--- all calls so far were interrupted, and kept what is known
-pub record Interrupted {C Stream : Type 0} (Shows : C → Option ℕ → Type 0) (Does : Calls Stream) (known : Stream → Option (List ℕ)) (limit : Limit C)
+-- all calls so far were interrupted, and kept what is known of both ends
+pub record Interrupted {C Stream : Type 0} (Shows : C → Option ℕ → Type 0) (Does : Calls Stream) (near far : Stream → Option (List ℕ)) (limit : Limit C)
     (first : Stream) (n : ℕ) (last : Stream) : Type 0 where
   pub repeated : AreInterrupted Shows Does limit first n last
-  pub kept : Keeps (known first) (known last)
+  pub kept : Keeps (near first) (near last)
+  pub still : Keeps (far first) (far last)

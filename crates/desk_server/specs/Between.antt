@@ -1,12 +1,29 @@
 -- A client's reader that carries out commands while it waits (ours).
-use Rattle.std.specs.Prelude.{◌≡◌}
+use Rattle.std.specs.Prelude.{◌≡◌, ℕ, List, Option}
 use Rattle.club_clock.specs.Moments.{GivesMoment}
+use Rattle.club_http.specs.Calls.{Call}
 use Rattle.desk_server.specs.Served.{CommandRelation, Meanwhile, Notes}
 use Rattle.desk_server.specs.declared.between.Between.{Between}
 
+-- what a wait does: the reader before, and after
+abbrev pub Wait : Type 0 → Type 1
+Wait Reader = Reader → Reader → Type 0
+
+-- waits, one after the other
+pub data AreWaits {Reader : Type 0} (Waits : Wait Reader) (old : Reader) : Reader → Type 0 where
+  no_wait : AreWaits Waits old old
+  wait_again : (mid new : Reader) → AreWaits Waits old mid → Waits mid new → AreWaits Waits old new
+
+-- a call of the reader, after some waits
+pub record Awaits {Reader : Type 0} (Waits : Wait Reader) (Fills : Call Reader) (old : Reader) (result : Option ℕ) (room : List ℕ) (new : Reader)
+    : Type 0 where
+  pub awaited : Reader
+  pub waits : AreWaits Waits old awaited
+  pub fills : Fills awaited result room new
+
 -- Commands alone changed what the reader lends, and it lends the same.
-pub record CommandsAlone {R W M D G : Type 0} (Gives : GivesMoment M) (Carries : CommandRelation D) (Begins : G → G → Type 0) (Noted : Notes G)
-    (old new : Between R W M D G) : Type 0 where
+pub record CommandsAlone {R M D G : Type 0} (Gives : GivesMoment M) (Carries : CommandRelation D) (Begins : G → G → Type 0) (Noted : Notes G)
+    (old new : Between R M D G) : Type 0 where
   pub same_reader : new.reader.ghost_name ≡ old.reader.ghost_name
   pub same_moments : new.moments.ghost_name ≡ old.moments.ghost_name
   pub same_desk : new.desk.ghost_name ≡ old.desk.ghost_name

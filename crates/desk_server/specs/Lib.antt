@@ -4,6 +4,7 @@ pub mod RequestLine
 pub mod Log
 pub mod Served
 pub mod Between
+pub mod Accepted
 pub mod Arrival
 pub mod Server
 pub mod Laws

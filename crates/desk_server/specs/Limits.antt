@@ -66,11 +66,12 @@ pub record IsCalledUnder {C Stream : Type 0} (Shows : C → Option ℕ → Type 
   pub called : AtShown (Shows limit.clock.now) (λ shown. IsCalled Does (left_until (nanos_of limit.due) shown) last result new)
       ⊎ (interruptions ≡ 2 ^ 64 - 1) × (result ≡ None) × (new ≡ last)
 
--- a call under a limit, and what it moved, at most so many bytes
+-- a call under a limit, and what it moved, at most so many bytes; at the stream's other end nothing moved
 pub record EndsUnder {C Stream : Type 0} (Shows : C → Option ℕ → Type 0) (Does : Calls Stream) (limit : Limit C) (old : Stream) (result : Option ℕ)
-    (new : Stream) (most : ℕ) (Moved : Type 0) : Type 0 where
+    (new : Stream) (most : ℕ) (Moved Still : Type 0) : Type 0 where
   pub within : IfSome result (λ n. n ≤ most)
   pub bytes : Moved
+  pub still : Still
   pub limited : IsCalledUnder Shows Does limit old result new
 
 -- the call took at most so many bytes

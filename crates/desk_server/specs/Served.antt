@@ -23,17 +23,25 @@ CountsOn count more count' = count + more < 2 ^ 64 → count' ≡ count + more
 abbrev pub CommandRelation : Type 0 → Type 1
 CommandRelation Desk = List ℕ → Desk → Answer → Desk → Type 0
 
--- the outcomes that an exchange with a connection may have
-abbrev pub Ends : Type 1
-Ends = Result Reply AnswerFault → Type 0
+-- an exchange with a connection: the connection before, the bytes that came, the bytes that it took, the outcome, and the connection after
+abbrev pub Talk : Type 0 → Type 1
+Talk Client = Client → List ℕ → List ℕ → Result Reply AnswerFault → Client → Type 0
 
--- What an exchange with this outcome did to the desk: the reply, written or not, is the desk's to the bytes that were read. If the reader
--- failed, the desk is unchanged.
-abbrev pub IsExchanged : {Desk : Type 0} → AnswerRelation Desk → List ℕ → Desk → Result Reply AnswerFault → Desk → Type 0
-IsExchanged Answers bytes old outcome new = Exchanges
+-- the bytes that came, the bytes that were written, and the outcome of an exchange
+abbrev pub Ends : Type 1
+Ends = List ℕ → List ℕ → Result Reply AnswerFault → Type 0
+
+-- some connection may have such an exchange
+abbrev pub HasTalked : {Client : Type 0} → Talk Client → Ends
+HasTalked {Client} Talks bytes written outcome = (old : Client) × (new : Client) × Talks old bytes written outcome new
+
+-- What an exchange with this outcome did to the desk, and what it wrote. The reply is the desk's to the bytes that came. Its text was written and
+-- nothing else, or the first n bytes of it if the writer failed. If the reader failed, the desk is unchanged, and nothing was written.
+abbrev pub IsExchanged : {Desk : Type 0} → AnswerRelation Desk → List ℕ → Desk → List ℕ → Result Reply AnswerFault → Desk → Type 0
+IsExchanged Answers bytes old written outcome new = Exchanges
     (λ reply. IsReplied Answers bytes old reply new)
-    (new ≡ old)
-    (λ _. Unit {0})
+    ((new ≡ old) × (written ≡ []))
+    (λ text. written ≡ text)
     outcome
 
 -- What a connection of the office did to the desk: one command was carried out, once, whether or not its answer was taken. If no command came whole,
@@ -92,15 +100,18 @@ module _ {Clock Desk : Type 0} (Gives : GivesMoment Clock) (Carries : CommandRel
 
 module _ {Clock Desk : Type 0} (Gives : GivesMoment Clock) (Answers : ℕ → AnswerRelation Desk) (Carries : CommandRelation Desk) (Ended : Ends) where
   -- What a client did to the clock and the desk: the clock gave its moment, commands were carried out meanwhile, each at a moment of its own, and
-  -- then it had an exchange with the desk as these had left it, with an outcome that such a connection may have.
+  -- then it had an exchange with the desk as these had left it, which such a connection may have.
   pub record IsAttended (meanwhile : List Fate) (moment : ℕ) (line : List ℕ) (outcome : Result Reply AnswerFault) (clock : Clock) (desk : Desk)
       (clock' : Clock) (desk' : Desk) : Type 0 where
     pub given : Clock
     pub left : Desk
     pub gives : Gives clock (Some moment) given
     pub commanded : AreCommanded Gives Carries given desk meanwhile clock' left
-    pub exchanged : (bytes : List ℕ) × (line ≡ take 96 bytes) × IsExchanged (Answers moment) bytes left outcome desk'
-    pub ended : Ended outcome
+    pub bytes : List ℕ
+    pub written : List ℕ
+    pub begins : line ≡ take 96 bytes
+    pub exchanged : IsExchanged (Answers moment) bytes left written outcome desk'
+    pub ended : Ended bytes written outcome
 
   -- What one arrival did to the clock, the desk and the count of failed calls. If waiting failed, only the count grew. A command is carried out,
   -- whether or not the clock gives a moment. Only a client has commands meanwhile. At an overrun one client counts that never came.
@@ -122,17 +133,22 @@ module _ {Clock Desk : Type 0} (Gives : GivesMoment Clock) (Answers : ℕ → An
         → AreServed clock desk failures turns c d f → IsDue turns turn.fate → ServesOne c d f turn.meanwhile turn.fate c' d' f'
         → AreServed clock desk failures (turns ++ turn ∷ []) c' d' f'
 
-  -- How a server of so many clients ends: it served all; or it stopped at one for whom the clock gave no moment. `Besides` holds for the turns of
-  -- all that it waited for.
-  pub record Serves (count : ℕ) (clock : Clock) (desk : Desk) (failures : ℕ) (outcome : Result Unit ClockOutOfRange) (clock' : Clock) (desk' : Desk)
-      (failures' : ℕ) (Besides : List Turn → Type 0) : Type 0 where
+  -- How a server of so many clients ends: it served all; or it stopped at one for whom the clock gave no moment. These are the turns of all that it
+  -- waited for.
+  pub record ServesTurns (all : List Turn) (count : ℕ) (clock : Clock) (desk : Desk) (failures : ℕ) (outcome : Result Unit ClockOutOfRange)
+      (clock' : Clock) (desk' : Desk) (failures' : ℕ) : Type 0 where
     pub turns : List Turn
     pub last : Clock
     pub before : AreServed clock desk failures turns last desk' failures'
-    pub all : List Turn
     pub ends : MatchResult outcome
         (λ done. (clients_in turns ≡ count) × (clock' ≡ last) × (all ≡ turns))
         (λ stopped. (clients_in turns < count) × Gives last None clock' × (all ≡ turns ++ alone Unanswered ∷ []))
+
+  -- such a server, with what holds besides of its turns
+  pub record Serves (count : ℕ) (clock : Clock) (desk : Desk) (failures : ℕ) (outcome : Result Unit ClockOutOfRange) (clock' : Clock) (desk' : Desk)
+      (failures' : ℕ) (Besides : List Turn → Type 0) : Type 0 where
+    pub all : List Turn
+    pub serves : ServesTurns all count clock desk failures outcome clock' desk' failures'
     pub besides : Besides all
 
 -- ---- the log
@@ -177,8 +193,10 @@ module _ {Clock Desk Log : Type 0} (Gives : GivesMoment Clock) (Carries : Comman
     pub noted : AreNotedMeanwhile Begins Noted log fates log'
 
   -- An exchange: while the request was awaited, commands were carried out and noted; then the outcome is as at the desk that they left.
-  pub record ExchangesBetween (Answers : AnswerRelation Desk) (bytes : List ℕ) (clock : Clock) (desk : Desk) (log : Log) (outcome : Result Reply AnswerFault)
-      (clock' : Clock) (desk' : Desk) (log' : Log) : Type 0 where
+  pub record ExchangesBetween {Client : Type 0} (Answers : AnswerRelation Desk) (Talks : Talk Client) (bytes : List ℕ) (clock : Clock) (desk : Desk)
+      (log : Log) (client : Client) (outcome : Result Reply AnswerFault) (clock' : Clock) (desk' : Desk) (log' : Log) (client' : Client) : Type 0 where
     pub left : Desk
+    pub written : List ℕ
     pub meanwhile : Meanwhile clock desk log clock' left log'
-    pub exchanged : IsExchanged Answers bytes left outcome desk'
+    pub exchanged : IsExchanged Answers bytes left written outcome desk'
+    pub talked : Talks client bytes written outcome client'

@@ -20,3 +20,11 @@ module _ {Clock Desk Log : Type 0} (Gives : GivesMoment Clock) (Begins : Log →
   ServesLogged Answers Carries Ended waited failures count source clock desk log result source' clock' desk' log' =
       Serves Gives Answers Carries Ended count clock desk (failures source) result clock' desk' (failures source')
       (λ turns. CountsOn (waited source) (length turns) (waited source') × AreNoted Begins Noted log turns log')
+
+module _ {Clock Desk : Type 0} (Gives : GivesMoment Clock) where
+  -- the same without a log
+  abbrev pub ServesOn : {Source : Type 0} → (ℕ → AnswerRelation Desk) → CommandRelation Desk → Ends → (Source → ℕ) → (Source → ℕ) → ℕ
+      → Source → Clock → Desk → Result Unit ClockOutOfRange → Source → Clock → Desk → Type 0
+  ServesOn Answers Carries Ended waited failures count source clock desk result source' clock' desk' =
+      Serves Gives Answers Carries Ended count clock desk (failures source) result clock' desk' (failures source')
+      (λ turns. CountsOn (waited source) (length turns) (waited source'))

@@ -1,17 +1,18 @@
 //! Commands of the office, and those that come between the pieces of a client's request.
 
-ghost use Rattle.std.specs.Prelude.{IfNone, IfSome};
+ghost use Rattle.std.specs.Prelude.{◌≡◌, IfNone, IfSome};
 ghost use Rattle.http_request.specs.Front.{Covers};
+ghost use Rattle.club_http.specs.Calls.{ReadsNoFurther};
+ghost use Rattle.club_http.specs.Ends.{read_failures};
 ghost use Rattle.club_http.specs.Received.{IsCutOff, Receives};
-ghost use Rattle.desk_server.specs.Between.{CommandsAlone};
+ghost use Rattle.desk_server.specs.Between.{Awaits, CommandsAlone};
 ghost use Rattle.desk_server.specs.Served.{Meanwhile};
 ghost use Rattle.desk_server.specs.Server.{IsCommanded};
 
 use crate::log::{Fate, Log};
 use crate::office::{Carried, Office};
 use club_clock::Moments;
-use club_http::{Face, Inlet};
-use http_request::HeadScan;
+use club_http::{Face, HeadScan, Inlet};
 
 /// A connection of the office, which brings a command.
 pub trait Handover {
@@ -40,40 +41,47 @@ pub(crate) fn carry_out<O: Handover + Drop, M: Moments, D: Office, G: Log>(
     log.note(&Fate::Commanded { moment, carried });
 }
 
-/// What waits for a client and for the office at once.
-pub trait Waits {
+/// A client's reader that waits for the office, too.
+pub trait Waits: Inlet {
+    ghost use Rattle.std.specs.Prelude.{◌≡◌};
+    ghost use Rattle.std.specs.Io.KnownBytes.{Keeps};
+
     type Command: Handover + Drop;
+
+    // what one wait does, as far as it is known
+    ghost waits: { Self → Self → Type 0 };
 
     /// Waits until the client is to be read, and returns the command that comes before, if one
     /// does. The client is to be read once its bytes or its end are there, its time is over, or
     /// waiting failed.
-    fn command_before(&mut self) -> Option<Self::Command>;
+    fn command_before(&mut self) -> Option<Self::Command>
+        ensures reads_nothing { Keeps (Self.to_come self.old) (Self.to_come self.new) }
+        ensures counted { Self.failures self.new ≡ Self.failures self.old }
+        ensures waited { waits self.old self.new };
 }
 
 /// A client's reader that carries out the commands that come while it waits.
 #[derive(Drop)]
-struct Between<'r, 'w, 'm, 'd, 'g, R, W, M, D, G> {
+struct Between<'r, 'm, 'd, 'g, R, M, D, G> {
     reader: &'r mut R,
-    waits: &'w mut W,
     moments: &'m mut M,
     desk: &'d mut D,
     log: &'g mut G,
 }
 
-impl<R: Inlet, W: Waits, M: Moments, D: Office, G: Log> Inlet
-    for Between<'_, '_, '_, '_, '_, R, W, M, D, G> {
-    ghost use Rattle.desk_server.specs.Between.{CommandsAlone};
+impl<R: Waits, M: Moments, D: Office, G: Log> Inlet for Between<'_, '_, '_, '_, R, M, D, G> {
+    ghost use Rattle.desk_server.specs.Between.{Awaits, CommandsAlone};
 
     ghost to_come = { λ between. R.to_come between.reader.now };
 
     ghost failures = { λ between. R.failures between.reader.now };
 
     ghost fills = { λ old result room new. CommandsAlone M.gives D.commands G.begins G.notes old new
-        × R.fills old.reader.now result room new.reader.now };
+        × Awaits R.waits R.fills old.reader.now result room new.reader.now };
 
     fn fill(&mut self, room: &mut [u8]) -> Option<usize> {
         for commanded in 0..u64::MAX {
-            match self.waits.command_before() {
+            match self.reader.command_before() {
                 Some(command) => {
                     carry_out(command, &mut *self.moments, &mut *self.desk, &mut *self.log);
                 }
@@ -85,11 +93,11 @@ impl<R: Inlet, W: Waits, M: Moments, D: Office, G: Log> Inlet
 }
 
 /// Reads a request, as `Face::receive` does, and carries out the commands that come while it is
-/// awaited. Each has a moment of its own, and is logged.
-pub fn receive_between<R: Inlet, W: Waits, M: Moments, D: Office, G: Log>(
+/// awaited. Each has a moment of its own, and is logged. It is the first step of an exchange, and
+/// `Face::respond` is the second.
+pub fn receive_between<R: Waits, M: Moments, D: Office, G: Log>(
     face: &mut Face,
     reader: &mut R,
-    waits: &mut W,
     moments: &mut M,
     desk: &mut D,
     log: &mut G,
@@ -99,12 +107,13 @@ pub fn receive_between<R: Inlet, W: Waits, M: Moments, D: Office, G: Log>(
         (λ _. Receives (R.to_come reader.old) (R.to_come reader.new) face.new) }
     ensures cut_off { IfNone result
         (IsCutOff (R.to_come reader.old) (R.to_come reader.new) face.new) }
+    ensures calls { ReadsNoFurther (Awaits R.waits R.fills) reader.old face.new reader.new }
+    ensures counted { R.failures reader.new ≡ read_failures (R.failures reader.old) result }
     ensures meanwhile { Meanwhile M.gives D.commands G.begins G.notes
         moments.old desk.old log.old moments.new desk.new log.new }
 {
     let mut between = Between {
         reader,
-        waits,
         moments,
         desk,
         log,
@@ -113,15 +122,19 @@ pub fn receive_between<R: Inlet, W: Waits, M: Moments, D: Office, G: Log>(
 }
 
 // Reads a request.
-fn receive_in<R: Inlet, W: Waits, M: Moments, D: Office, G: Log>(
+fn receive_in<R: Waits, M: Moments, D: Office, G: Log>(
     face: &mut Face,
-    between: &mut Between<'_, '_, '_, '_, '_, R, W, M, D, G>,
+    between: &mut Between<'_, '_, '_, '_, R, M, D, G>,
 ) -> Option<HeadScan>
     ensures covered { IfSome result (λ scan. Covers scan face.new) }
     ensures received { IfSome result (λ _. Receives (R.to_come between.old.reader.now)
         (R.to_come between.new.reader.now) face.new) }
     ensures cut_off { IfNone result (IsCutOff (R.to_come between.old.reader.now)
         (R.to_come between.new.reader.now) face.new) }
+    ensures calls { ReadsNoFurther (Awaits R.waits R.fills)
+        between.old.reader.now face.new between.new.reader.now }
+    ensures counted { R.failures between.new.reader.now
+        ≡ read_failures (R.failures between.old.reader.now) result }
     ensures alone { CommandsAlone M.gives D.commands G.begins G.notes between.old between.new }
 {
     face.receive(between)

@@ -1,27 +1,24 @@
 //! Connections of clients and of the office, and what they come from.
 
 use crate::between::{Handover, Waits, receive_between};
-use crate::limit::{Limit, MonotonicClock};
+use crate::limit::MonotonicClock;
 use crate::log::Log;
 use crate::office::Office;
 use crate::stream::{ClientStream, Woken};
-use crate::timed::{TimedInlet, TimedOutlet};
+use crate::timed::Accepted;
 use club_clock::Moments;
-use club_core::Reply;
-use club_http::{AnswerFault, Face, send_reply};
-use club_values::Moment;
-use std::time::Duration;
+use club_http::{AnswerFault, Face, Moment, Reply};
 
 /// A client's connection.
 pub trait Connection {
-    ghost use Rattle.desk_server.specs.Served.{Ends, ExchangesBetween};
+    ghost use Rattle.desk_server.specs.Served.{ExchangesBetween, Talk};
 
-    // the outcomes that an exchange may have
-    ghost ends: { Ends };
+    // the exchanges that it may have
+    ghost talks: { Talk Self };
 
     /// One exchange with the desk, at a moment. While the request is awaited, commands are carried
-    /// out and logged, each at a moment of its own; then the desk changed as the returned outcome
-    /// says. The bytes that were read of the request stay in the face.
+    /// out and logged, each at a moment of its own; then the desk changed, and was written, as the
+    /// returned outcome says. The bytes that were read of the request stay in the face.
     ///
     /// # Errors
     ///
@@ -34,60 +31,23 @@ pub trait Connection {
         log: &mut G,
         moment: Moment,
     ) -> Result<Reply, AnswerFault>
-        ensures exchanged { ExchangesBetween M.gives D.commands G.begins G.notes (D.answers moment)
-            face.new moments.old desk.old log.old result moments.new desk.new log.new }
-        ensures ended { ends result };
+        ensures { ExchangesBetween M.gives D.commands G.begins G.notes (D.answers moment) talks
+            face.new moments.old desk.old log.old self.old
+            result moments.new desk.new log.new self.new };
 }
 
-/// A connection that a listener accepted. The client has the patience for its request, the same
-/// time again for taking the reply, and once more for bytes that it still sends. A command that is
-/// carried out meanwhile doesn't extend the patience.
-#[derive(Drop)]
-pub struct Accepted<'c, S, C> {
-    stream: S,
-    clock: &'c C,
-    patience: Duration,
-    limit: Limit<'c, C>,
-}
+/// Its bytes and commands take turns, if both are there. A command that is carried out meanwhile
+/// doesn't extend the patience.
+impl<S: ClientStream, C: MonotonicClock> Waits for Accepted<'_, S, C> {
+    ghost use Rattle.desk_server.specs.Accepted.{HasWaited};
 
-impl<'c, S: ClientStream, C: MonotonicClock> Accepted<'c, S, C> {
-    /// A connection that was accepted now.
-    pub fn new(stream: S, clock: &'c C, patience: Duration) -> Accepted<'c, S, C> {
-        Accepted {
-            stream,
-            clock,
-            patience,
-            limit: Limit::after(clock, patience),
-        }
-    }
-
-    // Ends a connection whose reply was written, and whose request may go on. A socket that is
-    // closed while bytes of its client are unread resets the connection, and a client that is still
-    // sending may then lose its reply. So this ends the writing side first, and then reads what the
-    // client still sends.
-    fn take_rest(&self) {
-        if self.stream.end_writing() {
-            let limit = Limit::after(self.clock, self.patience);
-            TimedInlet::new(&self.stream, &limit).take_rest();
-        }
-    }
-}
-
-/// Waits for a client under its limit. If both are there, its bytes and commands take turns.
-#[derive(Drop)]
-struct Awaited<'s, 'l, 'c, S, C> {
-    stream: &'s S,
-    limit: &'l Limit<'c, C>,
-    // whether a command goes before the client's bytes
-    command_first: bool,
-}
-
-impl<S: ClientStream, C: MonotonicClock> Waits for Awaited<'_, '_, '_, S, C> {
     type Command = S::Command;
+
+    ghost waits = { HasWaited S.to_come S.taken };
 
     fn command_before(&mut self) -> Option<S::Command> {
         for _ in 0..u64::MAX {
-            let left = self.limit.left();
+            let left = self.reading.left();
             if left.is_zero() {
                 return None;
             }
@@ -107,10 +67,12 @@ impl<S: ClientStream, C: MonotonicClock> Waits for Awaited<'_, '_, '_, S, C> {
     }
 }
 
-/// An exchange as `club_http::answer` makes it, over a socket, but that commands are carried out
-/// while the request is awaited. No contract states which bytes a socket gives or takes.
+/// The two steps of `club_http::answer`, at this connection's ends, but that commands are carried
+/// out while the request is awaited.
 impl<S: ClientStream, C: MonotonicClock> Connection for Accepted<'_, S, C> {
-    ghost ends = { λ _. Unit {0} };
+    ghost use Rattle.desk_server.specs.Accepted.{Talks};
+
+    ghost talks = { Talks S.to_come S.taken C.shows S.reads S.writes };
 
     fn exchange<M: Moments, D: Office, G: Log>(
         &mut self,
@@ -120,28 +82,34 @@ impl<S: ClientStream, C: MonotonicClock> Connection for Accepted<'_, S, C> {
         log: &mut G,
         moment: Moment,
     ) -> Result<Reply, AnswerFault> {
-        let stream = &self.stream;
-        let limit = &self.limit;
-        let mut reader = TimedInlet::new(stream, limit);
-        let mut waits = Awaited {
-            stream,
-            limit,
-            command_first: false,
-        };
-        let received = receive_between(face, &mut reader, &mut waits, moments, desk, log);
-        let Some(scan) = received else {
+        let Some(scan) = receive_between(face, self, moments, desk, log) else {
             return Err(AnswerFault::Read);
         };
-        let reply = face.reply(&scan, desk, moment);
-        let mut writer = TimedOutlet::new(stream, self.clock, self.patience);
-        match send_reply(&reply, &mut writer) {
-            Ok(()) => {
-                if !face.is_over(&scan) {
-                    self.take_rest();
-                }
+        match face.respond(&scan, desk, moment, self) {
+            Ok(reply) => {
+                let over = face.is_over(&scan);
+                self.end(over);
                 Ok(reply)
             }
-            Err(sent) => Err(AnswerFault::Write(sent)),
+            Err(fault) => Err(fault),
+        }
+    }
+}
+
+impl<S: ClientStream, C: MonotonicClock> Accepted<'_, S, C> {
+    ghost use Rattle.std.specs.Prelude.{◌≡◌, IsTrue};
+    ghost use Rattle.desk_server.specs.Accepted.{TakesRest};
+
+    // Ends a connection whose reply was written. A socket that is closed while bytes of its client
+    // are unread resets the connection, and a client that is still sending may then lose its reply.
+    // So if its request isn't over, this ends the writing side first, and then reads what the
+    // client still sends.
+    fn end(&mut self, over: bool)
+        ensures over { IsTrue over → self.new ≡ self.old }
+        ensures rest { TakesRest S.to_come S.taken self.old self.new }
+    {
+        if !over && self.stream.end_writing() {
+            self.take_rest();
         }
     }
 }

@@ -1,6 +1,6 @@
 //! The databases that a server and the office open, as a trait, and the door between the two.
 
-use club_core::{ClubStore, StoreFault};
+use club_http::{ClubStore, StoreFault};
 use std::os::unix::net::UnixListener;
 
 /// The door of a server, by which commands of the office come. It is removed when this is dropped.

@@ -5,9 +5,9 @@ ghost use Rattle.std.specs.Io.KnownBytes.{Consumes, IsAtEnd};
 ghost use Rattle.desk_server.specs.Served.{AnswersCommand};
 
 use crate::between::Handover;
-use crate::limit::{Limit, MonotonicClock};
+use crate::limit::MonotonicClock;
 use crate::office::{Answer, Carried, Office};
-use crate::timed::{TimedInlet, TimedOutlet};
+use crate::timed::Accepted;
 use club_http::{Inlet, Outlet, put_all};
 use std::io;
 use std::os::unix::net::{UnixListener, UnixStream};
@@ -46,9 +46,9 @@ impl<'c, C: MonotonicClock> Handed<'c, C> {
         })
     }
 
-    // Where the answer is sent to.
-    fn writer(&self) -> TimedOutlet<'c, &UnixStream, C> {
-        TimedOutlet::new(&self.stream, self.clock, self.patience)
+    // Both ends of the connection, with this patience from now on.
+    fn ends(&self, patience: Duration) -> Accepted<'c, &UnixStream, C> {
+        Accepted::new(&self.stream, self.clock, patience)
     }
 }
 
@@ -89,14 +89,16 @@ pub fn answer_command<D: Office, W: Outlet>(desk: &mut D, bytes: &[u8], writer: 
 /// Greets the sender, reads its command, and answers it.
 impl<C: MonotonicClock> Handover for Handed<'_, C> {
     fn carry_out<D: Office>(&mut self, desk: &mut D) -> Option<Carried> {
-        let stream = &self.stream;
-        let limit = Limit::after(self.clock, Duration::from_millis(COMMAND_MILLISECONDS));
-        if put_all(&mut self.writer(), &GREETING).is_err() {
+        if put_all(&mut self.ends(self.patience), &GREETING).is_err() {
             return None;
         }
         let mut room = [0; MAX_COMMAND_LEN];
-        match read_command(&mut TimedInlet::new(stream, &limit), &mut room) {
-            Some(len) => Some(answer_command(desk, &room[..len], &mut self.writer())),
+        let mut reader = self.ends(Duration::from_millis(COMMAND_MILLISECONDS));
+        match read_command(&mut reader, &mut room) {
+            Some(len) => {
+                let mut writer = self.ends(self.patience);
+                Some(answer_command(desk, &room[..len], &mut writer))
+            }
             None => None,
         }
     }

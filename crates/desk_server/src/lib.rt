@@ -18,7 +18,7 @@ mod stream;
 mod timed;
 
 pub use between::{Handover, Waits, receive_between};
-pub use connections::{Accepted, Arrival, Arrivals, Connection};
+pub use connections::{Arrival, Arrivals, Connection};
 pub use databases::{Databases, Door, Reached, Visit};
 pub use door::{GREETING, Handed, MAX_COMMAND_LEN, answer_command, read_command};
 pub use limit::{Limit, MonotonicClock};
@@ -26,6 +26,6 @@ pub use listening::Listening;
 pub use log::{Fate, Log, LogLines, Unlogged};
 pub use office::{Answer, Carried, Office};
 pub use request_line::{MAX_KEPT, RequestLine};
-pub use serve::{ClockOutOfRange, serve_logged};
+pub use serve::{ClockOutOfRange, serve_logged, serve_on};
 pub use stream::{ClientSocket, ClientStream, Woken};
-pub use timed::{MAX_REST, TimedInlet, TimedOutlet, TimedStream, Waited};
+pub use timed::{Accepted, MAX_REST, TimedStream, Waited};

@@ -1,8 +1,9 @@
 //! The listeners of a server: clients come over TCP, and commands of the office by its door.
 
-use crate::connections::{Accepted, Arrival, Arrivals};
+use crate::connections::{Arrival, Arrivals};
 use crate::door::Handed;
 use crate::stream::{ClientSocket, command_is_next};
+use crate::timed::Accepted;
 use std::cell::Cell;
 use std::io::ErrorKind;
 use std::net::TcpListener;

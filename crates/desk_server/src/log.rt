@@ -6,10 +6,7 @@ ghost use Rattle.desk_server.specs.RequestLine.{word_bytes};
 
 use crate::office::Carried;
 use crate::request_line::RequestLine;
-use club_core::Reply;
-use club_http::{AnswerFault, Outlet, put_all};
-use club_values::Moment;
-use http_response::{Line, status_of};
+use club_http::{AnswerFault, Line, Moment, Outlet, Reply, put_all, status_of};
 use std::time::{Clock, Instant};
 
 /// The word of a command, in place of a method.

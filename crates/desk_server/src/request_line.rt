@@ -5,7 +5,7 @@ ghost use Rattle.std.specs.Char.{is_ascii_uppercase};
 ghost use Rattle.std.specs.List.{list_all};
 ghost use Rattle.desk_server.specs.RequestLine as spec;
 
-use http_response::Line;
+use club_http::Line;
 use std::marker::Model;
 
 /// The most bytes that are kept. The desk's longest request line has 80: it cancels a booking at a

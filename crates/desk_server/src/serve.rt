@@ -1,10 +1,11 @@
 //! The server.
 
-ghost use Rattle.desk_server.specs.Server.{ServesLogged};
+ghost use Rattle.desk_server.specs.Served.{HasTalked};
+ghost use Rattle.desk_server.specs.Server.{ServesLogged, ServesOn};
 
 use crate::between::carry_out;
 use crate::connections::{Arrival, Arrivals, Connection};
-use crate::log::{Fate, Log};
+use crate::log::{Fate, Log, Unlogged};
 use crate::office::Office;
 use crate::request_line::RequestLine;
 use club_clock::Moments;
@@ -28,16 +29,35 @@ impl fmt::Display for ClockOutOfRange {
 
 impl Error for ClockOutOfRange {}
 
-/// Serves this many clients, one after the other, and carries out each command of the office that
-/// comes before one of them, or while its request is awaited. A client gets the moment of the clock
-/// at its start. One that fails, on its way or in its exchange, counts like any other, and so does
-/// one whose request was refused. Commands don't count. Each client and each command is logged,
-/// which changes nothing of what is served.
+/// Serves this many clients of a listener, one after the other, and carries out each command of the
+/// office that comes before one of them, or while its request is awaited. A client gets the moment
+/// of the clock at its start. One that fails, on its way or in its exchange, counts like any other,
+/// and so does one whose request was refused. Commands don't count.
 ///
 /// # Errors
 ///
 /// `ClockOutOfRange` if the clock shows no moment of the club's. The client's connection is closed
 /// unanswered, and the server accepts no other.
+pub fn serve_on<L: Arrivals, M: Moments, D: Office>(
+    listener: &mut L,
+    count: u32,
+    moments: &mut M,
+    face: &mut Face,
+    desk: &mut D,
+) -> Result<(), ClockOutOfRange>
+    ensures { ServesOn M.gives D.answers D.commands (HasTalked L.Client.talks)
+        L.waited L.failures count listener.old moments.old desk.old
+        result listener.new moments.new desk.new }
+{
+    serve_logged(listener, count, moments, face, desk, &mut Unlogged)
+}
+
+/// Serves as `serve_on`, and logs each client and each command, which changes nothing of what is
+/// served.
+///
+/// # Errors
+///
+/// As `serve_on`.
 pub fn serve_logged<L: Arrivals, M: Moments, D: Office, G: Log>(
     arrivals: &mut L,
     count: u32,
@@ -46,7 +66,7 @@ pub fn serve_logged<L: Arrivals, M: Moments, D: Office, G: Log>(
     desk: &mut D,
     log: &mut G,
 ) -> Result<(), ClockOutOfRange>
-    ensures { ServesLogged M.gives G.begins G.notes D.answers D.commands L.Client.ends
+    ensures { ServesLogged M.gives G.begins G.notes D.answers D.commands (HasTalked L.Client.talks)
         L.waited L.failures count arrivals.old moments.old desk.old log.old
         result arrivals.new moments.new desk.new log.new }
 {

@@ -6,7 +6,6 @@ use crate::limit::MonotonicClock;
 use crate::timed::{TimedStream, Waited, outcome_of};
 use libc::net as c;
 use libc::types::pollfd;
-use std::cell::Cell;
 use std::io::{ErrorKind, Read, Write};
 use std::net::{Shutdown, TcpStream};
 use std::os::fd::{AsRawFd, RawFd};
@@ -25,49 +24,22 @@ pub enum Woken<O> {
     Nobody,
 }
 
-/// A client's stream, with the office's door beside it. No contract states which bytes it gives or
-/// takes, nor which commands come.
-pub trait ClientStream {
-    ghost use Rattle.std.specs.Prelude.{◌≤◌, length, IfSome};
-    ghost use Rattle.desk_server.specs.Limits.{moved};
+/// A client's stream, with the office's door beside it. No contract states which commands come.
+pub trait ClientStream: TimedStream {
+    ghost use Rattle.std.specs.Io.KnownBytes.{Keeps};
 
     type Command: Handover + Drop;
 
     /// Waits at most this long for the client and for the office at once. If both are there, it
     /// says whose turn it is.
-    fn wait_within(&self, limit: Duration, command_first: bool) -> Woken<Self::Command>;
-
-    /// Reads as `TimedStream::read_within`.
-    fn read_for(&self, limit: Duration, room: &mut [u8]) -> Waited
-        ensures { IfSome (moved result) (λ n. n ≤ length room.new) };
-
-    /// Writes as `TimedStream::write_within`.
-    fn write_for(&self, limit: Duration, bytes: &[u8]) -> Waited
-        ensures { IfSome (moved result) (λ n. n ≤ length bytes.now) };
+    fn wait_within(&mut self, limit: Duration, command_first: bool) -> Woken<Self::Command>
+        ensures reads_nothing { Keeps (Self.to_come self.old) (Self.to_come self.new) }
+        ensures writes_nothing { Keeps (Self.taken self.old) (Self.taken self.new) };
 
     /// Tells the client that no more bytes come, and returns whether that was done.
-    fn end_writing(&self) -> bool;
-}
-
-/// No contract states which bytes a client gives or takes.
-impl<S: ClientStream> TimedStream for &S {
-    ghost use Rattle.std.specs.Prelude.{None};
-
-    ghost to_come = { λ _. None };
-
-    ghost taken = { λ _. None };
-
-    ghost reads = { λ _ _ _ _. Unit {0} };
-
-    ghost writes = { λ _ _ _ _. Unit {0} };
-
-    fn read_within(&mut self, limit: Duration, room: &mut [u8]) -> Waited {
-        self.read_for(limit, room)
-    }
-
-    fn write_within(&mut self, limit: Duration, bytes: &[u8]) -> Waited {
-        self.write_for(limit, bytes)
-    }
+    fn end_writing(&mut self) -> bool
+        ensures reads_nothing { Keeps (Self.to_come self.old) (Self.to_come self.new) }
+        ensures writes_nothing { Keeps (Self.taken self.old) (Self.taken self.new) };
 }
 
 /// A client's socket, with the office's door beside it, if there is one. Its commands have the same
@@ -79,7 +51,7 @@ pub struct ClientSocket<'a, C> {
     clock: &'a C,
     patience: Duration,
     // whether the last wait found that the next read doesn't block
-    readable: Cell<bool>,
+    readable: bool,
 }
 
 impl<'a, C: MonotonicClock> ClientSocket<'a, C> {
@@ -95,7 +67,39 @@ impl<'a, C: MonotonicClock> ClientSocket<'a, C> {
             door,
             clock,
             patience,
-            readable: Cell::new(false),
+            readable: false,
+        }
+    }
+}
+
+/// No contract states which bytes a client's socket gives or takes.
+impl<C: MonotonicClock> TimedStream for ClientSocket<'_, C> {
+    ghost use Rattle.std.specs.Prelude.{None};
+
+    ghost to_come = { λ _. None };
+
+    ghost taken = { λ _. None };
+
+    ghost reads = { λ _ _ _ _. Unit {0} };
+
+    ghost writes = { λ _ _ _ _. Unit {0} };
+
+    fn read_within(&mut self, limit: Duration, room: &mut [u8]) -> Waited {
+        let readable = self.readable;
+        self.readable = false;
+        let mut stream = &self.stream;
+        if readable || stream.set_read_timeout(Some(limit)).is_ok() {
+            outcome_of(stream.read(room))
+        } else {
+            Waited::Failed
+        }
+    }
+
+    fn write_within(&mut self, limit: Duration, bytes: &[u8]) -> Waited {
+        let mut stream = &self.stream;
+        match stream.set_write_timeout(Some(limit)) {
+            Ok(()) => outcome_of(stream.write(bytes)),
+            Err(_) => Waited::Failed,
         }
     }
 }
@@ -103,7 +107,7 @@ impl<'a, C: MonotonicClock> ClientSocket<'a, C> {
 impl<'a, C: MonotonicClock> ClientStream for ClientSocket<'a, C> {
     type Command = Handed<'a, C>;
 
-    fn wait_within(&self, limit: Duration, command_first: bool) -> Woken<Handed<'a, C>> {
+    fn wait_within(&mut self, limit: Duration, command_first: bool) -> Woken<Handed<'a, C>> {
         let Some(door) = self.door else {
             return Woken::Client;
         };
@@ -120,33 +124,14 @@ impl<'a, C: MonotonicClock> ClientStream for ClientSocket<'a, C> {
                 Err(_) => Woken::Client,
             },
             Some(false) => {
-                self.readable.set(true);
+                self.readable = true;
                 Woken::Client
             }
             None => Woken::Client,
         }
     }
 
-    fn read_for(&self, limit: Duration, room: &mut [u8]) -> Waited {
-        let mut stream = &self.stream;
-        let readable = self.readable.get();
-        self.readable.set(false);
-        if readable || stream.set_read_timeout(Some(limit)).is_ok() {
-            outcome_of(stream.read(room))
-        } else {
-            Waited::Failed
-        }
-    }
-
-    fn write_for(&self, limit: Duration, bytes: &[u8]) -> Waited {
-        let mut stream = &self.stream;
-        match stream.set_write_timeout(Some(limit)) {
-            Ok(()) => outcome_of(stream.write(bytes)),
-            Err(_) => Waited::Failed,
-        }
-    }
-
-    fn end_writing(&self) -> bool {
+    fn end_writing(&mut self) -> bool {
         self.stream.shutdown(Shutdown::Write).is_ok()
     }
 }

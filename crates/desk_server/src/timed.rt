@@ -1,6 +1,7 @@
-//! Ends of a connection under limits of time.
+//! A connection under limits of time.
 
 ghost use Rattle.std.specs.Prelude.{◌≡◌, length, MatchResult, None};
+ghost use Rattle.std.specs.Io.KnownBytes.{Keeps};
 ghost use Rattle.club_http.specs.Ends.{Fills, Takes};
 ghost use Rattle.desk_server.specs.Limits.{EndsUnder, moved};
 
@@ -26,6 +27,7 @@ pub enum Waited {
 pub trait TimedStream {
     ghost use Rattle.std.specs.Prelude.{◌≤◌, ℕ, List, length, Option, IfSome};
     ghost use Rattle.std.specs.Duration.{as_nanos};
+    ghost use Rattle.std.specs.Io.KnownBytes.{Keeps};
     ghost use Rattle.club_http.specs.Ends.{Fills, Takes};
     ghost use Rattle.desk_server.specs.Limits.{Calls, moved};
 
@@ -46,12 +48,14 @@ pub trait TimedStream {
     fn read_within(&mut self, limit: Duration, room: &mut [u8]) -> Waited
         ensures within { IfSome (moved result) (λ n. n ≤ length room.new) }
         ensures bytes { Fills (to_come self.old) (to_come self.new) (moved result) room.new }
+        ensures writes_nothing { Keeps (taken self.old) (taken self.new) }
         ensures limited { reads self.old (as_nanos limit) result self.new };
 
     /// Takes the first of the bytes, and returns how many.
     fn write_within(&mut self, limit: Duration, bytes: &[u8]) -> Waited
         ensures within { IfSome (moved result) (λ n. n ≤ length bytes.now) }
         ensures bytes { Takes (taken self.old) (taken self.new) (moved result) bytes.now }
+        ensures reads_nothing { Keeps (to_come self.old) (to_come self.new) }
         ensures limited { writes self.old (as_nanos limit) result self.new };
 }
 
@@ -93,67 +97,15 @@ pub(crate) fn outcome_of(returned: io::Result<usize>) -> Waited
     }
 }
 
-/// A reader under a limit of time. It waits at most for the time that is left of the limit. If none
-/// is left, or the clock can't be read, it fails without reading. A read that a signal interrupted
-/// goes on with what is left of its time.
-#[derive(Drop)]
-pub struct TimedInlet<'l, 'c, R, C> {
-    reader: R,
-    limit: &'l Limit<'c, C>,
-    failures: u64,
-}
-
-/// The most bytes that `take_rest` takes.
-pub const MAX_REST: usize = 65_536;
-
-/// How many milliseconds `take_rest` waits for the next bytes, or the end.
-const REST_MILLISECONDS: u64 = 200;
-
-/// The most bytes that it reads in a call.
-const MAX_REST_AT_ONCE: usize = 4_096;
-
-impl<'l, 'c, R: TimedStream, C: MonotonicClock> TimedInlet<'l, 'c, R, C> {
-    ghost use Rattle.std.specs.Prelude.{◌≡◌};
-    ghost use Rattle.desk_server.specs.Limits.{TakesAtMost};
-
-    /// A reader without failures yet.
-    pub fn new(reader: R, limit: &'l Limit<'c, C>) -> TimedInlet<'l, 'c, R, C>
-        ensures { result ≡ record { reader = reader; limit = limit.entry; failures = 0 } }
-    {
-        TimedInlet {
-            reader,
-            limit,
-            failures: 0,
-        }
-    }
-
-    /// Reads the bytes that still come before the limit is over: up to the end of the input, at
-    /// most `MAX_REST` bytes. It waits for each of them no longer than 200 milliseconds.
-    pub fn take_rest(&mut self)
-        ensures { TakesAtMost 65_536 (R.to_come self.old.reader) (R.to_come self.new.reader) }
-    {
-        let mut room = [0; MAX_REST_AT_ONCE];
-        let mut taken = 0;
-        while taken < MAX_REST {
-            let most = MAX_REST_AT_ONCE.min(MAX_REST - taken);
-            let brief = Duration::from_millis(REST_MILLISECONDS).min(self.limit.left());
-            let limit = Limit::after(self.limit.clock, brief);
-            match read_under(&mut self.reader, &limit, &mut room[..most]) {
-                Some(came) if came > 0 => taken += came,
-                _ => return,
-            }
-        }
-    }
-}
-
 // Reads with the time that is left of a limit.
 fn read_under<R: TimedStream, C: MonotonicClock>(
     reader: &mut R,
     limit: &Limit<'_, C>,
     room: &mut [u8],
 ) -> Option<usize>
-    ensures { EndsUnder C.shows R.reads limit.now reader.old result reader.new
-        (length room.new) (Fills (R.to_come reader.old) (R.to_come reader.new) result room.new) }
+    ensures { EndsUnder C.shows R.reads limit.now reader.old result reader.new (length room.new)
+        (Fills (R.to_come reader.old) (R.to_come reader.new) result room.new)
+        (Keeps (R.taken reader.old) (R.taken reader.new)) }
 {
     for interrupted in 0..u64::MAX {
         let left = limit.left();
@@ -169,69 +121,15 @@ fn read_under<R: TimedStream, C: MonotonicClock>(
     None
 }
 
-impl<R: TimedStream, C: MonotonicClock> Inlet for TimedInlet<'_, '_, R, C> {
-    ghost use Rattle.std.specs.Prelude.{◌≡◌};
-    ghost use Rattle.desk_server.specs.Limits.{IsCalledUnder};
-
-    ghost to_come = { λ inlet. R.to_come inlet.reader };
-
-    ghost failures = { λ inlet. inlet.failures };
-
-    ghost fills = { λ old result room new. (new.limit ≡ old.limit)
-        × IsCalledUnder C.shows R.reads old.limit.now old.reader result new.reader };
-
-    fn fill(&mut self, room: &mut [u8]) -> Option<usize> {
-        let came = read_under(&mut self.reader, self.limit, room);
-        if came.is_none() {
-            self.failures = self.failures.saturating_add(1);
-        }
-        came
-    }
-}
-
-/// A writer under a limit of time, which begins with the first write. It waits at most for the time
-/// that is left of the limit. If none is left, or the clock can't be read, it fails and writes
-/// nothing. A write that a signal interrupted goes on with what is left of its time.
-#[derive(Drop)]
-pub struct TimedOutlet<'c, W, C> {
-    writer: W,
-    clock: &'c C,
-    patience: Duration,
-    limit: Option<Limit<'c, C>>,
-    failures: u64,
-}
-
-impl<'c, W: TimedStream, C: MonotonicClock> TimedOutlet<'c, W, C> {
-    ghost use Rattle.std.specs.Prelude.{◌≡◌, None};
-
-    /// A writer whose limit hasn't begun.
-    pub fn new(writer: W, clock: &'c C, patience: Duration) -> TimedOutlet<'c, W, C>
-        ensures { result ≡ record {
-          writer = writer;
-          clock = clock.entry;
-          patience = patience;
-          limit = None;
-          failures = 0;
-        } }
-    {
-        TimedOutlet {
-            writer,
-            clock,
-            patience,
-            limit: None,
-            failures: 0,
-        }
-    }
-}
-
 // Writes with the time that is left of a limit.
 fn write_under<W: TimedStream, C: MonotonicClock>(
     writer: &mut W,
     limit: &Limit<'_, C>,
     bytes: &[u8],
 ) -> Option<usize>
-    ensures { EndsUnder C.shows W.writes limit.now writer.old result writer.new
-        (length bytes.now) (Takes (W.taken writer.old) (W.taken writer.new) result bytes.now) }
+    ensures { EndsUnder C.shows W.writes limit.now writer.old result writer.new (length bytes.now)
+        (Takes (W.taken writer.old) (W.taken writer.new) result bytes.now)
+        (Keeps (W.to_come writer.old) (W.to_come writer.new)) }
 {
     for interrupted in 0..u64::MAX {
         let left = limit.left();
@@ -247,40 +145,135 @@ fn write_under<W: TimedStream, C: MonotonicClock>(
     None
 }
 
-impl<W: TimedStream, C: MonotonicClock> Outlet for TimedOutlet<'_, W, C> {
-    ghost use Rattle.std.specs.Prelude.{◌≡◌, ◌≤◌, length, IfSome, IsSomeAnd};
+/// The most bytes that `take_rest` takes.
+pub const MAX_REST: usize = 65_536;
+
+/// How many milliseconds `take_rest` waits for the next bytes, or the end.
+const REST_MILLISECONDS: u64 = 200;
+
+/// The most bytes that it reads in a call.
+const MAX_REST_AT_ONCE: usize = 4_096;
+
+/// An accepted connection, both ends of it, under limits of time. All reads together have the
+/// patience, from the accepting on, and all writes together have it once more, from the first write
+/// on. A call waits at most for the time that is left of its limit. If none is left, or the clock
+/// can't be read, it fails, and neither reads nor writes. A call that a signal interrupted goes on
+/// with what is left of its time.
+#[derive(Drop)]
+pub struct Accepted<'c, S, C> {
+    pub(crate) stream: S,
+    clock: &'c C,
+    patience: Duration,
+    // the limit of the reads
+    pub(crate) reading: Limit<'c, C>,
+    // the limit of the writes, from the first one on
+    writing: Option<Limit<'c, C>>,
+    read_failures: u64,
+    write_failures: u64,
+    // whether a command goes before the client's bytes
+    pub(crate) command_first: bool,
+}
+
+impl<'c, S: TimedStream, C: MonotonicClock> Accepted<'c, S, C> {
+    ghost use Rattle.std.specs.Prelude.{◌≡◌, None, false};
     ghost use Rattle.std.specs.Duration.{as_nanos};
-    ghost use Rattle.club_http.specs.Ends.{Takes, put_failures};
-    ghost use Rattle.desk_server.specs.Limits.{IsCalledUnder, StartsLimit};
+    ghost use Rattle.std.specs.Io.KnownBytes.{Keeps};
+    ghost use Rattle.desk_server.specs.Accepted.{HasMoved};
+    ghost use Rattle.desk_server.specs.Limits.{AtShown, TakesAtMost, due_after, nanos_of};
 
-    ghost taken = { λ outlet. W.taken outlet.writer };
-
-    ghost failures = { λ outlet. outlet.failures };
-
-    fn put(&mut self, bytes: &[u8]) -> Option<usize>
-        ensures within { IfSome result (λ n. n ≤ length bytes.now) }
-        ensures bytes { Takes (W.taken self.old.writer) (W.taken self.new.writer)
-            result bytes.now }
-        ensures counted { self.new.failures
-            ≡ put_failures self.old.failures result bytes.now }
-        ensures begins { StartsLimit C.shows self.old.clock.now (as_nanos self.old.patience)
-            self.old.limit self.new.limit }
-        ensures limited { IsSomeAnd self.new.limit (λ limit. IsCalledUnder C.shows W.writes limit
-            self.old.writer result self.new.writer) }
-        ensures kept { self.new ≡ record self.old {
-          writer = self.new.writer;
-          limit = self.new.limit;
-          failures = self.new.failures;
+    /// A connection that was accepted now.
+    pub fn new(stream: S, clock: &'c C, patience: Duration) -> Accepted<'c, S, C>
+        ensures new { result ≡ record {
+          stream = stream;
+          clock = clock.entry;
+          patience = patience;
+          reading = result.reading;
+          writing = None;
+          read_failures = 0;
+          write_failures = 0;
+          command_first = false;
         } }
+        ensures clock { result.reading.clock ≡ clock.entry }
+        ensures due { AtShown (C.shows clock.entry.now)
+            (λ shown. nanos_of result.reading.due ≡ due_after (as_nanos patience) shown) }
     {
-        let limit = match self.limit.take() {
+        Accepted {
+            stream,
+            clock,
+            patience,
+            reading: Limit::after(clock, patience),
+            writing: None,
+            read_failures: 0,
+            write_failures: 0,
+            command_first: false,
+        }
+    }
+
+    /// Hands the stream back.
+    pub fn into_stream(self) -> S
+        ensures { result ≡ self.entry.stream }
+    {
+        self.stream
+    }
+
+    /// Reads the bytes that still come within the patience, from now on: up to the end of the
+    /// input, at most `MAX_REST` bytes. It waits for each of them no longer than 200 milliseconds.
+    pub fn take_rest(&mut self)
+        ensures taken { TakesAtMost 65_536 (S.to_come self.old.stream) (S.to_come self.new.stream) }
+        ensures writes_nothing { Keeps (S.taken self.old.stream) (S.taken self.new.stream) }
+        ensures kept { HasMoved self.old self.new }
+    {
+        let all = Limit::after(self.clock, self.patience);
+        let mut room = [0; MAX_REST_AT_ONCE];
+        let mut taken = 0;
+        while taken < MAX_REST {
+            let most = MAX_REST_AT_ONCE.min(MAX_REST - taken);
+            let brief = Duration::from_millis(REST_MILLISECONDS).min(all.left());
+            let limit = Limit::after(self.clock, brief);
+            match read_under(&mut self.stream, &limit, &mut room[..most]) {
+                Some(came) if came > 0 => taken += came,
+                _ => return,
+            }
+        }
+    }
+}
+
+impl<S: TimedStream, C: MonotonicClock> Inlet for Accepted<'_, S, C> {
+    ghost use Rattle.desk_server.specs.Accepted.{IsRead};
+
+    ghost to_come = { λ accepted. S.to_come accepted.stream };
+
+    ghost failures = { λ accepted. accepted.read_failures };
+
+    ghost fills = { IsRead C.shows S.reads S.taken };
+
+    fn fill(&mut self, room: &mut [u8]) -> Option<usize> {
+        let came = read_under(&mut self.stream, &self.reading, room);
+        if came.is_none() {
+            self.read_failures = self.read_failures.saturating_add(1);
+        }
+        came
+    }
+}
+
+impl<S: TimedStream, C: MonotonicClock> Outlet for Accepted<'_, S, C> {
+    ghost use Rattle.desk_server.specs.Accepted.{IsWritten};
+
+    ghost taken = { λ accepted. S.taken accepted.stream };
+
+    ghost failures = { λ accepted. accepted.write_failures };
+
+    ghost puts = { IsWritten C.shows S.writes S.to_come };
+
+    fn put(&mut self, bytes: &[u8]) -> Option<usize> {
+        let limit = match self.writing.take() {
             Some(limit) => limit,
             None => Limit::after(self.clock, self.patience),
         };
-        let taken = write_under(&mut self.writer, &limit, bytes);
-        self.limit = Some(limit);
+        let taken = write_under(&mut self.stream, &limit, bytes);
+        self.writing = Some(limit);
         if taken.is_none() || (taken == Some(0) && !bytes.is_empty()) {
-            self.failures = self.failures.saturating_add(1);
+            self.write_failures = self.write_failures.saturating_add(1);
         }
         taken
     }

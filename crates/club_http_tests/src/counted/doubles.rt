@@ -102,11 +102,15 @@ impl Narrow {
 }
 
 impl Outlet for Narrow {
-    ghost use Rattle.std.specs.Prelude.{Some, take};
+    ghost use Rattle.std.specs.Prelude.{◌≡◌, Some, take};
+    ghost use Rattle.club_http.specs.Ends.{one_more};
 
     ghost taken = { λ writer. Some (take writer.len writer.bytes) };
 
     ghost failures = { λ writer. writer.failures };
+
+    // each call is counted
+    ghost puts = { λ old _ _ new. new.calls ≡ one_more old.calls };
 
     fn put(&mut self, bytes: &[u8]) -> Option<usize> {
         self.calls = self.calls.saturating_add(1);

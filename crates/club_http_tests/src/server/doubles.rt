@@ -75,31 +75,26 @@ impl Write for Taken {
 pub struct Played<'a> {
     wire: Wire<'a>,
     // how many of its pieces have come
-    came: Cell<usize>,
+    came: usize,
 }
 
 impl<'a> Played<'a> {
     fn new(wire: Wire<'a>) -> Played<'a> {
-        Played {
-            wire,
-            came: Cell::new(0),
-        }
+        Played { wire, came: 0 }
     }
 
     // The next piece; `None` at its end.
     fn next(&self) -> Option<Piece<'a>> {
         match self.wire {
-            Wire::Pieces(pieces) => pieces.get(self.came.get()).copied(),
-            Wire::Whole(bytes) | Wire::Deaf(bytes) if self.came.get() == 0 => {
-                Some(Piece::Bytes(bytes))
-            }
+            Wire::Pieces(pieces) => pieces.get(self.came).copied(),
+            Wire::Whole(bytes) | Wire::Deaf(bytes) if self.came == 0 => Some(Piece::Bytes(bytes)),
             Wire::Broken => Some(Piece::Broken),
             _ => None,
         }
     }
 
-    fn take(&self) {
-        self.came.set(self.came.get().saturating_add(1));
+    fn take(&mut self) {
+        self.came = self.came.saturating_add(1);
     }
 }
 
@@ -114,21 +109,18 @@ pub fn read_from(bytes: &[u8], room: &mut [u8]) -> Waited
     }
 }
 
-impl<'a> ClientStream for Played<'a> {
-    type Command = Letter<'a>;
+impl TimedStream for Played<'_> {
+    ghost use Rattle.std.specs.Prelude.{None};
 
-    fn wait_within(&self, _limit: Duration, _command_first: bool) -> Woken<Letter<'a>> {
-        let woken = match self.next() {
-            Some(Piece::Command(bytes)) => Woken::Command(Letter(Some(bytes))),
-            Some(Piece::Cut) => Woken::Command(Letter(None)),
-            Some(Piece::Gone) => Woken::Nobody,
-            _ => return Woken::Client,
-        };
-        self.take();
-        woken
-    }
+    ghost to_come = { λ _. None };
 
-    fn read_for(&self, _limit: Duration, room: &mut [u8]) -> Waited {
+    ghost taken = { λ _. None };
+
+    ghost reads = { λ _ _ _ _. Unit {0} };
+
+    ghost writes = { λ _ _ _ _. Unit {0} };
+
+    fn read_within(&mut self, _limit: Duration, room: &mut [u8]) -> Waited {
         match self.next() {
             Some(Piece::Bytes(bytes)) => {
                 self.take();
@@ -139,14 +131,29 @@ impl<'a> ClientStream for Played<'a> {
         }
     }
 
-    fn write_for(&self, _limit: Duration, bytes: &[u8]) -> Waited {
+    fn write_within(&mut self, _limit: Duration, bytes: &[u8]) -> Waited {
         match self.wire {
             Wire::Deaf(_) => Waited::Failed,
             _ => Waited::Moved(bytes.len()),
         }
     }
+}
 
-    fn end_writing(&self) -> bool {
+impl<'a> ClientStream for Played<'a> {
+    type Command = Letter<'a>;
+
+    fn wait_within(&mut self, _limit: Duration, _command_first: bool) -> Woken<Letter<'a>> {
+        let woken = match self.next() {
+            Some(Piece::Command(bytes)) => Woken::Command(Letter(Some(bytes))),
+            Some(Piece::Cut) => Woken::Command(Letter(None)),
+            Some(Piece::Gone) => Woken::Nobody,
+            _ => return Woken::Client,
+        };
+        self.take();
+        woken
+    }
+
+    fn end_writing(&mut self) -> bool {
         false
     }
 }
@@ -168,7 +175,7 @@ impl Handover for Letter<'_> {
 }
 
 /// The clock of clients over memory.
-static STOPPED: Stopped = Stopped(Some(Duration::ZERO));
+pub static STOPPED: Stopped = Stopped(Some(Duration::ZERO));
 
 /// Arrivals in turn.
 #[derive(Drop)]

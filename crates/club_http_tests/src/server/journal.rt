@@ -5,7 +5,9 @@ use super::doubles::{Letter, read_from};
 use club_core::{Reply, Request};
 use club_http::Responder;
 use club_values::Moment;
-use desk_server::{Answer, Carried, ClientStream, Fate, Log, Office, RequestLine, Waited, Woken};
+use desk_server::{
+    Answer, Carried, ClientStream, Fate, Log, Office, RequestLine, TimedStream, Waited, Woken,
+};
 use http_request::Words;
 use std::alloc::Global;
 use std::cell::{Cell, RefCell};
@@ -99,7 +101,7 @@ pub struct Recorded<'a> {
     journal: &'a Journal,
     steps: &'a [Step<'a>],
     // how many of its steps have come
-    came: Cell<usize>,
+    came: usize,
 }
 
 fn milliseconds(limit: Duration) -> u64 {
@@ -111,14 +113,14 @@ impl<'a> Recorded<'a> {
         Recorded {
             journal,
             steps,
-            came: Cell::new(0),
+            came: 0,
         }
     }
 
     // The next step, if it comes within the limit; else the limit passes.
     fn next_within(&self, limit: Duration) -> Option<Step<'a>> {
         let most = milliseconds(limit);
-        let next = self.steps.get(self.came.get()).copied();
+        let next = self.steps.get(self.came).copied();
         let after = match next {
             Some(Step::Bytes(after, _) | Step::Command(after, _)) => after,
             Some(Step::Gone(after) | Step::End(after)) => after,
@@ -128,15 +130,46 @@ impl<'a> Recorded<'a> {
         if after <= most { next } else { None }
     }
 
-    fn take(&self) {
-        self.came.set(self.came.get().saturating_add(1));
+    fn take(&mut self) {
+        self.came = self.came.saturating_add(1);
+    }
+}
+
+impl TimedStream for Recorded<'_> {
+    ghost use Rattle.std.specs.Prelude.{None};
+
+    ghost to_come = { λ _. None };
+
+    ghost taken = { λ _. None };
+
+    ghost reads = { λ _ _ _ _. Unit {0} };
+
+    ghost writes = { λ _ _ _ _. Unit {0} };
+
+    // What was waited for is there.
+    fn read_within(&mut self, limit: Duration, room: &mut [u8]) -> Waited {
+        self.journal.note(Call::Read(milliseconds(limit)));
+        match self.steps.get(self.came) {
+            Some(Step::Bytes(_, bytes)) => {
+                self.take();
+                read_from(bytes, room)
+            }
+            Some(Step::End(_)) => Waited::Moved(0),
+            _ => Waited::Failed,
+        }
+    }
+
+    fn write_within(&mut self, limit: Duration, bytes: &[u8]) -> Waited {
+        self.journal
+            .note(Call::Wrote(milliseconds(limit), bytes.len()));
+        Waited::Moved(bytes.len())
     }
 }
 
 impl<'a> ClientStream for Recorded<'a> {
     type Command = Letter<'a>;
 
-    fn wait_within(&self, limit: Duration, command_first: bool) -> Woken<Letter<'a>> {
+    fn wait_within(&mut self, limit: Duration, command_first: bool) -> Woken<Letter<'a>> {
         let left = milliseconds(limit);
         self.journal.note(if command_first {
             Call::WaitedCommandFirst(left)
@@ -152,26 +185,7 @@ impl<'a> ClientStream for Recorded<'a> {
         woken
     }
 
-    // What was waited for is there.
-    fn read_for(&self, limit: Duration, room: &mut [u8]) -> Waited {
-        self.journal.note(Call::Read(milliseconds(limit)));
-        match self.steps.get(self.came.get()) {
-            Some(Step::Bytes(_, bytes)) => {
-                self.take();
-                read_from(bytes, room)
-            }
-            Some(Step::End(_)) => Waited::Moved(0),
-            _ => Waited::Failed,
-        }
-    }
-
-    fn write_for(&self, limit: Duration, bytes: &[u8]) -> Waited {
-        self.journal
-            .note(Call::Wrote(milliseconds(limit), bytes.len()));
-        Waited::Moved(bytes.len())
-    }
-
-    fn end_writing(&self) -> bool {
+    fn end_writing(&mut self) -> bool {
         self.journal.note(Call::EndedWriting);
         true
     }

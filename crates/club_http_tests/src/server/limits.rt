@@ -6,7 +6,7 @@ use crate::expect::expect_eq;
 use crate::rows::{expect_row, moment};
 use crate::sockets::loopback_listener;
 use club_http::{AnswerFault, Face, answer};
-use desk_server::{Arrival, Arrivals, Limit, Listening, TimedInlet, TimedOutlet};
+use desk_server::{Accepted, Arrival, Arrivals, Listening};
 use libc::net as c;
 use std::alloc::Global;
 use std::os::fd::AsRawFd;
@@ -48,8 +48,8 @@ static OUTCOMES: [(Client, Outcome); 10] = [
         (Some(AnswerFault::Write(0)), 53, 1, 10_000),
     ),
     ((0, 0, 0), (CUT, 0, 0, 0)),
-    ((0, 0, 3), (CUT, 2, 0, 0)),
-    ((0, 0, 54), (Some(AnswerFault::Write(0)), 53, 0, 0)),
+    ((0, 0, 4), (CUT, 2, 0, 0)),
+    ((0, 0, 55), (Some(AnswerFault::Write(0)), 53, 0, 0)),
 ];
 
 /// What comes of an exchange with a client.
@@ -57,12 +57,11 @@ fn outcome_of(rt: &(impl Abort + Alloc<A = Global>), client: &Client) -> Outcome
     let (sends, takes, readable) = *client;
     let patience = Duration::from_secs(10);
     let clock = Running::new(readable);
-    let limit = Limit::after(&clock, patience);
     let mut face = Face::new(rt.alloc()).expect(rt, "a face");
     let noon = moment(rt, NOON);
     let mut desk = Noting::new(rt.alloc(), noon);
-    let mut inlet = TimedInlet::new(Slow::new(&clock, sends, REQUEST), &limit);
-    let mut outlet = TimedOutlet::new(Slow::new(&clock, takes, b""), &clock, patience);
+    let mut inlet = Accepted::new(Slow::new(&clock, sends, REQUEST), &clock, patience);
+    let mut outlet = Accepted::new(Slow::new(&clock, takes, b""), &clock, patience);
     let outcome = answer(&mut face, &mut desk, noon, &mut inlet, &mut outlet);
     (
         outcome.err(),
@@ -98,13 +97,12 @@ fn outcome_interrupted(
 ) -> (Option<AnswerFault>, u64, u64, u64) {
     let patience = Duration::from_secs(60);
     let clock = Running::new(ALWAYS);
-    let limit = Limit::after(&clock, patience);
     let mut face = Face::new(rt.alloc()).expect(rt, "a face");
     let noon = moment(rt, NOON);
     let mut client = Slow::new(&clock, 1_000, REQUEST);
     client.interruptions = interruptions;
-    let mut inlet = TimedInlet::new(client, &limit);
-    let mut outlet = TimedOutlet::new(Slow::new(&clock, 0, b""), &clock, patience);
+    let mut inlet = Accepted::new(client, &clock, patience);
+    let mut outlet = Accepted::new(Slow::new(&clock, 0, b""), &clock, patience);
     let outcome = answer(
         &mut face,
         &mut Noting::new(rt.alloc(), noon),
@@ -143,8 +141,8 @@ static RESTS: [(u64, u64, u64); 5] = [
 /// How often was read for the rest, and the milliseconds that passed.
 fn rest_of(pause: u64) -> (u64, u64) {
     let clock = Running::new(ALWAYS);
-    let limit = Limit::after(&clock, Duration::from_secs(10));
-    TimedInlet::new(Slow::new(&clock, pause, REQUEST), &limit).take_rest();
+    let slow = Slow::new(&clock, pause, REQUEST);
+    Accepted::new(slow, &clock, Duration::from_secs(10)).take_rest();
     (clock.reads(), clock.elapsed())
 }
 

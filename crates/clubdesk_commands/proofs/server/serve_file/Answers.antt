@@ -15,6 +15,6 @@ returns-in-Err-make_door-clause-done g c =
 pub returns-clause-done : goal.returns-clause-done
 returns-clause-done g c =
     let served = rw c.new-desk.ensures at c.serve-outcome.ensures.served in
-    spec.server_done c.in-Ok.store c.serve-outcome.new.desk c.open.new.self c.in-Ok.ensures
-    served (follows_machine _ _ _ c.args.service _ _ _ c.serve-outcome.result served) c.serve-outcome.ensures.announced
+    spec.server_done c.in-Ok.store c.serve-outcome.new.desk c.open.new.self served.0 c.in-Ok.ensures
+    served.1 (follows_machine _ _ _ c.args.service served.0 _ _ _ c.serve-outcome.result served.1) c.serve-outcome.ensures.announced
     (rw c.into_store.ensures at c.close-2.ensures)

@@ -1,5 +1,9 @@
-use Rattle.desk_server.proofs.MeanwhileLemmas.{read_alone}
+use Rattle.desk_server.specs.Between.{Awaits, CommandsAlone}
+use Rattle.desk_server.proofs.MeanwhileLemmas.{alone_more, alone_none, reads_as, reads_kept}
 use Rattle.desk_server.proofs.between.receive_in.Goals as goal
 
 pub returns-clause-alone : goal.returns-clause-alone
-returns-clause-alone g c = read_alone _ _ _ _ _ _ _ (λ old given room new call. call.0) _ _ _ c.receive.ensures.calls
+returns-clause-alone g c = reads_kept _ _ (alone_none _ _ _ _ _) (alone_more _ _ _ _ _) (λ old given room new call. call.0) _ _ _ c.receive.ensures.calls
+
+pub returns-clause-calls : goal.returns-clause-calls
+returns-clause-calls g c = reads_as (λ lent. lent.reader.now) _ _ (λ old given room new call. call.1) _ _ _ c.receive.ensures.calls

@@ -12,9 +12,9 @@ returns g c = record {
       elim c.match-put_all.branch [
         | in-Ok w ↦
             rw w.writer-is (
-            sent_more _ _ _ _ _ _ _ w.put_all-in-Ok.result w.in-Ok.ensures.0
-            (rw (w.as_bytes.ensures.value ∙ w.as_str.ensures.value) at w.put_all-in-Ok.ensures)
+            sent_more _ _ _ _ _ _ _ w.put_all-in-Ok.result w.in-Ok.ensures.written.0
+            (rw (w.as_bytes.ensures.value ∙ w.as_str.ensures.value) at w.put_all-in-Ok.ensures.written)
             )
-        | in-Err w ↦ rw w.writer-is (sent_nothing _ _ _ _ w.in-Err.field-0 w.in-Err.ensures.0 w.in-Err.ensures.1)
+        | in-Err w ↦ rw w.writer-is (sent_nothing _ _ _ _ w.in-Err.field-0 w.in-Err.ensures.written.0 w.in-Err.ensures.written.1)
       ];
 }

@@ -36,7 +36,7 @@ pub loop-served-preserved-in-Client : goal.loop-served-preserved-in-Client
 loop-served-preserved-in-Client g c =
     let so_far = c.loop-served.invariant.so_far in
     let next = c.in-Client.ensures in
-    let exchange = c.exchange-outcome.ensures.exchanged in
+    let exchange = c.exchange-outcome.ensures in
     let fate = Exchanged c.in-Some.moment c.of-line.result c.exchange-outcome.result in
     record {
       fewer = omega arith;
@@ -47,8 +47,11 @@ loop-served-preserved-in-Client g c =
           left = exchange.left;
           gives = c.in-Some.ensures;
           commanded = exchange.meanwhile.commanded;
-          exchanged = (c.request.result.now, c.of-line.ensures, rw (← c.request.ensures) at exchange.exchanged);
-          ended = c.exchange-outcome.ensures.ended;
+          bytes = c.request.result.now;
+          written = exchange.written;
+          begins = c.of-line.ensures;
+          exchanged = rw (← c.request.ensures) at exchange.exchanged;
+          ended = (_, _, rw (← c.request.ensures) at exchange.talked);
         },
       )
           (record {
@@ -75,11 +78,13 @@ returns-in_default g c =
     let so_far = c.loop-served.invariant.so_far in
     let next = c.in-Client.ensures in
     record {
-      turns = so_far.turns;
-      last = c.loop-served.moments;
-      before = rw next.failure_count so_far.served;
       all = so_far.turns ++ alone Unanswered ∷ [];
-      ends = (omega (arith, so_far.so_many), c.in_default.ensures, refl);
+      serves = record {
+        turns = so_far.turns;
+        last = c.loop-served.moments;
+        before = rw next.failure_count so_far.served;
+        ends = (omega (arith, so_far.so_many), c.in_default.ensures, refl);
+      };
       besides = (
         rw (length-append so_far.turns (alone Unanswered ∷ [])) (one_call so_far _ next.waited),
         spec.one_noted so_far.turns (alone Unanswered) _ _ so_far.noted (noted_alone _ Unanswered c.begin.ensures c.note-in_default.ensures),

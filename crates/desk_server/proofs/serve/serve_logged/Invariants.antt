@@ -1,12 +1,13 @@
 -- The turns so far.
 use Rattle.std.proofs.Common.{◌+◌, ◌-◌, ◌≤◌}
+use Rattle.desk_server.specs.Served.{HasTalked}
 use Rattle.desk_server.proofs.ServedLemmas.{SoFar}
 use Rattle.desk_server.proofs.serve.serve_logged.Given as goal
 
 abbrev pub invariant-loop-served : goal.invariant-loop-served
 invariant-loop-served g l = record {
   fewer : l.served ≤ l.count;
-  so_far : SoFar g.M.Moments.gives g.D.Responder.answers g.D.Office.commands g.L.Client.Connection.ends g.L.Arrivals.waited g.L.Arrivals.failures
+  so_far : SoFar g.M.Moments.gives g.D.Responder.answers g.D.Office.commands (HasTalked g.L.Client.Connection.talks) g.L.Arrivals.waited g.L.Arrivals.failures
       g.G.Log.begins g.G.Log.notes l.served l.commanded l.initial.arrivals l.arrivals
       l.initial.moments l.initial.desk l.initial.log l.moments l.desk l.log;
 }

@@ -4,4 +4,4 @@ use Rattle.desk_server.proofs.timed.write_under.Given as goal
 
 abbrev pub invariant-loop-interrupted : goal.invariant-loop-interrupted
 invariant-loop-interrupted g l =
-    Interrupted g.C.MonotonicClock.shows g.W.TimedStream.writes g.W.TimedStream.taken l.limit l.initial.writer l.interrupted l.writer
+    Interrupted g.C.MonotonicClock.shows g.W.TimedStream.writes g.W.TimedStream.taken g.W.TimedStream.to_come l.limit l.initial.writer l.interrupted l.writer

@@ -1,7 +1,8 @@
-use Rattle.std.proofs.Common.{◌≡◌, ◌≤◌, ◌-◌, ◌++◌, length, take, arith, length-append}
+use Rattle.std.proofs.Common.{◌≡◌, ◌≤◌, ◌-◌, ◌++◌, length, take, arith, length-append, refl}
 use Rattle.std.proofs.lemmas.Grind.{common_steps}
-use Rattle.std.proofs.KnownBytes.{Consumes-trans}
-use Rattle.desk_server.proofs.timed.TimedInlet.take_rest.Goals as goal
+use Rattle.std.proofs.KnownBytes.{Consumes-trans, Keeps-trans}
+use Rattle.desk_server.proofs.AcceptedLemmas.{moved_more}
+use Rattle.desk_server.proofs.timed.Accepted.take_rest.Goals as goal
 
 pub loop-taken-preserved : goal.loop-taken-preserved
 loop-taken-preserved g c =
@@ -14,4 +15,6 @@ loop-taken-preserved g c =
       so_many = omega (arith, length-append inv.bytes came, inv.so_many, many);
       within = grind (arith, common_steps);
       came = Consumes-trans _ _ _ inv.bytes came inv.came c.in-Some.ensures.bytes.0;
+      still = Keeps-trans _ _ _ inv.still c.in-Some.ensures.still;
+      kept = moved_more c.args.self.now c.loop-taken.self (record c.loop-taken.self { stream = c.read_under.new.reader }) inv.kept refl;
     }

@@ -1,0 +1,70 @@
+-- An accepted connection under limits of time (ours).
+use Rattle.std.specs.Prelude.{◌≡◌, ℕ, List, Option, IsSomeAnd, Result, Ok, Err}
+use Rattle.std.specs.Duration.{as_nanos}
+use Rattle.std.specs.Io.KnownBytes.{Appends, Keeps}
+use Rattle.club_core.specs.declared.reply.Reply.{Reply}
+use Rattle.club_http.specs.Calls.{ArePut, ReadsNoFurther}
+use Rattle.club_http.specs.Exchange.{reader_failures, writer_failures}
+use Rattle.club_http.specs.Received.{IsCutOff, Receives}
+use Rattle.club_http.specs.declared.fault.AnswerFault.{AnswerFault}
+use Rattle.club_http.specs.declared.fault.AnswerFault.TheVariants.{Read, Write}
+use Rattle.http_request.specs.Frame.{IsOneRequest}
+use Rattle.desk_server.specs.Between.{Awaits}
+use Rattle.desk_server.specs.Limits.{Calls, IsCalledUnder, StartsLimit, TakesAtMost}
+use Rattle.desk_server.specs.declared.timed.Accepted.{Accepted}
+
+-- only its stream moved on
+abbrev pub HasMoved : {S C : Type 0} → Accepted S C → Accepted S C → Type 0
+HasMoved old new = new ≡ record old { stream = new.stream }
+
+module _ {S C : Type 0} (Shows : C → Option ℕ → Type 0) (Does : Calls S) (kept : S → Option (List ℕ)) where
+  -- A read under the limit of the reads. The stream took no bytes.
+  pub record IsRead (old : Accepted S C) (result : Option ℕ) (room : List ℕ) (new : Accepted S C) : Type 0 where
+    pub same : new ≡ record old { stream = new.stream; read_failures = new.read_failures }
+    pub limited : IsCalledUnder Shows Does old.reading old.stream result new.stream
+    pub writes_nothing : Keeps (kept old.stream) (kept new.stream)
+
+  -- A write under the limit of the writes, which begins with the first one. The stream gave no bytes.
+  pub record IsWritten (old : Accepted S C) (result : Option ℕ) (bytes : List ℕ) (new : Accepted S C) : Type 0 where
+    pub same : new ≡ record old { stream = new.stream; writing = new.writing; write_failures = new.write_failures }
+    pub begins : StartsLimit Shows old.clock.now (as_nanos old.patience) old.writing new.writing
+    pub limited : IsSomeAnd new.writing (λ limit. IsCalledUnder Shows Does limit old.stream result new.stream)
+    pub reads_nothing : Keeps (kept old.stream) (kept new.stream)
+
+module _ {S C : Type 0} (to_come taken : S → Option (List ℕ)) where
+  -- A wait for a command or the client. The stream gave and took no bytes.
+  pub record HasWaited (old new : Accepted S C) : Type 0 where
+    pub same : new ≡ record old { stream = new.stream; command_first = new.command_first }
+    pub reads_nothing : Keeps (to_come old.stream) (to_come new.stream)
+    pub writes_nothing : Keeps (taken old.stream) (taken new.stream)
+
+  -- Some of what the client still sends was read, at most 65,536 bytes, and nothing was written.
+  pub record TakesRest (old new : Accepted S C) : Type 0 where
+    pub same : HasMoved old new
+    pub bytes : TakesAtMost 65_536 (to_come old.stream) (to_come new.stream)
+    pub writes_nothing : Keeps (taken old.stream) (taken new.stream)
+
+  -- the bytes that came are the request; or what came before the reader failed
+  abbrev pub Comes : Result Reply AnswerFault → Accepted S C → List ℕ → Accepted S C → Type 0
+  Comes (Ok reply) old bytes new = Receives (to_come old.stream) (to_come new.stream) bytes
+  Comes (Err (Write n)) old bytes new = Receives (to_come old.stream) (to_come new.stream) bytes
+  Comes (Err Read) old bytes new = IsCutOff (to_come old.stream) (to_come new.stream) bytes
+
+  -- after a reply that was written whole the rest is read, if more may come than the one request
+  abbrev pub IsEnded : Result Reply AnswerFault → List ℕ → Accepted S C → Accepted S C → Type 0
+  IsEnded (Ok reply) bytes old new = (IsOneRequest bytes → new ≡ old) × TakesRest old new
+  IsEnded (Err fault) bytes old new = new ≡ old
+
+  module _ (Shows : C → Option ℕ → Type 0) (Reads Writes : Calls S) where
+    -- How an exchange went. The request came by calls of the reader, of which none was made once it was whole; then the reply was written by calls of
+    -- the writer alone; and after that the connection was ended. All that was written are these bytes.
+    pub record Talks (old : Accepted S C) (bytes written : List ℕ) (outcome : Result Reply AnswerFault) (new : Accepted S C) : Type 0 where
+      pub heard : Accepted S C
+      pub sent : Accepted S C
+      pub reads : ReadsNoFurther (Awaits HasWaited (IsRead Shows Reads taken)) old bytes heard
+      pub came : Comes outcome old bytes heard
+      pub puts : ArePut (IsWritten Shows Writes to_come) heard sent
+      pub ended : IsEnded outcome bytes sent new
+      pub writes : Appends (taken old.stream) (taken new.stream) written
+      pub failed_reads : new.read_failures ≡ reader_failures old.read_failures outcome
+      pub failed_writes : new.write_failures ≡ writer_failures old.write_failures outcome
