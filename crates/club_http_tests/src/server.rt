@@ -9,6 +9,7 @@ mod clocks;
 mod closed;
 mod doubles;
 mod journal;
+mod lengths;
 mod limits;
 mod logs;
 mod over_sockets;

@@ -16,17 +16,20 @@ module _ {Clock Desk : Type 0} (Given : GivesMoment Clock) (Answers : ℕ → An
   one_over clock desk f meanwhile Overrun clock' desk' f' it = it
   one_over clock desk f meanwhile (Commanded moment carried) clock' desk' f' it = it
   one_over clock desk f meanwhile Unanswered clock' desk' f' never = absurd never
-  one_over clock desk f meanwhile (Exchanged moment line outcome) clock' desk' f' (counted, client) = (counted, record {
-    given = client.given;
-    left = client.left;
-    gives = client.gives;
-    commanded = client.commanded;
-    bytes = client.bytes;
-    written = client.written;
-    begins = client.begins;
-    exchanged = client.exchanged;
-    ended = tt;
-  })
+  one_over clock desk f meanwhile (Exchanged moment line outcome) clock' desk' f' (counted, client) = (
+    counted,
+    record {
+      given = client.given;
+      left = client.left;
+      gives = client.gives;
+      commanded = client.commanded;
+      bytes = client.bytes;
+      written = client.written;
+      begins = client.begins;
+      exchanged = client.exchanged;
+      ended = tt;
+    },
+  )
 
   pub over_sockets : (clock : Clock) (desk : Desk) (f : ℕ) (turns : List Turn) (clock' : Clock) (desk' : Desk) (f' : ℕ)
       → AreServed Given Answers Carries Ended clock desk f turns clock' desk' f'

@@ -6,7 +6,7 @@ use std::test::Fail;
 use test_kit::exchanges::{BOOK_7, BOOKED_7};
 
 /// Ports that are named: of each ten from here on, one is free.
-static FIRST_OF_TEN: [u16; 4] = [1_025, 30_000, 61_001, 65_526];
+static FIRST_OF_TEN: [u16; 6] = [1_025, 30_000, 60_001, 60_990, 61_001, 65_526];
 
 /// Whether a server at this port answers the booking; not if another program listens there.
 fn serves_at(rt: &HostRuntime, port: u16) -> Result<bool, Fail> {

@@ -73,12 +73,16 @@ struct Serving(Option<u64>, &'static str, &'static Outcome, &'static str);
 /// The microseconds that a connection takes, but if its server has a patience.
 const SPAN: u64 = 1_533;
 
-/// Those that it takes there.
+/// Those that it takes there, and those if the patience is an hour.
 const LONG_SPAN: u64 = 4_000_000;
+
+const SPAN_OF_AN_HOUR: u64 = 3_599_000_000;
 
 // The span of a connection, by the options of its server.
 fn later_in(options: &str) -> u64 {
-    if options.contains("--patience") {
+    if options.contains("--patience 3600") {
+        SPAN_OF_AN_HOUR
+    } else if options.contains("--patience") {
         LONG_SPAN
     } else {
         SPAN
@@ -155,7 +159,8 @@ fn serves_at_a_fixed_moment(rt: HostRuntime) -> Result<(), Fail> {
     Ok(())
 }
 
-/// A request that is there after four seconds, with a patience of three, four and more.
+/// A request that is there after four seconds, with a patience of three, four and five; and one
+/// after an hour less a second, with a patience of an hour.
 static PATIENT: [Serving; 4] = [
     Serving(
         Some(0),

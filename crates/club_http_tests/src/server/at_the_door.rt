@@ -2,7 +2,7 @@
 //! whose turn it is beside clients. No contract states what a socket gives or takes.
 
 use super::by_the_door::{door_at, new_path};
-use super::doubles::Noting;
+use super::doubles::{Noting, Ticking};
 use crate::expect::{expect_bytes, expect_eq};
 use crate::rows::expect_row;
 use crate::sockets::{connect, loopback_listener};
@@ -122,6 +122,27 @@ fn senders_at_a_door(rt: HostRuntime) -> Result<(), Fail> {
         );
         expect_bytes(&rt, &got, want, "what the office got");
     }
+    Ok(())
+}
+
+// By a clock that shows a tenth of a second more each time, a command has a second from its
+// greeting on, and not a hundredth of one.
+#[test]
+fn a_command_has_a_second(rt: HostRuntime) -> Result<(), Fail> {
+    let path = new_path(&rt, "has-a-second")?;
+    let door = door_at(&rt, path.as_str())?;
+    let listener = TcpListener::bind(&rt, "127.0.0.1:0")?;
+    let _sender = sender_at(&rt, path.as_str(), 8, Then::Ends)?;
+    let clock = Ticking::new(0, 100_000);
+    let mut arrivals = Listening::new(&listener, Some(&door), &clock, Duration::from_secs(10));
+    let Arrival::Command(mut handed) = arrivals.next() else {
+        return Err("no command".into());
+    };
+    let noon = Moment::read(NOON.as_bytes()).ok_or("a moment")?;
+    let mut desk = Noting::new(rt.alloc(), noon);
+    let whole = handed.carry_out(&mut desk).is_some();
+    fs::remove_file(&rt, path.as_str())?;
+    expect_eq(&rt, &(whole, desk.bytes), &(true, 8));
     Ok(())
 }
 

@@ -79,7 +79,7 @@ pub fn door_at(rt: &HostRuntime, path: &str) -> Result<UnixListener, Fail> {
 
 /// A connection of the office that has sent this command, and waits for its answer no longer than a
 /// second.
-fn office_at(rt: &HostRuntime, path: &str, command: &[u8]) -> Result<UnixStream, Fail> {
+pub fn office_at(rt: &HostRuntime, path: &str, command: &[u8]) -> Result<UnixStream, Fail> {
     let mut office = UnixStream::connect(rt, path)?;
     office.write_all(command)?;
     office.shutdown(Shutdown::Write)?;

@@ -11,6 +11,8 @@ use club_clock::Fixed;
 use club_http::Face;
 use desk_server::{Connection, Listening, Unlogged};
 use std::alloc::Global;
+use std::cell::Cell;
+use std::io::{self, Read, Write};
 use std::net::{Net, TcpListener, TcpStream};
 use std::process::Abort;
 use std::time::{Clock, Duration};
@@ -146,4 +148,86 @@ fn cuts_a_silent_client_off(rt: HostRuntime) {
     let mut arrivals = Listening::new(&listener, None, &rt, Duration::from_millis(50));
     let served = serves(&rt, &mut arrivals, 2, &mut noon(&rt));
     expect_eq(&rt, &served, &(Ok(()), 0));
+}
+
+// A silent client has all of its patience, by the machine's clock, and not a thousandth of it.
+#[test]
+fn waits_as_long_as_its_patience(rt: HostRuntime) {
+    let listener = loopback_listener(&rt);
+    let _silent = connect(&rt, &listener);
+    let patience = Duration::from_millis(1_200);
+    let before = rt.monotonic().expect(&rt, "a clock");
+    let mut arrivals = Listening::new(&listener, None, &rt, patience);
+    let served = serves(&rt, &mut arrivals, 1, &mut noon(&rt));
+    let after = rt.monotonic().expect(&rt, "a clock");
+    expect_eq(&rt, &served, &(Ok(()), 0));
+    let waited = after.saturating_sub(before);
+    expect_eq(&rt, &(waited >= patience), &true);
+}
+
+/// The machine's clock, which looks at what came to a client each time that it is read.
+#[derive(Drop)]
+struct Watching<'c, C> {
+    clock: &'c C,
+    client: &'c TcpStream,
+    // how many bytes came, and whether the end did
+    came: Cell<usize>,
+    ended: Cell<bool>,
+}
+
+impl<C: Clock> Clock for Watching<'_, C> {
+    fn monotonic(&self) -> io::Result<Duration> {
+        let mut client = self.client;
+        let mut room = [0; 256];
+        match client.read(&mut room) {
+            Ok(0) => self.ended.set(true),
+            Ok(came) => self.came.set(self.came.get().saturating_add(came)),
+            Err(_) => {}
+        }
+        self.clock.monotonic()
+    }
+
+    fn since_1970(&self) -> io::Result<Duration> {
+        self.clock.since_1970()
+    }
+}
+
+/// How many bytes came to a client while the server still waited for what it sends, and whether
+/// the end of its input did; and for how long the server waited.
+fn seen_by<'x>(
+    rt: &'x (impl Abort + Alloc<A = Global> + Clock),
+    listener: &'x TcpListener,
+    client: &'x TcpStream,
+) -> (usize, bool, Duration) {
+    let watching = Watching {
+        clock: rt,
+        client,
+        came: Cell::new(0),
+        ended: Cell::new(false),
+    };
+    let before = rt.monotonic().expect(rt, "a clock");
+    let accepted = client_at(listener, &watching, patience());
+    let mut connection = accepted.expect(rt, "a connection");
+    let noon = moment(rt, NOON);
+    let mut face = Face::new(rt.alloc()).expect(rt, "a face");
+    let mut desk = Noting::new(rt.alloc(), noon);
+    let mut moments = Fixed { moment: noon };
+    let outcome = connection.exchange(&mut face, &mut moments, &mut desk, &mut Unlogged, noon);
+    expect_eq(rt, &outcome.is_ok(), &true);
+    let after = rt.monotonic().expect(rt, "a clock");
+    let waited = after.saturating_sub(before);
+    (watching.came.get(), watching.ended.get(), waited)
+}
+
+// After a request with more behind it the server ends its own side, and still reads the client's:
+// the client sees the end of its reply while the connection stands, and the server waits.
+#[test]
+fn ends_one_side_and_reads_the_other(rt: HostRuntime) {
+    let listener = loopback_listener(&rt);
+    let mut client = client_of(&rt, &listener, REQUEST);
+    client.write_all(b"x").expect(&rt, "a byte more");
+    client.set_nonblocking(true).expect(&rt, "a client");
+    let (came, ended, waited) = seen_by(&rt, &listener, &client);
+    let long = waited >= Duration::from_millis(150);
+    expect_eq(&rt, &(came, ended, long), &(REPLY.len(), true, true));
 }

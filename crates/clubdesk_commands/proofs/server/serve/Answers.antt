@@ -24,13 +24,15 @@ module _ {Desk : Type 0} (Answers : ℕ → AnswerRelation Desk) (Carries : Comm
       → ((turns : List Turn) → Besides turns → IfLogged service Noted turns) → (outcome : Result Unit ClockFault)
       → served.Serves showing Answers Carries Ended service.count service.clock old 0 outcome last new failures Besides
       → Serves (outcome_of_server outcome)
-  serves Ended last failures Besides gives outcome it =
-      (it.all, spec.listened outcome last failures refl (record {
-        turns = it.serves.turns;
-        last = it.serves.last;
-        before = over_sockets showing Answers Carries Ended _ _ _ _ _ _ _ it.serves.before;
-        ends = it.serves.ends;
-      }) (gives it.all it.besides))
+  serves Ended last failures Besides gives outcome it = (
+    it.all,
+    spec.listened outcome last failures refl (record {
+      turns = it.serves.turns;
+      last = it.serves.last;
+      before = over_sockets showing Answers Carries Ended _ _ _ _ _ _ _ it.serves.before;
+      ends = it.serves.ends;
+    }) (gives it.all it.besides),
+  )
 
   -- one that doesn't listen serves nobody
   serves_nobody : (written : Stream) (fault : Fault) → new ≡ old → Noted [] → StopsBefore service.port written fault → Serves (Err fault)

@@ -31,8 +31,7 @@ loop-commanded-preserved g c =
 
 pub returns-in-None-clause-called : goal.returns-in-None-clause-called
 returns-in-None-clause-called g c =
-    let so_far = c.loop-commanded.invariant in
-    (
+    let so_far = c.loop-commanded.invariant in (
       record {
         same_reader = so_far.alone.same_reader;
         same_moments = so_far.alone.same_moments;

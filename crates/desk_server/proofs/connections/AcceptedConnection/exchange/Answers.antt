@@ -21,9 +21,9 @@ pub returns-in-Ok : goal.returns-in-Ok
 returns-in-Ok g c =
     let received = c.in-Some.ensures in
     let it =
-        spoken (g.D.Responder.answers c.args.moment) c.receive_between.new.face c.receive_between.new.desk c.respond.new.desk
-        (g.S.TimedStream.taken c.receive_between.new.reader.stream) (g.S.TimedStream.taken c.respond.new.writer.stream) (Ok c.in-Ok.reply)
-        c.in-Ok.ensures.exchanged in
+    spoken (g.D.Responder.answers c.args.moment) c.receive_between.new.face c.receive_between.new.desk c.respond.new.desk
+    (g.S.TimedStream.taken c.receive_between.new.reader.stream) (g.S.TimedStream.taken c.respond.new.writer.stream) (Ok c.in-Ok.reply)
+    c.in-Ok.ensures.exchanged in
     record {
       left = c.receive_between.new.desk;
       written = it.written;
@@ -38,13 +38,13 @@ pub returns-in-Err : goal.returns-in-Err
 returns-in-Err g c =
     let received = c.in-Some.ensures in
     let it =
-        spoken (g.D.Responder.answers c.args.moment) c.receive_between.new.face c.receive_between.new.desk c.respond.new.desk
-        (g.S.TimedStream.taken c.receive_between.new.reader.stream) (g.S.TimedStream.taken c.respond.new.writer.stream) (Err c.in-Err.fault)
-        c.in-Err.ensures.exchanged in
+    spoken (g.D.Responder.answers c.args.moment) c.receive_between.new.face c.receive_between.new.desk c.respond.new.desk
+    (g.S.TimedStream.taken c.receive_between.new.reader.stream) (g.S.TimedStream.taken c.respond.new.writer.stream) (Err c.in-Err.fault)
+    c.in-Err.ensures.exchanged in
     let request =
-        reached g.S.TimedStream.to_come g.S.TimedStream.taken g.C.MonotonicClock.shows g.S.TimedStream.reads g.S.TimedStream.writes _
-        (Appends (g.S.TimedStream.taken c.receive_between.new.reader.stream) (g.S.TimedStream.taken c.respond.new.writer.stream)) c.args.self.now
-        c.receive_between.new.reader c.receive_between.new.face (Err c.in-Err.fault) c.in-Err.ensures.exchanged received.received received.counted in
+    reached g.S.TimedStream.to_come g.S.TimedStream.taken g.C.MonotonicClock.shows g.S.TimedStream.reads g.S.TimedStream.writes _
+    (Appends (g.S.TimedStream.taken c.receive_between.new.reader.stream) (g.S.TimedStream.taken c.respond.new.writer.stream)) c.args.self.now
+    c.receive_between.new.reader c.receive_between.new.face (Err c.in-Err.fault) c.in-Err.ensures.exchanged received.received received.counted in
     record {
       left = c.receive_between.new.desk;
       written = it.written;
