@@ -1,15 +1,15 @@
 #!/usr/bin/env python3
 """docs/AUDIT.md, what has to be believed of each promise, is what the sources say; each contract that docs/PROMISES.md cites is there, and rests
-on no computing definition of `specs/computed/`, nor does what stands for a ghost, while each in docs/COMPUTED.md does; the vectors hold of the
-rules in Python (`tests/reference`) by which it marks what they show; and each step of a path through the definitions in docs/TOUR.md is cited
-by the one before it. Writes that page, unless it is asked to check.
+on no computing definition but the three that it names, nor does what stands for a ghost, while each in docs/COMPUTED.md rests on one; the
+vectors hold of the rules in Python (`tests/reference`) by which it marks what they show; and each step of a path through the definitions in
+docs/TOUR.md is cited by the one before it. Writes that page, unless it is asked to check.
 
 It reads the promises of docs/PROMISES.md, the clauses that carry them, and the definitions below these, by tests/definitions.py.
 
     tests/audit.py                  writes docs/AUDIT.md
     tests/audit.py --check          says whether it is current
     tests/audit.py --strict         the same, and fails if any clause of a promise's function, or any other contract that docs/PROMISES.md
-                                    cites, or what stands for a ghost, reaches a name of specs/computed/
+                                    cites, or what stands for a ghost, reaches a computing definition that this page doesn't name
     tests/audit.py --below NAME     what there is to read below one definition, or below all clauses of a function (Desk::ask), in reading
                                     order
 """
@@ -26,12 +26,11 @@ from pathlib import Path
 sys.dont_write_bytecode = True
 import shown
 from cited import Contracts, citations
-from definitions import OF_SPECS, ROOT, Book, closure, owner_of
+from definitions import COMPUTED, OF_SPECS, ROOT, Book, closure, owner_of
 from more_edits import crates_below
 
 PAGE = ROOT / "docs" / "AUDIT.md"
 PROMISES = ROOT / "docs" / "PROMISES.md"
-COMPUTED = ROOT / "docs" / "COMPUTED.md"
 TOUR = ROOT / "docs" / "TOUR.md"
 # What comments say of where definitions are from.
 SOURCES = (r"RFC \d+", r"FIPS [\d-]+", r"NDSS \d+", r"libmacaroons", r"\bours\b")
@@ -128,6 +127,12 @@ class Promise:
 def promises_of(book):
     lines = [line for line in PROMISES.read_text(encoding="utf-8").splitlines() if re.match(r"\d+\. \*\*", line)]
     return [Promise(book, number, line) for number, line in enumerate(lines, 1)]
+
+
+def named_as_computing():
+    """The computing definitions on which promises rest, as docs/PROMISES.md says."""
+    found = re.search(r"Promises rest on \w+ of these, (.*?), and on none of `specs/computed/`", PROMISES.read_text(encoding="utf-8"))
+    return set(re.findall(r"`(\w+)`", found[1])) if found else set()
 
 
 def source_of(comments):
@@ -362,16 +367,17 @@ class Audit:
     def section_of_faults(self):
         computed = self.computed()
         if not computed:
-            return ["None of these clauses rests on a computing definition of `specs/computed/`, nor does another clause of their functions, nor "
-                    "what stands for a [ghost](#ghosts-of-traits), nor any other contract that [PROMISES](PROMISES.md) cites."]
-        return [
-            f"These promises still rest on {len(computed)} computing definitions of `specs/computed/`, which say in steps what another definition "
-            f"states. Laws say that both agree, but whoever reads a clause comes upon these. They aren't in the tables below. "
-            f"{len(self.first_computed())} of them are cited by a definition that doesn't compute:",
+            return ["None of these clauses rests on a computing definition, nor does another clause of their functions, nor what stands for a "
+                    "[ghost](#ghosts-of-traits), nor any other contract that [PROMISES](PROMISES.md) cites."]
+        sections = [
+            f"These promises rest on {len(computed)} definitions that compute what another one states. [COMPUTED](COMPUTED.md) has the laws that say "
+            f"that both agree, but whoever reads a clause comes upon these. They aren't in the tables below. {len(self.first_computed())} of them "
+            f"are cited by a definition that doesn't compute:",
             "\n".join(self.faults()),
-            "The others are below those:",
-            "\n".join(self.further_faults()),
         ]
+        if len(computed) > len(self.first_computed()):
+            sections += ["The others are below those:", "\n".join(self.further_faults())]
+        return sections
 
     def page(self):
         specs = [it for it in self.every.values() if it.kind in OF_SPECS]
@@ -425,17 +431,22 @@ class Audit:
 
     # ---- what pages cite
 
+    def named(self):
+        """The computing definitions that docs/PROMISES.md names, and those that only they cite."""
+        first = named_as_computing()
+        return first | {it.name for it in closure([it for it in self.computed() if it.name in first]) if it.is_computed and it.kind in OF_SPECS}
+
     def citing(self):
-        """Faults of the pages' tables: of docs/PROMISES.md what isn't understood, and the contracts that reach a computing definition; of
-        docs/COMPUTED.md those that reach none."""
-        contracts = Contracts(self.book)
+        """Faults of the pages' tables: of docs/PROMISES.md what isn't understood, and the contracts that reach a computing definition which it
+        doesn't name; of docs/COMPUTED.md those that reach none."""
+        contracts, named = Contracts(self.book), self.named()
         for page in (PROMISES, COMPUTED):
             for citation in citations(page.read_text(encoding="utf-8")):
                 place = f"docs/{page.name}:{citation.line}"
                 for name, cited in contracts.below(citation):
                     computing = sorted({it.name for it in cited if it.is_computed and it.kind in OF_SPECS})
-                    if page == PROMISES and computing:
-                        yield f"{place}: {name} reaches computing definitions: {' '.join(computing)}"
+                    if page == PROMISES and set(computing) - named:
+                        yield f"{place}: {name} reaches computing definitions: {' '.join(sorted(set(computing) - named))}"
                     if page == COMPUTED and not computing:
                         yield f"{place}: {name} reaches no computing definition"
                 yield from (f"{place}: not understood: {it}" for it in contracts.unknown)
@@ -506,9 +517,11 @@ def run(arguments):
     else:
         PAGE.write_text(page, encoding="utf-8")
     if arguments.strict:
-        computed = audit.computed() + audit.beside()
+        named = audit.named()
+        computed = [it for it in audit.computed() + audit.beside() if it.name not in named]
         faults += [f"{it.file}:{it.line}: reaches a computed name: {it.name}" for it in computed]
         faults += [f"{len(computed)} computed names"] if computed else []
+        faults += [f"docs/PROMISES.md: no promise rests on {name}" for name in sorted(named_as_computing() - {it.name for it in audit.computed()})]
         faults += audit.citing()
     for it in faults:
         print(it, file=sys.stderr)

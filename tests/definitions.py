@@ -5,7 +5,7 @@ kept in `Definition.unknown`, so that whoever reads by it sees what it didn't un
 
 import re
 from dataclasses import dataclass, field
-from functools import cached_property
+from functools import cache, cached_property
 from pathlib import Path
 
 ROOT = Path(__file__).resolve().parent.parent
@@ -18,10 +18,24 @@ BUILT_IN = set("""
     : = | → ← × Type Unit Bool tt refl record data if then else let in do where of by pub abbrev unfoldable opaque module ⊥ ⊤ ¬ ∥ ∥₁ _ λ ↔ ≡
     now old new entry result self Self true false fields
 """.split())
+# Where it is listed what computes another definition.
+COMPUTED = ROOT / "docs" / "COMPUTED.md"
 # The kinds of what specs/ defines.
 OF_SPECS = ("definition", "record", "data")
 # Constructors of std that a pattern may have.
 PATTERNS = {"[]", "∷", "Some", "None", "Ok", "Err", "true", "false", "zero", "suc", "tt", "now", "ready", "inl", "inr"}
+
+
+@cache
+def computing():
+    """The definitions that docs/COMPUTED.md names after `by`, each as (crate, name)."""
+    crate, found = "", set()
+    for line in COMPUTED.read_text(encoding="utf-8").splitlines():
+        if line.startswith("## "):
+            crate = line.strip("#` ")
+        elif line.startswith("| "):
+            found |= {(crate, name) for name in re.findall(r"`(\w+)`", line.split("|")[1].partition(" by ")[2])}
+    return found
 
 
 @dataclass(eq=False)
@@ -53,7 +67,7 @@ class Definition:
 
     @property
     def is_computed(self):
-        return ".specs.computed." in f"{self.module}."
+        return ".specs.computed." in f"{self.module}." or (self.crate, self.name) in computing()
 
     @property
     def file(self):
