@@ -73,6 +73,9 @@ IN_FILE = {(it[0], it[-1]) for it in ITEMS | CLAUSES | FIELDS}
 CRATES = {crate for _, crate, _ in ITEMS}
 DEFINED = {it[1:] for it in ITEMS}
 CLAUSES = {it[1:] for it in CLAUSES}
+LIBRARIES = {word for line in Path("crates.txt").read_text(encoding="utf-8").splitlines() if line[:1] not in ("", "#") for word in line.replace(":", " ").split()}
+# Names of std that a crate's page has without its code having them.
+OF_STD = {"test_kit": {"expect"}}
 
 
 # ---- every page
@@ -119,6 +122,18 @@ def test_files_and_names_are_there(page):
         if re.fullmatch(r"[A-Za-z_]+(::[A-Za-z_0-9]+)+", word):
             crate, *_, name = word.split("::")
             assert (crate, name) in DEFINED if crate in CRATES else any(name == it for _, it in DEFINED), f"no {word}"
+
+
+@pytest.mark.parametrize("page", [it for it in PAGES if it.startswith("crates/")])
+def test_bare_names_of_a_crate(page):
+    """Each name without a path that a crate's page has is a word of its code, is defined by another crate, or is a crate, a library or a file of
+    its folder."""
+    folder = Path(page).parent
+    crate, names = folder.name, {name for _, name in DEFINED}
+    code = "\n".join(re.sub(r"//.*|^--.*", "", text, flags=re.MULTILINE) for file, text in CODE.items() if file.startswith(f"{folder}/"))
+    known = {*WORD.split(code), *names, *LIBRARIES, *OF_STD.get(crate, ())}
+    for word in ticked(prose(page)):
+        assert not re.fullmatch(r"[A-Za-z_][A-Za-z_0-9]*", word) or word in known or (folder / word).exists(), f"no {word}"
 
 
 @each_page
