@@ -10,40 +10,51 @@ setup() {
     cd "$BATS_TEST_TMPDIR"
     root=$BATS_TEST_DIRNAME/..
     mkdir -p crates/keeper/src
-    grep -E '^pass_(mac|forms):' "$root/crates.txt" >crates.txt
-    echo 'keeper: pass_forms' >>crates.txt
+    grep -E '^pass_(mac|forms|json):' "$root/crates.txt" >crates.txt
+    echo 'keeper: pass_forms pass_json' >>crates.txt
     # What checks have kept in out/ comes along.
-    cp -a "$root/crates/pass_mac" "$root/crates/pass_forms" crates/
+    cp -a "$root/crates/pass_mac" "$root/crates/pass_forms" "$root/crates/pass_json" crates/
 }
 
-# check SOURCE MISUSE: checks code that takes the first field of a source, and still has it after the misuse.
+# check IMPORTS HELD SOURCE MISUSE: checks code that takes the first field of a source over what it holds, and still has the field after the
+# misuse.
 check() {
     cd "$BATS_TEST_TMPDIR/crates/keeper"
     cat >src/lib.rt <<CODE
 //! Code that keeps a field.
 #![tactic(auto)]
 
-use pass_forms::{FieldSource, FormFault, $1};
+$1
 use std::alloc::Global;
 
 pub fn has_a_field(alloc: Global) -> Result<bool, FormFault> {
-    let bytes = Vec::from_slice(alloc, b"bytes")?;
-    let field = $1::open(&bytes)?.next();
     $2
+    let field = $3.next();
+    $4
     Ok(field.is_some())
 }
 CODE
     rt check --jobs 1
 }
 
-# outlives SOURCE: the borrow checker refuses it, and nothing else is wrong with it.
+# outlives IMPORTS HELD SOURCE: the borrow checker refuses it once what is held is dropped, and nothing else is wrong with it.
 outlives() {
-    run check "$1" 'drop(bytes);'
+    run check "$@" 'drop(held);'
     [ "$status" != 0 ]
     [[ $output == *borrow-e0505* ]]
-    check "$1" ''
+    check "$@" ''
 }
 
-@test 'a field of V1' { outlives V1Fields; }
+# outlives_bytes SOURCE: of a source over the bytes of a pass.
+outlives_bytes() {
+    outlives "use pass_forms::{FieldSource, FormFault, $1};" 'let held = Vec::from_slice(alloc, b"bytes")?;' "$1::open(&held)?"
+}
 
-@test 'a field of V2' { outlives V2Fields; }
+@test 'a field of V1' { outlives_bytes V1Fields; }
+
+@test 'a field of V2' { outlives_bytes V2Fields; }
+
+@test 'a field of JSON, over the pass that was read' {
+    outlives $'use pass_forms::{FieldSource, FormFault};\nuse pass_json::{JsonFields, read_json};' 'let held = read_json(alloc, b"{}")?;' \
+        'JsonFields::over(&held)'
+}
