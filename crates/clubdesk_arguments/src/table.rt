@@ -165,7 +165,7 @@ const SERVE_ARGUMENTS: &[Argument] = &[
     Argument::Or(
         "patience",
         "SECONDS",
-        "How long a client may take, 1 to 3600",
+        "For request, reply and rest: 1 to 3600",
         "10",
     ),
     Argument::Flag("log", "Tells each connection in a line on standard error"),
