@@ -19,7 +19,7 @@ shellcheck -x -P tests $(by_first_line '^#!/bin/(ba)?sh') || status=1
 # A file of bats reads what bats sets, and a test ends at its first command that fails.
 shellcheck -x -P tests -e SC2154,SC2164 tests/*.bats || status=1
 # shellcheck disable=SC2046
-pyflakes3 $(by_first_line 'python3') $(find tests examples -name '*.py') || status=1
+pyflakes3 $(by_first_line 'python3') $(find tests examples deploy -name '*.py') || status=1
 if command -v gofmt > /dev/null; then
     spelled_otherwise=$(gofmt -l tests/beside_go examples)
     [ -z "$spelled_otherwise" ] || { echo "gofmt: $spelled_otherwise"; status=1; }

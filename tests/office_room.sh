@@ -39,6 +39,7 @@ usermod -a -G office ben
 install -m 755 "$desk" /usr/bin/clubdesk
 install -m 755 "$tool" /usr/bin/passtool
 install -m 755 "$top/deploy/office" /usr/bin/office
+install -D -m 644 -t /usr/lib/clubdesk/club_office "$top"/deploy/club_office/*.py
 install -m 440 "$top/deploy/office.sudoers" /etc/sudoers.d/clubdesk-office
 mkdir -p /usr/lib/clubdesk /usr/share/doc/clubdesk/examples /usr/share/clubdesk/web
 find "$top/deploy" -maxdepth 1 -type f -perm -100 ! -name office -exec install -m 755 -t /usr/lib/clubdesk {} +

@@ -1,0 +1,1 @@
+"""The office of a club: what deploy/office runs."""

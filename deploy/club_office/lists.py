@@ -1,0 +1,149 @@
+"""Lists of a club's rows, and what is wrong with its totals."""
+
+import csv
+import re
+import sys
+
+from club_office.faults import refusal
+from club_office.values import date_of, day, name
+
+
+def table(heads, rows, as_csv):
+    """Prints rows under their heads: aligned, numbers to the right, or as CSV."""
+    if as_csv:
+        csv.writer(sys.stdout, lineterminator="\n").writerows([heads, *rows])
+        return
+    cells = [[str(cell) for cell in row] for row in [heads, *rows]]
+    widths = [max(len(row[column]) for row in cells) for column in range(len(heads))]
+    right = [bool(rows) and all(isinstance(row[column], int) for row in rows) for column in range(len(heads))]
+    for row in cells:
+        line = "  ".join(c.rjust(w) if r else c.ljust(w) for c, w, r in zip(row, widths, right))
+        print(line.rstrip())
+
+
+def is_row(db, table_name, row_name):
+    return db.execute(f"SELECT count(*) FROM {table_name} WHERE name = ?", [row_name]).fetchone()[0] == 1
+
+
+def wants_row(db, table_name, row_name):
+    if not is_row(db, table_name, row_name):
+        raise refusal(f"there is no {'key' if table_name == 'keys' else table_name[:-1].replace('facilitie', 'facility')} {row_name}")
+
+
+def list_members(db, words, now):
+    rows = db.execute(
+        """SELECT members.name, max(credited - used, 0), quota,
+               (SELECT count(*) FROM bookings JOIN keys ON keys.name = pass_key
+                   WHERE member = members.name AND cancelled = 0 AND day * 1440 + hour * 60 > ?),
+               (SELECT count(*) FROM keys WHERE member = members.name)
+           FROM members ORDER BY members.name""",
+        [now],
+    ).fetchall()
+    table(["member", "balance", "quota", "open", "keys"], rows, words.csv)
+
+
+def list_facilities(db, words, _now):
+    rows = db.execute("SELECT name, kind, places, price, opens, shuts FROM facilities ORDER BY name").fetchall()
+    table(["facility", "kind", "places", "price", "opens", "shuts"], rows, words.csv)
+
+
+def list_keys(db, words, _now):
+    wants_row(db, "members", words.member)
+    rows = db.execute(
+        """SELECT keys.name, CASE revoked WHEN 0 THEN 'no' ELSE 'yes' END,
+               coalesce(strftime('%Y-%m-%dT%H:%M', until * 60, 'unixepoch'), 'none'),
+               (SELECT coalesce(sum(charge - refund), 0) FROM bookings WHERE pass_key = keys.name)
+           FROM keys LEFT JOIN old_roots ON pass_key = keys.name WHERE member = ? ORDER BY keys.name""",
+        [words.member],
+    ).fetchall()
+    table(["key", "revoked", "older root until", "spent"], rows, words.csv)
+
+
+def list_closed(db, words, now):
+    rows = db.execute(
+        "SELECT facility, date(day * 86400, 'unixepoch'), hour FROM slots WHERE closed = 1 AND day >= ? ORDER BY facility, day, hour",
+        [now // 1440],
+    ).fetchall()
+    table(["facility", "day", "hour"], rows, words.csv)
+
+
+def list_bookings(db, words, now):
+    column, value = asked_of_bookings(db, words.what)
+    since = 0 if words.all or column == "day" else now // 1440
+    rows = db.execute(
+        f"""SELECT date(day * 86400, 'unixepoch'), hour, facility, member, pass_key, number, guests + 1, charge,
+                CASE cancelled WHEN 0 THEN 'no' ELSE 'yes' END, refund
+            FROM bookings JOIN keys ON keys.name = pass_key WHERE {column} = ? AND day >= ? AND (cancelled = 0 OR ?)
+            ORDER BY day, hour, facility, pass_key, number""",
+        [value, since, words.all],
+    ).fetchall()
+    heads = ["day", "hour", "facility", "member", "key", "number", "persons", "charge", "cancelled", "refund"]
+    shown = len(heads) if words.all else 8
+    table(heads[:shown], [row[:shown] for row in rows], words.csv)
+
+
+def asked_of_bookings(db, what):
+    """The column and the value of which the bookings are asked for: a day, a member's, or a facility's."""
+    if re.fullmatch(r"[0-9]{4}-[0-9]{2}-[0-9]{2}", what):
+        return "day", day(what)
+    name(what)
+    found = [column for column, rows in (("member", "members"), ("facility", "facilities")) if is_row(db, rows, what)]
+    if len(found) != 1:
+        raise refusal(f"{what} is {'a member and a facility' if found else 'no member and no facility'}")
+    return found[0], what
+
+
+def list_money(db, words, _now):
+    if words.member:
+        wants_row(db, "members", words.member)
+    rows = db.execute(
+        """SELECT members.name, credited, coalesce(sum(charge), 0), coalesce(sum(refund), 0), max(credited - used, 0)
+           FROM members LEFT JOIN keys ON member = members.name LEFT JOIN bookings ON pass_key = keys.name
+           WHERE members.name = ? OR ? IS NULL GROUP BY members.name ORDER BY members.name""",
+        [words.member, words.member],
+    ).fetchall()
+    table(["member", "credited", "charged", "refunded", "balance"], rows, words.csv)
+
+
+def list_faults(db, _words, _now):
+    """Whether the totals are the sums of the bookings, and the file whole."""
+    found = sorted(faults(db))
+    for line in found:
+        print(line)
+    if found:
+        raise refusal(f"{len(found)} faults")
+    print("the totals are the sums of the bookings")
+
+
+def faults(db):
+    """What is wrong with a club's totals, references and limits: a set of sentences, empty for a sound club."""
+    found = set()
+    for member, used, spent in db.execute(
+        """SELECT members.name, used, coalesce(sum(charge - refund), 0) AS spent
+           FROM members LEFT JOIN keys ON member = members.name LEFT JOIN bookings ON pass_key = keys.name
+           GROUP BY members.name HAVING used <> spent"""
+    ):
+        found.add(f"member {member}: used is {used}, its bookings cost {spent}")
+    for facility, on, hour, off in db.execute(
+        """SELECT facility, day, hour, sum(persons) FROM
+               (SELECT facility, day, hour, guests + 1 AS persons FROM bookings WHERE cancelled = 0
+                UNION ALL SELECT facility, day, hour, -taken FROM slots)
+           GROUP BY facility, day, hour HAVING sum(persons) <> 0"""
+    ):
+        found.add(f"slot {facility} {date_of(on)} {hour}: its bookings have {off} persons more than taken")
+    for what, sql in LIMITS:
+        found.update(f"{what}: {row[0]}" for row in db.execute(sql))
+    return found
+
+
+LIMITS = [
+    ("balance below 0", "SELECT name FROM members WHERE used > credited"),
+    ("opens not before shuts", "SELECT name FROM facilities WHERE opens >= shuts"),
+    (
+        "more persons than places",
+        "SELECT facility || ' ' || date(day * 86400, 'unixepoch') || ' ' || hour FROM slots JOIN facilities ON name = facility"
+        " WHERE taken NOT BETWEEN 0 AND places",
+    ),
+    ("refund without a cancellation", "SELECT pass_key || '/' || number FROM bookings WHERE refund > charge * cancelled"),
+    ("reference to nothing", 'SELECT "table" || \' \' || rowid FROM pragma_foreign_key_check'),
+]

@@ -1,0 +1,246 @@
+"""Corrections: what each would change, by the club as it is."""
+
+import collections
+
+from club_office.faults import USAGE, Fault, refusal
+from club_office.lists import wants_row
+from club_office.values import MOST_CHARGE, MOST_NUMBER, date_of
+
+
+Booking = collections.namedtuple("Booking", "key number facility day hour guests charge member")
+
+
+class Plan:
+    """What a correction does: the lines that the clerk is shown, and statements with their values and how many rows each changes."""
+
+    def __init__(self):
+        self.lines = []
+        self.changes = []
+        # Queries whose rows are the same before and after.
+        self.keeps = []
+        # The path to which the file is copied before, or None.
+        self.copy_to = None
+
+    def change(self, rows, sql, *values):
+        self.changes.append((rows, sql, values))
+
+    def cancel(self, bookings):
+        """Cancels bookings: the whole charge back, the places free."""
+        for it in bookings:
+            self.lines.append(
+                f"cancels {it.facility} {date_of(it.day)} {it.hour:02d}:00, {it.guests + 1} persons, {it.charge} points back:"
+                f" {it.key} {it.number}, {it.member}"
+            )
+            self.change(
+                1, "UPDATE bookings SET cancelled = 1, refund = charge WHERE pass_key = ? AND number = ? AND cancelled = 0", it.key, it.number
+            )
+            self.change(1, "UPDATE members SET used = used - ? WHERE name = ?", it.charge, it.member)
+            self.change(
+                1, "UPDATE slots SET taken = taken - ? WHERE facility = ? AND day = ? AND hour = ?", it.guests + 1, it.facility, it.day, it.hour
+            )
+
+
+def bookings_of(db, condition, *values):
+    """Bookings that aren't cancelled, in the order of their slots."""
+    rows = db.execute(
+        f"""SELECT pass_key, number, facility, day, hour, guests, charge, member FROM bookings JOIN keys ON keys.name = pass_key
+            WHERE cancelled = 0 AND {condition} ORDER BY day, hour, facility, pass_key, number""",
+        values,
+    )
+    return [Booking(*row) for row in rows]
+
+
+def plan_quota(db, words, _now):
+    wants_row(db, "members", words.member)
+    plan = Plan()
+    (before,) = db.execute("SELECT quota FROM members WHERE name = ?", [words.member]).fetchone()
+    plan.lines.append(f"quota of {words.member}: {before}, then {words.quota}")
+    plan.change(1, "UPDATE members SET quota = ? WHERE name = ?", words.quota, words.member)
+    return plan
+
+
+def plan_debit(db, words, _now):
+    wants_row(db, "members", words.member)
+    plan = Plan()
+    (balance,) = db.execute("SELECT max(credited - used, 0) FROM members WHERE name = ?", [words.member]).fetchone()
+    if words.points > balance:
+        raise refusal(f"the balance of {words.member} is {balance}")
+    plan.lines.append(f"balance of {words.member}: {balance}, then {balance - words.points}")
+    plan.change(1, "UPDATE members SET credited = credited - ? WHERE name = ?", words.points, words.member)
+    return plan
+
+
+def plan_facility(db, words, now):
+    wants_row(db, "facilities", words.facility)
+    if words.price is None and words.places is None and words.hours is None:
+        raise Fault(USAGE, "set-facility: nothing to set: --price, --places or --hours")
+    (places, price, opens, shuts) = db.execute(
+        "SELECT places, price, opens, shuts FROM facilities WHERE name = ?", [words.facility]
+    ).fetchone()
+    plan = Plan()
+    if words.price is not None:
+        plan.lines.append(f"price of {words.facility}: {price}, then {words.price}; what is booked keeps its charge")
+        price = words.price
+    if words.places is not None:
+        plan.lines.append(f"places of {words.facility}: {places}, then {words.places}")
+        places = words.places
+    if words.hours is not None:
+        plan.lines.append(f"hours of {words.facility}: {opens}-{shuts}, then {words.hours[0]}-{words.hours[1]}")
+        opens, shuts = words.hours
+    refuse_unfit(db, words.facility, places, opens, shuts, now)
+    plan.change(
+        1, "UPDATE facilities SET places = ?, price = ?, opens = ?, shuts = ? WHERE name = ?", places, price, opens, shuts, words.facility
+    )
+    return plan
+
+
+def refuse_unfit(db, facility, places, opens, shuts, now):
+    """A booking to come needs its hour. Every slot needs its places, also one that is over: no slot of a club has more persons."""
+    for it in bookings_of(db, "facility = ? AND day * 1440 + hour * 60 > ?", facility, now):
+        if not opens <= it.hour < shuts:
+            raise refusal(f"{it.key} {it.number} is booked {date_of(it.day)} {it.hour:02d}:00")
+    for on, hour, taken in db.execute(
+        "SELECT day, hour, taken FROM slots WHERE facility = ? AND taken > ? ORDER BY day DESC, hour DESC LIMIT 1", [facility, places]
+    ):
+        raise refusal(f"{taken} persons are booked {date_of(on)} {hour:02d}:00")
+
+
+def plan_reopen(db, words, _now):
+    wants_row(db, "facilities", words.facility)
+    plan = Plan()
+    where = (words.facility, words.day, words.hour)
+    (closed,) = db.execute("SELECT coalesce(max(closed), 0) FROM slots WHERE facility = ? AND day = ? AND hour = ?", where).fetchone()
+    if not closed:
+        raise refusal(f"{words.facility} {date_of(words.day)} {words.hour:02d}:00 isn't closed")
+    plan.lines.append(f"opens {words.facility} {date_of(words.day)} {words.hour:02d}:00 again")
+    plan.change(1, "UPDATE slots SET closed = 0 WHERE facility = ? AND day = ? AND hour = ? AND closed = 1", *where)
+    return plan
+
+
+def plan_cancel(db, words, now):
+    wants_row(db, "keys", words.key)
+    if words.all == bool(words.number):
+        raise Fault(USAGE, "cancel: a NUMBER, or --all for all that is to come")
+    plan = Plan()
+    if words.all:
+        found = bookings_of(db, "pass_key = ? AND day * 1440 + hour * 60 > ?", words.key, now)
+        if not found:
+            raise refusal(f"{words.key} has no booking to come")
+    else:
+        found = bookings_of(db, "pass_key = ? AND number = ?", words.key, words.number)
+        if not found:
+            known = db.execute("SELECT count(*) FROM bookings WHERE pass_key = ? AND number = ?", [words.key, words.number]).fetchone()[0]
+            raise refusal(f"booking {words.number} of {words.key} {'is cancelled already' if known else 'is unknown'}")
+    plan.cancel(found)
+    return plan
+
+
+def plan_close(db, words, _now):
+    begin, end = words.hours
+    plan = Plan()
+    facilities = list(dict.fromkeys(words.facility))
+    for facility in facilities:
+        wants_row(db, "facilities", facility)
+        opens, shuts = db.execute("SELECT opens, shuts FROM facilities WHERE name = ?", [facility]).fetchone()
+        if not opens <= begin < end <= shuts:
+            raise refusal(f"{facility} opens {opens}-{shuts}")
+        plan.cancel(bookings_of(db, "facility = ? AND day = ? AND hour >= ? AND hour < ?", facility, words.day, begin, end))
+    for facility in facilities:
+        closed = {row[0] for row in db.execute("SELECT hour FROM slots WHERE facility = ? AND day = ? AND closed = 1", [facility, words.day])}
+        for hour in range(begin, end):
+            if hour not in closed:
+                plan.lines.append(f"closes {facility} {date_of(words.day)} {hour:02d}:00")
+                plan.change(
+                    1,
+                    "INSERT INTO slots VALUES (?, ?, ?, 1, 0) ON CONFLICT (facility, day, hour) DO UPDATE SET closed = 1",
+                    facility,
+                    words.day,
+                    hour,
+                )
+    if not plan.changes:
+        raise refusal("all of these slots are closed already")
+    return plan
+
+
+def plan_rain(db, words, _now):
+    wants_row(db, "facilities", words.facility)
+    plan = Plan()
+    for hour in sorted(set(words.hour)):
+        plan.cancel(bookings_of(db, "facility = ? AND day = ? AND hour = ?", words.facility, words.day, hour))
+    if not plan.changes:
+        raise refusal("nobody has booked these slots")
+    return plan
+
+
+def plan_leave(db, words, now):
+    wants_row(db, "members", words.member)
+    plan = Plan()
+    new = free_number(db)
+    keys = [row[0] for row in db.execute("SELECT name FROM keys WHERE member = ? ORDER BY rowid", [words.member])]
+    plan.cancel(bookings_of(db, "member = ? AND day * 1440 + hour * 60 > ?", words.member, now))
+    # References are tested at the end of the transaction.
+    plan.change(-1, "PRAGMA defer_foreign_keys = ON")
+    for place, key in enumerate(keys, 1):
+        plan.lines.append(f"revokes the key {key}, which becomes {new}-{place}")
+        plan.change(1, "UPDATE keys SET revoked = 1, name = ?, member = ? WHERE name = ?", f"{new}-{place}", new, key)
+        plan.change(None, "UPDATE bookings SET pass_key = ? WHERE pass_key = ?", f"{new}-{place}", key)
+        plan.change(None, "UPDATE old_roots SET pass_key = ? WHERE pass_key = ?", f"{new}-{place}", key)
+    plan.change(1, "UPDATE members SET quota = 0, name = ? WHERE name = ?", new, words.member)
+    (balance,) = db.execute("SELECT max(credited - used, 0) FROM members WHERE name = ?", [words.member]).fetchone()
+    back = sum(values[0] for rows, sql, values in plan.changes if sql.startswith("UPDATE members SET used"))
+    plan.lines.append(f"member {words.member} becomes {new}, with quota 0 and a balance of {balance + back}")
+    return plan
+
+
+def free_number(db):
+    """The name of a member who left: a number that no member is called, and no key's name begins with."""
+    taken = {row[0].split("-")[0] for row in db.execute("SELECT name FROM members UNION ALL SELECT name FROM keys")}
+    return next(str(candidate) for candidate in range(1, 10**9) if str(candidate) not in taken)
+
+
+def plan_new_year(db, words, now, club):
+    """Bookings of days before a day leave the file; of each key one cancelled booking stays, with what they cost."""
+    before = now // 1440 if words.before is None else words.before
+    if before > now // 1440:
+        raise refusal(f"{date_of(before)} is to come")
+    plan = Plan()
+    (old,) = db.execute("SELECT count(*) FROM bookings WHERE day < ?", [before]).fetchone()
+    (kept,) = db.execute("SELECT count(*) FROM bookings WHERE day >= ?", [before]).fetchone()
+    (slots,) = db.execute("SELECT count(*) FROM slots WHERE day < ?", [before]).fetchone()
+    plan.copy_to = f"{club.file}-until-{date_of(before - 1)}"
+    plan.lines.append(f"copies the file, as it is, to {plan.copy_to}")
+    plan.lines.append(f"takes {old} bookings and {slots} slots before {date_of(before)} out of the file, and keeps {kept} bookings")
+    plan.change(old, "DELETE FROM bookings WHERE day < ?", before)
+    plan.change(slots, "DELETE FROM slots WHERE day < ?", before)
+    carried = carry_forward(db, before)
+    if not slots and carried == db.execute("SELECT * FROM bookings WHERE day < ? ORDER BY pass_key, number DESC", [before]).fetchall():
+        raise refusal(f"nothing of before {date_of(before)} is in the file but what was carried forward")
+    plan.lines.append(f"carries forward {sum(row[6] for row in carried)} points that {len({row[0] for row in carried})} keys have spent")
+    for row in carried:
+        plan.change(1, "INSERT INTO bookings VALUES (?, ?, ?, ?, ?, ?, ?, ?, ?, ?)", *row)
+    plan.keeps = [
+        ("SELECT pass_key, sum(charge - refund) FROM bookings GROUP BY pass_key HAVING sum(charge - refund) <> 0 ORDER BY pass_key", []),
+        ("SELECT * FROM members ORDER BY name", []),
+        ("SELECT * FROM bookings WHERE day >= ? ORDER BY pass_key, number", [before]),
+        ("SELECT * FROM slots WHERE day >= ? ORDER BY facility, day, hour", [before]),
+    ]
+    return plan
+
+
+def carry_forward(db, before):
+    """What a key's old bookings cost stays spent: rows of cancelled bookings without a refund, under the highest free numbers."""
+    rows = []
+    for key, cost, facility in db.execute(
+        "SELECT pass_key, sum(charge - refund), min(facility) FROM bookings WHERE day < ? GROUP BY pass_key HAVING sum(charge - refund) > 0"
+        " ORDER BY pass_key",
+        [before],
+    ).fetchall():
+        used = {row[0] for row in db.execute("SELECT number FROM bookings WHERE pass_key = ? AND day >= ?", [key, before])}
+        place = MOST_NUMBER
+        while cost:
+            while place in used:
+                place -= 1
+            part = min(cost, MOST_CHARGE)
+            rows.append((key, place, facility, before - 1, 0, 0, part, 0, 1, 0))
+            cost, place = cost - part, place - 1
+    return rows

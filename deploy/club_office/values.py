@@ -1,0 +1,67 @@
+"""Readers of arguments. Each takes a word and returns its value; a word that spells none is a bad value."""
+
+import datetime
+import re
+
+from club_office.faults import bad_value
+
+
+NAME = re.compile(r"[a-z0-9][a-z0-9-]{0,23}")
+# The moment of a night's copy, in UTC, or that of a correction, in the club's zone, and the correction's command.
+COPY = re.compile(r"20[0-9]{2}-[0-9]{2}-[0-9]{2}T(?:[0-9]{6}Z|[0-9]{2}-[0-9]{2}-[0-9]{2}-[a-z-]+)")
+EPOCH = datetime.date(1970, 1, 1)
+MOST_CHARGE = 499_950
+MOST_NUMBER = 999_999_999
+MOST_CREDIT = 1_000_000
+
+
+def name(word):
+    if not NAME.fullmatch(word):
+        raise bad_value(f"{word!r} is no name: 1 to 24 of a to z, 0 to 9 and -, with no - at the beginning")
+    return word
+
+
+def number(least, most):
+    def value(word):
+        if not re.fullmatch(r"[0-9]{1,9}", word) or not least <= int(word) <= most:
+            raise bad_value(f"{word!r} is no number from {least} to {most}")
+        return int(word)
+
+    return value
+
+
+def day(word):
+    try:
+        found = datetime.date.fromisoformat(word)
+    except ValueError:
+        found = None
+    if not found or found.isoformat() != word or not 2000 <= found.year <= 2099:
+        raise bad_value(f"{word!r} is no day YYYY-MM-DD from 2000 to 2099")
+    return (found - EPOCH).days
+
+
+def hours(word):
+    found = re.fullmatch(r"([0-9]{1,2})-([0-9]{1,2})", word)
+    if not found or not int(found[1]) < int(found[2]) <= 24:
+        raise bad_value(f"{word!r} is no pair of hours FROM-TO, as 8-22")
+    return int(found[1]), int(found[2])
+
+
+def moment(word):
+    try:
+        found = datetime.datetime.strptime(word, "%Y-%m-%dT%H:%M")
+    except ValueError:
+        found = None
+    if not found or found.strftime("%Y-%m-%dT%H:%M") != word or not 2000 <= found.year <= 2099:
+        raise bad_value(f"{word!r} is no moment YYYY-MM-DDTHH:MM from 2000 to 2099")
+    return (found.date() - EPOCH).days * 1440 + found.hour * 60 + found.minute
+
+
+def copy_name(word):
+    if not COPY.fullmatch(word):
+        raise bad_value(f"{word!r} is no name of a copy, as `copies` lists them")
+    return word
+
+
+def date_of(day_number):
+    return (EPOCH + datetime.timedelta(days=day_number)).isoformat()
