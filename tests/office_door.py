@@ -1,7 +1,8 @@
 #!/usr/bin/env -S /usr/bin/python3 -B -m pytest -q -p no:cacheprovider
 """The door of a running desk, as a hostile or an unlucky office meets it: a command that is cut at each byte, of 70,000 bytes, with another count than its arguments, of arguments that are no UTF-8, of no name, and of `serve`; a sender that goes before it is greeted, in its arguments, or before its answer, that is silent, or that doesn't take its answer; a server that doesn't greet, or doesn't answer; 50
-commands at once; root's command at another user's desk, a folder that a server can't write, and a full disk. What isn't a whole command
-changes nothing, each whole one is carried out once, and the server goes on. Wants root for the last three. Not part of the gate.
+commands at once; root's command at another user's desk, a stale door of root's, a door of a stranger, a door behind a link, a folder that a
+server can't write, and a full disk. What isn't a whole command changes nothing, each whole one is carried out once, and the server goes on.
+Wants root for those of other users and of disks. Not part of the gate.
 """
 # groups: faults
 # wants: python3-pytest sqlite3
@@ -12,6 +13,7 @@ import shutil
 import signal
 import socket
 import subprocess
+import sys
 import threading
 import time
 
@@ -184,6 +186,73 @@ def test_a_command_of_root(of_another):
         assert credited(of_another) == 1
         assert {path.stat().st_uid for path in of_another.file.parent.iterdir() if path.name.startswith("club")} <= {desk.ANOTHER, 0}
     assert of_another.file.stat().st_uid == desk.ANOTHER
+
+
+@needs_root
+def test_a_stale_door_of_root(of_another, clubdesk):
+    """A server that root ran was killed: the owner of the club gives commands, and serves, as before."""
+    with of_another.served() as server:
+        server.kill()
+    door = of_another.file.with_name("club-office")
+    assert door.stat().st_uid == 0
+    words = [*desk.AS_ANOTHER, clubdesk, "credit", of_another.file, "amy", "1"]
+    assert subprocess.run(words, capture_output=True, check=False).stdout == b"done\n"
+    with of_another.served(by=desk.AS_ANOTHER):
+        assert door.stat().st_uid == desk.ANOTHER
+        assert credited(of_another) == 1
+
+
+STRANGER = """
+import os, socket, sys
+with socket.socket(socket.AF_UNIX) as door:
+    door.bind(sys.argv[1])
+    os.chmod(sys.argv[1], 0o777)
+    door.listen()
+    door.settimeout(3)
+    print("listening", flush=True)
+    try:
+        with door.accept()[0] as it:
+            it.sendall(b"!")
+            print(it.makefile("rb").read())
+            it.sendall(b"\\0stolen")
+    except TimeoutError:
+        print("nobody came")
+"""
+
+
+@needs_root
+def test_a_door_of_a_stranger(club, clubdesk):
+    """In a folder that others may write to, a stranger listens at the door's name: it gets no command and no root, and no server takes its place."""
+    for parent in club.file.parents:
+        if parent.stat().st_mode & 0o5 != 0o5:
+            parent.chmod(0o755)
+    club.file.parent.chmod(0o777)
+    door = f"{club.file}-office"
+    with subprocess.Popen([*desk.AS_ANOTHER, sys.executable, "-c", STRANGER, door], stdout=subprocess.PIPE, text=True) as stranger:
+        assert stranger.stdout.readline() == "listening\n"
+        words = ("add-key", club.file, "amy-2", "amy", "--root-stdin")
+        assert desk.command(clubdesk, *words, text="a7" * 32 + "\n") == FAILED
+        assert desk.command(clubdesk, "serve", club.file, "--port", "0", "--count", "1") == FAILED
+        assert stranger.stdout.read() == "nobody came\n"
+    os.unlink(door)
+    assert club.command("credit", "amy", "1") == DONE
+
+
+def test_a_door_behind_a_link(club, serving):
+    door, elsewhere = f"{club.file}-office", f"{club.file}-elsewhere"
+    os.rename(door, elsewhere)
+    os.symlink(elsewhere, door)
+    assert club.command("credit", "amy", "1") == FAILED
+    os.rename(elsewhere, door)
+    assert credited(club) == 0
+
+
+@pytest.mark.parametrize("ending", ["wanted", "serving", "paused"])
+def test_a_file_beside_the_club_stays(club, ending):
+    other = club.copied_to(f"{club.file}-{ending}")
+    with club.served():
+        pass
+    assert other.does("show-account amy-1")
 
 
 @needs_root

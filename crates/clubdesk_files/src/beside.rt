@@ -1,6 +1,9 @@
 //! The files beside a database.
 
+ghost use Rattle.std.specs.Prelude.{◌≡◌, ◌↔◌, ◌⊎◌, IsTrue};
+
 use club_core::StoreFault;
+use libc::geteuid;
 use std::alloc::AllocError;
 use std::fs::{File, OpenOptions};
 use std::io::ErrorKind;
@@ -19,10 +22,10 @@ pub(crate) const IN_MEMORY: &str = ":memory:";
 const HERE: &str = ".";
 
 /// The ending of the door's name, after the database's name.
-const OFFICE: &str = "office";
+const OFFICE: &str = "-office";
 
-/// The endings of files that an older version left beside a database.
-const OLD: [&str; 3] = ["wanted", "serving", "paused"];
+/// The user id of root.
+const ROOT: u32 = 0;
 
 /// The folder of a database, opened, and the database's name in it. Links on the way are resolved.
 /// A path by the folder's descriptor is short enough for a socket's address, however long the
@@ -59,23 +62,55 @@ impl Place {
 
     /// The path of the door.
     pub fn door(&self, rt: &HostRuntime) -> Result<String, AllocError> {
-        self.beside(rt, OFFICE)
+        self.path(rt, OFFICE)
     }
 
-    fn beside(&self, rt: &HostRuntime, ending: &str) -> Result<String, AllocError> {
+    // The path of the database's name with this ending.
+    fn path(&self, rt: &HostRuntime, ending: &str) -> Result<String, AllocError> {
         let descriptor = self.folder.as_raw_fd();
         let name = self.name.as_str();
-        format!(in rt.alloc(); "/proc/self/fd/{descriptor}/{name}-{ending}")
+        format!(in rt.alloc(); "/proc/self/fd/{descriptor}/{name}{ending}")
     }
 
-    /// Removes the small files that an older version left.
-    pub fn remove_old(&self, rt: &HostRuntime) {
-        for ending in &OLD {
-            if let Ok(path) = self.beside(rt, ending) {
-                let _ = fs::remove_file(rt, path.as_str());
-            }
+    // The user id of the database's owner; the caller's if the database is gone.
+    fn owner(&self, rt: &HostRuntime) -> io::Result<u32> {
+        let path = self.path(rt, "")?;
+        match fs::symlink_metadata(rt, path.as_str()) {
+            Ok(found) => Ok(found.uid()),
+            Err(error) if error.kind() == ErrorKind::NotFound => Ok(geteuid()),
+            Err(error) => Err(error),
         }
     }
+
+    /// Whether a socket has the door's name that may be the door of this database.
+    ///
+    /// # Errors
+    ///
+    /// `InvalidData` if something else has the name, or the socket of a user who may not make the
+    /// door.
+    pub fn has_door(&self, rt: &HostRuntime) -> io::Result<bool> {
+        let path = self.door(rt)?;
+        match fs::symlink_metadata(rt, path.as_str()) {
+            Ok(found) => {
+                let owner = self.owner(rt)?;
+                if found.file_type().is_socket() && may_make_door(found.uid(), owner, geteuid()) {
+                    Ok(true)
+                } else {
+                    Err(io::Error::from(ErrorKind::InvalidData))
+                }
+            }
+            Err(error) if error.kind() == ErrorKind::NotFound => Ok(false),
+            Err(error) => Err(error),
+        }
+    }
+}
+
+/// Whether a user may make the door of a database: its owner, the caller and root may. Anyone who
+/// may write to the folder can put a socket there, and would get what is sent to it.
+pub fn may_make_door(user: u32, owner: u32, caller: u32) -> bool
+    ensures { IsTrue result ↔ ((user ≡ owner) ⊎ (user ≡ caller) ⊎ (user ≡ ROOT)) }
+{
+    user == owner || user == caller || user == ROOT
 }
 
 /// The fault of a door that can't be made or used.
@@ -83,20 +118,6 @@ pub(crate) fn fault_of(error: &io::Error) -> StoreFault {
     match error.kind() {
         ErrorKind::OutOfMemory => StoreFault::Memory,
         _ => StoreFault::Storage,
-    }
-}
-
-/// Removes the socket at a path, if one is there.
-///
-/// # Errors
-///
-/// Something else is there, or it can't be removed.
-pub(crate) fn remove_socket(rt: &HostRuntime, path: &str) -> io::Result<()> {
-    match fs::symlink_metadata(rt, path) {
-        Ok(found) if found.file_type().is_socket() => fs::remove_file(rt, path),
-        Ok(_) => Err(io::Error::from(ErrorKind::AlreadyExists)),
-        Err(error) if error.kind() == ErrorKind::NotFound => Ok(()),
-        Err(error) => Err(error),
     }
 }
 
@@ -118,7 +139,7 @@ impl SocketFile {
     pub fn remove(self, rt: &HostRuntime, path: &str) {
         match SocketFile::at(rt, path) {
             Ok(found) if found.inode == self.inode => {
-                let _ = remove_socket(rt, path);
+                let _ = fs::remove_file(rt, path);
             }
             _ => {}
         }

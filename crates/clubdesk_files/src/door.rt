@@ -1,14 +1,14 @@
 //! The door of a server, in the file system: a socket beside the database, for its owner alone.
 
-use crate::beside::{IN_MEMORY, OWNERS_MODE, Place, SocketFile, remove_socket};
+use crate::beside::{IN_MEMORY, OWNERS_MODE, Place, SocketFile};
 use desk_server::Door;
 use libc::{fchmod, net as c};
-use std::io;
 use std::io::ErrorKind;
 use std::net::Net;
 use std::os::fd::{AsFd, AsRawFd};
 use std::os::unix::net::{SocketAddr, UnixListener};
 use std::rt::Files;
+use std::{fs, io};
 
 /// How many commands may wait.
 const BACKLOG: i32 = 128;
@@ -26,16 +26,17 @@ impl<'a> FileDoor<'a> {
     ///
     /// # Errors
     ///
-    /// Something else than a socket has the door's name, the folder can't be written, or memory is
-    /// refused.
+    /// The door's name has something other than a socket, or the socket of a user who may not make
+    /// the door; the folder can't be written; or memory is refused.
     pub fn make(rt: &'a HostRuntime, file: &str) -> io::Result<FileDoor<'a>> {
         if file == IN_MEMORY {
             return Ok(FileDoor { rt, at: None });
         }
         let place = Place::find(rt, file)?;
-        place.remove_old(rt);
         let path = place.door(rt)?;
-        remove_socket(rt, path.as_str())?;
+        if place.has_door(rt)? {
+            fs::remove_file(rt, path.as_str())?;
+        }
         let listener = bind_private(rt, path.as_str())?;
         let made = SocketFile::at(rt, path.as_str())?;
         Ok(FileDoor {

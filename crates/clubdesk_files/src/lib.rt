@@ -6,12 +6,17 @@ mod attempts;
 mod beside;
 mod door;
 mod files;
+mod named;
+mod open_file;
 mod openings;
 mod user;
 mod visit;
 
 pub use attempts::{Attempts, gain};
+pub use beside::may_make_door;
 pub use door::FileDoor;
 pub use files::Files;
+pub use named::{NamedStore, Removable};
+pub use open_file::OpenFile;
 pub use user::{DatabasesUser, run_over_files};
 pub use visit::FileVisit;

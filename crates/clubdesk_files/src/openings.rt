@@ -1,7 +1,9 @@
 //! Attempts to open a database that other programs open too.
 
 use crate::attempts::Attempts;
-use crate::beside::make_private;
+use crate::beside::{fault_of, make_private};
+use crate::named::NamedStore;
+use crate::open_file::OpenFile;
 use crate::visit::{FileVisit, find_server};
 use club_core::StoreFault;
 use club_store::{Remains, Store};
@@ -10,11 +12,14 @@ use sqlite::{FileFrom, FileStore, Unknown};
 
 /// The store of a club in a file. The file is opened as [`Unknown`]: a torn write leaves each byte
 /// old or new.
-pub type FileClub = Store<FileStore<FileFrom<Unknown>>>;
+type FileStoreOfClub = Store<FileStore<FileFrom<Unknown>>>;
+
+/// The store of a club in a file that may lose its name.
+pub type FileClub<'a> = NamedStore<FileStoreOfClub, OpenFile<'a>>;
 
 // Opens the database in a file; if it is missing, creates it for its owner alone. `None` while
 // another program has it open.
-fn try_open(rt: &HostRuntime, name: &str) -> Option<Result<FileClub, StoreFault>> {
+fn try_open(rt: &HostRuntime, name: &str) -> Option<Result<FileStoreOfClub, StoreFault>> {
     make_private(rt, name);
     match Store::open_file(rt, name, Unknown) {
         Ok(store) => Some(Ok(store)),
@@ -30,13 +35,19 @@ pub struct ServerOpenings<'a, 'n> {
     pub name: &'n str,
 }
 
-impl Attempts for ServerOpenings<'_, '_> {
-    type Gain = Result<FileClub, StoreFault>;
+impl<'a> Attempts for ServerOpenings<'a, '_> {
+    type Gain = Result<FileClub<'a>, StoreFault>;
 
     ghost gains = { λ _ _ _. Unit {0} };
 
-    fn attempt(&mut self) -> Option<Result<FileClub, StoreFault>> {
-        try_open(self.rt, self.name)
+    fn attempt(&mut self) -> Option<Result<FileClub<'a>, StoreFault>> {
+        match try_open(self.rt, self.name)? {
+            Ok(store) => match OpenFile::at(self.rt, self.name) {
+                Ok(file) => Some(Ok(NamedStore { store, file })),
+                Err(error) => Some(Err(fault_of(&error))),
+            },
+            Err(fault) => Some(Err(fault)),
+        }
     }
 }
 
@@ -48,16 +59,19 @@ pub struct OfficeOpenings<'a, 'n> {
 }
 
 impl<'a> Attempts for OfficeOpenings<'a, '_> {
-    type Gain = Result<Reached<FileClub, FileVisit<'a>>, StoreFault>;
+    type Gain = Result<Reached<FileClub<'a>, FileVisit<'a>>, StoreFault>;
 
     ghost gains = { λ _ _ _. Unit {0} };
 
-    fn attempt(&mut self) -> Option<Result<Reached<FileClub, FileVisit<'a>>, StoreFault>> {
+    fn attempt(&mut self) -> Option<Result<Reached<FileClub<'a>, FileVisit<'a>>, StoreFault>> {
         match find_server(self.rt, self.name) {
             Some(Ok(visit)) => Some(Ok(Reached::Served(visit))),
             Some(Err(fault)) => Some(Err(fault)),
             None => match try_open(self.rt, self.name)? {
-                Ok(store) => Some(Ok(Reached::Opened(store))),
+                Ok(store) => {
+                    let file = OpenFile::unwatched(self.rt);
+                    Some(Ok(Reached::Opened(NamedStore { store, file })))
+                }
                 Err(fault) => Some(Err(fault)),
             },
         }

@@ -23,9 +23,14 @@ pub struct FileVisit<'a> {
     stream: UnixStream,
 }
 
-/// Finds the server of a database. It has greeted; or one listens, but doesn't greet in time, or
-/// the door can't be used, also for want of memory. `None` if nobody listens, or the database's
-/// name is too long for a door.
+/// Connects to the server of a database, and waits for its greeting. `None` if nobody listens, the
+/// database's name is too long for a door, or root's door keeps this user out: then the lock of
+/// the file says whether a server has it.
+///
+/// # Errors
+///
+/// The server doesn't greet in time, the door can't be used, a user who may not make the door made
+/// it, or memory is refused. Nothing was sent.
 pub(crate) fn find_server<'a>(
     rt: &'a HostRuntime,
     file: &str,
@@ -36,7 +41,10 @@ pub(crate) fn find_server<'a>(
             Err(error) => Some(Err(fault_of(&error))),
         },
         Err(error) => match error.kind() {
-            ErrorKind::NotFound | ErrorKind::ConnectionRefused | ErrorKind::InvalidInput => None,
+            ErrorKind::NotFound
+            | ErrorKind::ConnectionRefused
+            | ErrorKind::InvalidInput
+            | ErrorKind::PermissionDenied => None,
             _ => Some(Err(fault_of(&error))),
         },
     }
@@ -44,6 +52,9 @@ pub(crate) fn find_server<'a>(
 
 fn connect(rt: &HostRuntime, file: &str) -> io::Result<UnixStream> {
     let place = Place::find(rt, file)?;
+    if !place.has_door(rt)? {
+        return Err(io::Error::from(ErrorKind::NotFound));
+    }
     let path = place.door(rt)?;
     UnixStream::connect(rt, path.as_str())
 }

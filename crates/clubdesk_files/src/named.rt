@@ -1,0 +1,101 @@
+//! A store of a club in a file that another program may remove.
+
+ghost use Rattle.std.specs.Bool.{OnFalse};
+ghost use Rattle.std.specs.Prelude.{◌≡◌, IfErr};
+ghost use Rattle.club_core.specs.declared.store.StoreFault.TheVariants.{Storage};
+
+use club_core::{Change, ClubStore, MemberAccount, SlotUse, StoreFault};
+use club_rows::{Booking, BookingNumber, Facility, KeyRow, OlderRoot};
+use club_values::{Day, Moment, Name, Slot};
+
+/// An open file that another program may remove.
+pub trait Removable {
+    // the file was found without a name, or couldn't be looked at
+    ghost is_lost: { Self → Type 0 };
+
+    /// Whether the file still has a name in its file system. What is written to a file without one
+    /// is gone once it is closed.
+    fn has_name(&self) -> bool
+        ensures { OnFalse result (is_lost self.now) };
+}
+
+/// A store over a file. Once the file has no name any more, what begins a request or a command
+/// fails: nothing is acknowledged that no other program would find.
+#[derive(Drop)]
+pub struct NamedStore<S, F> {
+    pub store: S,
+    pub file: F,
+}
+
+impl<S, F: Removable> NamedStore<S, F> {
+    // Fails if the file has no name.
+    fn look(&self) -> Result<(), StoreFault>
+        ensures { IfErr result (λ fault. (fault ≡ Storage) × F.is_lost self.now.file) }
+    {
+        if self.file.has_name() {
+            Ok(())
+        } else {
+            Err(StoreFault::Storage)
+        }
+    }
+}
+
+impl<S: ClubStore, F: Removable> ClubStore for NamedStore<S, F> {
+    ghost use Rattle.clubdesk_files.specs.Named.{FailsOrIsLost};
+
+    ghost represents = { λ named. S.represents named.store };
+
+    ghost disk_is_clean = { λ named. S.disk_is_clean named.store };
+
+    ghost fails = { FailsOrIsLost S.fails F.is_lost };
+
+    ghost sound = { λ named club others represents. S.sound named.store club others represents };
+
+    fn key_row(&mut self, name: &Name) -> Result<Option<KeyRow>, StoreFault> {
+        self.look()?;
+        self.store.key_row(name)
+    }
+
+    fn older_root(&mut self, name: &Name) -> Result<Option<OlderRoot>, StoreFault> {
+        self.store.older_root(name)
+    }
+
+    fn facility(&mut self, name: &Name) -> Result<Option<Facility>, StoreFault> {
+        self.look()?;
+        self.store.facility(name)
+    }
+
+    fn slot(&mut self, slot: &Slot) -> Result<SlotUse, StoreFault> {
+        self.store.slot(slot)
+    }
+
+    fn booking(
+        &mut self,
+        key: &Name,
+        number: BookingNumber,
+    ) -> Result<Option<Booking>, StoreFault> {
+        self.store.booking(key, number)
+    }
+
+    fn account(&mut self, member: &Name) -> Result<Option<MemberAccount>, StoreFault> {
+        self.look()?;
+        self.store.account(member)
+    }
+
+    fn open_count(&mut self, member: &Name, moment: Moment) -> Result<u64, StoreFault> {
+        self.store.open_count(member, moment)
+    }
+
+    fn spent(&mut self, key: &Name) -> Result<u64, StoreFault> {
+        self.store.spent(key)
+    }
+
+    fn day(&mut self, day: Day) -> Result<Vec<Booking>, StoreFault> {
+        self.look()?;
+        self.store.day(day)
+    }
+
+    fn apply(&mut self, change: &Change) -> Result<(), StoreFault> {
+        self.store.apply(change)
+    }
+}
