@@ -158,20 +158,22 @@ def test_what_others_meet_beside_a_server(club):
         if os.geteuid() == 0:
             folder.chmod(0o755)
             club.file.chmod(0o644)
-            ends(FAILED, 1, *desk.AS_ANOTHER, club.program, "credit", club.file, "m2", "1")
+            ends(FAILED, 15, *desk.AS_ANOTHER, club.program, "credit", club.file, "m2", "1")
             club.file.chmod(0o600)
 
 
 @pytest.mark.parametrize("is_replaced", [True, False], ids=["replaced", "removed"])
 def test_file_that_is_gone(made, is_replaced):
-    """The server goes on with the file that it opened, and leaves one in its place as it is."""
+    """The server acknowledges nothing that would go into a file without a name, and leaves one in its place as it is."""
     club = made.copied_to(made.file.with_name("gone"))
-    with club.served():
+    with club.served() as server:
+        assert server.exchange(ACCOUNT.under(PASSES[1]).data).startswith(b"HTTP/1.1 200 ")
         club.file.unlink()
         if is_replaced:
             shutil.copy(made.file, club.file)
-        ends(DONE, 1, club.program, "credit", club.file, "m2", "1")
-        assert club.balance("k2") == 10_001
+        assert server.exchange(ACCOUNT.under(PASSES[1]).data).startswith(b"HTTP/1.1 503 ")
+        for words in (("credit", "m2", "1"), ("add-member", "new", "1"), ("sheet", "2026-05-01"), ("show-account", "k2", "--at", kinds.NOON)):
+            assert club.command(*words) == FAILED, words
         assert club.file.exists() == is_replaced
         assert not is_replaced or club.file.read_bytes() == made.file.read_bytes()
 
@@ -182,7 +184,7 @@ def test_server_whose_file_was_replaced_leaves_the_door_of_the_next(made):
     with club.served(count=1) as first:
         made.copied_to(club.file)
         with club.served():
-            assert first.exchange(ACCOUNT.under(PASSES[1]).data).startswith(b"HTTP/1.1 200 ")
+            assert first.exchange(ACCOUNT.under(PASSES[1]).data).startswith(b"HTTP/1.1 503 ")
             assert first.process.wait(10) == 0
             ends(DONE, 1, club.program, "credit", club.file, "m2", "1")
 
