@@ -122,8 +122,8 @@ impl Face {
         reply_to(&self.routes, self.request(), scan, desk, moment)
     }
 
-    /// Asks the desk for the reply to the request that the face holds, with the scan that covers it,
-    /// and writes its text: the second step of an exchange, after `receive`.
+    /// Asks the desk for the reply to the request that the face holds, with the scan that covers
+    /// it, and writes its text: the second step of an exchange, after `receive`.
     ///
     /// # Errors
     ///

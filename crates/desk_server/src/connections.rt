@@ -31,7 +31,7 @@ pub trait Connection {
         log: &mut G,
         moment: Moment,
     ) -> Result<Reply, AnswerFault>
-        ensures { ExchangesBetween M.gives D.commands G.begins G.notes (D.answers moment) talks
+        ensures exchanged { ExchangesBetween M.gives D.commands G.begins G.notes (D.answers moment) talks
             face.new moments.old desk.old log.old self.old
             result moments.new desk.new log.new self.new };
 }
@@ -71,6 +71,7 @@ impl<S: ClientStream, C: MonotonicClock> Waits for Accepted<'_, S, C> {
 /// out while the request is awaited.
 impl<S: ClientStream, C: MonotonicClock> Connection for Accepted<'_, S, C> {
     ghost use Rattle.desk_server.specs.Accepted.{Talks};
+    ghost use Rattle.desk_server.specs.Served.{ExchangesBetween};
 
     ghost talks = { Talks S.to_come S.taken C.shows S.reads S.writes };
 
@@ -81,7 +82,12 @@ impl<S: ClientStream, C: MonotonicClock> Connection for Accepted<'_, S, C> {
         desk: &mut D,
         log: &mut G,
         moment: Moment,
-    ) -> Result<Reply, AnswerFault> {
+    ) -> Result<Reply, AnswerFault>
+        ensures exchanged { ExchangesBetween M.gives D.commands G.begins G.notes (D.answers moment)
+            (Talks S.to_come S.taken C.shows S.reads S.writes)
+            face.new moments.old desk.old log.old self.old
+            result moments.new desk.new log.new self.new }
+    {
         let Some(scan) = receive_between(face, self, moments, desk, log) else {
             return Err(AnswerFault::Read);
         };

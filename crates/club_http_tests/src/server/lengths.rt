@@ -118,7 +118,10 @@ fn serve_in_pieces(
     let mut face = Face::new(rt.alloc())?;
     let outcome = connection.exchange(&mut face, &mut moments, desk, &mut Unlogged, moment);
     fs::remove_file(rt, path)?;
-    outcome.map(|_| ()).or(Err("a fault".into()))
+    match outcome {
+        Ok(_) => Ok(()),
+        Err(_) => Err("a fault".into()),
+    }
 }
 
 /// A booking whose head and body have so many bytes.

@@ -36,7 +36,7 @@ pub loop-served-preserved-in-Client : goal.loop-served-preserved-in-Client
 loop-served-preserved-in-Client g c =
     let so_far = c.loop-served.invariant.so_far in
     let next = c.in-Client.ensures in
-    let exchange = c.exchange-outcome.ensures in
+    let exchange = c.exchange-outcome.ensures.exchanged in
     let fate = Exchanged c.in-Some.moment c.of-line.result c.exchange-outcome.result in
     record {
       fewer = omega arith;

@@ -10,11 +10,13 @@ pub returns-in_default : goal.returns-in_default
 returns-in_default g c =
     let received = c.in_default.ensures in
     record {
-      left = c.receive_between.new.desk;
-      written = [];
-      meanwhile = received.meanwhile;
-      exchanged = (refl, refl);
-      talked = talked _ _ _ _ _ _ _ _ _ _ [] (Err Read) received.calls received.cut_off not_put refl (Appends-nil _) received.counted refl;
+      exchanged = record {
+        left = c.receive_between.new.desk;
+        written = [];
+        meanwhile = received.meanwhile;
+        exchanged = (refl, refl);
+        talked = talked _ _ _ _ _ _ _ _ _ _ [] (Err Read) received.calls received.cut_off not_put refl (Appends-nil _) received.counted refl;
+      };
     }
 
 pub returns-in-Ok : goal.returns-in-Ok
@@ -25,13 +27,15 @@ returns-in-Ok g c =
     (g.S.TimedStream.taken c.receive_between.new.reader.stream) (g.S.TimedStream.taken c.respond.new.writer.stream) (Ok c.in-Ok.reply)
     c.in-Ok.ensures.exchanged in
     record {
-      left = c.receive_between.new.desk;
-      written = it.written;
-      meanwhile = received.meanwhile;
-      exchanged = it.exchanged;
-      talked =
-          talked _ _ _ _ _ _ _ c.respond.new.writer _ _ it.written (Ok c.in-Ok.reply) received.calls received.received c.in-Ok.ensures.calls
-          (λ one. c.end.ensures.over (c.is_over-over.ensures.1 one), c.end.ensures.rest) it.writes received.counted c.in-Ok.ensures.writes;
+      exchanged = record {
+        left = c.receive_between.new.desk;
+        written = it.written;
+        meanwhile = received.meanwhile;
+        exchanged = it.exchanged;
+        talked =
+            talked _ _ _ _ _ _ _ c.respond.new.writer _ _ it.written (Ok c.in-Ok.reply) received.calls received.received c.in-Ok.ensures.calls
+            (λ one. c.end.ensures.over (c.is_over-over.ensures.1 one), c.end.ensures.rest) it.writes received.counted c.in-Ok.ensures.writes;
+      };
     }
 
 pub returns-in-Err : goal.returns-in-Err
@@ -46,11 +50,13 @@ returns-in-Err g c =
     (Appends (g.S.TimedStream.taken c.receive_between.new.reader.stream) (g.S.TimedStream.taken c.respond.new.writer.stream)) c.args.self.now
     c.receive_between.new.reader c.receive_between.new.face (Err c.in-Err.fault) c.in-Err.ensures.exchanged received.received received.counted in
     record {
-      left = c.receive_between.new.desk;
-      written = it.written;
-      meanwhile = received.meanwhile;
-      exchanged = it.exchanged;
-      talked =
-          talked _ _ _ _ _ _ _ c.respond.new.writer _ _ it.written (Err c.in-Err.fault) received.calls request.came c.in-Err.ensures.calls refl it.writes
-          request.failed_reads c.in-Err.ensures.writes;
+      exchanged = record {
+        left = c.receive_between.new.desk;
+        written = it.written;
+        meanwhile = received.meanwhile;
+        exchanged = it.exchanged;
+        talked =
+            talked _ _ _ _ _ _ _ c.respond.new.writer _ _ it.written (Err c.in-Err.fault) received.calls request.came c.in-Err.ensures.calls refl it.writes
+            request.failed_reads c.in-Err.ensures.writes;
+      };
     }
