@@ -325,9 +325,10 @@ impl<S: Alter> Store<S> {
         }
     }
 
-    /// The key of this name, with its older root, and its view of a request at a moment: what it has
-    /// spent, its booking under the number, its member's row, balance and open bookings, and the
-    /// slot's state. `None` if the key is unknown. A row out of its limits is a fault of storage.
+    /// The key of this name, with its older root, and its view of a request at a moment: what it
+    /// has spent, its booking under the number, its member's row, balance and open bookings, and
+    /// the slot's state. `None` if the key is unknown. A row out of its limits is a fault of
+    /// storage.
     pub fn view(
         &mut self,
         key: &Name,
