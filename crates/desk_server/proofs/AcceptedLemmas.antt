@@ -1,6 +1,5 @@
 -- What the calls of an accepted connection keep.
-use Rattle.std.proofs.Common.{◌≡◌, ◌∙◌, ℕ, List, Option, ap, refl}
-use Rattle.std.specs.Io.KnownBytes.{Keeps}
+use Rattle.std.proofs.Common.{◌∙◌, ℕ, List, Option, ap, refl}
 use Rattle.std.proofs.KnownBytes.{Keeps-refl, Keeps-trans}
 use Rattle.desk_server.specs.Accepted.{HasMoved, HasWaited}
 use Rattle.desk_server.specs.declared.timed.Accepted.{Accepted}

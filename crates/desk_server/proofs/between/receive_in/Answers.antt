@@ -1,4 +1,3 @@
-use Rattle.desk_server.specs.Between.{Awaits, CommandsAlone}
 use Rattle.desk_server.proofs.MeanwhileLemmas.{alone_more, alone_none, reads_as, reads_kept}
 use Rattle.desk_server.proofs.between.receive_in.Goals as goal
 
