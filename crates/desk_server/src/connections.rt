@@ -31,8 +31,8 @@ pub trait Connection {
         log: &mut G,
         moment: Moment,
     ) -> Result<Reply, AnswerFault>
-        ensures exchanged { ExchangesBetween M.gives D.commands G.begins G.notes (D.answers moment) talks
-            face.new moments.old desk.old log.old self.old
+        ensures exchanged { ExchangesBetween M.gives D.commands G.begins G.notes (D.answers moment)
+            talks face.new moments.old desk.old log.old self.old
             result moments.new desk.new log.new self.new };
 }
 
