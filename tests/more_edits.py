@@ -15,7 +15,9 @@ from pathlib import Path
 
 ROOT = Path(__file__).resolve().parent.parent
 FOLDERS = ("must-fail", "more-edits")
-WORDS = ("false", "goal", "names", "proved", "limit", "bad")
+WORDS = ("false", "goal", "names", "test", "proved", "limit", "bad")
+# The crate and the name of the test that an edit fails, if no contract refuses it.
+TEST = re.compile(r"^test: (\w+) ([\w:]+)$", re.MULTILINE)
 # What rattle says of a goal for which it found values, in the line of the goal or in that of the answer that is missing.
 FALSE = re.compile(r"the facts known there allow values at which this goal is false|may be false: the known facts allow")
 # What it says of a proof file that names what isn't there, and of what rests on that.
@@ -188,10 +190,23 @@ class Trial:
         for edit in group.values():
             try:
                 word, line = told.get(edit) or self.verdict(edit)
+                if word == "proved" and (test := TEST.search(edit.read_text(encoding="utf-8"))):
+                    word, line = self.tested(edit, *test.groups())
             except NoVerdict as it:
                 word, line = it.args
             self.restore()
             yield edit, word, line
+
+    def tested(self, edit, crate, test):
+        """Whether a test fails on an edit that no contract refuses, and its line. The tests run before any proof of theirs."""
+        self.restore()
+        self.put(edited_texts(self.crate, edit))
+        ran = subprocess.run(["rt", "try", "--test", "--", test], cwd=self.crate.parent / crate, stdin=subprocess.DEVNULL,
+                             stdout=subprocess.PIPE, stderr=subprocess.STDOUT, text=True, errors="replace", check=False)
+        line = next((line for line in ran.stdout.split("\n") if line.startswith(f"test {test} ...")), None)
+        if line is None:
+            raise NoVerdict("bad", f"no test {crate} {test}: {ran.stdout.strip()[-100:]}")
+        return ("proved" if line.endswith(" ok") else "test"), line
 
     def told_together(self, group):
         """What one check with all edits of a group tells of each function: a goal that is false or open, and no name that is missing."""
