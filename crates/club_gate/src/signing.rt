@@ -22,8 +22,8 @@ impl<S: ClubStore> Desk<S> {
     /// reads the older root only for a pass that isn't signed under the current one. The source has
     /// already yielded the identifier.
     ///
-    /// The current root's derived key is cached once a pass is signed under it. Until then the cache
-    /// still has the older root's, if a pass was signed under that before the rotation.
+    /// The current root's derived key is cached once a pass is signed under it. Until then the
+    /// cache still has the older root's, if a pass was signed under that before the rotation.
     pub(crate) fn is_signed<'a, F: FieldSource<'a> + Drop>(
         &mut self,
         source: &F,

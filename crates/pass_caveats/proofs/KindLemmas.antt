@@ -1,6 +1,6 @@
 -- A caveat has the same fault for each kind if and only if it isn't on the kind.
-use Rattle.pass_caveats.proofs.Common.{◌≡◌, ℕ, false, List, [], ◌∷◌, Option, Some, None, refl, sym, ap, ◌∙◌, Ask, Caveat, caveat_of, permits, first_fault_from, arith}
-use Rattle.pass_caveats.proofs.Common.{Facility, Kind, Hours, Days, Weekdays, Until, Guests, Spend, Actions}
+use Rattle.pass_caveats.proofs.Common.{◌≡◌, ℕ, false, List, [], ◌∷◌, Option, Some, None, Ask, Caveat, caveat_of, permits, first_fault_from, arith}
+use Rattle.pass_caveats.proofs.Common.{refl, sym, ap, ◌∙◌, Facility, Kind, Hours, Days, Weekdays, Until, Guests, Spend, Actions}
 use Rattle.club_values.specs.declared.action.Action.TheVariants.{View}
 use Rattle.club_values.specs.declared.kind.Kind.{Kind as AKind}
 use Rattle.club_values.specs.declared.kind.Kind.TheVariants.{Court, Boat, Room}

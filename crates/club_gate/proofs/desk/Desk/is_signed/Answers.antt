@@ -27,6 +27,7 @@ pub returns : goal.returns
 returns g c = reads g.met.S.ClubStore.sound (search rules) (λ clean club others represents sound pass key named left held same.
     let found = c.in_ok-older_root.ensures.returned clean club others (rw (← c.self.view_is) at represents) in
     let older = c.older_root_at.ensures ∙ older_of club key _ _ c.new-key.result c.args.moment held same found c.new-key.ensures in
-    let later = signed_by pass _ _ named (c.again-once_more.ensures ∙ left) c.in-Some.root.now _ _ _ (c.bytes-2.ensures ∙ ap derived_key c.derived-older.ensures)
+    let derived = c.bytes-2.ensures ∙ ap derived_key c.derived-older.ensures in
+    let later = signed_by pass _ _ named (c.again-once_more.ensures ∙ left) c.in-Some.root.now _ _ _ derived
     c.from_key-2.ensures c.is_signed_by-2.ensures.of_pass in
     rw (by_current g (goal.at.returns g c).After-is_signed_by pass key named left same, c.if-is_signed_by.false, ← older, c.in-Some.is, ← later) refl)
