@@ -2,7 +2,8 @@
 """The office, killed: 100 commands and corrections, each killed at a random moment, beside a running desk with four clients; then no total
 is off, each reply was right, each command is done once or not at all, and the desk serves. An import of twelve members, killed before
 and after each of its commands, and 40 times at random: nobody is credited twice, and each pass that it leaves opens its account. A restore,
-killed 25 times: the club is that of before or that of the copy. Wants root, for a machine of its own (tests/office_room.sh). Not part of
+killed 25 times: the club is that of before or that of the copy. Points for all, bookings for members who call, and undos, each killed at
+random and given again: each member is credited once, each slot booked once, each correction undone whole. Wants root, for a machine of its own (tests/office_room.sh). Not part of
 the gate.
   tests/office_killed.py [KILLS [SEED]]
 """
@@ -11,7 +12,6 @@ the gate.
 
 import argparse
 import itertools
-import os
 import random
 import shutil
 import subprocess
@@ -85,8 +85,6 @@ def commands_beside_the_desk():
     hold_book(commands)
     same("the desk serves", server.is_heard(), True)
     same("and answers", server.answer(text["zoe"], "GET", "/account")[0], 200)
-    for it in left():
-        os.utime(it, (0, 0))
     done("members")
     same("nothing is left", left(), [])
     server.stop()
@@ -152,6 +150,51 @@ def restores():
     same("the desk serves", server.is_heard(), True)
     server.stop()
     print(f"a restore, killed {sum(outcomes.values())} times: {dict(outcomes)}")
+
+
+def season_points():
+    """Points for all, killed and given again: each member has them once, however often."""
+    for number in range(1, 21):
+        done("add-member", f"player-{number}", "5")
+    before = dict(rows("SELECT name, credited FROM members WHERE quota > 0"))
+    server = Service()
+    words = ["credit-all", "100", "--as", "killed", "--yes"]
+    for _ in range(min(given.kills, 12)):
+        killed_after(chance.uniform(0.2, 4), words, chance if chance.random() < 0.3 else None)
+        more = {points - before[name] for name, points in rows("SELECT name, credited FROM members WHERE quota > 0")}
+        same("each has the points, or not yet", more <= {0, 100}, True)
+    same("given again", office(*words)[0] in (0, 1), True)
+    same("each has them once", {points - before[name] for name, points in rows("SELECT name, credited FROM members WHERE quota > 0")}, {100})
+    same("and never again", office(*words)[0], 1)
+    server.stop()
+
+
+def bookings_for_callers():
+    """A booking for a member who calls, killed and given again, is one."""
+    server = Service()
+    configure(PORT=server.port)
+    for hour in range(min(given.kills, 10)):
+        words = ["book", "zoe", "room-1", "2026-05-20", str(hour), "1"]
+        killed_after(chance.uniform(0.2, 2.5), words)
+        status, _, errors = office(*words)
+        same(f"a booking, again at {hour}", (status == 0, "already" in errors) in ((True, False), (False, True)), True)
+        same(f"it is one at {hour}", rows(f"SELECT count(*), sum(taken) FROM slots WHERE facility = 'room-1' AND day = 20593 AND hour = {hour}"), [(1, 2)])
+    whole("killed bookings")
+    server.stop()
+
+
+def undos():
+    """An undo, killed: the club of the correction or that of before it."""
+    for attempt in range(min(given.kills, 10)):
+        before = everything()
+        done("close", f"2026-08-{attempt + 1:02d}", "10-12", "room-1", "--yes")
+        after = everything()
+        killed_after(chance.uniform(0.2, 2.5), ["undo", "--yes"])
+        found = everything()
+        same("a killed undo", found in (before, after), True)
+        if found == after:
+            done("undo", "--yes")
+            same("it is undone", everything(), before)
 
 
 # Name, quota and points of each member, and the name that the office makes of it.
@@ -266,14 +309,16 @@ def refused_lists():
         ("too many cells", "name,quota,points\nAmy,1,1,1,1", 3),
         ("two of one name", "name,quota,points\nAmy,1,1\nÄmy,1,1\nämy,2,2", 3),
         ("two of one key", "name,quota,points,key\nAmy,1,1,k\nBob,1,1,K", 3),
-        ("no UTF-8", "name,quota,points\n\udcff,1,1", 7),
+        ("no letter", "name,quota,points\n\udc81,1,1", 7),
+        ("no list of members", "name,quota,points\n" + "Amy,1,1\n" * 300_000, 3),
+        ("a mail address that is none", "name,quota,points,mail\nAmy,1,1,amy", 3),
     ):
         LIST.write_text(f"{lines}\n", encoding="utf-8", errors="surrogateescape")
         same(what, office("import", "members.csv", "--yes")[0], status)
     same("nobody is a member", rows("SELECT * FROM members"), [])
     make_list(MEMBERS[:2])
     status, out, _ = office("import", "members.csv", given="n\n")
-    same("not confirmed", (status, out.splitlines()[1].split()), (1, ["2", "Amy", "Müller", "amy-mueller", "5", "10000", "amy-mueller-1", "new"]))
+    same("not confirmed", (status, out.splitlines()[2].split()), (1, ["2", "Amy", "Müller", "amy-mueller", "5", "10000", "amy-mueller-1", "new"]))
     same("nobody is a member yet", rows("SELECT * FROM members"), [])
     run_as("anna", "mkdir", "passes")
     run_as("anna", "sh", "-c", "echo mine >passes/bob-1")
@@ -284,5 +329,8 @@ def refused_lists():
 
 commands_beside_the_desk()
 restores()
+season_points()
+bookings_for_callers()
+undos()
 imports()
 leave()

@@ -20,7 +20,7 @@ parser = argparse.ArgumentParser()
 parser.add_argument("requests", type=int, nargs="?", default=1500, choices=range(10, 100_001), metavar="REQUESTS")
 count = parser.parse_args().requests
 chance = random.Random(count)
-NOW = "2026-12-31T20:00"
+NOW = "2025-12-31T20:00"
 YES = ["--yes", "--at", NOW]
 FACILITIES = ("court-1", "boat-1", "room-1")
 
@@ -42,8 +42,8 @@ def make_club():
 
 def days():
     """Moments of the year, each with the days that are booked then: some of them are to come at its end."""
-    return [(f"2026-{month:02d}-{day:02d}T07:30", f"2026-{month:02d}-{day + 3:02d}") for month in range(1, 13) for day in (2, 12, 22)] + [
-        ("2026-12-31T10:00", "2026-12-31"), ("2026-12-31T10:00", "2027-01-04"), ("2026-12-31T10:01", "2027-02-20")
+    return [(f"2025-{month:02d}-{day:02d}T07:30", f"2025-{month:02d}-{day + 3:02d}") for month in range(1, 13) for day in (2, 12, 22)] + [
+        ("2025-12-31T10:00", "2025-12-31"), ("2025-12-31T10:00", "2026-01-04"), ("2025-12-31T10:01", "2026-02-20")
     ]
 
 
@@ -62,24 +62,24 @@ def live_a_year(texts):
                 server.answer(texts[key], "DELETE", path)
         server.stop()
         office("close-slot", "court-1", on, "21")
-    done("rotate-key", "amy-2", "2027-06-01T00:00", "--to", "amy-2-new")
+    done("rotate-key", "amy-2", "2026-06-01T00:00", "--to", "amy-2-new")
     done("revoke-key", "zoe-2")
 
 
 def requests(texts):
     """Requests of every kind about what is to come, with repeats of what was booked and cancelled there. The last is under a narrowed pass."""
     asked = [(text, "GET", "/account") for text in texts.values()]
-    for on in ("2026-12-31", "2027-01-04", "2027-02-20"):
+    for on in ("2025-12-31", "2026-01-04", "2026-02-20"):
         asked += [(texts["amy-1"], "GET", f"/slots/{facility}/{on}/{hour:02d}") for facility in FACILITIES for hour in range(24)]
     for key, number, facility, on, hour, guests in rows(
-        "SELECT pass_key, number, facility, date(day * 86400, 'unixepoch'), hour, guests FROM bookings WHERE day >= 20818 ORDER BY pass_key, number"
+        "SELECT pass_key, number, facility, date(day * 86400, 'unixepoch'), hour, guests FROM bookings WHERE day >= 20453 ORDER BY pass_key, number"
     ):
         path, text = f"/slots/{facility}/{on}/{hour:02d}/bookings/{number}", texts[key]
         asked += [(text, "PUT", path, f'{{"guests":{guests}}}'), (text, "PUT", path, f'{{"guests":{(guests + 1) % 50}}}')]
         asked += [(text, "DELETE", path)] * 2 + [(text, "GET", "/account")]
-    asked += [(text, "PUT", f"/slots/court-1/2027-01-05/{8 + place:02d}/bookings/888888", '{"guests":1}') for place, text in enumerate(texts.values())]
+    asked += [(text, "PUT", f"/slots/court-1/2026-01-05/{8 + place:02d}/bookings/888888", '{"guests":1}') for place, text in enumerate(texts.values())]
     limited = subprocess.run(["passtool", "narrow", "spend <= 600"], input=texts["bob-1"], capture_output=True, text=True, check=True).stdout.strip()
-    return [*asked, (limited, "PUT", "/slots/court-1/2027-01-06/10/bookings/777777", '{"guests":0}')]
+    return [*asked, (limited, "PUT", "/slots/court-1/2026-01-06/10/bookings/777777", '{"guests":0}')]
 
 
 def replies(asked):
@@ -95,9 +95,9 @@ SUMS = {
     "older roots": "SELECT pass_key, hex(root), until FROM old_roots ORDER BY rowid",
     "facilities": "SELECT * FROM facilities ORDER BY rowid",
     "what keys have spent": "SELECT pass_key, sum(charge - refund) FROM bookings GROUP BY pass_key HAVING sum(charge - refund) > 0 ORDER BY pass_key",
-    "bookings to come": "SELECT * FROM bookings WHERE day >= 20818 ORDER BY rowid",
-    "slots to come": "SELECT * FROM slots WHERE day >= 20818 ORDER BY rowid",
-    "sheets to come": "SELECT day, count(*), sum(guests + 1), sum(charge) FROM bookings WHERE cancelled = 0 AND day >= 20818 GROUP BY day",
+    "bookings to come": "SELECT * FROM bookings WHERE day >= 20453 ORDER BY rowid",
+    "slots to come": "SELECT * FROM slots WHERE day >= 20453 ORDER BY rowid",
+    "sheets to come": "SELECT day, count(*), sum(guests + 1), sum(charge) FROM bookings WHERE cancelled = 0 AND day >= 20453 GROUP BY day",
     "all that is spent": "SELECT sum(charge - refund) FROM bookings",
 }
 
@@ -127,35 +127,35 @@ live_a_year(texts)
 whole("a year")
 before = {what: rows(sql) for what, sql in SUMS.items()}
 asked = requests(texts)
-desk("sheet", "2026-12-31")
+desk("sheet", "2025-12-31")
 original = ROOM / "original"
 subprocess.run(["cp", "-p", CLUB, original], check=True)
-bookings = rows("SELECT count(*), sum(day < 20818), sum(day < 20818 AND cancelled = 0) FROM bookings")[0]
+bookings = rows("SELECT count(*), sum(day < 20453), sum(day < 20453 AND cancelled = 0) FROM bookings")[0]
 print(f"{bookings[0]} bookings, {bookings[1]} of them over")
 wanted = replies(asked)
 put_back()
 
-status, _, errors = office("new-year", "--before", "2027-01-01", *YES)
-same("a day to come", (status, errors), (1, "refused: 2027-01-01 is to come\n"))
+status, _, errors = office("new-year", "--before", "2026-01-01", *YES)
+same("a day to come", (status, errors), (1, "refused: 2026-01-01 is to come\n"))
 status, out, _ = office("new-year", "--at", NOW, given="no\n")
 same("not confirmed", (status, sum_of(CLUB), kept_files()), (1, sum_of(original), []))
 shown = done("new-year", *YES).splitlines()
-old_file = HOME / "club-until-2026-12-30"
+old_file = HOME / "club-until-2025-12-30"
 same("what it says", shown[0], f"copies the file, as it is, to {old_file}")
 same("the old file is kept as it was", (kept_files(), sum_of(old_file)), ([old_file], sum_of(original)))
 same("its owner and mode", mode(old_file), "clubdesk 100600")
 same_sums("")
 whole("a new year")
-carried = rows("SELECT count(*), sum(cancelled), sum(refund), max(day) FROM bookings WHERE day < 20818")[0]
+carried = rows("SELECT count(*), sum(cancelled), sum(refund), max(day) FROM bookings WHERE day < 20453")[0]
 with opened(original) as database:
-    costs = database.execute("SELECT sum(charge - refund) FROM bookings WHERE day < 20818 GROUP BY pass_key HAVING sum(charge - refund) > 0").fetchall()
+    costs = database.execute("SELECT sum(charge - refund) FROM bookings WHERE day < 20453 GROUP BY pass_key HAVING sum(charge - refund) > 0").fetchall()
 parts = sum(-(-cost // 499950) for (cost,) in costs)
-same("what is carried forward", carried, (parts, parts, 0, 20817))
+same("what is carried forward", carried, (parts, parts, 0, 20452))
 same("a key with more than a row holds", parts > len(costs), True)
 same("the file is smaller", CLUB.stat().st_size < original.stat().st_size, True)
 for request, old, new in zip(asked, wanted, replies(asked), strict=True):
     same(f"{request}", new, old)
-same("sheets", (0, done("sheet", "2027-01-04")), desk("sheet", "2027-01-04"))
+same("sheets", (0, done("sheet", "2026-01-04")), desk("sheet", "2026-01-04"))
 same("once more", office("new-year", *YES)[0], 1)
 same_sums(", once more", "keys", "older roots", "facilities")
 

@@ -296,7 +296,7 @@ asks() {
 }
 printf '%s\n' 'name,quota,points' 'Amy,5,10000' '"Müller, Bob",2,3000' >"$root/home/anna/members.csv"
 holds 'an import' office anna import members.csv --yes
-same 'who was imported' 'amy,10000,5,0,1 mueller-bob,3000,2,0,1' "$(office anna members --csv | grep -E '^(amy|mueller)' | xargs)"
+same 'who was imported' 'amy,10000,5,0,1,Amy mueller-bob,3000,2,0,1,Müller, Bob' "$(office anna members --csv | grep -E '^(amy|mueller)' | xargs)"
 same 'the import again' 'nothing to do' "$(office anna import members.csv --yes | tail -n 1)"
 for booking in 'amy-1 10 1 1' 'amy-1 14 2 0' 'mueller-bob-1 12 1 0'; do
     # shellcheck disable=SC2086 # key, hour, number, guests
@@ -304,17 +304,17 @@ for booking in 'amy-1 10 1 1' 'amy-1 14 2 0' 'mueller-bob-1 12 1 0'; do
     same "a booking of $1" "{\"booking\":\"$1/$3\",\"charge\":$((10 * ($4 + 1))),\"left\":$((3 - $4))}" \
         "$(asks "passes/$1" PUT "slots/court-1/$week/$2/bookings/$3" "{\"guests\":$4}")"
 done
-same 'who booked' "$week,10,court-1,amy,amy-1,1,2,20 $week,12,court-1,mueller-bob,mueller-bob-1,1,1,10 $week,14,court-1,amy,amy-1,2,1,10" \
+same 'who booked' "$week,10,court-1,amy,amy-1,1,2,20,Amy $week,12,court-1,mueller-bob,mueller-bob-1,1,1,10,Müller, Bob $week,14,court-1,amy,amy-1,2,1,10,Amy" \
     "$(office anna bookings "$week" --csv | tail -n +2 | xargs)"
-same 'the sheet' 'Total bookings 3, persons 4, charge 40' "$(office anna sheet "$week" | tail -n 1)"
+same 'the sheet' 'Total bookings 3, persons 4, charge 40' "$(office anna sheet "$week" | grep Total)"
 holds 'a wrong credit' office anna credit amy 500
 same 'its correction' 'balance of amy: 10470, then 9970 done' "$(office anna debit amy 500 --yes | xargs)"
 holds 'a price' office anna set-facility court-1 --price 12 --yes
 same 'the price' 'price 12' "$(office anna show-slot court-1 "$week" 10 | grep price)"
-same 'a tournament' "cancels court-1 $week 10:00, 2 persons, 20 points back: amy-1 1, amy closes court-1 $week 10:00 done" \
+same 'a tournament' "cancels court-1 $week 10:00, 2 persons, 20 points back: amy-1 1, amy closes court-1 $week 10:00 in all: 1 booking cancelled, 20 points back to amy, 1 slot closed done To tell: Amy" \
     "$(office anna close "$week" 10-11 court-1 --yes | xargs)"
 same 'its slot' '{"fault":17,"text":"slot closed"}' "$(asks passes/amy-1 PUT "slots/court-1/$week/10/bookings/3" '{"guests":0}')"
-same 'rain' "cancels court-1 $week 12:00, 1 persons, 10 points back: mueller-bob-1 1, mueller-bob done" "$(office anna rain "$week" court-1 12 --yes | xargs)"
+same 'rain' "cancels court-1 $week 12:00, 1 person, 10 points back: mueller-bob-1 1, mueller-bob done To tell: Müller, Bob" "$(office anna rain "$week" court-1 12 --yes | xargs)"
 holds 'a lost pass' office anna rotate-key amy-1 2000-01-01T00:00 --to amy-1-new
 same 'the lost pass' '{"fault":9,"text":"not verified"}' "$(asks passes/amy-1 GET account)"
 same 'the new one' '{"member":"amy","balance":9990,"quota":5,"open":1,"spent":10}' "$(asks amy-1-new GET account)"
@@ -322,7 +322,7 @@ holds 'a copy of the night' inside systemctl start clubdesk-back-up@tennis
 night=$(office anna copies --csv | grep back-up | tail -n 1 | cut -d , -f 1)
 holds 'a member who leaves' office anna leave mueller-bob --yes
 same 'her pass' '{"fault":9,"text":"not verified"}' "$(asks passes/mueller-bob-1 GET account)"
-same 'who is there' '1,3000,0,0,1 amy,9990,5,1,1 eve,1000,7,0,1' "$(office anna members --csv | tail -n +2 | xargs)"
+same 'who is there' '1,3000,0,0,1, amy,9990,5,1,1,Amy eve,1000,7,0,1,' "$(office anna members --csv | tail -n +2 | xargs)"
 office anna restore "$night" --yes >told
 same 'a restore' 'forgets the member 1
 has the member mueller-bob again

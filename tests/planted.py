@@ -12,7 +12,8 @@ import desk
 
 PROGRAMS = ("clubdesk", "passtool")
 BY_HAND = "#!/bin/sh\n"
-# test: file, bytes, what stands for them, words of the log; the words of a test that has a shorter run
+# test: file, bytes, what stands for them, words of the log; the words of a test that has a shorter run. A test with several faults has a
+# line for each, TEST:FAULT.
 PLANTS = {
     "beside": ("tests/beside_go/desk.go", '"left":', '"lost":', "booking: the replies differ", "10", "1", "100"),
     "bookings_survive_kill": ("clubdesk", BY_HAND, '[ "$1" != sheet ] || rm -f "$2-wal"; exec "$PROGRAM" "$@"', "'sheet "),
@@ -37,6 +38,23 @@ PLANTS = {
     "office_beside_desk": ("clubdesk", BY_HAND, '[ "$1" != close-slot ] || { echo done; exit; }; exec "$PROGRAM" "$@"', "closed no"),
     "office_door": ("clubdesk", BY_HAND, '[ "$1" != credit ] || "$PROGRAM" "$@"; exec "$PROGRAM" "$@"', "test_fifty_at_once"),
     "office_holds": ("deploy/club_office/plans.py", "SET credited = credited - ?", "SET credited = credited + ?", "wanted"),
+    "office_holds:copies": ("deploy/club_office/copies.py", "if is_named(made, named):", "if os.replace(made, named) is None:",
+                            "a copy of each correction of one second: wanted", "findings"),
+    "office_holds:to-come": ("deploy/club_office/clubs.py", "words.at > clock()", "words.at < 0", "office new-year --yes --at 2099", "findings"),
+    "office_holds:forged": ("deploy/club_office/book.py", "it if it.isprintable() else", 'it if it.isprintable() or it == "\\u2028" else', "each line: wanted", "findings"),
+    "office_holds:long": ("deploy/club_office/commands.py", "MOST_WORDS = 200", "MOST_WORDS = 200_000", "no line of them: wanted", "findings"),
+    "office_holds:broken-off": ("deploy/club_office/book.py", "if not BEGUN.fullmatch(text):", "if False:", "the rest of a line", "findings"),
+    "office_holds:unconfirmed": ("deploy/club_office/corrections.py", 'refuse(club, words, refusal("not confirmed; nothing changed"))',
+                                 'raise refusal("not confirmed; nothing changed")', "a correction that isn't confirmed: wanted", "findings"),
+    "office_holds:silent": ("deploy/club_office/book.py", "settimeout(WAITS_FOR_JOURNAL)", "settimeout(None)", "an order beside a silent journal: wanted", "findings"),
+    "office_holds:programs": ("deploy/club_office/commands.py", "            forget_environment()", "            pass", "what ran as the desk: wanted", "findings"),
+    "office_holds:inner": ("deploy/club_office/importing.py", "if not roots or not all(", "if not all(", "nobody is made: wanted", "findings"),
+    "office_holds:stopped": ("deploy/club_office/book.py", "signal.signal(number, signal.SIG_IGN) for", "signal.getsignal(number) for", "an order at signal", "findings"),
+    "office_holds:came-since": ("deploy/club_office/counter.py", "named = name_new(written(words.to, text.decode()), words.to)",
+                                "named = os.rename(written(words.to, text.decode()), words.to) or words.to", "a file that came since: wanted", "findings"),
+    "office_holds:memory": ("deploy/club_office/copies.py", "found = [beside]", "found = [MEMORY]", "a list without memory: wanted", "findings"),
+    "office_holds:left": ("deploy/club_office/copies.py", "not (owner and begun_at(owner[1]) == owner[2])", "not owner", "what killed ones left: wanted", "findings"),
+    "office_holds:titles": ("deploy/club_office/page.py", "if name in found:", "if False:", "titles b'court-1 A", "findings"),
     "office_killed": ("deploy/club_office/importing.py", "not key and (not member or member[0] == 0):", "not key:", "killed after order 2: the members: wanted", "1"),
     "office_year": ("deploy/club_office/plans.py", "plan.keeps = [", 'plan.change(None, "DELETE FROM old_roots")\n    plan.keeps = [', "older roots: wanted", "60"),
     "openapi": ("docs/openapi.yaml", '"charge":600,"left":1}', '"charge":600,"left":2}', "test_each_example_is_a_reply"),
@@ -48,11 +66,18 @@ PLANTS = {
     "refused_memory": ("tests/refused_memory.c", "errno = ENOMEM;", "abort();", "(-6, "),
     "requests_of_pages": ("docs/CLIENT.md", '"refund":300', '"refund":301', "test_page[CLIENT.md]"),
     "running_holds": ("deploy/back_up", 'cp -- "$1-wal" "$work/copy-wal"', ":", "a copy: wanted and found"),
+    "running_holds:full-disk": ("deploy/back_up", 'said=$(LC_ALL=C cp -- "$1" "$work/copy" 2>&1) || fail "$said"', 'cp -- "$1" "$work/copy" || :',
+                                "the lines of a refused copy"),
     "slow_clients": ("clubdesk", BY_HAND, 'exec "$PROGRAM" $(echo "$@" | sed "s/--patience 2/--patience 6/")', "test_client_behind_one_that_dawdles[silent]"),
     "tables_by_sqlite3": ("clubdesk", "quota BETWEEN 0 AND 99)", "quota BETWEEN 0 AND 98)", "test_limit[members quota 0 99]"),
     "vectors": ("docs/vectors.json", '\\"left\\":1}', '\\"left\\":2}', "test_replies_of_a_run"),
     "year-quick": ("clubdesk", "quota reached", "quota reachex", "quota reachex"),
 }
+
+
+def plants_of(test):
+    """The names of a test's faults."""
+    return [it for it in PLANTS if it.partition(":")[0] == test]
 
 
 def copied_tree(folder):

@@ -197,6 +197,12 @@ same 'a full disk' '{"fault":22,"text":"unavailable"} 503' "$(cat told)"
 same 'the account' "{\"member\":\"amy\",\"balance\":$((10001 - number)),\"quota\":99,\"open\":$((number - 1)),\"spent\":$((number - 1))} 200" \
     "$(asks GET account)"
 same 'a booking' '{"fault":22,"text":"unavailable"} 503' "$(asks PUT slots/court-1/2026-05-04/10/bookings/99 '{"guests":0}')"
+# A copy isn't tried again and again there, and says so in a line.
+begun=$(date +%s)
+if "$top/deploy/back_up" "$disk/club" "$disk/copy" >told 2>said; then fail 'a full disk takes a copy'; fi
+same 'the lines of a refused copy' 1 "$(wc -l <said)"
+[ $(($(date +%s) - begun)) -lt 5 ] || fail "a copy to a full disk takes $(($(date +%s) - begun)) s"
+same 'what it leaves' '' "$(find "$disk" -name '.back_up*' -o -name copy)"
 rm "$disk/fill"
 same 'room again' '{"booking":"amy-1/99","charge":1,"left":49} 200' "$(asks PUT slots/court-1/2026-05-04/10/bookings/99 '{"guests":0}')"
 stop

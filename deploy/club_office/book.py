@@ -1,27 +1,51 @@
 """The book of orders, and the turn of a command among those that change a club."""
 
-import contextlib
 import fcntl
-import json
 import os
 import pwd
+import re
 import shlex
+import signal
 import socket
 import sys
 import time
 
-from club_office.faults import STORAGE, Fault
 from club_office.clubs import clubdesk, show, wants_file
+from club_office.copies import clear_unnamed
+from club_office.faults import STORAGE, Fault
 
-
-# How long an order waits for another one, and a correction for the file, in seconds.
+# How long an order waits for another one, and a line for the journal, in seconds.
 WAITS_FOR_TURN = 60
+WAITS_FOR_JOURNAL = 2
 JOURNAL = "/run/systemd/journal/socket"
+# A line has so many bytes at most, so that the journal and the file take it whole.
+MOST_LINE = 8_000
+BEGUN = re.compile(r"(?s)20[0-9-]{8}T[0-9:]{8} \S+ \? .*")
+# What a terminal sends at Ctrl-Z, at its end, and to whoever is behind. An order that has its turn goes on.
+HELD_BACK = (signal.SIGTSTP, signal.SIGHUP, signal.SIGTTIN, signal.SIGTTOU)
 
 
 def clerk():
     """Who gives the order: sudo says it, or root's own call."""
     return os.environ.get("SUDO_USER") or os.environ.get("OFFICE_CLERK") or pwd.getpwuid(os.getuid()).pw_name
+
+
+# ---- Lines: in the system's journal; in a file if one is configured for it, if there is no journal, or if it doesn't take a line.
+
+
+def printable(text):
+    """The text, with its number in place of each letter that isn't printed as itself, as an end of a line in whichever alphabet."""
+    return "".join(it if it.isprintable() else f"\\x{ord(it):02x}" if ord(it) < 256 else f"\\u{ord(it):04x}" for it in text)
+
+
+def line_of(moment, status, words):
+    """A line of the book, cut if it is too long."""
+    quoted = " ".join(shlex.quote(it.replace("\\", "\\\\")) for it in words)
+    line = printable(f"{moment} {clerk()} {status} {quoted}")
+    size = len(line.encode())
+    if size > MOST_LINE:
+        line = line.encode()[: MOST_LINE - 40].decode(errors="ignore") + f" [cut: {size} bytes]"
+    return line
 
 
 def is_in_journal(club):
@@ -33,84 +57,133 @@ def book_of(club):
 
 
 def write_line(club, line):
-    if is_in_journal(club):
-        fields = {"MESSAGE": line, "PRIORITY": "6", "SYSLOG_IDENTIFIER": "clubdesk-office", "CLUBDESK_CLUB": club.name}
-        with socket.socket(socket.AF_UNIX, socket.SOCK_DGRAM) as journal:
+    if not (is_in_journal(club) and is_taken(club, line)):
+        add_line(book_of(club), line)
+
+
+def is_taken(club, line):
+    """Whether the journal takes a line, within seconds."""
+    fields = {"MESSAGE": line, "PRIORITY": "6", "SYSLOG_IDENTIFIER": "clubdesk-office", "CLUBDESK_CLUB": club.name}
+    with socket.socket(socket.AF_UNIX, socket.SOCK_DGRAM) as journal:
+        journal.settimeout(WAITS_FOR_JOURNAL)
+        try:
             journal.sendto("".join(f"{field}={value}\n" for field, value in fields.items()).encode(), JOURNAL)
-        return
-    book = os.open(book_of(club), os.O_WRONLY | os.O_APPEND | os.O_CREAT, 0o600)
+        except OSError:
+            return False
+    return True
+
+
+def add_line(path, line):
+    """Adds a line to a file, below one that a full disk has cut."""
+    book = os.open(path, os.O_RDWR | os.O_APPEND | os.O_CREAT, 0o600)
     try:
-        os.write(book, (line + "\n").encode())
+        end = os.lseek(book, 0, os.SEEK_END)
+        is_cut = end > 0 and os.pread(book, 1, end - 1) != b"\n"
+        text = ("\n" * is_cut + line + "\n").encode()
+        if os.write(book, text) != len(text):
+            raise OSError("the disk is full")
         os.fsync(book)
     finally:
         os.close(book)
 
 
+# ---- The turn.
+
+
 class Turn:
     """The turn of a command among those of a club that change something: a lock on FILE-orders.
 
-    While an order is under way the file has its line. A line that is there when the lock is gained is that of an order that was
-    broken off: it goes into the book with a question mark for its status.
+    While an order is under way the file has its line, with a question mark for its status. A line that is there when the lock is gained
+    is that of an order that was broken off, and goes into the book so.
     """
 
     def __init__(self, club):
         self.club = club
         self.file = None
+        self.before = {}
 
     def __enter__(self):
         self.file = os.open(self.club.file + "-orders", os.O_RDWR | os.O_CREAT, 0o600)
         try:
             self.wait()
             self.note_broken()
+            clear_unnamed(self.club)
         except BaseException:
-            os.close(self.file)
+            self.__exit__()
             raise
         return self
 
     def __exit__(self, *_):
         os.close(self.file)
+        for number, action in self.before.items():
+            signal.signal(number, action)
 
     def wait(self):
         for attempt in range(WAITS_FOR_TURN * 20):
-            try:
-                return fcntl.flock(self.file, fcntl.LOCK_EX | fcntl.LOCK_NB)
-            except BlockingIOError:
-                if attempt == 20:
-                    print("waiting for another order", file=sys.stderr)
-                time.sleep(0.05)
+            if self.is_gained():
+                return
+            if attempt == 20:
+                print("waiting for another order", file=sys.stderr)
+            time.sleep(0.05)
         raise Fault(STORAGE, f"storage failed: another order has been under way for {WAITS_FOR_TURN} seconds")
 
+    def is_gained(self):
+        """Whether the lock is gained now. Nothing stops this process between the lock and its refusal of such signals."""
+        signal.pthread_sigmask(signal.SIG_BLOCK, HELD_BACK)
+        try:
+            fcntl.flock(self.file, fcntl.LOCK_EX | fcntl.LOCK_NB)
+            self.before = {number: signal.signal(number, signal.SIG_IGN) for number in HELD_BACK}
+        except BlockingIOError:
+            return False
+        finally:
+            signal.pthread_sigmask(signal.SIG_UNBLOCK, HELD_BACK)
+        return True
+
     def note_broken(self):
-        left = os.pread(self.file, 100_000, 0)
-        with contextlib.suppress(ValueError, TypeError, KeyError):
-            write_line(self.club, line_of(json.loads(left.decode()), "?"))
+        left = os.pread(self.file, 2 * MOST_LINE, 0)
+        if not left:
+            return
+        text = left.decode(errors="backslashreplace").rstrip("\n")
+        if not BEGUN.fullmatch(text):
+            text = f"{now()} unknown ? [an order that can't be read] {shlex.quote(text[:200])}"
+        write_line(self.club, printable(text))
         os.ftruncate(self.file, 0)
 
     def order(self, words, act):
-        """Carries an order out by `act`, which returns its status, and writes its line into the book."""
-        entry = {"moment": time.strftime("%Y-%m-%dT%H:%M:%S"), "clerk": clerk(), "words": words}
-        os.pwrite(self.file, json.dumps(entry).encode(), 0)
+        """Carries an order out by `act`, which returns its status, and writes its line into the book: also if it is refused, and with a
+        question mark if it is interrupted."""
+        moment, status = now(), "?"
+        os.pwrite(self.file, (line_of(moment, "?", words) + "\n").encode(), 0)
         os.fsync(self.file)
         try:
             status = act()
         except Fault as fault:
-            self.note(entry, fault.status)
+            status = fault.status
             raise
-        self.note(entry, status)
+        finally:
+            self.note(line_of(moment, status, words), status)
         return status
 
-    def note(self, entry, status):
+    def note(self, line, status):
         try:
-            write_line(self.club, line_of(entry, status))
+            write_line(self.club, line)
             os.ftruncate(self.file, 0)
         except OSError as fault:
             raise Fault(STORAGE, f"the order ended with status {status}, but the book can't be written: {fault}") from None
 
 
-def line_of(entry, status):
-    return f"{entry['moment']} {entry['clerk']} {status} {' '.join(shlex.quote(word) for word in entry['words'])}".translate(
-        {code: f"\\x{code:02x}" for code in [*range(32), 127]}
-    )
+def now():
+    return time.strftime("%Y-%m-%dT%H:%M:%S")
+
+
+def refuse(club, words, fault):
+    """Ends an order by a fault, with its line in the book."""
+
+    def act():
+        raise fault
+
+    with Turn(club) as turn:
+        turn.order(words.given, act)
 
 
 def give_order(club, command, words, options=(), root=None):

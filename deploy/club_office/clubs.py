@@ -1,6 +1,7 @@
 """A club's configuration, the programs that the office runs, and the club's clock."""
 
 import collections
+import glob
 import os
 import pwd
 import re
@@ -11,12 +12,33 @@ import sys
 import time
 
 from club_office.faults import STORAGE, Fault, bad_value, refusal
-from club_office.values import NAME, moment
-
+from club_office.values import NAME, moment, moment_text
 
 # The program that the clerk called.
-SELF = os.path.realpath(sys.modules["__main__"].__file__)
-Club = collections.namedtuple("Club", "name file zone stop book back_ups")
+SELF = os.path.realpath(sys.modules["__main__"].__file__ or "")
+class Club(collections.namedtuple("Club", "name file zone stop book back_ups settings")):
+    """A club of the machine; `settings` are the lines of its configuration, whose names are in small letters."""
+
+    @property
+    def is_old(self):
+        """Whether it is the file of an old year, of which there are lists alone."""
+        return "@" in self.name
+
+    @property
+    def port(self):
+        return int(self.settings.get("port", "0")) if self.settings.get("port", "0").isdigit() else 0
+
+    @property
+    def title(self):
+        """What people call the club."""
+        return self.settings.get("title") or self.name
+
+    @property
+    def site(self):
+        """The address of the club's pages, without a slash at its end."""
+        return self.settings.get("site", "").rstrip("/")
+
+
 
 
 def settings(path):
@@ -30,10 +52,11 @@ def settings(path):
     return found
 
 
-def club_named(word):
-    """The club of this name. Its zone is the zone of the command's clock from then on."""
-    if not NAME.fullmatch(word):
-        raise bad_value(f"{word!r} is no name of a club")
+def club_named(called, is_at_desk=False):
+    """The club of this name, or of NAME@YEAR its file of an old year. Its zone is the zone of the command's clock from then on."""
+    word, at, year = called.partition("@")
+    if not NAME.fullmatch(word) or at and not re.fullmatch("20[0-9]{2}", year):
+        raise bad_value(f"{called!r} is no name of a club")
     folder = os.environ.get("OFFICE_CONF", "/etc/clubdesk")
     try:
         found = settings(os.path.join(folder, word + ".conf"))
@@ -47,7 +70,40 @@ def club_named(word):
     time.tzset()
     stop = found.get("stop") or f"sudo -n /usr/bin/systemctl kill clubdesk@{word}.service"
     back_ups = found.get("back_ups") or f"/var/backups/clubdesk/{word}"
-    return Club(word, found["file"], os.environ["TZ"], shlex.split(stop), found.get("book"), back_ups)
+    return Club(called, old_file(found["file"], year) if is_at_desk and year else found["file"], os.environ["TZ"], shlex.split(stop), found.get("book"), back_ups, found)
+
+
+def old_files(file):
+    """The files of old years beside a club, each with the last day that left the club into it, the oldest first. Of two of a day the later
+    one counts."""
+    found = {}
+    for path in sorted(glob.glob(glob.escape(file) + "-until-*"), key=lambda it: (os.stat(it).st_mtime_ns, it)):
+        day = re.fullmatch(r".*-until-([0-9]{4}-[0-9]{2}-[0-9]{2})(-[0-9]+)?", path)
+        if day:
+            found[day[1]] = path
+    return sorted(found.items())
+
+
+def old_file(file, year):
+    """The first file that has a whole year, else the last that has a part of it."""
+    found = old_files(file)
+    whole = [path for day, path in found if day >= f"{year}-12-31"]
+    part = [path for day, path in found if day.startswith(year)]
+    if not whole and not part:
+        raise refusal(f"there is no file of {year}: it is made by `new-year`")
+    return whole[0] if whole else part[-1]
+
+
+# Where the desk's side finds programs, and what else of the environment it takes.
+PATH = "/usr/local/sbin:/usr/local/bin:/usr/sbin:/usr/bin:/sbin:/bin"
+KEPT = ("HOME", "LANG", "LC_ALL", "LC_CTYPE", "LOGNAME", "OFFICE_CLERK", "SUDO_USER", "TERM", "COLUMNS", "USER")
+
+
+def forget_environment():
+    """A clerk's variables name no program and no folder to the desk's side, whatever sudo hands on."""
+    for each in set(os.environ) - set(KEPT):
+        del os.environ[each]
+    os.environ["PATH"] = PATH
 
 
 def program(variable, called):
@@ -68,10 +124,17 @@ def back_up_program():
 
 def now_of(words):
     """The minute of the club's clock, or that of --at."""
-    if getattr(words, "at", None) is not None:
-        return words.at
-    clock = time.localtime()
-    return moment(time.strftime("%Y-%m-%dT%H:%M", clock))
+    return clock() if getattr(words, "at", None) is None else words.at
+
+
+def clock():
+    return moment(time.strftime("%Y-%m-%dT%H:%M"))
+
+
+def refuse_to_come(words):
+    """A correction at a moment to come would take for over what is to come."""
+    if getattr(words, "at", None) is not None and words.at > clock():
+        raise refusal(f"--at {moment_text(words.at)} is to come: it is {moment_text(clock())}")
 
 
 def clubdesk(club, command, words, options=(), root=None):

@@ -2,21 +2,30 @@
 
 import argparse
 import collections
+import contextlib
 import os
+import shutil
 import sqlite3
 import subprocess
 import sys
 
-from club_office import lists, plans
+from club_office import lists, outputs, people, phoning, plans
 from club_office.book import Turn, give_order
-from club_office.clubs import club_named, clubdesk, desk_user, now_of, program, show, wants_file
-from club_office.copies import snapshot
+from club_office.closures import reason
+from club_office.clubs import club_named, clubdesk, desk_user, forget_environment, now_of, program, show, wants_file
+from club_office.copies import scratch, snapshot
 from club_office.corrections import correct
-from club_office.counter import desk_line, make_pass, read_book, show_book
-from club_office.faults import OUTPUT, STORAGE, USAGE, Fault, refusal
+from club_office.counter import ask_person, desk_line, make_pass, read_book, show_book, write_report
+from club_office.faults import OUTPUT, STORAGE, USAGE, Fault, bad_value, refusal
+from club_office.asking import is_terminal
 from club_office.importing import import_members, import_row, import_state
+from club_office.letters import letters
+from club_office.menu import menu
 from club_office.restoring import list_copies, restore
-from club_office.values import MOST_CREDIT, MOST_NUMBER, copy_name, day, hours, moment, name, number
+from club_office.season import credit_all
+from club_office.typed import Reader, confirms_odd, names_of, print_names, read_words
+from club_office.undoing import plan_undo
+from club_office.values import MOST_CREDIT, MOST_NUMBER, copy_name, day, days, hour_or_hours, hours, moment, name, names, number, weekday
 
 
 def make_new(club):
@@ -51,10 +60,16 @@ class ShowVersion(argparse.Action):
 
 
 Command = collections.namedtuple("Command", "kind words help does")
-ORDER, LOOK, PASS, LIST, CORRECTION, OTHER, INNER = "order look pass list correction other inner".split()
+# Who carries a command out: clubdesk, as an order or a look; a function of a copy of the club, or of the club; a correction; or a function
+# of the clerk's side. One without help is asked by the clerk's side alone.
+ORDER, LOOK, PASS, LIST, CORRECTION, DESK, COUNTER = "order look pass list correction desk counter".split()
 
+# How many words a command has at most, its own among them, and how many bytes each.
+MOST_WORDS = 200
+MOST_BYTES = 1_000
 AT = ("--at", {"metavar": "MOMENT", "type": moment, "help": "the moment, in place of the clock's"})
 YES = ("--yes", {"action": "store_true", "help": "don't ask"})
+MAIL = ("--mail", {"action": "store_true", "help": "mail the members what was cancelled, as far as their addresses are known"})
 CSV = ("--csv", {"action": "store_true", "help": "print comma-separated values"})
 FORM = ("--form", {"metavar": "FORM", "help": "v1, v2 or json; v2 without it"})
 TO = ("--to", {"metavar": "FILE", "help": "write the pass into a file, which gets its name once it is whole"})
@@ -65,6 +80,7 @@ def word(called, **how):
     return called.lower(), {"metavar": called, **how}
 
 
+SEVERAL = word("FACILITIES", type=names, nargs="+", help="as court-1 court-2, courts, or all")
 FACILITY, MEMBER, DAY = word("FACILITY", type=name), word("MEMBER", type=name), word("DAY", type=day)
 
 COMMANDS = {
@@ -121,7 +137,7 @@ COMMANDS = {
     "debit": Command(
         CORRECTION, [MEMBER, word("POINTS", type=number(1, 999_999_999))], "take points back that were credited wrongly", plans.plan_debit
     ),
-    "reopen-slot": Command(CORRECTION, [FACILITY, DAY, word("HOUR", type=number(0, 23))], "open a closed slot again", plans.plan_reopen),
+    "reopen-slot": Command(CORRECTION, [FACILITY, DAY, ("hours", {"metavar": "HOURS", "type": hour_or_hours, "help": "as 15 or 15-17"})], "open closed slots again", plans.plan_reopen),
     "cancel": Command(
         CORRECTION,
         [
@@ -134,16 +150,35 @@ COMMANDS = {
     ),
     "close": Command(
         CORRECTION,
-        [DAY, ("hours", {"metavar": "FROM-TO", "type": hours}), word("FACILITY", type=name, nargs="+")],
+        [
+            ("day", {"metavar": "DAYS", "type": days, "help": "a day, or the days FIRST..LAST"}),
+            ("hours", {"metavar": "HOURS", "type": hour_or_hours, "help": "as 10-18"}),
+            SEVERAL,
+            ("--weekday", {"metavar": "WEEKDAY", "type": weekday, "help": "of the days those of a weekday, as tue"}),
+            ("--why", {"metavar": "TEXT", "type": reason, "help": "a reason that the page shows"}),
+            MAIL,
+        ],
         "close slots, as for a tournament; who has booked them is listed, cancelled and refunded",
         plans.plan_close,
     ),
     "rain": Command(
         CORRECTION,
-        [DAY, FACILITY, word("HOUR", type=number(0, 23), nargs="+")],
+        [DAY, word("FACILITIES", type=names, help="as court-1,court-2 or courts"), word("HOURS", type=hour_or_hours, nargs="+", help="as 15 or 15-17"), MAIL],
         "cancel what is booked in these hours, with the whole refund, also afterwards",
         plans.plan_rain,
     ),
+    "undo": Command(CORRECTION, [], "undo the last correction, if what it changed is as it left it", None),
+    "credit-all": Command(
+        DESK,
+        [
+            word("POINTS", type=number(1, MOST_CREDIT)),
+            ("--as", {"metavar": "NAME", "type": name, "dest": "label", "required": True, "help": "a name by which it is given once, as season-2027"}),
+            YES,
+        ],
+        "credit each member that may book with the season's points, once",
+        credit_all,
+    ),
+    "lost-pass": Command(PASS, [word("KEY"), FORM, TO], "give a key another pass, and refuse each one of before", None),
     "leave": Command(
         CORRECTION, [MEMBER], "a member leaves: keys revoked, bookings to come cancelled, quota 0, a number in place of the name", plans.plan_leave
     ),
@@ -153,34 +188,97 @@ COMMANDS = {
         "keep a copy of the file, and take what is over out of it; balances, keys and bookings to come stay",
         plans.plan_new_year,
     ),
+    "person": Command(
+        COUNTER, [MEMBER], "ask for a member's name as it is written, mail address and telephone number; an empty answer keeps it, - takes it out", ask_person
+    ),
+    "record": Command(LIST, [word("KEY", type=name)], "print a key's bookings as its page reads them, for a lost list", outputs.print_record),
+    "book": Command(
+        DESK,
+        [
+            MEMBER,
+            FACILITY,
+            DAY,
+            word("HOUR", type=number(0, 23)),
+            word("GUESTS", nargs="?", type=number(0, 49), help="how many come along; nobody without it"),
+            ("--again", {"action": "store_true", "help": "also if the office has booked this slot for the member"}),
+        ],
+        "book for a member who calls, under a key of the office",
+        phoning.book,
+    ),
+    "cancel-for": Command(
+        DESK,
+        [
+            MEMBER,
+            FACILITY,
+            DAY,
+            word("HOUR", type=number(0, 23)),
+            ("--number", {"metavar": "NUMBER", "type": number(1, MOST_NUMBER), "help": "which, if the member has several there"}),
+        ],
+        "cancel for a member who calls, with the refund of the rules",
+        phoning.cancel_for,
+    ),
+    "page": Command(DESK, [], "make the page's list of the club anew", outputs.make_page),
+    "letters": Command(
+        COUNTER,
+        [
+            word("KEY", nargs="*", help="all passes of the folder without it"),
+            ("--passes", {"metavar": "FOLDER", "default": "passes", "help": "where the passes are: passes without it"}),
+            ("--spare", {"action": "store_true", "help": "also make a further key of each member, with a sheet of its own"}),
+            ("--to", {"metavar": "FILE", "default": "letters.html", "help": "the file; letters.html without it"}),
+        ],
+        "write a sheet for each pass into a file to print: the link, its code, and what to do",
+        lambda club, words: letters(club, words, names_of),
+    ),
+    "report": Command(
+        COUNTER,
+        [
+            word("YEAR", nargs="?", type=number(2000, 2099), help="this year without it"),
+            ("--no-names", {"action": "store_true", "help": "leave the members' names out"}),
+            ("--to", {"metavar": "FILE", "help": "the file; report-YEAR.html without it"}),
+        ],
+        "write the board's page: use, points and members of a year, beside the year before",
+        write_report,
+    ),
     "import": Command(
-        OTHER,
+        COUNTER,
         [
             word("FILE"),
             ("--passes", {"metavar": "FOLDER", "default": "passes", "help": "where the passes are written: passes without it"}),
+            ("--columns", {"metavar": "MAP", "help": "which column is what, as name=Player,points=Balance"}),
+            ("--quota", {"metavar": "QUOTA", "type": number(0, 99), "help": "of each, if no column has it"}),
+            ("--points", {"metavar": "POINTS", "type": number(0, MOST_CREDIT), "help": "of each, if no column has it"}),
             YES,
         ],
         "add members with points and keys from a list of comma-separated values",
         import_members,
     ),
-    "copies": Command(OTHER, [CSV], "list the copies of the club: of each night, and of before each correction", None),
+    "copies": Command(DESK, [CSV], "list the copies of the club: of each night, and of before each correction", list_copies),
     "restore": Command(
-        OTHER,
+        DESK,
         [word("COPY", type=copy_name), YES, AT],
         "put a copy of the club in its place; what was done since is undone, and the club as it is now becomes a copy",
-        None,
+        restore,
     ),
-    "new": Command(OTHER, [], "make the club's file", None),
-    "log": Command(OTHER, [word("WORD", nargs="?")], "print the book of orders, or those of its lines that have a word", read_book),
+    "new": Command(DESK, [], "make the club's file", lambda club, _words: make_new(club)),
+    "log": Command(COUNTER, [word("WORD", nargs="?")], "print the book of orders, or those of its lines that have a word", read_book),
     # What the clerk's side asks of the desk's.
-    "import-state": Command(INNER, [], "", import_state),
+    "names": Command(LIST, [], "", print_names),
+    "import-state": Command(LIST, [], "", import_state),
+    "print-report": Command(
+        DESK,
+        [word("YEAR", nargs="?", type=number(2000, 2099)), ("--no-names", {"action": "store_true"})],
+        "",
+        outputs.print_report,
+    ),
+    "show-person": Command(DESK, [MEMBER], "", people.show_person),
+    "set-person": Command(DESK, [MEMBER], "", people.set_person),
     "import-row": Command(
-        INNER,
+        DESK,
         [MEMBER, word("QUOTA", type=number(0, 99)), word("POINTS", type=number(0, MOST_CREDIT)), word("KEY", type=name)],
         "",
         import_row,
     ),
-    "book": Command(INNER, [], "", None),
+    "show-book": Command(DESK, [], "", lambda club, _words: show_book(club)),
 }
 
 
@@ -191,7 +289,7 @@ def words_of(given, is_desk):
     top.add_argument("club", metavar="CLUB", help="a club that /etc/clubdesk/CLUB.conf describes")
     commands = top.add_subparsers(dest="command", metavar="COMMAND", required=True, title="commands", parser_class=Words)
     for called, command in COMMANDS.items():
-        if command.kind == INNER and not is_desk:
+        if not command.help and not is_desk:
             continue
         parser = commands.add_parser(called, help=command.help, description=command.help)
         for place, how in [*command.words, *([YES, AT] if command.kind == CORRECTION else [])]:
@@ -211,32 +309,37 @@ def at_desk(given):
     os.umask(0o077)
     words = words_of(given, True)
     words.given = [w for w in words.given if w != "--yes"]
-    club = club_named(words.club)
+    club = club_named(words.club, True)
     command = COMMANDS[words.command]
+    if club.is_old and command.kind not in (LIST, LOOK):
+        raise refusal(f"{club.name} is an old year: it has lists, sheets and records alone")
     if command.kind == ORDER:
-        return give_order(club, words.command, plain_words(words, command))
+        status = give_order(club, words.command, plain_words(words, command))
+        if status == 0 and words.command == "add-facility":
+            outputs.page_again(club)
+        return status
     if command.kind == PASS:
         return order_pass(club, words)
     if command.kind == LOOK:
         return look(club, words, command)
-    if command.kind == LIST or words.command == "import-state":
+    if command.kind == LIST:
+        words.people = people.read_people(club)
         with snapshot(club) as db:
             command.does(db, words, now_of(words))
         return 0
     if words.command == "new-year":
         return correct(club, words, lambda db, found, now: plans.plan_new_year(db, found, now, club))
+    if words.command == "undo":
+        return correct(club, words, lambda db, _words, _now: plan_undo(db, club))
     if command.kind == CORRECTION:
-        return correct(club, words, command.does)
-    if words.command == "new":
-        return make_new(club)
-    if words.command == "copies":
-        return list_copies(club, words)
-    if words.command == "restore":
-        return restore(club, words)
-    if words.command == "book":
-        return show_book(club)
-    if words.command == "import-row":
-        return import_row(club, words)
+        status = correct(club, words, command.does)
+        if status == 0 and words.command == "close" and words.why:
+            outputs.keep_reasons(club, words)
+        if status == 0 and words.command in ("set-facility", "close", "reopen-slot"):
+            outputs.page_again(club)
+        return status
+    if command.kind == DESK:
+        return command.does(club, words)
     raise Fault(USAGE, f"{words.command} is a command of the clerk's side")
 
 
@@ -254,20 +357,57 @@ def look(club, words, command):
     if words.command == "show-account":
         options = [f"--zone={words.zone or club.zone}", *([f"--at={words.at}"] if words.at else [])]
     wants_file(club)
-    status, text = clubdesk(club, words.command, plain_words(words, command), options)
+    with old_year_copied(club) as it:
+        status, text = clubdesk(it, words.command, plain_words(words, command), options)
     show(text)
+    if status == 0 and words.command == "sheet":
+        show_names(club, text.decode())
     return status
 
 
+@contextlib.contextmanager
+def old_year_copied(club):
+    """The club, or a copy of an old year's file, which clubdesk would change as it opens it."""
+    if not club.is_old:
+        yield club
+        return
+    with scratch(club) as folder:
+        yield club._replace(file=shutil.copyfile(club.file, os.path.join(folder, "copy")))
+
+
+def show_names(club, sheet):
+    """Who the keys of a sheet are, as far as their persons are known."""
+    known = people.read_people(club)
+    if not known:
+        return
+    with snapshot(club) as db:
+        members = dict(db.execute("SELECT name, member FROM keys"))
+    keys = dict.fromkeys(word for line in sheet.splitlines() for word in line.split()[2:3] if word in members)
+    lines = [f"{key}: {people.concerned_text(known[members[key]])}" for key in keys if members[key] in known]
+    print(*([""] if lines else []), *lines, sep="\n", end="\n" if lines else "")
+
+
+def refuse_too_much(given):
+    """So many words are no command of a clerk, and would be no line of the book."""
+    if len(given) > MOST_WORDS or any(len(os.fsencode(it)) > MOST_BYTES for it in given):
+        raise bad_value(f"more than {MOST_WORDS} arguments, or one of more than {MOST_BYTES} bytes")
+
+
 def at_counter(given):
-    """The clerk's side: reads and writes the clerk's own files, and hands the rest to the desk's side."""
+    """The clerk's side: reads what was typed, reads and writes the clerk's own files, and hands the rest to the desk's side."""
     if given == ["help"]:
         given = ["--help"]
+    if len(given) == 1 and not given[0].startswith("-") and is_terminal():
+        return menu(club_named(given[0]), names_of)
+    if len(given) > 1 and given[1] in COMMANDS and not {"-h", "--help"} & set(given):
+        given = read_at_counter(given)
     words = words_of(given, False)
     club = club_named(words.club)
     if COMMANDS[words.command].kind == PASS:
         return make_pass(club, words)
-    if COMMANDS[words.command].does in (import_members, read_book):
+    if club.is_old and COMMANDS[words.command].kind in (PASS, COUNTER):
+        raise refusal(f"{club.name} is an old year: it has lists, sheets and records alone")
+    if COMMANDS[words.command].kind == COUNTER:
         return COMMANDS[words.command].does(club, words)
     if os.geteuid() == desk_user(club).pw_uid:
         return at_desk(given)
@@ -275,10 +415,25 @@ def at_counter(given):
     return subprocess.run(line, check=False, **how).returncode
 
 
+def read_at_counter(given):
+    """A command's words as the desk's side takes them. What is odd about them is asked about at a terminal."""
+    club, called, command = club_named(given[0]), given[1], COMMANDS[given[1]]
+    reader = Reader(club, called)
+    made = [*given[:2], *read_words(reader, command, given[2:])]
+    if is_terminal() and "--yes" not in made:
+        confirms_odd(reader, called, made[2:], command.kind in (ORDER, PASS))
+    return made
+
+
 def main():
     given = sys.argv[1:]
     try:
-        return at_desk(given[1:]) if given[:1] == ["--desk"] else at_counter(given)
+        # A word that is no UTF-8 is printed with its bytes' numbers.
+        sys.stdout.reconfigure(errors="backslashreplace")
+        refuse_too_much(given)
+        if given[:1] == ["--desk"]:
+            forget_environment()
+        return at_desk(given[1:]) if given[:1] in (["--desk"], ["--own"]) else at_counter(given)
     except Fault as fault:
         print(fault, file=sys.stderr)
         return fault.status

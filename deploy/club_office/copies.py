@@ -2,7 +2,9 @@
 
 import contextlib
 import glob
+import itertools
 import os
+import re
 import shutil
 import sqlite3
 import subprocess
@@ -13,20 +15,51 @@ import urllib.parse
 from club_office.clubs import back_up_program, wants_file
 from club_office.faults import STORAGE, Fault
 
-
 BACK_UPS_KEPT = 30
+MEMORY = "/dev/shm"
+
+
+# ---- Folders for a copy that is removed at once.
+
+
+def begun_at(process):
+    """When a process began, in the system's ticks; None if there is none of this number."""
+    try:
+        with open(f"/proc/{process}/stat", encoding="utf-8", errors="replace") as stat:
+            return stat.read().rpartition(")")[2].split()[19]
+    except OSError:
+        return None
+
+
+def clear_killed(home):
+    """Removes the folders of this user's processes that are gone. Their names say whose they are."""
+    for stale in glob.glob(os.path.join(glob.escape(home), ".office-*")):
+        owner = re.match(r"\.office-([0-9]+)-([0-9]+)-", os.path.basename(stale))
+        with contextlib.suppress(OSError):
+            if os.stat(stale, follow_symlinks=False).st_uid == os.geteuid() and not (owner and begun_at(owner[1]) == owner[2]):
+                shutil.rmtree(stale)
+
+
+def homes(club):
+    """Where copies are made: in memory if it has room for them, and beside the club's file."""
+    beside = os.path.dirname(club.file)
+    size = sum(os.path.getsize(club.file + it) for it in ("", "-wal") if os.path.exists(club.file + it))
+    found = [beside]
+    if os.access(MEMORY, os.W_OK | os.X_OK):
+        room = os.statvfs(MEMORY)
+        # A copy, its log, and what SQLite writes of the log into it.
+        if room.f_bavail * room.f_frsize > 3 * size + 1_000_000:
+            found.insert(0, MEMORY)
+    return found
 
 
 @contextlib.contextmanager
-def scratch(club):
-    """A folder that is removed at the end. Those that a killed command left are removed as well."""
-    home = "/dev/shm" if os.access("/dev/shm", os.W_OK | os.X_OK) else os.path.dirname(club.file)
-    for stale in glob.glob(os.path.join(glob.escape(home), ".office-*")):
-        with contextlib.suppress(OSError):
-            about = os.stat(stale, follow_symlinks=False)
-            if about.st_uid == os.geteuid() and time.time() - about.st_mtime > 600:
-                shutil.rmtree(stale)
-    with tempfile.TemporaryDirectory(prefix=".office-", dir=home) as folder:
+def scratch(club, home=None):
+    """A folder that is removed at the end. Those that a killed command left go as well."""
+    for each in {MEMORY, os.path.dirname(club.file)}:
+        clear_killed(each)
+    prefix = f".office-{os.getpid()}-{begun_at('self')}-"
+    with tempfile.TemporaryDirectory(prefix=prefix, dir=home or homes(club)[0], ignore_cleanup_errors=True) as folder:
         yield folder
 
 
@@ -35,14 +68,18 @@ def snapshot(club):
     """The club as it is, in memory, by a copy that back_up makes in a folder of its own and that is removed at once."""
     wants_file(club)
     memory = sqlite3.connect(":memory:", isolation_level=None)
-    with scratch(club) as folder:
-        copy = os.path.join(folder, "copy")
-        done = subprocess.run([back_up_program(), club.file, copy], capture_output=True, text=True, check=False)
-        if done.returncode:
-            raise Fault(STORAGE, f"storage failed: {done.stderr.strip()}")
-        disk = sqlite3.connect(address(copy, "ro"), uri=True)
-        disk.backup(memory)
-        disk.close()
+    said = ""
+    for home in homes(club):
+        with scratch(club, home) as folder:
+            copy = os.path.join(folder, "copy")
+            done = subprocess.run([back_up_program(), club.file, copy], capture_output=True, text=True, errors="replace", check=False)
+            if done.returncode == 0:
+                with contextlib.closing(sqlite3.connect(address(copy, "ro"), uri=True)) as disk:
+                    disk.backup(memory)
+                break
+            said = done.stderr.strip()
+    else:
+        raise Fault(STORAGE, f"storage failed: {said}")
     yield memory
     memory.close()
 
@@ -51,26 +88,64 @@ def address(path, mode):
     return f"file:{urllib.parse.quote(path)}?mode={mode}"
 
 
+# ---- Copies that stay.
+
+
 def keep_before(club, db, command):
-    """A copy of the club as it was before the correction, in FILE-before; the newest of them are kept."""
+    """Copies the club as it was before the correction into FILE-before, where the newest copies are kept; returns the copy's path."""
     folder = club.file + "-before"
     os.makedirs(folder, 0o700, exist_ok=True)
-    for stale in glob.glob(os.path.join(glob.escape(folder), ".*.new*")):
-        os.unlink(stale)
     called = time.strftime("%Y-%m-%dT%H-%M-%S-") + command
     made = os.path.join(folder, f".{called}.new")
-    copy = sqlite3.connect(address(made, "rwc"), uri=True)
     try:
-        db.backup(copy)
-        if copy.execute("PRAGMA integrity_check").fetchall() != [("ok",)]:
-            raise Fault(STORAGE, "storage failed: the back-up isn't whole; nothing changed")
+        with contextlib.closing(sqlite3.connect(address(made, "rwc"), uri=True)) as copy:
+            db.backup(copy)
+            if copy.execute("PRAGMA integrity_check").fetchall() != [("ok",)]:
+                raise Fault(STORAGE, "storage failed: the back-up isn't whole; nothing changed")
+        synced(made)
+        named = name_new(made, os.path.join(folder, called))
     finally:
-        copy.close()
-    synced(made)
-    os.replace(made, os.path.join(folder, called))
+        with contextlib.suppress(FileNotFoundError):
+            os.unlink(made)
     synced(folder)
-    for old in sorted(os.listdir(folder))[:-BACK_UPS_KEPT]:
-        os.unlink(os.path.join(folder, old))
+    found = sorted((os.stat(path).st_mtime_ns, path) for path in glob.glob(os.path.join(glob.escape(folder), "2*")))
+    for _, old in found[:-BACK_UPS_KEPT]:
+        os.unlink(old)
+    return named
+
+
+def name_new(made, path):
+    """Gives a file a name that isn't there yet: this one, or this one with a number from 2 on. Returns the name."""
+    for number in itertools.count(1):
+        named = path if number == 1 else f"{path}-{number}"
+        if is_named(made, named):
+            return named
+    return None
+
+
+def is_named(made, path):
+    """Gives a file a name, if there is nothing of this name. A disk without hard links gets an empty file first, which the file replaces."""
+    try:
+        os.link(made, path)
+    except FileExistsError:
+        return False
+    except OSError:
+        try:
+            os.close(os.open(path, os.O_WRONLY | os.O_CREAT | os.O_EXCL, 0o600))
+        except FileExistsError:
+            return False
+        os.rename(made, path)
+        return True
+    os.unlink(made)
+    return True
+
+
+def clear_unnamed(club):
+    """Removes copies without a name, which a killed command left. Wants the turn."""
+    folder = glob.escape(club.file)
+    for stale in [*glob.glob(f"{folder}-before/.*.new*"), *glob.glob(f"{folder}-until-*.new")]:
+        with contextlib.suppress(OSError):
+            os.unlink(stale)
 
 
 def synced(path):
@@ -93,4 +168,7 @@ def copy_file(club, db, to):
 
 
 def lost_name(club):
-    return f"{club.file}-lost-{time.strftime('%Y-%m-%dT%H-%M-%S')}"
+    """A name for a file that is put away, which isn't there yet."""
+    called = f"{club.file}-lost-{time.strftime('%Y-%m-%dT%H-%M-%S')}"
+    names = itertools.chain([called], (f"{called}-{more}" for more in itertools.count(2)))
+    return next(it for it in names if not os.path.lexists(it) and not os.path.lexists(it + "-wal"))

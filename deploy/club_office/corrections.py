@@ -3,14 +3,18 @@
 import contextlib
 import sqlite3
 import subprocess
-import sys
 import time
 
-from club_office.book import Turn
-from club_office.clubs import now_of, wants_file
+from club_office.asking import confirms, show_lines
+from club_office.book import Turn, refuse
+from club_office.clubs import now_of, refuse_to_come, wants_file
 from club_office.copies import address, copy_file, keep_before, snapshot
 from club_office.faults import STORAGE, Fault, refusal
 from club_office.lists import faults
+from club_office.people import forget_person, mail_concerned, show_concerned
+from club_office.plans import slot_text
+from club_office.texts import say
+from club_office.undoing import attach_before, write_undo
 
 
 WAITS_FOR_FILE = 20
@@ -20,38 +24,34 @@ def correct(club, words, planned):
     """A correction: shows what it would do, asks, and does just that in one transaction."""
     shown = preview(club, words, planned)
     if not words.yes:
-        print(*shown.lines, sep="\n", flush=True)
+        show_lines(shown.all_lines())
         if not confirms():
-            raise refusal("not confirmed; nothing changed")
+            refuse(club, words, refusal(say("not confirmed")))
     plans = []
     with Turn(club) as turn:
         wants_file(club)
         status = turn.order(words.given, lambda: carry_out(club, words, planned, plans, None if words.yes else shown))
     if words.yes:
-        print(*plans[0].lines, sep="\n")
+        show_lines(plans[0].all_lines())
     print("done")
+    cancelled = plans[0].cancelled
+    show_concerned(club, [it.member for it in cancelled])
+    if getattr(words, "mail", False):
+        mail_concerned(club, cancelled, slot_text)
     return status
 
 
 def preview(club, words, planned):
     """What a correction would do to the club as it is, by a copy. A refusal has its line in the book."""
-    with snapshot(club) as db:
-        try:
+    wants_file(club)
+    try:
+        refuse_to_come(words)
+        with snapshot(club) as db:
             return planned(db, words, now_of(words))
-        except Fault as fault:
-            refused = fault
-
-    def act():
-        raise refused
-
-    with Turn(club) as turn:
-        turn.order(words.given, act)
+    except Fault as fault:
+        refused = fault
+    refuse(club, words, refused)
     return None
-
-
-def confirms():
-    print("Shall this be done? [y/N] ", end="", flush=True)
-    return sys.stdin.readline().strip().lower() in ("y", "yes")
 
 
 def carry_out(club, words, planned, plans, shown):
@@ -62,10 +62,12 @@ def carry_out(club, words, planned, plans, shown):
             plans.append(plan)
             if shown and plan.changes != shown.changes:
                 raise refusal("the club has changed since this was shown; nothing changed. Give the order again")
-            keep_before(club, db, words.command)
+            attach_before(db, keep_before(club, db, words.command))
             if plan.copy_to:
                 copy_file(club, db, plan.copy_to)
-            change(db, plan)
+            change(db, plan, lambda: write_undo(club, db, words))
+            if words.command == "leave":
+                forget_person(club, words.member)
             if plan.copy_to:
                 with contextlib.suppress(sqlite3.Error):
                     db.execute("VACUUM")
@@ -114,14 +116,15 @@ def take(club, db):
 def ended(club):
     """Ends the club's server; what its service says of it, as that there is none."""
     try:
-        done = subprocess.run(club.stop, stdin=subprocess.DEVNULL, capture_output=True, text=True, check=False)
-    except OSError as fault:
+        done = subprocess.run(club.stop, stdin=subprocess.DEVNULL, capture_output=True, text=True, errors="replace", check=False, timeout=WAITS_FOR_FILE)
+    except (OSError, subprocess.TimeoutExpired) as fault:
         return str(fault)
     return done.stderr.strip()
 
 
-def change(db, plan):
-    """Carries the statements of a plan out in one transaction, and commits it only if the club stays as sound as it was."""
+def change(db, plan, keep):
+    """Carries the statements of a plan out in one transaction, and commits it only if the club stays as sound as it was. What is to be kept
+    of it is kept before the commit."""
     db.execute("BEGIN EXCLUSIVE")
     try:
         before, kept = faults(db), rows_kept(db, plan)
@@ -134,6 +137,7 @@ def change(db, plan):
             raise refusal(f"{sorted(new)[0]}; nothing changed")
         if rows_kept(db, plan) != kept:
             raise refusal("the sums would change; nothing changed")
+        keep()
         db.execute("COMMIT")
     except BaseException:
         if db.in_transaction:

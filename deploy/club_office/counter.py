@@ -1,24 +1,35 @@
 """The clerk's side of every command: by sudo to the desk's user, with the clerk's own files."""
 
 import contextlib
+import heapq
+import json
 import os
 import secrets
 import shutil
 import subprocess
 import sys
+import tempfile
+import time
+import urllib.parse
 
-from club_office.book import book_of, clerk, is_in_journal
+from club_office.asking import Back, ask
+from club_office.book import book_of, clerk, is_in_journal, printable
 from club_office.clubs import SELF, desk_user, program, show
-from club_office.copies import synced
+from club_office.copies import is_named, name_new, synced
 from club_office.faults import OUTPUT, USAGE, Fault, refusal
+from club_office.texts import say
+
+
+# A moment from which on a rotated key's older root is good no more.
+LONG_AGO = "2000-01-01T00:00"
 
 
 def desk_line(club, words):
-    """The words that carry out a command as the desk's user, and how the process is started."""
-    line = [SELF, "--desk", club.name, *words]
+    """The words that carry out a command as the desk's user, and how the process is started. `--own` is the user's own club."""
     user = desk_user(club)
     if os.geteuid() == user.pw_uid:
-        return [sys.executable, "-I", *line], {}
+        return [sys.executable, "-I", SELF, "--own", club.name, *words], {}
+    line = [SELF, "--desk", club.name, *words]
     if os.geteuid() == 0:
         env = {**os.environ, "OFFICE_CLERK": clerk()}
         env.pop("SUDO_USER", None)
@@ -36,6 +47,8 @@ def as_desk(club, words, given=None):
 def make_pass(club, words):
     """add-key and rotate-key: the root comes from a word, from standard input, or is drawn; the pass goes to standard output, or into
     a file that isn't there yet."""
+    if words.command == "lost-pass":
+        words.root, words.root_stdin, words.moment = None, False, LONG_AGO
     if words.root and words.root_stdin:
         raise Fault(USAGE, f"{words.command}: a ROOT, or --root-stdin")
     if words.to and os.path.lexists(words.to):
@@ -43,35 +56,41 @@ def make_pass(club, words):
     if words.to and not os.access(os.path.dirname(words.to) or ".", os.W_OK):
         raise Fault(OUTPUT, f"no leave to write to {os.path.dirname(words.to) or '.'}; nothing was done")
     root = sys.stdin.buffer.read(200) if words.root_stdin else (words.root or secrets.token_hex(32)).encode()
-    line = [words.command, *([f"--form={words.form}"] if words.form is not None else []), "--root-stdin", "--"]
+    line = [words.command.replace("lost-pass", "rotate-key"), *([f"--form={words.form}"] if words.form is not None else []), "--root-stdin", "--"]
     line += [words.key, words.member if words.command == "add-key" else words.moment]
     status, text = as_desk(club, line, root)
     if status or not words.to:
         show(text)
         return status
     try:
-        write_file(words.to, text.decode())
+        named = name_new(written(words.to, text.decode()), words.to)
+        synced(os.path.dirname(named) or ".")
     except OSError as fault:
         raise Fault(OUTPUT, f"the key {words.key} was changed, but its pass can't be written: {fault}. Rotate it for another pass") from None
+    if named != words.to:
+        raise Fault(OUTPUT, f"the key {words.key} was changed. There is a file {words.to} by now, so its pass is in {named}")
     return 0
 
 
 def read_book(club, words):
-    """The lines of the book: of the system's journal those that the desk's user has written, or of the file."""
-    if is_in_journal(club):
+    """The lines of the book: of the system's journal those that the desk's user has written, and of the file."""
+    status, text = as_desk(club, ["show-book"])
+    found = [text]
+    if status == 0 and is_in_journal(club):
         fields = ["SYSLOG_IDENTIFIER=clubdesk-office", f"CLUBDESK_CLUB={club.name}", f"_UID={desk_user(club).pw_uid}"]
         line = ["/usr/bin/journalctl", "--quiet", "--no-pager", "--output=cat", *fields]
         if os.geteuid() != 0:
             line = [program("SUDO", "sudo"), "-n", *line]
         done = subprocess.run(line, stdin=subprocess.DEVNULL, stdout=subprocess.PIPE, check=False)
-        status, text = done.returncode, done.stdout
-    else:
-        status, text = as_desk(club, ["book"])
+        status = done.returncode
+        found.append(done.stdout)
     if status:
         return status
-    for line in text.decode(errors="replace").splitlines():
+    # Line feeds alone end lines: an order may hold what other readers of lines take for their ends.
+    lines = [each.split("\n")[:-1] for each in (text.decode(errors="backslashreplace") for text in found)]
+    for line in heapq.merge(*lines, key=lambda line: line[:19]):
         if not words.word or words.word in line.split(" "):
-            print(line)
+            print(printable(line))
     return 0
 
 
@@ -81,16 +100,78 @@ def show_book(club):
     return 0
 
 
-def write_file(path, text):
-    """Writes a file whole: under a temporary name, which then becomes its own."""
-    folder = os.path.dirname(path) or "."
-    made = os.path.join(folder, f".{os.path.basename(path)}.new")
+def ask_person(club, words):
+    """Asks for what is known of a member's person, and hands it over by standard input: it is in no argument."""
+    status, text = as_desk(club, ["show-person", words.member])
+    if status:
+        return status
+    person = json.loads(text)
+    try:
+        for what, value in person.items():
+            answer = ask(say(f"ask {what}", now=value or "-"))
+            person[what] = "" if answer == "-" else answer or value
+    except Back:
+        raise refusal(say("not confirmed")) from None
+    status, text = as_desk(club, ["set-person", words.member], json.dumps(person).encode())
+    show(text)
+    return status
+
+
+def write_report(club, words):
+    """The board's page, in a file of the clerk that isn't there yet; also as PDF, if the machine has a browser."""
+    place = words.to or f"report-{words.year or time.strftime('%Y')}.html"
+    if os.path.lexists(place):
+        raise refusal(f"there is a file {place} already")
+    status, text = as_desk(club, ["print-report", *([str(words.year)] if words.year else []), *(["--no-names"] if words.no_names else [])])
+    if status:
+        return status
+    try:
+        write_new(place, text.decode())
+    except OSError as fault:
+        raise Fault(OUTPUT, f"{place} can't be written: {fault}") from None
+    printed = print_to_pdf(place)
+    print(say("report made in", files=f"{place}, {printed}" if printed else place))
+    return 0
+
+
+def print_to_pdf(place):
+    """The page as PDF beside it, by the machine's browser; None if there is none, or it doesn't."""
+    browser = shutil.which("chromium") or shutil.which("chromium-browser")
+    made = os.path.splitext(place)[0] + ".pdf"
+    if not browser or os.path.lexists(made):
+        return None
+    with tempfile.TemporaryDirectory() as folder:
+        line = [browser, "--headless", "--no-pdf-header-footer", f"--user-data-dir={folder}", f"--print-to-pdf={os.path.abspath(made)}"]
+        line += ["--no-sandbox"] if os.geteuid() == 0 else []
+        with contextlib.suppress(OSError, subprocess.TimeoutExpired):
+            subprocess.run([*line, f"file://{urllib.parse.quote(os.path.abspath(place))}"], capture_output=True, check=False, timeout=90)
+    return made if os.path.exists(made) else None
+
+
+# ---- Files of the clerk.
+
+
+def written(path, text):
+    """Writes a file whole under a temporary name beside its own, which it returns."""
+    made = os.path.join(os.path.dirname(path) or ".", f".{os.path.basename(path)}.new")
     with contextlib.suppress(FileNotFoundError):
         os.unlink(made)
     file = os.open(made, os.O_WRONLY | os.O_CREAT | os.O_EXCL, 0o600)
-    with os.fdopen(file, "w", encoding="ascii") as out:
+    with os.fdopen(file, "w", encoding="utf-8") as out:
         out.write(text)
         out.flush()
         os.fsync(out.fileno())
-    os.rename(made, path)
-    synced(folder)
+    return made
+
+
+def write_new(path, text):
+    """Writes a file whole, which isn't there yet."""
+    if not is_named(written(path, text), path):
+        raise FileExistsError(f"there is a file {path} by now")
+    synced(os.path.dirname(path) or ".")
+
+
+def write_again(path, text):
+    """Writes a file of our own whole, in place of the one that was there."""
+    os.rename(written(path, text), path)
+    synced(os.path.dirname(path) or ".")

@@ -1,32 +1,49 @@
-"""Members from a list: the table, a pass for each row, and the desk's side of a row."""
+"""Members from a list: what becomes of each row, a pass for each, and the desk's side of a row."""
 
 import collections
-import csv
-import io
+import contextlib
+import hashlib
 import json
 import os
 import re
 import secrets
 import sys
-import unicodedata
 
 from club_office.book import Turn
 from club_office.clubs import clubdesk, show
 from club_office.copies import snapshot
-from club_office.corrections import confirms
-from club_office.counter import as_desk, write_file
-from club_office.faults import BAD_VALUE, OUTPUT, Fault, bad_value, refusal
+from club_office.asking import confirms, show_lines
+from club_office.counter import as_desk, write_again, write_new
+from club_office.faults import BAD_VALUE, Fault, bad_value, refusal
 from club_office.lists import table
-from club_office.values import MOST_CREDIT, name, number
+from club_office.member_list import rows_of
+from club_office.people import NOBODY, keep_person, person_of, read_people
+
+
+ROOT = re.compile("[0-9a-f]{64}")
+
+
+def read_given():
+    """The roots and the person that standard input has."""
+    try:
+        given = json.loads(sys.stdin.buffer.read(100_000))
+        roots, person = given["roots"], given["person"]
+    except (ValueError, TypeError, KeyError):
+        roots = []
+    if not isinstance(roots, list) or not roots or not all(isinstance(root, str) and ROOT.fullmatch(root) for root in roots):
+        raise bad_value("import-row reads the roots of a key from standard input, each of 64 hexadecimal digits")
+    return roots, person_of(person if isinstance(person, dict) else {})
 
 
 def import_row(club, words):
-    """A row of an import: the member, its credit and its key, each only if it isn't there yet; prints the pass of a key that it makes.
+    """A row of an import: the member, its credit, its key and its person, each only if it isn't there yet; prints the pass of a key that it
+    makes.
 
-    Standard input has the roots that this import has drawn for the key, the newest last. A key that has one of them was made by this
-    import, and its pass was never handed out: it gets the newest root.
+    Standard input has the person, and the roots that this import has drawn for the key, the newest last. A key that has one of them was made
+    by this import, and its pass was never handed out: it gets the newest root.
     """
-    roots = sys.stdin.read(10_000).split()
+    roots, person = read_given()
+    passes = []
     with Turn(club) as turn:
         with snapshot(club) as db:
             member = db.execute(
@@ -54,59 +71,14 @@ def import_row(club, words):
         if words.points and not key and (not member or member[0] == 0):
             order("credit", [words.member, str(words.points)])
         if not key:
-            show(order("add-key", [words.key, words.member], ["--root-stdin"], roots[-1].encode()))
+            passes.append(order("add-key", [words.key, words.member], ["--root-stdin"], roots[-1].encode()))
         elif key[1] in roots:
-            show(order("rotate-key", [words.key, "2000-01-01T00:00"], ["--root-stdin"], roots[-1].encode()))
+            passes.append(order("rotate-key", [words.key, "2000-01-01T00:00"], ["--root-stdin"], roots[-1].encode()))
+        if person != NOBODY and words.member not in read_people(club):
+            keep_person(club, words.member, person)
+    for each in passes:
+        show(each)
     return 0
-
-
-LETTERS = {"ä": "ae", "ö": "oe", "ü": "ue", "ß": "ss", "æ": "ae", "ø": "oe", "å": "aa", "œ": "oe", "đ": "d", "ł": "l", "þ": "th", "ð": "d"}
-
-
-def fitted(text, most):
-    """A name of a text: small letters, digits and hyphens, at most so many."""
-    plain = "".join(LETTERS.get(letter, letter) for letter in unicodedata.normalize("NFC", text.strip()).lower())
-    plain = unicodedata.normalize("NFKD", plain)
-    plain = "".join(letter for letter in plain if not unicodedata.combining(letter))
-    return re.sub(r"[^a-z0-9]+", "-", plain).strip("-")[:most].strip("-")
-
-
-Row = collections.namedtuple("Row", "line written member quota points key")
-
-
-def rows_of(path):
-    """The rows of members.csv, all of them fit, or a fault that names the first line that isn't."""
-    try:
-        with open(path, encoding="utf-8-sig", newline="") as file:
-            text = file.read()
-    except (OSError, UnicodeDecodeError) as fault:
-        raise Fault(OUTPUT, f"{path} can't be read: {fault}") from None
-    first = text.split("\n", 1)[0]
-    reader = csv.DictReader(io.StringIO(text, newline=""), delimiter=";" if ";" in first and "," not in first else ",", strict=True)
-    heads = [head.strip().lower() for head in reader.fieldnames or []]
-    if not {"name", "quota", "points"} <= set(heads):
-        raise Fault(BAD_VALUE, f"{path}: the first line isn't name,quota,points or name,quota,points,key")
-    reader.fieldnames = heads
-    rows = []
-    try:
-        for cells in reader:
-            rows.append(row_of(path, reader.line_num, cells))
-    except csv.Error as fault:
-        raise Fault(BAD_VALUE, f"{path}, line {reader.line_num}: {fault}") from None
-    refuse_twins(path, rows)
-    return rows
-
-
-def row_of(path, line, cells):
-    try:
-        if None in cells or None in cells.values():
-            raise bad_value("another number of cells than in the first line")
-        member = name(fitted(cells["name"], 24))
-        key = name(fitted(cells.get("key") or fitted(cells["name"], 22) + "-1", 24))
-        written = "".join(letter if letter.isprintable() else " " for letter in cells["name"]).strip()
-        return Row(line, written, member, number(0, 99)(cells["quota"].strip()), number(0, MOST_CREDIT)(cells["points"].strip()), key)
-    except Fault as fault:
-        raise Fault(fault.status, f"{path}, line {line}: {fault}") from None
 
 
 def refuse_twins(path, rows):
@@ -121,7 +93,9 @@ def refuse_twins(path, rows):
 
 def import_members(club, words):
     """Shows what each row becomes, asks, and gives its orders. What an earlier run did isn't done again."""
-    rows = rows_of(words.file)
+    rows, understood = rows_of(words)
+    show_lines([understood])
+    refuse_twins(words.file, rows)
     members, keys = already(club)
     shown = [[row.line, row.written, row.member, row.quota, row.points, row.key, state(row, members, keys, words.passes)] for row in rows]
     table(["line", "as written", "member", "quota", "points", "key", "is"], shown, False)
@@ -168,22 +142,43 @@ def state(row, members, keys, folder):
 
 
 def mark_of(folder, key):
-    """The file that holds the roots that were drawn for a key, from before its order until its pass has its name."""
+    """The file that holds the roots that were drawn for a key, from before its order until its pass has its name, and the pass's digest."""
     return os.path.join(folder, f".{key}.roots")
 
 
+def read_mark(mark):
+    """The roots of a mark, and the digest of the pass that was made of the last of them, if it was made."""
+    words = []
+    with contextlib.suppress(FileNotFoundError), open(mark, encoding="ascii") as file:
+        words = file.read().split()
+    return [it for it in words if ROOT.fullmatch(it)], "".join(it.removeprefix("pass:") for it in words if it.startswith("pass:"))
+
+
+def write_mark(mark, roots, digest=None):
+    write_again(mark, "\n".join([*roots, *([f"pass:{digest}"] if digest else [])]) + "\n")
+
+
 def import_one(club, row, folder):
+    """A row: nothing is left of its mark once its pass has its name. A file that came to that name from elsewhere stays as it is."""
     place, mark = os.path.join(folder, row.key), mark_of(folder, row.key)
+    taken = refusal(f"line {row.line}: there is a file {place}, which isn't this row's pass: move it away, and run the import again")
+    roots, digest = read_mark(mark)
     if os.path.lexists(place):
+        with open(place, "rb") as file:
+            if hashlib.sha256(file.read(100_000)).hexdigest() != digest:
+                raise taken
         os.unlink(mark)
         return
-    roots = open(mark, encoding="ascii").read().split() if os.path.exists(mark) else []
     roots.append(secrets.token_hex(32))
-    write_file(mark, "\n".join(roots) + "\n")
-    words = ["import-row", row.member, str(row.quota), str(row.points), row.key]
-    status, text = as_desk(club, words, " ".join(roots).encode())
+    write_mark(mark, roots)
+    given = json.dumps({"roots": roots, "person": row.person._asdict()}).encode()
+    status, text = as_desk(club, ["import-row", row.member, str(row.quota), str(row.points), row.key], given)
     if status:
         raise Fault(status, f"line {row.line}: {row.member} isn't done; mend it and run the import again")
     if text:
-        write_file(place, text.decode())
+        write_mark(mark, roots, hashlib.sha256(text).hexdigest())
+        try:
+            write_new(place, text.decode())
+        except FileExistsError:
+            raise taken from None
     os.unlink(mark)

@@ -11,7 +11,7 @@ from club_office.values import date_of, day, name
 def table(heads, rows, as_csv):
     """Prints rows under their heads: aligned, numbers to the right, or as CSV."""
     if as_csv:
-        csv.writer(sys.stdout, lineterminator="\n").writerows([heads, *rows])
+        csv.writer(sys.stdout, lineterminator="\n").writerows([heads, *(map(unformed, row) for row in rows)])
         return
     cells = [[str(cell) for cell in row] for row in [heads, *rows]]
     widths = [max(len(row[column]) for row in cells) for column in range(len(heads))]
@@ -19,6 +19,18 @@ def table(heads, rows, as_csv):
     for row in cells:
         line = "  ".join(c.rjust(w) if r else c.ljust(w) for c, w, r in zip(row, widths, right))
         print(line.rstrip())
+
+
+def unformed(cell):
+    """A cell that no spreadsheet takes for a formula."""
+    return f"'{cell}" if isinstance(cell, str) and cell[:1] in ("=", "+", "-", "@", "\t", "\r") else cell
+
+
+def with_names(heads, rows, people, column):
+    """The rows with the names of their members as they are written, at their end, if any is known."""
+    if not people:
+        return heads, rows
+    return [*heads, "name"], [[*row, people[row[column]].name if row[column] in people else ""] for row in rows]
 
 
 def is_row(db, table_name, row_name):
@@ -39,7 +51,7 @@ def list_members(db, words, now):
            FROM members ORDER BY members.name""",
         [now],
     ).fetchall()
-    table(["member", "balance", "quota", "open", "keys"], rows, words.csv)
+    table(*with_names(["member", "balance", "quota", "open", "keys"], rows, words.people, 0), words.csv)
 
 
 def list_facilities(db, words, _now):
@@ -79,7 +91,7 @@ def list_bookings(db, words, now):
     ).fetchall()
     heads = ["day", "hour", "facility", "member", "key", "number", "persons", "charge", "cancelled", "refund"]
     shown = len(heads) if words.all else 8
-    table(heads[:shown], [row[:shown] for row in rows], words.csv)
+    table(*with_names(heads[:shown], [row[:shown] for row in rows], words.people, 3), words.csv)
 
 
 def asked_of_bookings(db, what):
@@ -102,7 +114,7 @@ def list_money(db, words, _now):
            WHERE members.name = ? OR ? IS NULL GROUP BY members.name ORDER BY members.name""",
         [words.member, words.member],
     ).fetchall()
-    table(["member", "credited", "charged", "refunded", "balance"], rows, words.csv)
+    table(*with_names(["member", "credited", "charged", "refunded", "balance"], rows, words.people, 0), words.csv)
 
 
 def list_faults(db, _words, _now):

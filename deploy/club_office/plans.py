@@ -4,9 +4,12 @@ import collections
 
 from club_office.faults import USAGE, Fault, refusal
 from club_office.lists import wants_row
+from club_office.texts import say
 from club_office.values import MOST_CHARGE, MOST_NUMBER, date_of
 
 
+# The weekday of the first day, 1970-01-01, from Monday on.
+THURSDAY = 3
 Booking = collections.namedtuple("Booking", "key number facility day hour guests charge member")
 
 
@@ -20,6 +23,25 @@ class Plan:
         self.keeps = []
         # The path to which the file is copied before, or None.
         self.copy_to = None
+        # What the summary counts.
+        self.cancelled, self.closed, self.opened = [], 0, 0
+
+    def tell(self, text, **values):
+        self.lines.append(say(text, **values))
+
+    def all_lines(self):
+        """The lines, and a summary at their end if there are several of bookings or slots."""
+        if len(self.cancelled) + self.closed + self.opened < 2:
+            return self.lines
+        parts = []
+        if self.cancelled:
+            names = sorted({it.member for it in self.cancelled})
+            members = names[0] if len(names) == 1 else say("members", count=len(names))
+            text = "cancelled one" if len(self.cancelled) == 1 else "cancelled"
+            parts.append(say(text, count=len(self.cancelled), points=sum(it.charge for it in self.cancelled), members=members))
+        for text, count in (("slots closed", self.closed), ("slots opened", self.opened)):
+            parts += [say(text if count > 1 else text + " one", count=count)] if count else []
+        return [*self.lines, say("in all", what=", ".join(parts))]
 
     def change(self, rows, sql, *values):
         self.changes.append((rows, sql, values))
@@ -27,10 +49,8 @@ class Plan:
     def cancel(self, bookings):
         """Cancels bookings: the whole charge back, the places free."""
         for it in bookings:
-            self.lines.append(
-                f"cancels {it.facility} {date_of(it.day)} {it.hour:02d}:00, {it.guests + 1} persons, {it.charge} points back:"
-                f" {it.key} {it.number}, {it.member}"
-            )
+            self.tell("cancels", slot=slot_text(it.facility, it.day, it.hour), persons=persons_text(it), points=it.charge, key=it.key, number=it.number, member=it.member)
+            self.cancelled.append(it)
             self.change(
                 1, "UPDATE bookings SET cancelled = 1, refund = charge WHERE pass_key = ? AND number = ? AND cancelled = 0", it.key, it.number
             )
@@ -38,6 +58,19 @@ class Plan:
             self.change(
                 1, "UPDATE slots SET taken = taken - ? WHERE facility = ? AND day = ? AND hour = ?", it.guests + 1, it.facility, it.day, it.hour
             )
+
+
+def slot_text(facility, day, hour):
+    return f"{facility} {date_of(day)} {hour:02d}:00"
+
+
+def persons_text(booking):
+    return say("persons", count=booking.guests + 1) if booking.guests else say("person")
+
+
+def unique(lists):
+    """The names of several lists, each once."""
+    return list(dict.fromkeys(name for names in lists for name in names))
 
 
 def bookings_of(db, condition, *values):
@@ -54,7 +87,7 @@ def plan_quota(db, words, _now):
     wants_row(db, "members", words.member)
     plan = Plan()
     (before,) = db.execute("SELECT quota FROM members WHERE name = ?", [words.member]).fetchone()
-    plan.lines.append(f"quota of {words.member}: {before}, then {words.quota}")
+    plan.tell("quota of", member=words.member, before=before, then=words.quota)
     plan.change(1, "UPDATE members SET quota = ? WHERE name = ?", words.quota, words.member)
     return plan
 
@@ -65,7 +98,7 @@ def plan_debit(db, words, _now):
     (balance,) = db.execute("SELECT max(credited - used, 0) FROM members WHERE name = ?", [words.member]).fetchone()
     if words.points > balance:
         raise refusal(f"the balance of {words.member} is {balance}")
-    plan.lines.append(f"balance of {words.member}: {balance}, then {balance - words.points}")
+    plan.tell("balance of", member=words.member, before=balance, then=balance - words.points)
     plan.change(1, "UPDATE members SET credited = credited - ? WHERE name = ?", words.points, words.member)
     return plan
 
@@ -79,13 +112,13 @@ def plan_facility(db, words, now):
     ).fetchone()
     plan = Plan()
     if words.price is not None:
-        plan.lines.append(f"price of {words.facility}: {price}, then {words.price}; what is booked keeps its charge")
+        plan.tell("price of", facility=words.facility, before=price, then=words.price)
         price = words.price
     if words.places is not None:
-        plan.lines.append(f"places of {words.facility}: {places}, then {words.places}")
+        plan.tell("places of", facility=words.facility, before=places, then=words.places)
         places = words.places
     if words.hours is not None:
-        plan.lines.append(f"hours of {words.facility}: {opens}-{shuts}, then {words.hours[0]}-{words.hours[1]}")
+        plan.tell("hours of", facility=words.facility, before=f"{opens}-{shuts}", then=f"{words.hours[0]}-{words.hours[1]}")
         opens, shuts = words.hours
     refuse_unfit(db, words.facility, places, opens, shuts, now)
     plan.change(
@@ -108,12 +141,16 @@ def refuse_unfit(db, facility, places, opens, shuts, now):
 def plan_reopen(db, words, _now):
     wants_row(db, "facilities", words.facility)
     plan = Plan()
-    where = (words.facility, words.day, words.hour)
-    (closed,) = db.execute("SELECT coalesce(max(closed), 0) FROM slots WHERE facility = ? AND day = ? AND hour = ?", where).fetchone()
-    if not closed:
-        raise refusal(f"{words.facility} {date_of(words.day)} {words.hour:02d}:00 isn't closed")
-    plan.lines.append(f"opens {words.facility} {date_of(words.day)} {words.hour:02d}:00 again")
-    plan.change(1, "UPDATE slots SET closed = 0 WHERE facility = ? AND day = ? AND hour = ? AND closed = 1", *where)
+    begin, end = words.hours
+    for hour in range(begin, end):
+        where = (words.facility, words.day, hour)
+        (closed,) = db.execute("SELECT coalesce(max(closed), 0) FROM slots WHERE facility = ? AND day = ? AND hour = ?", where).fetchone()
+        if closed:
+            plan.tell("opens", slot=slot_text(*where))
+            plan.change(1, "UPDATE slots SET closed = 0 WHERE facility = ? AND day = ? AND hour = ? AND closed = 1", *where)
+            plan.opened += 1
+    if not plan.changes:
+        raise refusal(f"{slot_text(words.facility, words.day, begin)} isn't closed{'' if end == begin + 1 else ', nor one of the hours after it'}")
     return plan
 
 
@@ -136,37 +173,50 @@ def plan_cancel(db, words, now):
 
 
 def plan_close(db, words, _now):
+    """Closes slots of some days; who has booked them is cancelled."""
     begin, end = words.hours
     plan = Plan()
-    facilities = list(dict.fromkeys(words.facility))
+    facilities, days = unique(words.facilities), days_of(words)
     for facility in facilities:
         wants_row(db, "facilities", facility)
         opens, shuts = db.execute("SELECT opens, shuts FROM facilities WHERE name = ?", [facility]).fetchone()
         if not opens <= begin < end <= shuts:
             raise refusal(f"{facility} opens {opens}-{shuts}")
-        plan.cancel(bookings_of(db, "facility = ? AND day = ? AND hour >= ? AND hour < ?", facility, words.day, begin, end))
-    for facility in facilities:
-        closed = {row[0] for row in db.execute("SELECT hour FROM slots WHERE facility = ? AND day = ? AND closed = 1", [facility, words.day])}
-        for hour in range(begin, end):
-            if hour not in closed:
-                plan.lines.append(f"closes {facility} {date_of(words.day)} {hour:02d}:00")
-                plan.change(
-                    1,
-                    "INSERT INTO slots VALUES (?, ?, ?, 1, 0) ON CONFLICT (facility, day, hour) DO UPDATE SET closed = 1",
-                    facility,
-                    words.day,
-                    hour,
-                )
+    for day in days:
+        for facility in facilities:
+            plan.cancel(bookings_of(db, "facility = ? AND day = ? AND hour >= ? AND hour < ?", facility, day, begin, end))
+    for day in days:
+        for facility in facilities:
+            close_hours(db, plan, facility, day, begin, end)
     if not plan.changes:
         raise refusal("all of these slots are closed already")
     return plan
 
 
+def days_of(words):
+    """The days that are to be closed: of a span those of a weekday, where one is named."""
+    found = [it for it in words.day if words.weekday is None or (it + THURSDAY) % 7 == words.weekday]
+    if not found:
+        raise refusal("no day of these is of that weekday")
+    return found
+
+
+def close_hours(db, plan, facility, day, begin, end):
+    closed = {row[0] for row in db.execute("SELECT hour FROM slots WHERE facility = ? AND day = ? AND closed = 1", [facility, day])}
+    for hour in range(begin, end):
+        if hour not in closed:
+            plan.tell("closes", slot=slot_text(facility, day, hour))
+            plan.closed += 1
+            sql = "INSERT INTO slots VALUES (?, ?, ?, 1, 0) ON CONFLICT (facility, day, hour) DO UPDATE SET closed = 1"
+            plan.change(1, sql, facility, day, hour)
+
+
 def plan_rain(db, words, _now):
-    wants_row(db, "facilities", words.facility)
     plan = Plan()
-    for hour in sorted(set(words.hour)):
-        plan.cancel(bookings_of(db, "facility = ? AND day = ? AND hour = ?", words.facility, words.day, hour))
+    for facility in unique([words.facilities]):
+        wants_row(db, "facilities", facility)
+        for hour in sorted({hour for begin, end in words.hours for hour in range(begin, end)}):
+            plan.cancel(bookings_of(db, "facility = ? AND day = ? AND hour = ?", facility, words.day, hour))
     if not plan.changes:
         raise refusal("nobody has booked these slots")
     return plan
@@ -181,14 +231,14 @@ def plan_leave(db, words, now):
     # References are tested at the end of the transaction.
     plan.change(-1, "PRAGMA defer_foreign_keys = ON")
     for place, key in enumerate(keys, 1):
-        plan.lines.append(f"revokes the key {key}, which becomes {new}-{place}")
+        plan.tell("revokes", key=key, then=f"{new}-{place}")
         plan.change(1, "UPDATE keys SET revoked = 1, name = ?, member = ? WHERE name = ?", f"{new}-{place}", new, key)
         plan.change(None, "UPDATE bookings SET pass_key = ? WHERE pass_key = ?", f"{new}-{place}", key)
         plan.change(None, "UPDATE old_roots SET pass_key = ? WHERE pass_key = ?", f"{new}-{place}", key)
     plan.change(1, "UPDATE members SET quota = 0, name = ? WHERE name = ?", new, words.member)
     (balance,) = db.execute("SELECT max(credited - used, 0) FROM members WHERE name = ?", [words.member]).fetchone()
     back = sum(values[0] for rows, sql, values in plan.changes if sql.startswith("UPDATE members SET used"))
-    plan.lines.append(f"member {words.member} becomes {new}, with quota 0 and a balance of {balance + back}")
+    plan.tell("becomes", member=words.member, then=new, balance=balance + back)
     return plan
 
 
@@ -208,14 +258,14 @@ def plan_new_year(db, words, now, club):
     (kept,) = db.execute("SELECT count(*) FROM bookings WHERE day >= ?", [before]).fetchone()
     (slots,) = db.execute("SELECT count(*) FROM slots WHERE day < ?", [before]).fetchone()
     plan.copy_to = f"{club.file}-until-{date_of(before - 1)}"
-    plan.lines.append(f"copies the file, as it is, to {plan.copy_to}")
-    plan.lines.append(f"takes {old} bookings and {slots} slots before {date_of(before)} out of the file, and keeps {kept} bookings")
+    plan.tell("copies to", path=plan.copy_to)
+    plan.tell("takes out", bookings=old, slots=slots, day=date_of(before), kept=kept)
     plan.change(old, "DELETE FROM bookings WHERE day < ?", before)
     plan.change(slots, "DELETE FROM slots WHERE day < ?", before)
     carried = carry_forward(db, before)
     if not slots and carried == db.execute("SELECT * FROM bookings WHERE day < ? ORDER BY pass_key, number DESC", [before]).fetchall():
         raise refusal(f"nothing of before {date_of(before)} is in the file but what was carried forward")
-    plan.lines.append(f"carries forward {sum(row[6] for row in carried)} points that {len({row[0] for row in carried})} keys have spent")
+    plan.tell("carries", points=sum(row[6] for row in carried), keys=len({row[0] for row in carried}))
     for row in carried:
         plan.change(1, "INSERT INTO bookings VALUES (?, ?, ?, ?, ?, ?, ?, ?, ?, ?)", *row)
     plan.keeps = [

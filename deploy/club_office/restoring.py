@@ -6,14 +6,18 @@ import shutil
 import sqlite3
 import subprocess
 
-from club_office.book import Turn
-from club_office.clubs import now_of, program
+from club_office.asking import confirms, show_lines
+from club_office.book import Turn, refuse
+from club_office.clubs import now_of, program, refuse_to_come
 from club_office.copies import address, keep_before, lost_name, scratch, snapshot, synced
-from club_office.corrections import confirms, ended, file_taken
+from club_office.corrections import ended, file_taken
 from club_office.faults import REFUSED, STORAGE, Fault, refusal
 from club_office.lists import faults, table
-from club_office.plans import bookings_of
-from club_office.values import COPY, date_of
+from club_office.people import show_concerned
+from club_office.plans import bookings_of, persons_text, slot_text
+from club_office.texts import say
+from club_office.undoing import forget_undo
+from club_office.values import COPY
 
 
 def copies_of(club):
@@ -56,55 +60,63 @@ def copy_opened(club, called):
 def what_changes(copy, db, now):
     """What becomes of a club once a copy is in its place, a line each. What is over is left out."""
     members, then = (dict(it.execute("SELECT name, max(credited - used, 0) FROM members ORDER BY name")) for it in (db, copy))
-    lines = [f"forgets the member {it}" for it in members if it not in then]
-    lines += [f"has the member {it} again" for it in then if it not in members]
-    lines += [f"balance of {it}: {members[it]}, then {then[it]}" for it in members if then.get(it, members[it]) != members[it]]
+    lines = [say("forgets member", name=it) for it in members if it not in then]
+    lines += [say("has member", name=it) for it in then if it not in members]
+    lines += [say("balance of", member=it, before=members[it], then=then[it]) for it in members if then.get(it, members[it]) != members[it]]
     lines += keys_changed(*({row[0]: row[1:] for row in it.execute("SELECT name, root, revoked FROM keys ORDER BY name")} for it in (db, copy)))
     facilities, then = ({row[0]: row[1:] for row in it.execute("SELECT * FROM facilities ORDER BY name")} for it in (db, copy))
-    lines += [f"the facility {it} is as it was" for it in sorted({*facilities, *then}) if facilities.get(it) != then.get(it)]
+    lines += [say("facility as was", facility=it) for it in sorted({*facilities, *then}) if facilities.get(it) != then.get(it)]
     closed, then = (set(it.execute("SELECT facility, day, hour FROM slots WHERE closed = 1 AND day >= ?", [now // 1440])) for it in (db, copy))
-    lines += [f"opens {it[0]} {date_of(it[1])} {it[2]:02d}:00 again" for it in sorted(closed - then)]
-    lines += [f"closes {it[0]} {date_of(it[1])} {it[2]:02d}:00" for it in sorted(then - closed)]
+    lines += [say("opens", slot=slot_text(*it)) for it in sorted(closed - then)]
+    lines += [say("closes", slot=slot_text(*it)) for it in sorted(then - closed)]
     booked, then = ({it[:6]: it for it in bookings_of(each, "day * 1440 + hour * 60 > ?", now)} for each in (db, copy))
     for what, bookings in (("loses", [booked[it] for it in booked if it not in then]), ("books again", [then[it] for it in then if it not in booked])):
         for it in bookings:
-            lines.append(
-                f"{what} {it.facility} {date_of(it.day)} {it.hour:02d}:00, {it.guests + 1} persons, {it.charge} points: {it.key} {it.number}, {it.member}"
-            )
-    return lines or ["nothing changes that is to come"]
+            slot = slot_text(it.facility, it.day, it.hour)
+            lines.append(say(what, slot=slot, persons=persons_text(it), points=it.charge, key=it.key, number=it.number, member=it.member))
+    return lines or [say("nothing to come")]
 
 
 def keys_changed(keys, then):
-    lines = [f"forgets the key {it}: its passes are refused" for it in keys if it not in then]
-    lines += [f"has the key {it} again, and its passes" for it in then if it not in keys]
+    lines = [say("forgets key", key=it) for it in keys if it not in then]
+    lines += [say("has key", key=it) for it in then if it not in keys]
     for it in keys:
         root, revoked = then.get(it, keys[it])
         if root != keys[it][0]:
-            lines.append(f"takes passes of {it} of before it was rotated, and refuses those of after")
+            lines.append(say("rotated back", key=it))
         if revoked != keys[it][1]:
-            lines.append(f"refuses passes of {it}, which is revoked again" if revoked else f"takes passes of {it}, which is revoked now")
+            lines.append(say("revoked again" if revoked else "revoked now", key=it))
     return lines
+
+
+def of_whom(lines):
+    """The members whose bookings a restore changes: the last word of such a line."""
+    begin = [say(it, **dict.fromkeys(("slot", "persons", "points", "key", "number", "member"), "")).split()[0] for it in ("loses", "books again")]
+    return [line.split()[-1] for line in lines if line.split()[0] in begin and "," in line]
 
 
 def restore(club, words):
     """Puts a copy in the club's place: shows what changes, asks, and does it. The club as it was is kept."""
     shown = preview_of_copy(club, words)
     if not words.yes:
-        print(*shown, sep="\n", flush=True)
+        show_lines(shown)
         if not confirms():
-            raise refusal("not confirmed; nothing changed")
+            refuse(club, words, refusal(say("not confirmed")))
     lines = []
     with Turn(club) as turn:
+        forget_undo(club)
         status = turn.order(words.given, lambda: put_in_place(club, words, lines, None if words.yes else shown))
     if words.yes:
-        print(*lines, sep="\n")
+        show_lines(lines)
     print("done")
+    show_concerned(club, of_whom(lines))
     return status
 
 
 def preview_of_copy(club, words):
     """What a copy would change, by a copy of the club. A refusal has its line in the book."""
     try:
+        refuse_to_come(words)
         with copy_opened(club, words.copy) as copy:
             try:
                 with snapshot(club) as db:
@@ -113,12 +125,7 @@ def preview_of_copy(club, words):
                 return [f"the club's file can't be read, and is kept beside the new one: {fault}"]
     except Fault as fault:
         refused = fault
-
-    def act():
-        raise refused
-
-    with Turn(club) as turn:
-        turn.order(words.given, act)
+    refuse(club, words, refused)
     return None
 
 

@@ -4,11 +4,13 @@ import datetime
 import re
 
 from club_office.faults import bad_value
+from club_office.texts import WEEKDAYS
 
 
 NAME = re.compile(r"[a-z0-9][a-z0-9-]{0,23}")
-# The moment of a night's copy, in UTC, or that of a correction, in the club's zone, and the correction's command.
-COPY = re.compile(r"20[0-9]{2}-[0-9]{2}-[0-9]{2}T(?:[0-9]{6}Z|[0-9]{2}-[0-9]{2}-[0-9]{2}-[a-z-]+)")
+# The moment of a night's copy, in UTC, or that of a correction, in the club's zone, and the correction's command. Of two in one second
+# the later has a number.
+COPY = re.compile(r"20[0-9]{2}-[0-9]{2}-[0-9]{2}T(?:[0-9]{6}Z|[0-9]{2}-[0-9]{2}-[0-9]{2}-[a-z-]+(?:-[0-9]{1,3})?)")
 EPOCH = datetime.date(1970, 1, 1)
 MOST_CHARGE = 499_950
 MOST_NUMBER = 999_999_999
@@ -40,11 +42,41 @@ def day(word):
     return (found - EPOCH).days
 
 
+def days(word):
+    """A day, or the days from one to another, as 2026-12-01..2027-03-31."""
+    first, dots, last = word.partition("..")
+    begin, end = day(first), day(last if dots else first)
+    if not begin <= end <= begin + 400:
+        raise bad_value(f"{word!r} is no day, and no days FIRST..LAST of at most 400")
+    return range(begin, end + 1)
+
+
 def hours(word):
     found = re.fullmatch(r"([0-9]{1,2})-([0-9]{1,2})", word)
     if not found or not int(found[1]) < int(found[2]) <= 24:
         raise bad_value(f"{word!r} is no pair of hours FROM-TO, as 8-22")
     return int(found[1]), int(found[2])
+
+
+def weekday(word):
+    """A weekday by the beginning of its name in a language of the office, as a number from Monday on."""
+    for language in WEEKDAYS.values():
+        for place, called in enumerate(language):
+            if len(word) > 1 and called.lower().startswith(word.lower()):
+                return place
+    raise bad_value(f"{word!r} is no weekday, as tue")
+
+
+def hour_or_hours(word):
+    """An hour, or a pair of hours: the first, and the one after the last."""
+    if re.fullmatch("[0-9]{1,2}", word) and int(word) < 24:
+        return int(word), int(word) + 1
+    return hours(word)
+
+
+def names(word):
+    """A name, or several with commas between them."""
+    return [name(it) for it in word.split(",")]
 
 
 def moment(word):
@@ -61,6 +93,10 @@ def copy_name(word):
     if not COPY.fullmatch(word):
         raise bad_value(f"{word!r} is no name of a copy, as `copies` lists them")
     return word
+
+
+def moment_text(minute):
+    return f"{date_of(minute // 1440)}T{minute // 60 % 24:02d}:{minute % 60:02d}"
 
 
 def date_of(day_number):

@@ -1,0 +1,130 @@
+"""Questions to a clerk at a terminal. Ctrl-C and the end of input leave a question, and nothing is changed by then."""
+
+import datetime
+import sys
+import textwrap
+
+from club_office.reading import found, read_day, read_facilities, read_hours
+from club_office.texts import day_text, means, say
+
+# How many of those that fit are listed.
+MOST_LISTED = 15
+BOOKABLE_DAYS = 60
+
+
+class Back(Exception):
+    """The clerk left a question."""
+
+
+def is_terminal():
+    return sys.stdin.isatty() and sys.stdout.isatty()
+
+
+def show_lines(lines):
+    """Prints lines as a terminal of 80 columns shows them."""
+    for line in lines:
+        print(textwrap.fill(line, 80, subsequent_indent="    ", break_long_words=False, break_on_hyphens=False), flush=True)
+
+
+def ask(text):
+    """What the clerk answers, without spaces at its ends."""
+    try:
+        return input(text).strip()
+    except (EOFError, KeyboardInterrupt):
+        print()
+        raise Back from None
+
+
+def confirms(question="shall"):
+    """Whether a question is answered by yes. The prompt goes to standard output, and the answer comes from standard input, whatever they are."""
+    print(say(question), end="", flush=True)
+    try:
+        return means("yes", sys.stdin.buffer.readline(100).decode(errors="replace"))
+    except KeyboardInterrupt:
+        print()
+        return False
+
+
+def chosen(typed, names, about=lambda name: ""):
+    """One of several names, by its number."""
+    print(say("several fit", typed=typed))
+    for number, name in enumerate(names[:MOST_LISTED], 1):
+        print(f"  {number:2} {name}  {about(name)}".rstrip())
+    if len(names) > MOST_LISTED:
+        print("     " + say("more", count=len(names) - MOST_LISTED))
+    while True:
+        answer = ask(say("which"))
+        if not answer:
+            raise Back
+        if answer.isdigit() and 0 < int(answer) <= min(len(names), MOST_LISTED):
+            return names[int(answer) - 1]
+        fits = found(answer, names)
+        if len(fits) == 1:
+            return fits[0]
+
+
+def until_read(prompt, read, fault):
+    """Asks until an answer can be read; an empty one leaves the question."""
+    while True:
+        answer = ask(f"{prompt}: ")
+        if not answer:
+            raise Back
+        value = read(answer)
+        if value is not None:
+            return value
+        print("   " + fault)
+
+
+def ask_name(prompt, names, about=lambda name: "", fitting=found):
+    """One of the names, by a part of it."""
+    if not names:
+        print("   " + say("none yet"))
+        raise Back
+
+    def read(typed):
+        fits = fitting(typed, names)
+        return None if not fits else fits[0] if len(fits) == 1 else chosen(typed, fits, about)
+
+    name = until_read(prompt, read, say("nobody"))
+    print(f"   -> {name}  {about(name)}".rstrip())
+    return name
+
+
+def ask_day(prompt, today):
+    day = until_read(prompt, lambda typed: read_day(typed, today), say("no day"))
+    print(f"   -> {day_text(day)}")
+    return day
+
+
+def doubts(day, today):
+    """What is odd about a day on which something is to be done; None for a day that is to come and can be booked."""
+    if day < today:
+        return say("is past", day=day_text(day))
+    if day > today + datetime.timedelta(BOOKABLE_DAYS):
+        return say("is far", day=day_text(day), ahead=(day - today).days)
+    return None
+
+
+def ask_hours(prompt):
+    begin, end = until_read(prompt, read_hours, say("no hours"))
+    return f"{begin}-{end}"
+
+
+def ask_number(prompt, least, most):
+    def read(typed):
+        digits = typed.replace(".", "").replace("'", "")
+        return int(digits) if digits.isascii() and digits.isdigit() and least <= int(digits) <= most else None
+
+    return until_read(prompt, read, say("no number", least=least, most=most))
+
+
+def ask_facilities(prompt, facilities):
+    def read(typed):
+        lists = read_facilities(typed, facilities)
+        if not lists or not all(lists):
+            return None
+        return list(dict.fromkeys(fits[0] if len(fits) == 1 else chosen(typed, fits) for fits in lists))
+
+    names = until_read(prompt, read, say("nobody"))
+    print(f"   -> {', '.join(names)}")
+    return names

@@ -1,0 +1,58 @@
+"""Why slots are closed, for the page: lines beside the club, each a facility, a day, hours and a reason."""
+
+import json
+import os
+
+from club_office.copies import synced
+from club_office.faults import bad_value
+from club_office.plans import days_of, unique
+from club_office.values import date_of
+
+MOST_LETTERS = 60
+
+
+def reason(word):
+    """A reason that a page shows."""
+    text = " ".join(word.split())
+    if not text or not text.isprintable() or len(text) > MOST_LETTERS:
+        raise bad_value(f"{word!r} is no reason of at most {MOST_LETTERS} letters")
+    return text
+
+
+def reasons_of(club):
+    """What was written so far, the oldest first; a file that can't be read gives none."""
+    try:
+        with open(club.file + "-reasons", encoding="utf-8") as file:
+            return json.load(file)
+    except (FileNotFoundError, ValueError):
+        return []
+
+
+def add_reasons(club, words, today):
+    """Adds why slots were closed, and leaves out what is over."""
+    kept = [it for it in reasons_of(club) if it["day"] >= today]
+    begin, end = words.hours
+    kept += [
+        {"facility": facility, "day": day, "from": begin, "until": end, "why": words.why} for day in days_of(words) for facility in unique(words.facilities)
+    ]
+    made = club.file + "-reasons.new"
+    with open(made, "w", encoding="utf-8") as file:
+        json.dump(kept, file, ensure_ascii=False)
+        file.flush()
+        os.fsync(file.fileno())
+    os.rename(made, club.file + "-reasons")
+    synced(os.path.dirname(club.file))
+
+
+def closures_of(db, reasons, today):
+    """The hours that are closed from today on and have a reason, the newest reason of each, as the page takes them."""
+    why = {(it["facility"], it["day"], hour): it["why"] for it in reasons for hour in range(it["from"], it["until"])}
+    found = []
+    for facility, day, hour in db.execute("SELECT facility, day, hour FROM slots WHERE closed = 1 AND day >= ? ORDER BY facility, day, hour", [today]):
+        text = why.get((facility, day, hour))
+        last = found[-1] if found else None
+        if text and last and (last["facility"], last["day"], last["until"], last["why"]) == (facility, date_of(day), hour, text):
+            last["until"] = hour + 1
+        elif text:
+            found.append({"facility": facility, "day": date_of(day), "from": hour, "until": hour + 1, "why": text})
+    return found

@@ -1,0 +1,128 @@
+"""Letters: one file to print, a sheet for each pass, with the link that opens the club's page, its code, and what to do."""
+
+import base64
+import html
+import os
+import re
+import secrets
+import subprocess
+
+from club_office.clubs import program
+from club_office.counter import as_desk, write_new
+from club_office.faults import OUTPUT, Fault, refusal
+from club_office.texts import language, say
+from club_office.values import NAME
+
+STYLE = """
+@page { size: A4; margin: 20mm; }
+body { margin: 0; color: #111; font: 12pt/1.5 system-ui, "DejaVu Sans", sans-serif; }
+section { break-after: page; break-inside: avoid; max-width: 40rem; margin: 2rem auto; padding: 0 1rem; }
+section:last-child { break-after: auto; }
+h1 { font-size: 1.75rem; line-height: 1.2; margin: 0 0 .5rem; } .to { font-size: 1.15rem; margin: 0 0 1.5rem; }
+svg { display: block; width: 60mm; height: 60mm; margin: 1rem 0; }
+.link { overflow-wrap: anywhere; font-size: .8rem; } .care { padding: .75rem 1rem; border: 2px solid #111; border-radius: .5rem; }
+"""
+
+
+def key_of(text):
+    """The key that a pass in V1 or V2 names."""
+    if not re.fullmatch(r"[A-Za-z0-9_+/=-]{1,8192}", text) or re.fullmatch("[0-9a-f]+", text):
+        raise ValueError("it holds no pass in one line")
+    data = base64.urlsafe_b64decode(text.rstrip("=").replace("+", "-").replace("/", "_") + "=" * (-len(text.rstrip("=")) % 4))
+    named = re.search(rb"key:([a-z0-9-]+)", data)
+    if not named:
+        raise ValueError("it holds no pass of a key")
+    return named[1].decode()
+
+
+def code_of(link):
+    """The link's QR code, as a picture in SVG."""
+    line = [program("QRENCODE", "qrencode"), "-8", "-l", "M", "-t", "SVG", "--svg-path", "-m", "4", "-o", "-"]
+    done = subprocess.run(line, input=link.encode(), capture_output=True, check=False)
+    if done.returncode:
+        raise Fault(OUTPUT, f"no code of the link: {done.stderr.decode(errors='replace').strip()}")
+    text = done.stdout.decode()
+    return text[text.index("<svg"):]
+
+
+def sheet(club, name, key, text, is_spare):
+    link = f"{club.site}/book.html#{text}"
+    steps = "".join(f"<li>{html.escape(say(f'letter step {it}'))}</li>" for it in (1, 2, 3))
+    spare = f'<p><strong>{html.escape(say("letter spare"))}</strong></p>' if is_spare else ""
+    return f"""<section><h1>{html.escape(say("letter title", club=club.title))}</h1>
+<p class="to">{html.escape(name)}</p>{spare}
+<p>{html.escape(say("letter first", key=key))}</p><ol>{steps}</ol>
+{code_of(link)}
+<p class="link"><a href="{html.escape(link)}">{html.escape(link)}</a></p>
+<p class="care">{html.escape(say("letter care"))}</p></section>
+"""
+
+
+def passes_of(folder, keys):
+    """The passes of a folder, or those of some keys: each with its key."""
+    if not keys:
+        try:
+            keys = sorted(it for it in os.listdir(folder) if NAME.fullmatch(it))
+        except FileNotFoundError:
+            keys = []
+        if not keys:
+            raise refusal(f"there are no passes in {folder}")
+    texts = {}
+    for key in keys:
+        path = os.path.join(folder, key)
+        try:
+            with open(path, encoding="ascii") as file:
+                text = file.read(9_000).strip()
+            if key_of(text) != key:
+                raise ValueError(f"it holds a pass of {key_of(text)}")
+        except FileNotFoundError:
+            raise refusal(f"there is no pass {path}; `lost-pass {key}` makes another") from None
+        except (OSError, ValueError) as fault:
+            raise Fault(OUTPUT, f"{path}: {fault}") from None
+        texts[key] = text
+    return texts
+
+
+def spare_key(club, names, folder, member):
+    """Makes a further key of a member, with its pass in the folder; its name, and the pass."""
+    stem = member[:20].rstrip("-")
+    key = next(it for it in (f"{stem}-{number}" for number in range(2, 1000)) if it not in names.keys and not os.path.lexists(os.path.join(folder, it)))
+    status, text = as_desk(club, ["add-key", "--root-stdin", "--", key, member], secrets.token_hex(32).encode())
+    if status:
+        raise Fault(status, f"add-key {key} {member}: status {status}")
+    write_new(os.path.join(folder, key), text.decode())
+    return key, text.decode().strip()
+
+
+def letters(club, words, names_of):
+    """Writes the sheets of passes into one file, which isn't there yet."""
+    if not re.fullmatch(r"https://[A-Za-z0-9.:/-]+", club.site):
+        raise refusal(f"the configuration of {club.name} has no line SITE=https://ADDRESS")
+    if os.path.lexists(words.to):
+        raise refusal(f"there is a file {words.to} already")
+    program("QRENCODE", "qrencode")
+    texts = passes_of(words.passes, words.key)
+    names = names_of(club)
+    gone = [it for it in texts if it not in names.keys or names.keys[it].revoked]
+    if gone:
+        raise refusal(f"the club has no key {gone[0]}, or it is revoked")
+    sheets, members = [], {}
+    for key, text in texts.items():
+        member = names.keys[key].member
+        name = names.written.get(member) or member
+        sheets.append(sheet(club, name, key, text, False))
+        if words.spare and member not in members:
+            sheets.append(sheet(club, name, *spare_key(club, names, words.passes, member), True))
+        members[member] = name
+    page = f"""<!DOCTYPE html>
+<html lang="{language()}"><head><meta charset="utf-8"><meta name="referrer" content="no-referrer">
+<meta http-equiv="Content-Security-Policy" content="default-src 'none'; style-src 'unsafe-inline'">
+<title>{html.escape(say("letter title", club=club.title))}</title><style>{STYLE}</style></head><body>
+{"".join(sheets)}</body></html>
+"""
+    try:
+        write_new(words.to, page)
+    except OSError as fault:
+        raise Fault(OUTPUT, f"{words.to} can't be written: {fault}") from None
+    print(say("letters made", count=len(sheets), members=len(members), file=words.to))
+    return 0

@@ -1,0 +1,117 @@
+"""The list of an import, as a spreadsheet or another program writes it: which letters, which delimiter, which column is what, and its rows."""
+
+import codecs
+import collections
+import csv
+import io
+import re
+
+from club_office.faults import BAD_VALUE, OUTPUT, Fault, bad_value
+from club_office.people import person_of
+from club_office.reading import fitted, plain
+from club_office.texts import say
+from club_office.values import MOST_CREDIT, name, number
+
+Row = collections.namedtuple("Row", "line written member quota points key person")
+MOST_BYTES = 2_000_000
+# How columns are called, without accents and in small letters.
+HEADS = {
+    "name": ("name", "member", "mitglied", "full name", "anzeigename"),
+    "surname": ("surname", "last name", "family name", "nachname", "familienname"),
+    "first name": ("first name", "given name", "vorname"),
+    "quota": ("quota", "open bookings", "buchungen"),
+    "points": ("points", "punkte", "guthaben", "credit"),
+    "key": ("key", "schluessel"),
+    "mail": ("mail", "e-mail", "email", "mail address", "e-mail-adresse"),
+    "telephone": ("telephone", "phone", "tel", "tel.", "telefon", "telefonnummer", "mobile", "mobil", "handy"),
+}
+
+
+def text_of(path):
+    """The text of a file, and what its letters are written in."""
+    try:
+        with open(path, "rb") as file:
+            data = file.read(MOST_BYTES + 1)
+    except OSError as fault:
+        raise Fault(OUTPUT, f"{path} can't be read: {fault}") from None
+    if len(data) > MOST_BYTES:
+        raise Fault(BAD_VALUE, f"{path}: more than {MOST_BYTES // 1_000_000} MB are no list of members")
+    for mark, called in ((codecs.BOM_UTF8, "utf-8-sig"), (codecs.BOM_UTF16_LE, "utf-16"), (codecs.BOM_UTF16_BE, "utf-16")):
+        if data.startswith(mark):
+            return decoded(path, data, called), called.upper().removesuffix("-SIG")
+    try:
+        return data.decode("utf-8"), "UTF-8"
+    except UnicodeDecodeError:
+        return decoded(path, data, "cp1252"), "Latin-1"
+
+
+def decoded(path, data, called):
+    try:
+        return data.decode(called)
+    except UnicodeDecodeError as fault:
+        raise Fault(OUTPUT, f"{path} can't be read: {fault}") from None
+
+
+def columns_of(path, heads, given):
+    """Which columns are what: by their names, or as a map says, as name=Player,points=Balance."""
+    called = [plain(it) for it in heads]
+    found = {}
+    for what, names in HEADS.items():
+        place = next((called.index(it) for it in names if it in called), None)
+        if place is not None:
+            found[what] = place
+    for each in filter(None, (given or "").split(",")):
+        what, sign, head = each.partition("=")
+        if not sign or what.strip() not in HEADS or plain(head) not in called:
+            raise bad_value(f"--columns {each}: it is WHAT=COLUMN, of {', '.join(HEADS)} and {', '.join(heads)}")
+        found[what.strip()] = called.index(plain(head))
+    if "name" not in found and not {"surname", "first name"} <= set(found):
+        raise Fault(BAD_VALUE, f"{path}: the first line isn't name,quota,points or name,quota,points,key: it has {', '.join(heads)}; --columns says which is what")
+    return found
+
+
+def rows_of(words):
+    """The rows of a list, all of them fit, and a sentence that says how it was read; or a fault that names the first line that isn't."""
+    path = words.file
+    text, letters = text_of(path)
+    first = re.sub('"[^"]*"', "", text.lstrip("\n").split("\n", 1)[0])
+    delimiter = max(",;\t", key=first.count)
+    reader = csv.reader(io.StringIO(text, newline=""), delimiter=delimiter, strict=True)
+    rows, columns, heads = [], None, []
+    try:
+        for cells in reader:
+            if columns is None:
+                heads = [it.strip() for it in cells]
+                columns = columns_of(path, heads, words.columns)
+                for what, value in (("quota", words.quota), ("points", words.points)):
+                    if what not in columns and value is None:
+                        raise Fault(BAD_VALUE, f"{path}: no column is {what}; --{what} gives it to all")
+            elif any(it.strip() for it in cells):
+                rows.append(row_of(path, reader.line_num, heads, cells, columns, words))
+    except csv.Error as fault:
+        raise Fault(BAD_VALUE, f"{path}, line {reader.line_num}: {fault}") from None
+    if columns is None:
+        raise Fault(BAD_VALUE, f"{path} is empty")
+    understood = ", ".join(f"{what} = {heads[place]}" for what, place in columns.items())
+    over = [it for place, it in enumerate(heads) if place not in columns.values() and it]
+    signs = {",": ",", ";": ";", "\t": "tab"}[delimiter]
+    return rows, say("list read", letters=letters, sign=signs, columns=understood) + (say("list over", columns=", ".join(over)) if over else "")
+
+
+def row_of(path, line, heads, cells, columns, words):
+    try:
+        if len(cells) != len(heads):
+            raise bad_value("another number of cells than in the first line")
+        values = {what: cells[place].strip() for what, place in columns.items()}
+        if "name" not in values:
+            values["name"] = ", ".join(filter(None, (values["surname"], values["first name"])))
+        member = name(fitted(values["name"], 24))
+        key = name(fitted(values.get("key") or fitted(values["name"], 22) + "-1", 24))
+        written = "".join(letter if letter.isprintable() else " " for letter in values["name"]).strip()
+        quota = number(0, 99)(values["quota"]) if values.get("quota") else words.quota
+        points = number(0, MOST_CREDIT)(values["points"]) if values.get("points") else words.points
+        if quota is None or points is None:
+            raise bad_value("no quota" if quota is None else "no points")
+        return Row(line, written, member, quota, points, key, person_of({**values, "name": written}))
+    except Fault as fault:
+        raise Fault(fault.status, f"{path}, line {line}: {fault}") from None

@@ -1,0 +1,349 @@
+"""The office by questions: a menu of tasks in a clerk's order. Each answer may be a part of a name, a day as `sa`, or hours as `15-17`.
+What a task does is a command of the office, which is shown before it is given, so that a clerk can type it."""
+
+import collections
+import contextlib
+import csv
+import datetime
+import importlib
+import io
+import shlex
+import subprocess
+import sys
+
+from club_office.asking import Back, ask, ask_day, ask_facilities, ask_hours, ask_name, ask_number, chosen, until_read
+from club_office.clubs import SELF
+from club_office.counter import as_desk
+from club_office.reading import fitted, found, found_members, plain, read_hours
+from club_office.texts import WEEKDAYS, day_text, language, means, say
+from club_office.values import NAME
+
+Task = collections.namedtuple("Task", "group called words is_asked")
+
+
+class Office:
+    """A club with its names, as they are when a task begins."""
+
+    def __init__(self, club, names):
+        self.club = club
+        self.read = names
+        self.names = None
+        self.today = datetime.date.today()
+
+    def begin(self):
+        self.today = datetime.date.today()
+        self.names = self.read(self.club)
+
+    def rows(self, *words):
+        """The rows of a list."""
+        status, text = as_desk(self.club, [*words, "--csv"])
+        if status:
+            raise Back
+        return list(csv.DictReader(io.StringIO(text.decode())))
+
+    def about(self, name):
+        it, written = self.names.members[name], self.names.written.get(name)
+        return (f"{written}: " if written else "") + say("member has", balance=it.balance, quota=it.quota)
+
+    def member(self):
+        return ask_name(say("ask member"), self.names.members, self.about, lambda typed, _: found_members(typed, self.names))
+
+    def facility(self):
+        return ask_name(say("ask facility"), self.names.facilities)
+
+    def facilities(self):
+        return ask_facilities(say("ask facilities"), self.names.facilities)
+
+    def day(self, text="ask day"):
+        return str(ask_day(say(text), self.today))
+
+    def points(self, most):
+        return str(ask_number(say("ask points"), 1, most))
+
+
+# ---- The tasks: what each asks, and the commands that it makes of the answers.
+
+
+def key_of(office):
+    """A key of a member that isn't revoked, without a question if there is one."""
+    member = office.member()
+    keys = [it for it, key in office.names.keys.items() if key.member == member and not key.revoked]
+    if not keys:
+        print("   " + say("none yet"))
+        raise Back
+    return keys[0] if len(keys) == 1 else chosen(say("ask key"), keys)
+
+
+def free_key(office, member):
+    """The next name of a key of a member: amy-1, amy-2."""
+    stem = member[:20].strip("-")
+    return next(it for it in (f"{stem}-{number}" for number in range(1, 1000)) if it not in office.names.keys)
+
+
+def member_words(office):
+    member = office.member()
+    return [["money", member], ["keys", member], ["bookings", member]]
+
+
+def new_member_words(office):
+    def read(typed):
+        name = fitted(typed, 22)
+        if name in office.names.members:
+            print("   " + say("taken name", name=name))
+        return name if NAME.fullmatch(name) and name not in office.names.members else None
+
+    name = until_read(say("ask new name"), read, say("no name"))
+    print(f"   -> {name}")
+    quota = ask_number(say("ask quota"), 0, 99)
+    points = office.points(1_000_000)
+    key = free_key(office, name)
+    return [["add-member", name, str(quota)], ["credit", name, points], ["add-key", key, name, "--to", key]]
+
+
+def new_key_words(office):
+    member = office.member()
+    key = free_key(office, member)
+    return [["add-key", key, member, "--to", key]]
+
+
+def lost_words(office):
+    key = key_of(office)
+    return [["lost-pass", key, "--to", f"{key}-{datetime.date.today()}"]]
+
+
+def letters_words(_office):
+    return [["letters", "--to", f"letters-{datetime.date.today()}.html"]]
+
+
+def book_words(office):
+    member, facility, day = office.member(), office.facility(), office.day()
+    begin, end = until_read(say("ask hour"), read_hours, say("no hours"))
+    guests = str(ask_number(say("ask guests"), 0, 49))
+    return [["book", member, facility, day, str(hour), guests] for hour in range(begin, end)]
+
+
+def booking_of(office, member):
+    """One of a member's bookings to come."""
+    rows = office.rows("bookings", member)
+    if not rows:
+        print("   " + say("none yet"))
+        raise Back
+    texts = {f"{day_text(datetime.date.fromisoformat(it['day']))} {int(it['hour']):02d}:00 {it['facility']} {it['key']} {it['number']}": it for it in rows}
+    return texts[chosen(say("ask booking"), list(texts))]
+
+
+def call_off_words(office):
+    member = office.member()
+    row = booking_of(office, member)
+    return [["cancel-for", member, row["facility"], row["day"], row["hour"], "--number", row["number"]]]
+
+
+def credit_all_words(office):
+    points, year = office.points(1_000_000), office.today.year
+    label = until_read(say("ask label", example=f"season-{year}"), lambda typed: fitted(typed, 24) or None, say("no name"))
+    return [["credit-all", points, "--as", label]]
+
+
+def training_words(office):
+    first, last = office.day("ask first day"), office.day("ask last day")
+    hours = ask_hours(say("ask hours"))
+    why = until_read(say("ask why"), lambda typed: typed if len(typed) <= 60 else None, say("no name"))
+    weekday = WEEKDAYS[language()][datetime.date.fromisoformat(first).weekday()].lower()
+    return [["close", f"{first}..{last}", hours, *office.facilities(), "--weekday", weekday, "--why", why]]
+
+
+def cancel_words(office):
+    row = booking_of(office, office.member())
+    return [["cancel", row["key"], row["number"]]]
+
+
+def new_facility_words(office):
+    def read(typed):
+        name = fitted(typed, 24)
+        return name if NAME.fullmatch(name) and name not in office.names.facilities else None
+
+    name = until_read(say("ask facility name"), read, say("no name"))
+    kind = until_read(say("ask kind"), lambda typed: found(plain(typed), ["court", "boat", "room"])[:1] or None, say("no name"))[0]
+    places, price = ask_number(say("ask places"), 1, 50), ask_number(say("ask price"), 0, 9999)
+    begin, end = until_read(say("ask opening"), read_hours, say("no hours"))
+    return [["add-facility", name, kind, str(places), str(price), str(begin), str(end)]]
+
+
+def set_facility_words(office):
+    name = office.facility()
+    it = office.names.facilities[name]
+    words = []
+    for option, text, now in (("--price", "ask new price", it.price), ("--places", "ask new places", it.places)):
+        answer = ask(say(text, now=now) + ": ")
+        words += [f"{option}={answer}"] if answer else []
+    answer = ask(say("ask new opening", now=f"{it.opens}-{it.shuts}") + ": ")
+    hours = read_hours(answer)
+    words += [f"--hours={hours[0]}-{hours[1]}"] if hours else []
+    if not words:
+        raise Back
+    return [["set-facility", name, *words]]
+
+
+def close_words(office):
+    day, hours = office.day(), ask_hours(say("ask hours"))
+    return [["close", day, hours, *office.facilities()]]
+
+
+def rain_words(office):
+    day = office.day()
+    facilities = office.facilities()
+    return [["rain", day, ",".join(facilities), ask_hours(say("ask hours"))]]
+
+
+def reopen_words(office):
+    """One of the slots that are closed."""
+    rows = office.rows("closed")
+    if not rows:
+        print("   " + say("none yet"))
+        raise Back
+    days = sorted({it["day"] for it in rows})
+    day = chosen(say("ask day"), days, lambda it: day_text(datetime.date.fromisoformat(it)))
+    facility = chosen(say("ask facility"), sorted({it["facility"] for it in rows if it["day"] == day}))
+    print("   " + ", ".join(f"{int(it['hour']):02d}:00" for it in rows if (it["day"], it["facility"]) == (day, facility)))
+    return [["reopen-slot", facility, day, ask_hours(say("ask hours"))]]
+
+
+def restore_words(office):
+    rows = office.rows("copies")
+    if not rows:
+        print("   " + say("none yet"))
+        raise Back
+    return [["restore", chosen(say("ask copy"), [it["copy"] for it in rows][::-1])]]
+
+
+def log_words(office):
+    """Of all, or of a word; a part of one member's name is that member."""
+    word = ask(say("ask word") + ": ")
+    fits = found_members(word, office.names)
+    return [["log", *(fits if len(fits) == 1 else [word] if word else [])]]
+
+
+def one(*words):
+    """A task with no question."""
+    return lambda _office: [list(words)]
+
+
+def of_member(command, *more):
+    return lambda office: [[command, office.member(), *more]]
+
+
+def with_points(command, most):
+    return lambda office: [[command, office.member(), office.points(most)]]
+
+
+# In a clerk's order. The last part says whether the command is asked about here: it changes something, and doesn't ask itself.
+TASKS = [
+    Task("group today", "task today", lambda office: [["bookings", str(office.today)]], False),
+    Task("group today", "task sheet", lambda office: [["sheet", office.day()]], False),
+    Task("group today", "task day", lambda office: [["bookings", office.day()]], False),
+    Task("group member", "task member", member_words, False),
+    Task("group member", "task new member", new_member_words, True),
+    Task("group member", "task person", of_member("person"), False),
+    Task("group member", "task key", new_key_words, True),
+    Task("group member", "task lost", lost_words, True),
+    Task("group member", "task letters", letters_words, False),
+    Task("group member", "task quota", lambda office: [["set-quota", office.member(), str(ask_number(say("ask quota"), 0, 99))]], False),
+    Task("group member", "task leave", of_member("leave"), False),
+    Task("group bookings", "task bookings", of_member("bookings"), False),
+    Task("group bookings", "task book", book_words, True),
+    Task("group bookings", "task call off", call_off_words, True),
+    Task("group bookings", "task cancel", cancel_words, False),
+    Task("group bookings", "task record", lambda office: [["record", key_of(office)]], False),
+    Task("group points", "task credit", with_points("credit", 1_000_000), True),
+    Task("group points", "task debit", lambda office: [["debit", office.member(), office.points(999_999_999)]], False),
+    Task("group points", "task balances", one("members"), False),
+    Task("group points", "task money", of_member("money"), False),
+    Task("group courts", "task facilities", one("facilities"), False),
+    Task("group courts", "task facility", lambda office: [["bookings", office.facility()]], False),
+    Task("group courts", "task new facility", new_facility_words, True),
+    Task("group courts", "task set facility", set_facility_words, False),
+    Task("group tournament", "task close", close_words, False),
+    Task("group tournament", "task rain", rain_words, False),
+    Task("group tournament", "task closed", one("closed"), False),
+    Task("group tournament", "task reopen", reopen_words, False),
+    Task("group season", "task credit all", credit_all_words, False),
+    Task("group season", "task training", training_words, False),
+    Task("group season", "task import", lambda _office: [["import", until_read(say("ask file"), lambda typed: typed, "")]], False),
+    Task("group season", "task new year", one("new-year"), False),
+    Task("group season", "task report", one("report"), False),
+    Task("group season", "task page", one("page"), False),
+    Task("group copies", "task copies", one("copies"), False),
+    Task("group copies", "task restore", restore_words, False),
+    Task("group copies", "task undo", one("undo"), False),
+    Task("group copies", "task log", log_words, False),
+    Task("group copies", "task check", one("check"), False),
+]
+
+
+def menu_lines():
+    """The menu: in two columns of a terminal of 80, each group below its heading."""
+    blocks = []
+    for number, task in enumerate(TASKS, 1):
+        if not blocks or blocks[-1][0] != say(task.group):
+            blocks.append([say(task.group)])
+        blocks[-1].append(f"{number:2} {say(task.called)}")
+    total = sum(map(len, blocks))
+    left = []
+    while blocks and len(left) + len(blocks[0]) <= (total + 1) // 2 + 1:
+        left += blocks.pop(0)
+    right = [line for block in blocks for line in block]
+    width = max(len(it) for it in left) + 4
+    right += [""] * (len(left) - len(right))
+    left += [""] * (len(right) - len(left))
+    return [f"{one.ljust(width)}{other}".rstrip() for one, other in zip(left, right)]
+
+
+def task_named(answer):
+    """The task of a number, or of a part of what it is called; None if there is none, or several."""
+    if answer.isdigit():
+        return TASKS[int(answer) - 1] if 0 < int(answer) <= len(TASKS) else None
+    fits = [task for task in TASKS if plain(answer) in plain(say(task.called))]
+    whole = [task for task in fits if plain(answer) == plain(say(task.called))]
+    return (whole or fits)[0] if len(whole or fits) == 1 else None
+
+
+def carry_out(office, task):
+    office.begin()
+    commands = task.words(office)
+    for words in commands:
+        print("\n   " + shlex.join(["office", office.club.name, *words]))
+    if task.is_asked and means("no", ask(say("do it"))):
+        raise Back
+    for words in commands:
+        done = subprocess.run([sys.executable, "-I", SELF, office.club.name, *words], check=False)
+        if done.returncode:
+            return
+        if "--to" in words:
+            print("   " + say("pass is in", file=words[words.index("--to") + 1]))
+
+
+def menu(club, names):
+    """Asks for tasks until the clerk ends. Returns the status."""
+    with contextlib.suppress(ImportError):
+        importlib.import_module("readline")  # so that a line can be edited
+    office = Office(club, names)
+    while True:
+        print("\n" + say("menu", club=club.name, day=day_text(datetime.date.today())), *menu_lines(), say("menu ends"), sep="\n")
+        try:
+            answer = ask(say("task"))
+            if not answer:
+                return 0
+        except Back:
+            return 0
+        task = task_named(answer)
+        if not task:
+            print(say("no task"))
+            continue
+        try:
+            carry_out(office, task)
+        except (Back, KeyboardInterrupt):
+            print(say("back"))
+        try:
+            ask(say("enter"))
+        except Back:
+            return 0

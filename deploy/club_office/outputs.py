@@ -1,0 +1,84 @@
+"""What the desk's side makes of a copy for others: a key's bookings as its page reads them, the page's list of the club, the board's page."""
+
+import datetime
+import os
+import sys
+
+from club_office.closures import add_reasons, closures_of, reasons_of
+from club_office.clubs import clock
+from club_office.copies import snapshot, synced
+from club_office.faults import STORAGE, Fault, refusal
+from club_office.lists import wants_row
+from club_office.page import page_of, wants_rule
+from club_office.report import report_of
+
+RECORD = """
+    SELECT printf('%d %s %s %02d guests %d charge %d left %d', number, facility, date(day * 86400, 'unixepoch'), hour, guests, charge, remains)
+        || CASE cancelled WHEN 1 THEN ' refund ' || refund ELSE '' END
+    FROM bookings WHERE pass_key = ? ORDER BY day, hour, facility, number
+"""
+
+
+def print_record(db, words, _now):
+    """The bookings of a key as the page takes them under "Bring a list here"."""
+    wants_row(db, "keys", words.key)
+    print(f"record of {words.key}", *(row[0] for row in db.execute(RECORD, [words.key])), sep="\n")
+
+
+def make_page(club, _words):
+    print(f"{write_page(club)}: done")
+    return 0
+
+
+def write_page(club):
+    """Makes club.json anew, whole or not at all, in the folder PAGES of the configuration; returns its path."""
+    folder, zone = club.settings.get("pages"), club.settings.get("zone_name")
+    if not folder or not zone:
+        raise refusal(f"the configuration of {club.name} has no lines PAGES=FOLDER and ZONE_NAME=ZONE, as /var/www/{club.name} and Europe/Berlin")
+    wants_rule(zone, club.zone)
+    titles = club.settings.get("titles")
+    with snapshot(club) as db:
+        closures = closures_of(db, reasons_of(club), clock() // 1440)
+        text = page_of(db, club.title, zone, titles if titles and os.path.exists(titles) else None, closures)
+    place = os.path.join(folder, "club.json")
+    made = f"{place}.new"
+    try:
+        with open(made, "w", encoding="utf-8") as file:
+            os.fchmod(file.fileno(), 0o644)
+            file.write(text)
+            file.flush()
+            os.fsync(file.fileno())
+        os.rename(made, place)
+        synced(folder)
+    except OSError as fault:
+        raise Fault(STORAGE, f"storage failed: {place} can't be written: {fault}") from None
+    return place
+
+
+def keep_reasons(club, words):
+    """Keeps why slots were closed. They are closed, whatever comes of it."""
+    try:
+        add_reasons(club, words, clock() // 1440)
+    except OSError as fault:
+        print(f"the reason can't be written: {fault}", file=sys.stderr)
+
+
+def page_again(club):
+    """Makes the page's list anew after what it shows has changed, if the club has pages. What was ordered is done, whatever comes of it."""
+    if not club.settings.get("pages"):
+        return
+    try:
+        write_page(club)
+    except Fault as fault:
+        print(f"the page still shows the club of before: {fault}", file=sys.stderr)
+
+
+def print_report(club, words):
+    """The board's page of a year, on standard output."""
+    today = datetime.date.today()
+    with snapshot(club) as db:
+        year = words.year or today.year
+        if year > today.year:
+            raise refusal(f"{year} is to come")
+        sys.stdout.write(report_of(club, db, year, today, not words.no_names))
+    return 0

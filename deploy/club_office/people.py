@@ -1,0 +1,133 @@
+"""Persons: of members their names as they are written, their mail addresses and telephone numbers, in FILE-people.csv beside the club, whose
+mode and owner it has. Nothing of it is in the book, in an argument of a process, or in a copy of the club."""
+
+import collections
+import contextlib
+import csv
+import json
+import os
+import re
+import subprocess
+import sys
+
+from club_office.book import Turn
+from club_office.clubs import back_up_program, wants_file
+from club_office.copies import snapshot, synced
+from club_office.faults import bad_value
+from club_office.lists import wants_row
+from club_office.texts import say
+
+Person = collections.namedtuple("Person", "name mail telephone")
+NOBODY = Person("", "", "")
+MOST_LETTERS = 100
+
+
+def people_of(club):
+    return club.settings["file"] + "-people.csv"
+
+
+def read_people(club):
+    """Each person by its member's name; nobody if there is no file."""
+    with contextlib.suppress(FileNotFoundError), open(people_of(club), encoding="utf-8", newline="") as file:
+        rows = csv.DictReader(file)
+        return {row["member"]: Person(*(row.get(it) or "" for it in Person._fields)) for row in rows if row.get("member")}
+    return {}
+
+
+def write_people(club, people):
+    made = people_of(club) + ".new"
+    with open(os.open(made, os.O_WRONLY | os.O_CREAT | os.O_TRUNC, 0o600), "w", encoding="utf-8", newline="") as file:
+        rows = csv.writer(file, lineterminator="\n")
+        rows.writerow(["member", *Person._fields])
+        rows.writerows([member, *person] for member, person in sorted(people.items()))
+        file.flush()
+        os.fsync(file.fileno())
+    os.rename(made, people_of(club))
+    synced(os.path.dirname(club.file))
+
+
+def person_of(values):
+    """A person of what was typed or imported, each value in a line; one that isn't so is a bad value."""
+    found = Person(*(" ".join(str(values.get(it) or "").split()) for it in Person._fields))
+    for it in found:
+        if len(it) > MOST_LETTERS or not it.isprintable():
+            raise bad_value(f"a name, mail address or telephone number has more than {MOST_LETTERS} letters, or one that isn't printed")
+    if found.mail and not re.fullmatch(r"[^@\s<>,;\"]+@[A-Za-z0-9.-]+", found.mail):
+        raise bad_value("the mail address is none")
+    if found.telephone and not re.fullmatch(r"[0-9 +()/.-]+", found.telephone):
+        raise bad_value("the telephone number is none: digits, spaces and +()/.-")
+    return found
+
+
+def set_person(club, words):
+    """Keeps what standard input has of a member, as JSON. The book has the member alone."""
+    wants_file(club)
+    try:
+        values = json.loads(sys.stdin.buffer.read(10_000))
+    except ValueError:
+        raise bad_value("standard input has no person") from None
+    person = person_of(values if isinstance(values, dict) else {})
+
+    def act():
+        with snapshot(club) as db:
+            wants_row(db, "members", words.member)
+        keep_person(club, words.member, person)
+        return 0
+
+    with Turn(club) as turn:
+        status = turn.order(["person", words.member], act)
+    print("done")
+    return status
+
+
+def keep_person(club, member, person):
+    """Wants the turn."""
+    people = read_people(club)
+    people[member] = person
+    write_people(club, {it: about for it, about in people.items() if about != NOBODY})
+
+
+def forget_person(club, member):
+    """A member who leaves is no person here any more. Wants the turn."""
+    people = read_people(club)
+    if people.pop(member, None):
+        write_people(club, people)
+
+
+def show_person(club, words):
+    found = read_people(club).get(words.member, NOBODY)
+    json.dump(found._asdict(), sys.stdout)
+    return 0
+
+
+# ---- Whom a correction concerns.
+
+
+def concerned_text(person):
+    return "  ".join(it for it in person if it)
+
+
+def show_concerned(club, members):
+    """Lists the persons whom a correction concerns, as far as they are known, so that somebody tells them."""
+    people = read_people(club)
+    known = [people[it] for it in dict.fromkeys(members) if it in people]
+    if known:
+        print(say("to tell"), *(f"    {concerned_text(it)}" for it in known), sep="\n")
+
+
+def mail_concerned(club, bookings, slot_text):
+    """Mails each of these persons what was cancelled, by the machine's mailer; says who has no address, and what couldn't be mailed."""
+    people, of_member = read_people(club), collections.defaultdict(list)
+    for it in bookings:
+        of_member[it.member].append(it)
+    mailer = os.path.join(os.path.dirname(back_up_program()), "send_mail")
+    for member, its in of_member.items():
+        person = people.get(member, NOBODY)
+        if not person.mail:
+            print(say("no mail", name=person.name or member))
+            continue
+        lines = "\n".join(f"- {slot_text(it.facility, it.day, it.hour)}" for it in its)
+        text = say("mail text", name=person.name or member, lines=lines, points=sum(it.charge for it in its), club=club.title)
+        done = subprocess.run([mailer, person.mail, say("mail subject", club=club.title)], input=text, text=True, capture_output=True, check=False)
+        is_sent = done.returncode == 0 and not done.stderr
+        print(say("mailed" if is_sent else "not mailed", name=person.name or member))

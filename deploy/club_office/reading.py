@@ -1,0 +1,161 @@
+"""Readers of what a clerk types: parts of names, days, hours, several facilities. They give what the commands take, or None."""
+
+import collections
+import datetime
+import re
+import unicodedata
+
+from club_office.texts import MONTHS, WEEKDAYS
+
+LETTERS = {"ä": "ae", "ö": "oe", "ü": "ue", "ß": "ss", "æ": "ae", "ø": "oe", "å": "aa", "œ": "oe", "đ": "d", "ł": "l", "þ": "th", "ð": "d"}
+# What the readers know of a club: of each member what it was credited, its balance and quota; of each key its member and whether it is
+# revoked; of each facility its kind, hours, places and price; the members' names as they are written, as far as they are known.
+Names = collections.namedtuple("Names", "members keys facilities written")
+Member = collections.namedtuple("Member", "credited balance quota")
+Key = collections.namedtuple("Key", "member revoked")
+Facility = collections.namedtuple("Facility", "kind opens shuts places price")
+
+
+def plain(text):
+    """The text in small letters without accents, as names are made of it."""
+    text = "".join(LETTERS.get(letter, letter) for letter in unicodedata.normalize("NFC", text.strip()).lower())
+    return "".join(letter for letter in unicodedata.normalize("NFKD", text) if not unicodedata.combining(letter))
+
+
+def fitted(text, most):
+    """A name of a text: small letters, digits and hyphens, at most so many."""
+    return re.sub(r"[^a-z0-9]+", "-", plain(text)).strip("-")[:most].strip("-")
+
+
+def loose(text):
+    """Without the e of an umlaut, so that `muller` is in `mueller`."""
+    return re.sub("([aou])e", r"\1", text)
+
+
+def found(typed, names):
+    """Those of the names that have each part of what was typed; the name alone that is just so."""
+    if typed in names:
+        return [typed]
+    parts = re.findall("[a-z0-9]+", plain(typed))
+    if not parts:
+        return []
+    whole = "-".join(parts)
+    if whole in names:
+        return [whole]
+    for made in (lambda text: text, loose):
+        fits = [it for it in names if all(made(part) in made(it) for part in parts)]
+        if fits:
+            return sorted(fits, key=lambda it: (not any(word.startswith(made(parts[0])) for word in made(it).split("-")), it))
+    return []
+
+
+def found_members(typed, names):
+    """The members who are meant, by their names or by those that are written of them."""
+    fits = found(typed, names.members)
+    parts = re.findall("[a-z0-9]+", plain(typed))
+    if typed in fits or not parts:
+        return fits
+    written = [it for it, name in names.written.items() if it in names.members and all(part in plain(name) for part in parts)]
+    return list(dict.fromkeys([*fits, *written]))
+
+
+# ---- Days.
+
+NEAR = {
+    "today": 0, "heute": 0, "now": 0, "tomorrow": 1, "morgen": 1, "uebermorgen": 2, "yesterday": -1, "gestern": -1, "vorgestern": -2,
+}
+
+
+def read_day(text, today):
+    """The day that a text means, today being known; None if it means none. A weekday is the next of its name, today's included; a day of
+    a month the next such."""
+    text = plain(text).rstrip(",")
+    if text in NEAR:
+        return today + datetime.timedelta(NEAR[text])
+    if re.fullmatch(r"[+-][0-9]{1,4}", text):
+        return today + datetime.timedelta(int(text))
+    if len(text) >= 2 and text.isalpha():
+        for language in WEEKDAYS.values():
+            for place, weekday in enumerate(language):
+                if plain(weekday).startswith(text):
+                    return today + datetime.timedelta((place - today.weekday()) % 7)
+    try:
+        return dated(text, today)
+    except ValueError:
+        return None
+
+
+def dated(text, today):
+    """As 2026-12-05, 5.12., 5.12.2026, 5 December, or 5. Dezember 2026."""
+    if re.fullmatch(r"[0-9]{4}-[0-9]{2}-[0-9]{2}", text):
+        return datetime.date.fromisoformat(text)
+    parts = re.fullmatch(r"([0-9]{1,2})\. ?([0-9]{1,2})\.? ?([0-9]{4}|[0-9]{2})?", text)
+    if parts:
+        return next_of(today, int(parts[1]), int(parts[2]), parts[3])
+    parts = re.fullmatch(r"([0-9]{1,2})\.? ([a-z]{3,})\.? ?([0-9]{4})?", text)
+    if parts:
+        month = next((n for names in MONTHS.values() for n, it in enumerate(names, 1) if plain(it).startswith(parts[2]) or loose(plain(it)).startswith(parts[2])), 0)
+        return next_of(today, int(parts[1]), month, parts[3])
+    raise ValueError
+
+
+def next_of(today, day, month, year):
+    if year:
+        return datetime.date(int(year) + (2000 if len(year) == 2 else 0), month, day)
+    for candidate in range(today.year, today.year + 5):  # the 29th of February isn't in each year
+        try:
+            made = datetime.date(candidate, month, day)
+        except ValueError:
+            continue
+        if made >= today:
+            return made
+    raise ValueError
+
+
+# ---- Hours, facilities.
+
+
+def read_hours(text):
+    """The hours that a text means, as 15-17, 15, 15:00-17:00 or 15 Uhr: the first, and the one after the last; None if it means none."""
+    text = re.sub(r"(:00|uhr|h)\b|\s", "", text.strip().lower()).replace("–", "-").replace("bis", "-").replace("to", "-")
+    parts = re.fullmatch(r"([0-9]{1,2})(?:-([0-9]{1,2}))?", text)
+    if not parts:
+        return None
+    begin = int(parts[1])
+    end = int(parts[2]) if parts[2] else begin + 1
+    return (begin, end) if begin < end <= 24 else None
+
+
+ALL = ("all", "alle", "alles", "*")
+KINDS = {
+    "court": ("court", "courts", "platz", "plaetze", "platze"),
+    "boat": ("boat", "boats", "boot", "boote"),
+    "room": ("room", "rooms", "raum", "raeume", "raume"),
+}
+
+
+def is_group(word):
+    """Whether a word stands for all facilities, or for those of a kind."""
+    return plain(word) in ALL or any(plain(word) in called for called in KINDS.values())
+
+
+def read_facilities(text, facilities):
+    """The facilities that a text means: `all`, those of a kind as `all courts`, or parts of names with commas or spaces between them. Each
+    part gives a list of those that fit it; one that fits several isn't decided here."""
+    words = [it for it in re.split(r"[\s,]+", text.strip()) if it]
+    if all(plain(it) in ALL for it in words) and words:
+        return [[it] for it in facilities]
+    if len(words) > 1 and plain(words[0]) in ALL:
+        words = words[1:]
+    # One name with a space in it, as `court 1`.
+    whole = found(text, facilities) if "," not in text and not all(it in facilities for it in words) else []
+    if len(whole) == 1:
+        return [whole]
+    lists = []
+    for word in words:
+        kind = next((kind for kind, called in KINDS.items() if plain(word) in called), None)
+        if word not in facilities and kind:
+            lists += [[it] for it, about in facilities.items() if about.kind == kind]
+        else:
+            lists.append(found(word, facilities))
+    return lists

@@ -1,0 +1,95 @@
+"""The season's points: a credit of every member, under a name by which it is given once, however often it is asked for.
+
+A line of FILE-seasons is written before and after each member's credit, so a run that was broken off goes on where it was."""
+
+import collections
+import os
+
+from club_office.asking import confirms, show_lines
+from club_office.book import Turn, add_line, refuse
+from club_office.clubs import clubdesk, wants_file
+from club_office.copies import snapshot
+from club_office.faults import STORAGE, Fault, refusal
+from club_office.texts import say
+
+Step = collections.namedtuple("Step", "label member points before is_done")
+WHOLE = "*"
+
+
+def ledger_of(club):
+    return club.file + "-seasons"
+
+
+def steps_of(club, label):
+    """What was begun and done under a name: of each member the last step, and of all members together."""
+    found = {}
+    try:
+        with open(ledger_of(club), encoding="ascii") as lines:
+            for line in lines:
+                words = line.split()
+                if len(words) == 5 and words[0] == label:
+                    found[words[1]] = Step(*words[:2], int(words[2]), int(words[3]), words[4] == "done")
+    except FileNotFoundError:
+        pass
+    return found
+
+
+def note(club, label, member, points, before, state):
+    add_line(ledger_of(club), f"{label} {member} {points} {before} {state}")
+
+
+def wanted(club, words):
+    """The members who are still to be credited, each with its credit of now. Members who left, and keys of screens, have a quota of 0."""
+    steps = steps_of(club, words.label)
+    if WHOLE in steps:
+        raise refusal(f"{words.label} was given already: {steps[WHOLE].points} points to each of {steps[WHOLE].before} members")
+    other = next((it.points for it in steps.values() if it.points != words.points), None)
+    if other:
+        raise refusal(f"{words.label} was begun with {other} points")
+    with snapshot(club) as db:
+        rows = db.execute("SELECT name, credited FROM members WHERE quota > 0 ORDER BY name").fetchall()
+    left = []
+    for member, credited in rows:
+        step = steps.get(member)
+        if step and not step.is_done and credited not in (step.before, step.before + words.points):
+            raise refusal(f"{member} was credited otherwise since {words.label} was broken off: look at `log {member}`, and write it into {ledger_of(club)}")
+        if not step or not step.is_done and credited == step.before:
+            left.append((member, credited))
+    return left, len(rows)
+
+
+def credit_all(club, words):
+    """Credits each member that may book. Given again after a stop it goes on; once all are done it is refused."""
+    wants_file(club)
+    try:
+        left, count = wanted(club, words)
+    except Fault as fault:
+        refuse(club, words, fault)
+    if not words.yes:
+        show_lines([say("credits all", members=len(left), points=words.points, total=len(left) * words.points, label=words.label)])
+        if len(left) < count:
+            show_lines([say("credited before", count=count - len(left))])
+        if not confirms():
+            refuse(club, words, refusal(say("not confirmed")))
+    with Turn(club) as turn:
+        left, count = wanted(club, words)
+        for member, credited in left:
+            give(club, turn, words, member, credited)
+        note(club, words.label, WHOLE, words.points, count, "done")
+        status = turn.order(words.given, lambda: 0)
+    print(say("credited", count=len(left), points=words.points, label=words.label))
+    return status
+
+
+def give(club, turn, words, member, credited):
+    """A member's credit, between its two lines."""
+    note(club, words.label, member, words.points, credited, "begun")
+    line = ["credit", member, str(words.points)]
+    status = turn.order(line, lambda: clubdesk(club, line[0], line[1:])[0])
+    if status:
+        raise Fault(status if status != 1 else STORAGE, f"{member} isn't credited: status {status}; mend it and give the order again")
+    note(club, words.label, member, words.points, credited, "done")
+
+
+def is_given(club, label):
+    return os.path.exists(ledger_of(club)) and WHOLE in steps_of(club, label)

@@ -1,0 +1,302 @@
+"""What the office says to a clerk, in English and German: a table with a line for each text."""
+
+import os
+
+LANGUAGES = ("en", "de")
+WEEKDAYS = {
+    "en": "Monday Tuesday Wednesday Thursday Friday Saturday Sunday".split(),
+    "de": "Montag Dienstag Mittwoch Donnerstag Freitag Samstag Sonntag".split(),
+}
+MONTHS = {
+    "en": "January February March April May June July August September October November December".split(),
+    "de": "Januar Februar März April Mai Juni Juli August September Oktober November Dezember".split(),
+}
+
+TEXTS = {
+    # Questions and their answers.
+    "yes": ("y yes", "j ja y yes"),
+    "shall": ("Shall this be done? [y/N] ", "Soll das geschehen? [j/N] "),
+    "go on": ("Go on? [y/N] ", "Weiter? [j/N] "),
+    "not confirmed": ("not confirmed; nothing changed", "nicht bestätigt; nichts geändert"),
+    "is past": ("{day} is past.", "{day} ist vorbei."),
+    "is far": (
+        "{day} is {ahead} days ahead: nobody can book it yet, since the desk takes 60.",
+        "{day} ist in {ahead} Tagen: noch bucht das niemand, denn es gehen 60 im Voraus.",
+    ),
+    "is much": (
+        "{points} points are more than ten times the usual {usual}.",
+        "{points} Punkte sind mehr als das Zehnfache der üblichen {usual}.",
+    ),
+    "several fit": ("{typed} may be", "{typed} kann sein"),
+    "which": ("Number, or Enter for none: ", "Nummer, oder Enter für keine: "),
+    "more": ("and {count} more: type more of the name", "und {count} mehr: mehr vom Namen eingeben"),
+    "nobody": ("nobody and nothing is called so", "so heißt niemand und nichts"),
+    "no day": ("no day: as sa, 5.12., +3, tomorrow or 2026-12-05", "kein Tag: etwa sa, 5.12., +3, morgen oder 2026-12-05"),
+    "no hours": ("no hours: as 15 or 15-17", "keine Uhrzeit: etwa 15 oder 15-17"),
+    "no number": ("no number from {least} to {most}", "keine Zahl von {least} bis {most}"),
+    "no name": ("no name", "kein Name"),
+    "taken name": ("there is a {name} already", "{name} gibt es schon"),
+    "none yet": ("there are none", "es gibt keine"),
+    # The menu.
+    "menu": ("The office of {club}, {day}", "Das Büro von {club}, {day}"),
+    "menu ends": (
+        "A number or a word of it; Enter ends. Ctrl-C goes back and changes nothing.",
+        "Nummer oder ein Wort davon; Enter beendet. Strg-C geht zurück, ändert nichts.",
+    ),
+    "task": ("Task: ", "Aufgabe: "),
+    "back": ("back; nothing changed", "zurück; nichts geändert"),
+    "enter": ("Enter for the menu ", "Enter für das Menü "),
+    "no task": ("no task is called so", "so heißt keine Aufgabe"),
+    "do it": ("Do it? [Y/n] ", "Ausführen? [J/n] "),
+    "no": ("n no", "n nein no"),
+    "group today": ("TODAY", "HEUTE"),
+    "group member": ("A MEMBER", "EIN MITGLIED"),
+    "group bookings": ("BOOKINGS", "BUCHUNGEN"),
+    "group points": ("POINTS", "PUNKTE"),
+    "group courts": ("COURTS, BOATS, ROOMS", "PLÄTZE, BOOTE, RÄUME"),
+    "group tournament": ("TOURNAMENT, RAIN", "TURNIER, REGEN"),
+    "group season": ("SEASON", "SAISON"),
+    "group copies": ("COPIES, THE BOOK", "KOPIEN, DAS BUCH"),
+    "task today": ("who comes today", "wer heute kommt"),
+    "task sheet": ("the sheet of a day", "der Zettel eines Tages"),
+    "task day": ("who has booked a day", "wer einen Tag gebucht hat"),
+    "task member": ("what a member has", "was ein Mitglied hat"),
+    "task new member": ("a new member", "ein neues Mitglied"),
+    "task person": ("name, mail, telephone", "Name, E-Mail, Telefon"),
+    "task letters": ("letters with the passes", "Briefe mit den Pässen"),
+    "task book": ("book for a member who calls", "buchen, wenn jemand anruft"),
+    "task call off": ("cancel for a member who calls", "absagen, wenn jemand anruft"),
+    "task record": ("a lost list of bookings", "eine verlorene Buchungsliste"),
+    "task credit all": ("the season's points for all", "Saisonpunkte für alle"),
+    "task training": ("close each week, for training", "jede Woche sperren, fürs Training"),
+    "task report": ("the board's page", "die Seite für den Vorstand"),
+    "task page": ("the page's list anew", "die Liste der Seite neu"),
+    "task undo": ("undo the last correction", "letzte Korrektur zurücknehmen"),
+    "task key": ("one more key, for a device", "ein weiterer Schlüssel, für ein Gerät"),
+    "task lost": ("a lost pass", "ein verlorener Pass"),
+    "task quota": ("how much a member may book", "wie viel ein Mitglied buchen darf"),
+    "task leave": ("a member leaves", "ein Mitglied geht"),
+    "task bookings": ("what a member has booked", "was ein Mitglied gebucht hat"),
+    "task cancel": ("cancel, all points back", "absagen, alle Punkte zurück"),
+    "task credit": ("credit points", "Punkte gutschreiben"),
+    "task debit": ("take points back", "Punkte zurücknehmen"),
+    "task balances": ("balances of all", "alle Punktestände"),
+    "task money": ("a member's points, summed up", "Punkte eines Mitglieds, summiert"),
+    "task facilities": ("all of them", "alle"),
+    "task new facility": ("a new one", "ein neuer"),
+    "task set facility": ("price, places or hours", "Preis, Plätze oder Zeiten"),
+    "task facility": ("who has booked one", "wer einen gebucht hat"),
+    "task close": ("close for a tournament", "sperren für ein Turnier"),
+    "task rain": ("rain: all points back", "Regen: alle Punkte zurück"),
+    "task closed": ("what is closed", "was gesperrt ist"),
+    "task reopen": ("open again", "wieder öffnen"),
+    "task import": ("members from a list", "Mitglieder aus einer Liste"),
+    "task new year": ("a new year", "ein neues Jahr"),
+    "task copies": ("the copies", "die Kopien"),
+    "task restore": ("put a copy in place", "eine Kopie einsetzen"),
+    "task log": ("what was done", "was getan wurde"),
+    "task check": ("are the sums right", "stimmen die Summen"),
+    # What the menu asks.
+    "ask member": ("Member (part of the name)", "Mitglied (Teil des Namens)"),
+    "ask key": ("Key", "Schlüssel"),
+    "ask facility": ("Court, boat or room", "Platz, Boot oder Raum"),
+    "ask facilities": ("Which (parts of names, all, courts, boats, rooms)", "Welche (Teile der Namen, alle, Plätze, Boote, Räume)"),
+    "ask day": ("Day (sa, 5.12., +3, tomorrow)", "Tag (sa, 5.12., +3, morgen)"),
+    "ask first day": ("First day (tue, 5.12., 2027-01-05)", "Erster Tag (di, 5.12., 2027-01-05)"),
+    "ask last day": ("Last day", "Letzter Tag"),
+    "ask hours": ("Hours, as 15-17", "Stunden, etwa 15-17"),
+    "ask hour": ("Hours, as 15 or 15-17", "Stunden, etwa 15 oder 15-17"),
+    "ask guests": ("How many come along", "Wie viele kommen mit"),
+    "ask label": ("A name by which it is given once, as {example}", "Ein Name, unter dem es einmal gilt, etwa {example}"),
+    "ask why": ("Why, for the page", "Warum, für die Seite"),
+    "ask points": ("Points", "Punkte"),
+    "ask new name": ("Name, as written", "Name, wie er geschrieben wird"),
+    "ask name": ("Name as it is written [{now}]: ", "Name, wie er geschrieben wird [{now}]: "),
+    "ask mail": ("Mail address [{now}]: ", "E-Mail [{now}]: "),
+    "ask telephone": ("Telephone [{now}]: ", "Telefon [{now}]: "),
+    "ask quota": ("Open bookings at a time, 0 to 99", "Offene Buchungen zugleich, 0 bis 99"),
+    "ask booking": ("Which booking", "Welche Buchung"),
+    "ask copy": ("Which copy", "Welche Kopie"),
+    "ask file": ("File of the list", "Datei der Liste"),
+    "ask word": ("A word that a line has, or Enter for all", "Ein Wort, das eine Zeile hat, oder Enter für alle"),
+    "ask facility name": ("Short name, as court-3", "Kurzer Name, etwa court-3"),
+    "ask kind": ("Kind: court, boat or room", "Art: court (Platz), boat (Boot) oder room (Raum)"),
+    "ask places": ("Places, 1 to 50: how many persons fit in an hour", "Plätze, 1 bis 50: wie viele Personen in eine Stunde passen"),
+    "ask price": ("Points for a person and hour, 0 to 9999", "Punkte für eine Person und Stunde, 0 bis 9999"),
+    "ask opening": ("Opening hours, as 8-22", "Öffnungszeiten, etwa 8-22"),
+    "ask new price": ("New price, or Enter for {now}", "Neuer Preis, oder Enter für {now}"),
+    "ask new places": ("New number of places, or Enter for {now}", "Neue Zahl der Plätze, oder Enter für {now}"),
+    "ask new opening": ("New opening hours, or Enter for {now}", "Neue Öffnungszeiten, oder Enter für {now}"),
+    "member has": ("{balance} points, {quota} bookings at a time", "{balance} Punkte, {quota} Buchungen zugleich"),
+    "pass is in": ("the pass is in the file {file} of this folder", "der Pass ist in der Datei {file} dieses Ordners"),
+    # What corrections and a restore do.
+    "person": ("1 person", "1 Person"),
+    "persons": ("{count} persons", "{count} Personen"),
+    "cancels": (
+        "cancels {slot}, {persons}, {points} points back: {key} {number}, {member}",
+        "sagt {slot} ab, {persons}, {points} Punkte zurück: {key} {number}, {member}",
+    ),
+    "closes": ("closes {slot}", "sperrt {slot}"),
+    "opens": ("opens {slot} again", "öffnet {slot} wieder"),
+    "quota of": ("quota of {member}: {before}, then {then}", "Buchungen zugleich von {member}: {before}, dann {then}"),
+    "balance of": ("balance of {member}: {before}, then {then}", "Punktestand von {member}: {before}, dann {then}"),
+    "price of": (
+        "price of {facility}: {before}, then {then}; what is booked keeps its charge",
+        "Preis von {facility}: {before}, dann {then}; was gebucht ist, behält seinen Preis",
+    ),
+    "places of": ("places of {facility}: {before}, then {then}", "Plätze von {facility}: {before}, dann {then}"),
+    "hours of": ("hours of {facility}: {before}, then {then}", "Zeiten von {facility}: {before}, dann {then}"),
+    "revokes": ("revokes the key {key}, which becomes {then}", "widerruft den Schlüssel {key}, der zu {then} wird"),
+    "becomes": (
+        "member {member} becomes {then}, with quota 0 and a balance of {balance}",
+        "Mitglied {member} wird {then}, bucht nichts mehr und hat noch {balance} Punkte",
+    ),
+    "copies to": ("copies the file, as it is, to {path}", "kopiert die Datei, wie sie ist, nach {path}"),
+    "takes out": (
+        "takes {bookings} bookings and {slots} slots before {day} out of the file, and keeps {kept} bookings",
+        "nimmt {bookings} Buchungen und {slots} Zeiten vor {day} aus der Datei und behält {kept} Buchungen",
+    ),
+    "carries": (
+        "carries forward {points} points that {keys} keys have spent",
+        "trägt {points} Punkte vor, die {keys} Schlüssel ausgegeben haben",
+    ),
+    "forgets member": ("forgets the member {name}", "vergisst das Mitglied {name}"),
+    "has member": ("has the member {name} again", "hat das Mitglied {name} wieder"),
+    "facility as was": ("the facility {facility} is as it was", "{facility} ist, wie es war"),
+    "nothing to come": ("nothing changes that is to come", "nichts ändert sich, was noch kommt"),
+    "forgets key": ("forgets the key {key}: its passes are refused", "vergisst den Schlüssel {key}: seine Pässe gelten nicht mehr"),
+    "has key": ("has the key {key} again, and its passes", "hat den Schlüssel {key} wieder, und seine Pässe"),
+    "rotated back": (
+        "takes passes of {key} of before it was rotated, and refuses those of after",
+        "nimmt Pässe von {key} von vor seinem Wechsel und keine von danach",
+    ),
+    "revoked again": ("refuses passes of {key}, which is revoked again", "nimmt keine Pässe von {key}, der wieder widerrufen ist"),
+    "revoked now": ("takes passes of {key}, which is revoked now", "nimmt Pässe von {key}, der jetzt widerrufen ist"),
+    "loses": (
+        "loses {slot}, {persons}, {points} points: {key} {number}, {member}",
+        "verliert {slot}, {persons}, {points} Punkte: {key} {number}, {member}",
+    ),
+    "books again": (
+        "books again {slot}, {persons}, {points} points: {key} {number}, {member}",
+        "bucht wieder {slot}, {persons}, {points} Punkte: {key} {number}, {member}",
+    ),
+    # Bookings for a member who calls.
+    "booked": ("booked {slot} for {member}, {persons}, {points} points: {booking}", "{slot} gebucht für {member}, {persons}, {points} Punkte: {booking}"),
+    "called off": ("cancelled {slot} of {member}, {points} points back: {booking}", "{slot} von {member} abgesagt, {points} Punkte zurück: {booking}"),
+    # Persons.
+    "to tell": ("To tell:", "Zu benachrichtigen:"),
+    "no mail": ("{name}: no mail address is known", "{name}: keine E-Mail bekannt"),
+    "mailed": ("{name}: mailed", "{name}: E-Mail verschickt"),
+    "not mailed": ("{name}: couldn't be mailed", "{name}: E-Mail ging nicht"),
+    "mail subject": ("{club}: your booking was cancelled", "{club}: deine Buchung wurde abgesagt"),
+    "mail text": (
+        "Dear {name},\n\nthe office had to cancel what you had booked:\n\n{lines}\n\nYou have {points} points back.\n\n{club}\n",
+        "Hallo {name},\n\ndas Büro musste absagen, was du gebucht hattest:\n\n{lines}\n\nDu hast {points} Punkte zurück.\n\n{club}\n",
+    ),
+    # A list.
+    "list read": ("read as {letters} with {sign} between the columns: {columns}", "gelesen als {letters} mit {sign} zwischen den Spalten: {columns}"),
+    "list over": ("; passed over: {columns}", "; übergangen: {columns}"),
+    # The season's points.
+    "credits all": (
+        "credits {members} members with {points} points each, {total} in all, as {label}; members with quota 0 get none",
+        "schreibt {members} Mitgliedern je {points} Punkte gut, zusammen {total}, als {label}; wer nichts buchen darf, bekommt keine",
+    ),
+    "credited before": ("{count} have them already", "{count} haben sie schon"),
+    "credited": ("{count} members credited with {points} points, as {label}", "{count} Mitgliedern {points} Punkte gutgeschrieben, als {label}"),
+    # Undo.
+    "undoes": ("undoes what was done on {moment}: {words}", "nimmt zurück, was am {moment} getan wurde: {words}"),
+    "puts back": ("puts back {row}", "stellt wieder her: {row}"),
+    "takes away": ("takes away {row}", "entfernt: {row}"),
+    "row members": ("the member {row}", "das Mitglied {row}"),
+    "row facilities": ("the facility {row}", "{row}"),
+    "row keys": ("the key {row}", "den Schlüssel {row}"),
+    "row slots": ("the slot {row}", "die Zeit {row}"),
+    "row bookings": ("the booking {row}", "die Buchung {row}"),
+    "row old_roots": ("the older root of {row}", "die ältere Wurzel von {row}"),
+    # Letters.
+    "letter title": ("Book at {club}", "Buchen bei {club}"),
+    "letter first": (
+        "Your key is called {key}. With it you book and cancel, on a telephone or at a computer.",
+        "Dein Schlüssel heißt {key}. Mit ihm buchst und sagst du ab, auf dem Telefon oder am Rechner.",
+    ),
+    "letter step 1": (
+        "Open the camera of your telephone and hold it over the picture, or open the link below.",
+        "Öffne die Kamera deines Telefons und halte sie auf das Bild, oder öffne den Link darunter.",
+    ),
+    "letter step 2": (
+        "The page asks whether this browser is to keep the pass. On a device of your own: Keep it.",
+        "Die Seite fragt, ob dieser Browser den Pass behalten soll. Auf deinem eigenen Gerät: Behalten.",
+    ),
+    "letter step 3": ("Choose the day, press a free slot, and book.", "Wähle den Tag, drücke auf eine freie Zeit, und buche."),
+    "letter spare": ("A spare key: for a second device, or when the first is lost.", "Ein Ersatzschlüssel: für ein zweites Gerät, oder wenn der erste verloren ist."),
+    "letter care": (
+        "Whoever has this sheet books with your points. Throw it away afterwards, or keep it like the key of your house. For somebody else the"
+        " office makes a key of their own. If you lost this sheet or the telephone, call the office.",
+        "Wer dieses Blatt hat, bucht mit deinen Punkten. Wirf es danach weg oder verwahre es wie einen Hausschlüssel. Für jemand anderen macht"
+        " das Büro einen eigenen Schlüssel. Hast du das Blatt oder das Telefon verloren, ruf das Büro an.",
+    ),
+    "letters made": ("{count} sheets for {members} members are in {file}", "{count} Blätter für {members} Mitglieder sind in {file}"),
+    # The board's page.
+    "report made in": ("the page is in {files}", "die Seite ist in {files}"),
+    "report until": ("{year} to {day} {month}", "{year} bis {day}. {month}"),
+    "report made on": ("made on {day}", "erstellt am {day}"),
+    "report totals": ("The year in numbers", "Das Jahr in Zahlen"),
+    "report made": ("bookings", "Buchungen"),
+    "report cancelled": ("of them cancelled", "davon abgesagt"),
+    "report slots": ("slots used", "genutzte Zeiten"),
+    "report slots before": ("the year before", "im Jahr davor"),
+    "report persons": ("persons", "Personen"),
+    "report active": ("members who booked", "Mitglieder, die gebucht haben"),
+    "report charged": ("points charged", "Punkte berechnet"),
+    "report refunded": ("points refunded", "Punkte erstattet"),
+    "report kept": ("points kept", "Punkte behalten"),
+    "report share": ("use", "Auslastung"),
+    "report heat court": ("Courts by weekday and hour", "Plätze nach Wochentag und Stunde"),
+    "report heat boat": ("Boats by weekday and hour", "Boote nach Wochentag und Stunde"),
+    "report heat room": ("Rooms by weekday and hour", "Räume nach Wochentag und Stunde"),
+    "report heat note": (
+        "Percent of the open slots that somebody used: {share} in all, and {before} in {period}.",
+        "Prozent der offenen Zeiten, die jemand genutzt hat: {share} insgesamt, und {before} in {period}.",
+    ),
+    "report months": ("Points kept, by month", "Behaltene Punkte nach Monat"),
+    "report facilities": ("Each court, boat and room", "Jeder Platz, jedes Boot, jeder Raum"),
+    "report facility": ("name", "Name"),
+    "report kind": ("kind", "Art"),
+    "report court": ("court", "Platz"),
+    "report boat": ("boat", "Boot"),
+    "report room": ("room", "Raum"),
+    "report members": ("The most active members", "Die aktivsten Mitglieder"),
+    "report member": ("member", "Mitglied"),
+    "report held": ("bookings held", "gehaltene Buchungen"),
+    "report place": ("place {place}", "Platz {place}"),
+    # Summaries of corrections.
+    "in all": ("in all: {what}", "zusammen: {what}"),
+    "cancelled": ("{count} bookings cancelled, {points} points back to {members}", "{count} Buchungen abgesagt, {points} Punkte zurück an {members}"),
+    "cancelled one": ("1 booking cancelled, {points} points back to {members}", "1 Buchung abgesagt, {points} Punkte zurück an {members}"),
+    "members": ("{count} members", "{count} Mitglieder"),
+    "slots closed": ("{count} slots closed", "{count} Zeiten gesperrt"),
+    "slots closed one": ("1 slot closed", "1 Zeit gesperrt"),
+    "slots opened": ("{count} slots opened", "{count} Zeiten geöffnet"),
+    "slots opened one": ("1 slot opened", "1 Zeit geöffnet"),
+}
+
+
+def language():
+    """German where the clerk's language is German, else English."""
+    value = next(filter(None, (os.environ.get(it) for it in ("LC_ALL", "LC_MESSAGES", "LANG"))), "")
+    return "de" if value.startswith("de") else "en"
+
+
+def say(text, **values):
+    return TEXTS[text][LANGUAGES.index(language())].format(**values)
+
+
+def means(text, answer):
+    """Whether an answer is one of the words of a text, as `yes`."""
+    return answer.strip().lower() in say(text).split()
+
+
+def day_text(day):
+    """A day as it is read aloud, as Saturday 5 December 2026."""
+    weekday, month = WEEKDAYS[language()][day.weekday()], MONTHS[language()][day.month - 1]
+    return f"{weekday}, {day.day}. {month} {day.year}" if language() == "de" else f"{weekday} {day.day} {month} {day.year}"

@@ -1,0 +1,192 @@
+"""The words of a command as a clerk typed them, made those that the desk's side takes: parts of names at a terminal, days, hours, and
+several facilities in a word."""
+
+import contextlib
+import datetime
+import json
+import re
+import shlex
+import sys
+
+from club_office.asking import Back, chosen, confirms, doubts, is_terminal
+from club_office.counter import as_desk
+from club_office.faults import Fault, refusal
+from club_office.reading import Facility, Key, Member, Names, found, found_members, is_group, read_day, read_facilities, read_hours
+from club_office.texts import day_text, say
+
+
+def names_of(club):
+    """The club's names, of a copy."""
+    status, text = as_desk(club, ["names"])
+    if status:
+        raise Fault(status, "the club can't be read")
+    it = json.loads(text)
+    return Names(
+        {name: Member(*row) for name, row in it["members"].items()},
+        {name: Key(*row) for name, row in it["keys"].items()},
+        {name: Facility(*row) for name, row in it["facilities"].items()},
+        it["written"],
+    )
+
+
+def print_names(db, words, _now):
+    """What names_of reads."""
+    members = db.execute("SELECT name, credited, max(credited - used, 0), quota FROM members ORDER BY name")
+    keys = db.execute("SELECT name, member, revoked FROM keys ORDER BY name")
+    facilities = db.execute("SELECT name, kind, opens, shuts, places, price FROM facilities ORDER BY rowid")
+    named = (("members", members), ("keys", keys), ("facilities", facilities))
+    made = {what: {row[0]: row[1:] for row in rows} for what, rows in named}
+    written = {member: person.name for member, person in words.people.items()}
+    json.dump({**made, "written": written}, sys.stdout)
+
+
+class Reader:
+    """Reads the words of one command. The club's names are read once, if a word wants them."""
+
+    def __init__(self, club, called):
+        self.club, self.called = club, called
+        self.today = datetime.date.today()
+        self.known = None
+        self.is_guessed = False
+
+    @property
+    def names(self):
+        if not self.known:
+            self.known = names_of(self.club)
+        return self.known
+
+    def day(self, word):
+        found_day = read_day(word, self.today)
+        return word if found_day is None else self.echoed(word, str(found_day), day_text(found_day))
+
+    def days(self, word):
+        """A day, or two with .. between them."""
+        return "..".join(map(self.day, word.split("..")))
+
+    def hours(self, word):
+        read = read_hours(word)
+        return f"{read[0]}-{read[1]}" if read and not re.fullmatch("[0-9]{1,2}", word) else word
+
+    def hour(self, word):
+        """One hour alone, as clubdesk takes it."""
+        read = None if word.isdigit() else read_hours(word)
+        return f"{read[0]:02d}" if read and read[1] == read[0] + 1 else word
+
+    def member(self, word):
+        return self.one_of(word, lambda: found_members(word, self.names))
+
+    def key(self, word):
+        return self.one_of(word, lambda: found(word, self.names.keys))
+
+    def facility(self, word):
+        return self.one_of(word, lambda: found(word, self.names.facilities))
+
+    def facilities(self, word):
+        """A facility, or several with commas between them: a kind, or all."""
+        if not is_terminal() and not is_group(word):
+            return word
+        lists = read_facilities(word, self.names.facilities)
+        if not lists or not all(lists):
+            return word
+        named = [fits[0] if len(fits) == 1 else self.choice(word, fits) for fits in lists]
+        return self.echoed(word, ",".join(dict.fromkeys(named)))
+
+    def what(self, word):
+        """A day, a member or a facility."""
+        if read_day(word, self.today) and not (word.isalpha() and word in {*self.names.members, *self.names.facilities}):
+            return self.day(word)
+        return self.one_of(word, lambda: list(dict.fromkeys([*found_members(word, self.names), *found(word, self.names.facilities)])))
+
+    def one_of(self, word, fitting):
+        """A name of which the word is a part. Without a terminal a word is the name itself: nobody is there to see which is meant."""
+        if not is_terminal():
+            return word
+        fits = fitting()
+        if not fits:
+            return word
+        name = fits[0] if len(fits) == 1 else self.choice(word, fits)
+        self.is_guessed |= name != word
+        return self.echoed(word, name)
+
+    def choice(self, word, fits):
+        try:
+            return chosen(word, fits)
+        except Back:
+            raise refusal(say("not confirmed")) from None
+
+    def echoed(self, word, read, text=None):
+        """Says how a word was read, if that isn't what was typed. Other output is the command's own."""
+        if read != word and is_terminal():
+            print(f"{word}: {text or read}", file=sys.stderr)
+        return read
+
+
+# What a word of a command is called, and how it is read.
+READS = {
+    "MEMBER": Reader.member, "KEY": Reader.key, "FACILITY": Reader.facility, "FACILITIES": Reader.facilities, "DAY": Reader.day, "DAYS": Reader.days,
+    "HOURS": Reader.hours, "HOUR": Reader.hour, "MEMBER|DAY|FACILITY": Reader.what,
+}
+# A command that makes a key of a new name, which is read as it stands.
+MAKES_A_KEY = ("add-key", "letters")
+
+
+def places_of(command):
+    """What the words without a dash are called, in their order, and whether the last of them is repeated; the options that have a value."""
+    called, is_repeated, takes_value = [], False, set()
+    for place, how in command.words:
+        if place.startswith("-"):
+            takes_value |= set() if how.get("action") else {place}
+        else:
+            called.append(how["metavar"])
+            is_repeated = how.get("nargs") == "+"
+    return called, is_repeated, takes_value | {"--at"}
+
+
+def read_words(reader, command, words):
+    """The words of a command, each as the desk's side takes it; options stay as they are, but for a day."""
+    called, is_repeated, takes_value = places_of(command)
+    made, place, option, is_over = [], 0, None, False
+    for word in words:
+        if option:
+            made.append(reader.day(word) if option == "--before" else word)
+            option = None
+        elif word.startswith("-") and not is_over and not re.fullmatch("-[0-9]+", word):
+            is_over = word == "--"
+            option = word if word in takes_value else None
+            made.append(word)
+        else:
+            what = called[min(place, len(called) - 1) if is_repeated else place] if is_repeated or place < len(called) else ""
+            is_new = what == "KEY" and reader.called in MAKES_A_KEY
+            made.append(word if is_new or what not in READS else READS[what](reader, word))
+            place += 1
+    return made
+
+
+def usual_points(names):
+    """The points that are in the middle of what the members were credited, of those who were; 0 if nobody was."""
+    credited = sorted(it.credited for it in names.members.values() if it.credited)
+    return credited[len(credited) // 2] if credited else 0
+
+
+# Commands that close what members could book, and the place of the day among their words.
+DAY_AT = {"close": 0, "close-slot": 1}
+
+
+def confirms_odd(reader, called, words, is_order):
+    """Asks about what is odd: a day that is over or far, many points, and an order whose names were guessed, since it doesn't ask itself."""
+    odd = []
+    plain = [it for it in words if not it.startswith("--")]
+    with contextlib.suppress(KeyError, IndexError, ValueError):
+        odd.append(doubts(datetime.date.fromisoformat(plain[DAY_AT[called]]), reader.today))
+    if called == "credit" and len(plain) == 2 and plain[1].isdigit():
+        usual = usual_points(reader.names)
+        if usual and int(plain[1]) > 10 * usual:
+            odd.append(say("is much", points=plain[1], usual=usual))
+    odd = [it for it in odd if it]
+    is_guessed = is_order and reader.is_guessed
+    if is_guessed:
+        odd.append(shlex.join(["office", reader.club.name, called, *words]))
+    for it in odd:
+        print(it)
+    if odd and not confirms("go on"):
+        raise refusal(say("not confirmed"))

@@ -1,0 +1,186 @@
+#!/usr/bin/env -S /usr/bin/python3 -B
+"""The office by questions, at a terminal of its own, as a clerk who knows no command: each task of a week and of a season's start by the
+menu alone, in English and in German, and what each changed by the tables. Parts of names, days and hours as people write them, also in the
+words of commands; two members that fit; what is odd is asked about; Ctrl-C in each question changes nothing; and without a terminal a part
+of a name is none. Wants root, for a machine of its own (tests/office_room.sh). Not part of the gate.
+"""
+# groups: package root
+# wants: sudo sqlite3 openssl util-linux bsdutils iproute2 systemd python3-psutil python3-pexpect
+
+import datetime
+import time
+
+import pexpect
+
+from office_room import Service, configure, done, everything, leave, office, rows, run_as, same, whole
+
+TODAY = datetime.date.today()
+ENTER = ""
+
+
+class Terminal:
+    """office at a terminal of 80 columns, in a language."""
+
+    def __init__(self, *words, language="C.UTF-8"):
+        line = ["-u", "anna", "--", "env", f"LANG={language}", "TERM=dumb", "office", *words]
+        self.it = pexpect.spawn("runuser", line, cwd="/home/anna", encoding="utf-8", timeout=90, dimensions=(50, 80))
+        self.shown = ""
+
+    def answers(self, *pairs):
+        """Waits for each question, a pattern, and answers it. An answer of None is Ctrl-C."""
+        for question, answer in pairs:
+            try:
+                self.it.expect(question)
+            except (pexpect.TIMEOUT, pexpect.EOF):
+                same(f"the question {question!r}", self.it.before[-1500:], question)
+                raise
+            self.shown += self.it.before + self.it.after
+            if answer is None:
+                time.sleep(0.5)  # so that the whole question is there, and its answer awaited
+                self.it.sendintr()
+            else:
+                self.it.sendline(answer)
+
+    def ends(self):
+        self.it.expect(pexpect.EOF)
+        self.shown += self.it.before
+        self.it.close()
+        return self.it.exitstatus
+
+    def has(self, what, *texts):
+        same(f"{what}: what is shown", [text for text in texts if text not in self.shown.replace("\r", "")], [])
+
+
+def task(called, *pairs, language="C.UTF-8", begin="Task: ", end="Enter for"):
+    """A task of the menu, by its name, and the end of the menu."""
+    terminal = Terminal("club", language=language)
+    terminal.answers((begin, called), *pairs, (end, ENTER), (begin, ENTER))
+    same(f"{called}: the status of the menu", terminal.ends(), 0)
+    return terminal
+
+
+def make_club():
+    configure()
+    done("new")
+    for words in ("add-facility court-1 court 4 200 8 22", "add-facility court-2 court 4 200 8 22", "add-facility boat-1 boat 2 50 6 20",
+                  "add-member baecker-karin 5", "add-member baecker-karl 5", "add-member mueller-bob 2", "credit baecker-karin 5000",
+                  "credit baecker-karl 5000", "credit mueller-bob 5000", "add-key mueller-bob-1 mueller-bob"):
+        done(*words.split())
+
+
+def week():
+    """The tasks of a week."""
+    shown = task("a new member", ("Name", "Özdemir, Ayşe"), ("Open bookings", "5"), ("Points", "3000"), ("Do it", ENTER))
+    shown.has("a new member", "-> oezdemir-ayse", "office club add-member oezdemir-ayse 5", "office club credit oezdemir-ayse 3000",
+              "the pass is in the file oezdemir-ayse-1")
+    same("a new member", rows("SELECT name, credited, quota FROM members WHERE name = 'oezdemir-ayse'"), [("oezdemir-ayse", 3000, 5)])
+    root = rows("SELECT hex(root) FROM keys WHERE name = 'oezdemir-ayse-1'")[0][0]
+    same("her pass", run_as("anna", "sh", "-c", f"passtool verify --root {root} <oezdemir-ayse-1")[1], "signed\n")
+    shown = task("credit points", ("Member", "bäck kar"), ("Number", "2"), ("Points", "1.000"), ("Do it", "y"))
+    shown.has("a credit", "bäck kar may be", " 1 baecker-karin", " 2 baecker-karl", "office club credit baecker-karl 1000", "done")
+    same("a credit", rows("SELECT credited FROM members WHERE name = 'baecker-karl'"), [(6000,)])
+    shown = task("a lost pass", ("Member", "muller"), ("Do it", ENTER))
+    shown.has("a lost pass", f"the pass is in the file mueller-bob-1-{TODAY}")
+    task("take points back", ("Member", "karin"), ("Points", "250"), ("Shall", "y"))
+    same("points taken back", rows("SELECT credited FROM members WHERE name = 'baecker-karin'"), [(4750,)])
+    day = TODAY + datetime.timedelta(3)
+    shown = task("close for", ("Day", "+3"), ("Hours", "10-12"), ("Which", "all courts"), ("Shall", "y"))
+    shown.has("a tournament", f"-> {day:%A} {day.day} {day:%B} {day.year}", f"office club close {day} 10-12 court-1 court-2", "in all: 4 slots closed")
+    same("closed slots", len(rows("SELECT * FROM slots WHERE closed = 1")), 4)
+    task("open again", ("Number", "1"), ("Number", "2"), ("Hours", "10-12"), ("Shall", "y"))
+    same("opened slots", rows("SELECT facility, count(*) FROM slots WHERE closed = 1 GROUP BY facility"), [("court-1", 2)])
+    task("price, places", ("Court", "court 2"), ("price", "250"), ("places", ENTER), ("opening", "7 bis 22"), ("Shall", "y"))
+    same("a price", rows("SELECT price, opens, places FROM facilities WHERE name = 'court-2'"), [(250, 7, 4)])
+    task("may book", ("Member", "bob"), ("Open", "7"), ("Shall", "y"))
+    same("a quota", rows("SELECT quota FROM members WHERE name = 'mueller-bob'"), [(7,)])
+    for called, pairs, text in (("what a member has", [("Member", "karl")], "office club money baecker-karl"), ("balances of all", [], "mueller-bob"),
+                                ("what is closed", [], str(day)), ("are the sums", [], "the totals are the sums"), ("who comes", [], "day  hour"),
+                                ("what was done", [("A word", "bob")], "set-quota mueller-bob 7"), ("the copies", [], "before a correction")):
+        task(called, *pairs).has(called, text)
+
+
+def in_german():
+    shown = task("gutschreiben", ("Mitglied", "Ayşe"), ("Punkte", "500"), ("Ausführen", "j"), language="de_DE.UTF-8", begin="Aufgabe: ", end="Enter für")
+    shown.has("a credit in German", "Das Büro von club", "office club credit oezdemir-ayse 500", "EIN MITGLIED")
+    day = TODAY + datetime.timedelta((5 - TODAY.weekday()) % 7)
+    shown = task("Turnier", ("Tag", "sa"), ("Stunden", "15"), ("Welche", "Boote"), ("Soll", "n"), language="de_DE.UTF-8", begin="Aufgabe: ", end="Enter für")
+    shown.has("a tournament in German", f"-> Samstag, {day.day}. ", f"sperrt boat-1 {day} 15:00", "nicht bestätigt; nichts geändert")
+    same("every line fits 80 columns", [it for it in shown.shown.replace("\r", "").split("\n") if len(it) > 80], [])
+
+
+def what_is_odd():
+    """A day that is over or far, and points above ten times the usual, are asked about, in the menu and in words."""
+    before = everything()
+    for words, text in ((["close", "-1", "10", "court-1"], "is past"), (["close", "+100", "10", "court-1"], "100 days ahead"),
+                        (["credit", "mueller-bob", "90000"], "more than ten times the usual")):
+        terminal = Terminal("club", *words)
+        terminal.answers(("Go on", "n"))
+        same(f"{words}: the status", terminal.ends(), 1)
+        terminal.has(f"{words}", text, "not confirmed")
+    same("nothing is changed", everything(), before)
+
+
+def words_of_commands():
+    """The same readers serve the words of commands at a terminal; without one a part of a name is no name."""
+    terminal = Terminal("club", "credit", "bäck kar", "10")
+    terminal.answers(("Number", "1"), ("Go on", "y"))
+    same("two that fit", (terminal.ends(), rows("SELECT credited FROM members WHERE name = 'baecker-karin'")), (0, [(4760,)]))
+    terminal.has("two that fit", "bäck kar may be", "office club credit baecker-karin 10")
+    terminal = Terminal("club", "credit", "bäck kar", "10")
+    terminal.answers(("Number", None))
+    same("none of two", (terminal.ends(), rows("SELECT credited FROM members WHERE name = 'baecker-karin'")), (1, [(4760,)]))
+    terminal = Terminal("club", "credit", "muller", "10")
+    terminal.answers(("Go on", ENTER))
+    same("an order by a part of a name is asked about", (terminal.ends(), rows("SELECT credited FROM members WHERE name = 'mueller-bob'")), (1, [(5000,)]))
+    same("without a terminal", office("credit", "muller", "10"), (1, "", "refused: unknown\n"))
+    same("a correction without a terminal", office("debit", "muller", "10", "--yes")[0], 1)
+    day = TODAY + datetime.timedelta(3)
+    for word in ("+3", f"{day:%A}", f"{day:%a}".lower(), f"{day.day}.{day.month}.", f"{day.day} {day:%B}", str(day)):
+        same(f"the day {word!r}", office("sheet", word), (0, done("sheet", str(day)), ""))
+    same("an hour", office("show-slot", "court-1", "+3", "10:00")[1].splitlines()[2], "hour 10")
+    terminal = Terminal("club", "bookings", "karl")
+    same("a list of a part of a name", terminal.ends(), 0)
+    terminal.has("a list of a part of a name", "karl: baecker-karl")
+
+
+def interrupted():
+    """Ctrl-C in each question of a task goes back to the menu, and changes nothing."""
+    before = everything()
+    questions = {"a new member": [("Name", "Zoë"), ("Open", "5"), ("Points", "100"), ("Do it", None)], "credit points": [("Member", "bob"), ("Points", "7"), ("Do it", None)],
+                 "close for": [("Day", "+3"), ("Hours", "15"), ("Which", "courts"), ("Shall", None)], "a member leaves": [("Member", "bob"), ("Shall", None)]}
+    for called, pairs in questions.items():
+        for at in range(len(pairs)):
+            task(called, *pairs[:at], (pairs[at][0], None))
+    terminal = Terminal("club")
+    terminal.answers(("Task: ", None))
+    same("Ctrl-C at the menu ends it", terminal.ends(), 0)
+    same("nothing is changed", everything(), before)
+    status, _, errors = office()
+    same("no menu without a terminal", (status, "COMMAND" in errors), (2, True))
+
+
+def previews():
+    """No line of a preview is longer than 80 columns, with names as long as names are."""
+    long = "a" * 20 + "-xyz"
+    for words in (f"add-member {long} 9", f"credit {long} 1000000", f"add-facility {long} court 50 9999 0 24"):
+        done(*words.split())
+    text = done("add-key", long, long).strip()
+    server = Service(at=f"{TODAY}T08:00")
+    day = TODAY + datetime.timedelta(1)
+    for hour in (10, 11):
+        server.answer(text, "PUT", f"/slots/{long}/{day}/{hour}/bookings/99999999{hour - 10}", '{"guests":9}')
+    out = done("close", str(day), "10-12", long, "--yes")
+    same("lines that are too long", [it for it in out.splitlines() if len(it) > 80], [])
+    same("a summary, in two lines", out.splitlines()[-3:], [f"in all: 2 bookings cancelled, 199980 points back to {long}, 2", "    slots closed", "done"])
+    server.stop()
+
+
+make_club()
+week()
+in_german()
+what_is_odd()
+words_of_commands()
+interrupted()
+previews()
+whole("all tasks")
+leave()
