@@ -180,14 +180,30 @@ by_both GET account "$pass"
 [ $((($(date +%s%N) - begun) / 1000000)) -lt 3000 ] || fail 'a slow client holds up the others'
 wait "$slow" || :
 
-# ---- The limit: 200 at once pass, and then there is a sentence. Another second, and requests pass again.
+# ---- The limits. Of a pass 1,000 at once pass, and then there is a sentence, while another pass has its replies, and so has the same one
+# a second later. Of an address twice as many.
+# flood NAME COUNT [WORD..]: so many requests at once, with words for curl. How many passed and were limited, which are all.
+flood() {
+    name=$1 count=$2
+    shift 2
+    curl --no-progress-meter -Z --parallel-max 40 -o "got.$name.#1" -w '%{http_code}\n' "$@" "$site/account#[1-$count]" >"statuses.$name" || :
+    limited=$(grep -c '^429' "statuses.$name" || :)
+    passed=$(grep -cE '^(401|200)' "statuses.$name" || :)
+    [ $((passed + limited)) = "$count" ] || fail "of $count at once $passed passed and $limited were limited"
+}
 sleep 2
-curl --no-progress-meter -Z --parallel-max 20 -o 'got.#1' -w '%{http_code}\n' "$site/account#[1-300]" >statuses || :
-limited=$(grep -c '^429' statuses || :)
-passed=$(grep -c '^401' statuses || :)
-{ [ "$passed" -ge 200 ] && [ "$limited" -ge 20 ] && [ $((passed + limited)) = 300 ]; } || fail "of 300 at once $passed passed and $limited were limited"
-same 'the sentence' 'Too many requests at once. Send this one again in a second.' "$(grep -lF 'Too many' got.* | head -n 1 | xargs cat)"
-same 'as many sentences as refusals' "$limited" "$(grep -lF 'Send this one again in a second.' got.* | wc -l)"
+flood pass 3000 -H "Authorization: Bearer $health" &
+flooding=$!
+sleep 0.5
+same 'another pass meanwhile' '200' "$(for _ in $(seq 20); do curl -o told -w '%{http_code}\n' -H "Authorization: Bearer $(cat club-pass)" $site/account; done | sort -u)"
+wait "$flooding" || fail 'the flood of a pass'
+flood pass 3000 -H "Authorization: Bearer $health"
+{ [ "$passed" -ge 200 ] && [ "$limited" -ge 20 ]; } || fail "of 3000 under a pass $passed passed and $limited were limited"
+sleep 6
+flood address 6000
+{ [ "$passed" -ge 2000 ] && [ "$limited" -ge 20 ]; } || fail "of 6000 from an address $passed passed and $limited were limited"
+same 'the sentence' 'Too many requests at once. Send this one again in a second.' "$(find . -name 'got.address.*' -exec grep -lF 'Too many' {} + | head -n 1 | xargs cat)"
+same 'as many sentences as refusals' "$limited" "$(find . -name 'got.address.*' -exec grep -lF 'Send this one again in a second.' {} + | wc -l)"
 sleep 1.2
 same 'a second later' 200 "$(curl -o told -w '%{http_code}' -H "Authorization: Bearer $(cat club-pass)" https://desk.example.org/account)"
-echo "$checks checks of the proxy passed: of 300 requests at once $passed were answered, $limited were not"
+echo "$checks checks of the proxy passed: of 6000 requests at once $passed were answered, $limited were not"
