@@ -23,12 +23,12 @@ class Browser:
     helpers = ""  # functions for the scripts that `run` and `each` run
     batch = 25  # how many items go to the page in one call
 
-    def __init__(self, rules="MAP * ~NOTFOUND", before="", language="en-US", words=()):
+    def __init__(self, rules="MAP * ~NOTFOUND", before="", language="en-US", words=(), letters=16):
         options = webdriver.ChromeOptions()
         for word in ["headless=new", "no-sandbox", "disable-gpu", "disable-dev-shm-usage", f"lang={language}", f"host-resolver-rules={rules}",
                      "disable-features=HttpsUpgrades,HttpsFirstBalancedMode,HttpsFirstBalancedModeAutoEnable", *words]:
             options.add_argument(f"--{word}")
-        options.add_experimental_option("prefs", {"intl.accept_languages": language})
+        options.add_experimental_option("prefs", {"intl.accept_languages": language, "webkit.webprefs.default_font_size": letters})
         options.set_capability("goog:loggingPrefs", {"browser": "ALL", "performance": "ALL"})
         self.driver = webdriver.Chrome(options=options, service=Service("/usr/bin/chromedriver"))
         self.driver.set_script_timeout(60)
@@ -105,6 +105,11 @@ class Browser:
         check(live <= set(heard), "what a screen reader hears of when it changes", heard)
         return tree
 
+    def is_audited(self, *what):
+        """What axe-core's rules look for in a page's elements, beside names, contrasts and targets."""
+        found = self.run(AUDIT)
+        check(not found, "what an audit finds", *what, *found)
+
     def focus_is_seen(self, *what):
         """But for the focus in a date, of which the browser marks a part."""
         outline = self.run("""const style = getComputedStyle(document.activeElement);
@@ -177,6 +182,40 @@ for (const each of document.querySelectorAll("body *")) {
   if ((a + 0.05) / (b + 0.05) < 4.5) faint.push(`${each.tagName} ${each.className} ${(a + 0.05) / (b + 0.05)}: ${each.textContent}`);
 }
 return [count, faint];
+"""
+AUDIT = """
+const found = [];
+const isSeen = (each) => each.checkVisibility();
+const all = (selector) => [...document.querySelectorAll(selector)];
+const note = (rule, each) => found.push(`${rule}: ${each.outerHTML.slice(0, 100)}`);
+const ids = all("[id]").map((each) => each.id);
+for (const id of new Set(ids.filter((each, place) => ids.indexOf(each) !== place))) found.push(`duplicate-id: ${id}`);
+for (const name of ["aria-labelledby", "aria-describedby", "aria-controls"]) {
+  for (const each of all(`[${name}]`)) for (const id of each.getAttribute(name).split(/\\s+/)) if (document.getElementById(id) === null && isSeen(each)) note(name, each);
+}
+for (const each of all("input, select, textarea")) if (isSeen(each) && each.labels.length === 0 && !each.getAttribute("aria-label")) note("label", each);
+for (const each of all("label[for]")) if (document.getElementById(each.htmlFor) === null) note("label-for", each);
+for (const each of all("img")) if (each.getAttribute("alt") === null) note("image-alt", each);
+for (const each of all("svg")) if (isSeen(each) && each.getAttribute("role") === "img" && !each.getAttribute("aria-label")) note("svg-img-alt", each);
+for (const each of all("[tabindex]")) if (each.tabIndex > 0) note("tabindex", each);
+for (const each of all("ul, ol")) if ([...each.children].some((child) => child.tagName !== "LI")) note("list", each);
+for (const each of all("li")) if (!["UL", "OL"].includes(each.parentElement.tagName)) note("listitem", each);
+for (const each of all("dl")) if ([...each.children].some((child) => !["DT", "DD"].includes(child.tagName))) note("definition-list", each);
+for (const each of all("table")) if (isSeen(each) && each.rows.length > 0 && each.querySelector("th[scope]") === null) note("table-headers", each);
+for (const each of all("button button, a button, button a, label button")) note("nested-interactive", each);
+for (const each of all("a")) if (isSeen(each) && (!each.href || each.textContent.trim() === "")) note("link-name", each);
+for (const each of all("[role]")) if (!["status", "alert", "group", "img"].includes(each.getAttribute("role"))) note("aria-roles", each);
+for (const each of all("[aria-hidden=true]")) if (each.querySelector("button, a, input, select, textarea") !== null) note("aria-hidden-focus", each);
+for (const each of all("[lang]")) if (!/^(en|de)$/.test(each.lang)) note("valid-lang", each);
+for (const each of all("fieldset")) if (isSeen(each) && each.querySelector("legend") === null) note("fieldset-legend", each);
+const levels = all("h1, h2, h3, h4").filter(isSeen).map((each) => Number(each.tagName[1]));
+if (levels[0] !== 1 && !document.querySelector("dialog[open]")) found.push(`page-has-heading-one: ${levels}`);
+levels.forEach((level, place) => { if (place > 0 && level > levels[place - 1] + 1) found.push(`heading-order: ${levels}`); });
+for (const name of ["main", "header", "footer"]) if (all(name).length !== 1) found.push(`landmark-one-${name}`);
+const viewport = document.querySelector("meta[name=viewport]")?.content ?? "";
+if (/user-scalable\\s*=\\s*(no|0)|maximum-scale/.test(viewport)) found.push(`meta-viewport: ${viewport}`);
+if (document.title.trim() === "" || document.documentElement.lang === "") found.push("document-title, html-has-lang");
+return found;
 """
 SMALL_TARGETS = """
 return [...document.querySelectorAll("button, select, textarea, input:not([type=radio]):not([type=checkbox]), .options label")]

@@ -526,7 +526,7 @@ SENTENCES = {
     "days = 2026-05-01..2026-05-31": "Only from Friday 1 May 2026 to Sunday 31 May 2026, both included.",
     "days = 2024-02-29..2024-02-29": "Only on Thursday 29 February 2024.",
     "until < 2026-05-01T18:00": "Until Friday 1 May 2026, 18:00.",
-    "until < 2000-01-01T00:00": "Until Saturday 1 January 2000, 00:00.",
+    "until < 2000-01-01T00:00": "Until the end of Friday 31 December 1999.",
     "until < 2099-12-31T23:59": "Until Thursday 31 December 2099, 23:59.",
     "weekday = sat,sun": "Only on Saturdays or Sundays.",
     "weekday = mon": "Only on Mondays.",
@@ -534,8 +534,8 @@ SENTENCES = {
     "guests <= 1": "Bookings with at most 1 guest.",
     "guests <= 12": "Bookings with at most 12 guests.",
     "spend <= 0": "Nothing that costs points.",
-    "spend <= 1": "Bookings only while all that the key ever spent comes to at most 1 point.",
-    "spend <= 123456789": "Bookings only while all that the key ever spent comes to at most 123,456,789 points.",
+    "spend <= 1": "At most 1 point in all. All that was ever booked with this pass and its parts counts.",
+    "spend <= 123456789": "At most 123,456,789 points in all. All that was ever booked with this pass and its parts counts.",
     "actions = view,book": "Only to look at slots or book.",
     "actions = view,cancel,account": "Only to look at slots, cancel bookings or look at the account.",
     "shoe = red": "This one isn't understood: the desk refuses this pass.",
@@ -612,8 +612,8 @@ def notes_say_what_matters(page):
     check("The desk won't know it" in stranger["shown"], "a stranger's pass", stranger)
     check(stranger["facts"]["Identifier"] == "we used our secret key", "whose a stranger's pass is", stranger)
     text = page.run("return document.body.innerText")
-    for words in ["The desk counts all that the key ever spent", "let the office first make them a key of their own",
-                  "can also cancel the key's own bookings", "Days and times are the club's own"]:
+    for words in ["The desk counts all that was ever booked with this pass", "let the office first make them a pass of their own",
+                  "can also cancel what was booked with your pass", "Days and times are the club's own"]:
         check(words in re.sub(r"\s+", " ", text), "the page doesn't say", words)
     print(f"{len(NOTES)} passes come with what matters of them")
 

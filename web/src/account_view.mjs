@@ -2,9 +2,10 @@
 import { titleOf } from "./club.mjs";
 import { hourText, isDate } from "./dates.mjs";
 import { ask } from "./desk.mjs";
-import { question } from "./dialog.mjs";
+import { question, tell } from "./dialog.mjs";
 import { button, byName, element, put } from "./elements.mjs";
-import { dropPass, keepPass } from "./keeping.mjs";
+import { noteTaken } from "./list_keeping.mjs";
+import { enterAnother, forgetPass, keepThis, nameField } from "./passes_view.mjs";
 import { fact, keyWarning, limitList } from "./pass_words.mjs";
 import { drawQr } from "./qr_picture.mjs";
 import { fragmentOfRecord, hasBegun, isLive, merged, readRecord, recordText } from "./record.mjs";
@@ -51,23 +52,23 @@ export function showAccount(trouble = "") {
 
 // ---- The pass
 
-export function showPass(forget) {
+export function showPass() {
   if (state.pass === null) return;
-  put("pass-facts", element("dl", "", ...fact(say("key"), state.key ?? say("none"), "key")), ...keyWarning(state.pass));
+  const name = state.isKept ? [nameField()] : [];
+  put("pass-facts", ...name, element("dl", "", ...fact(say("key"), state.key ?? say("none"), "key")), ...keyWarning(state.pass));
   put("pass-limits", limitList(state.pass));
   put("pass-place", say(state.isKept ? "pass-kept" : "pass-not-kept"));
   const keep = button("", say("keep-pass"), () => {
-    state.isKept = keepPass(state.text, true);
-    showPass(forget);
+    keepThis();
+    showPass();
     put("pass-news", say(state.isKept ? "pass-kept" : "keep-failed"));
   });
   const copy = button("", say("copy-pass"), () => copyText(state.text, "pass-news", "copied-pass", "selected-pass"));
   const drop = button("danger", say("forget-pass"), async () => {
-    if (!await question(say("forget-pass"), [say("forget-question", { key: state.key ?? "" })], say("forget-pass"), say("back"))) return;
-    dropPass();
-    forget();
+    if (!await question(say("forget-pass"), [say("forget-question", { name: state.name })], say("forget-pass"), say("back"))) return;
+    forgetPass();
   });
-  put("pass-buttons", ...(state.isKept ? [] : [keep]), copy, drop);
+  put("pass-buttons", ...(state.isKept ? [] : [keep]), copy, button("", say("enter-another"), enterAnother), drop);
   put("trap-device", say("trap-device", { key: state.account?.member ?? state.key?.replace(/-[0-9]+$/, "") ?? "" }));
 }
 
@@ -114,10 +115,13 @@ async function importText(text, place) {
     return;
   }
   const known = new Map(state.entries.map((entry) => [`${entry.key}/${entry.number}`, entry]));
-  const news = read.entries.filter((entry) => {
-    const own = known.get(`${entry.key}/${entry.number}`);
-    return merged(own, entry) !== own;
-  });
+  const news = [];
+  for (const entry of read.entries) {
+    const name = `${entry.key}/${entry.number}`;
+    const next = merged(known.get(name), entry);
+    if (next !== known.get(name)) news.push(next);
+    known.set(name, next);
+  }
   await state.store.put(...news);
   const words = news.length > 0 ? say("import-done", { count: news.length, key: read.key }) : say("import-nothing", { key: read.key });
   put(place, words, ...(read.key === state.key ? [] : [" ", say("import-other-key", { key: read.key })]));
@@ -128,7 +132,7 @@ export async function offerRecord(text, whenDone) {
   const read = readRecord(text, Date.now());
   if (state.store === null) return;
   if (read.wrong !== undefined) {
-    await question(say("import-title"), [say("import-wrong", { line: read.wrong })], say("close"), say("back"));
+    await tell(say("import-title"), say("import-wrong", { line: read.wrong }));
     return;
   }
   const count = say("import-count", { count: read.entries.length, key: read.key });
@@ -182,7 +186,7 @@ async function noteLost(event, whenDone) {
     return;
   }
   const slot = { facility: byName("lost-facility").value, day, hour: Number(byName("lost-hour").value) };
-  await state.store.put({ key: state.key, number: Number(number), ...slot, guests: null, book: {}, unsure: true, asked: Date.now() });
+  await state.store.put({ key: state.key, number: Number(number), ...slot, guests: null, book: {}, listed: {}, unsure: true, asked: Date.now() });
   put("lost-news", say("lost-done"));
   byName("lost-number").value = "";
   whenDone();
@@ -191,8 +195,10 @@ async function noteLost(event, whenDone) {
 export function setUpAccount(whenDone) {
   byName("lost-hour").append(...Array.from({ length: 24 }, (_, hour) => new Option(`${hourText(hour)}:00`, String(hour))));
   byName("lost").addEventListener("submit", (event) => noteLost(event, whenDone));
-  byName("export-copy").addEventListener("click", () =>
-    copyText(byName("export-text").value, "export-news", "export-copied", "export-selected", byName("export-text")));
+  byName("export-copy").addEventListener("click", () => {
+    noteTaken();
+    return copyText(byName("export-text").value, "export-news", "export-copied", "export-selected", byName("export-text"));
+  });
   byName("import").addEventListener("submit", async (event) => {
     event.preventDefault();
     if (!canSend()) return;

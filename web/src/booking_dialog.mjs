@@ -1,16 +1,18 @@
 // Booking and cancelling: what it costs, one press, and what came of it.
-import { titleOf } from "./club.mjs";
+import { facilityOf, titleOf } from "./club.mjs";
 import { hourText, startOf } from "./dates.mjs";
 import { closeDialog, isDialogOpen, openDialog } from "./dialog.mjs";
 import { button, element } from "./elements.mjs";
-import { fact } from "./pass_words.mjs";
-import { refundAt, stateOf, unfinished } from "./record.mjs";
+import { keepLastBooked } from "./keeping.mjs";
+import { endOf } from "./lend.mjs";
+import { fact, untilText } from "./pass_words.mjs";
+import { isDenied, owedFor } from "./points.mjs";
+import { MOST_GUESTS, personsOf, refundAt, stateOf, unfinished } from "./record.mjs";
 import { noReplyText, refusalText } from "./refusals.mjs";
 import { NotStored } from "./sender.mjs";
 import { clubMoment, denial, liveAt, state } from "./state.mjs";
 import { dateText, dayText, say } from "./words.mjs";
 
-const MOST_GUESTS = 49;
 const SEEN_AFTER = 1000; // milliseconds until a person hears that there is no answer yet
 const LONG_AFTER = 10000;
 
@@ -27,7 +29,7 @@ function faultBox(title, words) {
 // How many guests may be brought: as many as places and the pass allow.
 function mostGuests(slot, view) {
   let most = view === null ? MOST_GUESTS : Math.min(MOST_GUESTS, view.places - view.taken - 1);
-  while (most > 0 && denial("book", slot, { guests: most }) > 0) most -= 1;
+  while (most > 0 && isDenied(slot, view, most)) most -= 1;
   return Math.max(most, 0);
 }
 
@@ -44,8 +46,9 @@ export function offerBooking(slot, view, whenDone) {
 function offerSecond(slot, view, mine, title, whenDone) {
   const facility = titleOf(state.club, slot.facility);
   const isKnown = mine.every((entry) => entry.guests !== null);
-  const count = mine.reduce((sum, entry) => sum + (entry.guests ?? 0) + 1, 0);
-  const words = isKnown ? say("second", { facility, count }) : say("second-unknown", { facility });
+  const count = personsOf(mine);
+  const known = isKnown ? say("second", { facility, count }) : say("second-unknown", { facility });
+  const words = mine.every((entry) => stateOf(entry) === "listed") ? say("second-listed", { facility }) : known;
   const isToCancel = mine.length === 1 && stateOf(mine[0]) === "booked" && denial("cancel", slot) === 0;
   const hasRoom = view === null || (!view.closed && view.taken < view.places);
   openDialog(say("second-title"), [
@@ -53,7 +56,7 @@ function offerSecond(slot, view, mine, title, whenDone) {
     element("div", "buttons",
       button("main", say("back"), closeDialog),
       ...(isToCancel ? [button("danger", say("cancel-yes"), () => offerCancellation(mine[0], whenDone))] : []),
-      ...(hasRoom && denial("book", slot) === 0 ? [button("", say("second-yes"), () => offerFirst(slot, view, title, true, whenDone))] : [])),
+      ...(hasRoom && !isDenied(slot, view, 0) ? [button("", say("second-yes"), () => offerFirst(slot, view, title, true, whenDone))] : [])),
   ], whenDone);
 }
 
@@ -78,7 +81,7 @@ function offerFirst(slot, view, title, isMeant, whenDone) {
     fewer.disabled = guests === 0;
     more.disabled = guests === most;
     facts.replaceChildren(...costFacts(view, guests));
-    press.textContent = view === null || view.price === 0 ? say("book-free") : say("book-for", { count: view.price * (guests + 1) });
+    press.textContent = bookText(view, guests);
   };
   const stepper = element("div", "stepper", element("span", "label", say("guests-label")), fewer, number, more);
   stepper.setAttribute("role", "group");
@@ -88,19 +91,32 @@ function offerFirst(slot, view, title, isMeant, whenDone) {
     press.disabled = true;
     fewer.disabled = true;
     more.disabled = true;
-    sendBooking({ slot, guests, isMeant, outcome, press, whenDone, again, done: () => [places, stepper, facts].forEach((each) => each.remove()) });
+    const book = () => state.sender.book(slot, guests, isMeant);
+    sendBooking({ book, slot, view, outcome, press, whenDone, again, done: () => [places, stepper, facts].forEach((each) => each.remove()) });
   };
   const again = () => {
     press.disabled = false;
     show();
   };
   show();
-  openDialog(title, [element("p", "slot-time", slotText(slot)), places, stepper, facts, outcome, element("div", "buttons", press)], whenDone);
+  const about = facilityOf(state.club, slot.facility)?.about ?? "";
+  openDialog(title, [element("p", "slot-time", slotText(slot)), ...(about === "" ? [] : [element("p", "hint", about)]), places, stepper, facts, ...endNote(slot), outcome, element("div", "buttons", press)], whenDone);
+}
+
+// A pass that ends before the slot can't cancel it once it ended.
+function endNote(slot) {
+  const end = endOf(state.pass);
+  if (end === null || end > startOf(slot)) return [];
+  return [element("p", "note", say("ends-before"), " ", untilText(...end.split("T")))];
+}
+
+function bookText(view, guests) {
+  return owedFor(view, guests) === 0 ? say("book-free") : say("book-for", { count: owedFor(view, guests) });
 }
 
 function costFacts(view, guests) {
-  if (view === null) return [];
-  const charge = view.price * (guests + 1);
+  if (view === null) return fact(say("charge"), say("charge-unseen"));
+  const charge = owedFor(view, guests);
   const facts = fact(say("charge"), say("charged", { count: charge }), "key");
   if (guests > 0) facts.push(...fact("", say("price-each", { count: view.price })));
   if (state.account !== null) {
@@ -108,6 +124,25 @@ function costFacts(view, guests) {
     facts.push(...fact(say("open-after"), say("of-quota", { open: state.account.open + 1, quota: state.account.quota })));
   }
   return facts;
+}
+
+// Asks the desk for what a list names and no answer is known of, under its own number, with its guests.
+export function offerListed(entry, view, whenDone) {
+  const facts = element("dl", "cost", ...costFacts(view, entry.guests));
+  const outcome = element("div", "outcome-box");
+  outcome.setAttribute("aria-live", "polite");
+  const press = button("main wide-button", bookText(view, entry.guests), () => {
+    press.disabled = true;
+    const book = async () => {
+      await state.sender.askFor(entry.key, entry.number);
+      return entry;
+    };
+    sendBooking({ book, slot: entry, view, outcome, press, whenDone, again: () => {}, done: () => facts.remove() });
+  });
+  openDialog(say("book-this", { facility: titleOf(state.club, entry.facility) }), [
+    element("p", "slot-time", slotText(entry)), element("p", "hint", say("persons", { count: entry.guests + 1 })), facts,
+    element("p", "hint", say("listed-ask-hint")), outcome, element("div", "buttons", press),
+  ], whenDone);
 }
 
 // Says after a second that no answer came yet, and after ten what that means. What it returns ends it.
@@ -126,14 +161,14 @@ function waitingWords(outcome) {
   return () => clearInterval(timer);
 }
 
-// `again` lets it be pressed once more, after a refusal; `done` takes away what was chosen.
-async function sendBooking({ slot, guests, isMeant, outcome, press, whenDone, again, done }) {
+// `book` writes the request down; `again` lets it be pressed once more, after a refusal; `done` takes away what was chosen.
+async function sendBooking({ book, slot, view, outcome, press, whenDone, again, done }) {
   const end = waitingWords(outcome);
   try {
-    const entry = await state.sender.book(slot, guests, isMeant);
+    const entry = await book();
     if (entry.second !== undefined) {
       end();
-      offerBooking(slot, null, whenDone);
+      offerBooking(slot, view, whenDone);
       return;
     }
     state.sender.follow(entry, (now) => {
@@ -144,6 +179,7 @@ async function sendBooking({ slot, guests, isMeant, outcome, press, whenDone, ag
         again();
         return;
       }
+      keepLastBooked(slot);
       done();
       finish(press);
     });
@@ -192,7 +228,7 @@ export function offerCancellation(entry, whenDone) {
   });
   openDialog(say("cancel-question"), [
     element("p", "slot-time", facility, element("br"), slotText(entry)),
-    ...(back === null ? [] : [element("p", "", say("gives-back", { count: back }))]),
+    element("p", "", back === null ? say("gives-back-unknown") : say(stateOf(entry) === "listed" ? "listed-gives-back" : "gives-back", { count: back })),
     outcome, element("div", "buttons", press, keep),
   ], whenDone);
 }

@@ -1,16 +1,17 @@
 // My bookings: what the record has of the pass's key, to come and past, and what can be done about each.
-import { fullRefundUntil, offerCancellation, slotText } from "./booking_dialog.mjs";
+import { moreOf } from "./again.mjs";
+import { fullRefundUntil, offerCancellation, offerListed, slotText } from "./booking_dialog.mjs";
 import { titleOf } from "./club.mjs";
 import { hourText, minutesOf, startOf } from "./dates.mjs";
 import { ask, eachAtOnce } from "./desk.mjs";
+import { openDialog } from "./dialog.mjs";
 import { button, byName, element, put } from "./elements.mjs";
-import { hasBegun, isLive, refundAt, slotName, stateOf, unfinished } from "./record.mjs";
-import { refusalText } from "./refusals.mjs";
-import { canSend, clubMoment, denial, ownEntries, state } from "./state.mjs";
+import { showListKept } from "./list_keeping.mjs";
+import { amountsOf, canBeAsked, compared, hasBegun, isLive, refundAt, slotName, stateOf, unfinished } from "./record.mjs";
+import { noReplyText, refusalText } from "./refusals.mjs";
+import { NoReply } from "./replies.mjs";
+import { canSend, clubMoment, denial, isLost, ownEntries, state } from "./state.mjs";
 import { say } from "./words.mjs";
-
-// Taken places of slots, by their names: where they can't hold what the record has there, the office may have cancelled it.
-const taken = new Map();
 
 export function showBookings(whenDone) {
   const moment = clubMoment();
@@ -18,6 +19,7 @@ export function showBookings(whenDone) {
   const isPast = (entry) => moment !== null && hasBegun(entry, moment);
   const toCome = own.filter((entry) => !isPast(entry));
   const past = own.filter(isPast).reverse();
+  showComparison(own, moment);
   put("bookings-which", ...(state.key === null ? [] : [say("bookings-which", { key: state.key })]));
   byName("bookings-none").hidden = state.entries.length > 0;
   byName("to-come-title").hidden = toCome.length === 0;
@@ -25,8 +27,19 @@ export function showBookings(whenDone) {
   byName("past-part").hidden = past.length === 0;
   put("past", ...past.map((entry) => cardOf(entry, true, whenDone)));
   showOthers();
+  showListKept();
   const count = toCome.filter(isLive).length;
   put("bookings-count", ...(count > 0 ? [String(count)] : []));
+}
+
+// The desk's word on what the key spent says whether the list is whole.
+let doubtful = new Set(); // bookings that may have been cancelled elsewhere
+
+function showComparison(own, moment) {
+  const found = state.account === null || moment === null ? null : compared(own, state.account.spent, moment);
+  doubtful = new Set(found?.is === "less" ? found.entries.map((entry) => entry.number) : []);
+  const words = { less: "list-less", more: "list-more" }[found?.is];
+  put("list-says", ...(words === undefined ? [] : [say(words, { count: found.points })]));
 }
 
 function showOthers() {
@@ -42,14 +55,14 @@ function cardOf(entry, isPast, whenDone) {
   const facility = titleOf(state.club, entry.facility);
   const facts = [
     ...(entry.guests === null ? [] : [say("persons", { count: entry.guests + 1 })]),
-    ...(entry.book?.charge === undefined ? [] : [say("charged", { count: entry.book.charge })]),
+    ...(amountsOf(entry).charge === undefined ? [] : [say("charged", { count: amountsOf(entry).charge })]),
     say("number", { number: String(entry.number) }), ...(entry.key === state.key ? [] : [entry.key]),
   ];
   const card = element("li", `card ${stateOf(entry)}`,
     element("h4", "", facility), element("p", "slot-time", slotText(entry)), element("p", "state", stateText(entry)),
     element("p", "hint", facts.join(" · ")), ...markOf(entry));
-  if (!isPast) card.append(...whatCanBeDone(entry, whenDone));
-  else if (stateOf(entry) === "refused") card.append(removal(entry, whenDone));
+  if (!isPast) card.append(...whatCanBeDone(entry, whenDone), ...moreOf(entry, whenDone));
+  else if (["refused", "listed"].includes(stateOf(entry))) card.append(element("div", "buttons", removal(entry, whenDone)));
   return card;
 }
 
@@ -62,35 +75,66 @@ function stateText(entry) {
   if (now === "refused") return say("state-refused", { why: refusalText(entry.book) });
   if (now === "cancelling") return say("state-cancelling");
   if (now === "cancelled") return say("state-cancelled", { count: entry.cancel.refund });
-  return say(entry.guests === null ? "state-known" : "state-booked");
+  return now === "listed" ? listedText(entry) : say("state-booked");
+}
+
+// What a list says, as what a list says.
+function listedText({ guests, listed }) {
+  if (listed.refund !== undefined) return say("listed-cancelled", { count: listed.refund });
+  if (listed.cancel) return say("listed-cancelling");
+  if (listed.charge !== undefined) return say("listed-booked");
+  return say(guests === null ? "state-known" : "listed-asked");
 }
 
 function markOf(entry) {
-  if (!isLost(entry)) return [];
-  return [element("p", "note", element("strong", "", say("maybe-gone-title")), " ", say("maybe-gone"))];
-}
-
-function isLost(entry) {
-  const found = taken.get(slotName(entry));
-  if (found === undefined || stateOf(entry) !== "booked") return false;
-  const mine = ownEntries().filter((each) => slotName(each) === slotName(entry) && stateOf(each) === "booked");
-  return found < mine.reduce((sum, each) => sum + (each.guests ?? 0) + 1, 0);
+  const notes = [];
+  if (isLost(entry)) notes.push(stateOf(entry) === "listed" ? ["listed-gone-title", "listed-gone"] : ["maybe-gone-title", "maybe-gone"]);
+  else if (doubtful.has(entry.number) && entry.key === state.key && isLive(entry)) notes.push(["elsewhere-title", "elsewhere"]);
+  else if (entry.listed?.refund !== undefined || entry.saidCancelled) notes.push(["listed-cancel-title", "listed-cancel"]);
+  return notes.map(([title, words]) => element("p", "note", element("strong", "", say(title)), " ", say(words)));
 }
 
 function whatCanBeDone(entry, whenDone) {
-  if (stateOf(entry) === "refused") return [removal(entry, whenDone)];
-  if (stateOf(entry) !== "booked" || !canSend() || denial("cancel", entry) > 0) return [];
+  const buttons = [];
+  const words = [];
+  const isListed = stateOf(entry) === "listed";
+  if (canBeAsked(entry) && canSend() && denial("book", entry, { guests: entry.guests }) === 0) {
+    buttons.push(button("", say("listed-ask"), () => askAbout(entry, whenDone)));
+  }
+  if ((stateOf(entry) === "booked" || isListed) && canSend() && denial("cancel", entry) === 0) {
+    words.push(...refundWords(entry));
+    buttons.push(cancelButton(entry, whenDone));
+  }
+  if (stateOf(entry) === "refused" || isListed) buttons.push(removal(entry, whenDone));
+  return [...words, ...(buttons.length > 0 ? [element("div", "buttons", ...buttons)] : [])];
+}
+
+// The points come from the desk, before anything is sent that costs some.
+async function askAbout(entry, whenDone) {
+  try {
+    const reply = denial("view", entry) > 0 ? null : await ask(state.text, "view", entry, 2);
+    if (reply?.fault === undefined) offerListed(entry, reply, whenDone);
+    else openDialog(say("listed-ask"), [element("p", "fault", refusalText(reply))]);
+  } catch (fault) {
+    if (!(fault instanceof NoReply)) throw fault;
+    openDialog(say("listed-ask"), [element("p", "fault", noReplyText(fault.status, "account-failed"))]);
+  }
+}
+
+function refundWords(entry) {
   const moment = clubMoment();
   const back = moment === null ? null : refundAt(entry, moment);
-  const words = [];
+  if (back !== null && stateOf(entry) === "listed") return [element("p", "hint", say("listed-gives-back", { count: back }))];
   if (back !== null && back > 0 && minutesOf(moment) + 1440 <= minutesOf(startOf(entry))) {
-    words.push(element("p", "hint", say("gives-back-until", { count: back, ...fullRefundUntil(entry) })));
-  } else if (back !== null) {
-    words.push(element("p", "hint", say("gives-back", { count: back })));
+    return [element("p", "hint", say("gives-back-until", { count: back, ...fullRefundUntil(entry) }))];
   }
+  return back === null ? [] : [element("p", "hint", say("gives-back", { count: back }))];
+}
+
+function cancelButton(entry, whenDone) {
   const press = button("", say("cancel"), () => offerCancellation(entry, whenDone));
   press.setAttribute("aria-label", say("cancel-this", { facility: titleOf(state.club, entry.facility), time: slotText(entry) }));
-  return [...words, element("div", "buttons", press)];
+  return press;
 }
 
 function removal(entry, whenDone) {
@@ -99,22 +143,26 @@ function removal(entry, whenDone) {
     whenDone();
   });
   press.setAttribute("aria-label", `${say("remove")}: ${titleOf(state.club, entry.facility)}, ${entry.day}, ${hourText(entry.hour)}:00`);
-  return element("div", "buttons", press);
+  return press;
 }
+
+let lookRound = 0; // what an older one finds isn't shown
 
 // Looks whether the slots of what is booked still hold it.
 export async function lookAfterBookings(whenDone) {
   const moment = clubMoment();
   if (moment === null || state.pass === null) return;
+  lookRound += 1;
+  const mine = lookRound;
   const slots = new Map(ownEntries()
-    .filter((entry) => stateOf(entry) === "booked" && !hasBegun(entry, moment) && denial("view", entry) === 0)
+    .filter((entry) => ["booked", "listed"].includes(stateOf(entry)) && !hasBegun(entry, moment) && denial("view", entry) === 0)
     .map((entry) => [slotName(entry), entry]));
   await eachAtOnce([...slots], async ([name, entry]) => {
     try {
       const reply = await ask(state.text, "view", entry, 2);
-      if (reply.fault === undefined) taken.set(name, reply.taken);
+      if (reply.fault === undefined && mine === lookRound) state.taken.set(name, reply.taken);
     } catch {
-      taken.delete(name);
+      state.taken.delete(name);
     }
   });
   if (slots.size > 0) whenDone();

@@ -4,6 +4,7 @@ import { characters } from "./bytes.mjs";
 import { isDate, WEEKDAYS, weekdayOf } from "./dates.mjs";
 
 export const NAME = "[a-z0-9][a-z0-9-]{0,23}";
+const NAME_ONLY = new RegExp(`^${NAME}$`);
 const DATE = "20[0-9]{2}-[0-9]{2}-[0-9]{2}";
 export const KINDS = ["court", "boat", "room"];
 export const ACTIONS = ["view", "book", "cancel", "account"];
@@ -27,6 +28,10 @@ function chosenWords(text, known) {
   const words = text.split(",");
   const inOrder = known.filter((word) => words.includes(word));
   return inOrder.join() === text ? { words } : null;
+}
+
+export function isName(value) {
+  return typeof value === "string" && NAME_ONLY.test(value);
 }
 
 // The caveat with its name and values, or null where the desk doesn't understand it.

@@ -1,8 +1,6 @@
 // What the page knows of the club: club.json, which deploy/club_json makes. The desk's replies tell neither its zone nor its hours.
-import { KINDS, NAME } from "./caveats.mjs";
+import { isName, KINDS } from "./caveats.mjs";
 import { isZone } from "./dates.mjs";
-
-const NAME_ONLY = new RegExp(`^${NAME}$`);
 
 function isWhole(value, least, most) {
   return Number.isInteger(value) && value >= least && value <= most;
@@ -10,18 +8,38 @@ function isWhole(value, least, most) {
 
 function isFacility(each) {
   return typeof each === "object" && each !== null
-    && typeof each.name === "string" && NAME_ONLY.test(each.name)
+    && isName(each.name)
     && (each.title === undefined || (typeof each.title === "string" && each.title.length > 0 && each.title.length <= 80))
     && KINDS.includes(each.kind) && isWhole(each.opens, 0, 23) && isWhole(each.shuts, each.opens + 1, 24);
 }
 
-// The club of a value that was read as JSON, or null where it isn't one: its name, zone, and facilities with titles.
+const LONGEST_SENTENCE = 200;
+const LONGEST_LOGO = 40000;
+
+function sentenceOr(value, otherwise = "") {
+  return typeof value === "string" && value.length <= LONGEST_SENTENCE ? value : otherwise;
+}
+
+// An address that a press may lead to, or "".
+function addressOr(value) {
+  return typeof value === "string" && /^https:\/\/[^\s"'<>\\]{1,300}$/.test(value) ? value : "";
+}
+
+function pictureOr(value) {
+  return typeof value === "string" && value.length <= LONGEST_LOGO && /^data:image\/(?:png|jpeg|webp|svg\+xml);base64,[A-Za-z0-9+/=]+$/.test(value) ? value : "";
+}
+
+// The club of a value that was read as JSON, or null where it isn't one: its name, zone, and facilities with titles and a sentence; whom to
+// ask, its imprint and privacy pages, its logo. What isn't needed and isn't right counts as missing.
 export function readClub(value) {
   if (typeof value !== "object" || value === null || !isZone(value.zone) || !Array.isArray(value.facilities)) return null;
   if (!value.facilities.every(isFacility)) return null;
   if (new Set(value.facilities.map((each) => each.name)).size < value.facilities.length) return null;
-  const facilities = value.facilities.map(({ name, title = name, kind, opens, shuts }) => ({ name, title, kind, opens, shuts }));
-  return { name: typeof value.name === "string" ? value.name : "", zone: value.zone, facilities };
+  const facilities = value.facilities.map(({ name, title = name, kind, opens, shuts, about }) => ({ name, title, kind, opens, shuts, about: sentenceOr(about) }));
+  return {
+    name: sentenceOr(value.name), zone: value.zone, facilities, contact: sentenceOr(value.contact), imprint: addressOr(value.imprint),
+    privacy: addressOr(value.privacy), logo: pictureOr(value.logo),
+  };
 }
 
 export function facilityOf(club, name) {

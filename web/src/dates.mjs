@@ -4,7 +4,7 @@
 export const WEEKDAYS = ["mon", "tue", "wed", "thu", "fri", "sat", "sun"];
 
 export function isDate(text) {
-  const date = new Date(`${text}T00:00Z`);
+  const date = new Date(/^[0-9]{4}-[0-9]{2}-[0-9]{2}$/.test(text) ? `${text}T00:00Z` : NaN);
   return !Number.isNaN(date.getTime()) && date.toISOString().startsWith(text);
 }
 

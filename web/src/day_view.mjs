@@ -1,11 +1,16 @@
 // The day: facilities across, hours down. One request a slot, at most six at a time; on a narrow screen one facility is shown, and its
 // slots are asked for first.
-import { hoursOf, titleOf } from "./club.mjs";
+import { facilityOf, hoursOf, titleOf } from "./club.mjs";
 import { offerBooking } from "./booking_dialog.mjs";
 import { daysLater, hourText, isDate } from "./dates.mjs";
 import { ask, eachAtOnce } from "./desk.mjs";
-import { byName, element, put } from "./elements.mjs";
-import { DAYS_AHEAD, hasBegun, isTooFarAhead, stateOf } from "./record.mjs";
+import { button, byName, element, put } from "./elements.mjs";
+import { showFind, setUpFind } from "./find_view.mjs";
+import { lastBooked } from "./keeping.mjs";
+import { endOf } from "./lend.mjs";
+import { untilText } from "./pass_words.mjs";
+import { enterAnother } from "./passes_view.mjs";
+import { DAYS_AHEAD, hasBegun, isTooFarAhead, personsOf, stateOf } from "./record.mjs";
 import { limitText, refusalText } from "./refusals.mjs";
 import { CAVEAT_DENIES, NoReply } from "./replies.mjs";
 import { canSend, clubMoment, clubTime, denial, liveAt, state } from "./state.mjs";
@@ -15,9 +20,12 @@ const SWIPE = 50; // pixels
 
 let day = null;
 let chosen = null; // the facility of a narrow screen
+let isFinding = false; // whether a time is looked for over a week
+let isEarlierShown = false; // whether the hours that are over are shown, of today
 let cells = new Map(); // by facility and hour: the slot, its button, and what is known of it
 let round = 0; // of looking: what an older one finds isn't shown
 let lookedAt = 0;
+let waiting = []; // the cells that are still to be asked for
 
 export function shownDay() {
   return day;
@@ -49,21 +57,47 @@ export function showDay(wanted = day) {
   if (state.club === null || state.pass === null) return;
   day = wanted ?? today();
   const facilities = state.club.facilities.filter((facility) => slotsOf(facility).some(isOpenToPass));
-  if (!facilities.some((facility) => facility.name === chosen)) chosen = facilities[0]?.name ?? null;
+  const isThere = (name) => facilities.some((facility) => facility.name === name);
+  if (!isThere(chosen)) chosen = isThere(lastBooked()?.facility) ? lastBooked().facility : facilities[0]?.name ?? null;
   showDayBar();
+  byName("find-part").hidden = !isFinding;
+  byName("day-part").hidden = isFinding;
+  byName("to-find").setAttribute("aria-pressed", String(isFinding));
+  if (isFinding) {
+    showFind(day < today() ? today() : day);
+    return;
+  }
   cells = new Map();
   put("day-fault", ...dayFault(facilities));
   put("facility-choice", ...facilities.map(choiceOf));
   byName("facility-bar").hidden = facilities.length < 2;
   put("slots", ...(facilities.length > 0 ? tableParts(facilities) : []));
+  foldEarlier();
   choose(chosen);
   look();
+}
+
+// Today the hours that are over are folded away, unless something of hers is in them.
+function foldEarlier() {
+  const moment = clubMoment();
+  let count = 0;
+  for (const row of byName("slots").tBodies[0]?.rows ?? []) {
+    const own = [...row.querySelectorAll("button.slot")].map((each) => each.slotCell);
+    const isOver = own.length > 0 && own.every((cell) => hasBegun(cell.slot, moment) && liveAt(cell.slot).length === 0);
+    row.hidden = isOver && !isEarlierShown;
+    count += isOver ? 1 : 0;
+  }
+  byName("earlier-part").hidden = count === 0 || isEarlierShown || day !== today();
 }
 
 function dayFault(facilities) {
   if (day < today()) return [say("past-day")];
   if (day > lastDay()) return [say("outside-days", { day: dateText(lastDay()) })];
   if (facilities.length > 0) return [];
+  const end = endOf(state.pass);
+  if (end !== null && end <= clubMoment()) {
+    return [element("strong", "", say("pass-ended")), " ", untilText(...end.split("T")), " ", say("pass-ended-ask"), " ", button("", say("enter-another"), enterAnother)];
+  }
   const slot = state.club.facilities.length > 0 ? { facility: state.club.facilities[0].name, day, hour: state.club.facilities[0].opens } : undefined;
   const number = slot === undefined ? 0 : denial("view", slot);
   return [say("no-facilities"), ...(number > 0 ? [" ", limitText(number)] : [])];
@@ -120,6 +154,7 @@ function slotButton(slot) {
   made.type = "button";
   const cell = { slot, button: made, view: null, state: "waiting" };
   cells.set(cellName(slot), cell);
+  made.slotCell = cell;
   made.addEventListener("click", () => press(cell));
   showCell(cell);
   return made;
@@ -127,18 +162,25 @@ function slotButton(slot) {
 
 // ---- Cells
 
+// What a list alone names isn't there where fewer persons are in the slot.
+function ownAt(slot, view) {
+  const live = liveAt(slot);
+  const isListed = live.every((entry) => stateOf(entry) === "listed");
+  return isListed && view !== null && view.taken < personsOf(live) ? [] : live;
+}
+
 // What a cell is: its class, its words, a line below them, and whether it can be pressed.
 function looksOf({ slot, view, state: known }) {
   const moment = clubMoment();
-  const mine = liveAt(slot);
+  const mine = ownAt(slot, view);
   const price = view === null ? "" : say("cell-price", { count: view.price });
   const isOver = hasBegun(slot, moment);
   if (mine.some((entry) => stateOf(entry) === "asked")) return { looks: "mine", words: say("cell-asked"), below: "", isFree: false };
   if (mine.length > 0) {
     const isKnown = mine.every((entry) => entry.guests !== null);
-    const count = mine.reduce((sum, entry) => sum + (entry.guests ?? 0) + 1, 0);
     const isFree = !isOver && view !== null && !view.closed && view.taken < view.places;
-    return { looks: "mine", words: isKnown ? say("cell-mine", { count }) : say("cell-mine-only"), below: isOver ? say("cell-past") : "", isFree };
+    const whose = isKnown ? say("cell-mine", { count: personsOf(mine) }) : say("cell-mine-only");
+    return { looks: "mine", words: mine.every((entry) => stateOf(entry) === "listed") ? say("cell-listed") : whose, below: isOver ? say("cell-past") : "", isFree };
   }
   if (isOver) return { looks: "past", words: say("cell-past"), below: "", isFree: false };
   if (isTooFarAhead(slot, moment)) return { looks: "past", words: say("cell-far"), below: "", isFree: false };
@@ -150,19 +192,20 @@ function looksOf({ slot, view, state: known }) {
   const left = view.places - view.taken;
   if (left <= 0) return { looks: "full", words: say("cell-full"), below: "", isFree: false };
   const words = view.places === 1 ? say("cell-one-free") : say("cell-free", { left, places: view.places });
-  return { looks: "free", words, below: price, isFree: denial("book", slot) === 0 };
+  const isTooDear = denial("book", slot) === 0 && denial("book", slot, { owed: view.price }) > 0;
+  return { looks: "free", words, below: isTooDear ? say("cell-too-dear") : price, isFree: !isTooDear && denial("book", slot) === 0 };
 }
 
 function showCell(cell) {
   if (state.pass === null) return;
   const { looks, words, below, isFree } = looksOf(cell);
-  const { button, slot } = cell;
-  button.className = `slot ${looks}`;
-  button.disabled = !isFree || (looks !== "failed" && !canSend());
-  button.replaceChildren(element("span", "", words), ...(below === "" ? [] : [element("small", "", below)]));
+  const { button: press, slot } = cell;
+  press.className = `slot ${looks}`;
+  press.disabled = !isFree || (looks !== "failed" && !canSend());
+  press.replaceChildren(element("span", "", words), ...(below === "" ? [] : [element("small", "", below)]));
   const facility = titleOf(state.club, slot.facility);
   const sentence = [words, below].map((each) => each.trim()).filter((each) => each !== "").join(", ");
-  button.setAttribute("aria-label", say("cell-label", { facility, hour: `${hourText(slot.hour)}:00`, state: sentence }));
+  press.setAttribute("aria-label", say("cell-label", { facility, hour: `${hourText(slot.hour)}:00`, state: sentence }));
 }
 
 export function showCells() {
@@ -210,21 +253,33 @@ export async function look() {
   round += 1;
   const mine = round;
   const moment = clubMoment();
-  const wanted = [...cells.values()]
-    .filter(({ slot }) => denial("view", slot) === 0 && !hasBegun(slot, moment) && !isTooFarAhead(slot, moment))
-    .sort((a, b) => (b.slot.facility === chosen) - (a.slot.facility === chosen));
+  waiting = [...cells.values()].filter(({ slot }) => denial("view", slot) === 0 && !hasBegun(slot, moment) && !isTooFarAhead(slot, moment));
+  chosenFirst();
+  const all = waiting.length;
   let done = 0;
+  if (!navigator.onLine) {
+    lookedAt = 0; // once the network is back the day is looked at
+    waiting = [];
+    showProgress(0, 0);
+    put("looked", say("looked-offline"));
+    return;
+  }
   lookedAt = Date.now();
-  showProgress(done, wanted.length);
-  await eachAtOnce(wanted, async (cell) => {
+  showProgress(done, all);
+  await eachAtOnce(waiting, async (cell) => {
     await lookAt(cell, mine);
     done += 1;
     const count = done;
-    if (mine === round) showSoon(cell, () => { if (mine === round) showProgress(count, wanted.length); });
+    if (mine === round) showSoon(cell, () => { if (mine === round) showProgress(count, all); });
   }, () => mine === round);
   if (mine !== round) return;
   showChanged();
   showLooked();
+}
+
+// The facility that a narrow screen shows comes first, also where it is chosen while the others are asked for.
+function chosenFirst() {
+  waiting.sort((a, b) => (b.slot.facility === chosen) - (a.slot.facility === chosen));
 }
 
 function showProgress(done, all) {
@@ -263,12 +318,13 @@ function refused(cell, reply) {
   round += 1;
   byName("progress").hidden = true;
   put("looked");
-  put("day-fault", refusalText(reply));
+  put("day-fault", element("span", "", refusalText(reply)), button("", say("enter-another"), enterAnother));
 }
 
 // Looks again where the page comes back after a while.
 export function lookWhenBack() {
   if (day === null || state.club === null || state.pass === null) return;
+  if (isFinding) return;
   if (day < today()) showDay(today());
   else if (Date.now() - lookedAt > 15000) look();
   else showCells();
@@ -278,6 +334,8 @@ export function lookWhenBack() {
 
 function choose(name) {
   chosen = name;
+  chosenFirst();
+  put("facility-about", facilityOf(state.club, name)?.about ?? "");
   for (const each of byName("day").querySelectorAll("[data-facility]")) each.classList.toggle("chosen", each.dataset.facility === name);
   for (const row of byName("slots").rows) row.classList.toggle("away", row.querySelector("td.chosen:empty") !== null);
   for (const chip of byName("facility-choice").children) {
@@ -318,7 +376,16 @@ export function setUpDay() {
   byName("day-before").addEventListener("click", () => showDay(daysLater(day, -1)));
   byName("day-after").addEventListener("click", () => showDay(daysLater(day, 1)));
   byName("today").addEventListener("click", () => showDay(today()));
-  byName("reload").addEventListener("click", look);
+  byName("reload").addEventListener("click", () => { if (isFinding) showDay(); else look(); });
+  byName("earlier").addEventListener("click", () => {
+    isEarlierShown = true;
+    foldEarlier();
+  });
+  byName("to-find").addEventListener("click", () => {
+    isFinding = !isFinding;
+    showDay();
+  });
+  setUpFind();
   byName("day-field").addEventListener("change", (event) => { if (isDate(event.target.value)) showDay(event.target.value); });
   const table = byName("slots");
   table.addEventListener("keydown", moveFocus);

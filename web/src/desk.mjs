@@ -77,14 +77,11 @@ export async function ask(pass, action, asked, tries = 4, waits = MOST_WAITS) {
   }
 }
 
-// Does a task with each item, a few at once, in their order, until `goesOn` says that it isn't wanted any more.
+// Does a task with each item, a few at once, until `goesOn` says that it isn't wanted any more. It takes them from the front of the list,
+// whose order may change meanwhile.
 export async function eachAtOnce(items, task, goesOn = () => true) {
-  let next = 0;
   const work = async () => {
-    while (next < items.length && goesOn()) {
-      next += 1;
-      await task(items[next - 1]);
-    }
+    while (items.length > 0 && goesOn()) await task(items.shift());
   };
   await Promise.all(Array.from({ length: AT_ONCE }, work));
 }

@@ -43,7 +43,12 @@ export function setUpDialog() {
   dialog.addEventListener("click", (event) => { if (event.target === dialog) closeDialog(); });
 }
 
-// A question with two answers; whether the first was given.
+// Something to know.
+export function tell(title, words) {
+  return question(title, [words], say("close"), null);
+}
+
+// A question with two answers, or one; whether the first was given.
 export function question(title, words, yes, no) {
   return new Promise((done) => {
     let answer = false;
@@ -53,7 +58,7 @@ export function question(title, words, yes, no) {
     };
     openDialog(title, [
       ...words.map((each) => each instanceof Node ? each : element("p", "", each)),
-      element("div", "buttons", button("main", yes, decide(true)), button("", no, decide(false))),
+      element("div", "buttons", button("main", yes, decide(true)), ...(no === null ? [] : [button("", no, decide(false))])),
     ], () => done(answer));
   });
 }

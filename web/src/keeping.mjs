@@ -1,7 +1,13 @@
-// What the browser keeps beside the record: the pass, for the tab or for good, and the language. A browser that refuses keeps it here as
-// long as the page is open.
+// What the browser keeps beside the record: passes, for the page, the tab or for good, the screen's pass, and the language. A pass of a
+// link is kept with the page's place in the tab's history, and nowhere else until somebody says so.
 
-const memory = new Map();
+import { splitGiven } from "./pass.mjs";
+import { placeName } from "./place.mjs";
+
+const LONGEST_NAME = 40;
+const MOST_PASSES = 20;
+const MOST_LOANS = 50;
+const MOST_NOTED = 2000;
 
 function storageOf(forGood) {
   return forGood ? globalThis.localStorage : globalThis.sessionStorage;
@@ -9,9 +15,8 @@ function storageOf(forGood) {
 
 // Whether the browser kept it.
 function keep(forGood, name, value) {
-  memory.set(name, value);
   try {
-    storageOf(forGood).setItem(name, value);
+    storageOf(forGood).setItem(placeName(name), value);
     return true;
   } catch {
     return false;
@@ -20,7 +25,7 @@ function keep(forGood, name, value) {
 
 function kept(forGood, name) {
   try {
-    return storageOf(forGood).getItem(name);
+    return storageOf(forGood).getItem(placeName(name));
   } catch {
     return null;
   }
@@ -28,30 +33,140 @@ function kept(forGood, name) {
 
 function drop(forGood, name) {
   try {
-    storageOf(forGood).removeItem(name);
+    storageOf(forGood).removeItem(placeName(name));
   } catch {
     // It kept nothing.
   }
 }
 
-export function keepPass(text, forGood) {
-  drop(false, "pass");
-  return keep(forGood, "pass", text);
+// A list that was kept as JSON, of which only what is right counts.
+function keptList(name, isRight) {
+  try {
+    const list = JSON.parse(kept(true, name) ?? "[]");
+    return Array.isArray(list) ? list.filter(isRight) : [];
+  } catch {
+    return [];
+  }
 }
 
-// The pass of this tab, else that of the browser: its text and whether it is kept for good; null where there is none.
-export function keptPass() {
-  const ofTab = kept(false, "pass");
-  const ofBrowser = kept(true, "pass");
-  if (ofTab !== null) return { text: ofTab, forGood: false, other: ofBrowser };
-  if (ofBrowser !== null) return { text: ofBrowser, forGood: true, other: null };
-  return memory.has("pass") ? { text: memory.get("pass"), forGood: false, other: null } : null;
+// ---- Passes that are kept for good, each with a name, in the order of their use
+
+export function plainName(text) {
+  return text.replace(/\s+/g, " ").trim().slice(0, LONGEST_NAME);
 }
 
-export function dropPass() {
-  memory.delete("pass");
-  drop(false, "pass");
-  drop(true, "pass");
+function isKeptPass(each) {
+  return typeof each === "object" && each !== null && typeof each.text === "string" && typeof each.name === "string"
+    && each.name !== "" && each.name === plainName(each.name);
+}
+
+export function keptPasses() {
+  return keptList("passes", isKeptPass);
+}
+
+// Adds a pass in front of the others, or gives it another name. No other one is taken away.
+export function keepPass(text, name) {
+  const others = keptPasses().filter((each) => each.text !== text);
+  if (others.length >= MOST_PASSES) return false;
+  return keep(true, "passes", JSON.stringify([{ text, name }, ...others]));
+}
+
+export function dropPass(text) {
+  const others = keptPasses().filter((each) => each.text !== text);
+  if (others.length > 0) keep(true, "passes", JSON.stringify(others));
+  else drop(true, "passes");
+  if (passOfTab() === text) drop(false, "pass");
+  if (passOfPage() === text) holdPass(null);
+}
+
+// ---- The pass of a tab and of a page
+
+export function passOfTab() {
+  return kept(false, "pass");
+}
+
+export function keepForTab(text) {
+  return keep(false, "pass", text);
+}
+
+export function passOfPage() {
+  const { pass } = history.state ?? {};
+  return typeof pass === "string" ? pass : null;
+}
+
+// Cleans the address, and holds a pass for as long as the page has its place in the tab.
+export function holdPass(text, end = "") {
+  try {
+    history.replaceState(text === null ? null : { pass: text }, "", location.pathname + end);
+  } catch {
+    // A page of a folder has an address that can't be changed.
+  }
+}
+
+// ---- Spare passes, and what was lent
+
+export function keptSpares() {
+  return keptList("spares", (each) => typeof each === "string");
+}
+
+export function keepSpares(texts) {
+  return keep(true, "spares", JSON.stringify([...new Set([...keptSpares(), ...texts])].slice(0, MOST_PASSES)));
+}
+
+function isLoan(each) {
+  return typeof each === "object" && each !== null && [each.given, each.says].every((text) => typeof text === "string") && typeof each.isSpare === "boolean";
+}
+
+// Each with its pass as it was handed on, its sentence, and whether it is of a spare pass.
+export function keptLoans() {
+  return keptList("loans", isLoan).map(({ given, says, isSpare }) => ({ given, says, isSpare, ...splitGiven(given) }));
+}
+
+export function keepLoan({ given, says, isSpare }) {
+  return keep(true, "loans", JSON.stringify([{ given, says, isSpare }, ...keptList("loans", isLoan)].slice(0, MOST_LOANS)));
+}
+
+export function dropLoan({ given }) {
+  return keep(true, "loans", JSON.stringify(keptList("loans", isLoan).filter((each) => each.given !== given)));
+}
+
+// ---- The rest
+
+// The numbers of bookings that were in a list which somebody took along, by the key.
+export function takenAlong(key) {
+  return new Set(keptList(`taken ${key}`, Number.isInteger));
+}
+
+export function noteTakenAlong(key, numbers) {
+  keep(true, `taken ${key}`, JSON.stringify(numbers.slice(-MOST_NOTED)));
+}
+
+// What was searched last, and the facility and hour of the last booking; both may be of another club by now.
+export function keptSearch() {
+  const [found] = keptList("search", (each) => typeof each === "object" && each !== null && typeof each.kind === "string"
+    && Number.isInteger(each.from) && Number.isInteger(each.to) && each.from >= 0 && each.from < each.to && each.to <= 24);
+  return found ?? {};
+}
+
+export function keepSearch({ kind, from, to }) {
+  keep(true, "search", JSON.stringify([{ kind, from, to }]));
+}
+
+export function lastBooked() {
+  const [found] = keptList("last", (each) => typeof each === "object" && each !== null && typeof each.facility === "string" && Number.isInteger(each.hour));
+  return found ?? null;
+}
+
+export function keepLastBooked({ facility, hour }) {
+  keep(true, "last", JSON.stringify([{ facility, hour }]));
+}
+
+export function screenPass() {
+  return kept(true, "screen");
+}
+
+export function keepScreenPass(text) {
+  return keep(true, "screen", text);
 }
 
 export function keptLanguage() {

@@ -181,6 +181,7 @@ function showResult(narrower, text, old) {
   put("result-notes", ...notesOn(narrower).map(([title, words]) => element("p", "note", element("strong", "", title), " ", words)));
   byName("narrowed").value = text;
   byName("address").value = addressOf(text);
+  byName("book-address").value = addressOf(text).replace(/[^/]*#/, "book.html#");
   put("address-note", location.protocol === "file:" ? say("address-local") : "");
   result.hidden = false;
   put("outcome", say("narrowed", { count: narrower.caveats.length - old }));
@@ -191,7 +192,7 @@ function showResult(narrower, text, old) {
 function clearResult() {
   round += 1;
   result.hidden = true;
-  for (const id of ["narrow-fault", "outcome", "narrowed-message", "address-message"]) put(id);
+  for (const id of ["narrow-fault", "outcome", "narrowed-message", "address-message", "book-address-message"]) put(id);
 }
 
 // What a person should know before handing this pass to somebody: titles with words.
@@ -224,7 +225,7 @@ async function copyField(id, what) {
 
 async function share() {
   try {
-    await navigator.share({ text: byName("narrowed").value });
+    await navigator.share({ text: byName("narrowed").value, url: byName("book-address").value });
     put("narrowed-message", say("shared"));
   } catch {
     put("narrowed-message", say("not-shared"));
@@ -276,6 +277,7 @@ function start() {
   choices.addEventListener("focusout", leaveChoice);
   choices.addEventListener("submit", narrowChosen);
   byName("copy").addEventListener("click", () => copyField("narrowed", "pass"));
+  byName("copy-book-address").addEventListener("click", () => copyField("book-address", "address"));
   byName("copy-address").addEventListener("click", () => copyField("address", "address"));
   byName("share").addEventListener("click", share);
   byName("share").hidden = navigator.share === undefined;

@@ -71,6 +71,16 @@ export function pastedText(pasted) {
   return /^\s*(?:https?|file):\/\/[^#]*#/.test(text) ? textOfFragment(text.slice(text.indexOf("#"))) : text;
 }
 
+// A pass may come with what its key spent before it was lent: `PASS;spent=N`. That is told and not trusted: the desk decides.
+export function withSpent(text, spent) {
+  return spent > 0 ? `${text};spent=${spent}` : text;
+}
+
+export function splitGiven(given) {
+  const found = /^(.*);spent=([0-9]{1,9})\s*$/s.exec(given);
+  return found === null ? { text: given, spent: 0 } : { text: found[1], spent: Number(found[2]) };
+}
+
 // JSON is escaped in an address.
 export function textOfFragment(fragment) {
   try {

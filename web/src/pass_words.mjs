@@ -1,7 +1,7 @@
 // What a pass says to a person, on both pages.
 import { characters, shown } from "./bytes.mjs";
 import { readCaveat } from "./caveats.mjs";
-import { hourText } from "./dates.mjs";
+import { daysLater, hourText } from "./dates.mjs";
 import { element } from "./elements.mjs";
 import { keyName } from "./pass.mjs";
 import { dateText, listed, say } from "./words.mjs";
@@ -15,11 +15,16 @@ const SENTENCES = {
     ? say("limit-day", { day: dateText(first) })
     : say("limit-days", { first: dateText(first), last: dateText(last) }),
   weekday: ({ words }) => say("limit-weekday", { days: listed(words.map((word) => say(`on-${word}`))) }),
-  until: ({ date, time }) => say("limit-until", { day: dateText(date), time }),
+  until: ({ date, time }) => untilText(date, time),
   guests: ({ most }) => most === 0 ? say("limit-no-guests") : say("limit-guests", { count: most }),
   spend: ({ most }) => most === 0 ? say("limit-no-points") : say("limit-points", { count: most }),
   actions: ({ words }) => say("limit-actions", { actions: listed(words.map((word) => say(`action-${word}`))) }),
 };
+
+// Midnight is the end of the day before.
+export function untilText(date, time) {
+  return time === "00:00" ? say("limit-until-end", { day: dateText(daysLater(date, -1)) }) : say("limit-until", { day: dateText(date), time });
+}
 
 // What a caveat says to a person, or null where the desk doesn't understand it.
 export function sentenceOf(bytes) {

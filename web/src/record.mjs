@@ -4,15 +4,19 @@
 //   book: null while its PUT has no reply, else the reply; an empty object where somebody else has it;
 //   cancel: undefined, or null while its DELETE has no reply, else the reply;
 //   unsure: whether a request of its was sent and may have been carried out without a reply that came;
-//   asked: when the entry was made, in milliseconds.
+//   asked: when the entry was made, in milliseconds;
+//   listed: of an entry that came in a list, what the list says: charge, left, refund, cancel. The desk said none of it to this browser,
+//     so such an entry is never sent by itself, and never counts as cancelled;
+//   saidCancelled: whether a list says that a booking of this browser's own was cancelled.
 // What this module returns are new entries; nothing is changed.
-import { NAME } from "./caveats.mjs";
+import { isName, NAME } from "./caveats.mjs";
 import { isDate, minutesOf, startOf } from "./dates.mjs";
 import { isOfPass, NUMBER_USED } from "./replies.mjs";
 
 const LARGEST_NUMBER = 999999999;
 const FULL_REFUND_MINUTES = 1440;
 export const DAYS_AHEAD = 60;
+export const MOST_GUESTS = 49;
 
 // A number from 1 to the largest, each as likely as the others, that is in none of the entries.
 export function drawnNumber(used, random = (array) => crypto.getRandomValues(array)) {
@@ -38,7 +42,7 @@ export function unfinished(entry) {
 // The entry with a reply to what was sent of it. A refusal of the pass leaves a request open that may have been carried out before.
 export function answered(entry, action, reply) {
   if (reply.fault !== undefined && isOfPass(reply) && entry.unsure) return { ...entry, stopped: reply };
-  const { stopped, ...rest } = entry;
+  const { stopped, saidCancelled, ...rest } = entry;
   if (action === "cancel" && reply.fault !== undefined) return { ...rest, unsure: false, cancel: undefined, notCancelled: reply };
   return { ...rest, unsure: false, [action]: reply };
 }
@@ -48,17 +52,67 @@ export function withCancellation(entry) {
   return { ...rest, cancel: null };
 }
 
-// "asked", "booked", "refused", "cancelling" or "cancelled".
+// "asked", "booked", "refused", "cancelling", "cancelled", or "listed" where only a list speaks of it.
 export function stateOf(entry) {
   if (entry.book === null) return "asked";
   if (entry.book.fault !== undefined) return "refused";
-  if (entry.cancel === undefined) return "booked";
+  if (entry.cancel === undefined) return entry.listed === undefined ? "booked" : "listed";
   return entry.cancel === null ? "cancelling" : "cancelled";
 }
 
 // Whether it holds places, or may hold some.
 export function isLive(entry) {
-  return ["asked", "booked", "cancelling"].includes(stateOf(entry));
+  return ["asked", "booked", "cancelling"].includes(stateOf(entry)) || (stateOf(entry) === "listed" && entry.listed.refund === undefined);
+}
+
+// Whether the desk may be asked once more for what a list names: it has its guests, and no reply.
+export function canBeAsked(entry) {
+  return stateOf(entry) === "listed" && entry.guests !== null && entry.listed.charge === undefined;
+}
+
+// What a list names, as a request of this browser's own, under the same number.
+export function withRequest(entry) {
+  const { listed, notCancelled, stopped, ...rest } = entry;
+  return { ...rest, book: null, unsure: true };
+}
+
+// Whether a value that the browser kept is an entry: what isn't one is neither shown nor sent.
+export function isEntry(value) {
+  if (typeof value !== "object" || value === null) return false;
+  const { key, number, facility, day, hour, guests, book, cancel, listed, asked } = value;
+  const isReply = (reply) => typeof reply === "object" && !Array.isArray(reply);
+  return [key, facility].every(isName) && isWithin(number, 1, LARGEST_NUMBER)
+    && typeof day === "string" && isDate(day) && isWithin(hour, 0, 23) && (guests === null ? book !== null : isWithin(guests, 0, MOST_GUESTS))
+    && isReply(book) && (cancel === undefined || isReply(cancel)) && (listed === undefined || (listed !== null && book !== null && isReply(listed)))
+    && typeof asked === "number";
+}
+
+function isWithin(value, least, most) {
+  return Number.isInteger(value) && value >= least && value <= most;
+}
+
+// What the desk took for an entry and keeps: what only a list says counts as nothing.
+export function costOf(entry) {
+  return entry.saidCancelled ? 0 : (entry.book?.charge ?? 0) - (entry.cancel?.refund ?? 0);
+}
+
+// What a list and the desk's word on what the key spent say of one another: "same"; "less" where the desk counts less, so a booking was
+// cancelled elsewhere, with those that it may be; "more" where a booking isn't listed; and by how many points. Null where it can't be said.
+export function compared(entries, spent, moment) {
+  const counted = entries.filter((entry) => stateOf(entry) !== "refused");
+  if (counted.some((entry) => unfinished(entry) !== null || amountsOf(entry).charge === undefined)) return null;
+  const costs = counted.map((entry) => amountsOf(entry).charge - ((entry.cancel ?? entry.listed)?.refund ?? 0));
+  const points = costs.reduce((sum, cost) => sum + cost, 0) - spent;
+  if (points === 0) return { is: "same", points, entries: [] };
+  if (points < 0) return { is: "more", points: -points, entries: [] };
+  const standing = counted.filter((entry) => isLive(entry) && stateOf(entry) !== "cancelling");
+  const mayGiveBack = (entry) => [amountsOf(entry).charge, Math.floor(amountsOf(entry).charge / 2)].includes(points);
+  const found = standing.filter(mayGiveBack);
+  return { is: "less", points, entries: found.length > 0 ? found : standing.filter((entry) => !hasBegun(entry, moment)) };
+}
+
+export function personsOf(entries) {
+  return entries.reduce((sum, entry) => sum + (entry.guests ?? 0) + 1, 0);
 }
 
 export function slotName({ facility, day, hour }) {
@@ -82,11 +136,17 @@ export function isTooFarAhead(slot, moment) {
   return minutesOf(startOf(slot)) > minutesOf(moment) + DAYS_AHEAD * 1440;
 }
 
+// Charge and places left: the desk's, else what a list says.
+export function amountsOf(entry) {
+  return entry.book?.charge === undefined ? entry.listed ?? {} : entry.book;
+}
+
 // What a cancellation at a moment gives back of a charge: all a day or more ahead, else half, rounded down; null where it is too late.
 export function refundAt(entry, moment) {
-  if (hasBegun(entry, moment) || entry.book?.charge === undefined) return null;
+  const { charge } = amountsOf(entry);
+  if (hasBegun(entry, moment) || charge === undefined) return null;
   const isDayAhead = minutesOf(moment) + FULL_REFUND_MINUTES <= minutesOf(startOf(entry));
-  return isDayAhead ? entry.book.charge : Math.floor(entry.book.charge / 2);
+  return isDayAhead ? charge : Math.floor(charge / 2);
 }
 
 // ---- The record as a text: `record of KEY`, and a line for each booking: number, facility, day, hour, and what is known besides, as
@@ -103,9 +163,11 @@ export function recordText(key, entries) {
 function lineOf(entry) {
   const words = [entry.number, entry.facility, entry.day, String(entry.hour).padStart(2, "0")];
   if (entry.guests !== null) words.push("guests", entry.guests);
-  if (entry.book?.charge !== undefined) words.push("charge", entry.book.charge, "left", entry.book.left);
-  if (entry.cancel === null) words.push("cancel");
-  if (entry.cancel?.refund !== undefined) words.push("refund", entry.cancel.refund);
+  const { charge, left } = amountsOf(entry);
+  if (charge !== undefined) words.push("charge", charge, "left", left);
+  if (entry.cancel === null || entry.listed?.cancel) words.push("cancel");
+  const { refund } = entry.cancel ?? entry.listed ?? {};
+  if (refund !== undefined) words.push("refund", refund);
   return words.join(" ");
 }
 
@@ -124,13 +186,11 @@ function entryOfLine(key, line, asked) {
   if (found === null || !isDate(found[3])) return null;
   const details = detailsOf(found[5]);
   if (details === null) return null;
-  const { guests = null, charge, left, refund, cancel } = details;
-  if ((charge === undefined) !== (left === undefined) || (guests !== null && guests > 49)) return null;
-  const isAsked = charge === undefined && guests !== null;
-  const book = charge !== undefined ? { booking: `${key}/${found[1]}`, charge, left } : isAsked ? null : {};
-  const entry = { key, number: Number(found[1]), facility: found[2], day: found[3], hour: Number(found[4]), guests, book, unsure: true, asked };
-  if (cancel !== undefined) return { ...entry, cancel: null };
-  return refund === undefined ? entry : { ...entry, cancel: { booking: `${key}/${found[1]}`, refund } };
+  const { guests = null, ...listed } = details;
+  if ((listed.charge === undefined) !== (listed.left === undefined) || (guests !== null && guests > MOST_GUESTS)) return null;
+  return {
+    key, number: Number(found[1]), facility: found[2], day: found[3], hour: Number(found[4]), guests, book: {}, listed, unsure: true, asked,
+  };
 }
 
 function detailsOf(text) {
@@ -146,11 +206,16 @@ function detailsOf(text) {
   return details;
 }
 
-// The entry that is kept where two devices have one of the same number: what knows more of it.
+// The entry that is kept where a list has one of the same number. What the desk said to this browser stays; a list that says that it was
+// cancelled is noted. Of two lists it is what knows more.
 export function merged(own, other) {
   if (own === undefined) return other;
   if (!isAt(own, other)) return own;
-  const known = (entry) => [entry.cancel?.refund !== undefined, entry.book?.charge !== undefined, entry.book !== null, entry.guests !== null];
+  if (own.listed === undefined) {
+    const isNews = stateOf(own) === "booked" && other.listed.refund !== undefined && !own.saidCancelled;
+    return isNews ? { ...own, saidCancelled: true } : own;
+  }
+  const known = ({ listed, guests }) => [listed.refund !== undefined, listed.charge !== undefined, guests !== null];
   const place = known(other).findIndex((value, index) => value !== known(own)[index]);
   return place >= 0 && known(other)[place] ? other : own;
 }
@@ -160,7 +225,9 @@ export function fragmentOfRecord(text) {
   return `record=${text.trim().slice("record of ".length).replaceAll("\n", ";").replaceAll(" ", "+")}`;
 }
 
+// Null where the fragment is of another kind. Some messengers escape the signs of an address.
 export function recordOfFragment(fragment) {
-  const found = /^#?record=([a-z0-9;+.-]*)$/.exec(fragment);
-  return found === null ? null : `record of ${found[1].replaceAll(";", "\n").replaceAll("+", " ")}\n`;
+  const found = /^#?record=(.*)$/s.exec(fragment);
+  const text = found === null ? null : found[1].replace(/%(?:3B|2B|20)/gi, (escape) => decodeURIComponent(escape));
+  return text === null ? null : `record of ${text.replaceAll(";", "\n").replaceAll("+", " ")}\n`;
 }

@@ -3,7 +3,12 @@
 import { hoursOf } from "./club.mjs";
 import { daysLater, hourText } from "./dates.mjs";
 import { eachAtOnce, exchange, paused } from "./desk.mjs";
-import { element, put } from "./elements.mjs";
+import { button, byName, element, put } from "./elements.mjs";
+import { readFragment } from "./fragment.mjs";
+import { holdPass, keepScreenPass, passOfPage, screenPass } from "./keeping.mjs";
+import { readPass } from "./pass.mjs";
+import { Fault } from "./pass_faults.mjs";
+import { faultText } from "./pass_words.mjs";
 import { hasBegun, slotName } from "./record.mjs";
 import { refusalText } from "./refusals.mjs";
 import { NoReply } from "./replies.mjs";
@@ -24,12 +29,38 @@ function slotsOn(day) {
     .filter((slot) => !hasBegun(slot, moment) && denial("view", slot) === 0);
 }
 
+// Shows the screen with the pass of a link, or of this page, or the one that this browser keeps for it. A link's is kept if somebody says so.
+export function startScreen(loadClub) {
+  document.documentElement.classList.add("hall");
+  for (const id of ["welcome", "views", "day", "bookings", "account"]) byName(id).hidden = true;
+  byName("screen").hidden = false;
+  const text = readFragment(location.hash).text || passOfPage() || screenPass();
+  try {
+    if (text !== null) Object.assign(state, { pass: readPass(text), text: text.trim() });
+  } catch (fault) {
+    if (!(fault instanceof Fault)) throw fault;
+    trouble = faultText(fault);
+  }
+  holdPass(state.pass === null ? null : state.text, "#screen");
+  if (state.pass !== null && state.text !== screenPass()) askToKeep();
+  return runScreen(loadClub);
+}
+
+function askToKeep() {
+  const answer = (isWanted) => () => {
+    const isKept = isWanted && keepScreenPass(state.text);
+    put("notices", ...(isWanted && !isKept ? [element("div", "notice", say("keep-failed"))] : []));
+  };
+  put("notices", element("div", "notice", element("span", "", say("screen-question")),
+    button("", say("keep-yes"), answer(true)), button("", say("keep-no"), answer(false))));
+}
+
 // `loadClub` loads the club's list, or leaves that of before.
-export async function runScreen(loadClub) {
+async function runScreen(loadClub) {
   for (;;) {
     await loadClub();
     if (state.club !== null && state.pass !== null) await renew();
-    else put("screen", element("p", "screen-words", say(state.pass === null ? "screen-no-pass" : "club-missing")));
+    else put("screen", element("p", "screen-words", say(state.pass === null ? "screen-no-pass" : "club-missing"), " ", trouble));
     await paused(MINUTE);
   }
 }

@@ -2,7 +2,7 @@
 // after it came. One tab of a browser sends at a time, and looks into the record before it does, so that two tabs send nothing twice.
 import { pauseBefore } from "./desk.mjs";
 import {
-  answered, drawnNumber, isAt, isLive, newBooking, unfinished, wantsOtherNumber, withCancellation,
+  answered, drawnNumber, isAt, isEntry, isLive, newBooking, stateOf, unfinished, wantsOtherNumber, withCancellation, withRequest,
 } from "./record.mjs";
 import { NoReply } from "./replies.mjs";
 
@@ -33,8 +33,9 @@ export class Sender {
     return this.run();
   }
 
+  // What is kept, but for what no page wrote.
   async entries() {
-    const stored = await this.store.all();
+    const stored = (await this.store.all()).filter(isEntry);
     return stored.map((entry) => this.unsaved.get(`${entry.key}/${entry.number}`) ?? entry);
   }
 
@@ -53,10 +54,18 @@ export class Sender {
     return entry;
   }
 
+  // Asks the desk for what a list names, under its number.
+  async askFor(key, number) {
+    await this.lock(async () => {
+      const entry = await this.store.get(key, number);
+      if (isEntry(entry) && stateOf(entry) === "listed") await this.written(withRequest(entry));
+    });
+  }
+
   async cancel(key, number) {
     await this.lock(async () => {
       const entry = await this.store.get(key, number);
-      if (entry === undefined || entry.cancel !== undefined) return;
+      if (!isEntry(entry) || entry.cancel !== undefined) return;
       this.fresh.add(`cancel ${key}/${number}`);
       await this.written(withCancellation(entry));
     });
@@ -121,7 +130,7 @@ export class Sender {
   async send(key, number) {
     const name = `${key}/${number}`;
     const entry = this.unsaved.get(name) ?? await this.store.get(key, number);
-    const action = entry === undefined ? null : unfinished(entry);
+    const action = isEntry(entry) ? unfinished(entry) : null;
     if (action === null || key !== this.key) {
       if (entry !== undefined) this.tell(entry);
       return true;

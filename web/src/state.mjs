@@ -3,18 +3,22 @@ import { firstDenial } from "./caveats.mjs";
 import { momentIn } from "./dates.mjs";
 import { serverTime } from "./desk.mjs";
 import { facilityOf } from "./club.mjs";
-import { isAt, isLive } from "./record.mjs";
+import { costOf, isAt, isLive, personsOf, slotName, stateOf } from "./record.mjs";
 
 export const state = {
   club: null, // from club.json
   pass: null, // as it was read, with its text as it is sent and the name of its key
   text: "",
+  given: "", // the same with what its key spent before it was lent, which is `base`
+  base: 0,
   key: null,
+  name: "", // of the pass, by which a member chooses it
   isKept: false,
   store: null, // null where the browser keeps nothing
   sender: null,
   entries: [], // the record, of all keys
   account: null, // the reply, with `at`, the moment when it came
+  taken: new Map(), // taken places of slots, by their names, where they were looked up
 };
 
 let shownMoment = { minute: null, zone: null, text: "" };
@@ -40,7 +44,20 @@ export function withKind(slot) {
 // The number of the caveat that denies what is asked, from 1, or 0: as far as the page can tell, before the desk decides.
 export function denial(action, slot, more = {}) {
   const place = slot === undefined ? undefined : withKind(slot);
-  return firstDenial(state.pass, { action, moment: clubMoment() ?? "2000-01-01T00:00", slot: place, ...more });
+  return firstDenial(state.pass, { action, moment: clubMoment() ?? "2000-01-01T00:00", slot: place, spent: spentOfKey(), ...more });
+}
+
+// What the pass's key spent: the desk's word, else what came with the pass and what was booked in this browser.
+export function spentOfKey() {
+  return state.account?.spent ?? ownEntries().reduce((sum, entry) => sum + (isLost(entry) ? 0 : costOf(entry)), state.base);
+}
+
+// Whether its slot has fewer persons in it than it should: then it is gone, or never was.
+export function isLost(entry) {
+  const found = state.taken.get(slotName(entry));
+  const isThere = (each) => ["booked", "listed"].includes(stateOf(each)) && isLive(each);
+  if (found === undefined || !isThere(entry)) return false;
+  return found < personsOf(ownEntries().filter((each) => slotName(each) === slotName(entry) && isThere(each)));
 }
 
 export function ownEntries() {

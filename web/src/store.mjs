@@ -1,6 +1,6 @@
 // Where the record lies: IndexedDB. A promise of `put` is kept once the browser has it on the disk.
+import { placeName } from "./place.mjs";
 
-const DATABASE = "desk";
 const ENTRIES = "bookings";
 
 function finished(request) {
@@ -18,7 +18,7 @@ export class Store {
 
   // Throws where the browser keeps nothing.
   static async open() {
-    const request = indexedDB.open(DATABASE, 1);
+    const request = indexedDB.open(placeName("desk"), 1);
     request.addEventListener("upgradeneeded", () => request.result.createObjectStore(ENTRIES, { keyPath: ["key", "number"] }));
     const database = await finished(request);
     database.addEventListener("versionchange", () => database.close());

@@ -2,8 +2,8 @@
 import assert from "node:assert/strict";
 import { test } from "node:test";
 import {
-  answered, drawnNumber, fragmentOfRecord, hasBegun, isLive, isTooFarAhead, merged, newBooking, readRecord, recordOfFragment, recordText,
-  refundAt, stateOf, unfinished, wantsOtherNumber, withCancellation,
+  answered, canBeAsked, compared, drawnNumber, fragmentOfRecord, hasBegun, isEntry, isLive, isTooFarAhead, merged, newBooking, readRecord, recordOfFragment, recordText,
+  refundAt, stateOf, unfinished, wantsOtherNumber, withCancellation, withRequest,
 } from "../src/record.mjs";
 
 const SLOT = { facility: "court-1", day: "2026-05-01", hour: 18 };
@@ -68,10 +68,16 @@ test("the record as a text, there and back", () => {
     + "11 court-1 2026-05-01 18\n");
   const read = readRecord(text, 5);
   assert.equal(read.key, "amy-1");
-  assert.deepEqual(read.entries.map(stateOf), ["booked", "asked", "cancelling", "cancelled", "booked"]);
+  assert.deepEqual(read.entries.map(stateOf), Array(5).fill("listed"));
+  assert.deepEqual(read.entries.map(unfinished), Array(5).fill(null));
+  assert.deepEqual(read.entries.map(isLive), [true, true, true, false, true]);
+  assert.deepEqual(read.entries.map(canBeAsked), [false, true, false, false, false]);
+  assert.deepEqual(read.entries.map((entry) => refundAt(entry, "2026-04-30T18:00")), [601, null, 601, 601, null]);
   assert.equal(recordText("amy-1", read.entries), text);
-  assert.ok(read.entries.every((entry) => entry.unsure));
+  assert.ok(read.entries.every((entry) => entry.unsure && isEntry(entry)));
+  assert.deepEqual([stateOf(withRequest(read.entries[1])), unfinished(withRequest(read.entries[1]))], ["asked", "book"]);
   assert.equal(recordOfFragment(`#${fragmentOfRecord(text)}`), text);
+  assert.equal(recordOfFragment(`#${fragmentOfRecord(text).replaceAll(";", "%3B").replaceAll("+", "%20")}`), text);
   assert.equal(recordOfFragment("#AgEJY2x1Yi1kZXNr"), null);
   assert.equal(readRecord(text.replaceAll("\n", "\r\n\r\n"), 5).entries.length, 5);
 });
@@ -84,10 +90,27 @@ test("a text that is no record says which line", () => {
   for (const text of ["", "record of Amy", "record", "7 court-1 2026-05-01 18"]) assert.deepEqual(readRecord(text, 5), { wrong: 1 }, text);
 });
 
-test("of two entries of one number the one that knows more is kept", () => {
+test("what the desk said stays beside what a list says, and of two lists it is what knows more", () => {
   const cancelled = { ...BOOKED, cancel: { booking: "amy-1/7", refund: 0 } };
-  const known = { ...ASKED, guests: null, book: {} };
-  for (const [own, other, kept] of [[undefined, ASKED, ASKED], [ASKED, BOOKED, BOOKED], [BOOKED, ASKED, BOOKED], [BOOKED, cancelled, cancelled],
-    [cancelled, BOOKED, cancelled], [known, BOOKED, BOOKED], [BOOKED, known, BOOKED], [BOOKED, BOOKED, BOOKED],
-    [BOOKED, { ...cancelled, hour: 19 }, BOOKED]]) assert.equal(merged(own, other), kept);
+  const [known, asked, booked, gone] = readRecord(`record of amy-1\n${["", " guests 2", " guests 2 charge 601 left 1", " guests 2 charge 601 left 1 refund 0"]
+    .map((end) => `7 court-1 2026-05-01 18${end}`).join("\n")}\n`, 5).entries;
+  for (const [own, other, kept] of [[undefined, asked, asked], [ASKED, booked, ASKED], [BOOKED, asked, BOOKED], [BOOKED, booked, BOOKED], [cancelled, booked, cancelled],
+    [cancelled, gone, cancelled], [ASKED, gone, ASKED], [known, booked, booked], [booked, known, booked], [booked, gone, gone], [gone, booked, gone],
+    [BOOKED, { ...gone, hour: 19 }, BOOKED], [booked, { ...gone, hour: 19 }, booked]]) assert.equal(merged(own, other), kept);
+  const noted = merged(BOOKED, gone);
+  assert.deepEqual([stateOf(noted), isLive(noted), noted.saidCancelled], ["booked", true, true]);
+  assert.equal(merged(noted, gone), noted);
+  assert.equal(answered(withCancellation(noted), "cancel", { booking: "amy-1/7", refund: 0 }).saidCancelled, undefined);
+});
+
+test("what the desk counts beside the list says what is missing, and what may be gone", () => {
+  const moment = "2026-04-01T12:00";
+  const at = (number, charge, more = {}) => ({ ...BOOKED, number, book: { booking: `amy-1/${number}`, charge, left: 1 }, ...more });
+  const list = [at(1, 400), at(2, 200), at(3, 601, { cancel: { booking: "amy-1/3", refund: 300 } }), { ...ASKED, number: 4, book: { fault: 18 } }];
+  const rows = [[901, "same", 0, []], [1101, "more", 200, []], [501, "less", 400, [1]], [701, "less", 200, [1, 2]], [801, "less", 100, [2]], [894, "less", 7, [1, 2]]];
+  for (const [spent, is, points, numbers] of rows) {
+    const found = compared(list, spent, moment);
+    assert.deepEqual([found.is, found.points, found.entries.map(({ number }) => number)], [is, points, numbers], spent);
+  }
+  for (const open of [ASKED, withCancellation(BOOKED), { ...BOOKED, book: {} }]) assert.equal(compared([...list, open], 901, moment), null);
 });

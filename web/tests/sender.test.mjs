@@ -1,7 +1,7 @@
 // The sender over a store and a desk of the test's: whatever fails, nothing is booked twice and nothing acknowledged is lost.
 import assert from "node:assert/strict";
 import { test } from "node:test";
-import { stateOf, unfinished } from "../src/record.mjs";
+import { isEntry, readRecord, stateOf, unfinished } from "../src/record.mjs";
 import { NoReply } from "../src/replies.mjs";
 import { NotStored, Sender } from "../src/sender.mjs";
 
@@ -251,16 +251,54 @@ test("200 bookings and cancellations, with requests lost at every place and tabs
       }
     }
   };
-  for (let hour = 0; hour < 200; hour += 1) {
-    const entry = await sender.book({ ...SLOT, hour }, hour % 3, false);
+  for (let place = 0; place < 200; place += 1) {
+    const slot = { ...SLOT, facility: `court-${place}`, hour: place % 24 };
+    const entry = await sender.book(slot, place % 3, false);
     await surviving(() => sender.run());
-    const booked = [...store.rows.values()].find((each) => each.hour === hour && stateOf(each) === "booked");
+    const booked = [...store.rows.values()].find((each) => each.facility === slot.facility && stateOf(each) === "booked");
     assert.ok(booked, `${entry.number}`);
-    if (hour % 2) await sender.cancel("amy-1", booked.number);
+    if (place % 2) await sender.cancel("amy-1", booked.number);
     await surviving(() => sender.run());
   }
   const rows = [...store.rows.values()].filter((entry) => stateOf(entry) !== "refused");
   assert.ok(rows.every((entry) => unfinished(entry) === null));
   assert.deepEqual(rows.map((entry) => [entry.number, entry.guests, stateOf(entry) === "cancelled"]).sort(),
     [...desk.bookings].map(([name, { guests, cancelled }]) => [Number(name.split("/")[1]), guests, cancelled]).sort());
+});
+
+test("what a list names is never sent by itself, and once it is asked for only under its number", async () => {
+  const store = new MemoryStore();
+  const desk = new Desk();
+  const { entries } = readRecord("record of amy-1\n7 court-1 2026-05-01 18 guests 1\n8 court-1 2026-05-01 19 guests 0 charge 200 left 3 cancel\n"
+    + "9 court-1 2026-05-01 20 guests 0 cancel\n", 5);
+  await store.put(...entries);
+  const sender = senderOf(store, desk);
+  await sender.usePass("pass", "amy-1");
+  await sender.run();
+  assert.deepEqual(desk.log, []);
+  await sender.askFor("amy-1", 7);
+  await sender.run();
+  assert.deepEqual(desk.log, ["book 7"]);
+  assert.deepEqual([stateOf(await store.get("amy-1", 7)), (await store.get("amy-1", 7)).book.charge], ["booked", 400]);
+  await sender.askFor("amy-1", 7); // it isn't a list's any more
+  await sender.cancel("amy-1", 8);
+  await sender.run();
+  assert.deepEqual(desk.log, ["book 7", "cancel 8"]);
+  assert.equal((await store.get("amy-1", 8)).notCancelled.fault, 15);
+  assert.equal(stateOf(await store.get("amy-1", 8)), "listed");
+});
+
+test("what no page wrote is neither listed nor sent", async () => {
+  const store = new MemoryStore();
+  const desk = new Desk();
+  const good = { key: "amy-1", number: 7, ...SLOT, guests: 0, book: null, unsure: true, asked: 1 };
+  const odd = [{ number: "7" }, { number: 0 }, { number: 1e9 }, { facility: "Court" }, { facility: "../x" }, { day: "2026-02-30" }, { day: "2026-05" }, { hour: 24 },
+    { hour: "18" }, { guests: null }, { guests: 50 }, { guests: "2" }, { book: "booked" }, { book: undefined }, { cancel: "x" }, { listed: null }, { listed: {} },
+    { asked: "now" }, { key: "Amy" }, { key: ["amy-1"] }];
+  for (const [place, more] of odd.entries()) store.rows.set(`odd ${place}`, { ...good, ...more });
+  for (const [place, value] of [null, 7, "x", []].entries()) store.rows.set(`none ${place}`, value);
+  const sender = senderOf(store, desk);
+  await sender.usePass("pass", "amy-1");
+  assert.deepEqual([await sender.entries(), desk.log], [[], []]);
+  assert.ok(isEntry(good));
 });

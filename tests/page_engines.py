@@ -1,0 +1,130 @@
+"""Other browsers than chromium for the scripts that drive the pages: Debian's firefox-esr by its Marionette, and WebKitGTK's MiniBrowser by its
+driver, which wants a display.
+
+Read by page_books.py. Wants Debian's firefox-esr, webkit2gtk-driver, xvfb and python3-selenium."""
+import base64
+import json
+import os
+import socket
+import subprocess
+import tempfile
+import time
+from pathlib import Path
+
+from selenium import webdriver
+from selenium.webdriver.webkitgtk.options import Options
+
+import desk
+
+MINI_BROWSER = "/usr/lib/x86_64-linux-gnu/webkit2gtk-4.1/MiniBrowser"
+PREFERENCES = {
+    "marionette.port": None, "intl.accept_languages": "en-US", "network.dns.localDomains": "desk.example.org", "app.update.enabled": False,
+    "datareporting.policy.dataSubmissionEnabled": False, "network.captive-portal-service.enabled": False, "network.connectivity-service.enabled": False,
+    "browser.safebrowsing.malware.enabled": False, "browser.safebrowsing.phishing.enabled": False, "services.settings.server": "data:,",
+    "browser.shell.checkDefaultBrowser": False, "extensions.getAddons.cache.enabled": False, "dom.serviceWorkers.enabled": True,
+}
+WIDTH, HEIGHT = 400, 820
+
+
+class Firefox:
+    """Firefox without a window. The page's own names are looked up in the machine itself."""
+
+    name, host = "Firefox", "desk.example.org"
+
+    def __init__(self):
+        self.folder = tempfile.TemporaryDirectory(ignore_cleanup_errors=True)
+        port, self.count, self.rest = desk.free_port(), 0, b""
+        preferences = {**PREFERENCES, "marionette.port": port}
+        Path(self.folder.name, "user.js").write_text("".join(f"user_pref({json.dumps(name)}, {json.dumps(value)});\n" for name, value in preferences.items()), encoding="utf-8")
+        size = {"MOZ_HEADLESS_WIDTH": str(WIDTH), "MOZ_HEADLESS_HEIGHT": str(HEIGHT)}
+        self.process = subprocess.Popen(["firefox-esr", "--headless", "--marionette", "--no-remote", "--profile", self.folder.name],
+                                        stdout=subprocess.DEVNULL, stderr=subprocess.DEVNULL, env={**os.environ, "HOME": self.folder.name, **size})
+        end = time.monotonic() + 60
+        while True:
+            try:
+                self.socket = socket.create_connection(("127.0.0.1", port))
+                break
+            except OSError:
+                if time.monotonic() > end:
+                    raise
+                time.sleep(0.2)
+        self.received()
+        self.version = self.command("WebDriver:NewSession", acceptInsecureCerts=True)["capabilities"]["browserVersion"]
+        self.command("WebDriver:SetWindowRect", width=WIDTH, height=HEIGHT)
+
+    def received(self):
+        """A message: its length in digits, a colon, and JSON."""
+        while b":" not in self.rest:
+            self.rest += self.come()
+        length, _, self.rest = self.rest.partition(b":")
+        while len(self.rest) < int(length):
+            self.rest += self.come()
+        message, self.rest = self.rest[:int(length)], self.rest[int(length):]
+        return json.loads(message)
+
+    def come(self):
+        data = self.socket.recv(65536)
+        if not data:
+            raise ConnectionError("Firefox is gone")
+        return data
+
+    def command(self, name, **words):
+        self.count += 1
+        message = json.dumps([0, self.count, name, words]).encode()
+        self.socket.sendall(f"{len(message)}:".encode() + message)
+        _, _, fault, result = self.received()
+        if fault:
+            raise RuntimeError(f"{name}: {fault}")
+        return result
+
+    def open(self, address):
+        self.command("WebDriver:Navigate", url="about:blank")
+        self.command("WebDriver:Navigate", url=address)
+
+    def run(self, script, *words):
+        """A script beside the page's, which sees the page's functions and not its constants."""
+        return self.command("WebDriver:ExecuteScript", script=script, args=list(words), sandbox=None)["value"]
+
+    def picture(self):
+        return base64.b64decode(self.command("WebDriver:TakeScreenshot", full=False)["value"])
+
+    def close(self):
+        self.process.kill()
+        self.process.wait()
+        self.folder.cleanup()
+
+
+class WebKit:
+    """WebKitGTK's small browser on a display of its own. It knows the machine's names alone."""
+
+    name, host = "WebKit", "localhost"
+
+    def __init__(self):
+        read, write = os.pipe()
+        self.display = subprocess.Popen(["Xvfb", "-displayfd", str(write), "-screen", "0", "1280x900x24"], pass_fds=[write], stdout=subprocess.DEVNULL, stderr=subprocess.DEVNULL)
+        os.close(write)
+        with os.fdopen(read) as come:
+            number = come.readline().strip()
+        options = Options()
+        options.binary_location = MINI_BROWSER
+        options.add_argument("--automation")
+        options.set_capability("acceptInsecureCerts", True)
+        os.environ.update(DISPLAY=f":{number}", WEBKIT_DISABLE_SANDBOX_THIS_IS_DANGEROUS="1")  # which the driver hands on
+        self.driver = webdriver.WebKitGTK(executable_path="/usr/bin/WebKitWebDriver", options=options)
+        self.version = self.driver.capabilities.get("browserVersion", "")
+        self.driver.set_window_size(WIDTH, HEIGHT)
+
+    def open(self, address):
+        self.driver.get("about:blank")
+        self.driver.get(address)
+
+    def run(self, script, *words):
+        return self.driver.execute_script(script, *words)
+
+    def picture(self):
+        return self.driver.get_screenshot_as_png()
+
+    def close(self):
+        self.driver.quit()
+        self.display.kill()
+        self.display.wait()

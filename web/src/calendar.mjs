@@ -1,0 +1,44 @@
+// A booking for a calendar (RFC 5545), with a reminder. Its times are instants, so that no calendar needs the club's zone.
+import { bytesOf } from "./bytes.mjs";
+import { momentIn, startOf } from "./dates.mjs";
+
+const LONGEST_LINE = 75; // bytes
+const REMINDER = "-PT2H";
+
+// The instant, in milliseconds, at which a wall clock of the zone first shows a moment; where it is left out, that of the clock before.
+export function instantOf(zone, moment) {
+  const wanted = Date.parse(`${moment}Z`);
+  const lead = (instant) => Date.parse(`${momentIn(zone, instant)}Z`) - instant;
+  const found = [wanted - lead(wanted - 86400000), wanted - lead(wanted + 86400000)].sort((a, b) => a - b);
+  return found.find((instant) => momentIn(zone, instant) === moment) ?? found.at(-1);
+}
+
+function stamp(instant) {
+  return new Date(instant).toISOString().replace(/[-:]|\.[0-9]{3}/g, "");
+}
+
+function escaped(text) {
+  return text.replace(/[\\;,]/g, "\\$&").replace(/\r?\n/g, "\\n");
+}
+
+// A line in pieces of 75 bytes at most, none of which ends within a character.
+function folded(line) {
+  const pieces = [""];
+  for (const letter of line) {
+    const most = LONGEST_LINE - (pieces.length > 1 ? 1 : 0);
+    if (bytesOf(pieces.at(-1) + letter).length > most) pieces.push("");
+    pieces.push(pieces.pop() + letter);
+  }
+  return pieces.join("\r\n ");
+}
+
+// `title` is what, `place` where, `host` the page's; `now` in milliseconds.
+export function calendarText({ entry, zone, title, place, host, now }) {
+  const begins = instantOf(zone, startOf(entry));
+  return [
+    "BEGIN:VCALENDAR", "VERSION:2.0", `PRODID:-//${host}//booking//EN`, "BEGIN:VEVENT", `UID:${entry.number}-${entry.facility}-${entry.day}@${host}`,
+    `DTSTAMP:${stamp(now)}`, `DTSTART:${stamp(begins)}`, `DTEND:${stamp(begins + 3600000)}`, `SUMMARY:${escaped(title)}`,
+    ...(place === "" ? [] : [`LOCATION:${escaped(place)}`]),
+    "BEGIN:VALARM", "ACTION:DISPLAY", `TRIGGER:${REMINDER}`, `DESCRIPTION:${escaped(title)}`, "END:VALARM", "END:VEVENT", "END:VCALENDAR", "",
+  ].map(folded).join("\r\n");
+}

@@ -1,0 +1,102 @@
+// A club to try: this page's requests are answered in the page itself, by a small desk, and nothing is sent. What it keeps has names of its
+// own, so that it meets no club's.
+import { daysLater, hourText, momentIn } from "./dates.mjs";
+import { withName } from "./place.mjs";
+import { writePass } from "./pass.mjs";
+import { bytesOf } from "./bytes.mjs";
+import { chain, SmallDesk } from "./small_desk.mjs";
+
+const ZONE = "Europe/Berlin";
+const KEPT = "club to try";
+const ROOTS = { "anna-1": 1, "anna-lend-1": 2, "anna-lend-2": 3, others: 4 };
+const OTHERS_ASK = 60; // bookings of others, spread over the days
+const FACILITIES = [
+  ["court-1", "Court 1", "court", 4, 200, 8, 22, "Clay"], ["court-2", "Court 2", "court", 4, 200, 8, 22, "Clay"], ["court-3", "Court 3 (indoor)", "court", 4, 300, 7, 23, ""],
+  ["boat-1", "Double scull", "boat", 2, 150, 6, 21, "Bring your own life jacket"], ["room-1", "Club room", "room", 1, 600, 8, 23, ""],
+];
+
+withName("demo ");
+
+function rootOf(key) {
+  return new Uint8Array(16).fill(ROOTS[key]);
+}
+
+export async function passToTry(key) {
+  const identifier = bytesOf(`key:${key}`);
+  return writePass({ form: "v2", location: new Uint8Array(), identifier, caveats: [], signature: await chain(rootOf(key), identifier, []) });
+}
+
+function momentNow() {
+  return momentIn(ZONE, Date.now());
+}
+
+// Some hours are taken by others, the same ones at each start of a day.
+function othersBookings() {
+  const today = momentNow().slice(0, 10);
+  return Array.from({ length: OTHERS_ASK }, (_, place) => {
+    const [facility, , , places, price, opens, shuts] = FACILITIES[place * 7 % FACILITIES.length];
+    const guests = place % places;
+    const hour = opens + place * 5 % (shuts - opens);
+    return { key: "others", number: place + 1, facility, day: daysLater(today, place % 10), hour, guests, charge: price * (guests + 1), left: 0, cancelled: false, refund: 0 };
+  });
+}
+
+function keptBookings() {
+  try {
+    const bookings = JSON.parse(localStorage.getItem(KEPT) ?? "null");
+    return Array.isArray(bookings) ? bookings : null;
+  } catch {
+    return null;
+  }
+}
+
+function keepBookings(bookings) {
+  try {
+    localStorage.setItem(KEPT, JSON.stringify(bookings));
+  } catch {
+    // It is gone once the page is closed.
+  }
+}
+
+function deskToTry() {
+  return new SmallDesk({
+    members: { anna: { credited: 10000, quota: 20 }, others: { credited: 999999, quota: 99 } },
+    facilities: Object.fromEntries(FACILITIES.map(([name, , kind, places, price, opens, shuts]) => [name, { kind, places, price, opens, shuts }])),
+    keys: Object.fromEntries(Object.keys(ROOTS).map((key) => [key, { member: key === "others" ? key : "anna", root: rootOf(key), revoked: false }])),
+    bookings: keptBookings() ?? othersBookings(),
+  });
+}
+
+const CLUB = {
+  name: "Club to try", zone: ZONE,
+  facilities: FACILITIES.map(([name, title, kind, , , opens, shuts, about]) => ({ name, title, kind, opens, shuts, about })),
+};
+
+const PATH = /^\/slots\/([a-z0-9-]+)\/([0-9-]+)\/([0-9]{2})(?:\/bookings\/([0-9]+))?$/;
+const ACTIONS_OF = { GET: "view", PUT: "book", DELETE: "cancel" };
+
+function askedOf(path, { method = "GET", body }) {
+  if (path === "/account") return { action: "account" };
+  const [, facility, day, hour, number] = PATH.exec(path);
+  const slot = { facility, day, hour: Number(hourText(Number(hour))) };
+  return { action: ACTIONS_OF[method], slot, number: Number(number), guests: body === undefined ? 0 : JSON.parse(body).guests };
+}
+
+function replyOf(status, body) {
+  return new Response(JSON.stringify(body), { status, headers: { "Content-Type": "application/json", Date: new Date().toUTCString() } });
+}
+
+// Answers what the page asks of its origin.
+function answerHere(desk) {
+  return async (path, options = {}) => {
+    if (path === "club.json") return replyOf(200, CLUB);
+    const text = (options.headers?.Authorization ?? "").replace(/^Bearer /, "");
+    const { status, body } = await desk.answer(text, askedOf(path, options), momentNow());
+    if (options.method === "PUT" || options.method === "DELETE") keepBookings(desk.bookings);
+    return replyOf(status, body);
+  };
+}
+
+export function openClubToTry() {
+  globalThis.fetch = answerHere(deskToTry());
+}

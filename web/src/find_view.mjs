@@ -1,0 +1,194 @@
+// Finding a time: the facilities of a kind, over a week, at some hours; and the next day on which one is free.
+import { offerBooking } from "./booking_dialog.mjs";
+import { KINDS } from "./caveats.mjs";
+import { hoursOf, titleOf } from "./club.mjs";
+import { daysLater, hourText } from "./dates.mjs";
+import { ask, eachAtOnce } from "./desk.mjs";
+import { closeDialog, openDialog } from "./dialog.mjs";
+import { button, byName, element, put } from "./elements.mjs";
+import { keepSearch, keptSearch } from "./keeping.mjs";
+import { isDenied } from "./points.mjs";
+import { DAYS_AHEAD, hasBegun, isTooFarAhead, slotName, stateOf } from "./record.mjs";
+import { refusalText } from "./refusals.mjs";
+import { NoReply } from "./replies.mjs";
+import { canSend, clubMoment, clubTime, denial, liveAt, state } from "./state.mjs";
+import { dateText, say, shortDayText } from "./words.mjs";
+
+const DAYS = 7;
+const FIRST_HOUR = 18;
+
+let firstDay = null;
+let search = { kind: null, from: FIRST_HOUR, to: FIRST_HOUR + 2 };
+let views = new Map(); // the desk's words on slots, by their names; "failed" where none came
+let findRound = 0; // of looking: what an older one finds isn't shown
+
+function facilitiesOf(kind) {
+  return state.club.facilities.filter((facility) => facility.kind === kind);
+}
+
+function kindsToFind() {
+  return KINDS.filter((kind) => facilitiesOf(kind).some((facility) => hoursOf(facility).some((hour) => isToSee({ facility: facility.name, day: firstDay, hour }))));
+}
+
+// Whether a slot can still be booked, as far as the page knows, and the pass shows it.
+function isToSee(slot) {
+  const moment = clubMoment();
+  return denial("view", slot) === 0 && !hasBegun(slot, moment) && !isTooFarAhead(slot, moment);
+}
+
+function slotsAt(day, hour) {
+  return facilitiesOf(search.kind).filter((facility) => facility.opens <= hour && hour < facility.shuts)
+    .map((facility) => ({ facility: facility.name, day, hour })).filter(isToSee);
+}
+
+function hoursToFind() {
+  return Array.from({ length: search.to - search.from }, (_, place) => search.from + place);
+}
+
+function isFree(slot) {
+  const view = views.get(slotName(slot));
+  return typeof view === "object" && !view.closed && view.taken < view.places && !isDenied(slot, view, 0);
+}
+
+function hasOwn(slot) {
+  return liveAt(slot).some((entry) => stateOf(entry) !== "listed");
+}
+
+// ---- What is to be seen
+
+// Shows seven days from a day on.
+export function showFind(day) {
+  firstDay = day;
+  search = { ...search, ...keptSearch() };
+  const kinds = kindsToFind();
+  if (!kinds.includes(search.kind)) search.kind = kinds[0] ?? null;
+  put("find-kinds", ...(kinds.length < 2 ? [] : kinds.map((kind) => {
+    const chip = button("chip", say(`${kind}s`), () => changeSearch({ kind }));
+    chip.setAttribute("aria-pressed", String(kind === search.kind));
+    return chip;
+  })));
+  fillHours("find-from", search.from, 0);
+  fillHours("find-to", search.to, 1);
+  put("find-news");
+  lookWeek();
+}
+
+function fillHours(id, chosen, first) {
+  byName(id).replaceChildren(...Array.from({ length: 24 }, (_, place) => first + place)
+    .map((hour) => new Option(`${hourText(hour)}:00`, String(hour), false, hour === chosen)));
+}
+
+function changeSearch(news) {
+  search = { ...search, ...news };
+  if (search.to <= search.from) search[news.to === undefined ? "to" : "from"] = news.to === undefined ? search.from + 1 : search.to - 1;
+  keepSearch(search);
+  showFind(firstDay);
+}
+
+function showGrid() {
+  const days = Array.from({ length: DAYS }, (_, count) => daysLater(firstDay, count));
+  const hours = hoursToFind();
+  const head = element("tr", "", element("td", ""), ...hours.map((hour) => Object.assign(element("th", "", `${hourText(hour)}:00`), { scope: "col" })));
+  const rows = days.map((day) => element("tr", "", Object.assign(element("th", "day-name", shortDayText(day)), { scope: "row" }),
+    ...hours.map((hour) => element("td", "", cellFor(day, hour)))));
+  put("find-grid", element("thead", "", head), element("tbody", "", ...rows));
+}
+
+function cellFor(day, hour) {
+  const slots = slotsAt(day, hour);
+  const free = slots.filter(isFree);
+  const isMine = slots.some(hasOwn);
+  const isWaiting = slots.some((slot) => !views.has(slotName(slot)));
+  const isFailed = slots.some((slot) => views.get(slotName(slot)) === "failed");
+  const words = isWaiting ? "\u2026" : free.length > 0 ? say("find-free", { count: free.length }) : isFailed ? say("cell-failed")
+    : slots.length === 0 ? "\u2013" : say("cell-full");
+  const made = button(`slot ${isMine ? "mine" : free.length > 0 ? "free" : "past"}`, words, () => offerFound(day, hour));
+  if (isMine) made.replaceChildren(element("span", "", say("cell-mine-only")), element("small", "", words));
+  made.disabled = free.length === 0 || !canSend();
+  made.setAttribute("aria-label", `${dateText(day)}, ${hourText(hour)}:00: ${isMine ? `${say("cell-mine-only")}, ` : ""}${words}`);
+  return made;
+}
+
+function offerFound(day, hour) {
+  const free = slotsAt(day, hour).filter(isFree);
+  const whenDone = () => lookAtSlots(free).then(showGrid);
+  const offer = (slot) => offerBooking(slot, views.get(slotName(slot)), whenDone);
+  if (free.length === 1) {
+    offer(free[0]);
+    return;
+  }
+  openDialog(say("slot-time", { day: dateText(day), from: `${hourText(hour)}:00`, to: `${hourText(hour + 1)}:00` }), [
+    element("div", "buttons", ...free.map((slot) => {
+      const view = views.get(slotName(slot));
+      const words = view.places === 1 ? say("cell-one-free") : say("cell-free", { left: view.places - view.taken, places: view.places });
+      const made = button("wide-button", "", () => offer(slot));
+      made.append(titleOf(state.club, slot.facility), element("small", "", ` ${words}, ${say("cell-price", { count: view.price })}`));
+      return made;
+    }), button("", say("back"), closeDialog)),
+  ]);
+}
+
+// ---- Looking
+
+async function lookAtSlots(slots, goesOn = () => true) {
+  let refusal = null;
+  await eachAtOnce([...slots], async (slot) => {
+    try {
+      const reply = await ask(state.text, "view", slot);
+      views.set(slotName(slot), reply.fault === undefined ? reply : "failed");
+      if (reply.fault !== undefined) refusal = refusalText(reply);
+    } catch (fault) {
+      if (!(fault instanceof NoReply)) throw fault;
+      views.set(slotName(slot), "failed");
+    }
+  }, goesOn);
+  return refusal;
+}
+
+async function lookWeek() {
+  findRound += 1;
+  const mine = findRound;
+  views = new Map();
+  showGrid();
+  if (!navigator.onLine) {
+    put("find-looked", say("looked-offline"));
+    return;
+  }
+  put("find-looked", say("find-looking"));
+  const slots = Array.from({ length: DAYS }, (_, count) => daysLater(firstDay, count)).flatMap((day) => hoursToFind().flatMap((hour) => slotsAt(day, hour)));
+  const refusal = await lookAtSlots(slots, () => mine === findRound);
+  if (mine !== findRound) return;
+  showGrid();
+  put("find-looked", refusal ?? say("looked", { time: clubTime() }));
+}
+
+// Goes day by day until one has something free, and shows the days from there.
+async function findNext() {
+  findRound += 1;
+  const mine = findRound;
+  const last = daysLater(clubMoment().slice(0, 10), DAYS_AHEAD);
+  for (let day = firstDay; day <= last; day = daysLater(day, 1)) {
+    put("find-news", say("find-searching", { day: shortDayText(day) }));
+    const slots = hoursToFind().flatMap((hour) => slotsAt(day, hour));
+    await lookAtSlots(slots, () => mine === findRound);
+    if (mine !== findRound) return;
+    const found = slots.find(isFree);
+    if (found === undefined) continue;
+    showFind(day);
+    put("find-news", say("find-found", { facility: titleOf(state.club, found.facility), day: dateText(day), time: `${hourText(found.hour)}:00` }));
+    return;
+  }
+  put("find-news", say("find-none"));
+}
+
+export function setUpFind() {
+  byName("find-from").addEventListener("change", (event) => changeSearch({ from: Number(event.target.value) }));
+  byName("find-to").addEventListener("change", (event) => changeSearch({ to: Number(event.target.value) }));
+  byName("find-next").addEventListener("click", findNext);
+  byName("find-before").addEventListener("click", () => {
+    const today = clubMoment().slice(0, 10);
+    const day = daysLater(firstDay, -DAYS);
+    showFind(day < today ? today : day);
+  });
+  byName("find-after").addEventListener("click", () => showFind(daysLater(firstDay, DAYS)));
+}

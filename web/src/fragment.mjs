@@ -1,0 +1,19 @@
+// What came after # of the page's address: a pass, a list of bookings, spare passes, or that this is the hall's screen, with its pass or
+// without.
+import { textOfFragment } from "./pass.mjs";
+import { recordOfFragment } from "./record.mjs";
+
+const SCREEN = /^#screen(?:=|$)/;
+
+export function isScreen(fragment) {
+  return SCREEN.test(fragment);
+}
+
+// Its kind, "none", "screen", "record", "spare" or "pass", and its text.
+export function readFragment(fragment) {
+  if (fragment.length < 2) return { kind: "none", text: "" };
+  if (isScreen(fragment)) return { kind: "screen", text: textOfFragment(fragment.replace(/^#screen=?/, "#")) };
+  if (fragment.startsWith("#spare=")) return { kind: "spare", text: textOfFragment(`#${fragment.slice("#spare=".length)}`) };
+  const record = recordOfFragment(fragment);
+  return record === null ? { kind: "pass", text: textOfFragment(fragment) } : { kind: "record", text: record };
+}

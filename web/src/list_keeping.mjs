@@ -1,0 +1,36 @@
+// Her list is in this browser alone: the browser is asked to keep it for good, and she is reminded to take it along.
+import { byName, put } from "./elements.mjs";
+import { noteTakenAlong, takenAlong } from "./keeping.mjs";
+import { isLive } from "./record.mjs";
+import { ownEntries, state } from "./state.mjs";
+import { say } from "./words.mjs";
+
+const REMINDED_FROM = 3; // bookings
+
+let persists = null; // whether the browser promised to keep it, or null where that isn't known
+
+// A browser asks its user, or decides by itself.
+export async function askToPersist() {
+  if (persists === true) return;
+  persists = await navigator.storage?.persist?.().catch(() => null) ?? null;
+  showListKept();
+}
+
+export async function lookWhetherPersists() {
+  persists = await navigator.storage?.persisted?.().catch(() => null) ?? null;
+  showListKept();
+}
+
+export function showListKept() {
+  const own = state.pass === null ? [] : ownEntries();
+  put("list-kept", ...(own.length > 0 && persists !== null ? [say(persists ? "list-persists" : "list-may-go")] : []));
+  const along = takenAlong(state.key);
+  const missing = own.filter((entry) => isLive(entry) && entry.listed === undefined && !along.has(entry.number)).length;
+  byName("list-remind").hidden = missing < REMINDED_FROM;
+  put("list-remind-words", say("list-remind", { count: missing }));
+}
+
+export function noteTaken() {
+  noteTakenAlong(state.key, ownEntries().map((entry) => entry.number));
+  showListKept();
+}

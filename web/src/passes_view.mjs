@@ -1,0 +1,222 @@
+// The passes of this browser: which one is used, which are kept, and how another one comes in.
+import { button, byName, element, put } from "./elements.mjs";
+import { readFragment } from "./fragment.mjs";
+import { dropPass, holdPass, keepForTab, keepPass, keptPasses, passOfPage, passOfTab, plainName } from "./keeping.mjs";
+import { shown } from "./bytes.mjs";
+import { keyName, pastedText, readPass, sentText, splitGiven, withSpent } from "./pass.mjs";
+import { Fault } from "./pass_faults.mjs";
+import { faultContent } from "./pass_words.mjs";
+import { state } from "./state.mjs";
+import { say } from "./words.mjs";
+
+let isAsked = false; // whether the pass came in a link and nobody said yet if it is to be kept
+let isEntering = false; // whether another pass is to be entered
+const used = new Map(); // the names of passes that this page used, by their texts
+let page = {}; // what the page does: begin(), show(), and keepFailed()
+
+export function isPassShown() {
+  return state.pass !== null && !isEntering;
+}
+
+// Takes a pass that was pasted, kept or in a link. Throws a Fault where it is none.
+function takePass(whole) {
+  const { text, spent } = splitGiven(whole);
+  const pass = readPass(text);
+  const sent = sentText(pass, text);
+  const given = withSpent(sent, spent);
+  const key = keyName(pass);
+  const kept = keptPasses().find((each) => each.text === given);
+  const name = kept?.name ?? used.get(given) ?? freeName(plainName(key ?? shown(pass.identifier)) || "?");
+  used.set(given, name);
+  Object.assign(state, { pass, text: sent, given, base: spent, key, name, isKept: kept !== undefined, account: null });
+  isEntering = false;
+}
+
+// A name that no other pass has.
+function freeName(name) {
+  const taken = new Set([...keptPasses().map((each) => each.name), ...used.values()]);
+  for (let count = 1; ; count += 1) {
+    const free = count === 1 ? name : `${name} (${count})`;
+    if (!taken.has(free)) return free;
+  }
+}
+
+function showFault(fault, text) {
+  put("given-fault", ...faultContent(fault));
+  byName("given").value = text;
+  byName("given").setAttribute("aria-invalid", "true");
+}
+
+// Whether a text was a pass, which is then the one that is used.
+function wasTaken(text) {
+  try {
+    takePass(text);
+    return true;
+  } catch (fault) {
+    if (!(fault instanceof Fault)) throw fault;
+    return false;
+  }
+}
+
+// What came in the address, which is cleaned at once; else the pass of this page, of this tab, or the one of this browser that was used last.
+// Returns what came that is no pass, with its kind and text: a list, or spare passes.
+export function findPass() {
+  const { kind, text } = readFragment(location.hash);
+  const held = passOfPage();
+  if (location.hash !== "") holdPass(held);
+  let wrong = null;
+  if (kind === "pass") {
+    try {
+      takePass(text);
+      holdPass(state.given);
+      isAsked = !state.isKept;
+      return { kind: "none", text: "" };
+    } catch (fault) {
+      if (!(fault instanceof Fault)) throw fault;
+      wrong = fault;
+    }
+  }
+  if (state.pass === null) findKept(held);
+  if (wrong !== null) {
+    showFault(wrong, text);
+    isEntering = true;
+  }
+  return { kind, text };
+}
+
+function findKept(held = null) {
+  [held, passOfTab(), ...keptPasses().map((each) => each.text)].some((text) => text !== null && wasTaken(text));
+}
+
+// ---- Another pass
+
+function choosePass(text) {
+  if (!wasTaken(text)) return;
+  isAsked = false;
+  holdPass(state.isKept ? null : text);
+  if (state.isKept) keepPass(text, state.name);
+  page.begin();
+}
+
+export function enterAnother() {
+  isEntering = true;
+  put("given-fault");
+  put("welcome-news");
+  byName("given").value = "";
+  page.show();
+  byName("given").focus();
+}
+
+function useEntered(event) {
+  event.preventDefault();
+  put("given-fault");
+  const text = pastedText(byName("given").value);
+  try {
+    takePass(text);
+  } catch (fault) {
+    if (!(fault instanceof Fault)) throw fault;
+    showFault(fault, byName("given").value);
+    byName("given").focus();
+    return;
+  }
+  byName("given").value = "";
+  byName("given").removeAttribute("aria-invalid");
+  isAsked = false;
+  holdPass(state.given);
+  if (byName("keep").checked) keepThis();
+  else if (!state.isKept) keepForTab(state.given);
+  page.begin();
+}
+
+// Keeps the pass that is used, beside the others.
+export function keepThis(name = state.name) {
+  state.isKept = keepPass(state.given, name);
+  if (state.isKept) {
+    state.name = name;
+    used.set(state.given, name);
+    holdPass(null);
+  }
+  if (!state.isKept) page.keepFailed();
+  isAsked = false;
+  return state.isKept;
+}
+
+// Forgets the pass that is used. Another one of this browser comes in its place.
+export function forgetPass() {
+  used.delete(state.given);
+  dropPass(state.given);
+  loseState();
+  findKept();
+  if (state.pass !== null) {
+    page.begin();
+    return;
+  }
+  page.show();
+  put("welcome-news", say("forgotten"));
+  byName("given").focus();
+}
+
+function loseState() {
+  Object.assign(state, { pass: null, text: "", given: "", base: 0, key: null, name: "", account: null, isKept: false });
+  if (state.sender !== null) Object.assign(state.sender, { pass: null, key: null });
+  isAsked = false;
+  isEntering = false;
+}
+
+// Another tab kept or forgot a pass.
+export function keptElsewhere() {
+  const isThere = keptPasses().some((each) => each.text === state.given);
+  if (state.isKept && !isThere) forgetPass();
+  else page.show();
+}
+
+// ---- What is to be seen
+
+export function passNotices() {
+  if (!isPassShown()) return [];
+  const notices = [];
+  if (!state.isKept && keptPasses().length > 0) notices.push([say("other-pass-kept", { name: state.name })]);
+  if (isAsked) {
+    const answer = (isWanted) => () => {
+      if (isWanted) keepThis();
+      else keepForTab(state.given);
+      isAsked = false;
+      page.show();
+    };
+    notices.push([say("keep-question"), button("", say("keep-yes"), answer(true)), button("", say("keep-no"), answer(false))]);
+  }
+  return notices;
+}
+
+// The passes to choose from, where there are several.
+export function showChoice() {
+  const names = new Map([...keptPasses().map((each) => [each.text, each.name]), ...used]);
+  byName("who-part").hidden = !isPassShown() || names.size < 2;
+  put("who", ...[...names].map(([text, name]) => new Option(name, text, false, text === state.given)));
+  byName("enter-back").hidden = state.pass === null;
+}
+
+export function setUpPasses(whatPageDoes) {
+  page = whatPageDoes;
+  byName("enter").addEventListener("submit", useEntered);
+  byName("enter-back").addEventListener("click", () => {
+    isEntering = false;
+    page.show();
+  });
+  byName("who").addEventListener("change", (event) => choosePass(event.target.value));
+}
+
+// The name of the pass, which a member may change where it is kept.
+export function nameField() {
+  const field = element("input", "");
+  Object.assign(field, { id: "pass-name", value: state.name, maxLength: 40, autocomplete: "off" });
+  const label = element("label", "", say("pass-name"));
+  label.htmlFor = field.id;
+  field.addEventListener("change", () => {
+    const name = plainName(field.value);
+    if (name !== "") keepThis(name);
+    field.value = state.name;
+    page.show();
+  });
+  return element("div", "pass-name", label, field);
+}

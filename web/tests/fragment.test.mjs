@@ -1,0 +1,16 @@
+// What comes after # of the address: each kind, and that nothing odd is taken for another kind.
+import assert from "node:assert/strict";
+import { test } from "node:test";
+import { isScreen, readFragment } from "../src/fragment.mjs";
+
+test("a fragment is nothing, a screen with a pass or without, a list, or else a pass", () => {
+  const rows = [
+    ["", "none", ""], ["#", "none", ""], ["#screen", "screen", ""], ["#screen=", "screen", ""], ["#screen=AgEJ", "screen", "AgEJ"],
+    ["#AgEJ", "pass", "AgEJ"], ["#%7B%22v%22%3A2%7D", "pass", '{"v":2}'], ["#%", "pass", "%"], ["#screens", "pass", "screens"], ["#Record=x", "pass", "Record=x"],
+    ["#record=amy-1;7+court-1+2026-05-01+18", "record", "record of amy-1\n7 court-1 2026-05-01 18\n"], ["#record=", "record", "record of \n"],
+    ["#spare=AgEJ;AgIJ", "spare", "AgEJ;AgIJ"], ["#spare=", "spare", ""], ["#spare", "pass", "spare"], ["#AgEJ;spent=5", "pass", "AgEJ;spent=5"],
+    ["#record=amy-1%3B7%2Bcourt-1", "record", "record of amy-1\n7 court-1\n"],
+  ];
+  for (const [fragment, kind, text] of rows) assert.deepEqual(readFragment(fragment), { kind, text }, fragment);
+  assert.deepEqual(["#screen", "#screen=x", "#screenx", "#record=screen"].map(isScreen), [true, true, false, false]);
+});
