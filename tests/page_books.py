@@ -2165,6 +2165,24 @@ def letters(passes):
             pathlib.Path("letter.png").write_bytes(base64.b64decode(browser.picture()))
         read = printed("zbarimg", "-q", "--raw", "letter.png").strip()
         check(read == link, "its QR code", read)
+    for place in (1, 2):
+        pathlib.Path(f"spare-{place}").write_text(passes[f"amy-lend-{place}"] + "\n")
+    text = printed("env", f"DESK={address}", letter, "amy-1", "spare-1", "spare-2", given=passes["amy-1"])
+    lending = f"{address}/book.html#spare={passes['amy-lend-1']};{passes['amy-lend-2']}"
+    check(text.count(lending) == 2 and text.count("To lend") == 1 and text.count(link) == 2, "a letter with a second half", text)
+    pathlib.Path("letter.html").write_text(text)
+    with Browser() as browser:
+        browser.driver.get(pathlib.Path("letter.html").absolute().as_uri())
+        browser.sees(800, "light")
+        keep("letter-spares.png", browser.picture())
+        browser.command("Emulation.setDeviceMetricsOverride", width=800, height=900, deviceScaleFactor=3, mobile=False)
+        pathlib.Path("letter.png").write_bytes(base64.b64decode(browser.picture()))
+    read = printed("zbarimg", "-q", "--raw", "letter.png").split()
+    check(sorted(read) == sorted([link, lending]), "its two QR codes", read)
+    pathlib.Path("spare-root").write_text("00" + ROOT)
+    pathlib.Path("spare-own").write_text(passes["amy-1"])
+    for file, fault in (("missing", "no file missing"), ("spare-root", "is a root"), ("spare-own", "the member's own pass")):
+        refused(fault, letter, "amy-1", file, given=passes["amy-1"], DESK=address)
     for key, given, its_address in [("bob-1", passes["amy-1"], address), ("amy-1", "00" + ROOT, address), ("amy-1", "", address),
                                     ("amy-1", passes["amy-1"], "http://desk.example.org"), ("amy-1", passes["amy-1"], ""), ("AMY", passes["amy-1"], address),
                                     ("amy-1", passes["amy-1"] + "\nmore", address), ("amy-1", passes["amy-1"], 'https://x"><b>')]:
