@@ -94,7 +94,7 @@ def reading_by_tool(text):
     check(status == 0, "passtool show", text, output)
     values = [line.partition(" ")[2] for line in output.splitlines()]
     key = re.fullmatch("key:([a-z0-9][a-z0-9-]{0,23})", values[2])
-    facts = {"Key": key[1]} if key else {"Identifier": values[2] or "(empty)"}
+    facts = {"Name": key[1]} if key else {"Identifier": values[2] or "(empty)"}
     facts |= {"Form": values[0].upper(), "Location": f"{values[1]} (a hint, which nobody checks)" if values[1] else "none"}
     return facts, [value.partition(" ")[2] or "(empty)" for value in values[3:-1]]
 
@@ -739,7 +739,7 @@ def only_shows_where_it_cannot_sign():
         check(page.run("return window.isSecureContext") is False, "a page over http is no secure context")
         check("can't sign here" in page.run("return byId('unsigned').textContent"), "a page that can't sign says so")
         check(page.run("return byId('narrow').disabled"), "a page that can't sign doesn't narrow")
-        check(page.run("return factsOf(byId('given-pass')).Key") == "amy-1", "a page that can't sign shows a pass")
+        check(page.run("return factsOf(byId('given-pass')).Name") == "amy-1", "a page that can't sign shows a pass")
         answer = page.narrow(AMY, ("guests", "1"))
         check("can't sign here" in answer.get("fault", ""), "a page that can't sign doesn't narrow, asked by whatever way", answer)
         page.sent_nothing(address)

@@ -59,7 +59,7 @@ PLANTS = {
     "office_year": ("deploy/club_office/plans.py", "plan.keeps = [", 'plan.change(None, "DELETE FROM old_roots")\n    plan.keeps = [', "older roots: wanted", "60"),
     "openapi": ("docs/openapi.yaml", '"charge":600,"left":1}', '"charge":600,"left":2}', "test_each_example_is_a_reply"),
     "package_lives": ("bin/package", "TZ=UTC0\nexport LC_ALL TZ", "export LC_ALL", ", again: wanted and found"),
-    "page_books": ("web/src/booking_dialog.mjs", "const charge = view.price * (guests + 1)", "const charge = view.price * guests", "what a booking costs"),
+    "page_books": ("web/src/points.mjs", "view.price * (guests + 1)", "view.price * guests", "what a booking costs", ".", "books_and_cancels"),
     "page_books:lists-are-sent": ("web/src/record.mjs", 'return entry.cancel === null ? "cancel" : null;',
                                   'return entry.cancel === null || entry.listed?.cancel ? "cancel" : null;', "what a list sent by itself", ".", "lists_send_nothing"),
     "page_books:lists-hide": ("web/src/record.mjs", "return isNews ? { ...own, saidCancelled: true } : own;",
