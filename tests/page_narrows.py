@@ -598,7 +598,7 @@ def half_a_date_is_no_date(page):
 NOTES = [
     ([], ["It can cancel.", "It shows the account."]), (["actions = view,book"], []), (["actions = view,book,account"], ["It shows the account."]),
     (["actions = view,book,account", "kind = court"], []), (["kind = court"], ["It can cancel."]),
-    (["weekday = sat", "spend <= 600"], ["It can cancel.", "Points count for the whole key."]),
+    (["weekday = sat", "spend <= 600"], ["It can cancel.", "Points count together."]),
     (["until < 2026-05-01T18:00", "guests <= 1"], ["It can cancel.", "It shows the account."]), (["shoe = red", "spend <= 600"], ["The desk refuses it."]),
     (["actions = view,view"], ["The desk refuses it."]),
 ]

@@ -18,7 +18,7 @@ from club_office.faults import BAD_VALUE, Fault, bad_value, refusal
 from club_office.lists import table
 from club_office.member_list import rows_of
 from club_office.people import NOBODY, keep_person, person_of, read_people
-
+from club_office.spares import spare_keys
 
 ROOT = re.compile("[0-9a-f]{64}")
 
@@ -81,8 +81,8 @@ def import_row(club, words):
     return 0
 
 
-def refuse_twins(path, rows):
-    for column in ("member", "key"):
+def refuse_twins(path, rows, columns=("member", "key")):
+    for column in columns:
         lines = collections.defaultdict(list)
         for row in rows:
             lines[getattr(row, column)].append(str(row.line))
@@ -91,15 +91,24 @@ def refuse_twins(path, rows):
                 raise Fault(BAD_VALUE, f"{path}: lines {' and '.join(at)} are one {column}, {value}: write other names")
 
 
+def spare_rows(club, path, rows):
+    """A row for each spare key of the members. It has no points, so that nothing is credited again."""
+    spares = [row._replace(points=0, key=key) for row in rows for key in spare_keys(club, row.member)]
+    refuse_twins(path, [*rows, *spares], ["key"])
+    return spares
+
+
 def import_members(club, words):
     """Shows what each row becomes, asks, and gives its orders. What an earlier run did isn't done again."""
     rows, understood = rows_of(words)
     show_lines([understood])
     refuse_twins(words.file, rows)
+    spares = spare_rows(club, words.file, rows)
     members, keys = already(club)
     shown = [[row.line, row.written, row.member, row.quota, row.points, row.key, state(row, members, keys, words.passes)] for row in rows]
     table(["line", "as written", "member", "quota", "points", "key", "is"], shown, False)
-    wanted = [row for row, line in zip(rows, shown) if line[-1] != "there"]
+    done = [row for row, line in zip(rows, shown) if line[-1] == "there"]
+    wanted = [row for row in [*rows, *spares] if row not in done and state(row, members, keys, words.passes) != "there"]
     if not wanted:
         print("nothing to do")
         return 0
@@ -111,8 +120,8 @@ def import_members(club, words):
     os.makedirs(words.passes, 0o700, exist_ok=True)
     for row in wanted:
         import_one(club, row, words.passes)
-        print(f"{row.member}: done", flush=True)
-    print(f"{len(wanted)} of {len(rows)} rows done, {len(rows) - len(wanted)} were there; passes are in {words.passes}")
+        print(f"{row.member}: {'spare pass ' + row.key if row in spares else 'done'}", flush=True)
+    print(f"{len(rows) - len(done)} of {len(rows)} rows done, {len(done)} were there; passes are in {words.passes}")
     return 0
 
 
