@@ -69,7 +69,7 @@ PLANTS = {
     "page_books:screen-takes-the-pass": ("web/src/screen_view.mjs", "if (state.pass !== null && state.text !== screenPass()) askToKeep();",
                                          "if (state.pass !== null) keepScreenPass(state.text);", "it asks", ".", "keeps_each_pass"),
     "page_books:keeps-one-pass": ("web/src/keeping.mjs", "JSON.stringify([{ text, name }, ...others])", "JSON.stringify([{ text, name }])", "both are kept", ".", "keeps_each_pass"),
-    "page_books:days-are-limited": ("deploy/nginx.conf", "rate=400r/s", "rate=20r/s", "are limited", ".", "days_at_once"),
+    "page_books:a-flood-slows-others": ("deploy/nginx.conf", "$http_authorization zone=", "$server_name zone=", "another pass beside it", ".", "days_at_once"),
     "page_books:spends-from-nothing": ("web/src/lend.mjs", "spend <= ${Math.min(spent + points, MOST_SPENT)}", "spend <= ${Math.min(points, MOST_SPENT)}", "a second loan", ".", "lends"),
     "page_books:shows-refused-buttons": ("web/src/points.mjs", "{ guests, owed: owedFor(view, guests) }", "{ guests }", "no more guests than its points allow", ".", "lends"),
     "page_books:worker-keeps-old-pages": ("web/src/worker.js", "names.filter((name) => name !== CACHE)", "names.filter((name) => name === null)", "the new worker's pages alone", ".", "at_hand"),
