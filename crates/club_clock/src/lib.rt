@@ -1,8 +1,10 @@
 //! The club's clock: sources of moments, and the zone in which a clock of the machine is read.
 #![tactic(auto)]
 
+mod clock;
 mod moments;
 mod zone;
 
-pub use moments::{ClockIn, Fixed, Instants, Moments};
+pub use clock::Clock;
+pub use moments::{Instants, Moments, MomentsOf};
 pub use zone::Zone;

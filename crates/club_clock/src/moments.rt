@@ -4,10 +4,11 @@ ghost use Rattle.std.specs.Prelude.{◌≡◌, pos, MatchOption};
 ghost use Rattle.std.specs.Time.{system_time_nanos};
 ghost use Rattle.jiff_core.specs.Timestamp.{IsTimestampNanos};
 
-use crate::zone::Zone;
+use crate::clock::Clock;
 use club_values::Moment;
 use jiff_core::Timestamp;
-use std::time::{Clock, SystemTime};
+use std::marker::Model;
+use std::time::{self, SystemTime};
 
 /// A source of moments.
 pub trait Moments {
@@ -19,22 +20,6 @@ pub trait Moments {
     /// The moment now; `None` if it is out of the club's years or can't be read.
     fn now(&mut self) -> Option<Moment>
         ensures { gives self.old result self.new };
-}
-
-/// A source that always returns one moment.
-#[derive(Clone, Copy, Debug, PartialEq, Eq)]
-pub struct Fixed {
-    pub moment: Moment,
-}
-
-impl Moments for Fixed {
-    ghost use Rattle.std.specs.Prelude.{◌≡◌, Some};
-
-    ghost gives = { λ old returned new. (returned ≡ Some old.moment) × (new ≡ old) };
-
-    fn now(&mut self) -> Option<Moment> {
-        Some(self.moment)
-    }
 }
 
 /// A clock that shows instants.
@@ -51,7 +36,7 @@ pub trait Instants {
 }
 
 /// The instants of a clock of the machine; the contract promises nothing about them.
-impl<C: Clock> Instants for C {
+impl<C: time::Clock> Instants for C {
     ghost shows = { λ _ _. Unit {0} };
 
     fn instant(&self) -> Option<Timestamp> {
@@ -69,34 +54,34 @@ fn instant_of(time: SystemTime) -> Option<Timestamp>
     Timestamp::from_nanosecond(i128::try_from(since.as_nanos()).ok()?).ok()
 }
 
-/// A clock, and the zone in which it is read.
+/// The moments of a clock, read off the machine's clock unless they are fixed. Contracts see both.
 #[derive(Drop)]
-pub struct ClockIn<'z, 'c, C> {
-    zone: Zone<'z>,
-    clock: &'c C,
+pub struct MomentsOf<'z, 'c, C> {
+    pub clock: Clock<'z>,
+    pub machine: &'c C,
 }
 
-impl<'z, 'c, C: Instants> ClockIn<'z, 'c, C> {
-    ghost use Rattle.std.specs.Prelude.{◌≡◌};
+impl<'z, 'c, C> Model for MomentsOf<'z, 'c, C> {
+    ghost use Rattle.club_clock.specs.declared.clock.Clock.{Clock};
 
-    /// The moments that the clock shows in the zone.
-    pub fn new(zone: Zone<'z>, clock: &'c C) -> ClockIn<'z, 'c, C>
-        ensures { result ≡ record { zone = zone.entry; clock = clock.entry } }
-    {
-        ClockIn { zone, clock }
-    }
+    ghost Value = { Clock × C };
+
+    ghost view = { λ moments. (moments.clock, moments.machine.now) };
 }
 
-impl<'z, 'c, C: Instants> Moments for ClockIn<'z, 'c, C> {
-    ghost use Rattle.std.specs.Prelude.{◌≡◌};
-    ghost use Rattle.club_clock.specs.Zone.{ShowsIn};
+impl<'z, 'c, C: Instants> Moments for MomentsOf<'z, 'c, C> {
+    ghost use Rattle.club_clock.specs.Moments.{showing};
 
-    // the moment of the instant that the clock gave; none if it gave none
-    ghost gives = { λ old returned new.
-        ShowsIn old.zone (C.shows old.clock.now) returned × (new ≡ old) };
+    // the fixed moment; or that of the instant that the machine's clock gave, none if it gave none
+    ghost gives = { showing C.shows };
 
     fn now(&mut self) -> Option<Moment> {
-        let instant = self.clock.instant()?;
-        self.zone.moment_at(instant)
+        match &self.clock {
+            Clock::Fixed(moment) => Some(*moment),
+            Clock::InZone(zone) => {
+                let instant = self.machine.instant()?;
+                zone.moment_at(instant)
+            }
+        }
     }
 }

@@ -15,20 +15,22 @@ mod logs;
 mod over_sockets;
 mod request_lines;
 mod told;
+mod years;
 mod zones;
 
 use crate::expect::{expect_eq, expect_shown};
 use crate::rows::{expect_row, moment};
-use club_clock::{Fixed, Moments};
+use club_clock::{Clock, Moments, MomentsOf};
 use club_http::Face;
+use club_values::Moment;
 use desk_server::{
     Accepted, Arrival, Arrivals, ClientSocket, ClockOutOfRange, Listening, serve_on,
 };
-use doubles::{Countdown, Noting, Script, Wire};
+use doubles::{Countdown, Noting, Script, Stopped, Wire};
 use std::alloc::Global;
 use std::net::TcpListener;
 use std::process::Abort;
-use std::time::{Clock, Duration};
+use std::time::{self, Duration};
 use test_kit::moments::NOON;
 
 const REQUEST: &[u8] = b"GET /account HTTP/1.1\r\nAuthorization: Bearer AgEJ\r\n\r\n";
@@ -39,11 +41,20 @@ const REPLY: &[u8] =
 
 const _: () = prove!(REPLY.len() == 140);
 
-/// Always noon.
-fn noon(rt: &impl Abort) -> Fixed {
-    Fixed {
-        moment: moment(rt, NOON),
+/// A clock of the machine that can't be read.
+static UNREADABLE: Stopped = Stopped(None);
+
+/// Always this moment, whatever the machine's clock shows.
+fn always(moment: Moment) -> MomentsOf<'static, 'static, Stopped> {
+    MomentsOf {
+        clock: Clock::Fixed(moment),
+        machine: &UNREADABLE,
     }
+}
+
+/// Always noon.
+fn noon(rt: &impl Abort) -> MomentsOf<'static, 'static, Stopped> {
+    always(moment(rt, NOON))
 }
 
 /// Gives noon so many times, and then no moment.
@@ -134,7 +145,7 @@ fn serves_as_many_as_asked(rt: HostRuntime) {
 }
 
 /// The next client of a listener.
-fn client_at<'a, C: Clock>(
+fn client_at<'a, C: time::Clock>(
     listener: &'a TcpListener,
     clock: &'a C,
     patience: Duration,

@@ -3,22 +3,13 @@
 #![tactic(auto)]
 
 use club_http::WriteOutlet;
-use clubdesk_arguments::{CommandName, Fault};
-use clubdesk_commands::run;
+use clubdesk_commands::run_process;
 use clubdesk_files::{DatabasesUser, run_over_files};
-use command_line::{given_arguments, report};
 use desk_server::{Databases, LogLines};
 use std::process::ExitCode;
 
 fn main(rt: HostRuntime) -> ExitCode {
-    let status = match run_over_files(&rt, Program { rt: &rt }) {
-        Ok(()) => 0,
-        Err(fault) => {
-            report(&rt, &fault, matches!(&fault, Fault::Arguments(_)));
-            fault.status()
-        }
-    };
-    ExitCode::from(status)
+    ExitCode::from(run_over_files(&rt, Program { rt: &rt }))
 }
 
 // The program on the process's arguments and standard streams.
@@ -28,22 +19,13 @@ struct Program<'a> {
 }
 
 impl DatabasesUser for Program<'_> {
-    type Outcome = Result<(), Fault>;
+    type Outcome = u8;
 
     ghost outcomes = { λ _ _. Unit {0} };
 
-    fn run_over<D: Databases>(self, databases: &mut D) -> Result<(), Fault> {
+    fn run_over<D: Databases>(self, databases: &mut D) -> u8 {
         let rt = self.rt;
-        let arguments = given_arguments::<HostRuntime, CommandName, ()>(rt)?;
         let mut log = LogLines::new(WriteOutlet::new(rt.stderr()), rt);
-        run(
-            rt,
-            rt,
-            databases,
-            arguments.as_slice(),
-            &mut rt.stdin(),
-            &mut rt.stdout(),
-            &mut log,
-        )
+        run_process(rt, rt, rt, databases, &mut rt.stdin(), &mut rt.stdout(), &mut log)
     }
 }

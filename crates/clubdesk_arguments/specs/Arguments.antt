@@ -17,8 +17,8 @@ use Rattle.clubdesk_arguments.specs.JobModel.{JobModel}
 use Rattle.clubdesk_arguments.specs.Readers.{ReadExactly, Readers}
 use Rattle.clubdesk_arguments.specs.Values.{count_of, parse_number, patience_of, port_of, key_root_of}
 use Rattle.club_clock.specs.Zone.{zone_of}
-use Rattle.clubdesk_arguments.specs.declared.clock.Clock.{Clock}
-use Rattle.clubdesk_arguments.specs.declared.clock.Clock.TheVariants.{Fixed, InZone}
+use Rattle.club_clock.specs.declared.clock.Clock.{Clock}
+use Rattle.club_clock.specs.declared.clock.Clock.TheVariants.{Fixed, InZone}
 use Rattle.clubdesk_arguments.specs.declared.table.CommandName.{CommandName}
 use Rattle.clubdesk_arguments.specs.declared.table.CommandName.TheVariants as command
 use Rattle.clubdesk_arguments.specs.declared.task.KeyChange.TheVariants.{Add, Rotate}

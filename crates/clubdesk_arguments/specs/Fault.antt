@@ -1,5 +1,6 @@
 -- The exit status and the line of each fault (ours).
 use Rattle.std.specs.Prelude.{ℕ, List, ◌++◌, Option, Some, None, codes}
+use Rattle.std.specs.Fmt.{with_newline}
 use Rattle.std.specs.String.{string_bytes}
 use Rattle.command_line.specs.declared.errors.ArgumentsFault.{ArgumentsFault}
 use Rattle.command_line.specs.declared.errors.ArgumentsFault.TheVariants as arguments
@@ -43,3 +44,8 @@ fault_line ClockOutOfRange = Some (codes "clock out of range")
 fault_line InputOutput = Some (codes "input or output failed")
 fault_line NoAnswer = Some (codes "no answer")
 fault_line (Answered status line) = Some (string_bytes line)
+
+-- what is printed on standard error: the line, or clap's own text
+abbrev pub fault_output : Fault → Option (List ℕ)
+fault_output (Arguments error) = None
+fault_output fault = with_newline (fault_line fault)

@@ -6,13 +6,12 @@ ghost use Rattle.clubdesk_arguments.specs.Arguments as spec;
 ghost use Rattle.clubdesk_arguments.specs.computed.TextReaders.{text_readers};
 ghost use Rattle.command_line.specs.Job.{Answers};
 
-use crate::clock::Clock;
 use crate::options::{given, name_of, number_at, root_and_form, rotation_moment, rotation_root};
 use crate::table::CommandName;
 use crate::task::{KeyChange, KeyCommand, Service, Task, Work};
 use crate::values::{count_of, patience_of, port_of, root_of};
 use clap::ArgMatches;
-use club_clock::Zone;
+use club_clock::{Clock, Zone};
 use club_core::Command;
 use club_values::{Day, Hour, Kind, Moment, Slot};
 use command_line::{ArgumentsFault, is_set, value_of};

@@ -2,7 +2,6 @@
 //! with their exit statuses.
 #![tactic(auto)]
 
-mod clock;
 mod commands;
 mod fault;
 mod job;
@@ -12,7 +11,6 @@ mod table;
 mod task;
 mod values;
 
-pub use clock::Clock;
 pub use fault::Fault;
 pub use table::CommandName;
 pub use task::{Job, KeyChange, KeyCommand, Service, Task, Work};

@@ -1,6 +1,6 @@
 //! What arguments ask for.
 
-use crate::clock::Clock;
+use club_clock::Clock;
 use club_core::Command;
 use club_rows::Root;
 use club_values::{Day, Moment, Name, Slot};

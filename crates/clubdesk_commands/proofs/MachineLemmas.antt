@@ -30,7 +30,9 @@ use Rattle.clubdesk_arguments.specs.declared.task.Task.TheVariants.{Give, Key, S
 use Rattle.clubdesk_commands.specs.Does.{DeskShows, Does, IsAnswered}
 use Rattle.clubdesk_commands.specs.Does as does
 use Rattle.clubdesk_commands.specs.Machine.{Always, IsItself, machine_answers, machine_commands}
-use Rattle.clubdesk_commands.specs.Moments.{showing}
+use Rattle.clubdesk_commands.proofs.AlikeLemmas.{run_alike}
+use Rattle.jiff_core.specs.declared.timestamp.Timestamp.{Timestamp}
+use Rattle.club_core.specs.declared.request.Request.{Request}
 use Rattle.clubdesk_commands.specs.OfficeDesk.{CarriesOutBy, DoesArguments}
 use Rattle.clubdesk_commands.specs.OfficeDesk as spec
 use Rattle.clubdesk_commands.specs.Run.{FollowsMachine, RunsServer, over_socket}
@@ -125,25 +127,16 @@ module _ {S : Type 0} (Clean : S → Type 0) (Represents : S → Club → List C
     represents = failed.represents;
   }))
 
-  module _ (Fails : Option Change → S → StoreFault → S → Type 0) (moment : ℕ) (bytes : List ℕ) where
-    replies : {old new : S} (reply : Reply) → IsReplied (AnswersBy Clean Represents Fails moment) bytes old reply new
-        → Simulates old new (λ club next. IsReplied (machine_answers moment) bytes club reply next)
-    replies reply (replied.parser_refusal refusal reads is kept) = same kept (λ club. replied.parser_refusal refusal reads is refl)
-    replies reply (replied.desk_reply decoded reads answers) = record {
-      was_clean = answers.was_clean;
-      follows = λ clean club others represents.
-          let seen = answers.steps clean in
-          let next = one_request _ club others seen.0 moment reply (seen.2 club others represents) in
-          (next.0, next.1, next.2, replied.desk_reply decoded reads (seen.0, seen.1, next.3));
-    }
-    replies reply (replied.out_of_memory holds is kept) = same kept (λ club. replied.out_of_memory holds is refl)
-
-    exchanges : {old new : S} (written : List ℕ) (outcome : Result Reply AnswerFault)
-        → IsExchanged (AnswersBy Clean Represents Fails moment) bytes old written outcome new
-        → Simulates old new (λ club next. IsExchanged (machine_answers moment) bytes club written outcome next)
-    exchanges written (Ok reply) (is, wrote) = so (replies reply is) (λ club next gives. (gives, wrote))
-    exchanges written (Err Read) (kept, nothing) = same kept (λ club. (refl, nothing))
-    exchanges written (Err (Write n)) (reply, is, fewer, wrote) = so (replies reply is) (λ club next gives. (reply, gives, fewer, wrote))
+  asked : (Fails : Option Change → S → StoreFault → S → Type 0) (moment : ℕ) (text : List ℕ) (request : Request) (old : S) (reply : Reply) (new : S)
+      → AnswersBy Clean Represents Fails moment text request old reply new
+      → Simulates old new (λ club next. machine_answers moment text request club reply next)
+  asked Fails moment text request old reply new answers = record {
+    was_clean = answers.was_clean;
+    follows = λ clean club others represents.
+        let seen = answers.steps clean in
+        let next = one_request _ club others seen.0 moment reply (seen.2 club others represents) in
+        (next.0, next.1, next.2, (seen.0, seen.1, next.3));
+  }
 
   -- ---- a command
 
@@ -177,99 +170,42 @@ module _ {S : Type 0} (Clean : S → Type 0) (Represents : S → Club → List C
     );
   }
 
-  done : (task : Task) (answer : Result (List ℕ) Fault) {old new : S} → Does Clean Represents task answer old new
-      → Simulates old new (λ club next. Does Always IsItself task answer club next)
-  done (Give given) answer does = answered given _ answer does
-  done (Key command root) answer does = answered _ _ answer does
-  done (ShowAccount key clock) answer (None, shows, stopped) = same stopped.1 (λ club. (None, shows, (stopped.0, refl)))
-  done (ShowAccount key clock) answer (Some moment, shows, desk_shows) =
+  done : (Given : Option Timestamp → Type 0) (task : Task) (answer : Result (List ℕ) Fault) {old new : S} → Does Clean Represents Given task answer old new
+      → Simulates old new (λ club next. Does Always IsItself Given task answer club next)
+  done Given (Give given) answer does = answered given _ answer does
+  done Given (Key command root) answer does = answered _ _ answer does
+  done Given (ShowAccount key clock) answer (None, shows, stopped) = same stopped.1 (λ club. (None, shows, (stopped.0, refl)))
+  done Given (ShowAccount key clock) answer (Some moment, shows, desk_shows) =
       so (desk_shown _ answer desk_shows) (λ club next desk_shows. (Some moment, shows, desk_shows))
-  done _ answer desk_shows = desk_shown _ answer desk_shows
+  done Given _ answer desk_shows = desk_shown _ answer desk_shows
 
-  with_arguments : {root : Text} {arguments : List Text} {answer : Result (List ℕ) Fault} {old new : S}
-      → DoesArguments Clean Represents root arguments answer old new
-      → Simulates old new (λ club next. DoesArguments Always IsItself root arguments answer club next)
-  with_arguments (spec.task_done file task asks does) = so (done task _ does) (λ club next does. spec.task_done file task asks does)
-  with_arguments (spec.key_done file command given asks is does) =
-      so (done (Key command given) _ does) (λ club next does. spec.key_done file command given asks is does)
-  with_arguments (spec.root_refused file command asks none refused kept) = same kept (λ club. spec.root_refused file command asks none refused refl)
-  with_arguments (spec.arguments_refused fault reads refused kept) = same kept (λ club. spec.arguments_refused fault reads refused refl)
+  with_arguments : (Given : Option Timestamp → Type 0) {root : Text} {arguments : List Text} {answer : Result (List ℕ) Fault} {old new : S}
+      → DoesArguments Clean Represents Given root arguments answer old new
+      → Simulates old new (λ club next. DoesArguments Always IsItself Given root arguments answer club next)
+  with_arguments Given (spec.task_done file task asks does) = so (done Given task _ does) (λ club next does. spec.task_done file task asks does)
+  with_arguments Given (spec.key_done file command given asks is does) =
+      so (done Given (Key command given) _ does) (λ club next does. spec.key_done file command given asks is does)
+  with_arguments Given (spec.root_refused file command asks none refused kept) = same kept (λ club. spec.root_refused file command asks none refused refl)
+  with_arguments Given (spec.arguments_refused fault reads refused kept) = same kept (λ club. spec.arguments_refused fault reads refused refl)
 
-  commanded : {bytes : List ℕ} {answer : Answer} {old new : S} → CarriesOutBy Clean Represents bytes old answer new
-      → Simulates old new (λ club next. machine_commands bytes club answer next)
-  commanded (spec.command_done root arguments result is does answers) =
-      so (with_arguments does) (λ club next does. spec.command_done root arguments result is does answers)
-  commanded (spec.no_command none status kept) = same kept (λ club. spec.no_command none status refl)
-  commanded (spec.not_office root arguments is other status kept) = same kept (λ club. spec.not_office root arguments is other status refl)
-  commanded (spec.no_memory status kept) = same kept (λ club. spec.no_memory status refl)
+  commanded : (Given : Option Timestamp → Type 0) (bytes : List ℕ) (old : S) (answer : Answer) (new : S)
+      → CarriesOutBy Clean Represents Given bytes old answer new → Simulates old new (λ club next. machine_commands Given bytes club answer next)
+  commanded Given bytes old answer new (spec.command_done root arguments result is does answers logged) =
+      so (with_arguments Given does) (λ club next does. spec.command_done root arguments result is does answers logged)
+  commanded Given bytes old answer new (spec.no_command none unnamed kept) = same kept (λ club. spec.no_command none unnamed refl)
+  commanded Given bytes old answer new (spec.not_office root arguments is other unnamed kept) =
+      same kept (λ club. spec.not_office root arguments is other unnamed refl)
+  commanded Given bytes old answer new (spec.no_memory unnamed kept) = same kept (λ club. spec.no_memory unnamed refl)
 
-  carried_out : (carried : Option Carried) {old new : S} → IsCarriedOut (CarriesOutBy Clean Represents) old carried new
-      → Simulates old new (λ club next. IsCarriedOut machine_commands club carried next)
-  carried_out None kept = same kept (λ club. refl)
-  carried_out (Some carried) (bytes, answer, carries, is) = so (commanded carries) (λ club next carries. (bytes, answer, carries, is))
-
-  -- ---- a server
-
-  module _ {Clock : Type 0} (Given : GivesMoment Clock) where
-    are_commanded : (clock : Clock) (old : S) (fates : List Fate) (clock' : Clock) (new : S)
-        → AreCommanded Given (CarriesOutBy Clean Represents) clock old fates clock' new
-        → Simulates old new (λ club next. AreCommanded Given machine_commands clock club fates clock' next)
-    are_commanded clock old _ _ _ served.no_command = same refl (λ club. served.no_command)
-    are_commanded clock old _ _ _ (served.one_command fates moment carried c d c' new before gives is) =
-        after (are_commanded clock old fates c d before) (carried_out carried is)
-        (λ club now next before is. served.one_command fates moment carried c now c' next before gives is)
-
-    module _ (Fails : Option Change → S → StoreFault → S → Type 0) where
-      attended : (meanwhile : List Fate) (moment : ℕ) (line : List ℕ) (outcome : Result Reply AnswerFault) (clock : Clock) (old : S) (clock' : Clock) (new : S)
-          → IsAttended Given (AnswersBy Clean Represents Fails) (CarriesOutBy Clean Represents) over_socket meanwhile moment line outcome clock old clock' new
-          → Simulates old new
-          (λ club next. IsAttended Given machine_answers machine_commands over_socket meanwhile moment line outcome clock club clock' next)
-      attended meanwhile moment line outcome clock old clock' new client =
-          after (are_commanded client.given old meanwhile clock' client.left client.commanded)
-          (exchanges Fails moment client.bytes client.written outcome client.exchanged)
-          (λ club now next commanded exchanged. record {
-            given = client.given;
-            left = now;
-            gives = client.gives;
-            commanded = commanded;
-            bytes = client.bytes;
-            written = client.written;
-            begins = client.begins;
-            exchanged = exchanged;
-            ended = client.ended;
-          })
-
-      one : (clock : Clock) (old : S) (f : ℕ) (meanwhile : List Fate) (fate : Fate) (clock' : Clock) (new : S) (f' : ℕ)
-          → ServesOne Given (AnswersBy Clean Represents Fails) (CarriesOutBy Clean Represents) over_socket clock old f meanwhile fate clock' new f'
-          → Simulates old new (λ club next. ServesOne Given machine_answers machine_commands over_socket clock club f meanwhile fate clock' next f')
-      one clock old f meanwhile Absent clock' new f' (none, counted, still, kept) = same kept (λ club. (none, counted, still, refl))
-      one clock old f meanwhile Overrun clock' new f' (none, counted, still, kept) = same kept (λ club. (none, counted, still, refl))
-      one clock old f meanwhile (Commanded moment carried) clock' new f' (none, counted, gives, is) =
-          so (carried_out carried is) (λ club next is. (none, counted, gives, is))
-      one clock old f meanwhile Unanswered clock' new f' never = absurd never
-      one clock old f meanwhile (Exchanged moment line outcome) clock' new f' (counted, client) =
-          so (attended meanwhile moment line outcome clock old clock' new client) (λ club next client. (counted, client))
-
-      all : (clock : Clock) (old : S) (f : ℕ) (turns : List Turn) (clock' : Clock) (new : S) (f' : ℕ)
-          → AreServed Given (AnswersBy Clean Represents Fails) (CarriesOutBy Clean Represents) over_socket clock old f turns clock' new f'
-          → Simulates old new (λ club next. AreServed Given machine_answers machine_commands over_socket clock club f turns clock' next f')
-      all clock old f _ _ _ _ served.none = same refl (λ club. served.none)
-      all clock old f _ _ _ _ (served.more turns turn c d f1 c' new f' before due it) =
-          after (all clock old f turns c d f1 before) (one c d f1 turn.meanwhile turn.fate c' new f' it)
-          (λ club now next before it. served.more turns turn c now f1 c' next f' before due it)
-
-  module _ (Fails : Option Change → S → StoreFault → S → Type 0) (service : Service) (turns : List Turn) (store left : S)
-      (Noted : List Turn → Type 0) where
-    -- a server over a store is one over the club that this represents, in the same turns
-    pub follows_machine : (result : Result Unit Fault)
-        → RunsServer (AnswersBy Clean Represents Fails) (CarriesOutBy Clean Represents) service turns store left Noted result
-        → FollowsMachine Clean Represents service turns store left Noted result
-    follows_machine result (run.listened outcome last failures is it noted) =
-        (so (all showing Fails service.clock store 0 it.turns it.last left failures it.before)
-        (λ club next before. run.listened outcome last failures is (record {
-          turns = it.turns;
-          last = it.last;
-          before = before;
-          ends = it.ends;
-        }) noted)).follows
-    follows_machine result (run.not_listened fault none kept nothing) = (same kept (λ club. run.not_listened fault none refl nothing)).follows
+  module _ {Machine : Type 0} (Shows : Machine → Option Timestamp → Type 0) (machine : Machine) (Fails : Option Change → S → StoreFault → S → Type 0)
+      (service : Service) (turns : List Turn) (store left : S) (Noted : List Turn → Type 0)
+    where
+      -- a server over a store is one over the club that this represents, in the same turns
+      pub follows_machine : (result : Result Unit Fault)
+          → RunsServer Shows machine (AnswersBy Clean Represents Fails) (CarriesOutBy Clean Represents (Shows machine)) service turns store left Noted result
+          → FollowsMachine Clean Represents Shows machine service turns store left Noted result
+      follows_machine result runs =
+          (run_alike Simulates (λ old new Gives is gives. same is gives) (λ old mid new First Second Wanted first second wants. after first second wants)
+          (λ old new Gives Wanted simulates wants. so simulates wants) (AnswersBy Clean Represents Fails) machine_answers
+          (CarriesOutBy Clean Represents (Shows machine)) (machine_commands (Shows machine)) (asked Fails)
+          (commanded (Shows machine)) Shows machine service turns Noted result runs).follows

@@ -1,6 +1,7 @@
 -- What arguments ask for, what is handed over, and how work ends.
 use Rattle.std.proofs.Common.{◌≡◌, ℕ, List, Option, Result, Ok, Err, subst, ◌∙◌, inl, inr, refl}
 use Rattle.clap.specs.Words.{Text}
+use Rattle.jiff_core.specs.declared.timestamp.Timestamp.{Timestamp}
 use Rattle.club_core.specs.declared.store.ClubStore.{Ghosts as StoreWords}
 use Rattle.club_core.specs.declared.store.StoreFault.{StoreFault}
 use Rattle.club_core.specs.declared.store.StoreFault.TheVariants as store
@@ -50,11 +51,12 @@ announces_well port written (Err ClockOutOfRange) wrote = (tt, inl refl)
 announces_well port written (Err Memory) wrote = (tt, inr (inr wrote))
 announces_well port written (Err fault) wrote = absurd wrote
 
-pub serves_well : {D S R V : Type 0} (databases : DatabasesWords D S R V) (visits : VisitWords V) (stores : StoreWords S) (file : Text) (old new : D)
+pub serves_well : {D S R V Machine : Type 0} (databases : DatabasesWords D S R V) (visits : VisitWords V) (stores : StoreWords S)
+    (Shows : Machine → Option Timestamp → Type 0) (machine : Machine) (file : Text) (old new : D)
     (written : Stream) (result : Result Unit Fault) (service : Service) (Noted : List Turn → Type 0)
-    → Serves databases visits stores file service old new written Noted result → EndsWork written.no_change result
-serves_well _ _ _ _ _ _ written result service Noted (spec.not_opened fault opens is kept nothing) = not_opened written.no_change fault result is kept
-serves_well _ _ _ _ _ _ written result service Noted (spec.no_door fault store between opens closes is kept nothing) =
+    → Serves databases visits stores Shows machine file service old new written Noted result → EndsWork written.no_change result
+serves_well _ _ _ _ _ _ _ _ written result service Noted (spec.not_opened fault opens is kept nothing) = not_opened written.no_change fault result is kept
+serves_well _ _ _ _ _ _ _ _ written result service Noted (spec.no_door fault store between opens closes is kept nothing) =
     not_opened written.no_change fault result is kept
-serves_well _ _ _ _ _ _ written result service Noted (spec.server_done store left between turns opens serves follows announces closes) =
+serves_well _ _ _ _ _ _ _ _ written result service Noted (spec.server_done store left between turns opens serves follows announces closes) =
     announces_well service.port written result announces

@@ -26,7 +26,8 @@ use Rattle.clubdesk_arguments.specs.declared.task.KeyChange.{KeyChange}
 use Rattle.clubdesk_arguments.specs.declared.task.KeyChange.TheVariants.{Add, Rotate}
 use Rattle.clubdesk_arguments.specs.declared.task.Task.{Task}
 use Rattle.clubdesk_arguments.specs.declared.task.Task.TheVariants.{Give, Key, Sheet, ShowAccount, ShowSlot}
-use Rattle.clubdesk_commands.specs.Moments.{IsMomentOf}
+use Rattle.club_clock.specs.Moments.{IsMomentOf}
+use Rattle.jiff_core.specs.declared.timestamp.Timestamp.{Timestamp}
 
 -- the office's command that gives a key this root
 abbrev pub key_command : List ℕ → KeyChange → List ℕ → Command
@@ -75,13 +76,13 @@ module _ {S : Type 0} (Clean : S → Type 0) (Represents : S → Club → List C
     pub shows : OfItsClub Clean Represents old new (λ club. Shows club returned)
     pub is : answer ≡ answer_of_desk returned
 
-  -- What a task of the office answers, and how it changes a store, by the store's trait.
-  abbrev pub Does : Task → Result (List ℕ) Fault → S → S → Type 0
-  Does (Give given) answer old new = IsAnswered given (λ line. line ≡ codes "done\n") answer old new
-  Does (Key given root) answer old new =
+  -- What a task of the office answers, and how it changes a store, by the store's trait. `Given` are the instants that the machine's clock may give.
+  abbrev pub Does : (Option Timestamp → Type 0) → Task → Result (List ℕ) Fault → S → S → Type 0
+  Does Given (Give given) answer old new = IsAnswered given (λ line. line ≡ codes "done\n") answer old new
+  Does Given (Key given root) answer old new =
       IsAnswered (key_command given.name given.change root) (IsPassLine given.name root given.form) answer old new
-  Does (Sheet day) answer old new = DeskShows (λ club sheet. IfOk sheet (λ text. IsSheet club day (string_bytes text))) answer old new
-  Does (ShowAccount key clock) answer old new = (shown : Option ℕ) × IsMomentOf clock shown
+  Does Given (Sheet day) answer old new = DeskShows (λ club sheet. IfOk sheet (λ text. IsSheet club day (string_bytes text))) answer old new
+  Does Given (ShowAccount key clock) answer old new = (shown : Option ℕ) × IsMomentOf Given clock shown
       × MatchOption shown ((answer ≡ Err ClockOutOfRange) × (new ≡ old))
       (λ moment. DeskShows (λ club shown. ReturnsShown (shown_account club key moment) shown) answer old new)
-  Does (ShowSlot slot) answer old new = DeskShows (λ club shown. ReturnsShown (shown_slot club slot) shown) answer old new
+  Does Given (ShowSlot slot) answer old new = DeskShows (λ club shown. ReturnsShown (shown_slot club slot) shown) answer old new

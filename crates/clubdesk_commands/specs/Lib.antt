@@ -1,8 +1,8 @@
 pub mod Output
-pub mod Moments
 pub mod Does
 pub mod HandedCommand
 pub mod OfficeDesk
 pub mod Machine
 pub mod Input
 pub mod Run
+pub mod Process

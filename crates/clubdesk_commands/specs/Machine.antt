@@ -1,5 +1,6 @@
 -- The club in place of a store: what its machine makes of requests and commands (ours).
-use Rattle.std.specs.Prelude.{◌≡◌, ℕ, List}
+use Rattle.std.specs.Prelude.{◌≡◌, ℕ, List, Option}
+use Rattle.jiff_core.specs.declared.timestamp.Timestamp.{Timestamp}
 use Rattle.club_core.specs.Club.{Club}
 use Rattle.club_core.specs.Pass.{Words}
 use Rattle.club_core.specs.Run.{Asked, ToMember}
@@ -23,5 +24,5 @@ machine_answers moment text request club reply next =
     (words : Words) × AreWordsOf text request words × IsStep desk_presentation club (Asked words moment) (ToMember reply) next
 
 -- a command does to the club what it does to a store that represents it
-abbrev pub machine_commands : served.CommandRelation Club
-machine_commands bytes club answer next = CarriesOutBy Always IsItself bytes club answer next
+abbrev pub machine_commands : (Option Timestamp → Type 0) → served.CommandRelation Club
+machine_commands Given bytes club answer next = CarriesOutBy Always IsItself Given bytes club answer next

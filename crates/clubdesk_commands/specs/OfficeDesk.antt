@@ -1,16 +1,19 @@
 -- What the desk of a server does with a command that was handed to it (ours).
-use Rattle.std.specs.Prelude.{◌≡◌, ◌⊎◌, ℕ, List, IfSome, Some, None, Result, Ok, Err}
+use Rattle.std.specs.Prelude.{◌≡◌, ◌⊎◌, ℕ, List, [], ◌++◌, take, slice_get, codes, IfSome, Option, Some, None, Result, Ok, Err}
 use Rattle.std.specs.String.{string_bytes}
 use Rattle.clap.specs.Words.{Text}
 use Rattle.clap.specs.declared.error.Error.{Error}
+use Rattle.jiff_core.specs.declared.timestamp.Timestamp.{Timestamp}
 use Rattle.club_core.specs.Club.{Club}
+use Rattle.club_http.specs.Replied.{AnswerRelation}
+use Rattle.desk_server.specs.Served.{CommandRelation}
 use Rattle.desk_server.specs.declared.office.Answer.{Answer}
 use Rattle.command_line.specs.declared.errors.ArgumentsFault.{ArgumentsFault}
 use Rattle.command_line.specs.declared.job.Asked.TheVariants.{ShowText}
 use Rattle.clubdesk_arguments.specs.Fault.{fault_line, fault_status, of_arguments}
 use Rattle.clubdesk_arguments.specs.Arguments.{AskFor, ReadsArguments}
 use Rattle.clubdesk_arguments.specs.declared.fault.Fault.{Fault}
-use Rattle.clubdesk_arguments.specs.declared.fault.Fault.TheVariants.{BadValue}
+use Rattle.clubdesk_arguments.specs.declared.fault.Fault.TheVariants.{Arguments, BadValue}
 use Rattle.clubdesk_arguments.specs.declared.task.KeyCommand.{KeyCommand}
 use Rattle.clubdesk_arguments.specs.declared.task.Service.{Service}
 use Rattle.clubdesk_arguments.specs.declared.task.Task.{Task}
@@ -27,30 +30,56 @@ AnswersWith (Err fault) answer =
     ((answer.carried.status ≡ fault_status fault) × IfSome (fault_line fault) (λ line. string_bytes answer.text ≡ line))
     ⊎ (answer.carried.status ≡ 4)
 
+-- what a log is given of a command of this name: `office` and the first 24 bytes of the name
+abbrev pub named_line : Option Text → List ℕ
+named_line (Some name) = codes "office " ++ take 24 name ++ codes " "
+named_line None = []
+
+-- of a command with this answer: nothing if `clap` refused its arguments, among which it found no name
+abbrev pub logged_line : Result (List ℕ) Fault → Option Text → List ℕ
+logged_line (Err (Arguments error)) name = []
+logged_line answer name = named_line name
+
+-- an answer with this status, of which a log is given nothing
+abbrev pub IsUnnamed : ℕ → Answer → Type 0
+IsUnnamed status answer = (answer.carried.status ≡ status) × (answer.carried.line ≡ [])
+
 -- arguments ask for a text, or for a server, which are none of the office's
 pub data AskOther (arguments : List Text) : Type 0 where
   text_asked : (text : Error) → ReadsArguments arguments (Ok (ShowText text)) → AskOther arguments
   server_asked : (file : Text) (service : Service) → AskFor arguments file (Serve service) → AskOther arguments
 
-module _ {Store : Type 0} (Clean : Store → Type 0) (Represents : Store → Club → List Club → Type 0) where
+module _ {Store : Type 0} (Clean : Store → Type 0) (Represents : Store → Club → List Club → Type 0) (Given : Option Timestamp → Type 0) where
   -- a command with these arguments: they are read as those of a command without a server, and done, with this root if they leave it to the input; or
   -- they or the root are refused, and nothing is done
   pub data DoesArguments (root : Text) (arguments : List Text) (answer : Result (List ℕ) Fault) (old new : Store) : Type 0 where
-    task_done : (file : Text) (task : Task) → AskFor arguments file (Office task) → Does Clean Represents task answer old new
+    task_done : (file : Text) (task : Task) → AskFor arguments file (Office task) → Does Clean Represents Given task answer old new
         → DoesArguments root arguments answer old new
     key_done : (file : Text) (command : KeyCommand) (given : List ℕ) → AskFor arguments file (Rootless command) → root_in_input root ≡ Some given
-        → Does Clean Represents (Key command given) answer old new → DoesArguments root arguments answer old new
+        → Does Clean Represents Given (Key command given) answer old new → DoesArguments root arguments answer old new
     root_refused : (file : Text) (command : KeyCommand) → AskFor arguments file (Rootless command) → root_in_input root ≡ None → answer ≡ Err BadValue
         → new ≡ old → DoesArguments root arguments answer old new
     arguments_refused : (fault : ArgumentsFault Unit) → ReadsArguments arguments (Err fault) → answer ≡ Err (of_arguments fault) → new ≡ old
         → DoesArguments root arguments answer old new
 
-  -- A command is done once. Bytes that spell none, and arguments that ask for nothing of the office's, change nothing.
+  -- A command is done once, and a log is given its name, which is the second argument. Bytes that spell none, and arguments that ask for nothing of
+  -- the office's, change nothing.
   pub data CarriesOutBy (bytes : List ℕ) (old : Store) (answer : Answer) (new : Store) : Type 0 where
     command_done : (root : Text) (arguments : List Text) (result : Result (List ℕ) Fault) → SpellsCommand bytes root arguments
         → DoesArguments root arguments result old new
-        → AnswersWith result answer → CarriesOutBy bytes old answer new
-    no_command : SpellsNoCommand bytes → answer.carried.status ≡ 2 → new ≡ old → CarriesOutBy bytes old answer new
-    not_office : (root : Text) (arguments : List Text) → SpellsCommand bytes root arguments → AskOther arguments → answer.carried.status ≡ 2 → new ≡ old
+        → AnswersWith result answer → answer.carried.line ≡ logged_line result (slice_get arguments 1) → CarriesOutBy bytes old answer new
+    no_command : SpellsNoCommand bytes → IsUnnamed 2 answer → new ≡ old → CarriesOutBy bytes old answer new
+    not_office : (root : Text) (arguments : List Text) → SpellsCommand bytes root arguments → AskOther arguments → IsUnnamed 2 answer → new ≡ old
         → CarriesOutBy bytes old answer new
-    no_memory : answer.carried.status ≡ 4 → new ≡ old → CarriesOutBy bytes old answer new
+    no_memory : IsUnnamed 4 answer → new ≡ old → CarriesOutBy bytes old answer new
+
+-- ---- with the machine's clock, which stays the same
+
+-- what a desk over a store answers
+abbrev pub answers_with_clock : {S C : Type 0} → (ℕ → AnswerRelation S) → ℕ → AnswerRelation (S × C)
+answers_with_clock Answers moment text request old reply new = Answers moment text request old.0 reply new.0 × (new.1 ≡ old.1)
+
+-- what it does with a command, by the instants that the clock may give
+abbrev pub carries_out_with_clock : {S C : Type 0} → (C → Option Timestamp → Type 0) → ((Option Timestamp → Type 0) → CommandRelation S)
+    → CommandRelation (S × C)
+carries_out_with_clock Shows Carries bytes old answer new = Carries (Shows old.1) bytes old.0 answer new.0 × (new.1 ≡ old.1)

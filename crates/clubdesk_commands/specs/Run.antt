@@ -22,7 +22,7 @@ use Rattle.desk_server.specs.declared.databases.Visit.{Ghosts as VisitWords}
 use Rattle.desk_server.specs.declared.serve.ClockOutOfRange.{ClockOutOfRange as ClockFault}
 use Rattle.clubdesk_arguments.specs.Fault.{fault_of_opening, of_arguments}
 use Rattle.clubdesk_arguments.specs.Arguments.{AskFor, ReadsArguments}
-use Rattle.clubdesk_arguments.specs.declared.clock.Clock.{Clock}
+use Rattle.club_clock.specs.declared.clock.Clock.{Clock}
 use Rattle.clubdesk_arguments.specs.declared.fault.Fault.{Fault}
 use Rattle.clubdesk_arguments.specs.declared.fault.Fault.TheVariants.{Memory, ClockOutOfRange, InputOutput, NoAnswer, Answered}
 use Rattle.clubdesk_arguments.specs.declared.task.KeyCommand.{KeyCommand}
@@ -32,7 +32,8 @@ use Rattle.clubdesk_arguments.specs.declared.task.Task.TheVariants.{Key}
 use Rattle.clubdesk_arguments.specs.declared.task.Work.TheVariants.{Office, Rootless, Serve}
 use Rattle.clubdesk_commands.specs.Does.{Does}
 use Rattle.clubdesk_commands.specs.Input.{TakesRoot}
-use Rattle.clubdesk_commands.specs.Moments.{showing}
+use Rattle.club_clock.specs.Moments.{showing}
+use Rattle.jiff_core.specs.declared.timestamp.Timestamp.{Timestamp}
 use Rattle.clubdesk_commands.specs.Machine.{machine_answers, machine_commands}
 use Rattle.clubdesk_commands.specs.OfficeDesk.{CarriesOutBy}
 use Rattle.clubdesk_commands.specs.HandedCommand.{command_bytes}
@@ -53,15 +54,17 @@ abbrev pub outcome_of_server : Result Unit ClockFault → Result Unit Fault
 outcome_of_server (Ok done) = Ok done
 outcome_of_server (Err stopped) = Err ClockOutOfRange
 
--- How a server ends: so many clients were served, at moments of its clock, and the commands that came before them and meanwhile; or the clock gave no
--- moment at one of them. Its log noted the turns of all. Or it couldn't listen or write its address, and served and noted nothing.
-pub data RunsServer {Desk : Type 0} (Answers : ℕ → AnswerRelation Desk) (Carries : served.CommandRelation Desk) (service : Service) (turns : List Turn)
-    (old new : Desk) (Noted : List Turn → Type 0) (result : Result Unit Fault) : Type 0 where
-  listened : (outcome : Result Unit ClockFault) (last : Clock) (failures : ℕ) → result ≡ outcome_of_server outcome
-      → served.ServesTurns showing Answers Carries over_socket turns service.count service.clock old 0 outcome last new failures
-      → IfLogged service Noted turns → RunsServer Answers Carries service turns old new Noted result
-  not_listened : (result ≡ Err Memory) ⊎ (result ≡ Err InputOutput) → turns ≡ [] → new ≡ old → Noted [] →
-      RunsServer Answers Carries service turns old new Noted result
+-- How a server ends: so many clients were served, at moments of its clock, which may be the machine's, and the commands that came before them and
+-- meanwhile; or the clock gave no moment at one of them. Its log noted the turns of all. Or it couldn't listen or write its
+-- address, and served and noted nothing.
+pub data RunsServer {Desk Machine : Type 0} (Shows : Machine → Option Timestamp → Type 0) (machine : Machine)
+    (Answers : ℕ → AnswerRelation Desk) (Carries : served.CommandRelation Desk) (service : Service) (turns : List Turn) (old new : Desk)
+    (Noted : List Turn → Type 0) (result : Result Unit Fault) : Type 0 where
+  listened : (outcome : Result Unit ClockFault) (last : Clock × Machine) (failures : ℕ) → result ≡ outcome_of_server outcome
+      → served.ServesTurns (showing Shows) Answers Carries over_socket turns service.count (service.clock, machine) old 0 outcome last new failures
+      → IfLogged service Noted turns → RunsServer Shows machine Answers Carries service turns old new Noted result
+  not_listened : (result ≡ Err Memory) ⊎ (result ≡ Err InputOutput) → turns ≡ [] → new ≡ old → Noted []
+      → RunsServer Shows machine Answers Carries service turns old new Noted result
 
 -- the line of a server that listens at a port of the loopback address
 abbrev pub listening_line : ℕ → List ℕ
@@ -88,13 +91,16 @@ Announces asked written (Ok done) = IsAnnounced asked written
 Announces asked written (Err ClockOutOfRange) = IsAnnounced asked written
 Announces asked written (Err fault) = StopsBefore asked written fault
 
-module _ {Store : Type 0} (Clean : Store → Type 0) (Represents : Store → Club → List Club → Type 0) where
-  -- While the disk returned what was written, the server is also one over the club itself, in the same turns, and its machine makes each step: each
-  -- reply and each answer is the machine's, what failed changed nothing, and the store is left with the club that the machine leaves.
-  abbrev pub FollowsMachine : Service → List Turn → Store → Store → (List Turn → Type 0) → Result Unit Fault → Type 0
-  FollowsMachine service turns store left Noted result =
-      Clean left → (club : Club) (others : List Club) → Represents store club others
-      → (last : Club) × (still : List Club) × Represents left last still × RunsServer machine_answers machine_commands service turns club last Noted result
+module _ {Store Machine : Type 0} (Clean : Store → Type 0) (Represents : Store → Club → List Club → Type 0)
+    (Shows : Machine → Option Timestamp → Type 0) (machine : Machine)
+  where
+    -- While the disk returned what was written, the server is also one over the club itself, in the same turns, and its machine makes each step:
+    -- each reply and each answer is the machine's, what failed changed nothing, and the store is left with the club that the machine leaves.
+    abbrev pub FollowsMachine : Service → List Turn → Store → Store → (List Turn → Type 0) → Result Unit Fault → Type 0
+    FollowsMachine service turns store left Noted result =
+        Clean left → (club : Club) (others : List Club) → Represents store club others
+        → (last : Club) × (still : List Club) × Represents left last still
+        × RunsServer Shows machine machine_answers (machine_commands (Shows machine)) service turns club last Noted result
 
 -- ---- a command that is handed over
 
@@ -119,51 +125,53 @@ pub data IsHandedOver {Visit : Type 0} (Gives : Giving Visit) (visit : Visit) (r
 
 -- ---- a run
 
-module _ {D S R V : Type 0} (databases : DatabasesWords D S R V) (visits : VisitWords V) (stores : StoreWords S) where
-  -- A task of the office over the database of a name. It was handed to the server of the database, in the arguments of the run and with the task's
-  -- root, and the reply was written; or the database was opened, the task was done, the database closed and the answer written. Or the database
-  -- couldn't be reached.
-  pub data Performs (arguments : List Text) (file : Text) (task : Task) (old new : D) (written : Stream) (result : Result Unit Fault) : Type 0 where
-    not_reached : (fault : StoreFault) → databases.reaches old file (Err fault) new → result ≡ Err (fault_of_opening fault) → written.no_change
-        → Performs arguments file task old new written result
-    task_done : (answer : Result (List ℕ) Fault) (store left : S) (between : D) → databases.reaches old file (Ok (Opened store)) between
-        → Does stores.disk_is_clean stores.represents task answer store left → databases.closes between left new → Prints answer written result
-        → Performs arguments file task old new written result
-    handed_over : (answer : Result (List ℕ) Fault) (visit : V) → databases.reaches old file (Ok (Served visit)) new
-        → IsHandedOver visits.gives visit (handed_root task) arguments answer → Prints answer written result
-        → Performs arguments file task old new written result
+module _ {D S R V Machine : Type 0} (databases : DatabasesWords D S R V) (visits : VisitWords V) (stores : StoreWords S)
+    (Shows : Machine → Option Timestamp → Type 0) (machine : Machine)
+  where
+    -- A task of the office over the database of a name. It was handed to the server of the database, in the arguments of the run and with the task's
+    -- root, and the reply was written; or the database was opened, the task was done, the database closed and the answer written. Or the database
+    -- couldn't be reached.
+    pub data Performs (arguments : List Text) (file : Text) (task : Task) (old new : D) (written : Stream) (result : Result Unit Fault) : Type 0 where
+      not_reached : (fault : StoreFault) → databases.reaches old file (Err fault) new → result ≡ Err (fault_of_opening fault) → written.no_change
+          → Performs arguments file task old new written result
+      task_done : (answer : Result (List ℕ) Fault) (store left : S) (between : D) → databases.reaches old file (Ok (Opened store)) between
+          → Does stores.disk_is_clean stores.represents (Shows machine) task answer store left → databases.closes between left new
+          → Prints answer written result → Performs arguments file task old new written result
+      handed_over : (answer : Result (List ℕ) Fault) (visit : V) → databases.reaches old file (Ok (Served visit)) new
+          → IsHandedOver visits.gives visit (handed_root task) arguments answer → Prints answer written result
+          → Performs arguments file task old new written result
 
-  -- A server over the database of a name, which it opened. It served clients and carried out commands at the one desk over that store, and closed it
-  -- at the end; or the database has no door, and was closed; or it couldn't be opened.
-  pub data Serves (file : Text) (service : Service) (old new : D) (written : Stream) (Noted : List Turn → Type 0) (result : Result Unit Fault) : Type 0 where
-    not_opened : (fault : StoreFault) → databases.opens old file (Err fault) new → result ≡ Err (fault_of_opening fault) → written.no_change → Noted []
-        → Serves file service old new written Noted result
-    no_door : (fault : StoreFault) (store : S) (between : D) → databases.opens old file (Ok store) between → databases.closes between store new
-        → result ≡ Err (fault_of_opening fault) → written.no_change → Noted [] → Serves file service old new written Noted result
-    server_done : (store left : S) (between : D) (turns : List Turn) → databases.opens old file (Ok store) between
-        → RunsServer (AnswersBy stores.disk_is_clean stores.represents stores.fails) (CarriesOutBy stores.disk_is_clean stores.represents) service turns
-        store left Noted result
-        → FollowsMachine stores.disk_is_clean stores.represents service turns store left Noted result → Announces service.port written result
-        → databases.closes between left new → Serves file service old new written Noted result
+    -- A server over the database of a name, which it opened. It served clients and carried out commands at the one desk over that store, and closed it
+    -- at the end; or the database has no door, and was closed; or it couldn't be opened.
+    pub data Serves (file : Text) (service : Service) (old new : D) (written : Stream) (Noted : List Turn → Type 0) (result : Result Unit Fault) : Type 0 where
+      not_opened : (fault : StoreFault) → databases.opens old file (Err fault) new → result ≡ Err (fault_of_opening fault) → written.no_change → Noted []
+          → Serves file service old new written Noted result
+      no_door : (fault : StoreFault) (store : S) (between : D) → databases.opens old file (Ok store) between → databases.closes between store new
+          → result ≡ Err (fault_of_opening fault) → written.no_change → Noted [] → Serves file service old new written Noted result
+      server_done : (store left : S) (between : D) (turns : List Turn) → databases.opens old file (Ok store) between
+          → RunsServer Shows machine (AnswersBy stores.disk_is_clean stores.represents stores.fails)
+          (CarriesOutBy stores.disk_is_clean stores.represents (Shows machine)) service turns store left Noted result
+          → FollowsMachine stores.disk_is_clean stores.represents Shows machine service turns store left Noted result
+          → Announces service.port written result → databases.closes between left new → Serves file service old new written Noted result
 
-  -- What a run on these arguments did.
-  pub data Runs (arguments : List Text) (given : Stream) (old new : D) (written : Stream) (log : LogChange) (result : Result Unit Fault) : Type 0 where
-    -- They have a fault, or memory was refused, and nothing was done.
-    arguments_refused : (fault : ArgumentsFault Unit) → ReadsArguments arguments (Err fault) → result ≡ Err (of_arguments fault) → given.no_change → new ≡ old
-        → written.no_change → log.no_change → Runs arguments given old new written log result
-    -- They ask for a text, and no database was opened.
-    text_shown : (text : Error) → ReadsArguments arguments (Ok (ShowText text)) → IfErr result (λ fault. fault ≡ InputOutput) → given.no_change → new ≡ old
-        → log.no_change → Runs arguments given old new written log result
-    task_asked : (file : Text) (task : Task) → AskFor arguments file (Office task) → Performs arguments file task old new written result
-        → EndsWork written.no_change result → given.no_change → log.no_change → Runs arguments given old new written log result
-    -- They leave a key's root to the input, and it was read before the database was reached.
-    key_asked : (file : Text) (command : KeyCommand) (root : List ℕ) → AskFor arguments file (Rootless command) → TakesRoot given.before given.after (Ok root)
-        → Performs arguments file (Key command root) old new written result → EndsWork written.no_change result → log.no_change
-        → Runs arguments given old new written log result
-    -- What was read is no root, or it couldn't be read, and nothing was done.
-    root_refused : (file : Text) (command : KeyCommand) (fault : Fault) → AskFor arguments file (Rootless command)
-        → TakesRoot given.before given.after (Err fault)
-        → result ≡ Err fault → new ≡ old → written.no_change → log.no_change → Runs arguments given old new written log result
-    -- Only a server that is asked for a log notes anything.
-    server_asked : (file : Text) (service : Service) → AskFor arguments file (Serve service) → Serves file service old new written log.notes result
-        → EndsWork written.no_change result → given.no_change → (service.log ≡ false → log.no_change) → Runs arguments given old new written log result
+    -- What a run on these arguments did.
+    pub data Runs (arguments : List Text) (given : Stream) (old new : D) (written : Stream) (log : LogChange) (result : Result Unit Fault) : Type 0 where
+      -- They have a fault, or memory was refused, and nothing was done.
+      arguments_refused : (fault : ArgumentsFault Unit) → ReadsArguments arguments (Err fault) → result ≡ Err (of_arguments fault) → given.no_change → new ≡ old
+          → written.no_change → log.no_change → Runs arguments given old new written log result
+      -- They ask for a text, and no database was opened.
+      text_shown : (text : Error) → ReadsArguments arguments (Ok (ShowText text)) → IfErr result (λ fault. fault ≡ InputOutput) → given.no_change → new ≡ old
+          → log.no_change → Runs arguments given old new written log result
+      task_asked : (file : Text) (task : Task) → AskFor arguments file (Office task) → Performs arguments file task old new written result
+          → EndsWork written.no_change result → given.no_change → log.no_change → Runs arguments given old new written log result
+      -- They leave a key's root to the input, and it was read before the database was reached.
+      key_asked : (file : Text) (command : KeyCommand) (root : List ℕ) → AskFor arguments file (Rootless command) → TakesRoot given.before given.after (Ok root)
+          → Performs arguments file (Key command root) old new written result → EndsWork written.no_change result → log.no_change
+          → Runs arguments given old new written log result
+      -- What was read is no root, or it couldn't be read, and nothing was done.
+      root_refused : (file : Text) (command : KeyCommand) (fault : Fault) → AskFor arguments file (Rootless command)
+          → TakesRoot given.before given.after (Err fault)
+          → result ≡ Err fault → new ≡ old → written.no_change → log.no_change → Runs arguments given old new written log result
+      -- Only a server that is asked for a log notes anything.
+      server_asked : (file : Text) (service : Service) → AskFor arguments file (Serve service) → Serves file service old new written log.notes result
+          → EndsWork written.no_change result → given.no_change → (service.log ≡ false → log.no_change) → Runs arguments given old new written log result

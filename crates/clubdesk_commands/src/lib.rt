@@ -4,13 +4,14 @@
 
 mod handed_command;
 mod input;
-mod moments;
 mod office;
 mod office_desk;
+mod process;
 mod program;
 mod server;
 
 pub use handed_command::{HandedCommand, command_bytes, read_command};
 pub use office_desk::OfficeDesk;
+pub use process::{finish, run_process};
 pub use program::run;
 pub use server::{serve, serve_file};

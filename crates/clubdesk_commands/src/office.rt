@@ -5,8 +5,7 @@ ghost use Rattle.std.specs.String.{string_bytes};
 ghost use Rattle.clubdesk_commands.specs.Does as spec;
 ghost use Rattle.clubdesk_commands.specs.Output.{IsWorkFault, text_of};
 
-use crate::moments::MomentsOf;
-use club_clock::Moments;
+use club_clock::{Instants, Moments, MomentsOf};
 use club_core::{ClubStore, Command, StoreFault};
 use club_gate::{Desk, OfficeReply, key_signature, minted};
 use club_rows::Root;
@@ -15,7 +14,6 @@ use clubdesk_arguments::{Fault, KeyChange, KeyCommand, Task};
 use pass_forms::Form;
 use pass_json::write_any;
 use std::alloc::Global;
-use std::time::Clock;
 
 /// Does a task at a desk, and returns the answer.
 ///
@@ -24,14 +22,14 @@ use std::time::Clock;
 /// `Refused`, `Memory` and `Storage` if the desk returns them; `Memory` also if there was none for
 /// the text of a command's answer, and then no command was given; `ClockOutOfRange` if the clock
 /// shows no moment at which to look. The club is unchanged.
-pub(crate) fn carry_out<C: Clock, S: ClubStore>(
+pub(crate) fn carry_out<C: Instants, S: ClubStore>(
     alloc: Global,
     machine: &C,
     desk: &mut Desk<S>,
     task: Task<'_>,
 ) -> Result<String, Fault>
-    ensures does { spec.Does S.disk_is_clean S.represents task.entry (text_of result)
-        desk.old desk.new }
+    ensures does { spec.Does S.disk_is_clean S.represents (C.shows machine.now) task.entry
+        (text_of result) desk.old desk.new }
     ensures worked { IfErr result IsWorkFault }
 {
     match task {

@@ -1,6 +1,6 @@
 //! A desk that a server serves, with the office at it.
 
-ghost use Rattle.std.specs.Prelude.{◌≡◌, map, MatchOption, Err};
+ghost use Rattle.std.specs.Prelude.{◌≡◌, map, MatchOption, Err, option_copied, option_map};
 ghost use Rattle.std.specs.String.{string_bytes};
 ghost use Rattle.clubdesk_commands.specs.OfficeDesk as spec;
 ghost use Rattle.clubdesk_commands.specs.OfficeDesk.{AnswersWith};
@@ -9,6 +9,7 @@ ghost use Rattle.clubdesk_commands.specs.Output.{text_of};
 use crate::handed_command::{HandedCommand, read_command};
 use crate::input::root_in;
 use crate::office::carry_out;
+use club_clock::Instants;
 use club_core::{ClubStore, Reply};
 use club_gate::Desk;
 use club_http::{Responder, Words};
@@ -19,7 +20,6 @@ use desk_server::{Answer, Carried, Office, RequestLine};
 use http_response::Line;
 use std::alloc::Global;
 use std::marker::Model;
-use std::time::Clock;
 
 /// The status of a command that was done.
 const DONE: u8 = 0;
@@ -34,7 +34,7 @@ const OUT_OF_MEMORY: u8 = 4;
 const MAX_NAME_LEN: usize = 24;
 
 /// A desk over an open store, and what its office needs besides: memory, and the machine's clock.
-/// Contracts see it as the store.
+/// Contracts see the store and that clock.
 #[derive(Drop)]
 pub struct OfficeDesk<'a, S: ClubStore, C> {
     desk: Desk<S>,
@@ -43,17 +43,17 @@ pub struct OfficeDesk<'a, S: ClubStore, C> {
 }
 
 impl<'a, S: ClubStore, C> Model for OfficeDesk<'a, S, C> {
-    ghost Value = { S };
+    ghost Value = { S × C };
 
-    ghost view = { λ desk. desk.desk };
+    ghost view = { λ desk. (desk.desk, desk.machine.now) };
 }
 
-impl<'a, S: ClubStore, C: Clock> OfficeDesk<'a, S, C> {
+impl<'a, S: ClubStore, C: Instants> OfficeDesk<'a, S, C> {
     ghost use Rattle.std.specs.Prelude.{◌≡◌};
 
     /// A desk over this store.
     pub fn new(alloc: Global, machine: &'a C, store: S) -> OfficeDesk<'a, S, C>
-        ensures { result ≡ store }
+        ensures { result ≡ (store, machine.now) }
     {
         OfficeDesk {
             desk: Desk::new(alloc, store),
@@ -64,27 +64,29 @@ impl<'a, S: ClubStore, C: Clock> OfficeDesk<'a, S, C> {
 
     /// The store.
     pub fn into_store(self) -> S
-        ensures { result ≡ self.entry }
+        ensures { result ≡ self.entry.0 }
     {
         let OfficeDesk { desk, .. } = self;
         desk.into_store()
     }
 }
 
-impl<S: ClubStore, C: Clock> Responder for OfficeDesk<'_, S, C> {
+impl<S: ClubStore, C: Instants> Responder for OfficeDesk<'_, S, C> {
     ghost use Rattle.club_http.specs.Desk.{AnswersBy};
+    ghost use Rattle.clubdesk_commands.specs.OfficeDesk.{answers_with_clock};
 
-    ghost answers = { AnswersBy S.disk_is_clean S.represents S.fails };
+    ghost answers = { answers_with_clock (AnswersBy S.disk_is_clean S.represents S.fails) };
 
     fn ask(&mut self, moment: Moment, words: &Words<'_>) -> Reply {
         Responder::ask(&mut self.desk, moment, words)
     }
 }
 
-impl<S: ClubStore, C: Clock> Office for OfficeDesk<'_, S, C> {
-    ghost use Rattle.clubdesk_commands.specs.OfficeDesk.{CarriesOutBy};
+impl<S: ClubStore, C: Instants> Office for OfficeDesk<'_, S, C> {
+    ghost use Rattle.clubdesk_commands.specs.OfficeDesk.{CarriesOutBy, carries_out_with_clock};
 
-    ghost commands = { CarriesOutBy S.disk_is_clean S.represents };
+    ghost commands = { carries_out_with_clock C.shows
+        (CarriesOutBy S.disk_is_clean S.represents) };
 
     fn command(&mut self, bytes: &[u8]) -> Answer {
         let command = match read_command(self.alloc, bytes) {
@@ -101,7 +103,7 @@ impl<S: ClubStore, C: Clock> Office for OfficeDesk<'_, S, C> {
 }
 
 // Does what a command asks for; `None` if it asks for nothing of the office's.
-fn answer_command<S: ClubStore, C: Clock>(
+fn answer_command<S: ClubStore, C: Instants>(
     alloc: Global,
     machine: &C,
     desk: &mut Desk<S>,
@@ -109,8 +111,9 @@ fn answer_command<S: ClubStore, C: Clock>(
 ) -> Option<Result<String, Fault>>
     ensures { MatchOption result
         ((desk.new ≡ desk.old) × spec.AskOther (map string_bytes command.now.arguments.items))
-        (λ answer. spec.DoesArguments S.disk_is_clean S.represents (string_bytes command.now.root)
-        (map string_bytes command.now.arguments.items) (text_of answer) desk.old desk.new) }
+        (λ answer. spec.DoesArguments S.disk_is_clean S.represents (C.shows machine.now)
+        (string_bytes command.now.root) (map string_bytes command.now.arguments.items)
+        (text_of answer) desk.old desk.new) }
 {
     let job: Job<'_> = match read_job(alloc, command.arguments.as_slice()) {
         Ok(Asked::Perform(job)) => job,
@@ -131,6 +134,8 @@ fn answer_command<S: ClubStore, C: Clock>(
 // The answer with this status and text. Only the name of a command is kept for a log.
 fn answer_of(status: u8, name: Option<&String>, text: String) -> Answer
     ensures status { result.carried.status ≡ status }
+    ensures line { result.carried.line ≡ spec.named_line
+        (option_map string_bytes (option_copied name.entry)) }
     ensures text { result.text ≡ text }
 {
     let mut line = Line::new();
@@ -149,7 +154,9 @@ fn answer_of(status: u8, name: Option<&String>, text: String) -> Answer
 
 // The answer for a fault: its status and its line.
 fn refusal_of(alloc: Global, fault: &Fault, name: Option<&String>) -> Answer
-    ensures { AnswersWith (Err fault.now) result }
+    ensures answers { AnswersWith (Err fault.now) result }
+    ensures line { result.carried.line ≡ spec.logged_line (Err fault.now)
+        (option_map string_bytes (option_copied name.entry)) }
 {
     let name = match fault {
         Fault::Arguments(_) => None,

@@ -10,14 +10,14 @@ use crate::handed_command::command_bytes;
 use crate::input::read_root;
 use crate::office::carry_out;
 use crate::server::serve_file;
+use club_clock::Instants;
 use club_gate::Desk;
 use clubdesk_arguments::{Fault, Job, Task, Work};
 use command_line::{Asked, flush, read_job, write_text};
-use desk_server::{Databases, Log, Reached, Visit};
+use desk_server::{Databases, Log, MonotonicClock, Reached, Visit};
 use std::alloc::{AllocError, Global};
 use std::convert::AsStr;
 use std::io::{Read, Write};
-use std::time::Clock;
 
 /// Runs the program on its arguments, of which the first is its name. The machine's clock is that
 /// by which a server without `--at` has its moments, and its connections their limits of time.
@@ -35,7 +35,7 @@ use std::time::Clock;
 /// as the office rules; `Storage`, also if the database can't be opened; `Memory`; after these
 /// nothing was written. `ClockOutOfRange` and `InputOutput` may come after a beginning of the
 /// output; if the input can't be read, nothing was written.
-pub fn run<C: Clock, D: Databases, S: AsStr, R: Read, W: Write, G: Log>(
+pub fn run<C: Instants + MonotonicClock, D: Databases, S: AsStr, R: Read, W: Write, G: Log>(
     rt: &HostRuntime,
     machine: &C,
     databases: &mut D,
@@ -44,9 +44,10 @@ pub fn run<C: Clock, D: Databases, S: AsStr, R: Read, W: Write, G: Log>(
     writer: &mut W,
     log: &mut G,
 ) -> Result<(), Fault>
-    ensures { spec.Runs D.Databases D.Visit.Visit D.Store.ClubStore (map S.text arguments.now)
-        (stream R.remaining reader.old reader.new) databases.old databases.new
-        (stream W.contents writer.old writer.new) (log_change G.Log log.old log.new) result }
+    ensures { spec.Runs D.Databases D.Visit.Visit D.Store.ClubStore C.Instants.shows machine.now
+        (map S.text arguments.now) (stream R.remaining reader.old reader.new)
+        databases.old databases.new (stream W.contents writer.old writer.new)
+        (log_change G.Log log.old log.new) result }
 {
     let job: Job<'_> = match read_job(rt.alloc(), arguments) {
         Ok(Asked::Perform(job)) => job,
@@ -85,7 +86,7 @@ pub fn run<C: Clock, D: Databases, S: AsStr, R: Read, W: Write, G: Log>(
 
 // Does a task of the office: by the server that has the database open, or at the database itself.
 // That is closed before the answer is written, so that a writer that waits doesn't keep it.
-fn perform<C: Clock, D: Databases, S: AsStr, W: Write>(
+fn perform<C: Instants, D: Databases, S: AsStr, W: Write>(
     alloc: Global,
     machine: &C,
     databases: &mut D,
@@ -95,8 +96,8 @@ fn perform<C: Clock, D: Databases, S: AsStr, W: Write>(
     writer: &mut W,
 ) -> Result<(), Fault>
     ensures performs { spec.Performs D.Databases D.Visit.Visit D.Store.ClubStore
-        (map S.text arguments.now) file.now task.entry databases.old databases.new
-        (stream W.contents writer.old writer.new) result }
+        C.shows machine.now (map S.text arguments.now) file.now task.entry
+        databases.old databases.new (stream W.contents writer.old writer.new) result }
     ensures ends { EndsWork (writer.new ≡ writer.old) result }
 {
     match databases.reach(file) {

@@ -5,19 +5,20 @@ ghost use Rattle.desk_server.specs.Served.{AreNoted, Turn};
 ghost use Rattle.clubdesk_commands.specs.Output.{stream};
 ghost use Rattle.clubdesk_commands.specs.Run as spec;
 
-use crate::moments::MomentsOf;
 use crate::office_desk::OfficeDesk;
+use club_clock::{Instants, MomentsOf};
 use club_http::Face;
 use clubdesk_arguments::{Fault, Service};
 use command_line::write_text;
 use desk_server::{
-    ClockOutOfRange, Databases, Door, Listening, Log, Office, serve_logged, serve_on,
+    ClockOutOfRange, Databases, Door, Listening, Log, MonotonicClock, Office, serve_logged,
+    serve_on,
 };
+use std::io;
 use std::io::Write;
 use std::net::TcpListener;
 use std::os::unix::net::UnixListener;
 use std::time::Duration;
-use std::{io, time};
 
 /// Where the server listens.
 const LOOPBACK: &str = "127.0.0.1";
@@ -29,7 +30,7 @@ const LOOPBACK: &str = "127.0.0.1";
 ///
 /// As `serve`; and `Storage` and `Memory` if the database can't be opened, or has no door: then
 /// nothing was written.
-pub fn serve_file<C: time::Clock, D: Databases, W: Write, G: Log>(
+pub fn serve_file<C: Instants + MonotonicClock, D: Databases, W: Write, G: Log>(
     rt: &HostRuntime,
     machine: &C,
     databases: &mut D,
@@ -38,8 +39,9 @@ pub fn serve_file<C: time::Clock, D: Databases, W: Write, G: Log>(
     writer: &mut W,
     log: &mut G,
 ) -> Result<(), Fault>
-    ensures done { spec.Serves D.Databases D.Visit.Visit D.Store.ClubStore file.now service.entry
-        databases.old databases.new (stream W.contents writer.old writer.new)
+    ensures done { spec.Serves D.Databases D.Visit.Visit D.Store.ClubStore
+        C.Instants.shows machine.now file.now service.entry databases.old databases.new
+        (stream W.contents writer.old writer.new)
         (λ turns. AreNoted G.begins G.notes log.old turns log.new) result }
     ensures unlogged { service.entry.log ≡ false → log.new ≡ log.old }
 {
@@ -78,7 +80,7 @@ pub fn serve_file<C: time::Clock, D: Databases, W: Write, G: Log>(
 ///
 /// `InputOutput` if the server can't listen, or the writer failed; `Memory`: nothing was served.
 /// `ClockOutOfRange` if the clock shows no moment of the club's at a client, which ends the server.
-pub fn serve<D: Office, C: time::Clock, W: Write, G: Log>(
+pub fn serve<D: Office, C: Instants + MonotonicClock, W: Write, G: Log>(
     rt: &HostRuntime,
     machine: &C,
     door: Option<&UnixListener>,
@@ -87,8 +89,9 @@ pub fn serve<D: Office, C: time::Clock, W: Write, G: Log>(
     writer: &mut W,
     log: &mut G,
 ) -> Result<(), Fault>
-    ensures served { (turns : List Turn) × spec.RunsServer D.answers D.commands service.entry turns
-        desk.old desk.new (λ noted. AreNoted G.begins G.notes log.old noted log.new) result }
+    ensures served { (turns : List Turn) × spec.RunsServer C.Instants.shows machine.now
+        D.answers D.commands service.entry turns desk.old desk.new
+        (λ noted. AreNoted G.begins G.notes log.old noted log.new) result }
     ensures announced { spec.Announces service.entry.port
         (stream W.contents writer.old writer.new) result }
     ensures unlogged { service.entry.log ≡ false → log.new ≡ log.old }

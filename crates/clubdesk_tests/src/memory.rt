@@ -384,8 +384,8 @@ fn watch_over<S: ClubStore + Drop>(
     };
     let asked = Run::of(line);
     let log = &mut Unlogged;
-    let outcome = run_on(rt, rt, &mut databases, &asked, &mut writer, log)?;
-    if outcome.is_err() {
+    let ended = run_on(rt, rt, &mut databases, &asked, &mut writer, log)?;
+    if ended.status != 0 {
         return Err("a run that failed".into());
     }
     Ok(writer.found)

@@ -5,8 +5,7 @@ use crate::served::serve_and_drop;
 use crate::terminal::{Input, NO_INPUT};
 use club_core::StoreFault;
 use club_http::WriteOutlet;
-use clubdesk_arguments::Fault;
-use clubdesk_commands::run;
+use clubdesk_commands::run_process;
 use clubdesk_files::{DatabasesUser, run_over_files};
 use desk_server::{Databases, Log, LogLines, Reached};
 use std::alloc::AllocError;
@@ -15,6 +14,7 @@ use std::net::TcpListener;
 use std::test::Fail;
 use std::time::Clock;
 use std::{env, fs, process};
+use test_kit::Process;
 
 /// A command and its arguments without the path, which is its second one, and how it ends: its
 /// status, and what it wrote or the line of its fault.
@@ -72,12 +72,12 @@ impl Output {
     // The result of a run that ended so.
     fn of(
         rt: &HostRuntime,
-        outcome: &Result<(), Fault>,
+        ended: &Ended,
         caller: Caller<'_>,
         log: Vec<u8>,
     ) -> Result<Output, AllocError> {
         Ok(Output {
-            returned: output_text(rt, outcome, caller.written_bytes())?,
+            returned: output_text(rt, ended, caller.written_bytes())?,
             taken: caller.written_bytes().len(),
             reply: caller.reply(),
             log,
@@ -115,21 +115,21 @@ pub fn remove(rt: &HostRuntime, path: &str) {
 }
 
 /// The status of a run, with what it wrote or the line of its fault.
-fn output_text(
-    rt: &HostRuntime,
-    outcome: &Result<(), Fault>,
-    written: &[u8],
-) -> Result<String, AllocError> {
-    match outcome {
-        Ok(()) => {
-            let text = str::from_utf8(written).unwrap_or("no text");
-            format!(in rt.alloc(); "0 {text}")
-        }
-        Err(fault) => {
-            let status = fault.status();
-            format!(in rt.alloc(); "{status} {fault}")
-        }
-    }
+fn output_text(rt: &HostRuntime, ended: &Ended, written: &[u8]) -> Result<String, AllocError> {
+    let Ended { status, printed } = ended;
+    let text = match status {
+        0 => str::from_utf8(written).unwrap_or("no text"),
+        2 => printed.as_str(),
+        _ => printed.as_str().strip_suffix('\n').unwrap_or("no line"),
+    };
+    format!(in rt.alloc(); "{status} {text}")
+}
+
+/// How a process of the program ended: its status, and what it printed on standard error.
+#[derive(Drop)]
+pub struct Ended {
+    pub status: u8,
+    pub printed: String,
 }
 
 /// How a run of the program ends, with this writer and this log.
@@ -140,11 +140,16 @@ pub fn run_on<C: Clock, D: Databases, W: Write, G: Log>(
     asked: &Run<'_>,
     writer: &mut W,
     log: &mut G,
-) -> Result<Result<(), Fault>, AllocError> {
-    let arguments: Vec<&str> = asked.line.split(' ').collect(rt.alloc())?;
-    let arguments = arguments.as_slice();
+) -> Result<Ended, AllocError> {
+    let words = asked.line.split(' ').map(|word| word.as_bytes());
+    let arguments: Vec<&[u8]> = words.collect(rt.alloc())?;
+    let process = Process::new(rt.alloc(), arguments.as_slice());
     let mut input = asked.input;
-    Ok(run(rt, machine, databases, arguments, &mut input, writer, log))
+    let status = run_process(rt, &process, machine, databases, &mut input, writer, log);
+    Ok(Ended {
+        status,
+        printed: process.into_printed(),
+    })
 }
 
 /// Runs the program by this clock of the machine.
@@ -157,8 +162,8 @@ pub fn run_over<C: Clock, D: Databases>(
     let mut caller = Caller::new(rt, &asked);
     let mut log = Vec::new(rt.alloc());
     let mut lines = LogLines::new(WriteOutlet::new(&mut log), machine);
-    let outcome = run_on(rt, machine, databases, &asked, &mut caller, &mut lines)?;
-    Output::of(rt, &outcome, caller, log)
+    let ended = run_on(rt, machine, databases, &asked, &mut caller, &mut lines)?;
+    Output::of(rt, &ended, caller, log)
 }
 
 /// What is done over databases in files.

@@ -1,7 +1,7 @@
 //! Servers of one request, over a database in a file.
 
 use crate::runs::{Run, Work, do_work};
-use club_clock::Fixed;
+use club_clock::{Clock, MomentsOf};
 use club_core::ClubStore;
 use club_http::Face;
 use club_values::Moment;
@@ -28,8 +28,11 @@ fn serve_at<'x, S: ClubStore + Drop>(
     let mut face = Face::new(rt.alloc())?;
     let moment = Moment::read(b"2026-04-20T12:00").ok_or("moment")?;
     let mut desk = OfficeDesk::new(rt.alloc(), rt, store);
+    let mut moments = MomentsOf {
+        clock: Clock::Fixed(moment),
+        machine: rt,
+    };
     let mut arrivals = Listening::new(listener, None, rt, Duration::from_secs(10));
-    let mut moments = Fixed { moment };
     serve_on(&mut arrivals, 1, &mut moments, &mut face, &mut desk)?;
     Ok(())
 }

@@ -8,3 +8,4 @@ pub mod Given
 pub mod Table
 pub mod Job
 pub mod JobLaws
+pub mod Process

@@ -22,7 +22,7 @@ pub use input::{fill, without_line_feed};
 pub use job::{Asked, Job, read_form, read_job};
 pub use options::{is_set, value_of};
 pub use output::{flush, write_text};
-pub use process::{given_arguments, report};
+pub use process::{FaultLines, GivenArguments, given_arguments, report};
 pub use root::Root;
 pub use table::{Argument, Commands, Program, Row, command_named, make_application};
 pub use value::{Value, read_value};

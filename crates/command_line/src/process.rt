@@ -1,38 +1,110 @@
-//! What a program's `main` does with arguments and with a fault.
+//! What a program does with the arguments of its process, and with a fault.
 
-ghost use Rattle.std.specs.Prelude.{IfErr};
+ghost use Rattle.std.specs.Prelude.{IfErr, IfOk, map};
+ghost use Rattle.std.specs.String.{string_bytes};
 ghost use Rattle.clap.specs.declared.error.kind.ErrorKind.TheVariants as kinds;
 ghost use Rattle.command_line.specs.Arguments.{IsOfKind};
+ghost use Rattle.command_line.specs.Process.{printed};
 
 use crate::errors::{ArgumentsFault, text_fault};
 use crate::table::Commands;
+use std::alloc::Global;
 use std::env::{self, Env};
-use std::fmt::Display;
+use std::fmt::{self, Display};
 use std::io;
+
+/// A process that was given arguments.
+pub trait GivenArguments {
+    ghost use Rattle.std.specs.Prelude.{List, IfOk, map};
+    ghost use Rattle.std.specs.String.{string_bytes};
+    ghost use Rattle.clap.specs.Words.{Text};
+
+    // the arguments that it may have been given
+    ghost given: { Self → List Text → Type 0 };
+
+    /// All arguments, of which the first is the program's name.
+    ///
+    /// # Errors
+    ///
+    /// `OutOfMemory`; any other kind if an argument isn't UTF-8.
+    fn arguments(&self, alloc: Global) -> io::Result<Vec<String>>
+        ensures { IfOk result (λ arguments. given self.now (map string_bytes arguments.items)) };
+}
+
+/// The process that the program runs in; the contract promises nothing about its arguments.
+impl<R: Env + AllocGlobal> GivenArguments for R {
+    ghost given = { λ _ _. Unit {0} };
+
+    fn arguments(&self, alloc: Global) -> io::Result<Vec<String>> {
+        Ok(env::args(self)?.collect(alloc)?)
+    }
+}
+
+/// Where a program prints the line of a fault.
+pub trait FaultLines {
+    ghost use Rattle.std.specs.Prelude.{ℕ, List, Option};
+
+    // a text that it was asked to print, if that is known
+    ghost asked: { Self → Option (List ℕ) → Type 0 };
+
+    /// Prints a text. If that fails, there is nowhere to report it.
+    fn print_text<F: Display>(&self, text: &F)
+        ensures { asked self.now (F.output text.now) };
+}
+
+/// Standard error; the contract promises nothing about what is printed.
+impl<R: Eprint> FaultLines for R {
+    ghost asked = { λ _ _. Unit {0} };
+
+    fn print_text<F: Display>(&self, text: &F) {
+        let _ = eprint!(self; "{text}");
+    }
+}
 
 /// The arguments of the process, of which the first is the program's name.
 ///
 /// # Errors
 ///
 /// `Refused` if they aren't UTF-8; `Memory` only if an allocation fails.
-pub fn given_arguments<R: Env + AllocGlobal, C: Commands, V>(
-    rt: &R,
+pub fn given_arguments<P: GivenArguments, C: Commands, V>(
+    alloc: Global,
+    process: &P,
 ) -> Result<Vec<String>, ArgumentsFault<V>>
-    ensures { IfErr result (IsOfKind kinds.ValueValidation) }
+    ensures ok { IfOk result (λ arguments.
+        P.given process.now (map string_bytes arguments.items)) }
+    ensures err { IfErr result (IsOfKind kinds.ValueValidation) }
 {
-    match env::args(rt) {
-        Ok(arguments) => Ok(arguments.collect(rt.alloc())?),
+    match process.arguments(alloc) {
+        Ok(arguments) => Ok(arguments),
         Err(error) if error.kind() == io::ErrorKind::OutOfMemory => Err(ArgumentsFault::Memory),
-        Err(_) => Err(text_fault::<C, V>(rt.alloc())),
+        Err(_) => Err(text_fault::<C, V>(alloc)),
     }
 }
 
 /// Prints the line of a fault on standard error. The text of `clap` ends its lines itself.
-pub fn report<F: Display>(rt: &impl Eprint, fault: &F, is_text_of_clap: bool) {
-    // If standard error fails too, there is nowhere to report it.
-    let _ = if is_text_of_clap {
-        eprint!(rt; "{fault}")
+pub fn report<P: FaultLines, F: Display>(process: &P, fault: &F, is_text_of_clap: bool)
+    ensures { P.asked process.now (printed is_text_of_clap (F.output fault.now)) }
+{
+    if is_text_of_clap {
+        process.print_text(fault)
     } else {
-        eprintln!(rt; "{fault}")
-    };
+        process.print_text(&Line { text: fault })
+    }
+}
+
+// A text, and the line feed after it.
+#[derive(Drop)]
+struct Line<'a, F> {
+    text: &'a F,
+}
+
+impl<F: Display> Display for Line<'_, F> {
+    ghost use Rattle.std.specs.Fmt.{with_newline};
+
+    ghost output = { λ line. with_newline (F.output line.text.now) };
+
+    fn fmt<W: fmt::Write>(&self, f: &mut fmt::Formatter<W>) -> fmt::Result {
+        let text = self.text;
+        writeln!(f, "{text}")
+    }
 }

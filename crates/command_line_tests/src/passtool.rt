@@ -5,6 +5,7 @@ mod doubles;
 mod failing;
 mod forms;
 mod limits;
+mod process;
 mod reports;
 mod runs;
 mod showing;

@@ -1,5 +1,6 @@
 //! A limit of time.
 
+use std::thread;
 use std::time::{Clock, Duration, Instant};
 
 /// A clock that counts the time since its start.
@@ -13,6 +14,9 @@ pub trait MonotonicClock {
     /// The instant now; `None` if the clock can't be read.
     fn instant_now(&self) -> Option<Instant>
         ensures { shows self.now (nanos_of result) };
+
+    /// Sleeps for a while.
+    fn rest(&self, duration: Duration);
 }
 
 /// The machine's clock; the contract promises nothing about its instants.
@@ -21,6 +25,10 @@ impl<C: Clock> MonotonicClock for C {
 
     fn instant_now(&self) -> Option<Instant> {
         Instant::now(self).ok()
+    }
+
+    fn rest(&self, duration: Duration) {
+        thread::sleep(self, duration)
     }
 }
 

@@ -2,15 +2,16 @@
 
 use crate::connections::{Arrival, Arrivals};
 use crate::door::Handed;
+use crate::limit::MonotonicClock;
 use crate::stream::{ClientSocket, command_is_next};
 use crate::timed::Accepted;
 use std::cell::Cell;
+use std::io;
 use std::io::ErrorKind;
 use std::net::TcpListener;
 use std::os::fd::{AsRawFd, RawFd};
 use std::os::unix::net::UnixListener;
-use std::time::{Clock, Duration};
-use std::{io, thread};
+use std::time::Duration;
 
 /// How many milliseconds the server sleeps after waiting failed, so that a listener that keeps
 /// failing doesn't use up all clients at once.
@@ -39,7 +40,7 @@ pub struct Listening<'a, C> {
     failures: u64,
 }
 
-impl<'a, C: Clock> Listening<'a, C> {
+impl<'a, C: MonotonicClock> Listening<'a, C> {
     ghost use Rattle.std.specs.Prelude.{◌≡◌};
 
     /// A source whose `next` wasn't called yet. This clock measures the limits.
@@ -103,7 +104,7 @@ impl<'a, C: Clock> Listening<'a, C> {
     }
 }
 
-impl<'a, C: Clock> Arrivals for Listening<'a, C> {
+impl<'a, C: MonotonicClock> Arrivals for Listening<'a, C> {
     type Client = Accepted<'a, ClientSocket<'a, C>, C>;
 
     type Command = Handed<'a, C>;
@@ -117,7 +118,7 @@ impl<'a, C: Clock> Arrivals for Listening<'a, C> {
         match self.wait() {
             Arrival::Nobody => {
                 self.failures = self.failures.saturating_add(1);
-                thread::sleep(self.clock, Duration::from_millis(REST_MILLISECONDS));
+                self.clock.rest(Duration::from_millis(REST_MILLISECONDS));
                 Arrival::Nobody
             }
             arrival => arrival,

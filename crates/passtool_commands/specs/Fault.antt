@@ -1,6 +1,6 @@
 -- The exit status and the line of each answer (ours).
-use Rattle.std.specs.Prelude.{ℕ, List, ◌++◌, Option, Some, None, codes}
-use Rattle.std.specs.Fmt.{decimal}
+use Rattle.std.specs.Prelude.{ℕ, List, ◌++◌, Option, Some, None, Result, Ok, Err, codes}
+use Rattle.std.specs.Fmt.{decimal, with_newline}
 use Rattle.command_line.specs.declared.errors.ArgumentsFault.{ArgumentsFault}
 use Rattle.command_line.specs.declared.errors.ArgumentsFault.TheVariants as arguments
 use Rattle.pass_forms.specs.FormFault.{fault_text}
@@ -25,6 +25,11 @@ fault_status (CaveatNotUnderstood number) = 5
 fault_status BadRoot = 6
 fault_status InputOutput = 7
 
+-- the exit status of a run
+abbrev pub exit_status : Result Outcome Fault → ℕ
+exit_status (Ok outcome) = outcome_status outcome
+exit_status (Err fault) = fault_status fault
+
 -- the number of a pass's fault; out of memory has none
 abbrev pub form_number : FormFault → Option ℕ
 form_number form.TooLong = Some 1
@@ -45,6 +50,11 @@ fault_line (Pass fault) = Some (with_number (form_number fault) (fault_text faul
 fault_line (CaveatNotUnderstood number) = Some (codes "caveat " ++ (decimal number ++ codes " not understood"))
 fault_line BadRoot = Some (codes "bad root")
 fault_line InputOutput = Some (codes "input or output failed")
+
+-- what is printed on standard error: the line, or clap's own text
+abbrev pub fault_output : Fault → Option (List ℕ)
+fault_output (Arguments error) = None
+fault_output fault = with_newline (fault_line fault)
 
 -- the fault of refused arguments
 abbrev pub of_arguments : ArgumentsFault BadValue → Fault

@@ -7,3 +7,4 @@ pub mod Arguments
 pub mod computed
 pub mod Run
 pub mod Laws
+pub mod Process

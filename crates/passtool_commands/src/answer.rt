@@ -4,7 +4,7 @@ ghost use Rattle.std.specs.Prelude.{◌≡◌};
 ghost use Rattle.std.specs.String.{string_bytes};
 ghost use Rattle.passtool_commands.specs.Fault.{form_number};
 
-use command_line::{ArgumentsFault, report};
+use command_line::ArgumentsFault;
 use pass_forms::FormFault;
 use std::marker::Model;
 use std::{error, fmt, io};
@@ -112,11 +112,6 @@ impl Fault {
             Fault::BadRoot => 6,
             Fault::InputOutput => 7,
         }
-    }
-
-    /// Prints the line of the fault on standard error.
-    pub fn report(&self, rt: &impl Eprint) {
-        report(rt, self, matches!(self, Fault::Arguments(_)));
     }
 }
 

@@ -12,11 +12,13 @@ mod mint;
 mod narrow;
 mod options;
 mod output;
+mod process;
 mod show;
 mod table;
 mod tool;
 mod verify;
 
 pub use answer::{BadValue, Fault, Outcome};
+pub use process::{finish, run_process};
 pub use table::Name;
 pub use tool::run;

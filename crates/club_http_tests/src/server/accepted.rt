@@ -3,11 +3,10 @@
 //! exchange that reads or writes less over its socket, or by other limits.
 
 use super::journal::{HandSet, Journal, Recorder};
-use super::{client_at, noon};
+use super::{always, client_at};
 use crate::expect::expect_bytes;
 use crate::rows::{expect_row, moment};
 use crate::sockets::{client_of, loopback_listener};
-use club_clock::Fixed;
 use club_core::Reply;
 use club_http::{AnswerFault, Face};
 use club_values::{Kind, Moment};
@@ -39,7 +38,7 @@ fn exchanges_after(
     let mut connection = accepted.expect(rt, "a connection");
     clock.advance(waited);
     let mut face = Face::new(rt.alloc()).expect(rt, "a face");
-    let mut moments = Fixed { moment: at };
+    let mut moments = always(at);
     connection.exchange(&mut face, &mut moments, desk, &mut Unlogged, at)
 }
 
@@ -206,7 +205,7 @@ fn asked_after(
     let reply = BOOKED_7.reply().expect(rt, "a reply");
     let mut desk = Recorder::new(&journal, rt.alloc(), reply).that_takes(takes, 0);
     let clock = &journal.clock;
-    let outcome = exchanges_after(rt, listener, clock, noon(rt).moment, waited, &mut desk);
+    let outcome = exchanges_after(rt, listener, clock, moment(rt, NOON), waited, &mut desk);
     (desk.calls, outcome.err())
 }
 

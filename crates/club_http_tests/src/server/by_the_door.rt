@@ -1,10 +1,9 @@
 //! Commands that come by the office's door while a client's request is awaited, over sockets in one
 //! process.
 
-use super::{REPLY, REQUEST};
+use super::{REPLY, REQUEST, always};
 use crate::expect::{expect_bytes, expect_eq};
 use crate::sockets::{client_of, expect_reply, loopback_listener};
-use club_clock::Fixed;
 use club_core::{Refusal, Reply};
 use club_http::{AnswerFault, Face, Responder};
 use club_values::Moment;
@@ -117,7 +116,7 @@ fn exchanges(
         got,
     };
     let moment = Moment::read(NOON.as_bytes()).ok_or("a moment")?;
-    let mut moments = Fixed { moment };
+    let mut moments = always(moment);
     let mut face = Face::new(rt.alloc())?;
     let outcome = connection.exchange(&mut face, &mut moments, &mut desk, &mut Unlogged, moment);
     fs::remove_file(rt, path)?;

@@ -1,16 +1,17 @@
-//! The moments of clocks. No contract states which instant a clock shows, so only these tests
-//! refuse a clock that is late or doesn't advance. A program in another language computed the
-//! expected moments, from the zone database.
+//! The moments of clocks, read as the program reads them. No contract states which instant the
+//! machine's clock shows, so only these tests refuse one that is late or doesn't advance. A program
+//! in another language computed the expected moments, from the zone database.
 
 use super::doubles::{Stopped, Ticking};
 use super::noon;
+use super::years::YEARS;
 use super::zones::BERLIN;
 use crate::expect::expect_eq;
 use crate::rows::{expect_row, moment};
-use club_clock::{ClockIn, Moments, Zone};
+use club_clock::{Clock, Moments, MomentsOf, Zone};
 use club_values::Moment;
 use std::process::Abort;
-use std::time::{Clock, Duration};
+use std::time::{self, Duration};
 use test_kit::moments::NOON;
 
 /// The rule of a zone, the seconds after 1970 began of a clock that can be read, and the moment
@@ -37,13 +38,16 @@ static SHOWN: [Shown; 15] = [
 ];
 
 /// A clock in the zone of a rule.
-fn clock_in<'c, C: Clock>(
+fn clock_in<'c, C: time::Clock>(
     rt: &impl Abort,
     rule: &'static str,
-    clock: &'c C,
-) -> ClockIn<'static, 'c, C> {
+    machine: &'c C,
+) -> MomentsOf<'static, 'c, C> {
     let zone = Zone::from_rule(rule).expect(rt, "a zone");
-    ClockIn::new(zone, clock)
+    MomentsOf {
+        clock: Clock::InZone(zone),
+        machine,
+    }
 }
 
 /// The moment of a clock that shows this second, or can't be read.
@@ -65,6 +69,34 @@ fn shows_the_minute_of_a_clock(rt: HostRuntime) {
     }
 }
 
+#[test]
+fn shows_the_minutes_of_each_year(rt: HostRuntime) {
+    for (second, text) in &YEARS {
+        shows(&rt, &(BERLIN, Some(*second), Some(*text)));
+    }
+}
+
+/// The second at which 2030 begins, and its moment.
+const BEGINNING_OF_2030: (u64, &str) = (1_893_456_000, "2030-01-01T00:00");
+
+// Of a day each minute is shown, for all of its seconds.
+#[test]
+fn shows_each_minute_of_a_day(rt: HostRuntime) {
+    let (begins, text) = BEGINNING_OF_2030;
+    let first = moment(&rt, text).number();
+    for minute in 0..1_440 {
+        let wanted = Moment::from_number(first.saturating_add(minute));
+        let second = begins + u64::from(minute) * 60;
+        expect_row(&rt, &moment_of(&rt, "UTC0", Some(second)), &wanted, &minute);
+        expect_row(
+            &rt,
+            &moment_of(&rt, "UTC0", Some(second + 59)),
+            &wanted,
+            &minute,
+        );
+    }
+}
+
 // The clock is read for each moment: it advances by a minute each time.
 #[test]
 fn shows_a_clock_that_advances(rt: HostRuntime) {
@@ -75,7 +107,7 @@ fn shows_a_clock_that_advances(rt: HostRuntime) {
 }
 
 /// The minute that the machine's clock shows, counted from 1970-01-01T00:00.
-fn minute_of(rt: &(impl Abort + Clock)) -> u64 {
+fn minute_of(rt: &(impl Abort + time::Clock)) -> u64 {
     rt.since_1970().expect(rt, "a time").as_secs() / 60
 }
 
@@ -91,7 +123,7 @@ fn shows_the_machines_clock(rt: HostRuntime) {
 #[test]
 fn gives_one_moment(rt: HostRuntime) {
     let mut fixed = noon(&rt);
-    let moment = fixed.moment;
-    expect_eq(&rt, &fixed.now(), &Some(moment));
-    expect_eq(&rt, &fixed.now(), &Some(moment));
+    let wanted = Some(moment(&rt, NOON));
+    expect_eq(&rt, &fixed.now(), &wanted);
+    expect_eq(&rt, &fixed.now(), &wanted);
 }

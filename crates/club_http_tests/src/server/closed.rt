@@ -3,6 +3,7 @@
 use super::doubles::Noting;
 use super::noon;
 use crate::expect::expect_eq;
+use crate::rows::moment;
 use crate::sockets::{client_of, loopback_listener};
 use club_http::Face;
 use desk_server::{Fate, Listening, Log, serve_logged};
@@ -11,6 +12,7 @@ use std::io::{ErrorKind, Read};
 use std::net::{Net, TcpListener, TcpStream};
 use std::process::Abort;
 use std::time::{Clock, Duration};
+use test_kit::moments::NOON;
 
 /// A log that looks at each line whether the client's connection is over.
 #[derive(Drop)]
@@ -62,7 +64,7 @@ fn serves_with<'x>(
     let mut arrivals = Listening::new(listener, None, rt, Duration::from_millis(20));
     let mut face = Face::new(rt.alloc()).expect(rt, "a face");
     let mut moments = noon(rt);
-    let mut desk = Noting::new(rt.alloc(), moments.moment);
+    let mut desk = Noting::new(rt.alloc(), moment(rt, NOON));
     let served = serve_logged(&mut arrivals, 1, &mut moments, &mut face, &mut desk, log);
     served.is_ok()
 }

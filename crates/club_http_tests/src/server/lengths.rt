@@ -2,10 +2,10 @@
 //! many, up to the longest. No contract states which bytes a socket gives or takes, so only these
 //! tests refuse an exchange that drops those of some length.
 
+use super::always;
 use super::by_the_door::{door_at, new_path, office_at};
 use crate::expect::{expect_bytes, expect_eq};
 use crate::rows::expect_row;
-use club_clock::Fixed;
 use club_core::{Reply, Request};
 use club_http::{Face, Responder};
 use club_values::{Day, Hour, Kind, Moment, Name, Slot};
@@ -114,7 +114,7 @@ fn serve_in_pieces(
         offices.push(office_at(rt, path, b"a command")?)?;
     }
     let moment = Moment::read(NOON.as_bytes()).ok_or("a moment")?;
-    let mut moments = Fixed { moment };
+    let mut moments = always(moment);
     let mut face = Face::new(rt.alloc())?;
     let outcome = connection.exchange(&mut face, &mut moments, desk, &mut Unlogged, moment);
     fs::remove_file(rt, path)?;

@@ -3,11 +3,10 @@
 //! its socket or writes nothing to it.
 
 use super::doubles::{Noting, Running};
-use super::{REPLY, REQUEST, client_at, noon, serves};
+use super::{REPLY, REQUEST, always, client_at, noon, serves};
 use crate::expect::{expect_bytes, expect_eq};
 use crate::rows::moment;
 use crate::sockets::{client_of, connect, expect_no_reset, expect_reply, loopback_listener};
-use club_clock::Fixed;
 use club_http::Face;
 use desk_server::{Connection, Listening, Unlogged};
 use std::alloc::Global;
@@ -66,7 +65,7 @@ fn count_requests(
     let mut connection = accepted.expect(rt, "a connection");
     let noon = moment(rt, NOON);
     let mut desk = Noting::new(rt.alloc(), noon);
-    let mut moments = Fixed { moment: noon };
+    let mut moments = always(noon);
     let _ = connection.exchange(face, &mut moments, &mut desk, &mut Unlogged, noon);
     desk.asked
 }
@@ -134,7 +133,7 @@ fn closes_at_once_after_a_request(rt: HostRuntime) {
     let noon = moment(&rt, NOON);
     let mut face = Face::new(rt.alloc()).expect(&rt, "a face");
     let mut desk = Noting::new(rt.alloc(), noon);
-    let mut moments = Fixed { moment: noon };
+    let mut moments = always(noon);
     let outcome = connection.exchange(&mut face, &mut moments, &mut desk, &mut Unlogged, noon);
     expect_eq(&rt, &(outcome.is_ok(), clock.readable()), &(true, 5));
 }
@@ -211,7 +210,7 @@ fn seen_by<'x>(
     let noon = moment(rt, NOON);
     let mut face = Face::new(rt.alloc()).expect(rt, "a face");
     let mut desk = Noting::new(rt.alloc(), noon);
-    let mut moments = Fixed { moment: noon };
+    let mut moments = always(noon);
     let outcome = connection.exchange(&mut face, &mut moments, &mut desk, &mut Unlogged, noon);
     expect_eq(rt, &outcome.is_ok(), &true);
     let after = rt.monotonic().expect(rt, "a clock");

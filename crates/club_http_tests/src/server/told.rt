@@ -2,10 +2,9 @@
 //! took, so that the contract of an exchange speaks of each of them.
 
 use super::doubles::{Letter, Noting, STOPPED};
-use super::{REPLY, REQUEST};
+use super::{REPLY, REQUEST, always};
 use crate::expect::expect_bytes;
 use crate::rows::{expect_row, moment};
-use club_clock::Fixed;
 use club_http::{AnswerFault, Face};
 use desk_server::{Accepted, ClientStream, Connection, TimedStream, Unlogged, Waited, Woken};
 use std::alloc::Global;
@@ -114,7 +113,7 @@ fn outcome_of<'a>(rt: &(impl Abort + Alloc<A = Global>), told: Told<'a>) -> (Out
     let mut connection = Accepted::new(told, &STOPPED, Duration::from_secs(10));
     let mut face = Face::new(rt.alloc()).expect(rt, "a face");
     let at = moment(rt, NOON);
-    let mut moments = Fixed { moment: at };
+    let mut moments = always(at);
     let mut desk = Noting::new(rt.alloc(), at);
     let outcome = connection.exchange(&mut face, &mut moments, &mut desk, &mut Unlogged, at);
     let told = connection.into_stream();

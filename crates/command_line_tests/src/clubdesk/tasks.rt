@@ -1,8 +1,9 @@
 //! What the arguments of `clubdesk` ask for.
 
 use crate::expect::expect_case;
+use club_clock::Clock;
 use club_rows::Root;
-use clubdesk_arguments::{Clock, Job, KeyChange, KeyCommand, Service, Task, Work, laws};
+use clubdesk_arguments::{Job, KeyChange, KeyCommand, Service, Task, Work, laws};
 use command_line::{ArgumentsFault, Asked, read_job};
 use std::alloc::AllocError;
 use std::fmt::Write;

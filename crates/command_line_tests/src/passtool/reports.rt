@@ -4,47 +4,15 @@ use super::doubles::no_input;
 use super::runs::{Arguments, SHOW};
 use crate::expect::expect_eq;
 use command_line::text_fault;
-use passtool_commands::{BadValue, Fault, Name, run};
-use std::alloc::Global;
-use std::cell::RefCell;
-use std::fmt::Display;
-use std::io::{self, ErrorKind, Read};
+use passtool_commands::{BadValue, Fault, Name, finish, run};
+use std::io::Read;
 use std::process::Abort;
+use test_kit::Process;
 
-// Keeps what is printed on standard error.
-#[derive(Drop)]
-struct Recorder {
-    alloc: Global,
-    text: RefCell<String>,
-}
-
-impl Eprint for Recorder {
-    fn eprint<D: Display + Drop>(&self, value: D) -> io::Result<()> {
-        let Ok(line) = value.to_string(self.alloc) else {
-            return Err(io::Error::from(ErrorKind::OutOfMemory));
-        };
-        let Ok(mut text) = self.text.try_borrow_mut() else {
-            return Err(io::Error::from(ErrorKind::ResourceBusy));
-        };
-        match text.push_str(line.as_str()) {
-            Ok(()) => Ok(()),
-            Err(_) => Err(io::Error::from(ErrorKind::OutOfMemory)),
-        }
-    }
-
-    fn eprintln<D: Display + Drop>(&self, value: D) -> io::Result<()> {
-        self.eprint(value)?;
-        self.eprint("\n")
-    }
-}
-
-fn expect_report(rt: &(impl Abort + AllocGlobal), fault: &Fault, want: &str) {
-    let recorder = Recorder {
-        alloc: rt.alloc(),
-        text: RefCell::new(String::new(rt.alloc())),
-    };
-    fault.report(&recorder);
-    expect_eq(rt, &recorder.text.into_inner().as_str(), &want);
+fn expect_report(rt: &(impl Abort + AllocGlobal), fault: Fault, want: &str) {
+    let process = Process::new(rt.alloc(), &[]);
+    let _ = finish(&process, Err(fault));
+    expect_eq(rt, &process.into_printed().as_str(), &want);
 }
 
 // A run ends with a fault that is reported so.
@@ -56,7 +24,7 @@ fn expect_reported<R: Read>(
 ) {
     let mut written = Vec::new(rt.alloc());
     let fault = run(rt.alloc(), arguments, reader, &mut written).err();
-    expect_report(rt, &fault.expect(rt, "a fault"), want);
+    expect_report(rt, fault.expect(rt, "a fault"), want);
 }
 
 static REPORTED: [(Arguments, &str); 5] = [
@@ -91,5 +59,5 @@ fn reports_the_text_of_clap_as_it_is(rt: HostRuntime) {
     let want =
         "error: invalid UTF-8 was detected in one or more arguments\n\nUsage: passtool <COMMAND>\n\nFor more information, try '--help'.\n";
     let fault = Fault::from(text_fault::<Name, BadValue>(rt.alloc()));
-    expect_report(&rt, &fault, want);
+    expect_report(&rt, fault, want);
 }

@@ -32,4 +32,4 @@ pub returns-in-Serve : goal.returns-in-Serve
 returns-in-Serve g c =
     spec.server_asked _ c.in-Serve.service
     (asks_for _ _ _ _ _ _ refl c.in-Ok-Perform.ensures c.in-Ok-Perform.field-0-is c.job.view_is c.in-Serve.is)
-    c.serve_file.ensures.done (serves_well _ _ _ _ _ _ _ _ _ _ c.serve_file.ensures.done) refl c.serve_file.ensures.unlogged
+    c.serve_file.ensures.done (serves_well _ _ _ _ _ _ _ _ _ _ _ _ c.serve_file.ensures.done) refl c.serve_file.ensures.unlogged

@@ -1,11 +1,12 @@
-use Rattle.std.proofs.Common.{refl, ◌≡◌, ℕ, List, [], Result, Err, inl, inr}
+use Rattle.std.proofs.Common.{refl, ◌≡◌, ℕ, List, [], Option, Result, Err, inl, inr}
 use Rattle.clubdesk_commands.specs.Run.{IfLogged, RunsServer, StopsBefore, outcome_of_server}
 use Rattle.clubdesk_commands.specs.Output.{Stream}
-use Rattle.clubdesk_commands.specs.Moments.{showing}
+use Rattle.club_clock.specs.Moments.{showing}
+use Rattle.jiff_core.specs.declared.timestamp.Timestamp.{Timestamp}
 use Rattle.clubdesk_arguments.specs.declared.task.Service.{Service}
 use Rattle.clubdesk_arguments.specs.declared.fault.Fault.TheVariants.{Memory, InputOutput}
 use Rattle.clubdesk_arguments.specs.declared.fault.Fault.{Fault}
-use Rattle.clubdesk_arguments.specs.declared.clock.Clock.{Clock}
+use Rattle.club_clock.specs.declared.clock.Clock.{Clock}
 use Rattle.desk_server.specs.declared.serve.ClockOutOfRange.{ClockOutOfRange as ClockFault}
 use Rattle.desk_server.specs.Served.{CommandRelation, Ends, Turn}
 use Rattle.club_http.specs.Replied.{AnswerRelation}
@@ -14,22 +15,23 @@ use Rattle.clubdesk_commands.specs.Run as spec
 use Rattle.clubdesk_commands.proofs.SocketLemmas.{over_sockets}
 use Rattle.clubdesk_commands.proofs.server.serve.Goals as goal
 
-module _ {Desk : Type 0} (Answers : ℕ → AnswerRelation Desk) (Carries : CommandRelation Desk) (service : Service) (old new : Desk) (Noted : List Turn
+module _ {Desk Machine : Type 0} (Shows : Machine → Option Timestamp → Type 0) (machine : Machine)
+    (Answers : ℕ → AnswerRelation Desk) (Carries : CommandRelation Desk) (service : Service) (old new : Desk) (Noted : List Turn
     → Type 0) where
   abbrev Serves : Result Unit Fault → Type 0
-  Serves result = (turns : List Turn) × RunsServer Answers Carries service turns old new Noted result
+  Serves result = (turns : List Turn) × RunsServer Shows machine Answers Carries service turns old new Noted result
 
   -- one that listens; what is noted counts if a log is asked for
-  serves : (Ended : Ends) (last : Clock) (failures : ℕ) (Besides : List Turn → Type 0)
+  serves : (Ended : Ends) (last : Clock × Machine) (failures : ℕ) (Besides : List Turn → Type 0)
       → ((turns : List Turn) → Besides turns → IfLogged service Noted turns) → (outcome : Result Unit ClockFault)
-      → served.Serves showing Answers Carries Ended service.count service.clock old 0 outcome last new failures Besides
+      → served.Serves (showing Shows) Answers Carries Ended service.count (service.clock, machine) old 0 outcome last new failures Besides
       → Serves (outcome_of_server outcome)
   serves Ended last failures Besides gives outcome it = (
     it.all,
     spec.listened outcome last failures refl (record {
       turns = it.serves.turns;
       last = it.serves.last;
-      before = over_sockets showing Answers Carries Ended _ _ _ _ _ _ _ it.serves.before;
+      before = over_sockets (showing Shows) Answers Carries Ended _ _ _ _ _ _ _ it.serves.before;
       ends = it.serves.ends;
     }) (gives it.all it.besides),
   )
@@ -41,15 +43,15 @@ module _ {Desk : Type 0} (Answers : ℕ → AnswerRelation Desk) (Carries : Comm
   serves_nobody written fault kept nothing stops = absurd stops
 
 pub returns-in-Err-clause-served : goal.returns-in-Err-clause-served
-returns-in-Err-clause-served g c = serves_nobody _ _ c.args.service _ _ _ _ c.in-Err.fault refl served.nothing c.in-Err.ensures
+returns-in-Err-clause-served g c = serves_nobody _ _ _ _ c.args.service _ _ _ _ c.in-Err.fault refl served.nothing c.in-Err.ensures
 
 pub returns-then-logs-clause-served : goal.returns-then-logs-clause-served
 returns-then-logs-clause-served g c =
     rw c.outcome_of.ensures
-    (serves _ _ c.args.service _ _ _ _ _ _ _ (λ turns noted asked. noted.1) _ (rw c.new-arrivals.ensures.failures at c.serve_logged.ensures))
+    (serves _ _ _ _ c.args.service _ _ _ _ _ _ _ (λ turns noted asked. noted.1) _ (rw c.new-arrivals.ensures.failures at c.serve_logged.ensures))
 
 pub returns-clause-served : goal.returns-clause-served
 returns-clause-served g c =
     rw c.outcome_of-else-logs.ensures
-    (serves _ _ c.args.service _ _ _ _ _ _ _ (λ turns noted asked. let left_out = c.if-logs.false in cc) _
+    (serves _ _ _ _ c.args.service _ _ _ _ _ _ _ (λ turns noted asked. let left_out = c.if-logs.false in cc) _
     (rw c.new-arrivals.ensures.failures at c.serve_on.ensures))

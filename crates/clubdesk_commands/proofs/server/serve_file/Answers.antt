@@ -1,7 +1,9 @@
 use Rattle.std.proofs.Common.{Err, ap, refl}
 use Rattle.desk_server.specs.Served as served
+use Rattle.clubdesk_commands.specs.OfficeDesk.{CarriesOutBy}
 use Rattle.clubdesk_commands.specs.Run as spec
 use Rattle.clubdesk_commands.proofs.MachineLemmas.{follows_machine}
+use Rattle.clubdesk_commands.proofs.ClockLemmas.{over_the_store}
 use Rattle.clubdesk_commands.proofs.server.serve_file.Goals as goal
 
 pub returns-in-Err-clause-done : goal.returns-in-Err-clause-done
@@ -15,6 +17,9 @@ returns-in-Err-make_door-clause-done g c =
 pub returns-clause-done : goal.returns-clause-done
 returns-clause-done g c =
     let served = rw c.new-desk.ensures at c.serve-outcome.ensures.served in
-    spec.server_done c.in-Ok.store c.serve-outcome.new.desk c.open.new.self served.0 c.in-Ok.ensures
-    served.1 (follows_machine _ _ _ c.args.service served.0 _ _ _ c.serve-outcome.result served.1) c.serve-outcome.ensures.announced
+    let over = over_the_store _ _ _ (CarriesOutBy g.D.Store.ClubStore.disk_is_clean g.D.Store.ClubStore.represents) c.args.service served.0 _
+    c.serve-outcome.new.desk.0 c.serve-outcome.new.desk.1 _ c.serve-outcome.result served.1
+    in
+    spec.server_done c.in-Ok.store c.serve-outcome.new.desk.0 c.open.new.self served.0 c.in-Ok.ensures
+    over (follows_machine _ _ _ _ _ c.args.service served.0 _ _ _ c.serve-outcome.result over) c.serve-outcome.ensures.announced
     (rw c.into_store.ensures at c.close-2.ensures)

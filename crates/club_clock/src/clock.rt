@@ -1,6 +1,6 @@
 //! Where moments come from.
 
-use club_clock::Zone;
+use crate::zone::Zone;
 use club_values::Moment;
 
 /// Where the moment of a connection comes from, or of what is shown.

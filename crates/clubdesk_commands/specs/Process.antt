@@ -1,0 +1,34 @@
+-- What a process of the program does (ours).
+use Rattle.std.specs.Prelude.{◌≡◌, ℕ, List, Option, Result, Ok, Err, IfErr}
+use Rattle.clap.specs.Words.{Text}
+use Rattle.clap.specs.declared.error.kind.ErrorKind.TheVariants as kinds
+use Rattle.jiff_core.specs.declared.timestamp.Timestamp.{Timestamp}
+use Rattle.club_core.specs.declared.store.ClubStore.{Ghosts as StoreWords}
+use Rattle.command_line.specs.Arguments.{IsOfKind}
+use Rattle.command_line.specs.declared.errors.ArgumentsFault.{ArgumentsFault}
+use Rattle.desk_server.specs.declared.databases.Databases.{Ghosts as DatabasesWords}
+use Rattle.desk_server.specs.declared.databases.Visit.{Ghosts as VisitWords}
+use Rattle.clubdesk_arguments.specs.Fault.{fault_output, fault_status, of_arguments}
+use Rattle.clubdesk_arguments.specs.declared.fault.Fault.{Fault}
+use Rattle.clubdesk_commands.specs.Output.{LogChange, Stream}
+use Rattle.clubdesk_commands.specs.Run.{Runs}
+
+-- the exit status of a run
+abbrev pub exit_status : Result Unit Fault → ℕ
+exit_status (Ok done) = 0
+exit_status (Err fault) = fault_status fault
+
+-- the process ends with the status of its run, and was asked to print the line of a fault
+abbrev pub EndsWith : (Option (List ℕ) → Type 0) → Result Unit Fault → ℕ → Type 0
+EndsWith Asked ended status = (status ≡ exit_status ended) × IfErr ended (λ fault. Asked (fault_output fault))
+
+module _ {D S R V Machine : Type 0} (databases : DatabasesWords D S R V) (visits : VisitWords V) (stores : StoreWords S)
+    (Shows : Machine → Option Timestamp → Type 0) (machine : Machine) (Given : List Text → Type 0) (Asked : Option (List ℕ) → Type 0)
+  where
+    -- It ran on arguments that it was given. Or they aren't text, or memory was refused to them, and it did nothing.
+    pub data RunsProcess (given : Stream) (old new : D) (written : Stream) (log : LogChange) (status : ℕ) : Type 0 where
+      process_ran : (arguments : List Text) (ended : Result Unit Fault) → Given arguments
+          → Runs databases visits stores Shows machine arguments given old new written log ended → EndsWith Asked ended status
+          → RunsProcess given old new written log status
+      arguments_refused : (fault : ArgumentsFault Unit) → IsOfKind kinds.ValueValidation fault → given.no_change → new ≡ old → written.no_change
+          → log.no_change → EndsWith Asked (Err (of_arguments fault)) status → RunsProcess given old new written log status

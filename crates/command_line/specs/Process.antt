@@ -1,0 +1,7 @@
+-- The line of a fault on standard error (ours).
+use Rattle.std.specs.Prelude.{ℕ, List, Bool, Option, if◌then◌else◌}
+use Rattle.std.specs.Fmt.{with_newline}
+
+-- what is printed for a text: the text of clap, which ends its lines itself, or a line
+abbrev pub printed : Bool → Option (List ℕ) → Option (List ℕ)
+printed is_text_of_clap text = if is_text_of_clap then text else with_newline text

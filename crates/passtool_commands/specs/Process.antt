@@ -1,0 +1,37 @@
+-- What a process of the program does (ours).
+use Rattle.std.specs.Prelude.{◌≡◌, ◌≢◌, ℕ, List, Option, Result, Err, IfErr}
+use Rattle.clap.specs.Words.{Text}
+use Rattle.clap.specs.declared.error.kind.ErrorKind.TheVariants as kinds
+use Rattle.command_line.specs.Arguments.{IsOfKind}
+use Rattle.command_line.specs.declared.errors.ArgumentsFault.{ArgumentsFault}
+use Rattle.passtool_commands.specs.Arguments.{AskForCommand}
+use Rattle.passtool_commands.specs.Fault.{fault_output, of_arguments, exit_status}
+use Rattle.passtool_commands.specs.Run.{AnswersArguments, AskForNoInput, Performs}
+use Rattle.passtool_commands.specs.declared.answer.BadValue.{BadValue}
+use Rattle.passtool_commands.specs.declared.answer.Fault.{Fault}
+use Rattle.passtool_commands.specs.declared.answer.Fault.TheVariants.{InputOutput}
+use Rattle.passtool_commands.specs.declared.answer.Outcome.{Outcome}
+use Rattle.passtool_commands.specs.declared.command.Command.{Command}
+
+-- `Unread` and `Unwritten` say that the reader and the writer are as before
+module _ (left left' held held' : Option (List ℕ)) (Unread Unwritten : Type 0) where
+  -- what a run on arguments did, as the clauses of `run` have it
+  pub record RunsOn (arguments : List Text) (ended : Result Outcome Fault) : Type 0 where
+    pub answers : AnswersArguments arguments ended
+    pub performs : (command : Command) → AskForCommand arguments command → Performs command left left' held held' ended
+    pub unread : AskForNoInput arguments → Unread
+    pub silent : IfErr ended (λ fault. fault ≢ InputOutput → Unwritten)
+
+-- the process ends with the status of its run, and was asked to print the line of a fault
+abbrev pub EndsWith : (Option (List ℕ) → Type 0) → Result Outcome Fault → ℕ → Type 0
+EndsWith Asked ended status = (status ≡ exit_status ended) × IfErr ended (λ fault. Asked (fault_output fault))
+
+-- It ran on arguments that it was given. Or they aren't text, or memory was refused to them, and it neither read nor wrote.
+pub data RunsProcess (Given : List Text → Type 0) (Asked : Option (List ℕ) → Type 0) (left left' held held' : Option (List ℕ)) (Unread Unwritten : Type 0)
+    (status : ℕ) : Type 0 where
+  process_ran : (arguments : List Text) (ended : Result Outcome Fault) → Given arguments
+      → RunsOn left left' held held' Unread Unwritten arguments ended → EndsWith Asked ended status
+      → RunsProcess Given Asked left left' held held' Unread Unwritten status
+  arguments_refused : (fault : ArgumentsFault BadValue) → IsOfKind kinds.ValueValidation fault → Unread → Unwritten
+      → EndsWith Asked (Err (of_arguments fault)) status
+      → RunsProcess Given Asked left left' held held' Unread Unwritten status

@@ -1,0 +1,44 @@
+//! A process of the program, from its arguments to its exit status.
+
+ghost use Rattle.std.specs.Prelude.{◌≡◌, IfErr};
+ghost use Rattle.passtool_commands.specs.Fault.{fault_output, exit_status};
+ghost use Rattle.passtool_commands.specs.Process as spec;
+
+use crate::answer::{BadValue, Fault, Outcome};
+use crate::table::Name;
+use crate::tool::run;
+use command_line::{FaultLines, GivenArguments, given_arguments, report};
+use std::alloc::Global;
+use std::io::{Read, Write};
+
+/// Runs the program on the arguments of a process, prints the line of a fault, and returns the exit
+/// status.
+pub fn run_process<P: GivenArguments + FaultLines, R: Read, W: Write>(
+    alloc: Global,
+    process: &P,
+    reader: &mut R,
+    writer: &mut W,
+) -> u8
+    ensures { spec.RunsProcess (P.given process.now) (P.asked process.now)
+        (R.remaining reader.old) (R.remaining reader.new) (W.contents writer.old)
+        (W.contents writer.new) (reader.new ≡ reader.old) (writer.new ≡ writer.old) result }
+{
+    match given_arguments::<P, Name, BadValue>(alloc, process) {
+        Ok(arguments) => finish(process, run(alloc, arguments.as_slice(), reader, writer)),
+        Err(fault) => finish(process, Err(Fault::from(fault))),
+    }
+}
+
+/// Returns the exit status of a run that ended so, and prints the line of its fault.
+pub fn finish<P: FaultLines>(process: &P, ended: Result<Outcome, Fault>) -> u8
+    ensures status { result ≡ exit_status ended }
+    ensures line { IfErr ended (λ fault. P.asked process.now (fault_output fault)) }
+{
+    match ended {
+        Ok(outcome) => outcome.status(),
+        Err(fault) => {
+            report(process, &fault, matches!(&fault, Fault::Arguments(_)));
+            fault.status()
+        }
+    }
+}
