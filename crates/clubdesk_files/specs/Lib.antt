@@ -1,2 +1,3 @@
 pub mod Attempts
 pub mod Named
+pub mod Handover

@@ -1,11 +1,11 @@
 //! A command that is given to a server.
 
 use crate::beside::{Place, fault_of};
+use crate::handover::{answered, greeted};
 use club_core::StoreFault;
-use desk_server::{GREETING, Visit};
+use desk_server::Visit;
 use std::io;
-use std::io::{ErrorKind, Read, Write};
-use std::net::Shutdown;
+use std::io::ErrorKind;
 use std::os::unix::net::UnixStream;
 use std::time::Duration;
 
@@ -23,6 +23,19 @@ pub struct FileVisit<'a> {
     stream: UnixStream,
 }
 
+impl<'a> FileVisit<'a> {
+    /// Waits for the greeting of a server, over a connection to its door.
+    ///
+    /// # Errors
+    ///
+    /// It doesn't greet in time, or otherwise, or the connection fails.
+    pub fn over(rt: &'a HostRuntime, stream: UnixStream) -> io::Result<FileVisit<'a>> {
+        stream.set_read_timeout(Some(Duration::from_secs(GREETING_SECONDS)))?;
+        greeted(&mut &stream)?;
+        Ok(FileVisit { rt, stream })
+    }
+}
+
 /// Connects to the server of a database, and waits for its greeting. `None` if nobody listens, the
 /// database's name is too long for a door, or root's door keeps this user out: then the lock of
 /// the file says whether a server has it.
@@ -36,8 +49,8 @@ pub(crate) fn find_server<'a>(
     file: &str,
 ) -> Option<Result<FileVisit<'a>, StoreFault>> {
     match connect(rt, file) {
-        Ok(stream) => match greeted(&stream) {
-            Ok(()) => Some(Ok(FileVisit { rt, stream })),
+        Ok(stream) => match FileVisit::over(rt, stream) {
+            Ok(visit) => Some(Ok(visit)),
             Err(error) => Some(Err(fault_of(&error))),
         },
         Err(error) => match error.kind() {
@@ -50,7 +63,14 @@ pub(crate) fn find_server<'a>(
     }
 }
 
-fn connect(rt: &HostRuntime, file: &str) -> io::Result<UnixStream> {
+/// Connects to the door of a database, which links may lead to.
+///
+/// # Errors
+///
+/// `NotFound` and `ConnectionRefused` if nobody listens; `InvalidInput` if the name is too long for
+/// a door; `PermissionDenied` if root's door keeps this user out; `InvalidData` if a user who may
+/// not make the door made it; others if the door can't be used.
+pub fn connect(rt: &HostRuntime, file: &str) -> io::Result<UnixStream> {
     let place = Place::find(rt, file)?;
     if !place.has_door(rt)? {
         return Err(io::Error::from(ErrorKind::NotFound));
@@ -59,44 +79,20 @@ fn connect(rt: &HostRuntime, file: &str) -> io::Result<UnixStream> {
     UnixStream::connect(rt, path.as_str())
 }
 
-// Waits for the greeting of a server.
-fn greeted(stream: &UnixStream) -> io::Result<()> {
-    let mut stream = stream;
-    let mut greeting = [0; 1];
-    stream.set_read_timeout(Some(Duration::from_secs(GREETING_SECONDS)))?;
-    stream.read_exact(&mut greeting)?;
-    if greeting == GREETING {
-        Ok(())
-    } else {
-        Err(io::Error::from(ErrorKind::InvalidData))
-    }
-}
-
 /// No contract states what a server answers.
 impl Visit for FileVisit<'_> {
     ghost gives = { λ _ _ _. Unit {0} };
 
     fn give(self, command: &[u8]) -> Option<(u8, String)> {
         let FileVisit { rt, stream } = self;
-        answered(rt, &stream, command).ok()
+        limit_answer(&stream).ok()?;
+        answered(rt.alloc(), &mut &stream, &mut &stream, command).ok()
     }
 }
 
-// Sends a command, and reads the answer to its end: the status, and the text.
-fn answered(rt: &HostRuntime, stream: &UnixStream, command: &[u8]) -> io::Result<(u8, String)> {
-    let mut stream = stream;
+// Limits how long the server may take a command, and answer it.
+fn limit_answer(stream: &UnixStream) -> io::Result<()> {
     let most = Some(Duration::from_secs(ANSWER_SECONDS));
     stream.set_read_timeout(most)?;
-    stream.set_write_timeout(most)?;
-    stream.write_all(command)?;
-    stream.shutdown(Shutdown::Write)?;
-    let mut answer = Vec::new(rt.alloc());
-    stream.read_to_end(&mut answer)?;
-    match answer.split_first() {
-        Some((status, text)) => {
-            let text = String::from_utf8_lossy(rt.alloc(), text)?;
-            Ok((*status, text))
-        }
-        None => Err(io::Error::from(ErrorKind::UnexpectedEof)),
-    }
+    stream.set_write_timeout(most)
 }

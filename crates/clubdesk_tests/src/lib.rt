@@ -24,6 +24,8 @@ mod files;
 #[cfg(test)]
 mod handed_over;
 #[cfg(test)]
+mod handover;
+#[cfg(test)]
 mod input;
 #[cfg(test)]
 mod lists;

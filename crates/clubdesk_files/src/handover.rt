@@ -1,0 +1,79 @@
+//! A command that is handed to a server, over a reader and a writer.
+
+ghost use Rattle.std.specs.Prelude.{IfOk, OnOk, codes};
+ghost use Rattle.std.specs.Io.KnownBytes.{Consumes};
+ghost use Rattle.std.specs.String.{string_bytes};
+ghost use Rattle.clubdesk_files.specs.Handover.{ReadsAnswer, SendsCommand};
+
+use desk_server::GREETING;
+use std::alloc::Global;
+use std::io::{self, ErrorKind, Read, Write};
+use std::net::Shutdown;
+use std::os::unix::net::UnixStream;
+
+/// A writer that can tell its reader that nothing more comes.
+pub trait CommandWriter: Write {
+    // what telling the end does, with the writer before and after
+    ghost ends: { Self → Self → Type 0 };
+
+    /// Tells the end.
+    fn end(&mut self) -> io::Result<()>
+        ensures { OnOk result (ends self.old self.new) };
+}
+
+/// No contract states what a socket does.
+impl CommandWriter for &UnixStream {
+    ghost ends = { λ _ _. Unit {0} };
+
+    fn end(&mut self) -> io::Result<()> {
+        self.shutdown(Shutdown::Write)
+    }
+}
+
+/// Reads the greeting of a server.
+///
+/// # Errors
+///
+/// The reader's, and `InvalidData` if what comes isn't the greeting.
+pub fn greeted<R: Read>(reader: &mut R) -> io::Result<()>
+    ensures { OnOk result
+        (Consumes (R.remaining reader.old) (R.remaining reader.new) (codes "!")) }
+{
+    let mut greeting = [0; 1];
+    reader.read_exact(&mut greeting)?;
+    if greeting == GREETING {
+        Ok(())
+    } else {
+        Err(io::Error::from(ErrorKind::InvalidData))
+    }
+}
+
+/// Sends a command and its end, and reads the answer to its end: the status, and the text.
+///
+/// # Errors
+///
+/// The writer's and the reader's, and `UnexpectedEof` if there is no answer: nobody knows then
+/// whether the command was carried out.
+pub fn answered<R: Read, W: CommandWriter>(
+    alloc: Global,
+    reader: &mut R,
+    writer: &mut W,
+    command: &[u8],
+) -> io::Result<(u8, String)>
+    ensures sent { OnOk result
+        (SendsCommand W.contents W.ends command.now writer.old writer.new) }
+    ensures read { IfOk result (λ answer. ReadsAnswer (R.remaining reader.old)
+        (R.remaining reader.new) answer.0 (string_bytes answer.1)) }
+{
+    writer.write_all(command)?;
+    writer.end()?;
+    let mut bytes = Vec::new(alloc);
+    reader.read_to_end(&mut bytes)?;
+    match bytes.split_first() {
+        Some((status, text)) => {
+            let text = String::from_utf8_lossy(alloc, text)?;
+            Ok((*status, text))
+        }
+        None => Err(io::Error::from(ErrorKind::UnexpectedEof)),
+    }
+}
