@@ -3,13 +3,15 @@
 #![tactic(auto)]
 
 use club_http::WriteOutlet;
-use clubdesk_commands::run_process;
+use clubdesk_arguments::{CommandName, Fault};
+use clubdesk_commands::{finish, run};
 use clubdesk_files::{DatabasesUser, run_over_files};
+use command_line::given_arguments;
 use desk_server::{Databases, LogLines};
 use std::process::ExitCode;
 
 fn main(rt: HostRuntime) -> ExitCode {
-    ExitCode::from(run_over_files(&rt, Program { rt: &rt }))
+    ExitCode::from(finish(&rt, run_over_files(&rt, Program { rt: &rt })))
 }
 
 // The program on the process's arguments and standard streams.
@@ -19,13 +21,22 @@ struct Program<'a> {
 }
 
 impl DatabasesUser for Program<'_> {
-    type Outcome = u8;
+    type Outcome = Result<(), Fault>;
 
     ghost outcomes = { λ _ _. Unit {0} };
 
-    fn run_over<D: Databases>(self, databases: &mut D) -> u8 {
+    fn run_over<D: Databases>(self, databases: &mut D) -> Result<(), Fault> {
         let rt = self.rt;
+        let arguments = given_arguments::<HostRuntime, CommandName, ()>(rt.alloc(), rt)?;
         let mut log = LogLines::new(WriteOutlet::new(rt.stderr()), rt);
-        run_process(rt, rt, rt, databases, &mut rt.stdin(), &mut rt.stdout(), &mut log)
+        run(
+            rt,
+            rt,
+            databases,
+            arguments.as_slice(),
+            &mut rt.stdin(),
+            &mut rt.stdout(),
+            &mut log,
+        )
     }
 }
