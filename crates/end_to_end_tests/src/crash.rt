@@ -1,12 +1,14 @@
 //! A task over two files, of which one fails at each of its calls in turn, and the club after it.
 
-use crate::disk::{Bytes, NEVER, Part, Stop};
+use crate::disk::{Bytes, NEVER, Part, Stop, Stops};
 use crate::events::{Event, FIXTURE};
 use crate::expect::{append, expect_case, push, text};
 use crate::reference_club::{Version, lines_of, replies};
 use crate::texts::FAILURES;
+use crate::torn::{Case, KEPT, LOST, changes_in, digest_of_left, left, tried_of};
 use crate::work::{Work, do_over};
 use club_reference::Club;
+use sqlite::Files;
 use std::alloc::Global;
 use std::process::Abort;
 use test_kit::version_1::{OLDER_ROOTS, STATEMENTS};
@@ -31,20 +33,20 @@ pub(crate) struct Trial {
     pub task: &'static [Event],
     /// Events after the restart: the task again, and requests that change nothing.
     pub again: &'static [Event],
-    /// The replies to these if the task wasn't done, and if it was.
+    /// The replies to these if nothing of the task was done, and if some of it was.
     pub first: &'static [&'static str],
     pub repeated: &'static [&'static str],
     /// The number of the task's calls of the log, and of the database.
     pub calls: [u64; 2],
 }
 
-/// The files before the task; and the expected lines of files with the club from before the task,
-/// and with the one from after it: their rows, the replies to the task again, and the rows then.
+/// The files before the task; and the expected lines of files with each club that the task goes
+/// through, from the one before it on: their rows, the replies to the task again, and the rows
+/// after these.
 #[derive(Drop)]
 struct Prepared {
     bytes: Bytes,
-    from_before: Vec<String>,
-    from_after: Vec<String>,
+    clubs: Vec<Vec<String>>,
 }
 
 impl Beginning {
@@ -89,7 +91,7 @@ impl Beginning {
 
 /// What is in files of these bytes after this, which doesn't fail.
 fn after(rt: &(impl Abort + Alloc<A = Global>), bytes: &Bytes, work: Work) -> Bytes {
-    do_over(rt, bytes, NEVER, work).kept
+    Bytes::of_files(rt, &do_over(rt, bytes, NEVER, work).files)
 }
 
 /// The lines of texts.
@@ -106,17 +108,47 @@ fn owned_lines(rt: &(impl Abort + Alloc<A = Global>), lines: &[&str]) -> Vec<Str
 enum End {
     /// The database wasn't opened.
     NotOpened,
-    /// The desk replied only that it failed.
-    Failed,
-    Done,
+    /// So many of its events were done. At the next one, if there is one, the desk failed.
+    Done(usize),
 }
 
-/// Whether a desk replied only that it failed.
-fn has_failed(replies: &[String]) -> bool {
-    match replies {
-        [reply] => FAILURES.contains(&reply.as_str()),
-        _ => false,
+impl End {
+    /// The key of the digests of what is tried after it.
+    fn key(self) -> u64 {
+        match self {
+            End::NotOpened => 0,
+            End::Done(events) => (events as u64).saturating_add(1),
+        }
     }
+}
+
+/// Digests of what was tried, each with how the task ended.
+#[derive(Drop)]
+struct Tried {
+    digests: Vec<u64>,
+}
+
+impl Tried {
+    /// Whether this wasn't tried. Now it is.
+    fn is_new(&mut self, rt: &impl Abort, digest: u64) -> bool {
+        if self.digests.contains(&digest) {
+            return false;
+        }
+        push(rt, &mut self.digests, digest);
+        true
+    }
+}
+
+/// The number of replies before the first that is another than wanted.
+fn alike(replies: &[String], wanted: &[&str]) -> usize {
+    let mut alike = 0;
+    for (reply, text) in replies.iter().zip(wanted) {
+        if reply.as_str() != *text {
+            return alike;
+        }
+        alike += 1;
+    }
+    alike
 }
 
 /// The lines of files with these rows, these replies, and the club's rows after them.
@@ -132,44 +164,64 @@ fn found_from(
 }
 
 impl Trial {
-    fn prepare(&self, rt: &(impl Abort + Alloc<A = Global>)) -> Prepared {
+    /// The rows of the clubs that the task goes through; and the last of these clubs.
+    fn rows(&self, rt: &(impl Abort + Alloc<A = Global>)) -> (Vec<Vec<String>>, Club) {
         let mut club = self.beginning.club(rt);
-        let before = lines_of(rt, &club, self.beginning.version());
-        replies(rt, &mut club, self.task);
-        let after = lines_of(rt, &club, Version::Second);
+        let mut rows = Vec::new(rt.alloc());
+        push(rt, &mut rows, lines_of(rt, &club, self.beginning.version()));
+        for event in self.task {
+            replies(rt, &mut club, &[*event]);
+            push(rt, &mut rows, lines_of(rt, &club, Version::Second));
+        }
+        if self.task.is_empty() {
+            push(rt, &mut rows, lines_of(rt, &club, Version::Second));
+        }
+        (rows, club)
+    }
+
+    fn prepare(&self, rt: &(impl Abort + Alloc<A = Global>)) -> Prepared {
+        let (rows, club) = self.rows(rt);
+        let mut clubs = Vec::new(rt.alloc());
+        let mut replies = self.first;
+        for lines in rows {
+            push(rt, &mut clubs, found_from(rt, lines, replies, &club));
+            replies = self.repeated;
+        }
         Prepared {
             bytes: self.beginning.bytes(rt),
-            from_before: found_from(rt, before, self.first, &club),
-            from_after: found_from(rt, after, self.repeated, &club),
+            clubs,
         }
     }
 
-    /// The replies if the task is done: the first of those to the task again.
-    fn replies(&self, rt: &(impl Abort + Alloc<A = Global>)) -> Vec<String> {
-        let mut wanted = owned_lines(rt, self.first);
-        wanted.truncate(self.task.len());
-        wanted
-    }
-
-    /// How the task ended, by its replies: if it wasn't done, there is none or a failure.
-    fn end(&self, rt: &(impl Abort + Alloc<A = Global>), replies: &Option<Vec<String>>) -> End {
+    /// How the task ended, by its replies. An event that is done has the first of the replies to
+    /// the task again.
+    fn end(&self, rt: &impl Abort, replies: &Option<Vec<String>>) -> End {
         match replies {
             None => End::NotOpened,
-            Some(replies) if has_failed(replies.as_slice()) => End::Failed,
             Some(replies) => {
-                expect_case(rt, "the task's replies", replies, &self.replies(rt));
-                End::Done
+                let done = alike(replies, self.first);
+                if let Some(reply) = replies.get(done) {
+                    let has_failed = FAILURES.contains(&reply.as_str());
+                    expect_case(rt, reply.as_str(), &has_failed, &true);
+                }
+                End::Done(done)
             }
         }
     }
 
-    /// Whether the club from before the task may be found after this end, and the one from after
-    /// it.
-    fn may_be_found(&self, end: End) -> (bool, bool) {
+    /// Whether the whole task was done.
+    fn is_done(&self, end: End) -> bool {
+        end == End::Done(self.task.len())
+    }
+
+    /// The numbers of the first and the last of the clubs that may be found after this end: after
+    /// an event that failed also the club from after it.
+    fn may_be_found(&self, end: End) -> (usize, usize) {
         match end {
-            End::NotOpened => (true, self.task.is_empty()),
-            End::Failed => (true, true),
-            End::Done => (false, true),
+            End::NotOpened if self.task.is_empty() => (0, 1),
+            End::NotOpened => (0, 0),
+            End::Done(events) if events < self.task.len() => (events, events.saturating_add(1)),
+            End::Done(events) => (events.max(1), events.max(1)),
         }
     }
 
@@ -190,32 +242,71 @@ impl Trial {
         bytes: &Bytes,
     ) {
         let found = self.found_in(rt, bytes);
-        let (before, after) = self.may_be_found(end);
-        let is_before = before && found == prepared.from_before;
-        if !is_before {
-            let wanted = if after {
-                &prepared.from_after
-            } else {
-                &prepared.from_before
-            };
+        let (first, last) = self.may_be_found(end);
+        if prepared.clubs.get(first) != Some(&found) {
+            let wanted = prepared.clubs.get(last).expect(rt, "a club");
             expect_case(rt, "the club after the crash", &found, wanted);
         }
     }
 
-    /// Does the task on files of which one stops there. Then reopens the files, once without what
-    /// wasn't synced, and once with it. Returns whether the file had calls left: then it didn't
-    /// stop.
+    /// Ends the test unless what is left of the files in this case holds a club that may be found.
+    /// Returns whether it wasn't tried before.
+    fn expect_left(
+        &self,
+        rt: &(impl Abort + Alloc<A = Global>),
+        prepared: &Prepared,
+        end: End,
+        files: &Files<Stops>,
+        tried: &mut Tried,
+        case: &Case,
+    ) -> bool {
+        let is_new = tried.is_new(rt, digest_of_left(end.key(), files, case));
+        if is_new {
+            self.expect_whole(rt, prepared, end, &left(rt, files, case));
+        }
+        is_new
+    }
+
+    /// Reopens the files with what wasn't synced, without it, and once for each way that is tried
+    /// of keeping a part of it; not at all if they were left so at another stop.
+    fn expect_each_left(
+        &self,
+        rt: &(impl Abort + Alloc<A = Global>),
+        prepared: &Prepared,
+        end: End,
+        files: &Files<Stops>,
+        tried: &mut Tried,
+        turn: usize,
+    ) {
+        if !self.expect_left(rt, prepared, end, files, tried, &KEPT) {
+            return;
+        }
+        self.expect_left(rt, prepared, end, files, tried, &LOST);
+        for number in 0..changes_in(files) {
+            for fates in tried_of(files, number, turn) {
+                let case = Case {
+                    number,
+                    fates: *fates,
+                };
+                self.expect_left(rt, prepared, end, files, tried, &case);
+            }
+        }
+    }
+
+    /// Does the task on files of which one stops there, and reopens what is left of them. Returns
+    /// whether the file had calls left: then it didn't stop.
     fn survives(
         &self,
         rt: &(impl Abort + Alloc<A = Global>),
         prepared: &Prepared,
+        tried: &mut Tried,
         stop: Stop,
     ) -> bool {
         let done = do_over(rt, &prepared.bytes, stop, Work::Serves(self.task));
         let end = self.end(rt, &done.lines);
-        self.expect_whole(rt, prepared, end, &done.kept);
-        self.expect_whole(rt, prepared, end, &done.synced);
-        let is_done_or_stopped = end == End::Done || !done.has_calls_left;
+        let turn = stop.calls as usize;
+        self.expect_each_left(rt, prepared, end, &done.files, tried, turn);
+        let is_done_or_stopped = self.is_done(end) || !done.has_calls_left;
         expect_case(rt, "done or stopped", &is_done_or_stopped, &true);
         done.has_calls_left
     }
@@ -227,8 +318,11 @@ impl Trial {
         prepared: &Prepared,
         part: Part,
     ) -> u64 {
+        let mut tried = Tried {
+            digests: Vec::new(rt.alloc()),
+        };
         for calls in 0..1_000u64 {
-            if self.survives(rt, prepared, Stop { part, calls }) {
+            if self.survives(rt, prepared, &mut tried, Stop { part, calls }) {
                 return calls.saturating_sub(1);
             }
         }
@@ -239,12 +333,8 @@ impl Trial {
     pub fn holds(&self, rt: &(impl Abort + Alloc<A = Global>)) {
         let prepared = self.prepare(rt);
         let found = self.found_in(rt, &prepared.bytes);
-        expect_case(
-            rt,
-            "the club before the task",
-            &found,
-            &prepared.from_before,
-        );
+        let before = prepared.clubs.first().expect(rt, "a club");
+        expect_case(rt, "the club before the task", &found, before);
         let log = self.calls_of(rt, &prepared, Part::Log);
         let database = self.calls_of(rt, &prepared, Part::Database);
         expect_case(rt, "calls", &[log, database], &self.calls);

@@ -1,12 +1,13 @@
 //! Two files in memory, of which one may fail after so many calls.
 
+use crate::recorded::Recorded;
 use sqlite::Files;
-use sqlite_disk::{Crash, Disk, Fuse, Memory};
+use sqlite_disk::{Disk, Fuse};
 use std::alloc::Global;
 use std::process::Abort;
 
 /// A file that fails from some call on.
-pub(crate) type Stops = Fuse<Memory>;
+pub(crate) type Stops = Fuse<Recorded>;
 
 /// The log beside the database, and the database itself.
 #[derive(Clone, Copy)]
@@ -31,18 +32,13 @@ pub(crate) const NEVER: Stop = Stop {
 /// The bytes of the files.
 #[derive(Drop)]
 pub(crate) struct Bytes {
-    log: Vec<u8>,
-    db: Vec<u8>,
+    pub log: Vec<u8>,
+    pub db: Vec<u8>,
 }
 
 /// A disk of these bytes.
-fn disk(rt: &(impl Abort + Alloc<A = Global>), bytes: &[u8]) -> Memory {
-    let mut disk = Memory::new(rt.alloc());
-    if disk.may_be_used() && !bytes.is_empty() {
-        disk.write_at(0, bytes).expect(rt, "written");
-        disk.sync().expect(rt, "synced");
-    }
-    disk
+fn disk(rt: &(impl Abort + Alloc<A = Global>), bytes: &[u8]) -> Recorded {
+    Recorded::of(rt.alloc(), bytes).expect(rt, "memory")
 }
 
 /// The bytes of the file, synced or not.
@@ -91,14 +87,4 @@ pub(crate) fn has_calls_left(files: &mut Files<Stops>, part: Part) -> bool {
         Part::Log => takes_a_call(&mut files.log),
         Part::Database => takes_a_call(&mut files.db),
     }
-}
-
-/// What remains after a restart of the machine: what wasn't synced is lost.
-pub(crate) fn bytes_after_restart(
-    rt: &(impl Abort + Alloc<A = Global>),
-    mut files: Files<Stops>,
-) -> Bytes {
-    files.log.crash();
-    files.db.crash();
-    Bytes::of_files(rt, &files)
 }

@@ -36,6 +36,8 @@ mod others;
 #[cfg(test)]
 mod passes;
 #[cfg(test)]
+mod recorded;
+#[cfg(test)]
 mod reference_club;
 #[cfg(test)]
 mod refused_memory;
@@ -45,5 +47,7 @@ mod tables;
 mod tasks;
 #[cfg(test)]
 mod texts;
+#[cfg(test)]
+mod torn;
 #[cfg(test)]
 mod work;

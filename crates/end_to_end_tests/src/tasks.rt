@@ -63,6 +63,26 @@ fn cancels_whole_or_not_at_all(rt: HostRuntime) {
     CANCELS.holds(&rt);
 }
 
+/// The second commit of an opened database, over what the first one has made room for, so that one
+/// sync has to do.
+static BOOKS_AND_CANCELS: Trial = Trial {
+    beginning: Beginning::Made(&[]),
+    task: &[Event::Asks(NOON, BOOK_7), Event::Asks(NOON, CANCEL_7)],
+    again: &[
+        Event::Asks(NOON, BOOK_7),
+        Event::Asks(NOON, CANCEL_7),
+        Event::Asks(NOON, ACCOUNT),
+    ],
+    first: &[BOOKED_7, CANCELLED_7, BALANCE_10000],
+    repeated: &[BOOKED_7, CANCELLED_7, BALANCE_10000],
+    calls: [58, 66],
+};
+
+#[test]
+fn books_and_cancels_whole_or_not_at_all(rt: HostRuntime) {
+    BOOKS_AND_CANCELS.holds(&rt);
+}
+
 const ADD_KEY: Event = Event::Gives(PlainCommand::AddKey("amy-2", "amy", ROOT));
 
 static ADDS_A_KEY: Trial = Trial {
@@ -118,7 +138,7 @@ static MAKES_TABLES: Trial = Trial {
     again: &[],
     first: &[],
     repeated: &[],
-    calls: [63, 32],
+    calls: [61, 32],
 };
 
 #[test]

@@ -1,7 +1,7 @@
 //! Tasks over a database in two files.
 
 use crate::desk::replies_over;
-use crate::disk::{Bytes, Stop, Stops, bytes_after_restart, has_calls_left};
+use crate::disk::{Bytes, Stop, Stops, has_calls_left};
 use crate::events::Event;
 use crate::expect::append;
 use crate::tables::lines_in;
@@ -101,10 +101,7 @@ pub(crate) struct Done {
     pub lines: Option<Vec<String>>,
     /// Whether the file that stops had calls left: then it didn't stop.
     pub has_calls_left: bool,
-    /// What remains of the files if the process ends, but the machine doesn't stop: all of it.
-    pub kept: Bytes,
-    /// What remains of them after a restart of the machine.
-    pub synced: Bytes,
+    pub files: Files<Stops>,
 }
 
 /// Does this over the database in files of these bytes, of which one stops there.
@@ -118,7 +115,6 @@ pub(crate) fn do_over(
     Done {
         lines,
         has_calls_left: has_calls_left(&mut files, stop.part),
-        kept: Bytes::of_files(rt, &files),
-        synced: bytes_after_restart(rt, files),
+        files,
     }
 }

@@ -1,0 +1,12 @@
+use Rattle.std.proofs.Common.{ℕ, List, rules}
+use Rattle.sqlite_disk.specs.Disk.{Torn, Mixed, Cut}
+
+-- a step may be lost
+pub cut_nothing : (n : ℕ) (file : List ℕ) → Cut n file file
+cut_nothing n file = search rules
+
+pub mixed_nothing : (at : ℕ) (bytes file : List ℕ) → Mixed at bytes file file
+mixed_nothing at bytes file = search rules
+
+pub torn_nothing : (at n : ℕ) (file : List ℕ) → Torn at n file file
+torn_nothing at n file = search rules

@@ -1,0 +1,8 @@
+use Rattle.std.proofs.Common.{◌≡◌, rules}
+use Rattle.end_to_end_tests.proofs.Unchanged.{cut_nothing}
+use Rattle.end_to_end_tests.proofs.recorded.RecordedDisk.set_len.Goals as goal
+
+pub returns-in_err-count-clause-crash : goal.returns-in_err-count-clause-crash
+returns-in_err-count-clause-crash c left may =
+    let kept : c.note.new.changes.items ≡ c.args.self.now.changes.items = search rules in
+    (left, rw kept at may, cut_nothing _ _)

@@ -1,0 +1,8 @@
+-- The changes that a recorded file keeps.
+use Rattle.std.specs.Prelude.{ℕ, List, Option, Some, None}
+use Rattle.sqlite_disk.specs.History.{Step, wrote, resized}
+
+-- a write of these bytes, or a new length
+abbrev pub step_from : Option ℕ → ℕ → List ℕ → Step
+step_from None n bytes = resized n
+step_from (Some at) n bytes = wrote at n bytes

@@ -1,0 +1,225 @@
+//! What a machine that stops may leave of two files: each change since the last sync is kept, lost,
+//! or kept in part.
+
+use crate::disk::{Bytes, Stops};
+use crate::expect::push;
+use crate::recorded::{Change, Recorded, overwrite};
+use sqlite::Files;
+use sqlite_disk::digest_of;
+use std::alloc::Global;
+use std::process::Abort;
+
+/// What comes of a change.
+#[derive(Clone, Copy)]
+pub(crate) enum Fate {
+    Kept,
+    Lost,
+    /// Of a write, the first half of its bytes.
+    FirstHalf,
+    /// All of its bytes but the last one.
+    AllButOne,
+    LastHalf,
+    EverySecond,
+}
+
+/// The fates of the changes: of those before one of them, its own, and of those after it.
+#[derive(Clone, Copy)]
+pub(crate) struct Fates(Fate, Fate, Fate);
+
+/// What is tried of the newest change of a file.
+static TRIED: [Fates; 13] = [
+    Fates(Fate::Kept, Fate::Lost, Fate::Kept),
+    Fates(Fate::Kept, Fate::FirstHalf, Fate::Kept),
+    Fates(Fate::Kept, Fate::AllButOne, Fate::Kept),
+    Fates(Fate::Kept, Fate::LastHalf, Fate::Kept),
+    Fates(Fate::Kept, Fate::EverySecond, Fate::Kept),
+    Fates(Fate::Lost, Fate::Kept, Fate::Kept),
+    Fates(Fate::Lost, Fate::Kept, Fate::Lost),
+    Fates(Fate::Kept, Fate::Kept, Fate::Lost),
+    Fates(Fate::Lost, Fate::FirstHalf, Fate::Lost),
+    Fates(Fate::Lost, Fate::EverySecond, Fate::Lost),
+    Fates(Fate::FirstHalf, Fate::FirstHalf, Fate::FirstHalf),
+    Fates(Fate::LastHalf, Fate::LastHalf, Fate::LastHalf),
+    Fates(Fate::EverySecond, Fate::EverySecond, Fate::EverySecond),
+];
+
+/// The number of these rows of which one is tried of each other change.
+const BY_TURNS: usize = 6;
+
+/// Fates of the changes of two files, those of the log first, of which this one is numbered.
+#[derive(Clone, Copy)]
+pub(crate) struct Case {
+    pub number: usize,
+    pub fates: Fates,
+}
+
+/// All of it is kept.
+pub(crate) const KEPT: Case = Case {
+    number: 0,
+    fates: Fates(Fate::Kept, Fate::Kept, Fate::Kept),
+};
+
+/// All of it is lost.
+pub(crate) const LOST: Case = Case {
+    number: 0,
+    fates: Fates(Fate::Lost, Fate::Lost, Fate::Lost),
+};
+
+/// What lies past the end of a file, where nothing was written: any byte.
+const GARBAGE: u8 = 0xA5;
+
+impl Fate {
+    /// Whether that byte of a write of this length is kept.
+    fn keeps(self, place: usize, len: usize) -> bool {
+        match self {
+            Fate::Kept => true,
+            Fate::Lost => false,
+            Fate::FirstHalf => place < len / 2,
+            Fate::AllButOne => place < len.saturating_sub(1),
+            Fate::LastHalf => place >= len / 2,
+            Fate::EverySecond => place % 2 == 1,
+        }
+    }
+
+    /// That of a change of this length: a single byte is kept or lost.
+    fn of_len(self, len: usize) -> Fate {
+        if len != 1 {
+            self
+        } else if self.keeps(0, 1) {
+            Fate::Kept
+        } else {
+            Fate::Lost
+        }
+    }
+
+    /// Its number, for digests.
+    fn number(self) -> u8 {
+        match self {
+            Fate::Kept => 0,
+            Fate::Lost => 1,
+            Fate::FirstHalf => 2,
+            Fate::AllButOne => 3,
+            Fate::LastHalf => 4,
+            Fate::EverySecond => 5,
+        }
+    }
+}
+
+impl Case {
+    /// The fate of the change of this number.
+    fn fate(&self, number: usize, change: &Change) -> Fate {
+        let fate = if number < self.number {
+            self.fates.0
+        } else if number == self.number {
+            self.fates.1
+        } else {
+            self.fates.2
+        };
+        fate.of_len(change.len)
+    }
+}
+
+/// Writes a byte there, whatever is before it.
+fn put(rt: &impl Abort, file: &mut Vec<u8>, index: usize, byte: u8) {
+    match file.get_mut(index) {
+        Some(place) => *place = byte,
+        None => {
+            file.resize(index, GARBAGE).expect(rt, "memory");
+            push(rt, file, byte);
+        }
+    }
+}
+
+/// Writes a part of these bytes.
+fn write_part(rt: &impl Abort, file: &mut Vec<u8>, at: usize, bytes: &[u8], fate: Fate) {
+    for (place, byte) in bytes.iter().enumerate() {
+        if fate.keeps(place, bytes.len()) {
+            put(rt, file, at.saturating_add(place), *byte);
+        }
+    }
+}
+
+/// The length of a file whose length was being changed.
+fn torn_len(old: usize, new: usize, fate: Fate) -> usize {
+    match fate {
+        Fate::Kept => new,
+        Fate::Lost => old,
+        _ => (old / 2).saturating_add(new / 2),
+    }
+}
+
+/// Does to a file what comes of a change.
+fn make(rt: &impl Abort, file: &mut Vec<u8>, change: &Change, fate: Fate) {
+    match (change.at, fate) {
+        (_, Fate::Lost) => {}
+        (None, _) => {
+            let len = torn_len(file.len(), change.len, fate);
+            file.resize(len, 0).expect(rt, "memory");
+        }
+        (Some(at), Fate::Kept) => overwrite(file, at, &change.bytes).expect(rt, "memory"),
+        (Some(at), _) => write_part(rt, file, at, &change.bytes, fate),
+    }
+}
+
+/// What is left of a file whose first change has this number.
+fn left_of(
+    rt: &(impl Abort + Alloc<A = Global>),
+    file: &Recorded,
+    first: usize,
+    case: &Case,
+) -> Vec<u8> {
+    let mut bytes = Vec::from_slice(rt.alloc(), file.synced()).expect(rt, "memory");
+    for (place, change) in file.changes().iter().enumerate() {
+        let fate = case.fate(first.saturating_add(place), change);
+        make(rt, &mut bytes, change, fate);
+    }
+    bytes
+}
+
+/// What is left of the files.
+pub(crate) fn left(
+    rt: &(impl Abort + Alloc<A = Global>),
+    files: &Files<Stops>,
+    case: &Case,
+) -> Bytes {
+    let (log, db) = (files.log.inner(), files.db.inner());
+    Bytes {
+        log: left_of(rt, log, 0, case),
+        db: left_of(rt, db, log.changes().len(), case),
+    }
+}
+
+/// The number of changes since the last syncs of the files.
+pub(crate) fn changes_in(files: &Files<Stops>) -> usize {
+    let (log, db) = (files.log.inner(), files.db.inner());
+    log.changes().len().saturating_add(db.changes().len())
+}
+
+/// What is tried of a change: all of it if it is the newest of its file, else one row, by turns.
+pub(crate) fn tried_of(files: &Files<Stops>, number: usize, turn: usize) -> &'static [Fates] {
+    let next = number.saturating_add(1);
+    if next == files.log.inner().changes().len() || next == changes_in(files) {
+        return &TRIED;
+    }
+    let row = number.wrapping_add(turn) % BY_TURNS;
+    &TRIED[row..row + 1]
+}
+
+/// A digest that has, beside this one, what is left of a file whose first change has this number.
+fn digest_with(digest: u64, file: &Recorded, first: usize, case: &Case) -> u64 {
+    let mut digest = digest_of(digest ^ file.synced_digest(), &[]);
+    for (place, change) in file.changes().iter().enumerate() {
+        match case.fate(first.saturating_add(place), change) {
+            Fate::Lost => {}
+            fate => digest = digest_of(digest ^ change.digest, &[fate.number()]),
+        }
+    }
+    digest
+}
+
+/// A digest of what is left of the files, without making it.
+pub(crate) fn digest_of_left(key: u64, files: &Files<Stops>, case: &Case) -> u64 {
+    let (log, db) = (files.log.inner(), files.db.inner());
+    let digest = digest_with(key, log, 0, case);
+    digest_with(digest, db, log.changes().len(), case)
+}
