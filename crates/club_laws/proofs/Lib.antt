@@ -11,3 +11,4 @@ pub mod FailedEvents
 pub mod SoloRuns
 pub mod FilteredRows
 pub mod MemberParts
+pub mod SoundChanges

@@ -24,7 +24,7 @@ use Rattle.club_laws.specs.SoundRuns.{ChangesFit, RunsKeepSound, StepsKeepSound}
 use Rattle.club_core.specs.declared.request.Request.TheVariants as asked
 
 -- nobody has booked for a member who isn't there
-nothing_booked : (club : Club) (member : Member) → HasReferences club → All (λ (other : Member). other.name ≢ member.name) club.members
+pub nothing_booked : (club : Club) (member : Member) → HasReferences club → All (λ (other : Member). other.name ≢ member.name) club.members
     → sum_by cost_of (bookings_of member.name club) ≤ member.credited
 nothing_booked club member refs fresh =
     let no_keys : keys_of member.name club ≡ [] =
@@ -43,7 +43,7 @@ nobody_in club slot refs fresh =
     let differs = fresh_differs (λ (f : Facility). f.name) slot.facility _ club.facilities fresh (refs.facilities k d short) in grind arith))
 
 -- an edit of the keys' rows within their limits, that keeps names and members
-sound_edited : (root : Key → List ℕ) (older : Key → Option OlderRoot) (is_revoked : Key → Bool) (club : Club) → IsSound club
+pub sound_edited : (root : Key → List ℕ) (older : Key → Option OlderRoot) (is_revoked : Key → Bool) (club : Club) → IsSound club
     → All IsKey (map (edited root older is_revoked) club.keys) → IsSound (record club { keys = map (edited root older is_revoked) club.keys })
 sound_edited root older is_revoked club s limits =
     let edit = edited root older is_revoked in
@@ -56,7 +56,7 @@ sound_edited root older is_revoked club s limits =
     λ k d short. rw (bookings_of-edited root older is_revoked (get_or club.members k d).name club) (s.balances k d short) in
     assumption
 
-rotated_row : (name root : List ℕ) (until : ℕ) (key : Key) → IsRoot root → IsMoment until → IsKey key → IsKey (rotated_key name root until key)
+pub rotated_row : (name root : List ℕ) (until : ℕ) (key : Key) → IsRoot root → IsMoment until → IsKey key → IsKey (rotated_key name root until key)
 rotated_row name root until key new moment row =
     let is = bytes_eq key.name name in
     let root = cond_both is root key.root IsRoot (λ _. new) (λ _. row.root) in

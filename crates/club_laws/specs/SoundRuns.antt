@@ -1,12 +1,23 @@
 -- Every club that a run reaches is sound, and each change fits (ours).
-use Rattle.std.specs.Prelude.{◌≡◌, List, All, Some, Ok}
+use Rattle.std.specs.Prelude.{◌≡◌, ◌≢◌, ◌+◌, ◌≤◌, false, List, [], ◌∷◌, ◌++◌, map, sum_by, All, Contains, Some, Ok}
+use Rattle.club_values.specs.Moment.{IsMoment}
+use Rattle.club_rows.specs.declared.member.Member.{Member}
+use Rattle.club_rows.specs.declared.facility.Facility.{Facility}
+use Rattle.club_rows.specs.declared.key.Key.{Key}
+use Rattle.club_rows.specs.declared.booking.Booking.{Booking}
+use Rattle.club_rows.specs.Limits.{credited_limit, IsRoot}
+use Rattle.club_rows.specs.Rows.{IsMember, IsFacility, IsKey, IsSlot, IsBooking}
 use Rattle.club_core.specs.declared.change.Change.{Change}
+use Rattle.club_core.specs.declared.change.Change.TheVariants.{InsertMember, AddCredit, InsertFacility, InsertKey, MarkRevoked, ReplaceRoot, MarkClosed}
+use Rattle.club_core.specs.declared.change.Change.TheVariants.{InsertBooking, MarkCancelled}
+use Rattle.club_core.specs.After.{after}
 use Rattle.club_core.specs.Answer.{verdict_in}
-use Rattle.club_core.specs.Club.{Club, empty_club, IsSound}
+use Rattle.club_core.specs.Club.{Club, empty_club, IsSound, bookings_of, is_closed, member_named, facility_named, key_named}
 use Rattle.club_core.specs.Office.{office_verdict}
 use Rattle.club_core.specs.Run.{Event, Asked, Commanded, step, club_after}
 use Rattle.club_core.specs.Events.{IsEvent}
 use Rattle.club_core.specs.Store.{FitsClub}
+use Rattle.club_core.specs.Sums.{booking_under, cost_of, taken_in}
 
 -- the club that a run begins with
 abbrev pub EmptyIsSound : Type 0
@@ -28,3 +39,37 @@ ChangesFit = (club : Club) (event : Event) (change : Change) → IsSound club �
 -- a run, too, ends in a sound club
 abbrev pub RunsKeepSound : Type 0
 RunsKeepSound = (club : Club) (events : List Event) → IsSound club → All IsEvent events → IsSound (club_after club events)
+
+-- a booking that suits a club: its values are within their limits, its number is free, it is under a key of a member who can pay it, and there is room
+-- in its slot
+pub record SuitsBooking (booking : Booking) (club : Club) : Type 0 where
+  pub row : IsBooking booking
+  pub free : All (λ (other : Booking). ¬ ((other.key ≡ booking.key) × (other.number ≡ booking.number))) club.bookings
+  pub key : Key
+  pub known : key_named booking.key club ≡ Some key
+  pub payer : Member
+  pub owned : member_named key.member club ≡ Some payer
+  pub paid : sum_by cost_of (bookings_of payer.name club) + cost_of booking ≤ payer.credited
+  pub facility : Facility
+  pub located : facility_named booking.slot.facility club ≡ Some facility
+  pub placed : taken_in booking.slot (club.bookings ++ booking ∷ []) ≤ facility.places
+
+-- A change that suits a club: its values are within their limits, a new name is free, each name that a new row refers to is that of a row, a member is
+-- credited no more than the most, a booking fits, and a refund is at most the charge of a booking on record.
+abbrev pub Suits : Change → Club → Type 0
+Suits (InsertMember member) club = IsMember member × All (λ (other : Member). other.name ≢ member.name) club.members
+Suits (AddCredit name points) club = (member : Member) × (member_named name club ≡ Some member) × (member.credited + points ≤ credited_limit)
+Suits (InsertFacility facility) club = IsFacility facility × All (λ (other : Facility). other.name ≢ facility.name) club.facilities
+Suits (InsertKey key) club =
+    IsKey key × All (λ (other : Key). other.name ≢ key.name) club.keys × Contains (map (λ (m : Member). m.name) club.members) key.member
+Suits (MarkRevoked name) club = Unit {0}
+Suits (ReplaceRoot name former root until) club = IsRoot root × IsMoment until
+Suits (MarkClosed slot) club =
+    IsSlot slot × (is_closed slot club ≡ false) × Contains (map (λ (f : Facility). f.name) club.facilities) slot.facility
+Suits (InsertBooking booking member) club = SuitsBooking booking club
+Suits (MarkCancelled booking member refund) club =
+    (booking_under booking.key booking.number club.bookings ≡ Some booking) × (refund ≤ booking.charge)
+
+-- such a change of a sound club leaves a sound club
+abbrev pub SuitingChangesKeepSound : Type 0
+SuitingChangesKeepSound = (club : Club) (change : Change) → IsSound club → Suits change club → IsSound (after change club)

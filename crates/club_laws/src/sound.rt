@@ -5,6 +5,7 @@ ghost use Rattle.club_laws.specs.SoundRuns.{
   EmptyIsSound,
   RunsKeepSound,
   StepsKeepSound,
+  SuitingChangesKeepSound,
 };
 
 /// The empty club is sound.
@@ -28,4 +29,10 @@ pub fn changes_fit()
 /// A run from a sound club ends in a sound club, if the values of all events are within them.
 pub fn runs_keep_sound()
     ensures { RunsKeepSound }
+{}
+
+/// A change of a sound club that suits its rows leaves a sound club: all that a store has to test
+/// of a change.
+pub fn suiting_changes_keep_sound()
+    ensures { SuitingChangesKeepSound }
 {}

@@ -1,0 +1,145 @@
+-- A change whose values are within their limits, and which leaves what the club's rows allow, keeps the club sound.
+use Rattle.club_laws.proofs.Common.{◌≡◌, ◌≢◌, ℕ, ◌≤◌, false, true, List, [], ◌∷◌, ◌++◌, get_or, map, arith, All, Contains, sum_by, All-push}
+use Rattle.club_laws.proofs.Common.{All-map, map-map, both_ways, Slot, Member, Facility, Key, Booking, persons_of, same_slot, cost_of, is_in, taken_in}
+use Rattle.club_laws.proofs.Common.{credited_member, revoked_key, rotated_key, after, is_marked, cancelled_booking, Club, is_key_of, bookings_of, IsSound}
+use Rattle.club_laws.proofs.Common.{bytes_eq-Decides, InsertMember, AddCredit, InsertFacility, InsertKey, MarkRevoked, ReplaceRoot, MarkClosed}
+use Rattle.club_laws.proofs.Common.{InsertBooking, MarkCancelled, Some, subst, sym, key_named}
+use Rattle.std.proofs.lemmas.List.Quantifiers.{all_pairs_push}
+use Rattle.std.proofs.lemmas.Bool.Decides.{nat_tests}
+use Rattle.club_rows.specs.Rows.{IsMember, IsFacility, IsKey, IsSlot, IsBooking}
+use Rattle.club_laws.proofs.FoundRows.{AllPairs-map, All-each, still_there, still_all, named, named_there, only_named, only_numbered, none_passes, same_slots}
+use Rattle.club_laws.proofs.FoundRows.{slots_same, AreApart}
+use Rattle.club_laws.proofs.FilteredRows.{sum_one_more, sum_no_more}
+use Rattle.club_laws.proofs.MemberParts.{bookings_of-added, owner}
+use Rattle.club_laws.proofs.SoundSteps.{nothing_booked, nobody_in, sound_edited, rotated_row, cancelled_row, costs_no_more}
+use Rattle.club_laws.specs.SoundRuns.{Suits, SuitingChangesKeepSound}
+
+-- a booking under a key of a member, which that member pays and the slot has room for
+booked_sound : (club : Club) → IsSound club → (booking : Booking) (member : List ℕ) → Suits (InsertBooking booking member) club
+    → IsSound (after (InsertBooking booking member) club)
+booked_sound club s booking member h =
+    let new : Club = after (InsertBooking booking member) club in
+    let is : h.key.name ≡ booking.key = named (λ (x : Key). x.name) booking.key club.keys h.key h.known in
+    let limits = All-push IsBooking club.bookings booking s.rows.bookings h.row in
+    let names = all_pairs_push AreApart club.bookings booking s.unique.bookings h.free in
+    let known = All-push (λ (b : Booking). Contains (map (λ (k : Key). k.name) club.keys) b.key) club.bookings booking s.references.bookings
+    (named_there (λ (x : Key). x.name) booking.key club.keys h.key h.known) in
+    let located = All-push (λ (b : Booking). Contains (map (λ (g : Facility). g.name) club.facilities) b.slot.facility) club.bookings booking
+    s.references.facilities (named_there (λ (f : Facility). f.name) booking.slot.facility club.facilities h.facility h.located) in
+    let balances : All (λ (m : Member). sum_by cost_of (bookings_of m.name new) ≤ m.credited) club.members =
+    λ i d short.
+    let other = get_or club.members i d in
+    let only = only_named (λ (m : Member). m.name) h.key.member club.members h.payer s.unique.members h.owned i d short in
+    let found = subst (λ (n : List ℕ). key_named n club ≡ Some h.key) (sym is) h.known in
+    let own = subst (λ (n : List ℕ). is_key_of other.name club n ≡ true → other.name ≡ h.key.member) is (owner club s.unique.keys h.key found other.name) in
+    let enough = h.paid in
+    let before = s.balances i d short in
+    let sum = sum_one_more cost_of (λ (x : Booking). is_key_of other.name club x.key) club.bookings booking in
+    grind (arith, nat_tests, bytes_eq-Decides other.name h.key.member)
+    in
+    let places : All (λ (f : Facility). (slot : Slot) → slot.facility ≡ f.name → taken_in slot new.bookings ≤ f.places) club.facilities =
+    λ i d short at of.
+    let other = get_or club.facilities i d in
+    let only = only_named (λ (f : Facility). f.name) booking.slot.facility club.facilities h.facility s.unique.facilities h.located i d short in
+    let same = slots_same booking.slot at in
+    let room = h.placed in
+    let before = s.places i d short at of in
+    grind (arith, nat_tests, sum_one_more persons_of (is_in at) club.bookings booking, bytes_eq-Decides other.name booking.slot.facility)
+    in
+    assumption
+
+cancelled_sound : (club : Club) → IsSound club → (booking : Booking) (member : List ℕ) (refund : ℕ) → Suits (MarkCancelled booking member refund) club
+    → IsSound (after (MarkCancelled booking member refund) club)
+cancelled_sound club s booking member refund h =
+    let mark = cancelled_booking booking.key booking.number refund in
+    let new : Club = record club { bookings = map mark club.bookings } in
+    let only = only_numbered booking.key booking.number club.bookings booking s.unique.bookings h.0 in
+    let few = h.1 in
+    let small : All (λ (other : Booking). is_marked booking.key booking.number other ≡ true → refund ≤ other.charge) club.bookings =
+    λ i d short. let is = only i d short in grind arith in
+    let limits = All-map IsBooking mark club.bookings (λ i d short.
+    cancelled_row booking.key booking.number refund (get_or club.bookings i d) (s.rows.bookings i d short) (small i d short)) in
+    let names = AllPairs-map mark AreApart AreApart (λ a b h. h) club.bookings s.unique.bookings in
+    let known = All-map (λ (b : Booking). Contains (map (λ (k : Key). k.name) club.keys) b.key) mark club.bookings s.references.bookings in
+    let located = All-map (λ (b : Booking). Contains (map (λ (g : Facility). g.name) club.facilities) b.slot.facility) mark club.bookings
+    s.references.facilities in
+    let balances : All (λ (m : Member). sum_by cost_of (bookings_of m.name new) ≤ m.credited) club.members =
+    λ i d short.
+    let before = s.balances i d short in
+    omega (
+      arith,
+      sum_no_more cost_of (λ (b : Booking). is_key_of (get_or club.members i d).name club b.key) mark club.bookings
+          (λ j e less.
+          let cost = costs_no_more booking.key booking.number refund (get_or club.bookings j e) (s.rows.bookings j e less) (small j e less) in grind arith),
+    )
+    in
+    let places : All (λ (f : Facility). (slot : Slot) → slot.facility ≡ f.name → taken_in slot new.bookings ≤ f.places) club.facilities =
+    λ i d short at of.
+    let before = s.places i d short at of in
+    omega (arith, sum_no_more persons_of (is_in at) mark club.bookings (λ j e less. grind arith))
+    in
+    assumption
+
+pub sound_after : SuitingChangesKeepSound
+sound_after club (InsertMember member) s h =
+    let limits = All-push IsMember club.members member s.rows.members h.0 in
+    let names = all_pairs_push (λ (a : Member) (b : Member). a.name ≢ b.name) club.members member s.unique.members h.1 in
+    let known = still_all (λ (m : Member). m.name) club.members (club.members ++ member ∷ []) (λ (k : Key).
+    k.member) club.keys (still_there (λ (m : Member). m.name) club.members member) s.references.keys in
+    let balances = All-push (λ (m : Member). sum_by cost_of (bookings_of m.name club) ≤ m.credited) club.members member s.balances
+    (nothing_booked club member s.references h.1) in
+    assumption
+sound_after club (AddCredit name points) s h =
+    let edit = credited_member name points in
+    let few = h.2 in
+    let limits = All-map IsMember edit club.members (λ k d short.
+    let row = s.rows.members k d short in
+    let is = only_named (λ (m : Member). m.name) name club.members h.0 s.unique.members h.1 k d short in
+    let kept = row.credited in
+    record { name = row.name; credited = grind arith; quota = row.quota }) in
+    let names = AllPairs-map edit (λ (a : Member) (b : Member). a.name ≢ b.name) (λ (a : Member) (b : Member). a.name ≢ b.name) (λ a b h. h) club.members
+    s.unique.members in
+    let known = still_all (λ (m : Member). m.name) club.members (map edit club.members) (λ (k : Key). k.member) club.keys
+    (λ n h. rw (map-map (λ (m : Member). m.name) edit club.members) h) s.references.keys in
+    let balances = All-map (λ (m : Member). sum_by cost_of (bookings_of m.name club) ≤ m.credited) edit club.members
+    (λ k d short. let before = s.balances k d short in grind arith) in
+    assumption
+sound_after club (InsertFacility facility) s h =
+    let fresh = h.1 in
+    let more = club.facilities ++ facility ∷ [] in
+    let limits = All-push IsFacility club.facilities facility s.rows.facilities h.0 in
+    let names = all_pairs_push (λ (a : Facility) (b : Facility). a.name ≢ b.name) club.facilities facility s.unique.facilities fresh in
+    let still = still_there (λ (other : Facility). other.name) club.facilities facility in
+    let booked = still_all (λ (other : Facility). other.name) club.facilities more (λ (b : Booking). b.slot.facility) club.bookings still
+    s.references.facilities in
+    let closed = still_all (λ (other : Facility). other.name) club.facilities more (λ (slot : Slot). slot.facility) club.closed still s.references.closed in
+    let places = All-push (λ (other : Facility). (slot : Slot) → slot.facility ≡ other.name → taken_in slot club.bookings ≤ other.places)
+    club.facilities facility s.places (λ slot at. let none = nobody_in club slot s.references (rw (← at) at fresh) in omega arith) in
+    assumption
+sound_after club (InsertKey key) s h =
+    let new : Club = record club { keys = club.keys ++ key ∷ [] } in
+    let fresh = h.1 in
+    let limits = All-push IsKey club.keys key s.rows.keys h.0 in
+    let names = all_pairs_push (λ (a : Key) (b : Key). a.name ≢ b.name) club.keys key s.unique.keys fresh in
+    let owned = All-push (λ (k : Key). Contains (map (λ (m : Member). m.name) club.members) k.member) club.keys key s.references.keys h.2 in
+    let known = still_all (λ (k : Key). k.name) club.keys new.keys (λ (b : Booking). b.key) club.bookings (still_there (λ (k : Key). k.name) club.keys key)
+    s.references.bookings in
+    let balances : All (λ (m : Member). sum_by cost_of (bookings_of m.name new) ≤ m.credited) club.members =
+    λ k d short. rw (bookings_of-added (get_or club.members k d).name club key fresh s.references.bookings) (s.balances k d short) in
+    assumption
+sound_after club (MarkRevoked name) s h =
+    sound_edited (λ key. key.root) (λ key. key.older) (λ key. (revoked_key name key).revoked) club s
+    (All-map IsKey (revoked_key name) club.keys (λ k d short. let row = s.rows.keys k d short in assumption))
+sound_after club (ReplaceRoot name was root until) s h =
+    sound_edited (λ key. (rotated_key name root until key).root) (λ key. (rotated_key name root until key).older) (λ key. key.revoked) club s
+    (All-map IsKey (rotated_key name root until) club.keys (λ k d short. rotated_row name root until _ h.0 h.1 (s.rows.keys k d short)))
+sound_after club (MarkClosed slot) s h =
+    let fresh = All-each (λ (other : Slot). same_slot other slot ≡ false) (λ (other : Slot). other ≢ slot) club.closed
+    (λ other f h. both_ways (same_slot other slot) f (rw h (same_slots slot))) (none_passes (λ (other : Slot). same_slot other slot) club.closed h.1) in
+    let limits = All-push IsSlot club.closed slot s.rows.closed h.0 in
+    let names = all_pairs_push (λ (a : Slot) (b : Slot). a ≢ b) club.closed slot s.unique.closed fresh in
+    let known = All-push (λ (other : Slot). Contains (map (λ (g : Facility). g.name) club.facilities) other.facility) club.closed slot s.references.closed
+    h.2 in
+    assumption
+sound_after club (InsertBooking booking member) s h = booked_sound club s booking member h
+sound_after club (MarkCancelled booking member refund) s h = cancelled_sound club s booking member refund h
