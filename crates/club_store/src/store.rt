@@ -365,14 +365,16 @@ impl<S: Alter> Store<S> {
         Ok(Some(KeyView { key, view }))
     }
 
-    /// Makes a change, in one transaction, if what it says of the club's rows is true. If it isn't,
-    /// the call fails, and leaves nothing of the change. If the call fails, the club is unchanged;
-    /// after a crash the store may hold the changed club, if the change was true.
+    /// Makes a change, in one transaction, if it fits the club: if what it says of the club's rows
+    /// is true, and the club after it is sound. If it doesn't fit, the call fails, and leaves
+    /// nothing of the change. If the call fails, the club is unchanged; after a crash the store may
+    /// hold the changed club, if the change fits.
     ///
     /// # Errors
     ///
-    /// The database refused a statement or the commit, or a statement inserted or updated no row,
-    /// which is `Storage`. A new key with an older root is `Storage`.
+    /// The database refused a statement or the commit. A change that doesn't fit is `Storage`, but
+    /// if memory was refused first: a value is out of its limits, a statement breaks a rule of the
+    /// tables, or inserted or updated no row.
     pub fn apply(&mut self, change: &Change) -> Result<(), StoreFault>
         ensures makes { ChangesClub S.Store change.now self.old self.new result }
     {

@@ -3,7 +3,7 @@ pub use Rattle.std.proofs.Common.{◌≡◌, List, refl, arith, [], sym, ◌∷�
 pub use Rattle.std.proofs.Common.{filter, ◌≢◌, cond, ◌+◌, pos, ℤ, IsTrue, ◌<◌, if◌then◌else◌, Option, None, find, Ok, take, ◌==◌, slice_get, All, not}
 pub use Rattle.std.proofs.Common.{true≢false, IsPermutation, AllPairs, option_map, Contains, suc, Result, Err, ◌||◌, ◌&&◌, sum_by, get_or, ◌/◌, ◌-◌, zero, ◌^◌}
 pub use Rattle.std.proofs.Common.{Less, is_ok, ◌⊎◌, codes, flat_map, slice_index_or, Greater, add-one, Bor, Equal, IsSorted, nat_le, subst₂, append-nil, drop}
-pub use Rattle.std.proofs.Common.{neg_ℤ, IsSome, option_and_then, OnOk, OnErr, IsErr, MatchResult, ◌+ℤ◌, fold, nat_cmp, ◌*◌, nat_lt, IfOk, IfErr, vec_len}
+pub use Rattle.std.proofs.Common.{neg_ℤ, option_and_then, OnOk, OnErr, MatchResult, ◌+ℤ◌, fold, nat_cmp, ◌*◌, nat_lt, IfOk, IfErr, vec_len}
 pub use Rattle.std.proofs.Common.{vec_capacity, MatchBool, min, length-append, Ordering, Vec}
 pub use Rattle.std.proofs.Math.Bool.{and-true, or-false, or-true, and_comm, and_assoc, and-false}
 pub use Rattle.std.proofs.lemmas.Bool.{and_parts, false_from_ne_true, cases_Bool, or_parts, lt-ltb}
@@ -91,7 +91,7 @@ pub use Rattle.sqlite_value.specs.declared.value.Value.TheVariants.{Int, Text, N
 pub use Rattle.club_tables.specs.Answers.{IsAfterReadings, IsFirst, IsBookingNamed, reading_statement, IsUse, IsBookingIn, AreCosts, FailsAtReading}
 pub use Rattle.club_tables.specs.Answers.{FailsToRead, IsReadFault, Reading, CanRead, OfBooking, OfDay, OfFacility, OfKey, IsKeyIn, OfMember, OfOlderRoot}
 pub use Rattle.club_tables.specs.Answers.{OfOpen, IsCount, OfSlot, OfCosts}
-pub use Rattle.club_tables.specs.ChangeStatements.{used_values, statements_of, with_totals, adding_booking, cancelling, AreStatementsOf}
+pub use Rattle.club_tables.specs.ChangeStatements.{used_values, statements_of, cancelling_with, adding_booking, cancelling, AreStatementsOf}
 pub use Rattle.club_tables.specs.Columns.{booking_values, key_values, member_values, facility_values, version_values, name_values, slot_values}
 pub use Rattle.club_tables.specs.Columns.{older_root_values, HasValues, use_values, older_values, cost_in, IsCostRow, cost_values, IsCostIn, flag, whole_in}
 pub use Rattle.club_tables.specs.Columns.{whole}
@@ -99,7 +99,7 @@ pub use Rattle.club_tables.specs.Fault.{Commits, FailsInTurn, FailsToRun, StopsA
 pub use Rattle.club_tables.specs.Opening.{table_batch, migration, index_batch, HasNoDesk, IsOpeningBatch, YieldsRows, IsOpeningFault, EnsuresIndex}
 pub use Rattle.club_tables.specs.Opening.{texts_by_key, first_texts, RunsBatch, Opens, FoundReady, OneOf, HasOrGetsIndex, Understands, index_text}
 pub use Rattle.club_tables.specs.Opening.{AcceptsTables, HasRunOver, Upgrade, indexed_texts}
-pub use Rattle.club_tables.specs.ReadsAndChanges.{HasOlderRoot, ReadsClub, ChangesClub, IsChangeFault, IsRunFault}
+pub use Rattle.club_tables.specs.ReadsAndChanges.{InLimits, ReadsClub, ChangesClub, IsChangeFault, IsRunFault}
 pub use Rattle.club_tables.specs.Schema.{club_schema, slots_table, no_schema, unindexed_schema, members_table, facilities_table, keys_table, bookings_table}
 pub use Rattle.club_tables.specs.Schema.{old_roots_table, desk_table, first_schema, six_tables, keys_by_member, bookings_by_key, table_of}
 pub use Rattle.club_tables.specs.Sheet.{AreBookings, ShowsDay}

@@ -2,7 +2,11 @@
 
 pub mod AddLemmas
 pub mod ChangeLemmas
+pub mod ChargeLemmas
 pub mod CancelLemmas
 pub mod StoredLemmas
+pub mod ObeyLemmas
+pub mod FoundLemmas
 pub mod PlanLemmas
+pub mod FitLemmas
 pub mod WriteLemmas

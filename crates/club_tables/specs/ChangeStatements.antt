@@ -14,7 +14,7 @@ use Rattle.club_core.specs.declared.change.Change.TheVariants.{InsertMember, Add
 use Rattle.club_core.specs.declared.change.Change.TheVariants.{InsertBooking, MarkCancelled}
 use Rattle.club_core.specs.Sums.{cost_of}
 use Rattle.club_tables.specs.declared.texts.TheConstants.{ADD_MEMBER, ADD_CREDIT, ADD_FACILITY, ADD_KEY, REVOKE_KEY, PUT_OLDER_ROOT, SET_ROOT, CLOSE_SLOT}
-use Rattle.club_tables.specs.declared.texts.TheConstants.{ADD_BOOKING, CANCEL_BOOKING, ADD_USED, ADD_TAKEN}
+use Rattle.club_tables.specs.declared.texts.TheConstants.{ADD_BOOKING, CANCEL_BOOKING, CHARGE, ADD_USED, ADD_TAKEN}
 use Rattle.club_tables.specs.Columns.{whole, facility_values, key_values, older_root_values, booking_values, name_values}
 use Rattle.club_tables.specs.Stored.{persons_taken}
 use Rattle.club_tables.specs.Transaction.{BoundStatement}
@@ -45,24 +45,31 @@ rotating put set = (PUT_OLDER_ROOT.now, put) ∷ (SET_ROOT.now, set) ∷ []
 abbrev pub replacing_root : List ℕ → List ℕ → OlderRoot → List BoundStatement
 replacing_root key root older = rotating (Text key ∷ older_root_values older) (Text key ∷ Blob root ∷ Blob older.root ∷ [])
 
--- a statement on a booking, and the additions to the totals of its member and its slot
-abbrev pub with_totals : List ℕ → Row → Row → Row → List BoundStatement
-with_totals text booking used taken = (text, booking) ∷ (ADD_USED.now, used) ∷ (ADD_TAKEN.now, taken) ∷ []
-
 -- what is added to the total of a member whose key this is
 abbrev pub used_values : List ℕ → ℤ → List ℕ → Row
 used_values member points key = Text member ∷ Int points ∷ Text key ∷ []
 
--- a booking under a key of the member
+-- what is added to it for a booking of a slot
+abbrev pub charge_values : List ℕ → ℕ → List ℕ → Slot → Row
+charge_values member points key slot = Text member ∷ whole points ∷ Text key ∷ name_values slot
+
+-- three statements, with the values of their parameters
+abbrev pub booking_with : Row → Row → Row → List BoundStatement
+booking_with booking taken charge = (ADD_BOOKING.now, booking) ∷ (ADD_TAKEN.now, taken) ∷ (CHARGE.now, charge) ∷ []
+
+abbrev pub cancelling_with : Row → Row → Row → List BoundStatement
+cancelling_with booking used taken = (CANCEL_BOOKING.now, booking) ∷ (ADD_USED.now, used) ∷ (ADD_TAKEN.now, taken) ∷ []
+
+-- a booking under a key of the member: its persons are added to those of its slot, and the member is charged last, if the slot has the places
 abbrev pub adding_booking : Booking → List ℕ → List BoundStatement
 adding_booking booking member =
-    with_totals ADD_BOOKING.now (booking_values booking) (used_values member (pos (cost_of booking)) booking.key)
-    (name_values booking.slot ++ Int (pos (persons_taken booking)) ∷ [])
+    booking_with (booking_values booking) (name_values booking.slot ++ Int (pos (persons_taken booking)) ∷ [])
+    (charge_values member (cost_of booking) booking.key booking.slot)
 
 -- a booking of the member that is on record as it is given is marked, and subtracted from the totals
 abbrev pub cancelling : Booking → List ℕ → ℕ → List BoundStatement
 cancelling booking member refund =
-    with_totals CANCEL_BOOKING.now (booking_values booking ++ whole refund ∷ []) (used_values member (neg_ℤ (pos refund)) booking.key)
+    cancelling_with (booking_values booking ++ whole refund ∷ []) (used_values member (neg_ℤ (pos refund)) booking.key)
     (name_values booking.slot ++ Int (neg_ℤ (pos (persons_of booking))) ∷ [])
 
 -- the statements of a change

@@ -1,14 +1,18 @@
 -- Which club a connection represents, and what reads and changes promise of it (ours).
-use Rattle.std.specs.Prelude.{◌≡◌, ◌⊎◌, ℕ, List, [], ◌∷◌, All, IsSome, Result, IsErr, IfErr, MatchResult, OnErr}
+use Rattle.std.specs.Prelude.{◌≡◌, ◌⊎◌, ℕ, ◌<◌, ◌≤◌, ◌^◌, List, [], ◌∷◌, All, None, Result, IfErr, MatchResult, OnErr}
 use Rattle.sqlite.specs.Store.{Ghosts}
 use Rattle.sqlite.specs.State.{HasCleanDisk, Survives}
 use Rattle.sqlite.specs.Held.{Held, state}
 use Rattle.club_core.specs.declared.change.Change.{Change}
-use Rattle.club_core.specs.declared.change.Change.TheVariants.{InsertKey}
+use Rattle.club_values.specs.Moment.{IsMoment}
+use Rattle.club_rows.specs.Limits.{IsRoot}
+use Rattle.club_rows.specs.Rows.{IsMember, IsFacility, IsKey, IsSlot, IsBooking}
+use Rattle.club_core.specs.declared.change.Change.TheVariants.{InsertMember, AddCredit, InsertFacility, InsertKey, MarkRevoked, ReplaceRoot, MarkClosed}
+use Rattle.club_core.specs.declared.change.Change.TheVariants.{InsertBooking, MarkCancelled}
 use Rattle.club_core.specs.declared.store.StoreFault.{StoreFault}
 use Rattle.club_core.specs.declared.store.StoreFault.TheVariants.{Storage}
 use Rattle.club_core.specs.After.{after}
-use Rattle.club_core.specs.Store.{FitsClub, IsTrueOf, KeepsClub, Returns}
+use Rattle.club_core.specs.Store.{FitsClub, KeepsClub, Returns}
 use Rattle.club_core.specs.Club.{Club, IsSound}
 use Rattle.club_tables.specs.Tables.{Represents, RepresentsVersion1, RepresentsVersion2, IsFound}
 use Rattle.club_tables.specs.Transaction.{BoundStatement, IsUntouched, MayCommit}
@@ -32,18 +36,13 @@ version_2_in g held = RepresentsVersion2 (state g held)
 abbrev pub found_in : {S : Type 0} → Ghosts S → Held S → Club → List Club → Type 0
 found_in g held = IsFound (state g held)
 
--- A change after which the club is sound is true of it, and made. Or it fails: then the club is unchanged, and after a crash the store may hold the
--- changed one.
+-- A change of any club is made, or fails. If it was made, it fits the club. If it failed, the club is unchanged; and if it doesn't fit, nothing of it is
+-- left, while after one that leaves a sound club a crash may leave that.
 abbrev pub Changes : {S E : Type 0} → (S → Club → List Club → Type 0) → Change → S → S → Result (Unit {0}) E → Type 0
 Changes RepresentsAs change old new result =
-    (club : Club) (others : List Club) → RepresentsAs old club others → IsSound (after change club)
-    → MatchResult result (λ _. IsTrueOf change club × RepresentsAs new (after change club) [])
-    (λ _. RepresentsAs new club (after change club ∷ others))
-
--- a change that isn't true of the club fails, and nothing of it is left
-abbrev pub RefusesUntrue : {S E : Type 0} → (S → Club → List Club → Type 0) → Change → S → S → Result (Unit {0}) E → Type 0
-RefusesUntrue RepresentsAs change old new result =
-    (club : Club) (others : List Club) → RepresentsAs old club others → ¬ IsTrueOf change club → IsErr result × RepresentsAs new club others
+    (club : Club) (others : List Club) → RepresentsAs old club others
+    → MatchResult result (λ _. FitsClub change club × RepresentsAs new (after change club) [])
+    (λ _. (IsSound (after change club) → RepresentsAs new club (after change club ∷ others)) × (¬ FitsClub change club → RepresentsAs new club others))
 
 -- A read-only call. Its result is true of the current club. The club, the possible crash states and an idle connection are unchanged.
 -- If it fails, its fault is that of the error with which a statement was refused, or Storage if rows can't be decoded.
@@ -60,21 +59,27 @@ pub record IsRunFault {S : Type 0} (g : Ghosts S) (fewest : ℕ) (statements : L
   pub after : IsAfterReadings g old from
   pub failure : FailsToRun g fewest statements from new fault
 
--- a new key that has an older root, which no statement writes
-abbrev pub HasOlderRoot : Change → Type 0
-HasOlderRoot (InsertKey key) = IsSome key.older
-HasOlderRoot change = ⊥
+-- the values of a change are within their limits, and a new key has no older root, which no statement writes
+abbrev pub InLimits : Change → Type 0
+InLimits (InsertMember member) = IsMember member
+InLimits (AddCredit name points) = points < 2 ^ 32
+InLimits (InsertFacility facility) = IsFacility facility
+InLimits (InsertKey key) = IsKey key × (key.older ≡ None)
+InLimits (MarkRevoked name) = Unit {0}
+InLimits (ReplaceRoot key former root until) = IsRoot root × IsMoment until
+InLimits (MarkClosed slot) = IsSlot slot
+InLimits (InsertBooking booking member) = IsBooking booking
+InLimits (MarkCancelled booking member refund) = refund ≤ booking.charge
 
--- a fault of a change: one of its statements was refused, or inserted or updated no row, or it is a new key with an older root
+-- a fault of a change: one of its statements was refused, or inserted or updated no row, or its values are out of their limits
 abbrev pub IsChangeFault : {S : Type 0} → Ghosts S → Change → Held S → Held S → StoreFault → Type 0
-IsChangeFault g change old new fault = IsRunFault g 1 (statements_of change) old new fault ⊎ (HasOlderRoot change × (fault ≡ Storage))
+IsChangeFault g change old new fault = IsRunFault g 1 (statements_of change) old new fault ⊎ ((¬ InLimits change) × (fault ≡ Storage))
 
--- A change: it is true of the club and made, or fails. If it fails, an idle connection is unchanged; after a crash the effects of the change's
+-- A change: it fits the club and is made, or fails. If it fails, an idle connection is unchanged; after a crash the effects of the change's
 -- statements may be there, if each inserted or updated a row.
 pub record ChangesClub {S : Type 0} (g : Ghosts S) (change : Change) (old new : Held S) (result : Result (Unit {0}) StoreFault) : Type 0 where
   pub was_clean : HasCleanDisk (state g new) → HasCleanDisk (state g old)
   pub effect : HasCleanDisk (state g new) → Changes (represents_in g) change old new result
-  pub untrue : HasCleanDisk (state g new) → RefusesUntrue (represents_in g) change old new result
   pub no_change : OnErr result (IsUntouched (state g old) (state g new))
   pub survives : Survives (state g old) (state g new) (MayCommit g 1 (AreStatementsOf change) old)
   pub fault : HasCleanDisk (state g new) → IfErr result (IsChangeFault g change old new)

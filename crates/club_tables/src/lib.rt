@@ -2,6 +2,7 @@
 //! them, over a connection that is in no transaction between calls.
 #![tactic(auto)]
 
+mod limits;
 mod open;
 mod params;
 mod reads;

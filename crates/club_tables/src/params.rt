@@ -11,6 +11,7 @@ ghost use Rattle.club_values.specs.Moment.{minutes_a_day};
 ghost use Rattle.club_rows.specs.Booking.{persons_of};
 ghost use Rattle.club_rows.specs.Columns.{truth};
 ghost use Rattle.club_core.specs.Sums.{cost_of};
+ghost use Rattle.club_tables.specs.ChangeStatements.{charge_values};
 ghost use Rattle.club_tables.specs.Stored.{persons_taken};
 ghost use Rattle.club_tables.specs.Columns.{
   whole,
@@ -152,24 +153,20 @@ pub(crate) fn of_open(member: &Name, moment: Moment) -> [ValueRef<'_>; 3]
     ]
 }
 
-/// A member, points to be added to what the member's bookings have cost, and the booking's key.
-fn of_used<'a>(member: &'a Name, points: i64, key: &'a Name) -> [ValueRef<'a>; 3]
-    ensures { bound result ≡ TextValue member.now ∷ IntValue points ∷ TextValue key.now ∷ [] }
-{
-    [
-        ValueRef::Text(member.as_bytes()),
-        ValueRef::Int(points),
-        ValueRef::Text(key.as_bytes()),
-    ]
-}
-
-/// A member, what a booking costs, and the booking's key.
-pub(crate) fn of_cost<'a>(member: &'a Name, booking: &'a Booking) -> [ValueRef<'a>; 3]
-    ensures { bound result ≡ TextValue member.now ∷ IntValue (pos (cost_of booking.now)) ∷ TextValue
-        booking.now.key ∷ [] }
+/// A member, what a booking costs, the booking's key, and its slot.
+pub(crate) fn of_charge<'a>(member: &'a Name, booking: &'a Booking) -> [ValueRef<'a>; 6]
+    ensures { bound result ≡ charge_values member.now (cost_of booking.now) booking.now.key
+        booking.now.slot }
 {
     let cost = booking.charge.saturating_sub(booking.refund);
-    of_used(member, i64::from(cost), &booking.key)
+    [
+        ValueRef::Text(member.as_bytes()),
+        ValueRef::Int(i64::from(cost)),
+        ValueRef::Text(booking.key.as_bytes()),
+        ValueRef::Text(booking.slot.facility.as_bytes()),
+        ValueRef::Int(i64::from(booking.slot.day.number())),
+        ValueRef::Int(i64::from(booking.slot.hour.number())),
+    ]
 }
 
 /// A member, a refund, which is subtracted from what the member's bookings have cost, and the
@@ -182,7 +179,11 @@ pub(crate) fn of_return<'a>(
     ensures { bound result ≡ TextValue member.now ∷ IntValue (neg_ℤ (pos refund)) ∷ TextValue
         booking.now.key ∷ [] }
 {
-    of_used(member, -i64::from(refund), &booking.key)
+    [
+        ValueRef::Text(member.as_bytes()),
+        ValueRef::Int(-i64::from(refund)),
+        ValueRef::Text(booking.key.as_bytes()),
+    ]
 }
 
 /// A slot, and persons to be added.

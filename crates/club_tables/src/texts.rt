@@ -106,7 +106,23 @@ pub(crate) const ADD_MEMBER: &str = "\
     INSERT INTO members (name, credited, quota, used) \
     VALUES (?1, ?2, ?3, 0)";
 
-pub(crate) const ADD_CREDIT: &str = "UPDATE members SET credited = credited + ?2 WHERE name = ?1";
+/// Adds points to what a member was credited, up to the most that it may be.
+pub(crate) const ADD_CREDIT: &str = "\
+    UPDATE members \
+    SET credited = credited + ?2 \
+    WHERE name = ?1 AND credited + ?2 <= 999999999";
+
+/// Adds to what the bookings of a member have cost, once a booking was written and its persons were
+/// added to its slot: if the key of the booking is the member's, the member has the points, and the
+/// slot has no more persons than its facility has places.
+pub(crate) const CHARGE: &str = "\
+    UPDATE members \
+    SET used = used + ?2 \
+    WHERE name = ?1 AND used + ?2 <= credited \
+    AND EXISTS (SELECT 1 FROM keys WHERE keys.name = ?3 AND keys.member = ?1) \
+    AND EXISTS (SELECT 1 FROM slots JOIN facilities ON facilities.name = ?4 \
+    WHERE slots.facility = ?4 AND slots.day = ?5 AND slots.hour = ?6 \
+    AND slots.taken <= facilities.places)";
 
 /// Adds to what the bookings of a member have cost, if the key of the booking is the member's; a
 /// negative number gives points back.
@@ -135,11 +151,12 @@ pub(crate) const PUT_OLDER_ROOT: &str = "\
 /// Sets the root of a key, if its former root is the last parameter.
 pub(crate) const SET_ROOT: &str = "UPDATE keys SET root = ?2 WHERE name = ?1 AND root = ?3";
 
+/// Closes a slot that is open.
 pub(crate) const CLOSE_SLOT: &str = "\
     INSERT INTO slots (facility, day, hour, closed, taken) \
     VALUES (?1, ?2, ?3, 1, 0) \
     ON CONFLICT (facility, day, hour) \
-    DO UPDATE SET closed = 1";
+    DO UPDATE SET closed = 1 WHERE closed = 0";
 
 /// Adds to the persons of a slot, which is open if it had no row; a negative number for a cancelled
 /// booking.

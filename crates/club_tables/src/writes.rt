@@ -1,6 +1,7 @@
 //! Writes the changes of a club, each in a transaction of its own.
 
-ghost use Rattle.std.specs.Prelude.{◌≡◌, [], ◌∷◌, None};
+ghost use Rattle.std.specs.Prelude.{◌≡◌, ◌≤◌, [], ◌∷◌, None, Err};
+ghost use Rattle.club_rows.specs.Rows.{IsMember, IsFacility, IsBooking};
 ghost use Rattle.sqlite.specs.Values.{bound};
 ghost use Rattle.club_core.specs.declared.change.Change.TheVariants.{
   InsertMember,
@@ -23,17 +24,20 @@ ghost use Rattle.club_tables.specs.ChangeStatements.{
   closing,
   rotating,
   replacing_root,
-  with_totals,
+  booking_with,
+  cancelling_with,
   adding_booking,
   cancelling,
 };
 ghost use Rattle.club_tables.specs.ReadsAndChanges.{ChangesClub};
 
+use crate::limits::{is_booking, is_facility, is_member, key_within, rotation_within, slot_within};
 use crate::params::Rotation;
 use crate::tables::Tables;
 use crate::transaction::Statement;
 use crate::{params, texts};
 use club_core::StoreFault;
+use club_laws::sound::suiting_changes_keep_sound;
 use club_rows::{Booking, Facility, Key, Member};
 use club_values::{Name, Slot};
 use sqlite::Alter;
@@ -48,41 +52,61 @@ impl<S: Alter> Tables<S> {
         self.write(&[Statement { text, params }])
     }
 
-    /// Inserts a member, whose bookings have cost nothing.
+    /// Inserts a member, whose bookings have cost nothing. Fails, and changes nothing, if a number
+    /// is out of its limits, or there is a member of this name.
     pub fn insert_member(&mut self, member: &Member) -> Result<(), StoreFault>
-        ensures commits { Commits S.Store 1 (adding_member member.now) self.old self.new result }
+        ensures commits { IsMember member.now → Commits S.Store 1 (adding_member member.now)
+            self.old self.new result }
+        ensures out { ¬ IsMember member.now
+            → (result ≡ Err StoreFault.Storage) × (self.new ≡ self.old) }
         ensures makes { ChangesClub S.Store (InsertMember member.now) self.old self.new result }
     {
+        suiting_changes_keep_sound();
+        if !is_member(member) {
+            return Err(StoreFault::Storage);
+        }
         self.write_one(texts::ADD_MEMBER, &params::of_member(member))
     }
 
-    /// Inserts a facility.
+    /// Inserts a facility. Fails, and changes nothing, if a number is out of its limits, or there
+    /// is a facility of this name.
     pub fn insert_facility(&mut self, facility: &Facility) -> Result<(), StoreFault>
-        ensures commits { Commits S.Store 1 (adding_facility facility.now)
+        ensures commits { IsFacility facility.now → Commits S.Store 1 (adding_facility facility.now)
             self.old self.new result }
+        ensures out { ¬ IsFacility facility.now
+            → (result ≡ Err StoreFault.Storage) × (self.new ≡ self.old) }
         ensures makes { ChangesClub S.Store (InsertFacility facility.now) self.old self.new result }
     {
+        suiting_changes_keep_sound();
+        if !is_facility(facility) {
+            return Err(StoreFault::Storage);
+        }
         self.write_one(texts::ADD_FACILITY, &params::of_facility(facility))
     }
 
-    /// Inserts a key. Fails, and changes nothing, if the key has an older root.
+    /// Inserts a key. Fails, and changes nothing, if the key has an older root, there is a key of
+    /// this name, or its member isn't there.
     pub fn insert_key(&mut self, key: &Key) -> Result<(), StoreFault>
         ensures commits { key.now.older ≡ None → Commits S.Store 1 (adding_key key.now)
             self.old self.new result }
         ensures makes { ChangesClub S.Store (InsertKey key.now) self.old self.new result }
     {
+        suiting_changes_keep_sound();
+        key_within(key);
         if key.older.is_some() {
             return Err(StoreFault::Storage);
         }
         self.write_one(texts::ADD_KEY, &params::of_key(key))
     }
 
-    /// Adds points to what a member was credited.
+    /// Adds points to what a member was credited. Fails, and changes nothing, if the member isn't
+    /// there, or would be credited more than the most.
     pub fn add_credit(&mut self, member: &Name, points: u32) -> Result<(), StoreFault>
         ensures commits { Commits S.Store 1 (adding_credit member.now points)
             self.old self.new result }
         ensures makes { ChangesClub S.Store (AddCredit member.now points) self.old self.new result }
     {
+        suiting_changes_keep_sound();
         self.write_one(texts::ADD_CREDIT, &params::of_credit(member, points))
     }
 
@@ -91,6 +115,7 @@ impl<S: Alter> Tables<S> {
         ensures commits { Commits S.Store 1 (revoking key.now) self.old self.new result }
         ensures makes { ChangesClub S.Store (MarkRevoked key.now) self.old self.new result }
     {
+        suiting_changes_keep_sound();
         self.write_one(texts::REVOKE_KEY, &[ValueRef::Text(key.as_bytes())])
     }
 
@@ -104,6 +129,8 @@ impl<S: Alter> Tables<S> {
             (ReplaceRoot rotation.now.key rotation.now.older.root rotation.now.root
             rotation.now.older.until) self.old self.new result }
     {
+        suiting_changes_keep_sound();
+        rotation_within(rotation);
         let put = params::of_older_root(rotation);
         let set = params::of_root(rotation);
         self.run_rotation(&put, &set)
@@ -126,30 +153,81 @@ impl<S: Alter> Tables<S> {
         ])
     }
 
-    /// Marks a slot closed.
+    /// Marks a slot closed. Fails, and changes nothing, if it is closed, or its facility isn't
+    /// there.
     pub fn close_slot(&mut self, slot: &Slot) -> Result<(), StoreFault>
         ensures commits { Commits S.Store 1 (closing slot.now) self.old self.new result }
         ensures makes { ChangesClub S.Store (MarkClosed slot.now) self.old self.new result }
     {
+        suiting_changes_keep_sound();
+        slot_within(slot);
         self.write_one(texts::CLOSE_SLOT, &params::of_slot(slot))
     }
 
-    /// Runs a statement on a booking, adds to what its member's bookings have cost, and adds to the
-    /// persons of its slot.
-    fn run_with_totals(
+    /// Inserts a booking, adds its persons to those of its slot, and charges its member.
+    fn run_booking(
         &mut self,
-        text: &str,
+        booking: &[ValueRef<'_>],
+        taken: &[ValueRef<'_>],
+        charge: &[ValueRef<'_>],
+    ) -> Result<(), StoreFault>
+        ensures commits { Commits S.Store 1
+            (booking_with (bound booking.now) (bound taken.now) (bound charge.now))
+            self.old self.new result }
+    {
+        self.write(&[
+            Statement {
+                text: texts::ADD_BOOKING,
+                params: booking,
+            },
+            Statement {
+                text: texts::ADD_TAKEN,
+                params: taken,
+            },
+            Statement {
+                text: texts::CHARGE,
+                params: charge,
+            },
+        ])
+    }
+
+    /// Inserts a booking under a key of the member, adds its persons to those of its slot, and what
+    /// it costs to what the member's have cost. Fails, and changes nothing, if a value is out of
+    /// its limits, the key has a booking of this number, the key is another member's, the member
+    /// hasn't the points, or the slot hasn't the places.
+    pub fn insert_booking(&mut self, booking: &Booking, member: &Name) -> Result<(), StoreFault>
+        ensures commits { IsBooking booking.now
+            → Commits S.Store 1 (adding_booking booking.now member.now) self.old self.new result }
+        ensures out { ¬ IsBooking booking.now
+            → (result ≡ Err StoreFault.Storage) × (self.new ≡ self.old) }
+        ensures makes { ChangesClub S.Store (InsertBooking booking.now member.now)
+            self.old self.new result }
+    {
+        suiting_changes_keep_sound();
+        if !is_booking(booking) {
+            return Err(StoreFault::Storage);
+        }
+        let row = params::of_booking(booking);
+        let taken = params::of_places(booking);
+        let charge = params::of_charge(member, booking);
+        self.run_booking(&row, &taken, &charge)
+    }
+
+    /// Marks a booking cancelled, subtracts its refund from what its member's bookings have cost,
+    /// and its persons from those of its slot.
+    fn run_cancellation(
+        &mut self,
         booking: &[ValueRef<'_>],
         used: &[ValueRef<'_>],
         taken: &[ValueRef<'_>],
     ) -> Result<(), StoreFault>
         ensures commits { Commits S.Store 1
-            (with_totals text.now (bound booking.now) (bound used.now) (bound taken.now))
+            (cancelling_with (bound booking.now) (bound used.now) (bound taken.now))
             self.old self.new result }
     {
         self.write(&[
             Statement {
-                text,
+                text: texts::CANCEL_BOOKING,
                 params: booking,
             },
             Statement {
@@ -163,38 +241,31 @@ impl<S: Alter> Tables<S> {
         ])
     }
 
-    /// Inserts a booking under a key of the member, adds what it costs to what the member's have
-    /// cost, and its persons to those of its slot. Fails, and changes nothing, if the key is
-    /// another member's.
-    pub fn insert_booking(&mut self, booking: &Booking, member: &Name) -> Result<(), StoreFault>
-        ensures commits { Commits S.Store 1 (adding_booking booking.now member.now)
-            self.old self.new result }
-        ensures makes { ChangesClub S.Store (InsertBooking booking.now member.now)
-            self.old self.new result }
-    {
-        let row = params::of_booking(booking);
-        let used = params::of_cost(member, booking);
-        let taken = params::of_places(booking);
-        self.run_with_totals(texts::ADD_BOOKING, &row, &used, &taken)
-    }
-
     /// Marks a booking cancelled with its refund, gives the refund back to the member, and the
-    /// places to the slot. Fails, and changes nothing, if the booking isn't on record as it is
-    /// given, is cancelled, or is under a key of another member.
+    /// places to the slot. Fails, and changes nothing, if the refund is more than the charge, or
+    /// the booking isn't on record as it is given, is cancelled, or is under a key of another
+    /// member.
     pub fn cancel_booking(
         &mut self,
         booking: &Booking,
         member: &Name,
         refund: u32,
     ) -> Result<(), StoreFault>
-        ensures commits { Commits S.Store 1 (cancelling booking.now member.now refund)
+        ensures commits { refund ≤ booking.now.charge
+            → Commits S.Store 1 (cancelling booking.now member.now refund)
             self.old self.new result }
+        ensures out { ¬ (refund ≤ booking.now.charge)
+            → (result ≡ Err StoreFault.Storage) × (self.new ≡ self.old) }
         ensures makes { ChangesClub S.Store (MarkCancelled booking.now member.now refund)
             self.old self.new result }
     {
+        suiting_changes_keep_sound();
+        if refund > booking.charge {
+            return Err(StoreFault::Storage);
+        }
         let mark = params::of_refund(booking, refund);
         let used = params::of_return(member, booking, refund);
         let taken = params::of_freed(booking);
-        self.run_with_totals(texts::CANCEL_BOOKING, &mark, &used, &taken)
+        self.run_cancellation(&mark, &used, &taken)
     }
 }

@@ -18,9 +18,10 @@ use Rattle.club_tables.proofs.lists.KeyedRows.{absent}
 use Rattle.club_tables.proofs.statements.MeansLemmas.{Means, on_members, on_facilities, on_keys, on_bookings, Steps, on_slots, on_olders}
 use Rattle.club_tables.proofs.statements.InsertLemmas.{inserts, cast_null, cast_int}
 use Rattle.club_tables.proofs.lists.RowLemmas.{holds_more}
-use Rattle.club_tables.proofs.statements.SelectLemmas.{text_equal}
+use Rattle.club_tables.proofs.Common.{list_all, holds, is_true, Compare, Eq, Binary, ◌&&◌, not, ◌==◌, State, Executes, Ok}
+use Rattle.club_tables.proofs.statements.SelectLemmas.{text_equal, whole_equal}
 use Rattle.club_tables.proofs.statements.UpdateLemmas.{each_of}
-use Rattle.club_tables.proofs.statements.PutLemmas.{PutsRow, first_clause, row_put}
+use Rattle.club_tables.proofs.statements.PutLemmas.{PutsRow, first_clause, row_put, row_allowed}
 use Rattle.club_tables.proofs.lists.KeyedRows.{lone, by_put, put_once as once_put, slots_conflict, slot_table, same_itself, changed, same_row as unchanged}
 use Rattle.club_tables.proofs.lists.KeyedRows.{put_slot, new_row as new_row_of}
 use Rattle.club_tables.proofs.lists.PutRows.{put_among}
@@ -28,7 +29,7 @@ use Rattle.club_tables.proofs.queries.KeyLemmas.{same_slots}
 
 -- ---- lists
 
-each_weaker : {X : Type 0} {P Q : X → Type 0} → ((x : X) → P x → Q x) → (xs : List X) → AllByRecursion P xs → AllByRecursion Q xs
+pub each_weaker : {X : Type 0} {P Q : X → Type 0} → ((x : X) → P x → Q x) → (xs : List X) → AllByRecursion P xs → AllByRecursion Q xs
 each_weaker weaker [] h = tt
 each_weaker weaker (x ∷ xs) h = (weaker x h.0, each_weaker weaker xs h.1)
 
@@ -128,14 +129,14 @@ booking_put rows booking =
 abbrev target : Option (List ℕ)
 target = Some (1 ∷ 2 ∷ 3 ∷ [])
 
-abbrev PutsSlot : List ℕ → List Term → List Term → ℕ → Type 0
-PutsSlot text terms sets at =
-    PutsRow slots_table.name slots_table.columns slots_table.uniques slots_table.checks slots_table.references slots_tree target 4 text terms sets 6 at
+abbrev PutsSlot : List ℕ → List Term → List Term → List Term → ℕ → Type 0
+PutsSlot text terms more sets at =
+    PutsRow slots_table.name slots_table.columns slots_table.uniques slots_table.checks slots_table.references slots_tree target 4 text terms more sets 6 at
     (first_clause (command_of (understood club_schema text)))
 
 -- ---- a statement of this form
 
-module _ {text : List ℕ} {terms sets : List Term} {at : ℕ} (puts : PutsSlot text terms sets at) (rows : Rows)
+module _ {text : List ℕ} {terms more sets : List Term} {at : ℕ} (puts : PutsSlot text terms more sets at) (rows : Rows)
     (once : AllPairs (λ (a : SlotRow) (b : SlotRow). a.slot ≢ b.slot) rows.slots) (slot : Slot) (params : Row) (closed taken : Value)
     (gives : value_rows params 6 (length terms / 6) terms ≡ (Null ∷ name_values slot ++ closed ∷ taken ∷ []) ∷ [])
     (casts_closed : cast Integer closed ≡ closed) (casts_taken : cast Integer taken ≡ taken) (change : SlotUse → SlotUse) where
@@ -149,13 +150,14 @@ module _ {text : List ℕ} {terms sets : List Term} {at : ℕ} (puts : PutsSlot 
   -- the slot's row is put, if there was one and if there was none
   slot_put : (row_of slot rows.slots ≡ None → closed ∷ taken ∷ [] ≡ use_values (change no_slot_use))
       → ((there : Row) (next : ℤ) → column (sees there next) at ≡ rowid there)
-      → ((x : SlotRow) → row_of slot rows.slots ≡ Some x → (id next : ℤ) (there : Row) → eval_all sets (sees there next ∷ (Int id ∷ slot_values x) ∷ [])
-      ≡ Int id ∷ Int id ∷ name_values x.slot ++ use_values (change x.held))
+      → ((x : SlotRow) → row_of slot rows.slots ≡ Some x → (id next : ℤ) (there : Row)
+      → (list_all (holds (sees there next ∷ (Int id ∷ slot_values x) ∷ [])) more ≡ true)
+      × (eval_all sets (sees there next ∷ (Int id ∷ slot_values x) ∷ []) ≡ Int id ∷ Int id ∷ name_values x.slot ++ use_values (change x.held)))
       → Steps (text, params) rows (record rows { slots = put_slot slot change rows.slots })
   slot_put fresh ids yields old new count holds_rows executed =
       let alone = lone (λ (row : SlotRow). row.slot) same_slot same_slots same_itself slot rows.slots once in
       let next = next_rowid (old.now.trees slots_tree) in
-      let left = row_put _ _ _ _ _ slots_tree target 4 refl text terms sets 6 at _ puts old new holds_rows.schema params
+      let left = row_put _ _ _ _ _ slots_tree target 4 refl text terms more sets 6 at _ puts old new holds_rows.schema params
       (name_values slot ++ closed ∷ taken ∷ []) gives
       (rw (cast_null, cast_int (pos slot.day), cast_int (pos slot.hour), casts_closed, casts_taken) refl) (λ id.
       rw (cast_int id, cast_int (pos slot.day), cast_int (pos slot.hour), casts_closed, casts_taken) refl)
@@ -163,14 +165,34 @@ module _ {text : List ℕ} {terms sets : List Term} {at : ℕ} (puts : PutsSlot 
       (λ id x. slots_conflict id next x slot closed taken)
       (λ id x. rw (cast_int id, cast_int (pos x.slot.day), cast_int (pos x.slot.hour), cast_int (pos (truth x.held.closed)), cast_int (pos x.held.taken)) refl)
       rows.slots holds_rows.held.slots alone (λ none. ap (λ vs. name_values slot ++ vs) (fresh (absent is_of_slot rows.slots none))) (λ there. ids there next)
-      (each_weaker (λ x only id there passes. yields x (only passes) id next there
-      ∙ ap (λ b. Int id ∷ Int id ∷ name_values x.slot ++ use_values (if b then change x.held else x.held)) (sym passes)) rows.slots
+      (each_weaker (λ x only id there passes. let y = yields x (only passes) id next there in
+      (y.0, y.1 ∙ ap (λ b. Int id ∷ Int id ∷ name_values x.slot ++ use_values (if b then change x.held else x.held)) (sym passes))) rows.slots
       (only_found is_of_slot rows.slots (one_passes _ is_of_slot rows.slots (λ x y a b apart. apart (a, b)) alone))) count executed in
       (on_slots holds_rows left.0 left.1, left.2)
 
+  -- and the row that is there passes the further tests, if one is written
+  slot_allowed : ((there : Row) (next : ℤ) → column (sees there next) at ≡ rowid there) → (allows : SlotRow → Bool)
+      → ((id next : ℤ) (there : Row) (x : SlotRow) → list_all (holds (sees there next ∷ (Int id ∷ slot_values x) ∷ [])) more ≡ allows x)
+      → (old new : State) (count : ℕ) → HoldsRows old.now rows → Executes text params old new (Ok count) → 1 ≤ count
+      → (x : SlotRow) → row_of slot rows.slots ≡ Some x → allows x ≡ true
+  slot_allowed ids allows allowed old new count holds_rows executed some x is =
+      let alone = lone (λ (row : SlotRow). row.slot) same_slot same_slots same_itself slot rows.slots once in
+      let next = next_rowid (old.now.trees slots_tree) in
+      row_allowed _ _ _ _ _ slots_tree target 4 refl text terms more sets 6 at _ puts old new holds_rows.schema params
+      (name_values slot ++ closed ∷ taken ∷ []) gives
+      (rw (cast_null, cast_int (pos slot.day), cast_int (pos slot.hour), casts_closed, casts_taken) refl) (λ id.
+      rw (cast_int id, cast_int (pos slot.day), cast_int (pos slot.hour), casts_closed, casts_taken) refl)
+      slot_values is_of_slot (changed slot change) (unchanged slot change) (new_row_of slot change)
+      (λ id x. slots_conflict id next x slot closed taken)
+      (λ id x. rw (cast_int id, cast_int (pos x.slot.day), cast_int (pos x.slot.hour), cast_int (pos (truth x.held.closed)), cast_int (pos x.held.taken)) refl)
+      rows.slots holds_rows.held.slots alone (λ there. ids there next) allows (λ id there x. allowed id next there x) count executed some x is
+
 -- ---- a slot is closed
 
-close_puts : PutsSlot CLOSE_SLOT.now (lit Null ∷ col 0 0 ∷ col 0 1 ∷ col 0 2 ∷ lit (Int (pos 1)) ∷ lit (Int (pos 0)) ∷ [])
+abbrev is_open : Term
+is_open = op2 (Compare Eq Binary) (col 1 4) (lit (Int (pos 0)))
+
+close_puts : PutsSlot CLOSE_SLOT.now (lit Null ∷ col 0 0 ∷ col 0 1 ∷ col 0 2 ∷ lit (Int (pos 1)) ∷ lit (Int (pos 0)) ∷ []) (is_open ∷ [])
     (col 1 0 ∷ col 1 0 ∷ col 1 1 ∷ col 1 2 ∷ col 1 3 ∷ lit (Int (pos 1)) ∷ col 1 5 ∷ []) 3
 unfolding understood everything
 close_puts = record { is = refl; plain = (refl, refl); aims = refl; by = refl }
@@ -178,15 +200,44 @@ close_puts = record { is = refl; plain = (refl, refl); aims = refl; by = refl }
 abbrev pub close_use : SlotUse → SlotUse
 close_use held = record held { closed = true }
 
+-- whether a slot of this use is open
+open_is : (held : SlotUse) → (is_true (binary (Compare Eq Binary) (flag held.closed) (whole 0)) && true) ≡ not held.closed
+open_is held = and-true _ ∙ whole_equal (truth held.closed) 0 ∙ not_closed held.closed
+  where
+    not_closed : (b : Bool) → (truth b == 0) ≡ not b
+    not_closed true = refl
+    not_closed false = refl
+
 pub slot_closed : (rows : Rows) → AllPairs (λ (a : SlotRow) (b : SlotRow). a.slot ≢ b.slot) rows.slots → (slot : Slot)
+    → (stored_slot_use slot rows.slots).closed ≡ false
     → Steps (CLOSE_SLOT.now, name_values slot) rows (record rows { slots = put_slot slot close_use rows.slots })
-slot_closed rows once slot =
+slot_closed rows once slot is_open =
+    let use_by : Option SlotRow → SlotUse = λ found. unwrap_or (option_map (λ (row : SlotRow). row.held) found) no_slot_use in
     slot_put close_puts rows once slot (name_values slot) (whole 1) (whole 0) refl (cast_int (pos 1)) (cast_int (pos 0)) close_use (λ _. refl)
-    (λ there next. refl) (λ x is id next there. refl)
+    (λ there next. refl) (λ x is id next there. (open_is x.held ∙ ap not (ap (λ o. (use_by o).closed) (sym is) ∙ is_open), refl))
+
+-- and the slot was open, if a row is written
+pub slot_was_open : (rows : Rows) → AllPairs (λ (a : SlotRow) (b : SlotRow). a.slot ≢ b.slot) rows.slots → (slot : Slot) → (old new : State) (count : ℕ)
+    → HoldsRows old.now rows → Executes CLOSE_SLOT.now (name_values slot) old new (Ok count) → 1 ≤ count
+    → (stored_slot_use slot rows.slots).closed ≡ false
+slot_was_open rows once slot old new count holds_rows executed some = go (row_of slot rows.slots) refl
+  where
+    false_of : (b : Bool) → not b ≡ true → b ≡ false
+    false_of true h = absurd cc
+    false_of false h = refl
+
+    go : (found : Option SlotRow) → row_of slot rows.slots ≡ found
+        → (unwrap_or (option_map (λ (row : SlotRow). row.held) found) no_slot_use).closed ≡ false
+    go None is = refl
+    go (Some x) is =
+        let was_open : not x.held.closed ≡ true = slot_allowed close_puts rows once slot (name_values slot) (whole 1) (whole 0) refl (cast_int (pos 1))
+        (cast_int (pos 0)) close_use (λ there next. refl) (λ row. not row.held.closed) (λ id next there row. open_is row.held) old new count holds_rows
+        executed some x is in
+        false_of x.held.closed was_open
 
 -- ---- persons are added to a slot
 
-taken_puts : PutsSlot ADD_TAKEN.now (lit Null ∷ col 0 0 ∷ col 0 1 ∷ col 0 2 ∷ lit (Int (pos 0)) ∷ col 0 3 ∷ [])
+taken_puts : PutsSlot ADD_TAKEN.now (lit Null ∷ col 0 0 ∷ col 0 1 ∷ col 0 2 ∷ lit (Int (pos 0)) ∷ col 0 3 ∷ []) []
     (col 1 0 ∷ col 1 0 ∷ col 1 1 ∷ col 1 2 ∷ col 1 3 ∷ col 1 4 ∷ op2 (Arith Add) (col 1 5) (col 0 3) ∷ []) 4
 unfolding understood everything
 taken_puts = record { is = refl; plain = (refl, refl); aims = refl; by = refl }
@@ -202,8 +253,11 @@ slot_taken rows once slot persons next fresh sum =
     let use_by : Option SlotRow → SlotUse = λ found. unwrap_or (option_map (λ (row : SlotRow). row.held) found) no_slot_use in
     slot_put taken_puts rows once slot (name_values slot ++ Int persons ∷ []) (whole 0) (Int persons) refl (cast_int (pos 0)) (cast_int persons)
     (take_use next) (λ none. ap (λ n. whole 0 ∷ Int n ∷ []) (fresh (ap use_by none))) (λ there id. refl)
-    (λ x is id new there. ap (λ v. Int id ∷ Int id ∷ name_values x.slot ++ flag x.held.closed ∷ v ∷ [])
-    (subst (λ (held : SlotUse). binary (Arith Add) (whole held.taken) (Int persons) ≡ whole (next held.taken)) (ap use_by is) sum))
+    (λ x is id new there. (
+      refl,
+      ap (λ v. Int id ∷ Int id ∷ name_values x.slot ++ flag x.held.closed ∷ v ∷ [])
+          (subst (λ (held : SlotUse). binary (Arith Add) (whole held.taken) (Int persons) ≡ whole (next held.taken)) (ap use_by is) sum),
+    ))
 
 -- ---- older roots
 
@@ -220,7 +274,7 @@ unfolding first_key
 olders_conflict id id' row key older = rw (text_equal row.key key) (or-false _ ∙ and-true _)
 
 put_puts : PutsRow old_roots_table.name old_roots_table.columns old_roots_table.uniques old_roots_table.checks old_roots_table.references olders_tree
-    older_target 6 PUT_OLDER_ROOT.now (lit Null ∷ col 0 0 ∷ col 0 1 ∷ col 0 2 ∷ []) (col 1 0 ∷ col 1 0 ∷ col 1 1 ∷ col 0 1 ∷ col 0 2 ∷ [])
+    older_target 6 PUT_OLDER_ROOT.now (lit Null ∷ col 0 0 ∷ col 0 1 ∷ col 0 2 ∷ []) [] (col 1 0 ∷ col 1 0 ∷ col 1 1 ∷ col 0 1 ∷ col 0 2 ∷ [])
     4 3 (first_clause (command_of (understood club_schema PUT_OLDER_ROOT.now)))
 unfolding understood everything
 put_puts = record { is = refl; plain = (refl, refl); aims = refl; by = refl }
@@ -264,11 +318,13 @@ pub older_represents : (rows : Rows) → AllPairs (λ (a : OlderRow) (b : OlderR
     → Steps (PUT_OLDER_ROOT.now, Text key ∷ older_root_values older) rows (record rows { olders = put_older key older rows.olders })
 older_represents rows once key older old new count holds_rows executed =
     let params = Text key ∷ older_root_values older in
-    let put = row_put _ _ _ _ _ olders_tree older_target 6 refl _ _ _ 4 3 _ put_puts old new holds_rows.schema params params refl
+    let put = row_put _ _ _ _ _ olders_tree older_target 6 refl _ _ _ _ 4 3 _ put_puts old new holds_rows.schema params params refl
     (rw (cast_null, cast_int (pos older.until)) refl) (λ id. rw (cast_int id, cast_int (pos older.until)) refl)
     older_values (is_of key older) (renewed key older) (same_older key older) (record { key = key; older = older }) (λ id row.
     olders_conflict id (next_rowid (old.now.trees olders_tree)) row key older) (casts key older) rows.olders holds_rows.held.olders
     (lone (λ (row : OlderRow). row.key) bytes_eq same_names itself key rows.olders once)
-    (λ _. refl) (λ there. refl) (each_of _ (λ x id there passes.
-    ap (λ b. Int id ∷ Int id ∷ Text x.key ∷ older_root_values (if b then older else x.older)) (sym passes)) rows.olders) count executed in
+    (λ _. refl) (λ there. refl) (each_of _ (λ x id there passes. (
+      refl,
+      ap (λ b. Int id ∷ Int id ∷ Text x.key ∷ older_root_values (if b then older else x.older)) (sym passes),
+    )) rows.olders) count executed in
     (on_olders holds_rows put.0 put.1, put.2)

@@ -5,13 +5,16 @@ use Rattle.club_tables.proofs.Common.{or-false, everything, Int, Text, Blob, Bin
 use Rattle.club_tables.proofs.Common.{holds, lit, Query, inner, end, counted, Update, understood, State, Executes, Key, credited_member, revoked_key}
 use Rattle.club_tables.proofs.Common.{rotated_key, truth, MemberRow, ADD_CREDIT, ADD_USED, REVOKE_KEY, SET_ROOT, club_schema, used_values, whole, member_values}
 use Rattle.club_tables.proofs.Common.{key_values, select, is_given, Rows, BoundStatement, Holds, HoldsRows, members_tree, keys_tree}
+use Rattle.club_tables.proofs.Common.{is_true, int_cmp, nat_le, nat_tests, arith, value_cmp-Int}
+use Rattle.std.specs.Ordering.{is_le}
+use Rattle.sqlite_sql.specs.declared.ops.CompareOp.TheVariants.{Le}
 use Rattle.club_tables.proofs.statements.MeansLemmas.{Wrote}
 use Rattle.club_tables.proofs.statements.MeansLemmas.{Means, on_members, on_keys, Steps}
 use Rattle.club_tables.proofs.statements.InsertLemmas.{cast_int}
 use Rattle.club_tables.proofs.queries.KeyLemmas.{both_tests, one_named}
 use Rattle.club_tables.proofs.changes.AddLemmas.{member_table, key_table, only_found}
 use Rattle.club_tables.proofs.statements.PassLemmas.{contains_counts, each_row, find_some, agree, found_by_both, found, Implies}
-use Rattle.club_tables.proofs.statements.SelectLemmas.{text_equal, shows, blob_equal}
+use Rattle.club_tables.proofs.statements.SelectLemmas.{text_equal, shows, test, blob_equal, from_truth_is}
 use Rattle.club_tables.proofs.statements.UpdateLemmas.{Updates, updates, Finds, finds, passes_one, writes_one, changes_one}
 use Rattle.club_tables.proofs.statements.JoinLemmas.{is_counted, some_counted, counted_some, passes, shown, with_count, answered_counted}
 use Rattle.club_tables.proofs.statements.JoinLemmas.{counts_elements}
@@ -19,7 +22,7 @@ use Rattle.club_tables.proofs.statements.JoinLemmas.{counts_elements}
 -- ---- an UPDATE of the one element that a test finds
 
 -- what a narrower test finds is what a wider one finds that one element passes at most
-wider_is : {X : Type 0} (p q : X → Bool) → Implies p q → (xs : List X) → length (filter q xs) ≤ 1 → (x : X) → find p xs ≡ Some x
+pub wider_is : {X : Type 0} (p q : X → Bool) → Implies p q → (xs : List X) → length (filter q xs) ≤ 1 → (x : X) → find p xs ≡ Some x
     → (find q xs ≡ Some x) × (p x ≡ true)
 wider_is p q wide xs low x is = (sym (found_by_both p q xs (agree p q wide xs x low is)) ∙ is, (found p xs x is).1)
 
@@ -87,20 +90,29 @@ credited_row name points row = record row { member = credited_member name points
 abbrev pub used_row : List ℕ → (ℕ → ℕ) → MemberRow → MemberRow
 used_row name next row = record row { used = if bytes_eq row.member.name name then next row.used else row.used }
 
+-- `<=` of two whole numbers
+pub whole_to : (m n : ℕ) → is_true (binary (Compare Le Binary) (Int (pos m)) (Int (pos n))) ≡ nat_le m n
+unfolding binary
+whole_to m n =
+    let same : is_le (int_cmp (pos m) (pos n)) ≡ nat_le m n = grind (arith, nat_tests) in from_truth_is _ ∙ ap is_le (value_cmp-Int (pos m) (pos n)) ∙ same
+
 abbrev credit_terms : List Term
 credit_terms = col 1 0 ∷ col 1 0 ∷ col 1 1 ∷ op2 (Arith Add) (col 1 2) (col 0 1) ∷ col 1 3 ∷ col 1 4 ∷ []
 
-credit_means : Means club_schema ADD_CREDIT.now (Update 1 (record { lets = []; body = select (inner members_tree end) (is_given 1 0 ∷ []) credit_terms }))
+abbrev credit_tests : List Term
+credit_tests = is_given 1 0 ∷ op2 (Compare Le Binary) (op2 (Arith Add) (col 1 2) (col 0 1)) (lit (Int (pos 999_999_999))) ∷ []
+
+credit_means : Means club_schema ADD_CREDIT.now (Update 1 (record { lets = []; body = select (inner members_tree end) credit_tests credit_terms }))
 unfolding understood everything
 credit_means = record { is = refl; plain = (refl, refl) }
 
-abbrev owner_tests : List Term
+abbrev pub owner_tests : List Term
 owner_tests = op2 (Compare Eq Binary) (col 2 1) (col 0 2) ∷ op2 (Compare Eq Binary) (col 2 2) (col 0 0) ∷ []
 
 abbrev used_tests : List Term
 used_tests = is_given 1 0 ∷ col 2 0 ∷ []
 
-abbrev used_terms : List Term
+abbrev pub used_terms : List Term
 used_terms = col 1 0 ∷ col 1 0 ∷ col 1 1 ∷ col 1 2 ∷ col 1 3 ∷ op2 (Arith Add) (col 1 4) (col 0 1) ∷ []
 
 abbrev used_query : Query
@@ -110,7 +122,7 @@ used_means : Means club_schema ADD_USED.now (Update 1 (record { lets = []; body 
 unfolding understood everything
 used_means = record { is = refl; plain = (refl, refl) }
 
-casts_member : (id : ℤ) (row : MemberRow) → cast_row member_table (Int id ∷ member_values row) ≡ Int id ∷ member_values row
+pub casts_member : (id : ℤ) (row : MemberRow) → cast_row member_table (Int id ∷ member_values row) ≡ Int id ∷ member_values row
 casts_member id row = rw (cast_int id, cast_int (pos row.member.credited), cast_int (pos row.member.quota), cast_int (pos row.used))
 
 module _ (rows : Rows) (once : AreNamedOnce rows.members) (name : List ℕ) where
@@ -124,18 +136,32 @@ module _ (rows : Rows) (once : AreNamedOnce rows.members) (name : List ℕ) wher
     abbrev credit_params : Row
     credit_params = Text name ∷ whole points ∷ []
 
-    pub credit_finds : WhenRan (ADD_CREDIT.now, credit_params) rows (λ old new count.
-        FindsOne member_values is_named is_named rows.members (shows credit_params (is_given 1 0 ∷ []) credit_terms) old new member_table count)
+    -- the tests read no rowid
+    abbrev is_credited : MemberRow → Bool
+    is_credited row = test credit_params credit_tests credit_terms (Int (pos 0) ∷ member_values row)
+
+    credit_finds : WhenRan (ADD_CREDIT.now, credit_params) rows (λ old new count.
+        FindsOne member_values is_credited is_named rows.members (shows credit_params credit_tests credit_terms) old new member_table count)
     credit_finds old new count holds_rows ran =
-        let hit = finds member_values is_named rows.members (updates credit_means member_table refl holds_rows.schema ran) holds_rows.held.members
-        (λ id row. and-true _ ∙ text_equal (name_of row) name) in
+        let hit = finds member_values is_credited rows.members (updates credit_means member_table refl holds_rows.schema ran) holds_rows.held.members
+        (λ id row. refl) in
+        let wide : Implies is_credited is_named = λ row passes. sym (text_equal (name_of row) name) ∙ (and_parts _ _ passes).0 in
         search (rules, low_named)
+
+    -- the member is there, and is credited no more than the most, if a row is written
+    pub credit_found : WhenRan (ADD_CREDIT.now, credit_params) rows (λ old new count. 1 ≤ count → (row : MemberRow) × StoresMember name rows.members row
+        × (is_true (binary (Compare Le Binary) (binary (Arith Add) (whole row.member.credited) (whole points)) (whole 999_999_999)) ≡ true))
+    credit_found old new count holds_rows ran some =
+        let one = one_found (credit_finds old new count holds_rows ran) some in
+        (one.0, one.1, (and_parts _ _ (and_parts _ _ one.2).1).0)
 
     pub member_credited : (row : MemberRow) → StoresMember name rows.members row
         → binary (Arith Add) (whole row.member.credited) (whole points) ≡ whole (row.member.credited + points)
+        → nat_le (row.member.credited + points) 999_999_999 ≡ true
         → Steps (ADD_CREDIT.now, credit_params) rows (record rows { members = map (credited_row name points) rows.members })
-    member_credited row is sum old new count holds_rows ran =
-        one_changed (credit_finds old new count holds_rows ran) row is (found is_named rows.members row is).1
+    member_credited row is sum low old new count holds_rows ran =
+        one_changed (credit_finds old new count holds_rows ran) row is
+        (rw (text_equal (name_of row) name, sum, whole_to (row.member.credited + points) 999_999_999, low, (found is_named rows.members row is).1) refl)
         (credited_row name points) (λ row fails. rw fails refl) (λ id passes. rw (passes, sum) refl) casts_member
         (λ wrote held. on_members holds_rows wrote held)
 

@@ -1,20 +1,29 @@
 -- A change that was made is true of the club, and what the statements of one that fits do, one after the other.
 use Rattle.club_tables.proofs.Common.{rules, ◌≡◌, ℕ, ◌≤◌, ℤ, pos, neg_ℤ, Bool, Ok, None, List, Option, Some, refl, sym, subst, ◌∙◌, ◌≢◌, ◌+◌, ◌-◌, true}
-use Rattle.club_tables.proofs.Common.{if◌then◌else◌, [], ◌∷◌, ◌++◌, map, Contains, ap, arith, zero, suc, IsTrue, inl, inr, recursion_from_All, All-contains}
-use Rattle.club_tables.proofs.Common.{bytes_eq-Decides, find, option_map, IsSome, bytes_eq, Database, Held, state, Row, binary, Arith, Add, ◌<◌, ◌^◌, cond}
-use Rattle.club_tables.proofs.Common.{SlotUse, IsMember, IsFacility, Executes, State, Ghosts, Int, good_until, after, cancelled_booking, credited_member, Club}
-use Rattle.club_tables.proofs.Common.{member_named, key_named, IsSound, IsOwnedBy, IsTrueOf, FitsClub, booking_under, cost_of, taken_in, InsertMember}
+use Rattle.club_tables.proofs.Common.{if◌then◌else◌, [], ◌∷◌, ◌++◌, map, Contains, ap, arith, IsTrue, inl, inr, recursion_from_All, All-contains}
+use Rattle.club_tables.proofs.Common.{bytes_eq-Decides, find, option_map, bytes_eq, Database, Held, state, Row, binary, Arith, Add, cond}
+use Rattle.club_tables.proofs.Common.{SlotUse, IsMember, Executes, State, Ghosts, Int, good_until, after, cancelled_booking, credited_member, Club}
+use Rattle.club_tables.proofs.Common.{member_named, key_named, IsOwnedBy, IsTrueOf, FitsClub, booking_under, cost_of, taken_in, InsertMember}
 use Rattle.club_tables.proofs.Common.{AddCredit, InsertFacility, InsertKey, MarkRevoked, ReplaceRoot, MarkClosed, InsertBooking, MarkCancelled, StoreFault}
-use Rattle.club_tables.proofs.Common.{same_slot, persons_of, IsBooking, Booking, Facility, Key, OlderRoot, Member, Slot, used_values, statements_of}
-use Rattle.club_tables.proofs.Common.{with_totals, adding_booking, cancelling, whole, name_values, FailsInTurn, HasOlderRoot, Rows, member_row, used_by}
+use Rattle.club_tables.proofs.Common.{same_slot, persons_of, IsBooking, Booking, Facility, Key, Member, Slot, used_values, statements_of}
+use Rattle.club_tables.proofs.Common.{adding_booking, cancelling, whole, name_values, FailsInTurn, Rows, member_row, used_by}
 use Rattle.club_tables.proofs.Common.{persons_taken, IsStoredAs, HoldsClub, HoldsRows, Ran, transaction_start, BoundStatement, RanInTurn, MemberRow, ADD_USED}
-use Rattle.club_rows.specs.Limits.{places_limit}
+use Rattle.club_tables.proofs.Common.{InLimits, ADD_TAKEN, CANCEL_BOOKING, SlotRow, AllByRecursion, Has, has_found, has_contained}
+use Rattle.club_tables.proofs.Common.{◌&&◌, ◌==◌, false, list_any, unwrap_or, stored_slot_use, no_slot_use, row_of, nat_le, nat_tests, unsigned_Decides}
+use Rattle.club_tables.proofs.Common.{cancelling_with, is_closed}
+use Rattle.club_tables.proofs.changes.AddLemmas.{take_use}
+use Rattle.club_tables.proofs.changes.ChangeLemmas.{credit_found, whole_to}
+use Rattle.club_tables.proofs.changes.ObeyLemmas.{bookings_apart, booking_facilities}
+use Rattle.club_tables.proofs.lists.KeyedRows.{put_slot, use_put, changed, not_same}
+use Rattle.club_tables.proofs.lists.OwnerLemmas.{apart_last}
+use Rattle.club_tables.proofs.queries.KeyLemmas.{same_slots}
+use Rattle.club_tables.proofs.statements.SelectLemmas.{apart_from_pairs}
 use Rattle.club_core.specs.declared.change.Change.{Change}
 use Rattle.club_rows.specs.Limits.{credited_limit}
 use Rattle.club_tables.proofs.changes.AddLemmas.{booking_put, member_put, facility_put, key_put, slot_taken, slot_closed, older_represents, put_older}
 use Rattle.club_tables.proofs.changes.CancelLemmas.{booking_cancelled, cancel_found, there, used_back, taken_back, mapped_holds, used_less, taken_less}
 use Rattle.club_tables.proofs.changes.ChangeLemmas.{owner_found, AreKeysOnce, StoresKey, name_of, member_used, AreNamedOnce, used_row, StoresMember, one_found}
-use Rattle.club_tables.proofs.changes.ChangeLemmas.{member_credited, root_found, key_revoked, credit_finds, revoke_finds}
+use Rattle.club_tables.proofs.changes.ChangeLemmas.{member_credited, root_found, key_revoked, revoke_finds}
 use Rattle.club_tables.proofs.changes.StoredLemmas.{taken_more, member_stored, credit_stored, facility_stored, key_stored, revoke_stored, rotate_stored}
 use Rattle.club_tables.proofs.changes.StoredLemmas.{close_stored, used_more, bookings_stored}
 use Rattle.club_tables.proofs.lists.OwnerLemmas.{all_last, owner_is}
@@ -25,6 +34,8 @@ use Rattle.club_tables.proofs.statements.SelectLemmas.{pairs_mapped}
 use Rattle.club_tables.proofs.changes.ChangeLemmas.{root_set}
 use Rattle.club_tables.proofs.lists.KeyedRows.{same_itself}
 use Rattle.club_tables.proofs.statements.MeansLemmas.{Steps}
+use Rattle.club_tables.proofs.changes.ChargeLemmas.{Charged, charge_found, member_charged}
+use Rattle.club_tables.proofs.changes.FoundLemmas.{contains_mapped, minus, few_taken, put_there, few_persons}
 
 -- ---- statements in turn
 
@@ -57,45 +68,34 @@ module _ {S : Type 0} (g : Ghosts S) where
       let next = it.3.1 old ran.0 ran.1 it.2 ran.2 in
       inr (ran.0, ran.1, ran.2, less_in_turn more ran.0 new fault (λ opened. (it.3.0, it.1, next.0, it.3.2)) ran.3, omega arith, ran.5)
 
-contains_mapped : {X Y : Type 0} (f : X → Y) (xs : List X) (y : Y) → Contains (map f xs) y → (x : X) × Contains xs x × (f x ≡ y)
-contains_mapped f [] y has = absurd (omega (arith, has.1))
-contains_mapped f (x ∷ xs) y (zero, low, is) = (x, (0, omega arith, refl), is)
-contains_mapped f (x ∷ xs) y (suc k, low, is) =
-    let later = contains_mapped f xs y (k, omega (arith, low), is) in
-    (later.0, (suc later.1.0, omega (arith, later.1.1), later.1.2), later.2)
-
-mapped_some : {X Y : Type 0} (f : X → Y) (o : Option X) (y : Y) → option_map f o ≡ Some y → (x : X) × (o ≡ Some x)
-mapped_some f o y h = grind arith
-
--- what is less than was there can be taken away
-minus : (m r : ℕ) → r ≤ m → m < 2 ^ 63 → binary (Arith Add) (whole m) (Int (neg_ℤ (pos r))) ≡ whole (m - r)
-unfolding binary
-minus m r low small = search rules
-
--- no slot of a facility has more persons than a facility has places
-few_taken : (club : Club) → IsSound club → (slot : Slot) → Contains (map (λ (f : Facility). f.name) club.facilities) slot.facility
-    → taken_in slot club.bookings ≤ places_limit
-few_taken club sound slot has =
-    let at = contains_mapped (λ (f : Facility). f.name) club.facilities slot.facility has in
-    let low = All-contains (λ (f : Facility). (s : Slot) → s.facility ≡ f.name → taken_in s club.bookings ≤ f.places) club.facilities at.0 sound.places at.1
-    slot (sym at.2) in
-    omega (arith, low, (All-contains IsFacility club.facilities at.0 sound.rows.facilities at.1).few_places)
-
 module _ {S : Type 0} (g : Ghosts S) (old : Held S) (club : Club) (tables : HoldsClub (state g old).now club) where
-  keys_once : AreKeysOnce tables.rows.keys
+  pub keys_once : AreKeysOnce tables.rows.keys
   keys_once = subst AreKeysOnce (sym tables.storage.keys) tables.sound.unique.keys
 
-  bookings_once : AreBookingsOnce tables.rows.bookings
+  pub bookings_once : AreBookingsOnce tables.rows.bookings
   bookings_once = subst AreBookingsOnce (sym tables.storage.bookings) tables.sound.unique.bookings
 
-  members_once : AreNamedOnce tables.rows.members
+  pub members_once : AreNamedOnce tables.rows.members
   members_once = subst AreNamedOnce (sym tables.storage.members)
       (pairs_mapped (λ (a : MemberRow) (b : MemberRow). name_of a ≢ name_of b) (member_row club) (λ row. row.member) club.members tables.sound.unique.members)
 
   -- ---- a change that was made
 
-  abbrev start : State
+  abbrev pub start : State
   start = state g (transaction_start old)
+
+  -- the club's member whose row is stored
+  pub member_of : (name : List ℕ) (row : MemberRow) → StoresMember name tables.rows.members row
+      → (m : Member) × (member_named name club ≡ Some m) × (row ≡ member_row club m)
+  member_of name row stores =
+      let is_of : MemberRow → Bool = λ r. bytes_eq (name_of r) name in
+      by (member_named name club) refl (sym (find_mapped is_of (member_row club) club.members)
+      ∙ subst (λ ms. find is_of ms ≡ Some row) tables.storage.members stores)
+    where
+      by : (o : Option Member) → member_named name club ≡ o → option_map (member_row club) o ≡ Some row
+          → (m : Member) × (member_named name club ≡ Some m) × (row ≡ member_row club m)
+      by None is e = absurd cc
+      by (Some m) is e = let same : row ≡ member_row club m = cc in (m, is, same)
 
   owned_by : (at now : Held S) (rows : Rows) → HoldsRows (state g at).now rows → rows.keys ≡ club.keys → AreNamedOnce rows.members
       → (member key : List ℕ) (points : ℤ) (count : ℕ)
@@ -105,36 +105,75 @@ module _ {S : Type 0} (g : Ghosts S) (old : Held S) (club : Club) (tables : Hold
       some in
       (one.0, subst (λ keys. StoresKey key keys one.0) same one.1, one.2)
 
-  not_older : (older : Option OlderRoot) → ¬ IsSome older → older ≡ None
-  not_older older none = grind arith
+  -- the rows once a booking is written, and once its persons are added to its slot
+  abbrev pub booked_rows : Booking → Rows
+  booked_rows booking = record tables.rows { bookings = tables.rows.bookings ++ booking ∷ [] }
 
-  pub is_true : (db : Database) (change : Change) → ¬ HasOlderRoot change → Ran g 1 (statements_of change) old db → IsTrueOf change club
-  is_true db (InsertMember member) new ran = tt
-  is_true db (InsertFacility facility) new ran = tt
-  is_true db (InsertKey key) new ran = not_older key.older new
-  is_true db (AddCredit name points) new ran =
+  abbrev pub adds : Booking → ℕ → ℕ
+  adds booking n = n + persons_taken booking
+
+  abbrev pub filled_rows : Booking → Rows
+  filled_rows booking = record (booked_rows booking) { slots = put_slot booking.slot (take_use (adds booking)) tables.rows.slots }
+
+  -- the persons of a slot of a known facility are added
+  filled : (booking : Booking) → IsBooking booking → Contains (map (λ (f : Facility). f.name) club.facilities) booking.slot.facility
+      → Steps (ADD_TAKEN.now, name_values booking.slot ++ Int (pos (persons_taken booking)) ∷ []) (booked_rows booking) (filled_rows booking)
+  filled booking row known =
+      let few = few_taken club tables.sound booking.slot known in
+      let persons = few_persons booking row in
+      let held = tables.storage.slots booking.slot in
+      slot_taken (booked_rows booking) tables.storage.once booking.slot (pos (persons_taken booking)) (adds booking)
+      (λ none. let e : persons_taken booking ≡ 0 + persons_taken booking = omega arith in ap pos e)
+      (subst (λ (u : SlotUse). binary (Arith Add) (whole u.taken) (Int (pos (persons_taken booking))) ≡ whole (u.taken + persons_taken booking)) (sym held)
+      (total (taken_in booking.slot club.bookings) (persons_taken booking) (omega (arith, few, persons))))
+
+  -- a booking that was written
+  pub record BookedBy (booking : Booking) (member : List ℕ) (at : Held S) : Type 0 where
+    pub free : AllByRecursion (λ (b : Booking). (bytes_eq booking.key b.key && booking.number == b.number) ≡ false) tables.rows.bookings
+    pub known : Contains (map (λ (f : Facility). f.name) club.facilities) booking.slot.facility
+    pub charged : Charged (filled_rows booking) members_once member (pos (cost_of booking)) booking.key booking.slot
+
+  pub booked_by : (db : Database) (booking : Booking) (member : List ℕ) → IsBooking booking → (ran : Ran g 1 (adding_booking booking member) old db)
+      → BookedBy booking member ran.last
+  booked_by db booking member row ran =
+      let t1 = ran.turns in
+      let t2 = t1.3 in
+      let t3 = t2.3 in
+      let first = booking_put tables.rows booking start (state g t1.0) t1.1 tables.holds_rows t1.2 in
+      let known = subst (λ (fs : List Facility). Contains (map (λ (f : Facility). f.name) fs) booking.slot.facility) tables.storage.facilities
+      (all_last (λ (b : Booking). Contains (map (λ (f : Facility). f.name) tables.rows.facilities) b.slot.facility) tables.rows.bookings booking
+      (booking_facilities first.0)) in
+      let second = filled booking row known (state g t1.0) (state g t2.0) t2.1 first.0 t2.2 in
+      record {
+        free = bookings_apart first.0 tables.rows.bookings booking refl;
+        known = known;
+        charged = charge_found (filled_rows booking) members_once member (pos (cost_of booking)) booking.key booking.slot keys_once
+            (state g t2.0) (state g t3.0) t3.1 second.0 t3.2 t3.4;
+      }
+
+  pub is_true : (db : Database) (change : Change) → InLimits change → Ran g 1 (statements_of change) old db → IsTrueOf change club
+  is_true db (InsertMember member) within ran = tt
+  is_true db (InsertFacility facility) within ran = tt
+  is_true db (InsertKey key) within ran = within.1
+  is_true db (AddCredit name points) within ran =
       let t = ran.turns in
-      let row = one_found (credit_finds tables.rows members_once name points start (state g t.0) t.1 tables.holds_rows t.2) t.4 in
-      let is_of : MemberRow → Bool = λ row. bytes_eq (name_of row) name in
-      mapped_some (member_row club) (member_named name club) row.0 (sym (find_mapped is_of (member_row club) club.members)
-      ∙ subst (λ ms. find is_of ms ≡ Some row.0) tables.storage.members row.1)
-  is_true db (MarkRevoked name) new ran =
+      let row = credit_found tables.rows members_once name points start (state g t.0) t.1 tables.holds_rows t.2 t.4 in
+      let m = member_of name row.0 row.1 in (m.0, m.1)
+  is_true db (MarkRevoked name) within ran =
       let t = ran.turns in
       let one = one_found (revoke_finds tables.rows keys_once name start (state g t.0) t.1 tables.holds_rows t.2) t.4 in
       (one.0, subst (λ keys. StoresKey name keys one.0) tables.storage.keys one.1)
-  is_true db (ReplaceRoot name was root until) new ran =
+  is_true db (ReplaceRoot name was root until) within ran =
       let t1 = ran.turns in
       let t2 = t1.3 in
       let put = older_represents tables.rows tables.storage.olders_once name (good_until until was) start (state g t1.0) t1.1 tables.holds_rows t1.2 in
       let one = root_found _ keys_once name root was (state g t1.0) (state g t2.0) t2.1 put.0 t2.2 t2.4 in
       (one.0, subst (λ keys. StoresKey name keys one.0) tables.storage.keys one.1, one.2)
-  is_true db (MarkClosed slot) new ran = tt
-  is_true db (InsertBooking booking member) new ran =
-      let t1 = ran.turns in
-      let t2 = t1.3 in
-      let first = booking_put tables.rows booking start (state g t1.0) t1.1 tables.holds_rows t1.2 in
-      owned_by t1.0 t2.0 _ first.0 tables.storage.keys members_once member booking.key (pos (cost_of booking)) t2.1 t2.2 t2.4
-  is_true db (MarkCancelled booking member refund) new ran =
+  is_true db (MarkClosed slot) within ran = tt
+  is_true db (InsertBooking booking member) within ran =
+      let it = (booked_by db booking member within ran).charged in
+      (it.owner, subst (λ keys. StoresKey booking.key keys it.owner) tables.storage.keys it.known, it.own)
+  is_true db (MarkCancelled booking member refund) within ran =
       let t1 = ran.turns in
       let t2 = t1.3 in
       let on_record = cancel_found tables.rows bookings_once booking refund start (state g t1.0) t1.1 tables.holds_rows t1.2 t1.4 in
@@ -142,6 +181,18 @@ module _ {S : Type 0} (g : Ghosts S) (old : Held S) (club : Club) (tables : Hold
         (subst (λ bookings. booking_under booking.key booking.number bookings ≡ Some booking) tables.storage.bookings on_record.0, on_record.1),
         owned_by t1.0 t2.0 _ first.0 tables.storage.keys members_once member booking.key (neg_ℤ (pos refund)) t2.1 t2.2 t2.4,
       )
+
+  -- the persons in a slot once a booking's are added
+  pub filled_use : (booking : Booking) (row : SlotRow) → row_of booking.slot (filled_rows booking).slots ≡ Some row
+      → row.held.taken ≡ taken_in booking.slot (club.bookings ++ booking ∷ [])
+  filled_use booking row is =
+      ap (λ o. (unwrap_or (option_map (λ (r : SlotRow). r.held) o) no_slot_use).taken) (sym is)
+      ∙ ap (λ (u : SlotUse). u.taken) (use_put booking.slot (take_use (adds booking)) booking.slot tables.rows.slots
+      ∙ ap (λ b. let v : SlotUse = if b then take_use (adds booking) (stored_slot_use booking.slot tables.rows.slots)
+      else stored_slot_use booking.slot tables.rows.slots in v) (same_itself booking.slot))
+      ∙ ap (λ (u : SlotUse). u.taken + persons_taken booking) (tables.storage.slots booking.slot)
+      ∙ sym (taken_more club booking booking.slot ∙ ap (λ b. if b then taken_in booking.slot club.bookings + persons_taken booking
+      else taken_in booking.slot club.bookings) (same_itself booking.slot))
 
   -- ---- the statements of a change that fits
 
@@ -180,16 +231,17 @@ module _ {S : Type 0} (g : Ghosts S) (old : Held S) (club : Club) (tables : Hold
       )
 
   -- a statement on the bookings, and what is added to the totals of a member and of a slot
-  totals : (text : List ℕ) (values : Row) (change : List Booking → List Booking) (member key : List ℕ) (points : ℤ) (used : ℕ → ℕ) (slot : Slot) (persons : ℤ)
-      (taken : ℕ → ℕ) → Steps (text, values) tables.rows (record tables.rows { bookings = change tables.rows.bookings }) → IsOwnedBy member key club
+  totals : (values : Row) (change : List Booking → List Booking) (member key : List ℕ) (points : ℤ) (used : ℕ → ℕ) (slot : Slot) (persons : ℤ)
+      (taken : ℕ → ℕ) → Steps (CANCEL_BOOKING.now, values) tables.rows (record tables.rows { bookings = change tables.rows.bookings })
+      → IsOwnedBy member key club
       → (used_by club member ≤ credited_limit → binary (Arith Add) (whole (used_by club member)) (Int points) ≡ whole (used (used_by club member)))
       → (taken_in slot club.bookings ≡ 0 → persons ≡ pos (taken 0))
       → binary (Arith Add) (whole (taken_in slot club.bookings)) (Int persons) ≡ whole (taken (taken_in slot club.bookings))
       → ((m : Member) → used_row member used (member_row club m) ≡ member_row (record club { bookings = change club.bookings }) m)
       → ((s : Slot) → taken_in s (change club.bookings) ≡ (if same_slot slot s then taken (taken_in s club.bookings) else taken_in s club.bookings))
-      → LeaveRows (with_totals text values (used_values member points key) (name_values slot ++ Int persons ∷ []))
+      → LeaveRows (cancelling_with values (used_values member points key) (name_values slot ++ Int persons ∷ []))
       (record club { bookings = change club.bookings })
-  totals text values change member key points used slot persons taken first owns uses fresh takes costs people =
+  totals values change member key points used slot persons taken first owns uses fresh takes costs people =
       let booked : Rows = record tables.rows { bookings = change tables.rows.bookings } in
       let charged : Rows = record booked { members = map (used_row member used) tables.rows.members } in
       let m = owner_of member key owns in
@@ -213,16 +265,61 @@ module _ {S : Type 0} (g : Ghosts S) (old : Held S) (club : Club) (tables : Hold
       → LeaveRows (adding_booking booking member) (after (InsertBooking booking member) club)
   booking_through booking member fits =
       let limits = all_last IsBooking club.bookings booking (recursion_from_All IsBooking (club.bookings ++ booking ∷ []) fits.sound.rows.bookings) in
-      let booked = all_last (λ (b : Booking). Contains (map (λ (f : Facility). f.name) club.facilities) b.slot.facility) club.bookings booking
+      let known = all_last (λ (b : Booking). Contains (map (λ (f : Facility). f.name) club.facilities) b.slot.facility) club.bookings booking
       (recursion_from_All _ (club.bookings ++ booking ∷ []) fits.sound.references.facilities) in
-      let few = few_taken (after (InsertBooking booking member) club) fits.sound booking.slot booked in
-      let more = rw (same_itself booking.slot) at (taken_more club booking booking.slot) in
-      totals _ _ (λ bs. bs ++ booking ∷ []) member booking.key (pos (cost_of booking)) (λ n. n + cost_of booking) booking.slot (pos (persons_taken booking))
-      (λ n. n + persons_taken booking) (booking_put tables.rows booking) fits.carries
-      (λ low. total (used_by club member) (cost_of booking) (omega (arith, low, limits.charge)))
-      (λ none. let e : persons_taken booking ≡ 0 + persons_taken booking = omega arith in ap pos e)
-      (total (taken_in booking.slot club.bookings) (persons_taken booking) (omega (arith, few, more)))
-      (used_more club tables.sound member booking fits.carries) (taken_more club booking)
+      let used : ℕ → ℕ = λ n. n + cost_of booking in
+      let m = owner_of member booking.key fits.carries in
+      let sum = total (used_by club m.0.name) (cost_of booking) (omega (arith, m.3, limits.charge)) in
+      let mine = (bytes_eq-Decides m.0.name member).1 m.2 in
+      let costs : used_by (after (InsertBooking booking member) club) m.0.name ≡ used_by club m.0.name + cost_of booking =
+      ap (λ (r : MemberRow). r.used) (sym (used_more club tables.sound member booking fits.carries m.0))
+      ∙ ap (λ b. if b then used_by club m.0.name + cost_of booking
+      else used_by club m.0.name) mine in
+      let m_there = found (λ (n : Member). bytes_eq n.name member) club.members m.0 m.1 in
+      let enough = All-contains (λ (n : Member). used_by (after (InsertBooking booking member) club) n.name ≤ n.credited) club.members m.0 fits.sound.balances
+      m_there.0 in
+      let can_pay : nat_le (used_by club m.0.name + cost_of booking) m.0.credited ≡ true = grind (arith, nat_tests) in
+      let at = put_there booking.slot (take_use (adds booking)) tables.rows.slots in
+      let at_is = has_found (λ (row : SlotRow). same_slot row.slot booking.slot) (put_slot booking.slot (take_use (adds booking)) tables.rows.slots) at.0
+      at.1 in
+      let same = same_slots at.0.slot booking.slot at_is.1 in
+      let place = contains_mapped (λ (f : Facility). f.name) club.facilities booking.slot.facility known in
+      let low = All-contains (λ (f : Facility). (slot : Slot) → slot.facility ≡ f.name → taken_in slot (club.bookings ++ booking ∷ []) ≤ f.places)
+      club.facilities place.0 fits.sound.places place.1 booking.slot (sym place.2) in
+      let taken_now = filled_use booking at.0 at.1 in
+      let roomy : nat_le at.0.held.taken place.0.places ≡ true = grind (arith, nat_tests) in
+      let it : Charged (filled_rows booking) members_once member (pos (cost_of booking)) booking.key booking.slot = record {
+        row = member_row club m.0;
+        stores = stored_member member m.0 m.1;
+        pays_it = rw (sum, whole_to (used_by club m.0.name + cost_of booking) m.0.credited) can_pay;
+        owner = fits.carries.0;
+        known = stored_key booking.key fits.carries.0 fits.carries.1;
+        own = fits.carries.2;
+        at = at.0;
+        among = at_is.0;
+        facility = place.0;
+        located = subst (λ fs. Has fs place.0) (sym tables.storage.facilities) (has_contained club.facilities place.0 place.1);
+        room = rw (
+          (bytes_eq-Decides place.0.name booking.slot.facility).1 place.2,
+          same,
+          (bytes_eq-Decides booking.slot.facility booking.slot.facility).1 refl,
+          (unsigned_Decides booking.slot.day booking.slot.day).1 refl,
+          (unsigned_Decides booking.slot.hour booking.slot.hour).1 refl,
+          roomy,
+        ) refl;
+      } in
+      let first = booking_put tables.rows booking in
+      let second = filled booking limits known in
+      let third = member_charged (filled_rows booking) members_once member (pos (cost_of booking)) booking.key booking.slot it used sum in (
+        _,
+        (
+          booked_rows booking,
+          λ a b. first (state g a) (state g b),
+          (filled_rows booking, λ a b. second (state g a) (state g b), (_, λ a b. third (state g a) (state g b), refl)),
+        ),
+        bookings_stored club tables.rows tables.storage (λ bs. bs ++ booking ∷ []) member used booking.slot (adds booking)
+            (used_more club tables.sound member booking fits.carries) (taken_more club booking),
+      )
 
   cancel_through : (booking : Booking) (member : List ℕ) (refund : ℕ) (fits : FitsClub (MarkCancelled booking member refund) club)
       → LeaveRows (cancelling booking member refund) (after (MarkCancelled booking member refund) club)
@@ -236,13 +333,24 @@ module _ {S : Type 0} (g : Ghosts S) (old : Held S) (club : Club) (tables : Hold
       let booked = All-contains (λ (b : Booking). Contains (map (λ (f : Facility). f.name) club.facilities) b.slot.facility) club.bookings booking
       tables.sound.references.facilities (there club tables.sound booking cancels refund fits.sound).0 in
       let few = few_taken club tables.sound booking.slot booked in
-      totals _ _ (map (cancelled_booking booking.key booking.number refund)) member booking.key (neg_ℤ (pos refund)) (λ n. n - refund) booking.slot
+      totals _ (map (cancelled_booking booking.key booking.number refund)) member booking.key (neg_ℤ (pos refund)) (λ n. n - refund) booking.slot
       (neg_ℤ (pos persons)) (λ n. n - persons)
       (booking_cancelled tables.rows bookings_once booking refund
       (subst (λ bookings. booking_under booking.key booking.number bookings ≡ Some booking) (sym tables.storage.bookings) cancels.0) cancels.1)
       fits.carries.1 (λ low. minus (used_by club member) refund (omega (arith, back)) (omega (arith, low)))
       (λ none. absurd (omega (arith, none, there_are))) (minus (taken_in booking.slot club.bookings) persons there_are (omega (arith, few)))
       (used_less club tables.sound booking cancels refund fits.sound member fits.carries.1) (taken_less club tables.sound booking cancels refund fits.sound)
+
+  -- a slot that may be closed is open
+  still_open : (slot : Slot) → FitsClub (MarkClosed slot) club → is_closed slot club ≡ false
+  still_open slot fits =
+      let apart = apart_last (λ (a : Slot) (b : Slot). a ≢ b) club.closed slot
+      (apart_from_pairs (λ (a : Slot) (b : Slot). a ≢ b) (club.closed ++ slot ∷ []) fits.sound.unique.closed) in
+      go club.closed apart
+    where
+      go : (slots : List Slot) → AllByRecursion (λ (other : Slot). other ≢ slot) slots → list_any (λ other. same_slot other slot) slots ≡ false
+      go [] apart = refl
+      go (other ∷ slots) apart = rw (not_same other slot apart.0) (go slots apart.1)
 
   pub plan : (change : Change) → FitsClub change club → LeaveRows (statements_of change) (after change club)
   plan (InsertMember member) fits = one_step _ (member_put tables.rows member) (member_stored club tables.rows tables.storage tables.sound member fits.sound)
@@ -256,7 +364,8 @@ module _ {S : Type 0} (g : Ghosts S) (old : Held S) (club : Club) (tables : Hold
       let low : m.credited + points ≤ credited_limit = subst (λ b. cond b (m.credited + points) m.credited ≤ credited_limit)
       (found (λ (m : Member). bytes_eq m.name name) club.members m fits.carries.1).1 next.credited in
       one_step _ (member_credited tables.rows members_once name points (member_row club m) (stored_member name m fits.carries.1)
-      (total m.credited points (omega (arith, low)))) (credit_stored club tables.rows tables.storage name points)
+      (total m.credited points (omega (arith, low))) (let small : nat_le (m.credited + points) 999_999_999 ≡ true = grind (arith, nat_tests) in small))
+      (credit_stored club tables.rows tables.storage name points)
   plan (MarkRevoked name) fits =
       one_step _ (key_revoked tables.rows keys_once name fits.carries.0 (stored_key name fits.carries.0 fits.carries.1))
       (revoke_stored club tables.rows tables.storage name)
@@ -268,7 +377,9 @@ module _ {S : Type 0} (g : Ghosts S) (old : Held S) (club : Club) (tables : Hold
         (put, λ a b. first (state g a) (state g b), (_, λ a b. second (state g a) (state g b), refl)),
         rotate_stored club tables.rows tables.storage name root was until fits.carries,
       )
-  plan (MarkClosed slot) fits = one_step _ (slot_closed tables.rows tables.storage.once slot) (close_stored club tables.rows tables.storage slot)
+  plan (MarkClosed slot) fits =
+      one_step _ (slot_closed tables.rows tables.storage.once slot (ap (λ (u : SlotUse). u.closed) (tables.storage.slots slot) ∙ still_open slot fits))
+      (close_stored club tables.rows tables.storage slot)
   plan (InsertBooking booking member) fits = booking_through booking member fits
   plan (MarkCancelled booking member refund) fits = cancel_through booking member refund fits
 

@@ -1,14 +1,25 @@
 -- Which club is represented after statements that write, whether they succeed or fail.
-use Rattle.club_tables.proofs.Common.{◌≡◌, ◌<◌, length, List, [], ◌∷◌, IsTrue, Result, Ok, Err, OnOk, OnErr, inl, inr, refl, sym, subst, arith, IsErr}
-use Rattle.club_tables.proofs.Common.{MatchResult, IfErr-weaker, on_err_weaker, Trees, Ghosts, Database, HasCleanDisk, Survives, Held, state, after, IsTrueOf}
-use Rattle.club_tables.proofs.Common.{Club, StoreFault, HoldsClub, IsLeftOf, Represents, ChangesClub, IsChangeFault, IsRunFault, HasOlderRoot, BoundStatement}
+use Rattle.club_tables.proofs.Common.{◌≡◌, ◌<◌, length, List, [], ◌∷◌, IsTrue, Result, Ok, Err, OnOk, OnErr, inl, inr, refl, sym, subst, arith}
+use Rattle.club_tables.proofs.Common.{MatchResult, IfErr-weaker, on_err_weaker, Trees, Ghosts, Database, HasCleanDisk, Survives, Held, state, after}
+use Rattle.club_tables.proofs.Common.{IsSound, FitsClub}
+use Rattle.club_tables.proofs.Common.{Club, StoreFault, HoldsClub, IsLeftOf, Represents, ChangesClub, IsChangeFault, IsRunFault, InLimits, BoundStatement}
 use Rattle.club_tables.proofs.Common.{Ran, IsKept, transaction_start, Commits, FailsToRun, AreStatementsOf, statements_of}
+use Rattle.club_tables.proofs.Common.{ℕ, ◌≤◌, ◌++◌, true, if◌then◌else◌, recursion_from_All, Member, Facility, Key, Booking, IsMember, IsFacility, IsBooking}
+use Rattle.club_tables.proofs.Common.{InsertMember, InsertFacility, InsertKey, InsertBooking, MarkCancelled, cancelled_booking, is_marked}
+use Rattle.club_rows.specs.Rows.{IsKey}
+use Rattle.club_tables.proofs.changes.CancelLemmas.{mapped_holds}
+use Rattle.club_tables.proofs.lists.OwnerLemmas.{all_last}
+use Rattle.club_tables.proofs.queries.KeyLemmas.{is_numbered}
+use Rattle.club_tables.proofs.statements.PassLemmas.{found}
 use Rattle.club_tables.proofs.crashes.RepresentsLemmas.{represents_by}
 use Rattle.club_core.specs.declared.change.Change.{Change}
 use Rattle.club_tables.proofs.opening.OpenLemmas.{IsSettled, settles}
 use Rattle.club_tables.proofs.queries.ReadLemmas.{at_once}
-use Rattle.club_tables.proofs.crashes.SurviveLemmas.{may_commit}
-use Rattle.club_tables.proofs.changes.PlanLemmas.{is_true, plan, made, less_in_turn}
+use Rattle.club_tables.proofs.crashes.SurviveLemmas.{may_commit, kept_when_idle, commits_nothing, survives_itself}
+use Rattle.club_tables.proofs.changes.PlanLemmas.{plan, made, less_in_turn}
+use Rattle.club_tables.proofs.changes.FitLemmas.{fits_if_ran}
+use Rattle.club_laws.specs.SoundRuns.{SuitingChangesKeepSound}
+use Rattle.club_core.specs.declared.store.StoreFault.TheVariants.{Storage}
 
 module _ {S : Type 0} (g : Ghosts S) (all : List BoundStatement) (some : 0 < length all) (old new : Held S)
     (survives : Survives (state g old) (state g new) (λ trees. (db : Database) × Ran g 1 all old db × (trees ≡ db.trees)))
@@ -30,44 +41,44 @@ module _ {S : Type 0} (g : Ghosts S) (all : List BoundStatement) (some : 0 < len
         | inr new ↦ leaves trees new.0 new.1 new.2
       ])
 
-  -- what a change leaves that isn't true of the club: nothing
-  pub refused : {E : Type 0} (r : Result (Unit {0}) E) (IsTrueOfIt : Type 0) → ((db : Database) → HoldsClub (state g old).now club → Ran g 1 all old db
-      → IsTrueOfIt) → OnOk r (IsTrue (state g new).is_open × Ran g 1 all old (state g new).committed × ((state g new).now ≡ (state g new).committed))
-      → OnErr r (IsKept (state g old) (state g new)) → ¬ IsTrueOfIt → IsErr r × Represents (state g new) club others
-  refused (Ok done) IsTrueOfIt truth ok err untrue = absurd (untrue (truth _ (held _ ok.1) ok.1))
-  refused (Err e) IsTrueOfIt truth ok err untrue =
-      (refl, kept_as others (λ trees db ran is. absurd (untrue (truth db (held db ran) ran))) (λ trees left. left) err)
-
-  module _ (next : Club) (IsTrueOfIt : Type 0) (makes : (db : Database) → HoldsClub (state g old).now club → Ran g 1 all old db
-      → IsTrueOfIt × HoldsClub db next) where
+  module _ (next : Club) (Fits : Type 0) (sound_if : IsSound next → (db : Database) → HoldsClub (state g old).now club → Ran g 1 all old db
+      → HoldsClub db next) (fits : (db : Database) → HoldsClub (state g old).now club → Ran g 1 all old db → Fits × HoldsClub db next) where
+    -- a change that was made fits, and of one that fails nothing is left but what fits
     pub wrote : {E : Type 0} (r : Result (Unit {0}) E) → OnOk r (IsTrue (state g new).is_open × Ran g 1 all old (state g new).committed
         × ((state g new).now ≡ (state g new).committed)) → OnErr r (IsKept (state g old) (state g new))
         → IsSettled (state g new)
-        → MatchResult r (λ _. IsTrueOfIt × Represents (state g new) next []) (λ _. Represents (state g new) club (next ∷ others))
+        → MatchResult r (λ _. Fits × Represents (state g new) next [])
+        (λ _. (IsSound next → Represents (state g new) club (next ∷ others)) × (¬ Fits → Represents (state g new) club others))
     wrote (Ok done) ok err settled =
-        let it = makes (state g new).committed (held _ ok.1) ok.1 in
+        let it = fits (state g new).committed (held _ ok.1) ok.1 in
         (it.0, settles (state g new) next [] (λ _ _. it.1) (λ _. ok.0) ok.2 settled)
-    wrote (Err e) ok err settled = kept_as (next ∷ others) (λ trees db ran is.
-        inr (inl (db, sym is, inl (inl (makes db (held db ran) ran).1)))) (λ trees left. elim left [ inl here ↦ inl here | inr there ↦ inr (inr there) ]) err
+    wrote (Err e) ok err settled = (
+      λ sound. kept_as (next ∷ others) (λ trees db ran is.
+          inr (inl (db, sym is, inl (inl (sound_if sound db (held db ran) ran)))))
+          (λ trees left. elim left [ inl here ↦ inl here | inr there ↦ inr (inr there) ])
+          err,
+      λ unfit. kept_as others (λ trees db ran is. absurd (unfit (fits db (held db ran) ran).0)) (λ trees left. left) err,
+    )
 
 some_statements : (change : Change) → 0 < length (statements_of change)
 some_statements change = grind arith
 
 -- statements that were committed make their change
-pub changes : {S : Type 0} {g : Ghosts S} (change : Change) → ¬ HasOlderRoot change → {old new : Held S} {result : Result (Unit {0}) StoreFault}
+pub changes : {S : Type 0} {g : Ghosts S} → SuitingChangesKeepSound → (change : Change) → InLimits change → {old new : Held S}
+    {result : Result (Unit {0}) StoreFault}
     → Commits g 1 (statements_of change) old new result → IsSettled (state g new) → ChangesClub g change old new result
-changes {g = g} change new_key {old = old} {new = new} {result = r} commits settled =
+changes {g = g} law change within {old = old} {new = new} {result = r} commits settled =
     let all = statements_of change in
     let earlier = λ (clean : HasCleanDisk (state g new)). let e : HasCleanDisk (state g old) = omega (arith, commits.survives.clean) in e in
     record {
       was_clean = earlier;
-      effect = λ clean club others represents sound. wrote g all (some_statements change) old new commits.survives clean club others represents
-          (after change club)
-          (IsTrueOf change club) (λ db tables ran. let carries = is_true g old club tables db change new_key ran in
-          (carries, made g old club tables db change (record { carries = carries; sound = sound }) ran)) r (commits.ran clean) commits.kept settled;
-      untrue = λ clean club others represents no. refused g all (some_statements change) old new commits.survives clean club others represents r
-          (IsTrueOf change club)
-          (λ db tables ran. is_true g old club tables db change new_key ran) (commits.ran clean) commits.kept no;
+      effect = λ clean club others represents.
+          let made_of = λ (db : Database) (tables : HoldsClub (state g old).now club) (ran : Ran g 1 all old db).
+          let fits = fits_if_ran g old club tables law db change within ran in
+          let both : FitsClub change club × HoldsClub db (after change club) = (fits, made g old club tables db change fits ran) in
+          both in
+          wrote g all (some_statements change) old new commits.survives clean club others represents (after change club) (FitsClub change club)
+          (λ sound db tables ran. (made_of db tables ran).1) made_of r (commits.ran clean) commits.kept settled;
       no_change = on_err_weaker r (λ kept rest. kept) commits.kept;
       survives = may_commit g 1 all (AreStatementsOf change) refl old new commits.survives;
       fault = λ clean. IfErr-weaker r (FailsToRun g 1 all old new) (IsChangeFault g change old new) (λ fault failed.
@@ -87,3 +98,43 @@ changes {g = g} change new_key {old = old} {new = new} {result = r} commits sett
             };
           }) (commits.fault clean);
     }
+
+-- a change whose values are out of their limits is refused before any statement
+pub refuses : {S : Type 0} {g : Ghosts S} (change : Change) → ¬ InLimits change → ((club : Club) → FitsClub change club → InLimits change) → (held : Held S)
+    → ChangesClub g change held held (Err Storage)
+refuses {g = g} change out within_if_fits held = record {
+  was_clean = λ clean. clean;
+  effect = λ clean club others represents. (
+    λ sound. represents_by HoldsClub (state g held) (state g held) (λ _ is_open. (is_open, represents.idle clean is_open, refl)) (λ c. c) club others
+        (after change club ∷ others) represents
+        (λ c trees may. elim (represents.left c trees may) [ inl here ↦ inl here | inr there ↦ inr (inr there) ]),
+    λ unfit. represents,
+  );
+  no_change = kept_when_idle (state g held);
+  survives = commits_nothing g 1 (AreStatementsOf change) held held (survives_itself (state g held));
+  fault = λ clean. inr (out, refl);
+  fault_if_fits = λ clean club others represents fits. absurd (out (within_if_fits club fits));
+}
+
+-- values that fit a club are within their limits
+pub member_if_fits : (member : Member) (club : Club) → FitsClub (InsertMember member) club → IsMember member
+member_if_fits member club fits = all_last IsMember club.members member (recursion_from_All IsMember (club.members ++ member ∷ []) fits.sound.rows.members)
+
+pub facility_if_fits : (facility : Facility) (club : Club) → FitsClub (InsertFacility facility) club → IsFacility facility
+facility_if_fits facility club fits =
+    all_last IsFacility club.facilities facility (recursion_from_All IsFacility (club.facilities ++ facility ∷ []) fits.sound.rows.facilities)
+
+pub new_key_if_fits : (key : Key) (club : Club) → FitsClub (InsertKey key) club → InLimits (InsertKey key)
+new_key_if_fits key club fits = (all_last IsKey club.keys key (recursion_from_All IsKey (club.keys ++ key ∷ []) fits.sound.rows.keys), fits.carries)
+
+pub booking_if_fits : (booking : Booking) (member : List ℕ) (club : Club) → FitsClub (InsertBooking booking member) club → IsBooking booking
+booking_if_fits booking member club fits =
+    all_last IsBooking club.bookings booking (recursion_from_All IsBooking (club.bookings ++ booking ∷ []) fits.sound.rows.bookings)
+
+pub refund_if_fits : (booking : Booking) (member : List ℕ) (refund : ℕ) (club : Club) → FitsClub (MarkCancelled booking member refund) club
+    → refund ≤ booking.charge
+refund_if_fits booking member refund club fits =
+    let there = found (is_numbered booking.key booking.number) club.bookings booking fits.carries.0.0 in
+    let row = mapped_holds IsBooking (cancelled_booking booking.key booking.number refund) club.bookings booking fits.sound.rows.bookings there.0 in
+    let marked : is_marked booking.key booking.number booking ≡ true = rw (there.1, fits.carries.0.1) refl in
+    subst (λ b. (if b then refund else booking.refund) ≤ booking.charge) marked row.refund

@@ -1,5 +1,6 @@
 -- What a crash may leave of statements in a transaction, and what a call in it leaves unchanged.
-use Rattle.club_tables.proofs.Common.{◌≡◌, ℕ, List, refl, arith, Err, IsTrue, true, rules, Ghosts, Trees, Database, State, HasCleanDisk, Survives, IsRolledBack}
+use Rattle.club_tables.proofs.Common.{◌≡◌, ℕ, List, refl, arith, inl, Err, IsTrue, true, rules, Ghosts, Trees, Database, State, HasCleanDisk, Survives}
+use Rattle.club_tables.proofs.Common.{IsRolledBack}
 use Rattle.club_tables.proofs.Common.{Shown, FailsToQuery, IsNotRun, IsTooLate, ExecutesInside, Held, state, survives_then, Row, Error, StoreFault}
 use Rattle.club_tables.proofs.Common.{BoundStatement, Ran, IsUntouched, MayCommit, IsAfterReadings, IsOpeningFault}
 use Rattle.sqlite.specs.Steps.{FailsToCommit}
@@ -12,6 +13,17 @@ survives_as old new P Q s leaves = search rules
 
 pub kept_when_idle : (s : State) → IsUntouched s s
 kept_when_idle s rest clean is_open = (is_open, rest is_open, refl)
+
+-- nothing happened
+pub survives_itself : (s : State) → Survives s s (λ _. ⊥)
+survives_itself s = record {
+  clean = omega arith;
+  shield = λ h. h;
+  counts = omega arith;
+  limit = refl;
+  closes = λ _ is_open. inl is_open;
+  crash = λ _ db may. inl may;
+}
 
 pub untouched_then : (a b c : State) → (HasCleanDisk c → HasCleanDisk b) → IsUntouched a b → IsUntouched b c → IsUntouched a c
 untouched_then a b c earlier first next rest clean is_open = search rules

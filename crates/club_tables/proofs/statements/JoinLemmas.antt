@@ -3,6 +3,7 @@ use Rattle.club_tables.proofs.Common.{◌≡◌, ℕ, ℤ, Bool, true, false, co
 use Rattle.club_tables.proofs.Common.{filter, flat_map, IsPermutation, AllByRecursion, list_all, list_any, length-map, Int, Row, Term, Env, holds, eval_all}
 use Rattle.club_tables.proofs.Common.{inner, end, IsAnswer, output, counted, Select, Database, Reads, Answers, map-map, map-flat_map, flat_map-map}
 use Rattle.club_tables.proofs.Common.{flat_map_same_on, filter-filter, filter_agree, and-true, not, sym, ◌+◌, length-append, is_true, Holds, select}
+use Rattle.club_tables.proofs.Common.{AllZip, Has, has_filtered, has_kept, inl, inr}
 use Rattle.std.proofs.lemmas.List.Filters.{length-filter_both}
 use Rattle.club_tables.proofs.statements.SelectLemmas.{Apart, pick_by_if, plain_answer, picked, none_of, shown_of, row_of, paired as with_rowids}
 use Rattle.club_tables.proofs.statements.PassLemmas.{as_many, each_row}
@@ -145,3 +146,118 @@ module _ (params : Row) (inside_tests tests project : List Term) where
       → (others : List Row) (xs : List X) → Holds values others xs → (row : Row) → count_in others row ≡ length (filter p xs)
   counts_elements values p tested others xs held row =
       as_many (passes_inside row) p others xs (each_row values (passes_inside row) p (λ id x. tested id row x) others xs held.same)
+
+-- ---- EXISTS over another, and EXISTS over two joined
+
+has_some : {X : Type 0} (xs : List X) (x : X) → Has xs x → 1 ≤ length xs
+has_some [] x has = absurd has
+has_some (y ∷ xs) x has = omega arith
+
+lengths_alike : {X A B : Type 0} (f : X → List A) (g : X → List B) → ((x : X) → length (f x) ≡ length (g x)) → (xs : List X)
+    → length (flat_map f xs) ≡ length (flat_map g xs)
+lengths_alike f g same [] = refl
+lengths_alike f g same (x ∷ xs) =
+    let more = lengths_alike f g same xs in
+    let here = same x in
+    omega (arith, length-append (f x) (flat_map f xs), length-append (g x) (flat_map g xs))
+
+-- a pair that passes, if there is one
+pub pair_found : {X Y : Type 0} (p : X → Y → Bool) (xs : List X) (ys : List Y) → 1 ≤ length (flat_map (λ x. filter (p x) ys) xs)
+    → (x : X) × Has xs x × (y : Y) × Has ys y × (p x y ≡ true)
+pair_found p [] ys some = absurd (omega arith)
+pair_found {X} {Y} p (x ∷ xs) ys some = go (filter (p x) ys) refl (omega (arith, some, length-append (filter (p x) ys) (flat_map (λ z. filter (p z) ys) xs)))
+    (λ more. pair_found p xs ys more)
+  where
+    go : (here : List Y) → filter (p x) ys ≡ here → 1 ≤ length here + length (flat_map (λ z. filter (p z) ys) xs)
+        → (1 ≤ length (flat_map (λ z. filter (p z) ys) xs) → (z : X) × Has xs z × (y : Y) × Has ys y × (p z y ≡ true))
+        → (z : X) × Has (x ∷ xs) z × (y : Y) × Has ys y × (p z y ≡ true)
+    go [] is more later =
+        let it = later (omega (arith, more)) in
+        (it.0, inr it.1, it.2, it.3, it.4)
+    go (y ∷ here) is more later = let it = has_filtered (p x) ys y (rw is (inl refl)) in (x, inl refl, y, it.0, it.1)
+
+pub pair_counts : {X Y : Type 0} (p : X → Y → Bool) (xs : List X) (ys : List Y) (x : X) (y : Y) → Has xs x → Has ys y → p x y ≡ true
+    → 1 ≤ length (flat_map (λ z. filter (p z) ys) xs)
+pair_counts p [] ys x y has there passes = absurd has
+pair_counts p (z ∷ xs) ys x y (inl is) there passes =
+    let here = has_some (filter (p z) ys) y (has_kept (p z) ys y there (ap (λ w. p w y) (sym is) ∙ passes)) in
+    omega (arith, here, length-append (filter (p z) ys) (flat_map (λ w. filter (p w) ys) xs))
+pair_counts p (z ∷ xs) ys x y (inr has) there passes =
+    omega (arith, pair_counts p xs ys x y has there passes, length-append (filter (p z) ys) (flat_map (λ w. filter (p w) ys) xs))
+
+-- as many pairs of rows pass as pairs of elements
+pub as_many_pairs : {X Y : Type 0} (hit : Row → Row → Bool) (p : X → Y → Bool) (others : List Row) (ys : List Y) (rows : List Row) (xs : List X)
+    → AllZip (λ row x. length (filter (hit row) others) ≡ length (filter (p x) ys)) rows xs
+    → length (flat_map (λ row. filter (hit row) others) rows) ≡ length (flat_map (λ x. filter (p x) ys) xs)
+as_many_pairs hit p others ys [] [] same = refl
+as_many_pairs hit p others ys [] (x ∷ xs) same = absurd same
+as_many_pairs hit p others ys (r ∷ rows) [] same = absurd same
+as_many_pairs hit p others ys (r ∷ rows) (x ∷ xs) same =
+    let more = as_many_pairs hit p others ys rows xs same.1 in
+    let here = same.0 in
+    omega (
+      arith,
+      length-append (filter (hit r) others) (flat_map (λ row. filter (hit row) others) rows),
+      length-append (filter (p x) ys) (flat_map (λ z. filter (p z) ys) xs),
+    )
+
+module _ (params : Row) (inside_tests pair_tests tests project : List Term) where
+  abbrev counts : ℕ → Row
+  counts n = Int (pos (min 1 n)) ∷ []
+
+  -- a row of the outer table, with both counts
+  abbrev pub with_counts : ℕ → ℕ → Row → Env
+  with_counts n m row = params ∷ row ∷ counts n ∷ counts m ∷ []
+
+  abbrev pub joins_inside : ℕ → Row → Row → Row → Bool
+  joins_inside n row a b = list_all (holds (params ∷ row ∷ counts n ∷ a ∷ b ∷ [])) pair_tests
+
+  abbrev pub pairs_in : List Row → List Row → ℕ → Row → ℕ
+  pairs_in ones twos n row = length (flat_map (λ a. filter (joins_inside n row a) twos) ones)
+
+  abbrev count_of : List Row → Row → ℕ
+  count_of others row = length (filter (passes_inside params inside_tests tests project row) others)
+
+  abbrev pub passes_both : List Row → List Row → List Row → Row → Bool
+  passes_both others ones twos row = list_all (holds (with_counts (count_of others row) (pairs_in ones twos (count_of others row) row) row)) tests
+
+  abbrev pub shown_both : List Row → List Row → List Row → Row → Row
+  shown_both others ones twos row = eval_all project (with_counts (count_of others row) (pairs_in ones twos (count_of others row) row) row)
+
+  -- the answer has what is shown of each row that passes, in some order
+  pub answered_counted_both : (outer inside one two : ℕ) (db : Database) (rows : List Row)
+      → Answers db (record {
+        lets = [];
+        body = select (inner outer (counted 1 (inner inside end) inside_tests (counted 1 (inner one (inner two end))
+            pair_tests end))) tests project;
+      }) params rows
+      → IsPermutation (map (shown_both (db.trees inside) (db.trees one) (db.trees two))
+      (filter (passes_both (db.trees inside) (db.trees one) (db.trees two)) (db.trees outer))) rows
+  answered_counted_both outer inside one two db rows h =
+      let query = select (inner outer (counted 1 (inner inside end) inside_tests (counted 1 (inner one (inner two end)) pair_tests end))) tests project in
+      let others = db.trees inside in
+      let ones = db.trees one in
+      let twos = db.trees two in
+      let a : IsAnswer query db.trees params rows = plain_answer h in
+      let inner_env : Row → Row → Env = λ row other. params ∷ row ∷ other ∷ [] in
+      let pair_env : ℕ → Row → Row → Row → Env = λ n row x y. params ∷ row ∷ counts n ∷ x ∷ y ∷ [] in
+      let found : Row → ℕ = λ row.
+      length (flat_map (λ other. cond (passes_inside params inside_tests tests project row other) (inner_env row other ∷ []) []) others) in
+      let met : ℕ → Row → ℕ = λ n row.
+      length (flat_map (λ x. flat_map (λ y. cond (joins_inside n row x y) (pair_env n row x y ∷ []) []) twos) ones) in
+      let each : ℕ → ℕ → Row → List Env = λ n m row. cond (list_all (holds (with_counts n m row)) tests) (with_counts n m row ∷ []) [] in
+      let founds : (row : Row) → found row ≡ count_of others row = λ row.
+      ap length (pick_by_if (passes_inside params inside_tests tests project row) (inner_env row) others)
+      ∙ length-map (filter (passes_inside params inside_tests tests project row) others) (inner_env row) in
+      let mets : (n : ℕ) (row : Row) → met n row ≡ pairs_in ones twos n row = λ n row.
+      lengths_alike (λ x. flat_map (λ y. cond (joins_inside n row x y) (pair_env n row x y ∷ []) []) twos) (λ x. filter (joins_inside n row x) twos) (λ x.
+      ap length (pick_by_if (joins_inside n row x) (pair_env n row x) twos) ∙ length-map (filter (joins_inside n row x) twos) (pair_env n row x)) ones in
+      let last : Row → Env = λ row. with_counts (count_of others row) (pairs_in ones twos (count_of others row) row) row in
+      let staged : a.staged ≡ map last (filter (passes_both others ones twos) (db.trees outer)) =
+      a.grouped
+      ∙ flat_map_same_on (λ row. each (found row) (met (found row) row) row)
+      (λ row. each (count_of others row) (pairs_in ones twos (count_of others row) row) row)
+      (λ row. ap (λ n. each n (met n row) row) (founds row) ∙ ap (λ m. each (count_of others row) m row) (mets (count_of others row) row)) (db.trees outer)
+      ∙ pick_by_if (passes_both others ones twos) last (db.trees outer) in
+      subst (λ ys. IsPermutation ys rows) (map-map (λ env. (output query env).1) last (filter (passes_both others ones twos) (db.trees outer)))
+      (shown_of a (map last (filter (passes_both others ones twos) (db.trees outer))) staged a.distinct a.shown)

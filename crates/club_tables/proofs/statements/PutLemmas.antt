@@ -17,9 +17,16 @@ use Rattle.club_tables.proofs.lists.RowLemmas.{holds_more}
 use Rattle.club_tables.proofs.statements.InsertLemmas.{Leaves, task_of, went, same_value, wrote_rows, edited_alone}
 use Rattle.club_tables.proofs.statements.MeansLemmas.{Means, Wrote}
 use Rattle.club_tables.proofs.statements.UpdateLemmas.{Updates, update_leaves, no_works, replaced, Below}
+use Rattle.club_tables.proofs.Common.{list_all, holds, and_comm, and_assoc, ◌&&◌, cond, find, length_permutation}
+use Rattle.club_tables.proofs.statements.JoinLemmas.{filter_filter}
 use Rattle.club_tables.proofs.statements.PassLemmas.{any_filtered_is}
-use Rattle.club_tables.proofs.statements.SelectLemmas.{Apart, one_passes, test, shows, answered, row_of, Paired, paired, only, from_truth_is}
+use Rattle.club_tables.proofs.statements.SelectLemmas.{Apart, one_passes, test, shows, answered, row_of, Paired, paired, only, from_truth_is, find_first}
 use Rattle.club_tables.proofs.lists.PutRows.{IsLone, put_among}
+
+-- one more test
+list_all_more : {X : Type 0} (p : X → Bool) (xs : List X) (y : X) → list_all p (xs ++ y ∷ []) ≡ (list_all p xs && p y)
+list_all_more p [] y = and-true (p y)
+list_all_more p (x ∷ xs) y = ap (λ b. p x && b) (list_all_more p xs y) ∙ sym (and_assoc (p x) (list_all p xs) (p y))
 
 -- `=` of two rowids
 pub id_equal : (a b : ℤ) → is_true (binary (Compare Eq Binary) (Int a) (Int b)) ≡ is_eq (value_cmp (Int a) (Int b))
@@ -48,19 +55,19 @@ module _ (name : List ℕ) (columns : List Column) (keys : List (List ℕ)) (che
     abbrev table : Table
     table = record (table_of name columns keys checks references) { tree = tree }
 
-    -- the row that is met gets new values
-    abbrev pub sets_by : ℕ → List Term → Option Program
-    sets_by at sets = Some (record { lets = []; body = select (inner tree end) (is_there at ∷ []) sets })
+    -- the row that is met gets new values, if it passes more tests
+    abbrev pub sets_by : List Term → ℕ → List Term → Option Program
+    sets_by more at sets = Some (record { lets = []; body = select (inner tree end) (more ++ is_there at ∷ []) sets })
 
     -- the text puts a row of these terms, and its clause sets the row that it meets
-    pub record PutsRow (at : ℕ) (text : List ℕ) (terms sets : List Term) (width there_at : ℕ) (clause : Upsert) : Type 0 where
+    pub record PutsRow (at : ℕ) (text : List ℕ) (terms more sets : List Term) (width there_at : ℕ) (clause : Upsert) : Type 0 where
       pub is : command_of (understood club_schema text) ≡ InsertOr at Abort (Values terms width) (clause ∷ [])
       pub plain : IsPlain (understood club_schema text)
       pub aims : clause.target ≡ target
-      pub by : clause.update ≡ sets_by there_at sets
+      pub by : clause.update ≡ sets_by more there_at sets
 
-    module _ (at : ℕ) (listed : slice_get club_schema.tables at ≡ Some table) (text : List ℕ) (terms sets : List Term) (width there_at : ℕ) (clause : Upsert)
-        (puts : PutsRow at text terms sets width there_at clause)
+    module _ (at : ℕ) (listed : slice_get club_schema.tables at ≡ Some table) (text : List ℕ) (terms more sets : List Term) (width there_at : ℕ)
+        (clause : Upsert) (puts : PutsRow at text terms more sets width there_at clause)
         (old new : State) (has : old.now.schema ≡ club_schema) (params source : Row) (gives : value_rows params width (length terms / width) terms
         ≡ (Null ∷ source) ∷ [])
         (casts_source : cast_row table (Null ∷ source) ≡ Null ∷ source) (casts_new : (id : ℤ) → cast_row table (Int id ∷ source) ≡ Int id ∷ source) where
@@ -148,11 +155,12 @@ module _ (name : List ℕ) (columns : List Column) (keys : List (List ℕ)) (che
 
       -- the row that it meets gets the values of the clause
       put_old : (row : Row) → filter hit (db tree) ≡ row ∷ [] → (count : ℕ) → Ran count
-          → (there : Row) × (rowid there ≡ rowid row) × Updates old new table (select (inner tree end) (is_there there_at ∷ []) sets) (env there) count
+          → (there : Row) × (rowid there ≡ rowid row) × Updates old new table (select (inner tree end) (more ++ is_there there_at ∷ []) sets) (env there) count
       put_old row lone count it = go it.found it.conflict it.meets
         where
           go : (found : List Row) → AreConflicts target club_schema.indexes table (db tree) new_row found → Meeting found it.one
-              → (there : Row) × (rowid there ≡ rowid row) × Updates old new table (select (inner tree end) (is_there there_at ∷ []) sets) (env there) count
+              → (there : Row) × (rowid there ≡ rowid row) × Updates old new table (select (inner tree end) (more ++ is_there there_at ∷ []) sets)
+              (env there) count
           go [] are h =
               let has = has_filtered hit (db tree) row (rw lone (inl refl)) in
               absurd (are.complete row has.0 has.1)
@@ -166,9 +174,33 @@ module _ (name : List ℕ) (columns : List Column) (keys : List (List ℕ)) (che
           → change x ≡ x) (first : X) (hit_is : (id : ℤ) (x : X) → hit (Int id ∷ values x) ≡ p x)
           (casts : (id : ℤ) (x : X) → cast_row table (Int id ∷ values x) ≡ Int id ∷ values x) (xs : List X) (held : Holds values (db tree) xs)
           (lone : Apart (IsLone values p) xs) where
+        -- the element passes the clause's further tests
+        abbrev pub Allows : Row → ℤ → X → Type 0
+        Allows there id x = list_all (holds (env there ∷ (Int id ∷ values x) ∷ [])) more ≡ true
+
         -- what the clause yields for each element that passes
         abbrev pub Yields : X → Type 0
-        Yields x = (id : ℤ) (there : Row) → p x ≡ true → eval_all sets (env there ∷ (Int id ∷ values x) ∷ []) ≡ Int id ∷ Int id ∷ values (change x)
+        Yields x =
+            (id : ℤ) (there : Row) → p x ≡ true
+            → Allows there id x × (eval_all sets (env there ∷ (Int id ∷ values x) ∷ []) ≡ Int id ∷ Int id ∷ values (change x))
+
+        -- the rows that the clause finds: that of the element, if it passes the further tests
+        hit_by : (there : Row) → (ps : List (ℤ × X)) → db tree ≡ map (row_of values) ps → (one : ℤ × X) → column (env there) there_at ≡ Int one.0
+            → Has (db tree) (row_of values one)
+            → filter (test (env there) (more ++ is_there there_at ∷ []) sets) (db tree)
+            ≡ filter (λ row. list_all (holds (env there ∷ row ∷ [])) more) (row_of values one ∷ [])
+        hit_by there ps is one of has =
+            let allowed : Row → Bool = λ row. list_all (holds (env there ∷ row ∷ [])) more in
+            let each : (q : ℤ × X) → test (env there) (more ++ is_there there_at ∷ []) sets (row_of values q)
+            ≡ (has_rowid one.0 (row_of values q) && allowed (row_of values q)) = λ q.
+            let its : holds (env there ∷ row_of values q ∷ []) (is_there there_at) ≡ has_rowid one.0 (row_of values q) = rw of (id_equal q.0 one.0) in
+            list_all_more (holds (env there ∷ row_of values q ∷ [])) more (is_there there_at)
+            ∙ ap (λ b. allowed (row_of values q) && b) its ∙ and_comm (allowed (row_of values q)) (has_rowid one.0 (row_of values q)) in
+            ap (filter (test (env there) (more ++ is_there there_at ∷ []) sets)) is ∙ filter-map _ (row_of values) ps
+            ∙ ap (map (row_of values)) (filter_agree _ (λ q. has_rowid one.0 (row_of values q) && allowed (row_of values q)) each ps)
+            ∙ sym (ap (filter (λ row. has_rowid one.0 row && allowed row)) is ∙ filter-map (λ row. has_rowid one.0 row && allowed row) (row_of values) ps)
+            ∙ sym (filter_filter allowed (has_rowid one.0) (db tree))
+            ∙ ap (filter allowed) (one_at one.0 (db tree) (row_of values one) held.rising has (ap is_eq (tied_itself value_cmp_total (Int one.0))))
 
         abbrev IsPut : ℕ → List X → Type 0
         IsPut count left = Wrote club_schema old.now new.now tree × Holds values (new.now.trees tree) left × (1 ≤ count)
@@ -182,17 +214,15 @@ module _ (name : List ℕ) (columns : List Column) (keys : List (List ℕ)) (che
             let there = up.0 in
             let of : column (env there) there_at ≡ Int one.0 = ids there ∙ up.1 in
             let has = has_filtered (λ (q : ℤ × X). p q.1) ps one (rw alone (inl refl)) in
-            let tests = is_there there_at ∷ [] in
+            let tests = more ++ is_there there_at ∷ [] in
+            let yielded = all_has (λ q. Yields q.1) ps one yields has.0 one.0 there has.1 in
             let found : filter (test (env there) tests sets) (db tree) ≡ row_of values one ∷ [] =
-            ap (filter (test (env there) tests sets)) is ∙ filter-map _ (row_of values) ps
-            ∙ ap (map (row_of values)) (filter_agree _ (λ q. has_rowid one.0 (row_of values q)) (λ q. rw of (and-true _ ∙ id_equal q.0 one.0)) ps)
-            ∙ sym (ap (filter (has_rowid one.0)) is ∙ filter-map (has_rowid one.0) (row_of values) ps)
-            ∙ one_at one.0 (db tree) (row_of values one) held.rising (has_filtered hit (db tree) (row_of values one) (rw hits (inl refl))).0
-            (ap is_eq (tied_itself value_cmp_total (Int one.0))) in
+            hit_by there ps is one of (has_filtered hit (db tree) (row_of values one) (rw hits (inl refl))).0
+            ∙ ap (λ b. cond b (row_of values one ∷ []) []) yielded.0 in
             let answer = subst (λ rs. IsPermutation (map (shows (env there) tests sets) rs) up.2.rows) found
             (answered (env there) tests sets tree (record { schema = club_schema; trees = db }) up.2.rows up.2.answers) in
             let row : up.2.rows ≡ (Int one.0 ∷ Int one.0 ∷ values (change one.1)) ∷ [] =
-            one_permutation _ up.2.rows answer ∙ ap (λ r. r ∷ []) (all_has (λ q. Yields q.1) ps one yields has.0 one.0 there has.1) in (
+            one_permutation _ up.2.rows answer ∙ ap (λ r. r ∷ []) yielded.1 in (
               up.2.wrote,
               subst (λ rs. Holds values rs (map change (map (λ q. q.1) ps))) (sym up.2.left)
                   (replaced values p change kept table (record { schema = club_schema; trees = db }) up.2.rows ps is (subst IsTable is held.rising) one
@@ -225,3 +255,40 @@ module _ (name : List ℕ) (columns : List Column) (keys : List (List ℕ)) (che
                 rw any (subst (λ ys. IsPut count (map change ys)) (sym with_ids.xs_are) (change_old ids count it with_ids.pairs with_ids.rows_are
                 (all_from_map Yields (λ (q : ℤ × X). q.1) with_ids.pairs (subst (AllByRecursion Yields) with_ids.xs_are yields)) one alone hits))
             go it with_ids (one ∷ other ∷ ones) alone hits low any = absurd (omega arith)
+
+        -- the element that passes, if there is one, passes the further tests, if a row is written
+        pub row_allowed : ((there : Row) → column (env there) there_at ≡ rowid there) → (allows : X → Bool)
+            → ((id : ℤ) (there : Row) (x : X) → list_all (holds (env there ∷ (Int id ∷ values x) ∷ [])) more ≡ allows x)
+            → (count : ℕ) → Executes text params old new (Ok count) → 1 ≤ count → (x : X) → find p xs ≡ Some x → allows x ≡ true
+        row_allowed ids allows allowed count executed some x is =
+            let with_ids = paired values (db tree) xs held.same in
+            let ps = with_ids.pairs in
+            let passing : filter p xs ≡ map (λ (q : ℤ × X). q.1) (filter (λ q. p q.1) ps) =
+            ap (filter p) with_ids.xs_are ∙ filter-map p (λ (q : ℤ × X). q.1) ps in
+            go (ran count executed) with_ids (filter (λ q. p q.1) ps) refl (ap (filter hit) with_ids.rows_are ∙ filter-map hit (row_of values) ps
+            ∙ ap (map (row_of values)) (filter_agree _ _ (λ q. hit_is q.0 q.1) ps))
+            (subst (λ n. n ≤ 1) (ap length passing ∙ length-map (filter (λ q. p q.1) ps) (λ q. q.1))
+            (one_passes (IsLone values p) p xs (λ x y a b apart. apart (a, b)) lone))
+            (sym is ∙ find_first p xs ∙ ap (λ ys. slice_get ys 0) passing)
+          where
+            go : Ran count → (with_ids : Paired values (db tree) xs) (ones : List (ℤ × X)) → filter (λ q. p q.1) with_ids.pairs ≡ ones
+                → filter hit (db tree) ≡ map (row_of values) ones → length ones ≤ 1 → Some x ≡ slice_get (map (λ (q : ℤ × X). q.1) ones) 0
+                → allows x ≡ true
+            go it with_ids [] alone hits low first = absurd cc
+            go it with_ids (one ∷ []) alone hits low first =
+                let up = put_old (row_of values one) hits count it in
+                let there = up.0 in
+                let of : column (env there) there_at ≡ Int one.0 = ids there ∙ up.1 in
+                let tests = more ++ is_there there_at ∷ [] in
+                let answer = answered (env there) tests sets tree (record { schema = club_schema; trees = db }) up.2.rows up.2.answers in
+                let found = hit_by there with_ids.pairs with_ids.rows_are one of (has_filtered hit (db tree) (row_of values one) (rw hits (inl refl))).0 in
+                let as_many = length_permutation _ up.2.rows answer ∙ length-map (filter (test (env there) tests sets) (db tree)) (shows (env there) tests sets)
+                ∙ ap length found in
+                let one_is : x ≡ one.1 = cc in
+                by (list_all (holds (env there ∷ row_of values one ∷ [])) more) refl (up.2.counted ∙ as_many) (allowed one.0 there one.1
+                ∙ ap allows (sym one_is))
+              where
+                by : (b : Bool) → {c : Bool} → c ≡ b → count ≡ length (cond c (row_of values one ∷ []) []) → c ≡ allows x → allows x ≡ true
+                by true is counted same = sym same ∙ is
+                by false is counted same = let none = rw is at counted in absurd (omega (arith, none, some))
+            go it with_ids (one ∷ other ∷ ones) alone hits low first = absurd (omega arith)

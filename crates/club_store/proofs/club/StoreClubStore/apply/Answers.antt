@@ -7,7 +7,7 @@ returns-clause-changed g c = λ was_clean.
 
 pub returns-clause-untrue : goal.returns-clause-untrue
 returns-clause-untrue g c = λ was_clean.
-    sound_refusals g.S.Store c.args.change.now c.args.self.now c.apply.new.self c.apply.result (c.apply.ensures.makes.untrue was_clean)
+    sound_refusals g.S.Store c.args.change.now c.args.self.now c.apply.new.self c.apply.result (c.apply.ensures.makes.effect was_clean)
 
 pub returns-clause-failed : goal.returns-clause-failed
 returns-clause-failed g c = λ was_clean.

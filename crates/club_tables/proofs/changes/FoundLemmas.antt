@@ -1,0 +1,72 @@
+-- What is found among rows, and how few persons are in a slot.
+use Rattle.club_tables.proofs.Common.{rules, ◌≡◌, ℕ, ◌≤◌, pos, neg_ℤ, Bool, None, List, Option, Some, refl, sym, ◌∙◌, ◌≢◌, ◌+◌, ◌-◌, true}
+use Rattle.club_tables.proofs.Common.{if◌then◌else◌, [], ◌∷◌, ◌++◌, map, Contains, ap, arith, zero, suc, All-contains}
+use Rattle.club_tables.proofs.Common.{bytes_eq-Decides, find, option_map, bytes_eq, binary, Arith, Add, ◌<◌, ◌^◌, cond}
+use Rattle.club_tables.proofs.Common.{SlotUse, IsFacility, Int, Club}
+use Rattle.club_tables.proofs.Common.{IsSound, taken_in}
+use Rattle.club_tables.proofs.Common.{same_slot, IsBooking, Booking, Facility, Slot}
+use Rattle.club_tables.proofs.Common.{whole}
+use Rattle.club_tables.proofs.Common.{persons_taken}
+use Rattle.club_tables.proofs.Common.{SlotRow, AllPairs, Has, has_kept, slice_get, filter}
+use Rattle.club_tables.proofs.Common.{false, list_any, find-append, option_or, row_of}
+use Rattle.club_tables.proofs.lists.KeyedRows.{put_slot, changed, new_row, absent}
+use Rattle.club_tables.proofs.queries.KeyLemmas.{one_named}
+use Rattle.club_tables.proofs.statements.PassLemmas.{any_counts}
+use Rattle.club_tables.proofs.statements.SelectLemmas.{find_first, only}
+use Rattle.club_rows.specs.Limits.{places_limit}
+use Rattle.club_tables.proofs.changes.CancelLemmas.{there}
+use Rattle.club_tables.proofs.queries.KeyLemmas.{find_mapped}
+use Rattle.club_tables.proofs.statements.PassLemmas.{find_some}
+use Rattle.club_tables.proofs.lists.KeyedRows.{same_itself}
+
+pub contains_mapped : {X Y : Type 0} (f : X → Y) (xs : List X) (y : Y) → Contains (map f xs) y → (x : X) × Contains xs x × (f x ≡ y)
+contains_mapped f [] y has = absurd (omega (arith, has.1))
+contains_mapped f (x ∷ xs) y (zero, low, is) = (x, (0, omega arith, refl), is)
+contains_mapped f (x ∷ xs) y (suc k, low, is) =
+    let later = contains_mapped f xs y (k, omega (arith, low), is) in
+    (later.0, (suc later.1.0, omega (arith, later.1.1), later.1.2), later.2)
+
+-- what is less than was there can be taken away
+pub minus : (m r : ℕ) → r ≤ m → m < 2 ^ 63 → binary (Arith Add) (whole m) (Int (neg_ℤ (pos r))) ≡ whole (m - r)
+unfolding binary
+minus m r low small = search rules
+
+-- no slot of a facility has more persons than a facility has places
+pub few_taken : (club : Club) → IsSound club → (slot : Slot) → Contains (map (λ (f : Facility). f.name) club.facilities) slot.facility
+    → taken_in slot club.bookings ≤ places_limit
+few_taken club sound slot has =
+    let at = contains_mapped (λ (f : Facility). f.name) club.facilities slot.facility has in
+    let low = All-contains (λ (f : Facility). (s : Slot) → s.facility ≡ f.name → taken_in s club.bookings ≤ f.places) club.facilities at.0 sound.places at.1
+    slot (sym at.2) in
+    omega (arith, low, (All-contains IsFacility club.facilities at.0 sound.rows.facilities at.1).few_places)
+
+-- a slot whose row is put has a row
+pub put_there : (slot : Slot) (change : SlotUse → SlotUse) (rows : List SlotRow) → (x : SlotRow) × (row_of slot (put_slot slot change rows) ≡ Some x)
+put_there slot change rows = go (list_any is_of rows) refl
+  where
+    is_of : SlotRow → Bool
+    is_of row = same_slot row.slot slot
+
+    go : (any : Bool) → list_any is_of rows ≡ any
+        → (x : SlotRow) × (find is_of (if any then map (changed slot change) rows else rows ++ new_row slot change ∷ []) ≡ Some x)
+    go true any =
+        let one = find_some is_of rows (any_counts is_of rows any) in
+        (changed slot change one.0, find_mapped is_of (changed slot change) rows ∙ ap (option_map (changed slot change)) one.1)
+    go false none = (
+      new_row slot change,
+      find-append is_of rows (new_row slot change ∷ [])
+          ∙ ap (λ o. option_or o (cond (is_of (new_row slot change)) (Some (new_row slot change)) None)) (absent is_of rows none)
+          ∙ ap (λ b. cond b (Some (new_row slot change)) None) (same_itself slot),
+    )
+
+-- the one element of a name among others of unique names
+pub the_named : {X : Type 0} (name : X → List ℕ) (xs : List X) (x : X) → AllPairs (λ a b. name a ≢ name b) xs → Has xs x
+    → find (λ y. bytes_eq (name y) (name x)) xs ≡ Some x
+the_named {X} name xs x unique has =
+    let is_of : X → Bool = λ y. bytes_eq (name y) (name x) in
+    find_first is_of xs ∙ ap (λ ys. slice_get ys 0) (only (filter is_of xs) x (one_named name (name x) xs unique)
+    (has_kept is_of xs x has ((bytes_eq-Decides (name x) (name x)).1 refl)))
+
+-- a booking's persons, and what it costs, are few
+pub few_persons : (booking : Booking) → IsBooking booking → persons_taken booking ≤ 50
+few_persons booking row = let guests : booking.guests ≤ 49 = row.guests in grind arith

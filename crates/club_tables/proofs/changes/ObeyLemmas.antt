@@ -1,0 +1,168 @@
+-- What the rules of the tables say of the rows that they hold: names are unique, and each name that a row refers to is that of a row.
+use Rattle.club_tables.proofs.Common.{◌≡◌, ℕ, ℤ, Bool, true, false, not, ◌&&◌, ◌==◌, List, [], ◌∷◌, ◌++◌, map, Contains, refl, sym, ap, subst, ◌∙◌}
+use Rattle.club_tables.proofs.Common.{inl, inr, bytes_eq, bytes_eq-Decides, and_parts, and-true, or_parts, cases_Bool}
+use Rattle.club_tables.proofs.Common.{list_any, AllByRecursion, AllZip, Int, Row, Database, Holds, HoldsRows, Rows, MemberRow, Facility, Key}
+use Rattle.club_tables.proofs.Common.{Booking, SlotRow, Less, binary, value_cmp, rowid, Has, all_has, ascending-map}
+use Rattle.club_tables.proofs.Common.{ascending_from_map, IsTable, club_schema, member_values, facility_values, key_values, slot_values, booking_values}
+use Rattle.club_tables.proofs.Common.{members_tree, facilities_tree, keys_tree, slots_tree, bookings_tree, IsRowOf, first_key}
+use Rattle.club_tables.proofs.Common.{contains_had, value_cmp_total}
+use Rattle.sqlite_schema.specs.Rules.{Obeys, agree, differ}
+use Rattle.sqlite_schema.specs.declared.schema.Constraint.TheVariants.{Unique, ForeignKey}
+use Rattle.sqlite_schema.specs.Names.{same_name}
+use Rattle.sqlite_value.specs.Keys.{plain, joined}
+use Rattle.club_tables.proofs.lists.OwnerLemmas.{apart_last}
+use Rattle.club_tables.proofs.statements.SelectLemmas.{Apart, paired, row_of, text_equal, whole_equal}
+use Rattle.club_tables.proofs.statements.UpdateLemmas.{Below}
+
+-- the rules of the tables, of those that hold rows
+obeys : {db : Database} {rows : Rows} → HoldsRows db rows → Obeys club_schema db.trees
+obeys {db = db} holds_rows = subst (λ s. Obeys s db.trees) holds_rows.schema holds_rows.database.obeys
+
+none_has : {X : Type 0} (p : X → Bool) (xs : List X) (x : X) → list_any p xs ≡ false → Has xs x → p x ≡ false
+none_has p [] x none has = absurd has
+none_has p (y ∷ xs) x none (inl is) = ap p is ∙ (or_parts (p y) (list_any p xs) none).0
+none_has p (y ∷ xs) x none (inr has) = none_has p xs x (or_parts (p y) (list_any p xs) none).1 has
+
+all_weaker_rows : {P Q : Row → Type 0} → ((row : Row) → P row → Q row) → (rows : List Row) → AllByRecursion P rows → AllByRecursion Q rows
+all_weaker_rows weaker [] h = tt
+all_weaker_rows weaker (r ∷ rows) h = (weaker r h.0, all_weaker_rows weaker rows h.1)
+
+not_true : (b : Bool) → not b ≡ true → b ≡ false
+not_true true h = absurd cc
+not_true false h = refl
+
+-- rowids that rise differ
+rising_differ : (a b : ℤ) → value_cmp (Int a) (Int b) ≡ Less → differ (Int b) (Int a) ≡ true
+unfolding binary
+rising_differ a b less = rw (value_cmp_total.antisymm (Int b) (Int a), less) refl
+
+-- ---- keys of tables
+
+module _ {X : Type 0} (values : X → Row) (places : List ℕ) (same : X → X → Bool)
+    (tests : (id id' : ℤ) (a b : X) → agree plain places (Int id ∷ values a) places (Int id' ∷ values b) ≡ same a b) where
+  abbrev Clashes : Row → Row → Bool
+  Clashes row other = agree plain places other places row && differ (rowid other) (rowid row)
+
+  has_mapped : (ps : List (ℤ × X)) (q : ℤ × X) → Has ps q → Has (map (row_of values) ps) (row_of values q)
+  has_mapped [] q has = absurd has
+  has_mapped (p ∷ ps) q (inl is) = inl (ap (row_of values) is)
+  has_mapped (p ∷ ps) q (inr has) = inr (has_mapped ps q has)
+
+  unlike : (all ps : List (ℤ × X)) → ((q : ℤ × X) → Has ps q → Has all q) → Apart (λ q p. Below (row_of values q) (row_of values p)) ps
+      → AllByRecursion (λ row. list_any (Clashes row) (map (row_of values) all) ≡ false) (map (row_of values) all)
+      → Apart (λ (q p : ℤ × X). same p.1 q.1 ≡ false) ps
+  unlike all [] within rising none = tt
+  unlike all (q ∷ ps) within rising none = (each ps rising.0 (λ p has. within p (inr has)), unlike all ps (λ p has. within p (inr has)) rising.1 none)
+    where
+      each : (rest : List (ℤ × X)) → AllByRecursion (λ p. Below (row_of values q) (row_of values p)) rest → ((p : ℤ × X) → Has rest p → Has all p)
+          → AllByRecursion (λ (p : ℤ × X). same p.1 q.1 ≡ false) rest
+      each [] below in_all = tt
+      each (p ∷ rest) below in_all =
+          let clash : Clashes (row_of values q) (row_of values p) ≡ false = none_has (Clashes (row_of values q)) (map (row_of values) all) (row_of values p)
+          (all_has _ (map (row_of values) all) (row_of values q) none (has_mapped all q (within q (inl refl)))) (has_mapped all p (in_all p (inl refl))) in
+          let apart : (same p.1 q.1 && true) ≡ false = rw (tests p.0 q.0 p.1 q.1, rising_differ q.0 p.0 below.0) at clash in
+          (sym (and-true (same p.1 q.1)) ∙ apart, each rest below.1 (λ r has. in_all r (inr has)))
+
+  -- no element is the same as the last
+  unlike_last : (rows : List Row) (xs : List X) (x : X) → Holds values rows (xs ++ x ∷ [])
+      → AllByRecursion (λ row. list_any (Clashes row) rows ≡ false) rows → AllByRecursion (λ y. same x y ≡ false) xs
+  unlike_last rows xs x held none =
+      let it = paired values rows (xs ++ x ∷ []) held.same in
+      let R : X → X → Type 0 = λ a b. same b a ≡ false in
+      let apart = unlike it.pairs it.pairs (λ q has. has) (ascending_from_map Below (row_of values) it.pairs (subst IsTable it.rows_are held.rising))
+      (subst (λ rs. AllByRecursion (λ row. list_any (Clashes row) rs ≡ false) rs) it.rows_are none) in
+      apart_last R xs x (subst (Apart R) (sym it.xs_are) (ascending-map R (λ q. q.1) it.pairs apart))
+
+-- ---- parents
+
+any_zip : {X : Type 0} (values : X → Row) (hit : Row → Bool) (p : X → Bool) → ((id : ℤ) (x : X) → hit (Int id ∷ values x) ≡ p x) → (rows : List Row)
+    (xs : List X) → AllZip (λ row x. IsRowOf (values x) row) rows xs → list_any hit rows ≡ list_any p xs
+any_zip values hit p tested [] [] same = refl
+any_zip values hit p tested [] (x ∷ xs) same = absurd same
+any_zip values hit p tested (r ∷ rows) [] same = absurd same
+any_zip values hit p tested (r ∷ rows) (x ∷ xs) same =
+    rw (ap hit same.0.1 ∙ tested same.0.0 x, any_zip values hit p tested rows xs same.1) refl
+
+-- what an element of the list is
+named_among : {X : Type 0} (name : X → List ℕ) (n : List ℕ) (xs : List X) → list_any (λ x. bytes_eq (name x) n) xs ≡ true → Contains (map name xs) n
+named_among name n xs any = contains_had (map name xs) n (go xs any)
+  where
+    go : (ys : List _) → list_any (λ x. bytes_eq (name x) n) ys ≡ true → Has (map name ys) n
+    go [] any = absurd cc
+    go (y ∷ ys) any = elim (cases_Bool (bytes_eq (name y) n)) [
+      | inl is ↦ inl (sym ((bytes_eq-Decides (name y) n).0 is))
+      | inr other ↦ inr (go ys (rw other at any))
+    ]
+
+all_zip : {X : Type 0} (values : X → Row) (P : X → Type 0) (Q : Row → Type 0) → ((id : ℤ) (x : X) → Q (Int id ∷ values x) → P x) → (rows : List Row)
+    (xs : List X) → AllZip (λ row x. IsRowOf (values x) row) rows xs → AllByRecursion Q rows → AllByRecursion P xs
+all_zip values P Q gives [] [] same all = tt
+all_zip values P Q gives [] (x ∷ xs) same all = absurd same
+all_zip values P Q gives (r ∷ rows) [] same all = absurd same
+all_zip values P Q gives (r ∷ rows) (x ∷ xs) same all =
+    (gives same.0.0 x (subst Q same.0.1 all.0), all_zip values P Q gives rows xs same.1 all.1)
+
+module _ {db : Database} {rows : Rows} (holds_rows : HoldsRows db rows) where
+  -- ---- unique names
+
+  pub members_apart : (xs : List MemberRow) (x : MemberRow) → rows.members ≡ xs ++ x ∷ []
+      → AllByRecursion (λ (y : MemberRow). bytes_eq x.member.name y.member.name ≡ false) xs
+  unfolding first_key
+  members_apart xs x is =
+      unlike_last member_values (1 ∷ []) (λ (a : MemberRow) (b : MemberRow). bytes_eq a.member.name b.member.name)
+      (λ id id' a b. and-true _ ∙ text_equal a.member.name b.member.name) (db.trees members_tree) xs x
+      (subst (Holds member_values (db.trees members_tree)) is holds_rows.held.members)
+      (all_weaker_rows (λ row h. not_true _ (and_parts _ _ h).0) (db.trees members_tree) ((obeys holds_rows).rules Unique).1.0)
+
+  pub facilities_apart : (xs : List Facility) (x : Facility) → rows.facilities ≡ xs ++ x ∷ []
+      → AllByRecursion (λ (y : Facility). bytes_eq x.name y.name ≡ false) xs
+  unfolding first_key
+  facilities_apart xs x is =
+      unlike_last facility_values (1 ∷ []) (λ (a : Facility) (b : Facility). bytes_eq a.name b.name)
+      (λ id id' a b. and-true _ ∙ text_equal a.name b.name) (db.trees facilities_tree) xs x
+      (subst (Holds facility_values (db.trees facilities_tree)) is holds_rows.held.facilities)
+      (all_weaker_rows (λ row h. not_true _ (and_parts _ _ h).0) (db.trees facilities_tree) ((obeys holds_rows).rules Unique).1.1.0)
+
+  pub keys_apart : (xs : List Key) (x : Key) → rows.keys ≡ xs ++ x ∷ [] → AllByRecursion (λ (y : Key). bytes_eq x.name y.name ≡ false) xs
+  unfolding first_key
+  keys_apart xs x is =
+      unlike_last key_values (1 ∷ []) (λ (a : Key) (b : Key). bytes_eq a.name b.name)
+      (λ id id' a b. and-true _ ∙ text_equal a.name b.name) (db.trees keys_tree) xs x
+      (subst (Holds key_values (db.trees keys_tree)) is holds_rows.held.keys)
+      (all_weaker_rows (λ row h. not_true _ (and_parts _ _ h).0) (db.trees keys_tree) ((obeys holds_rows).rules Unique).1.1.1.0)
+
+  pub bookings_apart : (xs : List Booking) (x : Booking) → rows.bookings ≡ xs ++ x ∷ []
+      → AllByRecursion (λ (y : Booking). (bytes_eq x.key y.key && x.number == y.number) ≡ false) xs
+  unfolding first_key
+  bookings_apart xs x is =
+      unlike_last booking_values (1 ∷ 2 ∷ []) (λ (a : Booking) (b : Booking). bytes_eq a.key b.key && a.number == b.number)
+      (λ id id' a b. rw (text_equal a.key b.key, whole_equal a.number b.number) (ap (λ c. bytes_eq a.key b.key && c) (and-true _)))
+      (db.trees bookings_tree) xs x
+      (subst (Holds booking_values (db.trees bookings_tree)) is holds_rows.held.bookings)
+      (all_weaker_rows (λ row h. not_true _ (and_parts _ _ h).0) (db.trees bookings_tree) ((obeys holds_rows).rules Unique).1.1.1.1.1.0)
+
+  -- ---- names that rows refer to
+
+  pub key_members : AllByRecursion (λ (k : Key). Contains (map (λ (row : MemberRow). row.member.name) rows.members) k.member) rows.keys
+  unfolding first_key same_name joined
+  key_members =
+      all_zip key_values _ _ (λ id k h. named_among (λ (row : MemberRow). row.member.name) k.member rows.members
+      (sym (any_zip member_values _ (λ (row : MemberRow). bytes_eq row.member.name k.member) (λ id' row. and-true _ ∙ text_equal row.member.name k.member)
+      (db.trees members_tree) rows.members holds_rows.held.members.same) ∙ (and_parts _ _ h).0)) (db.trees keys_tree) rows.keys
+      holds_rows.held.keys.same ((obeys holds_rows).rules ForeignKey).1.1.1.0
+
+  pub slot_facilities : AllByRecursion (λ (row : SlotRow). Contains (map (λ (f : Facility). f.name) rows.facilities) row.slot.facility) rows.slots
+  unfolding first_key same_name joined
+  slot_facilities =
+      all_zip slot_values _ _ (λ id row h. named_among (λ (f : Facility). f.name) row.slot.facility rows.facilities
+      (sym (any_zip facility_values _ (λ (f : Facility). bytes_eq f.name row.slot.facility) (λ id' f. and-true _ ∙ text_equal f.name row.slot.facility)
+      (db.trees facilities_tree) rows.facilities holds_rows.held.facilities.same) ∙ (and_parts _ _ h).0)) (db.trees slots_tree) rows.slots
+      holds_rows.held.slots.same ((obeys holds_rows).rules ForeignKey).1.1.1.1.0
+
+  pub booking_facilities : AllByRecursion (λ (b : Booking). Contains (map (λ (f : Facility). f.name) rows.facilities) b.slot.facility) rows.bookings
+  unfolding first_key same_name joined
+  booking_facilities =
+      all_zip booking_values _ _ (λ id b h. named_among (λ (f : Facility). f.name) b.slot.facility rows.facilities
+      (sym (any_zip facility_values _ (λ (f : Facility). bytes_eq f.name b.slot.facility) (λ id' f. and-true _ ∙ text_equal f.name b.slot.facility)
+      (db.trees facilities_tree) rows.facilities holds_rows.held.facilities.same) ∙ (and_parts _ _ (and_parts _ _ h).1).0)) (db.trees bookings_tree)
+      rows.bookings holds_rows.held.bookings.same ((obeys holds_rows).rules ForeignKey).1.1.1.1.1.0

@@ -1,0 +1,81 @@
+//! Whether the values of a change are within their limits.
+
+ghost use Rattle.std.specs.Prelude.{◌≡◌, ◌≤◌, true, false};
+ghost use Rattle.club_rows.specs.Limits.{IsRoot};
+ghost use Rattle.club_rows.specs.Rows.{IsMember, IsFacility, IsKey, IsSlot, IsBooking};
+ghost use Rattle.club_values.specs.Moment.{IsMoment};
+
+use crate::params::Rotation;
+use club_rows::{
+    Booking, Facility, Key, LAST_HOUR, MAX_CHARGE, MAX_CREDITED, MAX_PLACES, MAX_PRICE, MAX_QUOTA,
+    Member,
+};
+use club_values::Slot;
+
+/// The most places that are left after a booking.
+const MAX_LEFT: u32 = MAX_PLACES - 1;
+
+pub(crate) fn is_member(member: &Member) -> bool
+    ensures yes { result ≡ true → IsMember member.now }
+    ensures no { result ≡ false → ¬ IsMember member.now }
+{
+    let _name = member.name.as_bytes();
+    member.credited <= MAX_CREDITED && u32::from(member.quota) <= MAX_QUOTA
+}
+
+pub(crate) fn is_facility(facility: &Facility) -> bool
+    ensures yes { result ≡ true → IsFacility facility.now }
+    ensures no { result ≡ false → ¬ IsFacility facility.now }
+{
+    let _name = facility.name.as_bytes();
+    1 <= facility.places
+        && u32::from(facility.places) <= MAX_PLACES
+        && u32::from(facility.price) <= MAX_PRICE
+        && facility.opens < facility.shuts
+        && u32::from(facility.shuts) <= LAST_HOUR
+}
+
+/// The values of a key, by their types.
+pub(crate) fn key_within(key: &Key)
+    ensures { IsKey key.now }
+{
+    let _name = key.name.as_bytes();
+    let _member = key.member.as_bytes();
+    let _root = key.root.as_bytes();
+    if let Some(older) = &key.older {
+        let _older = older.root.as_bytes();
+        let _until = older.until.number();
+    }
+}
+
+/// The values of a slot, by their types.
+pub(crate) fn slot_within(slot: &Slot)
+    ensures { IsSlot slot.now }
+{
+    let _facility = slot.facility.as_bytes();
+    let _day = slot.day.number();
+    let _hour = slot.hour.number();
+}
+
+/// The new root of a rotation and its moment, by their types.
+pub(crate) fn rotation_within(rotation: &Rotation)
+    ensures root { IsRoot rotation.now.root }
+    ensures until { IsMoment rotation.now.older.until }
+{
+    let _root = rotation.root.as_bytes();
+    let _until = rotation.older.until.number();
+}
+
+pub(crate) fn is_booking(booking: &Booking) -> bool
+    ensures yes { result ≡ true → IsBooking booking.now }
+    ensures no { result ≡ false → ¬ IsBooking booking.now }
+{
+    let _key = booking.key.as_bytes();
+    let _number = booking.number.get();
+    let _guests = booking.guests.get();
+    slot_within(&booking.slot);
+    booking.charge <= MAX_CHARGE
+        && u32::from(booking.left) <= MAX_LEFT
+        && booking.refund <= booking.charge
+        && (booking.cancelled || booking.refund == 0)
+}
