@@ -40,7 +40,8 @@ fn changes_rows(rt: HostRuntime) {
     plays_from(&rt, Start::Rows, &[&CHANGES]);
 }
 
-static PERSONS: [Step; 7] = [
+static PERSONS: [Step; 8] = [
+    Step::Applies(Write::Credit(1_201)),
     Step::Applies(Write::Book(BOOKING_7)),
     Step::Applies(Write::Book(BOOKING_8)),
     Step::Shows(Shown::Slot(COURT_AT_18, 3, false)),

@@ -1,5 +1,5 @@
-//! Tests of changes that aren't true of the club: each is a fault of storage, and leaves every row
-//! and total.
+//! Tests of changes that don't fit the club: what they say of its rows isn't true, or the club
+//! after them isn't sound. Each is a fault of storage, and leaves every row and total.
 
 use super::rows::{AMY_1, CANCELLED_7, CANCELLED_8, DAY, Older};
 use super::steps::{Asked, Shown, Start, Step as StoreStep, plays_from};
@@ -7,7 +7,9 @@ use super::tables::{Expected, Step, plays_filled};
 use super::write::Write;
 use std::test::*;
 use test_kit::roots::{SECOND_ROOT, THIRD_ROOT};
-use test_kit::{BOOKING_7, BOOKING_8, COURT_AT_18, COURT_AT_19, PlainBooking, ROOM_AT_18};
+use test_kit::{
+    BOOKING_7, BOOKING_8, COURT, COURT_AT_18, COURT_AT_19, PlainBooking, PlainSlot, ROOM_AT_18,
+};
 
 /// As it was on record, and as it is.
 static CANCELS_AGAIN: [Step; 9] = [
@@ -151,4 +153,96 @@ static OF_NOBODY: [StoreStep; 3] = [
 #[test]
 fn a_store_refuses_unknown_names(rt: HostRuntime) {
     plays_from(&rt, Start::Empty, &[&OF_NOBODY]);
+}
+
+/// Names that are taken, and a credit beyond 999,999,999 points.
+static NAMES_AND_LIMITS: [Step; 9] = [
+    Step::Refuses(Write::Member(0)),
+    Step::Refuses(Write::Facility(COURT)),
+    Step::Refuses(Write::Key(AMY_1)),
+    Step::Refuses(Write::Credit(999_990_000)),
+    Step::Expects(Expected::Member("amy", Some((10_000, 600)))),
+    Step::Expects(Expected::Facility("court-1", Some(COURT))),
+    Step::Expects(Expected::Key("amy-1", Some(AMY_1))),
+    Step::Writes(Write::Credit(999_989_999)),
+    Step::Expects(Expected::Member("amy", Some((999_999_999, 600)))),
+];
+
+#[test]
+fn a_name_that_is_taken_and_a_credit_beyond_the_most(rt: HostRuntime) {
+    plays_filled(&rt, &NAMES_AND_LIMITS);
+}
+
+const BOOKING_9: PlainBooking = PlainBooking {
+    number: 9,
+    guests: 0,
+    charge: 200,
+    left: 0,
+    ..BOOKING_7
+};
+
+const NOWHERE: PlainSlot = PlainSlot {
+    facility: "court-9",
+    ..COURT_AT_18
+};
+
+/// Amy has 9,400 points left, and the court has one place at 18 and four at 19.
+static BEYOND: [Step; 14] = [
+    // A number that is used.
+    Step::Refuses(Write::Book(BOOKING_7)),
+    // A facility that isn't there.
+    Step::Refuses(Write::Book(PlainBooking {
+        slot: NOWHERE,
+        ..BOOKING_9
+    })),
+    // Two persons, of whom one has no place; and five in a slot that nobody booked.
+    Step::Refuses(Write::Book(PlainBooking {
+        guests: 1,
+        ..BOOKING_9
+    })),
+    Step::Refuses(Write::Book(PlainBooking {
+        slot: COURT_AT_19,
+        guests: 4,
+        ..BOOKING_9
+    })),
+    // A point more than amy has.
+    Step::Refuses(Write::Book(PlainBooking {
+        charge: 9_401,
+        ..BOOKING_9
+    })),
+    // A point more than the charge.
+    Step::Refuses(Write::Cancel(BOOKING_7, 601)),
+    Step::Expects(Expected::Booking(7, Some(BOOKING_7))),
+    Step::Expects(Expected::Booking(9, None)),
+    Step::Expects(Expected::Member("amy", Some((10_000, 600)))),
+    Step::Expects(Expected::Slot(COURT_AT_18, 3, false)),
+    Step::Expects(Expected::Slot(COURT_AT_19, 0, false)),
+    // The last place for the last point.
+    Step::Writes(Write::Book(PlainBooking {
+        charge: 9_400,
+        ..BOOKING_9
+    })),
+    Step::Expects(Expected::Member("amy", Some((10_000, 10_000)))),
+    Step::Expects(Expected::Slot(COURT_AT_18, 4, false)),
+];
+
+#[test]
+fn a_booking_beyond_the_places_or_the_balance(rt: HostRuntime) {
+    plays_filled(&rt, &BEYOND);
+}
+
+/// A slot with a row, and one without.
+static CLOSES_TWICE: [Step; 7] = [
+    Step::Writes(Write::Close(COURT_AT_18)),
+    Step::Refuses(Write::Close(COURT_AT_18)),
+    Step::Writes(Write::Close(COURT_AT_19)),
+    Step::Refuses(Write::Close(COURT_AT_19)),
+    Step::Refuses(Write::Close(NOWHERE)),
+    Step::Expects(Expected::Slot(COURT_AT_18, 3, true)),
+    Step::Expects(Expected::Slot(COURT_AT_19, 0, true)),
+];
+
+#[test]
+fn a_slot_that_is_closed(rt: HostRuntime) {
+    plays_filled(&rt, &CLOSES_TWICE);
 }
