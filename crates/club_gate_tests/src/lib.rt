@@ -27,6 +27,10 @@ mod limits;
 #[cfg(test)]
 mod lists;
 #[cfg(test)]
+mod long_json;
+#[cfg(test)]
+mod many;
+#[cfg(test)]
 mod passes;
 #[cfg(test)]
 mod readings;

@@ -123,7 +123,7 @@ static BODIES: [(&str, Want); 19] = [
     ("{\"guests\":18446744073709551616}", BAD_REQUEST),
 ];
 
-fn ask_with(rt: &(impl Abort + AllocGlobal), body: &str, want: &Want) {
+pub(crate) fn ask_with(rt: &(impl Abort + AllocGlobal), body: &str, want: &Want) {
     let length = body.len().to_string(rt.alloc()).expect(rt, "memory");
     asks(rt, booking_of(rt, length.as_str(), body).as_str(), want);
 }

@@ -7,6 +7,8 @@ mod asked;
 #[cfg(test)]
 mod bodies;
 #[cfg(test)]
+mod body_lengths;
+#[cfg(test)]
 mod counted;
 #[cfg(test)]
 mod expect;

@@ -30,6 +30,10 @@ mod input;
 #[cfg(test)]
 mod lists;
 #[cfg(test)]
+mod long_paths;
+#[cfg(test)]
+mod long_roots;
+#[cfg(test)]
 mod memory;
 #[cfg(test)]
 mod ports;

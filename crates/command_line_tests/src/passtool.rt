@@ -5,6 +5,7 @@ mod doubles;
 mod failing;
 mod forms;
 mod limits;
+mod plenty;
 mod process;
 mod reports;
 mod runs;

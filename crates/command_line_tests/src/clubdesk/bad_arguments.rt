@@ -16,7 +16,7 @@ fn output_of_fault(rt: &(impl Abort + AllocGlobal), fault: &Fault) -> Output {
 }
 
 // The status and the line of the fault of arguments that are refused.
-fn output_of(rt: &(impl Abort + AllocGlobal), arguments: &[&str]) -> Output {
+pub(super) fn output_of(rt: &(impl Abort + AllocGlobal), arguments: &[&str]) -> Output {
     let asked: Result<Asked<Job<'_>>, ArgumentsFault<()>> = read_job(rt.alloc(), arguments);
     match asked {
         Ok(_) => panic!(rt; "{arguments:?}"),

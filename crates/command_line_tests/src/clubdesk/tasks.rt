@@ -88,7 +88,7 @@ fn work_text(rt: &(impl Abort + AllocGlobal), work: &Work<'_>) -> String {
 }
 
 // The arguments of a line ask for this, over this file.
-fn expect_asked(rt: &(impl Abort + AllocGlobal), line: &str, file: &str, want: &str) {
+pub(super) fn expect_asked(rt: &(impl Abort + AllocGlobal), line: &str, file: &str, want: &str) {
     let arguments = arguments_of(rt, line);
     let asked: Result<Asked<Job<'_>>, ArgumentsFault<()>> = read_job(
         rt.alloc(),

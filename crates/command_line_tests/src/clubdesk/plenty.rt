@@ -1,0 +1,103 @@
+//! Long paths, roots, numbers and words: arguments are read, or refused, whatever memory they take.
+
+use super::bad_arguments::output_of;
+use super::tasks::{arguments_of, expect_asked};
+use crate::expect::{expect_case, expect_end};
+use clubdesk_arguments::root_of;
+use std::process::Abort;
+use test_kit::End::Begins;
+use test_kit::{End, Piece, join};
+
+fn text_of(rt: &(impl Abort + AllocGlobal), pieces: &[Piece]) -> String {
+    join(rt.alloc(), pieces).expect(rt, "memory")
+}
+
+// A path of 4,000 letters.
+static PATH: [Piece; 2] = [(1_999, "./"), (1, "aa")];
+
+// What comes before the path and after it, and what the arguments ask for.
+static WITH_A_PATH: [(&str, &str, &str); 3] = [
+    ("sheet|", "|2026-05-01", "sheet 2026-05-01"),
+    (
+        "add-member|",
+        "|amy|5",
+        "AddMember { name: \"amy\", quota: 5 }",
+    ),
+    (
+        "serve|",
+        "|--port|8080|--count|7|--at|2026-05-01T12:00",
+        "serve 8080 7 at 2026-05-01T12:00 for 10",
+    ),
+];
+
+#[test]
+fn takes_a_long_path(rt: HostRuntime) {
+    let path = text_of(&rt, &PATH);
+    for (before, after, want) in &WITH_A_PATH {
+        let line = format!(in rt.alloc(); "{before}{path}{after}").expect(&rt, "memory");
+        expect_asked(&rt, line.as_str(), path.as_str(), want);
+    }
+}
+
+// Credits of each decimal length.
+static CREDITS: [&str; 9] = [
+    "1",
+    "12",
+    "123",
+    "1234",
+    "12345",
+    "123456",
+    "1234567",
+    "12345678",
+    "123456789",
+];
+
+#[test]
+fn takes_numbers_of_each_length(rt: HostRuntime) {
+    for points in &CREDITS {
+        let line = format!(in rt.alloc(); "credit|F|amy|{points}").expect(&rt, "memory");
+        let want = format!(in rt.alloc(); "Credit {{ member: \"amy\", points: {points} }}");
+        expect_asked(&rt, line.as_str(), "F", want.expect(&rt, "memory").as_str());
+    }
+}
+
+// A root of so many bytes is read, and so is a command with it.
+fn takes_root(rt: &(impl Abort + AllocGlobal), len: usize) {
+    let text = text_of(rt, &[(len, "a7")]);
+    let root = root_of(text.as_str()).expect(rt, "a root");
+    expect_case(rt, "a root", &root.as_bytes().len(), &len);
+    let line = format!(in rt.alloc(); "add-key|F|k|bob|{text}").expect(rt, "memory");
+    let want = format!(in rt.alloc(); "add k of bob {text} V2").expect(rt, "memory");
+    expect_asked(rt, line.as_str(), "F", want.as_str());
+}
+
+#[test]
+fn takes_roots_of_each_length(rt: HostRuntime) {
+    for len in 16..65 {
+        takes_root(&rt, len);
+    }
+}
+
+// What comes before a word of 1,000 letters, and how the arguments are refused.
+static BEFORE_A_LONG_WORD: [(&str, End); 6] = [
+    ("", Begins(2, "error: unrecognized subcommand 'wwwwwwww")),
+    (
+        "sheet|F|2026-05-01|",
+        Begins(2, "error: unexpected argument 'wwwwwwww"),
+    ),
+    ("sheet|F|", Begins(3, "bad value")),
+    ("add-key|F|k|bob|", Begins(3, "bad value")),
+    ("credit|F|amy|", Begins(3, "bad value")),
+    ("serve|F|--port|1|--count|1|--zone|", Begins(3, "bad value")),
+];
+
+#[test]
+fn refuses_long_words(rt: HostRuntime) {
+    let word = text_of(&rt, &[(1_000, "w")]);
+    for (before, end) in &BEFORE_A_LONG_WORD {
+        let line = format!(in rt.alloc(); "{before}{word}").expect(&rt, "memory");
+        let arguments = arguments_of(&rt, line.as_str());
+        let output = output_of(&rt, arguments.as_slice());
+        expect_end(&rt, &output, end, &[*before]);
+    }
+}
