@@ -2200,6 +2200,15 @@ def letters(passes):
     odd = "It's \"1\" <b> \\n \u00e4"
     listed = json.loads(club_list(f"court-1 {odd}\n"))["facilities"]
     check(listed[0]["title"] == odd and "title" not in listed[1], "odd titles", listed)
+    check(json.loads(club_list("court-1 Court 1 | Clay, flat soles\n"))["facilities"][0] | {"opens": 8} == {
+        "name": "court-1", "title": "Court 1", "about": "Clay, flat soles", "kind": "court", "opens": 8, "shuts": 22}, "a facility's sentence")
+    pathlib.Path("logo.svg").write_text("<svg xmlns='http://www.w3.org/2000/svg'/>")
+    more = {"CONTACT": "Tel. 030 1234", "IMPRINT": "https://club.example/imprint", "PRIVACY": "https://club.example/privacy", "LOGO": "logo.svg"}
+    found = json.loads(printed("env", f"RULE={RULE}", *(f"{name}={value}" for name, value in more.items()), club_json, "club", ZONE))
+    check(found["contact"] == more["CONTACT"] and found["imprint"] == more["IMPRINT"] and found["logo"].startswith("data:image/svg+xml;base64,PHN2"), "what is shown besides", found)
+    for name, value, fault in (("IMPRINT", "http://club.example", "IMPRINT is no address"), ("PRIVACY", "javascript:x", "PRIVACY is no address"), ("CONTACT", "x" * 201, "more than 200"),
+                               ("LOGO", "club", "a logo is"), ("LOGO", "missing.svg", "can't be read")):
+        refused(fault, club_json, "club", ZONE, RULE=RULE, **{name: value})
     for key, fault in [("nobody", "no key nobody"), ("Amy", "no name of a key"), ("a'b", "no name of a key")]:
         refused(fault, f"{TOP}/deploy/record", "club", key)
     print("letters, lists and records of the office, and what they refuse")

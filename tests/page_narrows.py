@@ -715,7 +715,8 @@ def shares():
         page.visit()
         text = page.narrow(AMY, ("kind", ["court"]))["text"]
         page.click("share")
-        check(page.run("return globalThis.shared") == {"text": text}, "what is shared")
+        check(page.run("return globalThis.shared") == {"text": text, "url": page.run("return byId('book-address').value")}, "what is shared")
+        check(page.run("return byId('book-address').value").endswith(f"/book.html#{text}"), "the address to book with")
         page.click("copy")
         check("is selected" in page.run("return byId('narrowed-message').textContent"), "a clipboard that refuses")
         check(page.run("return String(getSelection())") == text, "what is selected")

@@ -10,6 +10,7 @@ import subprocess
 from club_office.clubs import program
 from club_office.counter import as_desk, write_new
 from club_office.faults import OUTPUT, Fault, refusal
+from club_office.spares import spare_keys
 from club_office.texts import language, say
 from club_office.values import NAME
 
@@ -20,6 +21,7 @@ section { break-after: page; break-inside: avoid; max-width: 40rem; margin: 2rem
 section:last-child { break-after: auto; }
 h1 { font-size: 1.75rem; line-height: 1.2; margin: 0 0 .5rem; } .to { font-size: 1.15rem; margin: 0 0 1.5rem; }
 svg { display: block; width: 60mm; height: 60mm; margin: 1rem 0; }
+.half { margin-top: 1.5rem; padding-top: 1rem; border-top: 2px dashed #111; break-inside: avoid; }
 .link { overflow-wrap: anywhere; font-size: .8rem; } .care { padding: .75rem 1rem; border: 2px solid #111; border-radius: .5rem; }
 """
 
@@ -45,7 +47,16 @@ def code_of(link):
     return text[text.index("<svg"):]
 
 
-def sheet(club, name, key, text, is_spare):
+def half(club, spares):
+    """What a member cuts off, and opens once: the spare passes, for lending."""
+    link = f"{club.site}/book.html#spare={';'.join(spares)}"
+    return f"""<div class="half"><h2>{html.escape(say("letter lend title"))}</h2><p>{html.escape(say("letter lend"))}</p>
+{code_of(link)}
+<p class="link"><a href="{html.escape(link)}">{html.escape(link)}</a></p></div>
+"""
+
+
+def sheet(club, name, key, text, is_spare, spares=()):
     link = f"{club.site}/book.html#{text}"
     steps = "".join(f"<li>{html.escape(say(f'letter step {it}'))}</li>" for it in (1, 2, 3))
     spare = f'<p><strong>{html.escape(say("letter spare"))}</strong></p>' if is_spare else ""
@@ -54,7 +65,7 @@ def sheet(club, name, key, text, is_spare):
 <p>{html.escape(say("letter first", key=key))}</p><ol>{steps}</ol>
 {code_of(link)}
 <p class="link"><a href="{html.escape(link)}">{html.escape(link)}</a></p>
-<p class="care">{html.escape(say("letter care"))}</p></section>
+<p class="care">{html.escape(say("letter care"))}</p>{half(club, spares) if spares else ""}</section>
 """
 
 
@@ -94,6 +105,16 @@ def spare_key(club, names, folder, member):
     return key, text.decode().strip()
 
 
+def spares_of(club, names, texts):
+    """The spare passes of members, which are taken out of the passes: they are the second half of their member's first sheet."""
+    found = {}
+    for key in list(texts):
+        member = names.keys[key].member
+        if key in spare_keys(club, member):
+            found.setdefault(member, []).append(texts.pop(key))
+    return found
+
+
 def letters(club, words, names_of):
     """Writes the sheets of passes into one file, which isn't there yet."""
     if not re.fullmatch(r"https://[A-Za-z0-9.:/-]+", club.site):
@@ -106,14 +127,17 @@ def letters(club, words, names_of):
     gone = [it for it in texts if it not in names.keys or names.keys[it].revoked]
     if gone:
         raise refusal(f"the club has no key {gone[0]}, or it is revoked")
-    sheets, members = [], {}
+    sheets, members, lent = [], {}, spares_of(club, names, texts)
     for key, text in texts.items():
         member = names.keys[key].member
         name = names.written.get(member) or member
-        sheets.append(sheet(club, name, key, text, False))
+        sheets.append(sheet(club, name, key, text, False, lent.pop(member, ())))
         if words.spare and member not in members:
             sheets.append(sheet(club, name, *spare_key(club, names, words.passes, member), True))
         members[member] = name
+    for member, spares in lent.items():
+        members[member] = names.written.get(member) or member
+        sheets.append(f'<section><p class="to">{html.escape(members[member])}</p>{half(club, spares)}</section>')
     page = f"""<!DOCTYPE html>
 <html lang="{language()}"><head><meta charset="utf-8"><meta name="referrer" content="no-referrer">
 <meta http-equiv="Content-Security-Policy" content="default-src 'none'; style-src 'unsafe-inline'">

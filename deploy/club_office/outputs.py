@@ -9,7 +9,7 @@ from club_office.clubs import clock
 from club_office.copies import snapshot, synced
 from club_office.faults import STORAGE, Fault, refusal
 from club_office.lists import wants_row
-from club_office.page import page_of, wants_rule
+from club_office.page import more_of, page_of, wants_rule
 from club_office.report import report_of
 
 RECORD = """
@@ -39,7 +39,7 @@ def write_page(club):
     titles = club.settings.get("titles")
     with snapshot(club) as db:
         closures = closures_of(db, reasons_of(club), clock() // 1440)
-        text = page_of(db, club.title, zone, titles if titles and os.path.exists(titles) else None, closures)
+        text = page_of(db, club.title, zone, titles if titles and os.path.exists(titles) else None, closures, more_of(club.settings))
     place = os.path.join(folder, "club.json")
     made = f"{place}.new"
     try:

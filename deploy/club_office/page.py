@@ -1,5 +1,7 @@
-"""What the page that books has to know of a club, club.json: its name and zone, and its facilities with their titles, kinds and hours."""
+"""What the page that books has to know of a club, club.json: its name and zone, and its facilities with their titles, kinds and hours; whom to ask,
+its imprint, privacy page and logo."""
 
+import base64
 import json
 import os
 import re
@@ -49,31 +51,64 @@ def titles_of(path, facilities):
             raise refusal(f"{path}, line {number}: it is no UTF-8, as another program writes umlauts: save the file as UTF-8") from None
         except ValueError as fault:
             raise refusal(f"{path}, line {number}: {fault}") from None
-    return {name: title for name, (_, title) in found.items()}
+    return {name: titled for name, (_, titled) in found.items()}
 
 
 def add_title(found, name, written, line, facilities):
-    title = " ".join(written.split())
+    title, bar, about = (" ".join(it.split()) for it in written.partition("|"))
     if name not in facilities:
         raise ValueError(f"the club has no facility {name}")
     if name in found:
         raise ValueError(f"{name} has a title already, in line {found[name][0]}")
+    if bar and (not about or not about.isprintable() or len(about.encode("utf-16-le")) > 2 * MOST_SENTENCE):
+        raise ValueError(f"its sentence is missing, or has a letter that isn't printed, or more than {MOST_SENTENCE} letters")
     if not title or not title.isprintable():
         raise ValueError(f"{name} has no title" if not title else "its title has a letter that isn't printed")
     if len(title.encode("utf-16-le")) > 2 * MOST_TITLE:
         raise ValueError(f"its title has more than {MOST_TITLE} letters")
-    found[name] = line, title
+    found[name] = line, {"title": title, **({"about": about} if about else {})}
 
 
-def page_of(db, name, zone, titles_file, closures=()):
-    """The text of club.json."""
+# What the page shows of a club besides: whom to ask, its imprint and its privacy page.
+MORE = ("contact", "imprint", "privacy")
+MOST_SENTENCE = 200
+MOST_PICTURE = 29_000
+PICTURES = {".svg": "svg+xml", ".png": "png", ".jpg": "jpeg", ".jpeg": "jpeg", ".webp": "webp"}
+
+
+def more_of(given):
+    """Whom to ask, the imprint, the privacy page and the logo, of settings by their names; a logo is a file."""
+    found = {it: given[it] for it in MORE if given.get(it)}
+    for it, value in found.items():
+        if not value.isprintable() or len(value.encode("utf-16-le")) > 2 * MOST_SENTENCE:
+            raise refusal(f"{it.upper()} has a letter that isn't printed, or more than {MOST_SENTENCE} letters")
+        if it != "contact" and not re.fullmatch(r"https://[^\s\"'<>\\]+", value):
+            raise refusal(f"{it.upper()} is no address, as https://club.example/imprint")
+    if given.get("logo"):
+        found["logo"] = logo_of(given["logo"])
+    return found
+
+
+def logo_of(path):
+    kind = PICTURES.get(os.path.splitext(path)[1].lower())
+    try:
+        with open(path, "rb") as file:
+            data = file.read(MOST_PICTURE + 1)
+    except OSError as fault:
+        raise Fault(STORAGE, f"{path} can't be read: {fault}") from None
+    if kind is None or len(data) > MOST_PICTURE:
+        raise refusal(f"{path}: a logo is an SVG, PNG, JPEG or WebP of at most {MOST_PICTURE:,} bytes")
+    return f"data:image/{kind};base64,{base64.b64encode(data).decode()}"
+
+
+def page_of(db, name, zone, titles_file, closures=(), more=()):
+    """The text of club.json. A title may have a sentence after it, as `court-1 Court 1 | Clay, flat soles`."""
     rows = db.execute("SELECT name, kind, opens, shuts FROM facilities ORDER BY rowid").fetchall()
     titles = titles_of(titles_file, {row[0] for row in rows}) if titles_file else {}
     if not name.isprintable():
         raise refusal("the club's name has a letter that isn't printed, or is no UTF-8")
     facilities = [
-        {"name": each, **({"title": titles[each]} if each in titles else {}), "kind": kind, "opens": opens, "shuts": shuts}
-        for each, kind, opens, shuts in rows
+        {"name": each, **titles.get(each, {}), "kind": kind, "opens": opens, "shuts": shuts} for each, kind, opens, shuts in rows
     ]
-    found = {"name": name, "zone": zone, "facilities": facilities, **({"closures": closures} if closures else {})}
+    found = {"name": name, "zone": zone, "facilities": facilities, **({"closures": closures} if closures else {}), **dict(more)}
     return json.dumps(found, ensure_ascii=False, separators=(",", ":")) + "\n"

@@ -216,8 +216,8 @@ TEXTS = {
     # Letters.
     "letter title": ("Book at {club}", "Buchen bei {club}"),
     "letter first": (
-        "Your key is called {key}. With it you book and cancel, on a telephone or at a computer.",
-        "Dein Schlüssel heißt {key}. Mit ihm buchst und sagst du ab, auf dem Telefon oder am Rechner.",
+        "Your pass is called {key}. With it you book and cancel, on a telephone or at a computer.",
+        "Dein Pass heißt {key}. Mit ihm buchst und sagst du ab, auf dem Telefon oder am Rechner.",
     ),
     "letter step 1": (
         "Open the camera of your telephone and hold it over the picture, or open the link below.",
@@ -228,12 +228,19 @@ TEXTS = {
         "Die Seite fragt, ob dieser Browser den Pass behalten soll. Auf deinem eigenen Gerät: Behalten.",
     ),
     "letter step 3": ("Choose the day, press a free slot, and book.", "Wähle den Tag, drücke auf eine freie Zeit, und buche."),
-    "letter spare": ("A spare key: for a second device, or when the first is lost.", "Ein Ersatzschlüssel: für ein zweites Gerät, oder wenn der erste verloren ist."),
+    "letter spare": ("A second pass: for another device, or when the first is lost.", "Ein zweiter Pass: für ein weiteres Gerät, oder wenn der erste verloren ist."),
+    "letter lend title": ("To lend", "Zum Verleihen"),
+    "letter lend": (
+        "Cut this half off and keep it. Open its link once, on a device of your own: then you lend a part under “Lend” on the page, as courts until"
+        " Friday, for 600 points. What is booked with it is counted by itself, and nobody can cancel your bookings there.",
+        "Diese Hälfte abschneiden und behalten. Öffne ihren Link einmal auf deinem eigenen Gerät: Dann verleihst du auf der Seite unter „Leihen“"
+        " einen Teil, etwa Plätze bis Freitag, für 600 Punkte. Was damit gebucht wird, zählt für sich, und deine Buchungen kann dort niemand absagen.",
+    ),
     "letter care": (
         "Whoever has this sheet books with your points. Throw it away afterwards, or keep it like the key of your house. For somebody else the"
-        " office makes a key of their own. If you lost this sheet or the telephone, call the office.",
+        " office makes a pass of their own. If you lost this sheet or the telephone, call the office.",
         "Wer dieses Blatt hat, bucht mit deinen Punkten. Wirf es danach weg oder verwahre es wie einen Hausschlüssel. Für jemand anderen macht"
-        " das Büro einen eigenen Schlüssel. Hast du das Blatt oder das Telefon verloren, ruf das Büro an.",
+        " das Büro einen eigenen Pass. Hast du das Blatt oder das Telefon verloren, ruf das Büro an.",
     ),
     "letters made": ("{count} sheets for {members} members are in {file}", "{count} Blätter für {members} Mitglieder sind in {file}"),
     # The board's page.
