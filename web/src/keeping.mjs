@@ -114,16 +114,16 @@ export function keepSpares(texts) {
 }
 
 function isLoan(each) {
-  return typeof each === "object" && each !== null && [each.given, each.says].every((text) => typeof text === "string") && typeof each.isSpare === "boolean";
+  return typeof each === "object" && each !== null && [each.given, each.says, each.spare].every((text) => typeof text === "string");
 }
 
-// Each with its pass as it was handed on, its sentence, and whether it is of a spare pass.
+// Each with its pass as it was handed on, its sentence, and the spare pass that it is a part of, "" where it is of none.
 export function keptLoans() {
-  return keptList("loans", isLoan).map(({ given, says, isSpare }) => ({ given, says, isSpare, ...splitGiven(given) }));
+  return keptList("loans", isLoan).map(({ given, says, spare }) => ({ given, says, spare, ...splitGiven(given) }));
 }
 
-export function keepLoan({ given, says, isSpare }) {
-  return keep(true, "loans", JSON.stringify([{ given, says, isSpare }, ...keptList("loans", isLoan)].slice(0, MOST_LOANS)));
+export function keepLoan({ given, says, spare }) {
+  return keep(true, "loans", JSON.stringify([{ given, says, spare }, ...keptList("loans", isLoan)].slice(0, MOST_LOANS)));
 }
 
 export function dropLoan({ given }) {

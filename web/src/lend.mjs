@@ -49,14 +49,14 @@ export function passOrNull(text) {
   }
 }
 
-// The keys of which a loan goes on at a moment.
-export function keysLent(loans, moment) {
-  const going = loans.map(({ text }) => passOrNull(text)).filter((pass) => pass !== null && (endOf(pass) ?? "9999") > moment);
-  return new Set(going.map(keyName));
+// The spare passes, as texts, of which a loan goes on at a moment.
+export function sparesLent(loans, moment) {
+  const goesOn = (pass) => pass !== null && (endOf(pass) ?? "9999") > moment;
+  return new Set(loans.filter(({ text, spare }) => spare !== "" && goesOn(passOrNull(text))).map(({ spare }) => spare));
 }
 
 // Spare passes of which nothing is lent, in their order.
 export function freeSpares(spares, loans, moment) {
-  const lent = keysLent(loans, moment);
-  return spares.map((text) => ({ text, pass: passOrNull(text) })).filter(({ pass }) => pass !== null && keyName(pass) !== null && !lent.has(keyName(pass)));
+  const lent = sparesLent(loans, moment);
+  return spares.filter((text) => !lent.has(text)).map((text) => ({ text, pass: passOrNull(text) })).filter(({ pass }) => pass !== null && keyName(pass) !== null);
 }

@@ -6,7 +6,7 @@ import { ask } from "./desk.mjs";
 import { question, tell } from "./dialog.mjs";
 import { button, byName, element, put } from "./elements.mjs";
 import { dropLoan, keepLoan, keepSpares, keptLoans, keptSpares, plainName } from "./keeping.mjs";
-import { allowsFacility, endOf, freeSpares, keysLent, limitOf, linesOf, passOrNull } from "./lend.mjs";
+import { allowsFacility, endOf, freeSpares, limitOf, linesOf, passOrNull, sparesLent } from "./lend.mjs";
 import { canSign, keyName, narrowed, withSpent, writePass } from "./pass.mjs";
 import { Fault } from "./pass_faults.mjs";
 import { faultText, sentenceOf } from "./pass_words.mjs";
@@ -21,7 +21,7 @@ const POINTS = [200, 600, 1000];
 const LONGEST_LOAN = 365; // days
 const DENSE = 90; // modules: from here on a camera has to come close
 
-const spentBy = new Map(); // what spare keys spent, by their names, as the desk last said
+const spentBy = new Map(); // what the keys of spare passes spent, by their texts, as the desk last said
 
 // ---- The choices
 
@@ -100,10 +100,10 @@ function whyOwn() {
 async function basisOf() {
   for (const { text, pass } of freeSpares(keptSpares(), keptLoans(), clubMoment())) {
     const reply = await ask(text, "account", {}, 2);
-    if (reply.fault === undefined && (state.account === null || reply.member === state.account.member)) return { pass, spent: reply.spent, isSpare: true };
+    if (reply.fault === undefined && (state.account === null || reply.member === state.account.member)) return { pass, spent: reply.spent, spare: text };
   }
   const account = denial("account") > 0 ? null : await ask(state.text, "account", {}, 2);
-  return { pass: state.pass, spent: account?.spent ?? spentOfKey(), isSpare: false };
+  return { pass: state.pass, spent: account?.spent ?? spentOfKey(), spare: "" };
 }
 
 async function lend(event) {
@@ -116,10 +116,10 @@ async function lend(event) {
   }
   put("lend-news", say("lend-making"));
   try {
-    const { pass, spent, isSpare } = loan.isToLook ? { pass: state.pass, spent: 0, isSpare: false } : await basisOf();
+    const { pass, spent, spare } = loan.isToLook ? { pass: state.pass, spent: 0, spare: "" } : await basisOf();
     const narrower = await narrowed({ ...pass, form: "v2" }, linesOf({ ...loan, spent }));
     const given = withSpent(writePass(narrower), loan.points === null ? 0 : spent);
-    const isKept = keepLoan({ given, says: loanText(loan), isSpare });
+    const isKept = keepLoan({ given, says: loanText(loan), spare });
     showMade(given, loanText(loan));
     put("lend-news", ...(isKept ? [] : [say("lend-not-kept")]));
     showChosen();
@@ -182,11 +182,11 @@ function showLoans() {
 function loanCard(loan) {
   const pass = passOrNull(loan.text);
   const isOver = pass !== null && (endOf(pass) ?? "9999") <= clubMoment();
-  const spent = pass === null ? undefined : spentBy.get(keyName(pass));
+  const spent = spentBy.get(loan.spare);
   const limit = pass === null ? null : limitOf(pass);
   const facts = [];
   if (isOver) facts.push(say("lend-over"));
-  if (loan.isSpare && spent !== undefined && limit !== null) facts.push(say("lend-used", { spent: Math.max(0, spent - loan.spent), most: limit - loan.spent }));
+  if (spent !== undefined && limit !== null) facts.push(say("lend-used", { spent: Math.max(0, spent - loan.spent), most: limit - loan.spent }));
   // One that goes on stays: its spare pass is lent.
   const press = isOver ? button("", say("remove"), () => { dropLoan(loan); showLend(); })
     : button("", say("lend-again"), () => showMade(loan.given, loan.says));
@@ -196,12 +196,10 @@ function loanCard(loan) {
 
 // Asks under each lent spare pass what its key spent.
 async function lookAfterLoans() {
-  const lent = keysLent(keptLoans(), clubMoment());
-  for (const text of keptSpares()) {
-    const key = keyName(passOrNull(text) ?? { identifier: [] });
-    if (!lent.has(key)) continue;
+  const lent = sparesLent(keptLoans(), clubMoment());
+  for (const text of lent) {
     const reply = await ask(text, "account", {}, 2).catch(() => null);
-    if (reply?.spent !== undefined) spentBy.set(key, reply.spent);
+    if (reply?.spent !== undefined) spentBy.set(text, reply.spent);
   }
   if (lent.size > 0) showLoans();
 }

@@ -1,7 +1,7 @@
 // A lent part of a pass: its lines, its end, and which spare pass is free.
 import assert from "node:assert/strict";
 import { test } from "node:test";
-import { allowsFacility, endOf, freeSpares, keysLent, limitOf, linesOf } from "../src/lend.mjs";
+import { allowsFacility, endOf, freeSpares, limitOf, linesOf, sparesLent } from "../src/lend.mjs";
 import { keyName, narrowed, readPass, splitGiven, withSpent, writePass } from "../src/pass.mjs";
 
 // A pass of key amy-1, under a root of sixteen zero bytes.
@@ -26,10 +26,12 @@ test("the end of a pass, its points, and the facilities that it leaves in", asyn
 
 test("a spare pass is free until a loan of it, and again after its end", async () => {
   const spare = writePass(AMY);
-  const loans = [{ text: writePass(await part("until < 2026-12-05T00:00")) }, { text: "odd" }];
+  const loans = [{ text: writePass(await part("until < 2026-12-05T00:00")), spare }, { text: "odd", spare }, { text: spare, spare: "" }];
   assert.deepEqual(freeSpares([spare, "odd"], loans, "2026-12-04T23:59"), []);
   assert.deepEqual(freeSpares([spare, "odd"], loans, "2026-12-05T00:00").map(({ pass }) => keyName(pass)), ["amy-1"]);
-  assert.deepEqual([...keysLent([{ text: spare }], "2099-12-31T23:59")], ["amy-1"]);
+  assert.deepEqual([...sparesLent([{ text: spare, spare }], "2099-12-31T23:59")], [spare]);
+  const renewed = writePass({ ...AMY, signature: AMY.signature.map((byte) => byte ^ 1) });
+  assert.deepEqual(freeSpares([spare, renewed], loans, "2026-12-04T23:59").map(({ text }) => text), [renewed]);
 });
 
 test("what a pass's key spent before goes beside it, and is no part of it", () => {
