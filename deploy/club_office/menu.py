@@ -15,6 +15,7 @@ from club_office.asking import Back, ask, ask_day, ask_facilities, ask_hours, as
 from club_office.clubs import SELF
 from club_office.counter import as_desk
 from club_office.reading import fitted, found, found_members, plain, read_hours
+from club_office.spares import spare_keys
 from club_office.texts import WEEKDAYS, day_text, language, means, say
 from club_office.values import NAME
 
@@ -96,8 +97,8 @@ def new_member_words(office):
     print(f"   -> {name}")
     quota = ask_number(say("ask quota"), 0, 99)
     points = office.points(1_000_000)
-    key = free_key(office, name)
-    return [["add-member", name, str(quota)], ["credit", name, points], ["add-key", key, name, "--to", key]]
+    keys = [free_key(office, name), *spare_keys(office.club, name)]
+    return [["add-member", name, str(quota)], ["credit", name, points], *(["add-key", key, name, "--to", key] for key in keys)]
 
 
 def new_key_words(office):
