@@ -61,7 +61,7 @@ RULE = f"<{AHEAD:+03d}>{-AHEAD}" if AHEAD else "GMT0"
 FACILITIES = [("court-1", "Court 1", "court", 4, 200, 8, 22), ("court-2", "Court 2", "court", 4, 200, 8, 22),
               ("court-3", "Court 3 (indoor)", "court", 2, 300, 8, 22), ("boat-1", "Double scull", "boat", 2, 150, 6, 22),
               ("boat-2", "Coxed four", "boat", 4, 250, 6, 22), ("room-1", None, "room", 1, 601, 8, 22)]
-FILES = ("book.html", "pass.html", "worker.js", "app.webmanifest")
+FILES = ("book.html", "pass.html", "demo.html", "worker.js", "app.webmanifest")
 CELLS = sum(shuts - opens for *_, opens, shuts in FACILITIES)
 
 
@@ -2099,7 +2099,7 @@ def other_engines(passes, server):
 def is_quick_and_small(passes, front):
     """How long the day takes over loopback with TLS, and what the pages are as they are sent."""
     zipped, sizes = ("-H", "Accept-Encoding: gzip"), {}
-    for name in ("book.html", "pass.html"):
+    for name in ("book.html", "pass.html", "demo.html"):
         size, version = fetched(front, f"/{name}", "-o", name, "-D", "head", *zipped, "-w", "%{size_download} %{http_version}").split()
         sizes[name] = int(size)
         check(sizes[name] < 75000 and version == "2", "as it is sent", name, size, version)

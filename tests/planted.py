@@ -65,7 +65,7 @@ PLANTS = {
     "page_books:lists-hide": ("web/src/record.mjs", "return isNews ? { ...own, saidCancelled: true } : own;",
                               "return isNews ? { ...own, cancel: { refund: other.listed.refund } } : own;", "a list can't show a standing booking as cancelled", ".", "lists_send_nothing"),
     "page_books:links-are-kept": ("web/src/passes_view.mjs", "      isAsked = !state.isKept;\n", "      keepThis();\n", "no button Keep it", ".", "nothing_by_itself"),
-    "page_books:odd-entries-are-sent": ("web/src/record.mjs", "if (typeof value !== \"object\" || value === null) return false;", "return true;", "sent without a press", ".", "nothing_by_itself"),
+    "page_books:odd-entries-are-sent": ("web/src/record.mjs", "if (typeof value !== \"object\" || value === null) return false;", "return true;", "odd entries", ".", "nothing_by_itself"),
     "page_books:screen-takes-the-pass": ("web/src/screen_view.mjs", "if (state.pass !== null && state.text !== screenPass()) askToKeep();",
                                          "if (state.pass !== null) keepScreenPass(state.text);", "it asks", ".", "keeps_each_pass"),
     "page_books:keeps-one-pass": ("web/src/keeping.mjs", "JSON.stringify([{ text, name }, ...others])", "JSON.stringify([{ text, name }])", "both are kept", ".", "keeps_each_pass"),
