@@ -169,9 +169,12 @@ def previews():
     day = TODAY + datetime.timedelta(1)
     for hour in (10, 11):
         server.answer(text, "PUT", f"/slots/{long}/{day}/{hour}/bookings/99999999{hour - 10}", '{"guests":9}')
-    out = done("close", str(day), "10-12", long, "--yes")
-    same("lines that are too long", [it for it in out.splitlines() if len(it) > 80], [])
-    same("a summary, in two lines", out.splitlines()[-3:], [f"in all: 2 bookings cancelled, 199980 points back to {long}, 2", "    slots closed", "done"])
+    terminal = Terminal("club", "close", str(day), "10-12", long)
+    terminal.answers(("Shall", "y"))
+    shown = (terminal.ends(), terminal.shown.replace("\r", "").split("\n"))[1]
+    same("lines that are too long", [it for it in shown if len(it) > 80], [])
+    summary = [f"in all: 2 bookings cancelled, 199980 points back to {long}, 2", "    slots closed"]
+    same("a summary, in two lines", [it for it in shown if it in summary], summary)
     server.stop()
 
 

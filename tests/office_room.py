@@ -68,10 +68,10 @@ def desk(command, *words):
 class Service:
     """A server that a manager starts again a second after each end."""
 
-    def __init__(self, port=0, at=NOON):
+    def __init__(self, port=0, at=NOON, club="club"):
         self.port, self.is_wanted, self.starts = port or free_port(), True, 0
-        self.named = ROOM / "services" / "clubdesk@club.service"
-        line = ["setpriv", "--reuid", "clubdesk", "--regid", "clubdesk", "--clear-groups", "clubdesk", "serve", CLUB, "--port", str(self.port)]
+        self.named = ROOM / "services" / f"clubdesk@{club}.service"
+        line = ["setpriv", "--reuid", "clubdesk", "--regid", "clubdesk", "--clear-groups", "clubdesk", "serve", HOME / club, "--port", str(self.port)]
         self.keeper = threading.Thread(target=self.keep, args=([*line, "--count", "1000000", "--at", at, "--log"],), daemon=True)
         self.keeper.start()
         self.is_heard()

@@ -42,7 +42,8 @@ install -m 755 "$top/deploy/office" /usr/bin/office
 install -D -m 644 -t /usr/lib/clubdesk/club_office "$top"/deploy/club_office/*.py
 install -m 440 "$top/deploy/office.sudoers" /etc/sudoers.d/clubdesk-office
 mkdir -p /usr/lib/clubdesk /usr/share/doc/clubdesk/examples /usr/share/clubdesk/web
-find "$top/deploy" -maxdepth 1 -type f -perm -100 ! -name office -exec install -m 755 -t /usr/lib/clubdesk {} +
+install -m 755 "$top/deploy/clubdesk-setup" /usr/bin/clubdesk-setup
+find "$top/deploy" -maxdepth 1 -type f -perm -100 ! -name office ! -name clubdesk-setup -exec install -m 755 -t /usr/lib/clubdesk {} +
 install -m 644 -t /usr/share/doc/clubdesk/examples "$top"/deploy/*.conf
 find "$top/web" -maxdepth 1 -type f -exec install -m 644 -t /usr/share/clubdesk/web {} +
 

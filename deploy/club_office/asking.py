@@ -21,9 +21,11 @@ def is_terminal():
 
 
 def show_lines(lines):
-    """Prints lines as a terminal of 80 columns shows them."""
+    """Prints lines, at a terminal as 80 columns show them."""
     for line in lines:
-        print(textwrap.fill(line, 80, subsequent_indent="    ", break_long_words=False, break_on_hyphens=False), flush=True)
+        if sys.stdout.isatty():
+            line = textwrap.fill(line, 80, subsequent_indent="    ", break_long_words=False, break_on_hyphens=False)
+        print(line, flush=True)
 
 
 def ask(text):

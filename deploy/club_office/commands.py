@@ -329,13 +329,11 @@ def at_desk(given):
         return 0
     if words.command == "new-year":
         return correct(club, words, lambda db, found, now: plans.plan_new_year(db, found, now, club))
-    if words.command == "undo":
-        return correct(club, words, lambda db, _words, _now: plan_undo(db, club))
     if command.kind == CORRECTION:
-        status = correct(club, words, command.does)
+        status = correct(club, words, command.does or (lambda db, _words, _now: plan_undo(db, club)))
         if status == 0 and words.command == "close" and words.why:
             outputs.keep_reasons(club, words)
-        if status == 0 and words.command in ("set-facility", "close", "reopen-slot"):
+        if status == 0 and words.command in ("set-facility", "close", "reopen-slot", "undo"):
             outputs.page_again(club)
         return status
     if command.kind == DESK:

@@ -40,10 +40,10 @@ def clear_killed(home):
                 shutil.rmtree(stale)
 
 
-def homes(club):
-    """Where copies are made: in memory if it has room for them, and beside the club's file."""
-    beside = os.path.dirname(club.file)
-    size = sum(os.path.getsize(club.file + it) for it in ("", "-wal") if os.path.exists(club.file + it))
+def homes(club, file=None):
+    """Where copies of the club, or of another file, are made: in memory if it has room for them, and beside the club's file."""
+    beside, file = os.path.dirname(club.file), file or club.file
+    size = sum(os.path.getsize(file + it) for it in ("", "-wal") if os.path.exists(file + it))
     found = [beside]
     if os.access(MEMORY, os.W_OK | os.X_OK):
         room = os.statvfs(MEMORY)

@@ -80,5 +80,5 @@ def print_report(club, words):
         year = words.year or today.year
         if year > today.year:
             raise refusal(f"{year} is to come")
-        sys.stdout.write(report_of(club, db, year, today, not words.no_names))
+        sys.stdout.buffer.write(report_of(club, db, year, today, not words.no_names).encode())
     return 0

@@ -9,7 +9,7 @@ import subprocess
 from club_office.asking import confirms, show_lines
 from club_office.book import Turn, refuse
 from club_office.clubs import now_of, program, refuse_to_come
-from club_office.copies import address, keep_before, lost_name, scratch, snapshot, synced
+from club_office.copies import address, homes, keep_before, lost_name, scratch, snapshot, synced
 from club_office.corrections import ended, file_taken
 from club_office.faults import REFUSED, STORAGE, Fault, refusal
 from club_office.lists import faults, table
@@ -42,7 +42,7 @@ def copy_opened(club, called):
     if not path:
         raise refusal(f"there is no copy {called}; `office {club.name} copies` lists them")
     memory = sqlite3.connect(":memory:", isolation_level=None)
-    with scratch(club) as folder:
+    with scratch(club, homes(club, path)[0]) as folder:
         copy = os.path.join(folder, "copy")
         shutil.copyfile(path, copy)
         done = subprocess.run([program("CLUBDESK", "clubdesk"), "sheet", "--", copy, "2000-01-01"], capture_output=True, text=True, check=False)
