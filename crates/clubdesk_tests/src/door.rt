@@ -2,10 +2,10 @@
 
 use crate::expect::expect_eq;
 use crate::runs::{Row, expect_rows, new_path, remove};
-use clubdesk_files::FileDoor;
+use clubdesk_files::{FileDoor, may_make_door};
 use desk_server::Door;
 use std::fs;
-use std::os::unix::fs::{FileTypeExt, MetadataExt};
+use std::os::unix::fs::{FileTypeExt, MetadataExt, symlink};
 use std::os::unix::net::UnixStream;
 use std::test::Fail;
 
@@ -90,6 +90,44 @@ fn no_door_over_a_file(rt: HostRuntime) -> Result<(), Fail> {
     fs::remove_dir(&rt, place.as_str())?;
     remove(&rt, path.as_str());
     Ok(())
+}
+
+// A link at the door's name stays, also one to a socket: no door is made, and none is used.
+#[test]
+fn no_door_over_a_link(rt: HostRuntime) -> Result<(), Fail> {
+    let path = new_path(&rt, "linked-door")?;
+    expect_rows(&rt, path.as_str(), &AMY)?;
+    let door = FileDoor::make(&rt, path.as_str())?;
+    let place = door_of(&rt, path.as_str())?;
+    let elsewhere = format!(in rt.alloc(); "{path}-elsewhere")?;
+    fs::rename(&rt, place.as_str(), elsewhere.as_str())?;
+    symlink(&rt, elsewhere.as_str(), place.as_str())?;
+    expect_eq(&rt, &FileDoor::make(&rt, path.as_str()).is_err(), &true);
+    expect_rows(&rt, path.as_str(), &NO_DOOR)?;
+    fs::remove_file(&rt, place.as_str())?;
+    drop(door);
+    fs::remove_file(&rt, elsewhere.as_str())?;
+    remove(&rt, path.as_str());
+    Ok(())
+}
+
+static NO_DOOR: [Row; 1] = [Row("add-member", "bob 5", "5 storage failed")];
+
+/// Users, the owner of the file, the user of the command; and whether the user may make the door.
+static MAKERS: [(u32, u32, u32, bool); 6] = [
+    (1000, 1000, 2000, true),
+    (2000, 1000, 2000, true),
+    (0, 1000, 2000, true),
+    (3000, 1000, 2000, false),
+    (1, 0, 0, false),
+    (4_294_967_295, 0, 0, false),
+];
+
+#[test]
+fn who_may_make_a_door(rt: HostRuntime) {
+    for (user, owner, caller, want) in &MAKERS {
+        expect_eq(&rt, &may_make_door(*user, *owner, *caller), want);
+    }
 }
 
 static NO_SERVER: [Row; 2] = [
