@@ -146,7 +146,7 @@ fn alike(replies: &[String], wanted: &[&str]) -> usize {
         if reply.as_str() != *text {
             return alike;
         }
-        alike += 1;
+        alike = alike.saturating_add(1);
     }
     alike
 }

@@ -27,19 +27,15 @@ pub(crate) enum Fate {
 pub(crate) struct Fates(Fate, Fate, Fate);
 
 /// What is tried of the newest change of a file.
-static TRIED: [Fates; 13] = [
+static TRIED: [Fates; 9] = [
     Fates(Fate::Kept, Fate::Lost, Fate::Kept),
     Fates(Fate::Kept, Fate::FirstHalf, Fate::Kept),
     Fates(Fate::Kept, Fate::AllButOne, Fate::Kept),
     Fates(Fate::Kept, Fate::LastHalf, Fate::Kept),
     Fates(Fate::Kept, Fate::EverySecond, Fate::Kept),
     Fates(Fate::Lost, Fate::Kept, Fate::Kept),
-    Fates(Fate::Lost, Fate::Kept, Fate::Lost),
     Fates(Fate::Kept, Fate::Kept, Fate::Lost),
-    Fates(Fate::Lost, Fate::FirstHalf, Fate::Lost),
     Fates(Fate::Lost, Fate::EverySecond, Fate::Lost),
-    Fates(Fate::FirstHalf, Fate::FirstHalf, Fate::FirstHalf),
-    Fates(Fate::LastHalf, Fate::LastHalf, Fate::LastHalf),
     Fates(Fate::EverySecond, Fate::EverySecond, Fate::EverySecond),
 ];
 
