@@ -171,10 +171,12 @@ def season_points():
 
 def bookings_for_callers():
     """A booking for a member who calls, killed and given again, is one."""
+    done("add-member", "caller", "99")
+    done("credit", "caller", "10000")
     server = Service()
     configure(PORT=server.port)
     for hour in range(min(given.kills, 10)):
-        words = ["book", "zoe", "room-1", "2026-05-20", str(hour), "1"]
+        words = ["book", "caller", "room-1", "2026-05-20", str(hour), "1"]
         killed_after(chance.uniform(0.2, 2.5), words)
         status, _, errors = office(*words)
         same(f"a booking, again at {hour}", (status == 0, "already" in errors) in ((True, False), (False, True)), True)

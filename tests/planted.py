@@ -49,7 +49,7 @@ PLANTS = {
                                  'raise refusal(say("not confirmed"))', "a correction that isn't confirmed: wanted", "findings"),
     "office_holds:silent": ("deploy/club_office/book.py", "settimeout(WAITS_FOR_JOURNAL)", "settimeout(None)", "an order beside a silent journal: wanted", "findings"),
     "office_holds:programs": ("deploy/club_office/commands.py", "            forget_environment()", "            pass", "what ran as the desk: wanted", "findings"),
-    "office_holds:inner": ("deploy/club_office/importing.py", "or not roots or not all(", "or not all(", "nobody is made: wanted", "findings"),
+    "office_holds:inner": ("deploy/club_office/importing.py", "or not roots or not all(", "or not all(", "the roots : wanted", "findings"),
     "office_holds:stopped": ("deploy/club_office/book.py", "signal.signal(number, signal.SIG_IGN) for", "signal.getsignal(number) for", "an order at signal", "findings"),
     "office_holds:came-since": ("deploy/club_office/counter.py", "named = name_new(written(words.to, text.decode()), words.to)",
                                 "named = os.rename(written(words.to, text.decode()), words.to) or words.to", "a file that came since: wanted", "findings"),
