@@ -182,13 +182,14 @@ wait "$slow" || :
 
 # ---- The limits. Of a pass 1,000 at once pass, and then there is a sentence, while another pass has its replies, and so has the same one
 # a second later. Of an address twice as many.
-# flood NAME COUNT [WORD..]: so many requests at once, with words for curl. How many passed and were limited, which are all.
+# flood NAME COUNT [WORD..]: so many requests at once, with words for curl, for a file, which is sooner there than a reply of the desk. How
+# many passed and were limited, which are all.
 flood() {
     name=$1 count=$2
     shift 2
-    curl --no-progress-meter -Z --parallel-max 40 -o "got.$name.#1" -w '%{http_code}\n' "$@" "$site/account#[1-$count]" >"statuses.$name" || :
+    curl --no-progress-meter -Z --parallel-max 40 -o "got.$name.#1" -w '%{http_code}\n' "$@" "$site/club.json?[1-$count]" >"statuses.$name" || :
     limited=$(grep -c '^429' "statuses.$name" || :)
-    passed=$(grep -cE '^(401|200)' "statuses.$name" || :)
+    passed=$(grep -c '^200' "statuses.$name" || :)
     [ $((passed + limited)) = "$count" ] || fail "of $count at once $passed passed and $limited were limited"
 }
 sleep 2

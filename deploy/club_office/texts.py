@@ -233,7 +233,7 @@ TEXTS = {
     "letter lend": (
         "Cut this half off and keep it. Open its link once, on a device of your own: then you lend a part under “Lend” on the page, as courts until"
         " Friday, for 600 points. What is booked with it is counted by itself, and nobody can cancel your bookings there.",
-        "Diese Hälfte abschneiden und behalten. Öffne ihren Link einmal auf deinem eigenen Gerät: Dann verleihst du auf der Seite unter „Leihen“"
+        "Diese Hälfte abschneiden und behalten. Öffne ihren Link einmal auf deinem eigenen Gerät: Dann verleihst du auf der Seite unter „Verleihen“"
         " einen Teil, etwa Plätze bis Freitag, für 600 Punkte. Was damit gebucht wird, zählt für sich, und deine Buchungen kann dort niemand absagen.",
     ),
     "letter care": (

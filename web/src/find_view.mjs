@@ -6,7 +6,7 @@ import { daysLater, hourText } from "./dates.mjs";
 import { ask, eachAtOnce } from "./desk.mjs";
 import { closeDialog, openDialog } from "./dialog.mjs";
 import { button, byName, element, put } from "./elements.mjs";
-import { keepSearch, keptSearch } from "./keeping.mjs";
+import { keepSearch, keptSearch, lastBooked } from "./keeping.mjs";
 import { isDenied } from "./points.mjs";
 import { DAYS_AHEAD, hasBegun, isTooFarAhead, slotName, stateOf } from "./record.mjs";
 import { refusalText } from "./refusals.mjs";
@@ -59,7 +59,7 @@ function hasOwn(slot) {
 // Shows seven days from a day on.
 export function showFind(day) {
   firstDay = day;
-  search = { ...search, ...keptSearch() };
+  search = { ...search, ...hoursOfLast(), ...keptSearch() };
   const kinds = kindsToFind();
   if (!kinds.includes(search.kind)) search.kind = kinds[0] ?? null;
   put("find-kinds", ...(kinds.length < 2 ? [] : kinds.map((kind) => {
@@ -71,6 +71,12 @@ export function showFind(day) {
   fillHours("find-to", search.to, 1);
   put("find-news");
   lookWeek();
+}
+
+// Without a search of before it begins at the hour of the last booking.
+function hoursOfLast() {
+  const hour = lastBooked()?.hour;
+  return hour >= 0 && hour < 24 ? { from: hour, to: Math.min(hour + 2, 24) } : {};
 }
 
 function fillHours(id, chosen, first) {
