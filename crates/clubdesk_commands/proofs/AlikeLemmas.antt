@@ -102,16 +102,16 @@ module _ {D E : Type 0} (Alike : D → D → (E → E → Type 0) → Type 0)
           (λ e now next before it. served.more turns turn c now f1 c' next f' before due it)
 
     module _ {Machine : Type 0} (Shows : Machine → Option Timestamp → Type 0) (machine : Machine) (service : Service) (turns : List Turn)
-      (Noted : List Turn → Type 0)
-    where
-      pub run_alike : {old new : D} (result : Result Unit Fault) → RunsServer Shows machine Answers Carries service turns old new Noted result
-          → Alike old new (λ e next. RunsServer Shows machine Answers' Carries' service turns e next Noted result)
-      run_alike result (run.listened outcome last failures is it noted) =
-          so _ _ _ _ (all (showing Shows) (service.clock, machine) _ 0 it.turns it.last _ failures it.before)
-          (λ e next before. run.listened outcome last failures is (record {
-            turns = it.turns;
-            last = it.last;
-            before = before;
-            ends = it.ends;
-          }) noted)
-      run_alike result (run.not_listened fault none kept nothing) = same _ _ _ kept (λ e. run.not_listened fault none refl nothing)
+        (Noted : List Turn → Type 0)
+      where
+        pub run_alike : {old new : D} (result : Result Unit Fault) → RunsServer Shows machine Answers Carries service turns old new Noted result
+            → Alike old new (λ e next. RunsServer Shows machine Answers' Carries' service turns e next Noted result)
+        run_alike result (run.listened outcome last failures is it noted) =
+            so _ _ _ _ (all (showing Shows) (service.clock, machine) _ 0 it.turns it.last _ failures it.before)
+            (λ e next before. run.listened outcome last failures is (record {
+              turns = it.turns;
+              last = it.last;
+              before = before;
+              ends = it.ends;
+            }) noted)
+        run_alike result (run.not_listened fault none kept nothing) = same _ _ _ kept (λ e. run.not_listened fault none refl nothing)
