@@ -2245,7 +2245,8 @@ def main():
                     step(page, *words)
             others = [address for _, address in page.requests() if not address.startswith((page.address.rsplit("/", 1)[0], "about:", "data:", "blob:"))]
             check(not others, "the page asks for", others)
-            check(not page.complaints(), "the console says", page.complaints())
+            complaints = page.complaints()
+            check(not complaints, "the console says", complaints)
 
     one_browser((books_and_cancels, passes), (day_says_what_is, passes), (leaves_out_what_the_pass_denies, passes))
     one_browser((refusals_say_what_to_do, passes, between),)

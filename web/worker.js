@@ -24,7 +24,8 @@ async function dropOthers() {
 
 async function fetched(event, path) {
   const response = await fetch(event.request);
-  event.waitUntil(caches.open(CACHE).then((cache) => keepIn(cache, path, response.clone())));
+  const copy = response.clone(); // before the page takes the body
+  event.waitUntil(caches.open(CACHE).then((cache) => keepIn(cache, path, copy)).catch(() => {}));
   return response;
 }
 
