@@ -40,6 +40,7 @@ install -m 755 "$desk" /usr/bin/clubdesk
 install -m 755 "$tool" /usr/bin/passtool
 install -m 755 "$top/deploy/office" /usr/bin/office
 install -D -m 644 -t /usr/lib/clubdesk/club_office "$top"/deploy/club_office/*.py
+/usr/bin/python3 -m compileall -q /usr/lib/clubdesk/club_office
 install -m 440 "$top/deploy/office.sudoers" /etc/sudoers.d/clubdesk-office
 mkdir -p /usr/lib/clubdesk /usr/share/doc/clubdesk/examples /usr/share/clubdesk/web
 install -m 755 "$top/deploy/clubdesk-setup" /usr/bin/clubdesk-setup
