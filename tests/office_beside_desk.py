@@ -28,7 +28,7 @@ import pytest
 
 import desk
 from conftest import Club
-from kinds import ACCOUNT, ROOT, TWO, book, booked, cancel, key_pass, slot, text, view
+from kinds import ACCOUNT, NOON, ROOT, TWO, book, booked, cancel, key_pass, slot, text, view
 
 PASSES = {place: text(key_pass(f"k{place}")) for place in range(1, 5)}
 DONE, FAILED = (0, "done\n", ""), (5, "", "storage failed\n")
@@ -172,7 +172,7 @@ def test_file_that_is_gone(made, is_replaced):
         if is_replaced:
             shutil.copy(made.file, club.file)
         assert server.exchange(ACCOUNT.under(PASSES[1]).data).startswith(b"HTTP/1.1 503 ")
-        for words in (("credit", "m2", "1"), ("add-member", "new", "1"), ("sheet", "2026-05-01"), ("show-account", "k2", "--at", kinds.NOON)):
+        for words in (("credit", "m2", "1"), ("add-member", "new", "1"), ("sheet", "2026-05-01"), ("show-account", "k2", "--at", NOON)):
             assert club.command(*words) == FAILED, words
         assert club.file.exists() == is_replaced
         assert not is_replaced or club.file.read_bytes() == made.file.read_bytes()
