@@ -267,7 +267,7 @@ class SpecsFile:
         """Splits the text into declarations; those within `module _ (..) where` are indented, and share its parameters."""
         lines = self.text.splitlines()
         raw = self.raw.splitlines()
-        outer = []  # (indent, telescope)
+        outer = []  # (indent, telescope, indent of what is within)
         at, last = 0, None
         while at < len(lines):
             line = lines[at]
@@ -277,7 +277,7 @@ class SpecsFile:
             indent = indent_of(line)
             while outer and indent <= outer[-1][0]:
                 outer.pop()
-            base = outer[-1][0] + 2 if outer else 0
+            base = outer[-1][2] if outer else 0
             end = at + 1
             while end < len(lines) and (not lines[end].strip() or indent_of(lines[end]) > base or lines[end].startswith(" " * base + "}")):
                 end += 1
@@ -285,8 +285,9 @@ class SpecsFile:
             words = chunk.split()
             if words[0] == "module":
                 head = chunk[: re.search(r"\bwhere\b", chunk).end()]
-                outer.append((indent, re.sub(r"^\s*module _|where$", "", head)))
                 at += head.count("\n") + 1
+                within = next((indent_of(it) for it in lines[at:] if it.strip()), 0)
+                outer.append((indent, re.sub(r"^\s*module _|where$", "", head), within))
                 continue
             if words[0] in ("use", "mod", "infixl", "infixr", "infix") or words[:2] in (["pub", "use"], ["pub", "mod"]):
                 at = end
