@@ -4,7 +4,9 @@
 
 use super::doubles::{Stopped, Ticking};
 use super::noon;
-use super::years::YEARS;
+use super::years::{
+    BEFORE_SUMMER, BEFORE_WINTER, SUMMER_BEGINS, SUMMERS, Seen, WINTER_BEGINS, WINTERS,
+};
 use super::zones::BERLIN;
 use crate::expect::expect_eq;
 use crate::rows::{expect_row, moment};
@@ -69,11 +71,28 @@ fn shows_the_minute_of_a_clock(rt: HostRuntime) {
     }
 }
 
-#[test]
-fn shows_the_minutes_of_each_year(rt: HostRuntime) {
-    for (second, text) in &YEARS {
-        shows(&rt, &(BERLIN, Some(*second), Some(*text)));
+fn shows_in_berlin(rt: &impl Abort, seen: &[Seen]) {
+    for (second, text) in seen {
+        shows(rt, &(BERLIN, Some(*second), Some(*text)));
     }
+}
+
+#[test]
+fn shows_the_night_of_each_winter_and_summer(rt: HostRuntime) {
+    shows_in_berlin(&rt, &WINTERS);
+    shows_in_berlin(&rt, &SUMMERS);
+}
+
+#[test]
+fn shows_the_beginning_of_each_summer_time(rt: HostRuntime) {
+    shows_in_berlin(&rt, &BEFORE_SUMMER);
+    shows_in_berlin(&rt, &SUMMER_BEGINS);
+}
+
+#[test]
+fn shows_the_end_of_each_summer_time(rt: HostRuntime) {
+    shows_in_berlin(&rt, &BEFORE_WINTER);
+    shows_in_berlin(&rt, &WINTER_BEGINS);
 }
 
 /// The second at which 2030 begins, and its moment.

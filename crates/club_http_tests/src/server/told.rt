@@ -1,6 +1,8 @@
 //! Exchanges of the server over a stream that tells its bytes, both those to come and those that it
 //! took, so that the contract of an exchange speaks of each of them.
 
+ghost use Rattle.std.specs.Prelude.{◌≤◌};
+
 use super::doubles::{Letter, Noting, STOPPED};
 use super::{REPLY, REQUEST, always};
 use crate::expect::expect_bytes;
@@ -29,8 +31,6 @@ struct Told<'a> {
 }
 
 impl<'a> Told<'a> {
-    ghost use Rattle.std.specs.Prelude.{◌≤◌};
-
     fn new(bytes: &'a [u8], step: usize, limit: usize) -> Told<'a> {
         Told {
             left: bytes,
