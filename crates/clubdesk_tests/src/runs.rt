@@ -116,13 +116,19 @@ pub fn remove(rt: &HostRuntime, path: &str) {
 
 /// The status of a run, with what it wrote or the line of its fault.
 fn output_text(rt: &HostRuntime, ended: &Ended, written: &[u8]) -> Result<String, AllocError> {
-    let Ended { status, printed } = ended;
-    let text = match status {
-        0 => str::from_utf8(written).unwrap_or("no text"),
-        2 => printed.as_str(),
-        _ => printed.as_str().strip_suffix('\n').unwrap_or("no line"),
-    };
-    format!(in rt.alloc(); "{status} {text}")
+    let status = ended.status;
+    let printed = ended.printed.as_str();
+    match status {
+        0 => match str::from_utf8(written) {
+            Ok(text) => format!(in rt.alloc(); "{status} {text}"),
+            Err(_) => format!(in rt.alloc(); "{status} no text"),
+        },
+        2 => format!(in rt.alloc(); "{status} {printed}"),
+        _ => match printed.strip_suffix('\n') {
+            Some(line) => format!(in rt.alloc(); "{status} {line}"),
+            None => format!(in rt.alloc(); "{status} no line"),
+        },
+    }
 }
 
 /// How a process of the program ended: its status, and what it printed on standard error.

@@ -152,21 +152,25 @@ static BOOKINGS: [(usize, usize, usize); 9] = [
     (16_384, 256, 520),
 ];
 
-fn books(rt: &HostRuntime, row: &(usize, usize, usize), reply: Reply) -> Result<(), Fail> {
+/// How many bytes a booking has, what the desk was asked, and what came back.
+fn books(
+    rt: &HostRuntime,
+    row: &(usize, usize, usize),
+) -> Result<(usize, Option<Request>, Vec<u8>), Fail> {
     let (head, body, step) = row;
+    let reply = BOOKED_7.reply().ok_or("a reply")?;
     let request = booking_of(rt, *head, *body)?;
-    expect_eq(rt, &request.len(), &head.saturating_add(*body));
     let (last, got) = exchange(rt, &request, *step, reply)?;
-    expect_row(rt, &last, &BOOK_7.request(), row);
-    expect_bytes(rt, &got, exchanges::BOOKED_7.as_bytes(), "a reply");
-    Ok(())
+    Ok((request.len(), last, got))
 }
 
 #[test]
 fn requests_of_each_length(rt: HostRuntime) -> Result<(), Fail> {
     for row in &BOOKINGS {
-        let reply = BOOKED_7.reply().ok_or("a reply")?;
-        books(&rt, row, reply)?;
+        let (len, last, got) = books(&rt, row)?;
+        expect_eq(&rt, &len, &row.0.saturating_add(row.1));
+        expect_row(&rt, &last, &BOOK_7.request(), row);
+        expect_bytes(&rt, &got, exchanges::BOOKED_7.as_bytes(), "a reply");
     }
     Ok(())
 }
