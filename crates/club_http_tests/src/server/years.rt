@@ -1,5 +1,6 @@
-//! What a clock in Berlin shows in each year from 2000 to 2099: the seconds after 1970 began, and the
-//! minute that the clock shows. A program in another language computed it, from the zone database.
+//! What a clock in Berlin shows in each year from 2000 to 2099: the seconds after 1970 began, and
+//! the minute that the clock shows. A program in another language computed it, from the zone
+//! database.
 
 /// A second, and the minute that the clock shows.
 pub(super) type Seen = (u64, &'static str);
