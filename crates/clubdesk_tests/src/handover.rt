@@ -70,8 +70,9 @@ fn hands_a_command_over(rt: HostRuntime) -> Result<(), Fail> {
     Ok(())
 }
 
-/// What is no greeting.
-static NO_GREETINGS: [&[u8]; 3] = [b"", b"?\0done\n", b"\0done\n"];
+/// What is no greeting. The system resets a connection that is closed while bytes of it are unread,
+/// so each is one byte or none.
+static NO_GREETINGS: [&[u8]; 3] = [b"", b"?", b"\0"];
 
 // A server that greets otherwise, or is gone, is handed nothing.
 fn hands_nothing(rt: &HostRuntime, bytes: &[u8]) -> Result<(), Fail> {
