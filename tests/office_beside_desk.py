@@ -273,12 +273,12 @@ def test_killed_command_or_server(club, number):
 
 
 def test_server_that_ends_takes_its_door_along(club):
-    """And what an older version left."""
-    left = [Path(f"{club.file}-{ending}") for ending in ("wanted", "serving", "paused")]
-    for it in left:
-        it.write_text("127.0.0.1:1\n")
+    """And nothing else: a file beside it may be another club."""
+    others = [Path(f"{club.file}-{ending}") for ending in ("wanted", "serving", "paused")]
+    for it in others:
+        it.write_text("another's\n")
     with club.served(count=1) as server:
-        assert not any(it.exists() for it in left)
+        assert all(it.read_text() == "another's\n" for it in others)
         assert server.exchange(ACCOUNT.under(PASSES[1]).data).startswith(b"HTTP/1.1 200 ")
     assert not Path(f"{club.file}-office").exists()
 
