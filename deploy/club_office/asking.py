@@ -99,7 +99,7 @@ def ask_day(prompt, today):
 
 
 def doubts(day, today):
-    """What is odd about a day on which something is to be done; None for a day that is to come and can be booked."""
+    """What is odd about a day for a booking or a closure. None for a day to come that can be booked."""
     if day < today:
         return say("is past", day=day_text(day))
     if day > today + datetime.timedelta(BOOKABLE_DAYS):

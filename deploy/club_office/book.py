@@ -18,7 +18,7 @@ from club_office.faults import STORAGE, Fault
 WAITS_FOR_TURN = 60
 WAITS_FOR_JOURNAL = 2
 JOURNAL = "/run/systemd/journal/socket"
-# A line has so many bytes at most, so that the journal and the file take it whole.
+# The most bytes of a line: the journal and the file take it whole.
 MOST_LINE = 8_000
 BEGUN = re.compile(r"(?s)20[0-9-]{8}T[0-9:]{8} \S+ \? .*")
 # What a terminal sends at Ctrl-Z, at its end, and to whoever is behind. An order that has its turn goes on.

@@ -21,7 +21,7 @@ class Club(collections.namedtuple("Club", "name file zone stop book back_ups set
 
     @property
     def is_old(self):
-        """Whether it is the file of an old year, of which there are lists alone."""
+        """Whether it is the file of an old year. It can only be listed."""
         return "@" in self.name
 
     @property

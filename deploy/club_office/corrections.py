@@ -123,8 +123,8 @@ def ended(club):
 
 
 def change(db, plan, keep):
-    """Carries the statements of a plan out in one transaction, and commits it only if the club stays as sound as it was. What is to be kept
-    of it is kept before the commit."""
+    """Runs the statements of a plan in one transaction, and commits it only if the club stays as sound as it was. Calls `keep` right
+    before the commit."""
     db.execute("BEGIN EXCLUSIVE")
     try:
         before, kept = faults(db), rows_kept(db, plan)

@@ -95,7 +95,7 @@ def list_bookings(db, words, now):
 
 
 def asked_of_bookings(db, what):
-    """The column and the value of which the bookings are asked for: a day, a member's, or a facility's."""
+    """The column and the value that select the bookings: a day, a member or a facility."""
     if re.fullmatch(r"[0-9]{4}-[0-9]{2}-[0-9]{2}", what):
         return "day", day(what)
     name(what)

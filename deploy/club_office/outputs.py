@@ -56,7 +56,7 @@ def write_page(club):
 
 
 def keep_reasons(club, words):
-    """Keeps why slots were closed. They are closed, whatever comes of it."""
+    """Keeps why slots were closed. The slots stay closed if this fails."""
     try:
         add_reasons(club, words, clock() // 1440)
     except OSError as fault:
@@ -64,7 +64,7 @@ def keep_reasons(club, words):
 
 
 def page_again(club):
-    """Makes the page's list anew after what it shows has changed, if the club has pages. What was ordered is done, whatever comes of it."""
+    """Makes the page's list anew after what it shows has changed, if the club has pages. The command is done even if this fails."""
     if not club.settings.get("pages"):
         return
     try:

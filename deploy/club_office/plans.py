@@ -21,7 +21,7 @@ class Plan:
         self.changes = []
         # Queries whose rows are the same before and after.
         self.keeps = []
-        # The path to which the file is copied before, or None.
+        # Where the file is copied before the change, or None.
         self.copy_to = None
         # What the summary counts.
         self.cancelled, self.closed, self.opened = [], 0, 0

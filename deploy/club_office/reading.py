@@ -23,7 +23,7 @@ def plain(text):
 
 
 def fitted(text, most):
-    """A name of a text: small letters, digits and hyphens, at most so many."""
+    """A name made of a text: small letters, digits and hyphens, at most `most` of them."""
     return re.sub(r"[^a-z0-9]+", "-", plain(text)).strip("-")[:most].strip("-")
 
 

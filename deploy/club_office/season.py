@@ -1,4 +1,4 @@
-"""The season's points: a credit of every member, under a name by which it is given once, however often it is asked for.
+"""The season's points: a credit of every member under a name. It is given once for each name.
 
 A line of FILE-seasons is written before and after each member's credit, so a run that was broken off goes on where it was."""
 

@@ -98,7 +98,7 @@ class Reader:
         return self.one_of(word, lambda: list(dict.fromkeys([*found_members(word, self.names), *found(word, self.names.facilities)])))
 
     def one_of(self, word, fitting):
-        """A name of which the word is a part. Without a terminal a word is the name itself: nobody is there to see which is meant."""
+        """The name that contains the word. Without a terminal the word must be the whole name, since nobody can choose."""
         if not is_terminal():
             return word
         fits = fitting()
