@@ -1,6 +1,6 @@
 #!/usr/bin/env bats
-# `bin/proved` builds what is stale and nothing else; an interrupted build leaves no program that counts as built, and two calls build
-# once.
+# `bin/proved` builds what is stale and nothing else, by the sources' checksum; an interrupted build leaves no program that counts as
+# built, and two calls build once.
 #
 # Over four small crates and a stand-in for rt, which writes down when it begins and ends. Libraries are built side by side, as many as
 # PROVED_AT_ONCE says, each after those below it; an edit in the course of a build builds again; a build that is stopped ends each rt and
@@ -78,8 +78,38 @@ proved_behind() { clone/bin/proved top "$@" >out 2>said 3>&- & }
     [ "$(most)" = 1 ]
 }
 
+@test 'files that were touched, and an edit that was put back, build nothing' {
+    touch clone/crates.txt clone/crates/low/src/lib.rt
+    built 0
+    edit low
+    echo low >clone/crates/low/src/lib.rt
+    built 0
+    [ ! -s said ]
+    [ -z "$(find clone/crates/*/src -newer clone/crates/top/out/top)" ]
+}
+
+@test 'a file that is gone, and one that is new, build again' {
+    echo two >clone/crates/low/src/two.rt
+    built 4
+    sleep 0.05
+    rm clone/crates/low/src/two.rt
+    built 4
+}
+
+@test 'a crate that stands on one more builds again' {
+    sleep 0.05
+    sed -i 's/^right: low/right: low left/' clone/crates.txt
+    built 4
+}
+
+@test 'a program without a checksum is built again' {
+    rm clone/crates/top/out/build.sum
+    touch clone/crates/low/src/lib.rt
+    built 4
+}
+
 @test 'a number that is none' {
-    touch clone/crates.txt
+    edit low
     PROVED_AT_ONCE=none run ! clone/bin/proved top
     [[ $output == *"PROVED_AT_ONCE is a number above 0, not 'none'"* ]]
 }
