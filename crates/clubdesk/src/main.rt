@@ -3,40 +3,59 @@
 #![tactic(auto)]
 
 use club_http::WriteOutlet;
-use clubdesk_arguments::{CommandName, Fault};
-use clubdesk_commands::{finish, run};
+use clubdesk_commands::run_process;
 use clubdesk_files::{DatabasesUser, run_over_files};
-use command_line::given_arguments;
+use command_line::{FaultLines, GivenArguments};
 use desk_server::{Databases, LogLines};
+use std::alloc::Global;
+use std::fmt::Display;
+use std::io;
 use std::process::ExitCode;
 
 fn main(rt: HostRuntime) -> ExitCode {
-    ExitCode::from(finish(&rt, run_over_files(&rt, Program { rt: &rt })))
+    ExitCode::from(run_over_files(&rt, Program { rt: &rt }))
 }
 
-// The program on the process's arguments and standard streams.
+// The program on the process's arguments and standard streams. It is the process that it runs on,
+// since a call gets no proof that takes the runtime, and again the runtime as a process.
 #[derive(Drop)]
 struct Program<'a> {
     rt: &'a HostRuntime,
 }
 
 impl DatabasesUser for Program<'_> {
-    type Outcome = Result<(), Fault>;
+    type Outcome = u8;
 
     ghost outcomes = { λ _ _. Unit {0} };
 
-    fn run_over<D: Databases>(self, databases: &mut D) -> Result<(), Fault> {
+    fn run_over<D: Databases>(self, databases: &mut D) -> u8 {
         let rt = self.rt;
-        let arguments = given_arguments::<HostRuntime, CommandName, ()>(rt.alloc(), rt)?;
-        let mut log = LogLines::new(WriteOutlet::new(rt.stderr()), rt);
-        run(
+        run_process(
             rt,
+            &self,
             rt,
             databases,
-            arguments.as_slice(),
             &mut rt.stdin(),
             &mut rt.stdout(),
-            &mut log,
+            &mut LogLines::new(WriteOutlet::new(rt.stderr()), rt),
         )
+    }
+}
+
+// The contract promises nothing about its arguments.
+impl GivenArguments for Program<'_> {
+    ghost given = { λ _ _. Unit {0} };
+
+    fn arguments(&self, alloc: Global) -> io::Result<Vec<String>> {
+        self.rt.arguments(alloc)
+    }
+}
+
+// The contract promises nothing about what is printed.
+impl FaultLines for Program<'_> {
+    ghost asked = { λ _ _. Unit {0} };
+
+    fn print_text<F: Display>(&self, text: &F) {
+        self.rt.print_text(text)
     }
 }
