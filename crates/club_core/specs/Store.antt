@@ -1,5 +1,5 @@
 -- What a store of the club's rows returns, keeps and may recover to (ours).
-use Rattle.std.specs.Prelude.{◌≡◌, ℕ, false, List, Option, Some, None, Result, IfOk, MatchResult}
+use Rattle.std.specs.Prelude.{◌≡◌, ℕ, false, List, [], ◌∷◌, Option, Some, None, Result, IfOk, MatchResult}
 use Rattle.club_rows.specs.declared.key.Key.{Key}
 use Rattle.club_rows.specs.declared.member.Member.{Member}
 use Rattle.club_rows.specs.declared.booking.Booking.{Booking}
@@ -45,6 +45,14 @@ IsTrueOf change club = Unit {0}
 pub record FitsClub (change : Change) (club : Club) : Type 0 where
   pub carries : IsTrueOf change club
   pub sound : IsSound (after change club)
+
+-- A change of any club is made, or fails. If it was made, it fits the club. If it failed, the club is unchanged; and if it doesn't fit, nothing of it is
+-- left, while after one that leaves a sound club a crash may leave that.
+abbrev pub Changes : {S E : Type 0} → (S → Club → List Club → Type 0) → Change → S → S → Result (Unit {0}) E → Type 0
+Changes Represents change old new result =
+    (club : Club) (others : List Club) → Represents old club others
+    → MatchResult result (λ _. FitsClub change club × Represents new (after change club) [])
+    (λ _. (IsSound (after change club) → Represents new club (after change club ∷ others)) × (¬ FitsClub change club → Represents new club others))
 
 -- the store represents the same club, with the same possible crash states
 abbrev pub KeepsClub : {S : Type 0} → (S → Club → List Club → Type 0) → S → S → Type 0

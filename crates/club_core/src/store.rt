@@ -36,11 +36,9 @@ impl Error for StoreFault {}
 /// A store of the rows of a club. Its promises hold while its disk is clean: while the disk returns
 /// what was written, and nobody else writes to it.
 pub trait ClubStore {
-    ghost use Rattle.std.specs.Prelude.{◌≡◌, ◌∷◌, [], All, IfErr, IsErr, List, MatchResult};
-    ghost use Rattle.std.specs.Prelude.{Option, Some, option_map};
+    ghost use Rattle.std.specs.Prelude.{◌≡◌, ◌∷◌, All, IfErr, List, Option, Some, option_map};
     ghost use Rattle.club_core.specs.declared.change.Change.{Change};
     ghost use Rattle.club_core.specs.declared.store.StoreFault.{StoreFault};
-    ghost use Rattle.club_core.specs.After.{after};
     ghost use Rattle.club_core.specs.Club.{Club, IsSound, bookings_of};
     ghost use Rattle.club_core.specs.Club.{facility_named, key_named};
     ghost use Rattle.club_core.specs.Sheet.{AreRowsOf};
@@ -48,7 +46,7 @@ pub trait ClubStore {
     ghost use Rattle.club_core.specs.Sums.{booking_under, count_to_come, spent_under};
     ghost use Rattle.club_core.specs.KeyParts.{older_root_of};
     ghost use Rattle.club_rows.specs.Key.{row_of_key};
-    ghost use Rattle.club_core.specs.Store.{IsTrueOf, ReadsStore};
+    ghost use Rattle.club_core.specs.Store.{Changes, ReadsStore};
 
     // the current club, and the other possible crash states: the clubs that the store may recover
     // to after a crash
@@ -106,21 +104,14 @@ pub trait ClubStore {
         ensures { ReadsStore disk_is_clean represents fails self.old self.new result
             (λ club rows. AreRowsOf club day rows.items) };
 
-    /// Makes a change, if what it says of the club's rows is true. If it isn't, the call fails, and
-    /// leaves nothing of the change. If the call fails, the club is unchanged; after a crash the
-    /// store may recover to the changed club, if the change was true.
+    /// Makes a change, if it fits the club: if what it says of the club's rows is true, and the
+    /// club after it is sound. If it doesn't fit, the call fails, and leaves nothing of the change.
+    /// If the call fails, the club is unchanged; after a crash the store may recover to the changed
+    /// club, if the change fits.
     fn apply(&mut self, change: &Change) -> Result<(), StoreFault>
         ensures was_clean { disk_is_clean self.new → disk_is_clean self.old }
-        ensures changed { disk_is_clean self.new → (club : Club) (others : List Club)
-            → represents self.old club others
-            → IsSound (after change.now club)
-            → MatchResult result
-            (λ _. IsTrueOf change.now club × represents self.new (after change.now club) [])
-            (λ _. represents self.new club (after change.now club ∷ others)) }
-        ensures untrue { disk_is_clean self.new → (club : Club) (others : List Club)
-            → represents self.old club others
-            → ¬ IsTrueOf change.now club
-            → IsErr result × represents self.new club others }
+        ensures changed { disk_is_clean self.new →
+            Changes represents change.now self.old self.new result }
         ensures failed { disk_is_clean self.new → IfErr result
             (λ fault. fails (Some change.now) self.old fault self.new) };
 

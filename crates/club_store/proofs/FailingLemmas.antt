@@ -1,6 +1,6 @@
 -- What fails after a reading has failed since before it; and a change keeps the clubs sound.
-use Rattle.std.specs.Prelude.{List, Option, Some, None, Result, Ok, Err, IfErr, IsErr, MatchResult}
-use Rattle.std.proofs.Common.{arith, [], ◌∷◌, Ok, Err, refl}
+use Rattle.std.specs.Prelude.{Option, Some, None, Result, Ok, Err, IfErr}
+use Rattle.std.proofs.Common.{arith, [], ◌∷◌, Ok, Err}
 use Rattle.std.proofs.lemmas.Result.{MatchResult-weaker}
 use Rattle.std.proofs.lemmas.List.Elements.{All-cons, All-head, All-nil, All-tail}
 use Rattle.club_core.specs.After.{after}
@@ -10,8 +10,8 @@ use Rattle.sqlite.specs.Held.{Held, state}
 use Rattle.club_core.specs.declared.change.Change.{Change}
 use Rattle.club_core.specs.declared.store.StoreFault.{StoreFault}
 use Rattle.club_core.specs.Club.{Club, IsSound}
-use Rattle.club_core.specs.Store.{ReadsStore, IsTrueOf}
-use Rattle.club_tables.specs.ReadsAndChanges.{ChangesClub, ReadsClub, sound_in, Changes, represents_in}
+use Rattle.club_core.specs.Store.{Changes, ReadsStore}
+use Rattle.club_tables.specs.ReadsAndChanges.{ChangesClub, ReadsClub, sound_in, represents_in}
 use Rattle.club_store.specs.Failing.{Fails}
 use Rattle.club_store.proofs.ReadingLemmas.{change_fault, later_fault}
 
@@ -41,21 +41,17 @@ change_failed g change old new (Err fault) made clean = record {
   error_if_fits = λ club others represents fits. made.fault_if_fits clean club others represents fits;
 }
 
--- A change after which the club is sound leaves sound clubs: the current one, and each possible crash state.
+-- A change of sound clubs leaves sound clubs: the current one, and each possible crash state.
 pub sound_changes : {S E : Type 0} (g : Ghosts S) (change : Change) (old new : Held S) (result : Result (Unit {0}) E)
-    → Changes (represents_in g) change old new result → (club : Club) (others : List Club) → sound_in g old club others → IsSound (after change club)
-    → MatchResult result (λ _. IsTrueOf change club × sound_in g new (after change club) []) (λ _. sound_in g new club (after change club ∷ others))
-sound_changes g change old new (Ok done) made = λ club others represents sound.
-    let it = made club others represents.1 in (it.0.carries, (All-cons IsSound (after change club) [] sound (All-nil IsSound), it.1))
-sound_changes g change old new (Err fault) made = λ club others represents sound. (
-  All-cons IsSound club (after change club ∷ others) (All-head IsSound club others represents.0)
-      (All-cons IsSound (after change club) others sound (All-tail IsSound club others represents.0)),
-  (made club others represents.1).0 sound,
-)
-
-pub sound_refusals : {S E : Type 0} (g : Ghosts S) (change : Change) (old new : Held S) (result : Result (Unit {0}) E)
-    → Changes (represents_in g) change old new result → (club : Club) (others : List Club) → sound_in g old club others → ¬ IsTrueOf change club
-    → IsErr result × sound_in g new club others
-sound_refusals g change old new (Ok done) made = λ club others represents untrue. absurd (untrue (made club others represents.1).0.carries)
-sound_refusals g change old new (Err fault) made = λ club others represents untrue.
-    (refl, (represents.0, (made club others represents.1).1 (λ fits. untrue fits.carries)))
+    → Changes (represents_in g) change old new result → Changes (sound_in g) change old new result
+sound_changes g change old new (Ok done) made = λ club others represents.
+    let it = made club others represents.1 in (it.0, (All-cons IsSound (after change club) [] it.0.sound (All-nil IsSound), it.1))
+sound_changes g change old new (Err fault) made = λ club others represents.
+    let it = made club others represents.1 in (
+      λ sound. (
+        All-cons IsSound club (after change club ∷ others) (All-head IsSound club others represents.0)
+            (All-cons IsSound (after change club) others sound (All-tail IsSound club others represents.0)),
+        it.0 sound,
+      ),
+      λ unfit. (represents.0, it.1 unfit),
+    )

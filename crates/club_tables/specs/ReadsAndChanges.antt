@@ -1,5 +1,5 @@
 -- Which club a connection represents, and what reads and changes promise of it (ours).
-use Rattle.std.specs.Prelude.{◌≡◌, ◌⊎◌, ℕ, ◌<◌, ◌≤◌, ◌^◌, List, [], ◌∷◌, All, None, Result, IfErr, MatchResult, OnErr}
+use Rattle.std.specs.Prelude.{◌≡◌, ◌⊎◌, ℕ, ◌<◌, ◌≤◌, ◌^◌, List, ◌∷◌, All, None, Result, IfErr, OnErr}
 use Rattle.sqlite.specs.Store.{Ghosts}
 use Rattle.sqlite.specs.State.{HasCleanDisk, Survives}
 use Rattle.sqlite.specs.Held.{Held, state}
@@ -11,8 +11,7 @@ use Rattle.club_core.specs.declared.change.Change.TheVariants.{InsertMember, Add
 use Rattle.club_core.specs.declared.change.Change.TheVariants.{InsertBooking, MarkCancelled}
 use Rattle.club_core.specs.declared.store.StoreFault.{StoreFault}
 use Rattle.club_core.specs.declared.store.StoreFault.TheVariants.{Storage}
-use Rattle.club_core.specs.After.{after}
-use Rattle.club_core.specs.Store.{FitsClub, KeepsClub, Returns}
+use Rattle.club_core.specs.Store.{Changes, FitsClub, KeepsClub, Returns}
 use Rattle.club_core.specs.Club.{Club, IsSound}
 use Rattle.club_tables.specs.Tables.{Represents, RepresentsVersion1, RepresentsVersion2, IsFound}
 use Rattle.club_tables.specs.Transaction.{BoundStatement, IsUntouched, MayCommit}
@@ -35,14 +34,6 @@ version_2_in g held = RepresentsVersion2 (state g held)
 
 abbrev pub found_in : {S : Type 0} → Ghosts S → Held S → Club → List Club → Type 0
 found_in g held = IsFound (state g held)
-
--- A change of any club is made, or fails. If it was made, it fits the club. If it failed, the club is unchanged; and if it doesn't fit, nothing of it is
--- left, while after one that leaves a sound club a crash may leave that.
-abbrev pub Changes : {S E : Type 0} → (S → Club → List Club → Type 0) → Change → S → S → Result (Unit {0}) E → Type 0
-Changes RepresentsAs change old new result =
-    (club : Club) (others : List Club) → RepresentsAs old club others
-    → MatchResult result (λ _. FitsClub change club × RepresentsAs new (after change club) [])
-    (λ _. (IsSound (after change club) → RepresentsAs new club (after change club ∷ others)) × (¬ FitsClub change club → RepresentsAs new club others))
 
 -- A read-only call. Its result is true of the current club. The club, the possible crash states and an idle connection are unchanged.
 -- If it fails, its fault is that of the error with which a statement was refused, or Storage if rows can't be decoded.

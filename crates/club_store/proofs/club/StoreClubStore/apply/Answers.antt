@@ -1,13 +1,9 @@
-use Rattle.club_store.proofs.FailingLemmas.{change_failed, sound_changes, sound_refusals}
+use Rattle.club_store.proofs.FailingLemmas.{change_failed, sound_changes}
 use Rattle.club_store.proofs.club.StoreClubStore.apply.Goals as goal
 
 pub returns-clause-changed : goal.returns-clause-changed
 returns-clause-changed g c = λ was_clean.
     sound_changes g.S.Store c.args.change.now c.args.self.now c.apply.new.self c.apply.result (c.apply.ensures.makes.effect was_clean)
-
-pub returns-clause-untrue : goal.returns-clause-untrue
-returns-clause-untrue g c = λ was_clean.
-    sound_refusals g.S.Store c.args.change.now c.args.self.now c.apply.new.self c.apply.result (c.apply.ensures.makes.effect was_clean)
 
 pub returns-clause-failed : goal.returns-clause-failed
 returns-clause-failed g c = λ was_clean.
