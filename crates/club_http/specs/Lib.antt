@@ -5,3 +5,4 @@ pub mod Replied
 pub mod Exchange
 pub mod Desk
 pub mod Fault
+pub mod Laws

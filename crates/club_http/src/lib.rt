@@ -9,6 +9,7 @@ mod ends;
 mod exchange;
 mod face;
 mod fault;
+pub mod laws;
 mod receive;
 mod responder;
 mod send;
