@@ -1,24 +1,35 @@
 -- The bytes of an answer, as far as the office took them.
-use Rattle.std.proofs.Common.{◌<◌, ℕ, zero, suc, arith, List, [], ◌∷◌, length, take}
+use Rattle.std.proofs.Common.{◌<◌, ◌+◌, ℕ, suc, arith, List, [], ◌∷◌, ◌++◌, length, take}
 use Rattle.std.specs.Prelude.{Option, Result, Ok, Err}
 use Rattle.std.specs.Io.KnownBytes.{Appends}
 use Rattle.std.proofs.KnownBytes.{Appends-trans}
-use Rattle.std.proofs.lemmas.List.{take_all}
+use Rattle.std.proofs.Math.Seq.{take-append-add}
+use Rattle.std.proofs.lemmas.List.{take_all, take-append-le}
 use Rattle.club_http.specs.Ends.{TakesAll}
+use Rattle.desk_server.specs.Served.{answer_bytes}
 
 module _ (status : ℕ) (text : List ℕ) where
-  -- a beginning of the answer
+  -- a prefix of the answer
   abbrev Begins : Option (List ℕ) → Option (List ℕ) → Type 0
-  Begins taken taken' = (n : ℕ) × Appends taken taken' (take n (status ∷ text))
+  Begins taken taken' = (n : ℕ) × Appends taken taken' (take n (answer_bytes status text))
 
-  -- the status wasn't taken
-  pub sent_nothing : (t t1 : Option (List ℕ)) (n : ℕ) → n < 1 → Appends t t1 (take n (status ∷ [])) → Begins t t1
-  sent_nothing t t1 zero few none = (0, none)
-  sent_nothing t t1 (suc n) few none = absurd (omega (arith, few))
+  -- the status was, and then a prefix of the text
+  pub sent_status : (t t1 t2 : Option (List ℕ)) (n : ℕ) → n < length text → Appends t t1 (status ∷ []) → Appends t1 t2 (take n text) → Begins t t2
+  sent_status t t1 t2 n few first second = (
+    suc n,
+    rw (take-append-le n text (0 ∷ []) (omega (arith, few))) (Appends-trans t t1 t2 (status ∷ []) (take n text) first second),
+  )
 
-  -- the status was, and then the text, or a beginning of it
-  pub sent_more : {A : Type 0} (t t1 t2 : Option (List ℕ)) (f1 f2 : ℕ) (result : Result A ℕ) → Appends t t1 (status ∷ [])
-      → TakesAll t1 t2 f1 f2 text result → Begins t t2
-  sent_more t t1 t2 f1 f2 (Ok done) first second =
-      (suc (length text), rw (take_all (length text) text (omega arith)) (Appends-trans t t1 t2 (status ∷ []) text first second.0))
-  sent_more t t1 t2 f1 f2 (Err n) first second = (suc n, Appends-trans t t1 t2 (status ∷ []) (take n text) first second.1)
+  -- the status and the text were, and then the end, or nothing of it
+  pub sent_text : {A : Type 0} (t t1 t2 t3 : Option (List ℕ)) (f2 f3 : ℕ) (result : Result A ℕ) → Appends t t1 (status ∷ []) → Appends t1 t2 text
+      → TakesAll t2 t3 f2 f3 (0 ∷ []) result → Begins t t3
+  sent_text t t1 t2 t3 f2 f3 (Ok done) first second third =
+      let all = answer_bytes status text in (
+        length all,
+        rw (take_all (length all) all (omega arith)) (Appends-trans t t1 t3 (status ∷ []) (text ++ 0 ∷ []) first (Appends-trans t1 t2 t3 text (0 ∷ []) second third.0)),
+      )
+  sent_text t t1 t2 t3 f2 f3 (Err n) first second third = (
+    suc (length text + n),
+    rw (take-append-add text (0 ∷ []) n)
+        (Appends-trans t t1 t3 (status ∷ []) (text ++ take n (0 ∷ [])) first (Appends-trans t1 t2 t3 text (take n (0 ∷ [])) second third.1)),
+  )

@@ -1,5 +1,5 @@
 -- The steps of an exchange, put together.
-use Rattle.std.proofs.Common.{◌≡◌, ◌∙◌, ℕ, List, ◌++◌, take, Option, Some, None, Result, Ok, Err, ap, refl}
+use Rattle.std.proofs.Common.{◌≡◌, ◌∙◌, ℕ, List, take, Option, Result, Ok, Err, ap, refl}
 use Rattle.std.specs.Io.KnownBytes.{Appends, Keeps}
 use Rattle.std.proofs.KnownBytes.{Appends-kept, Keeps-refl, Keeps-trans}
 use Rattle.club_core.specs.declared.reply.Reply.{Reply}
@@ -18,6 +18,7 @@ use Rattle.desk_server.specs.Limits.{Calls}
 use Rattle.desk_server.specs.Served.{IsExchanged}
 use Rattle.desk_server.specs.declared.timed.Accepted.{Accepted}
 use Rattle.desk_server.proofs.MeanwhileLemmas.{reads_kept}
+use Rattle.desk_server.proofs.TimedLemmas.{kept_appends}
 
 -- the second step of an exchange, with what it wrote
 pub record Written {Desk : Type 0} (Answers : AnswerRelation Desk) (bytes : List ℕ) (old new : Desk) (before after : Option (List ℕ))
@@ -34,12 +35,6 @@ spoken Answers bytes old new before after (Ok reply) (replied, writes) =
 spoken Answers bytes old new before after (Err Read) never = absurd never
 spoken Answers bytes old new before after (Err (Write n)) (reply, replied, fewer, writes) =
     record { written = take n (reply_text reply); exchanged = (reply, replied, fewer, refl); writes = writes }
-
-kept_appends : (a b c : Option (List ℕ)) (bytes : List ℕ) → Keeps a b → Appends b c bytes → Appends a c bytes
-kept_appends None b c bytes kept appends = tt
-kept_appends (Some xs) None c bytes kept appends = absurd kept
-kept_appends (Some xs) (Some ys) None bytes kept appends = absurd appends
-kept_appends (Some xs) (Some ys) (Some zs) bytes kept appends = appends ∙ ap (λ (list : List ℕ). list ++ bytes) kept
 
 module _ {S C : Type 0} (to_come taken : S → Option (List ℕ)) (Shows : C → Option ℕ → Type 0) (Reads Writes : Calls S) where
   -- while it was read, nothing was written

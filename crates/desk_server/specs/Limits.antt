@@ -46,9 +46,13 @@ abbrev pub ended : Option ℕ → Waited
 ended (Some n) = Moved n
 ended None = Failed
 
--- A call with so many nanoseconds left. With none it fails, and the stream isn't called.
+-- A call that is made only while time is left. With none it fails, and the stream isn't called.
+abbrev pub InTime : {Stream : Type 0} → Calls Stream → Calls Stream
+InTime Does old left how new = (left ≡ 0 → (how ≡ Failed) × (new ≡ old)) × (0 < left → Does old left how new)
+
+-- a call with so many nanoseconds left: with none it is made all the same, and may wait for none
 abbrev pub IsCalled : {Stream : Type 0} → Calls Stream → ℕ → Stream → Option ℕ → Stream → Type 0
-IsCalled Does left old result new = (left ≡ 0 → (result ≡ None) × (new ≡ old)) × (0 < left → Does old left (ended result) new)
+IsCalled Does left old result new = Does old left (ended result) new
 
 -- so many calls that a signal interrupted, each with the time that was left of a limit, at a time that its clock may show
 pub data AreInterrupted {C Stream : Type 0} (Shows : C → Option ℕ → Type 0) (Does : Calls Stream) (limit : Limit C) (first : Stream) : ℕ → Stream → Type 0 where

@@ -51,13 +51,17 @@ IsCarriedOut Carries old None new = new ≡ old
 IsCarriedOut Carries old (Some carried) new =
     (bytes : List ℕ) × (answer : Answer) × Carries bytes old answer new × (carried ≡ answer.carried)
 
--- A command was carried out, and its answer was written: its status and its text, whole or a beginning of them.
+-- the bytes of an answer: the status, the text, and a zero byte, which no text has
+abbrev pub answer_bytes : ℕ → List ℕ → List ℕ
+answer_bytes status text = status ∷ text ++ 0 ∷ []
+
+-- A command was carried out, and its answer was written, or a prefix of it.
 pub record AnswersCommand {Desk : Type 0} (Carries : CommandRelation Desk) (bytes : List ℕ) (old : Desk) (taken : Option (List ℕ)) (carried : Carried)
     (new : Desk) (taken' : Option (List ℕ)) : Type 0 where
   pub answer : Answer
   pub carries : Carries bytes old answer new
   pub same : carried ≡ answer.carried
-  pub writes : (n : ℕ) × Appends taken taken' (take n (answer.carried.status ∷ string_bytes answer.text))
+  pub writes : (n : ℕ) × Appends taken taken' (take n (answer_bytes answer.carried.status (string_bytes answer.text)))
 
 -- A turn of the server: an arrival with its fate, and with the fates of the commands that were carried out meanwhile, while its request was awaited.
 pub record Turn : Type 0 where

@@ -36,7 +36,8 @@ pub trait Connection {
             result moments.new desk.new log.new self.new };
 }
 
-/// Its bytes and commands take turns, if both are there. A command that is carried out meanwhile
+/// Its bytes and commands take turns, if both are there, also after a command that couldn't be
+/// accepted. A command that is carried out meanwhile
 /// doesn't extend the patience.
 impl<S: ClientStream, C: MonotonicClock> Waits for Accepted<'_, S, C> {
     ghost use Rattle.desk_server.specs.Accepted.{HasWaited};
@@ -60,7 +61,7 @@ impl<S: ClientStream, C: MonotonicClock> Waits for Accepted<'_, S, C> {
                     self.command_first = true;
                     return None;
                 }
-                Woken::Nobody => {}
+                Woken::Nobody => self.command_first = false,
             }
         }
         None

@@ -1,8 +1,8 @@
 //! The office's door, as the server sees it.
 
-ghost use Rattle.std.specs.Prelude.{◌≡◌, ◌≤◌, length, take, IfSome};
-ghost use Rattle.std.specs.Io.KnownBytes.{Consumes, IsAtEnd};
-ghost use Rattle.desk_server.specs.Served.{AnswersCommand};
+ghost use Rattle.std.specs.Prelude.{◌≡◌, ◌≤◌, ℕ, length, take, IfSome};
+ghost use Rattle.std.specs.Io.KnownBytes.{Appends, Consumes, IsAtEnd};
+ghost use Rattle.desk_server.specs.Served.{AnswersCommand, answer_bytes};
 
 use crate::between::Handover;
 use crate::limit::MonotonicClock;
@@ -20,34 +20,37 @@ pub const GREETING: [u8; 1] = *b"!";
 /// The most bytes of a command, less one.
 pub const MAX_COMMAND_LEN: usize = 8_192;
 
-/// How many milliseconds the office has to send its command.
-const COMMAND_MILLISECONDS: u64 = 1_000;
+/// The last byte of an answer. Arguments have no zero byte, so no text of an answer has one, and an
+/// answer that was cut doesn't end with it.
+pub const ANSWER_END: [u8; 1] = [0];
 
-/// A connection of the office that a door accepted. The answer has to be taken within the patience.
+/// The status of the answer to what isn't a whole command: nothing was done, nor will be.
+pub const NOTHING_DONE: u8 = 9;
+
+/// The text of that answer.
+pub const NOTHING_DONE_TEXT: &str = "nothing was done";
+
+/// How many milliseconds the office has to send its command, and then to take the answer: clients
+/// wait meanwhile.
+const OFFICE_MILLISECONDS: u64 = 200;
+
+/// A connection of the office that a door accepted.
 #[derive(Drop)]
 pub struct Handed<'c, C> {
     stream: UnixStream,
     clock: &'c C,
-    patience: Duration,
 }
 
 impl<'c, C: MonotonicClock> Handed<'c, C> {
     // The next connection of a door.
-    pub(crate) fn accept(
-        door: &UnixListener,
-        clock: &'c C,
-        patience: Duration,
-    ) -> io::Result<Handed<'c, C>> {
+    pub(crate) fn accept(door: &UnixListener, clock: &'c C) -> io::Result<Handed<'c, C>> {
         let (stream, _) = door.accept()?;
-        Ok(Handed {
-            stream,
-            clock,
-            patience,
-        })
+        Ok(Handed { stream, clock })
     }
 
-    // Both ends of the connection, with this patience from now on.
-    fn ends(&self, patience: Duration) -> Accepted<'c, &UnixStream, C> {
+    // Both ends of the connection, with the limit of the office from now on.
+    fn ends(&self) -> Accepted<'c, &UnixStream, C> {
+        let patience = Duration::from_millis(OFFICE_MILLISECONDS);
         Accepted::new(&self.stream, self.clock, patience)
     }
 }
@@ -70,36 +73,47 @@ pub fn read_command<R: Inlet>(reader: &mut R, room: &mut [u8]) -> Option<usize>
     None
 }
 
-/// Has the desk carry out a command, and writes its answer: the status, and then the text. Whether
-/// the writer takes it changes nothing.
+/// Has the desk carry out a command, and writes its answer. Whether the writer takes it changes
+/// nothing.
 pub fn answer_command<D: Office, W: Outlet>(desk: &mut D, bytes: &[u8], writer: &mut W) -> Carried
     ensures { AnswersCommand D.commands bytes.now desk.old (W.taken writer.old)
         result desk.new (W.taken writer.new) }
 {
     let Answer { carried, text } = desk.command(bytes);
-    match put_all(writer, &[carried.status]) {
-        Ok(()) => {
-            let _ = put_all(writer, text.as_str().as_bytes());
-        }
-        Err(_) => {}
-    }
+    put_answer(writer, carried.status, text.as_str());
     carried
 }
 
-/// Greets the sender, reads its command, and answers it.
+/// Writes an answer: the status, the text and the end, or a prefix of them if the writer fails.
+pub fn put_answer<W: Outlet>(writer: &mut W, status: u8, text: &str)
+    ensures { (n : ℕ) × Appends (W.taken writer.old) (W.taken writer.new)
+        (take n (answer_bytes status text.now)) }
+{
+    match put_all(writer, &[status]) {
+        Ok(()) => match put_all(writer, text.as_bytes()) {
+            Ok(()) => {
+                let _ = put_all(writer, &ANSWER_END);
+            }
+            Err(_) => {}
+        },
+        Err(_) => {}
+    }
+}
+
+/// Greets the sender, reads its command, and answers it; if none came whole, it says that nothing
+/// was done.
 impl<C: MonotonicClock> Handover for Handed<'_, C> {
     fn carry_out<D: Office>(&mut self, desk: &mut D) -> Option<Carried> {
-        if put_all(&mut self.ends(self.patience), &GREETING).is_err() {
+        if put_all(&mut self.ends(), &GREETING).is_err() {
             return None;
         }
         let mut room = [0; MAX_COMMAND_LEN];
-        let mut reader = self.ends(Duration::from_millis(COMMAND_MILLISECONDS));
-        match read_command(&mut reader, &mut room) {
-            Some(len) => {
-                let mut writer = self.ends(self.patience);
-                Some(answer_command(desk, &room[..len], &mut writer))
+        match read_command(&mut self.ends(), &mut room) {
+            Some(len) => Some(answer_command(desk, &room[..len], &mut self.ends())),
+            None => {
+                put_answer(&mut self.ends(), NOTHING_DONE, NOTHING_DONE_TEXT);
+                None
             }
-            None => None,
         }
     }
 }

@@ -12,6 +12,7 @@ mod limit;
 mod listening;
 mod log;
 mod office;
+mod polled;
 mod request_line;
 mod serve;
 mod stream;
@@ -20,7 +21,10 @@ mod timed;
 pub use between::{Handover, Waits, receive_between};
 pub use connections::{Arrival, Arrivals, Connection};
 pub use databases::{Databases, Door, Reached, Visit};
-pub use door::{GREETING, Handed, MAX_COMMAND_LEN, answer_command, read_command};
+pub use door::{
+    ANSWER_END, GREETING, Handed, MAX_COMMAND_LEN, NOTHING_DONE, NOTHING_DONE_TEXT, answer_command,
+    put_answer, read_command,
+};
 pub use limit::{Limit, MonotonicClock};
 pub use listening::Listening;
 pub use log::{Fate, Log, LogLines, Unlogged};

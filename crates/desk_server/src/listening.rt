@@ -3,7 +3,8 @@
 use crate::connections::{Arrival, Arrivals};
 use crate::door::Handed;
 use crate::limit::MonotonicClock;
-use crate::stream::{ClientSocket, command_is_next};
+use crate::polled::{Next, next_of};
+use crate::stream::ClientSocket;
 use crate::timed::Accepted;
 use std::cell::Cell;
 use std::io;
@@ -13,8 +14,8 @@ use std::os::fd::{AsRawFd, RawFd};
 use std::os::unix::net::UnixListener;
 use std::time::Duration;
 
-/// How many milliseconds the server sleeps after waiting failed, so that a listener that keeps
-/// failing doesn't use up all clients at once.
+/// How many milliseconds the server sleeps after waiting or accepting failed, so that a listener
+/// that keeps failing doesn't use up all clients at once.
 const REST_MILLISECONDS: u64 = 10;
 
 /// No descriptor: `poll` passes over it.
@@ -26,8 +27,8 @@ const NO_END: i32 = -1;
 /// A client of a listener, or a command that came by a door.
 type Arrived<'a, C> = Arrival<Accepted<'a, ClientSocket<'a, C>, C>, Handed<'a, C>>;
 
-/// Clients of a listener and, if there is a door, commands of the office, each with the same
-/// patience. If both wait they take turns.
+/// Clients of a listener, each with the same patience, and, if there is a door, commands of the
+/// office. If both wait they take turns.
 #[derive(Drop)]
 pub struct Listening<'a, C> {
     clients: &'a TcpListener,
@@ -65,7 +66,8 @@ impl<'a, C: MonotonicClock> Listening<'a, C> {
     }
 
     // Waits until a command or a client is there. A connection that was gone before it was accepted
-    // is waited for no more.
+    // is waited for no more. One of the office that can't be accepted is no client: it is tried
+    // again after a rest, and clients that wait come before.
     fn wait(&self) -> Arrived<'a, C> {
         let door = match self.door {
             Some(door) => door.as_raw_fd(),
@@ -73,14 +75,17 @@ impl<'a, C: MonotonicClock> Listening<'a, C> {
         };
         let clients = self.clients.as_raw_fd();
         for _ in 0..u64::MAX {
-            let Some(command) = command_is_next(door, clients, NO_END, self.command_first.get())
-            else {
-                return Arrival::Nobody;
+            let command = match next_of(door, clients, NO_END, self.command_first.get()) {
+                Next::Command => true,
+                Next::Client => false,
+                Next::Nothing => continue,
+                Next::Failed => return Arrival::Nobody,
             };
             self.command_first.set(!command);
             match self.take(command) {
                 Ok(arrival) => return arrival,
                 Err(error) if error.kind() == ErrorKind::WouldBlock => {}
+                Err(_) if command => self.clock.rest(Duration::from_millis(REST_MILLISECONDS)),
                 Err(_) => return Arrival::Nobody,
             }
         }
@@ -91,12 +96,12 @@ impl<'a, C: MonotonicClock> Listening<'a, C> {
     fn take(&self, command: bool) -> io::Result<Arrived<'a, C>> {
         match self.door {
             Some(door) if command => {
-                let handed = Handed::accept(door, self.clock, self.patience)?;
+                let handed = Handed::accept(door, self.clock)?;
                 Ok(Arrival::Command(handed))
             }
             _ => {
                 let (stream, _) = self.clients.accept()?;
-                let socket = ClientSocket::new(stream, self.door, self.clock, self.patience);
+                let socket = ClientSocket::new(stream, self.door, self.clock);
                 let accepted = Accepted::new(socket, self.clock, self.patience);
                 Ok(Arrival::Client(accepted))
             }

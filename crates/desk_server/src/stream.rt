@@ -3,12 +3,11 @@
 use crate::between::Handover;
 use crate::door::Handed;
 use crate::limit::MonotonicClock;
+use crate::polled::{Next, is_readable, next_of};
 use crate::timed::{TimedStream, Waited, outcome_of};
-use libc::net as c;
-use libc::types::pollfd;
 use std::io::{ErrorKind, Read, Write};
 use std::net::{Shutdown, TcpStream};
-use std::os::fd::{AsRawFd, RawFd};
+use std::os::fd::AsRawFd;
 use std::os::unix::net::UnixListener;
 use std::time::Duration;
 
@@ -20,7 +19,7 @@ pub enum Woken<O> {
     /// The client is to be read: its bytes or its end are there, the time is over, or waiting
     /// failed.
     Client,
-    /// A command came that was gone before it was accepted.
+    /// A command came that was gone before it was accepted, or couldn't be accepted.
     Nobody,
 }
 
@@ -42,14 +41,15 @@ pub trait ClientStream: TimedStream {
         ensures writes_nothing { Keeps (Self.taken self.old) (Self.taken self.new) };
 }
 
-/// A client's socket, with the office's door beside it, if there is one. Its commands have the same
-/// patience.
+/// How many milliseconds the server sleeps after it couldn't accept a connection of the office.
+const REST_MILLISECONDS: u64 = 10;
+
+/// A client's socket, with the office's door beside it, if there is one.
 #[derive(Drop)]
 pub struct ClientSocket<'a, C> {
     stream: TcpStream,
     door: Option<&'a UnixListener>,
     clock: &'a C,
-    patience: Duration,
     // whether the last wait found that the next read doesn't block
     readable: bool,
 }
@@ -60,13 +60,11 @@ impl<'a, C: MonotonicClock> ClientSocket<'a, C> {
         stream: TcpStream,
         door: Option<&'a UnixListener>,
         clock: &'a C,
-        patience: Duration,
     ) -> ClientSocket<'a, C> {
         ClientSocket {
             stream,
             door,
             clock,
-            patience,
             readable: false,
         }
     }
@@ -88,7 +86,14 @@ impl<C: MonotonicClock> TimedStream for ClientSocket<'_, C> {
         let readable = self.readable;
         self.readable = false;
         let mut stream = &self.stream;
-        if readable || stream.set_read_timeout(Some(limit)).is_ok() {
+        let may_read = if readable {
+            true
+        } else if limit.is_zero() {
+            is_readable(stream.as_raw_fd())
+        } else {
+            stream.set_read_timeout(Some(limit)).is_ok()
+        };
+        if may_read {
             outcome_of(stream.read(room))
         } else {
             Waited::Failed
@@ -112,53 +117,27 @@ impl<'a, C: MonotonicClock> ClientStream for ClientSocket<'a, C> {
             return Woken::Client;
         };
         let client = self.stream.as_raw_fd();
-        match command_is_next(
-            door.as_raw_fd(),
-            client,
-            milliseconds_of(limit),
-            command_first,
-        ) {
-            Some(true) => match Handed::accept(door, self.clock, self.patience) {
+        let most = milliseconds_of(limit);
+        match next_of(door.as_raw_fd(), client, most, command_first) {
+            Next::Command => match Handed::accept(door, self.clock) {
                 Ok(handed) => Woken::Command(handed),
                 Err(error) if error.kind() == ErrorKind::WouldBlock => Woken::Nobody,
-                Err(_) => Woken::Client,
+                Err(_) => {
+                    self.clock
+                        .rest(Duration::from_millis(REST_MILLISECONDS).min(limit));
+                    Woken::Nobody
+                }
             },
-            Some(false) => {
+            Next::Client => {
                 self.readable = true;
                 Woken::Client
             }
-            None => Woken::Client,
+            Next::Nothing | Next::Failed => Woken::Client,
         }
     }
 
     fn end_writing(&mut self) -> bool {
         self.stream.shutdown(Shutdown::Write).is_ok()
-    }
-}
-
-/// Waits for a command at a door and for a client, at most so many milliseconds, or without end for
-/// -1. Returns whether the command goes first; `None` if neither came, or waiting failed.
-pub(crate) fn command_is_next(
-    door: RawFd,
-    client: RawFd,
-    milliseconds: i32,
-    command_first: bool,
-) -> Option<bool> {
-    let mut asked = [waits_for(door), waits_for(client)];
-    if c::poll(&mut asked, milliseconds) <= 0 {
-        return None;
-    }
-    let command = asked[0].revents != 0;
-    let client = asked[1].revents != 0;
-    Some(command && (command_first || !client))
-}
-
-// What `poll` is asked to wait for: the bytes of a descriptor, or its next connection.
-fn waits_for(fd: RawFd) -> pollfd {
-    pollfd {
-        fd,
-        events: c::POLLIN,
-        revents: 0,
     }
 }
 

@@ -3,12 +3,14 @@
 ghost use Rattle.std.specs.Prelude.{◌≡◌, length, MatchResult, None};
 ghost use Rattle.std.specs.Io.KnownBytes.{Keeps};
 ghost use Rattle.club_http.specs.Ends.{Fills, Takes};
-ghost use Rattle.desk_server.specs.Limits.{EndsUnder, moved};
+ghost use Rattle.desk_server.specs.Limits.{EndsUnder, InTime, moved};
 
 use crate::limit::{Limit, MonotonicClock};
+use crate::polled::is_readable;
 use club_http::{Inlet, Outlet};
 use std::io;
 use std::io::{ErrorKind, Read, Write};
+use std::os::fd::AsRawFd;
 use std::os::unix::net::UnixStream;
 use std::time::Duration;
 
@@ -23,7 +25,8 @@ pub enum Waited {
     Failed,
 }
 
-/// A stream whose reads and writes take a time limit, such as a socket.
+/// A stream whose reads and writes take a time limit, such as a socket. A read with no time takes
+/// what is there.
 pub trait TimedStream {
     ghost use Rattle.std.specs.Prelude.{◌≤◌, ℕ, List, length, Option, IfSome};
     ghost use Rattle.std.specs.Duration.{as_nanos};
@@ -72,9 +75,15 @@ impl TimedStream for &UnixStream {
     ghost writes = { λ _ _ _ _. Unit {0} };
 
     fn read_within(&mut self, limit: Duration, room: &mut [u8]) -> Waited {
-        match self.set_read_timeout(Some(limit)) {
-            Ok(()) => outcome_of(self.read(room)),
-            Err(_) => Waited::Failed,
+        let may_read = if limit.is_zero() {
+            is_readable(self.as_raw_fd())
+        } else {
+            self.set_read_timeout(Some(limit)).is_ok()
+        };
+        if may_read {
+            outcome_of(self.read(room))
+        } else {
+            Waited::Failed
         }
     }
 
@@ -97,7 +106,8 @@ pub(crate) fn outcome_of(returned: io::Result<usize>) -> Waited
     }
 }
 
-// Reads with the time that is left of a limit.
+// Reads with the time that is left of a limit. Once it is over the read doesn't wait: what came while
+// the server was stopped isn't lost.
 fn read_under<R: TimedStream, C: MonotonicClock>(
     reader: &mut R,
     limit: &Limit<'_, C>,
@@ -108,11 +118,7 @@ fn read_under<R: TimedStream, C: MonotonicClock>(
         (Keeps (R.taken reader.old) (R.taken reader.new)) }
 {
     for interrupted in 0..u64::MAX {
-        let left = limit.left();
-        if left.is_zero() {
-            return None;
-        }
-        match reader.read_within(left, room) {
+        match reader.read_within(limit.left(), room) {
             Waited::Moved(came) => return Some(came),
             Waited::Interrupted => {}
             Waited::Failed => return None,
@@ -121,13 +127,13 @@ fn read_under<R: TimedStream, C: MonotonicClock>(
     None
 }
 
-// Writes with the time that is left of a limit.
+// Writes with the time that is left of a limit, and not once it is over.
 fn write_under<W: TimedStream, C: MonotonicClock>(
     writer: &mut W,
     limit: &Limit<'_, C>,
     bytes: &[u8],
 ) -> Option<usize>
-    ensures { EndsUnder C.shows W.writes limit.now writer.old result writer.new (length bytes.now)
+    ensures { EndsUnder C.shows (InTime W.writes) limit.now writer.old result writer.new (length bytes.now)
         (Takes (W.taken writer.old) (W.taken writer.new) result bytes.now)
         (Keeps (W.to_come writer.old) (W.to_come writer.new)) }
 {
@@ -157,8 +163,8 @@ const MAX_REST_AT_ONCE: usize = 4_096;
 /// An accepted connection, both ends of it, under limits of time. All reads together have the
 /// patience, from the accepting on, and all writes together have it once more, from the first write
 /// on. A call waits at most for the time that is left of its limit. If none is left, or the clock
-/// can't be read, it fails, and neither reads nor writes. A call that a signal interrupted goes on
-/// with what is left of its time.
+/// can't be read, a read takes what is there without waiting, and a write fails. A call that a
+/// signal interrupted goes on with what is left of its time.
 #[derive(Drop)]
 pub struct Accepted<'c, S, C> {
     pub(crate) stream: S,

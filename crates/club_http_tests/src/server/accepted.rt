@@ -182,17 +182,25 @@ fn exchanges_of_each_day(rt: HostRuntime) {
     }
 }
 
-/// The milliseconds from the connection to its exchange, and those that the responder takes; how
-/// often it is asked, and the fault of the exchange. The client has ten seconds for its request,
-/// from its connection on, and as long for the reply, from its first byte on, however long the desk
-/// takes.
-static LIMITS: [(u64, u64, u64, Option<AnswerFault>); 5] = [
-    (0, 0, 1, None),
-    (9_999, 0, 1, None),
-    (9_999, 1_000_000, 1, None),
-    (10_000, 0, 0, Some(AnswerFault::Read)),
-    (1_000_000, 0, 0, Some(AnswerFault::Read)),
+/// How many bytes of its request a client has sent, the milliseconds from the connection to its
+/// exchange, and those that the responder takes; how often it is asked, and the fault of the
+/// exchange. The client has ten seconds for its request, from its connection on, and as long for the
+/// reply, from its first byte on, however long the desk takes. A request that is there once its
+/// time is over is served all the same.
+type Limits = (usize, u64, u64, u64, Option<AnswerFault>);
+
+static LIMITS: [Limits; 7] = [
+    (WHOLE, 0, 0, 1, None),
+    (WHOLE, 9_999, 0, 1, None),
+    (WHOLE, 9_999, 1_000_000, 1, None),
+    (WHOLE, 10_000, 0, 1, None),
+    (WHOLE, 1_000_000, 0, 1, None),
+    (WHOLE - 1, 10_000, 0, 0, Some(AnswerFault::Read)),
+    (0, 1_000_000, 0, 0, Some(AnswerFault::Read)),
 ];
+
+/// The length of the request.
+const WHOLE: usize = exchanges::BOOK_7.len();
 
 /// How often a responder that takes so long is asked in an exchange, and the fault of that.
 fn asked_after(
@@ -211,12 +219,13 @@ fn asked_after(
 
 fn keeps_limits(
     rt: &(impl Abort + Alloc<A = Global> + Net<Listener = TcpListener, Stream = TcpStream>),
-    (waited, takes, calls, fault): &(u64, u64, u64, Option<AnswerFault>),
+    (sent, waited, takes, calls, fault): &Limits,
 ) {
     let listener = loopback_listener(rt);
-    let _client = client_of(rt, &listener, exchanges::BOOK_7.as_bytes());
+    let request = exchanges::BOOK_7.as_bytes();
+    let _client = client_of(rt, &listener, request.get(..*sent).expect(rt, "a prefix"));
     let returned = asked_after(rt, &listener, *waited, *takes);
-    expect_row(rt, &returned, &(*calls, *fault), waited);
+    expect_row(rt, &returned, &(*calls, *fault), &(*sent, *waited));
 }
 
 #[test]

@@ -2,7 +2,7 @@
 //! whose turn it is beside clients. No contract states what a socket gives or takes.
 
 use super::by_the_door::{door_at, new_path};
-use super::doubles::{Noting, Ticking};
+use super::doubles::{Noting, Running, Ticking};
 use crate::expect::{expect_bytes, expect_eq};
 use crate::rows::expect_row;
 use crate::sockets::{connect, loopback_listener};
@@ -11,12 +11,14 @@ use club_http::Responder;
 use club_values::Moment;
 use desk_server::{Answer, Arrival, Arrivals, Carried, Handover, Listening, Office, RequestLine};
 use http_request::Words;
+use libc::net as c;
 use std::fs;
 use std::io::{Read, Write};
 use std::net::{Shutdown, TcpListener};
+use std::os::fd::AsRawFd;
 use std::os::unix::net::{UnixListener, UnixStream};
 use std::test::Fail;
-use std::time::Duration;
+use std::time::{Clock, Duration};
 use test_kit::moments::NOON;
 
 /// What a sender does once it has sent its bytes, before the door accepts it.
@@ -34,15 +36,18 @@ enum Then {
 /// many bytes, and what the sender gets.
 type Row = (usize, Then, u64, usize, &'static [u8]);
 
+/// What the sender of something else than a whole command gets.
+const NOTHING: &[u8] = b"!\x09nothing was done\0";
+
 static ROWS: [Row; 8] = [
-    (8, Then::Ends, 1, 8, b"!\x01"),
-    (0, Then::Ends, 1, 0, b"!\x01"),
+    (8, Then::Ends, 1, 8, b"!\x01\0"),
+    (0, Then::Ends, 1, 0, b"!\x01\0"),
     // One byte less than the room, all of the room, and much more than it.
-    (8_191, Then::Ends, 1, 8_191, b"!\x01"),
-    (8_192, Then::Ends, 0, 0, b"!"),
-    (70_000, Then::Ends, 0, 0, b"!"),
-    // A silent one is cut off after a second.
-    (8, Then::Waits, 0, 0, b"!"),
+    (8_191, Then::Ends, 1, 8_191, b"!\x01\0"),
+    (8_192, Then::Ends, 0, 0, NOTHING),
+    (70_000, Then::Ends, 0, 0, NOTHING),
+    // A silent one is cut off.
+    (8, Then::Waits, 0, 0, NOTHING),
     // One that is gone before it is greeted has its command left undone, even if it came whole.
     (0, Then::Goes, 0, 0, b""),
     (8, Then::Goes, 0, 0, b""),
@@ -67,15 +72,21 @@ fn sender_at(
     Ok(Some(sender))
 }
 
-/// What the next connection of a door has done at this desk; whether a command came whole.
-fn hand_over<D: Office>(
+/// The patience with clients, which commands don't have.
+fn patience() -> Duration {
+    Duration::from_secs(10)
+}
+
+/// What the next connection of a door has done at this desk, by this clock; whether a command came
+/// whole.
+fn hand_over<C: Clock, D: Office>(
     rt: &HostRuntime,
     door: &UnixListener,
-    patience: Duration,
+    clock: &C,
     desk: &mut D,
 ) -> Result<bool, Fail> {
     let listener = TcpListener::bind(rt, "127.0.0.1:0")?;
-    let mut arrivals = Listening::new(&listener, Some(door), rt, patience);
+    let mut arrivals = Listening::new(&listener, Some(door), clock, patience());
     let Arrival::Command(mut handed) = arrivals.next() else {
         return Err("no order".into());
     };
@@ -96,13 +107,18 @@ fn got_by(rt: &HostRuntime, sender: Option<UnixStream>) -> Vec<u8> {
 /// many bytes, and what it got.
 type Outcome = (bool, u64, usize, Vec<u8>);
 
-fn visits(rt: &HostRuntime, bytes: usize, then: Then) -> Result<Outcome, Fail> {
+fn visits<C: Clock>(
+    rt: &HostRuntime,
+    clock: &C,
+    bytes: usize,
+    then: Then,
+) -> Result<Outcome, Fail> {
     let path = new_path(rt, "at-the-door")?;
     let door = door_at(rt, path.as_str())?;
     let sender = sender_at(rt, path.as_str(), bytes, then)?;
     let noon = Moment::read(NOON.as_bytes()).ok_or("a moment")?;
     let mut desk = Noting::new(rt.alloc(), noon);
-    let whole = hand_over(rt, &door, Duration::from_secs(10), &mut desk)?;
+    let whole = hand_over(rt, &door, clock, &mut desk)?;
     fs::remove_file(rt, path.as_str())?;
     Ok((whole, desk.commanded, desk.bytes, got_by(rt, sender)))
 }
@@ -112,7 +128,7 @@ fn visits(rt: &HostRuntime, bytes: usize, then: Then) -> Result<Outcome, Fail> {
 #[test]
 fn senders_at_a_door(rt: HostRuntime) -> Result<(), Fail> {
     for (bytes, then, commanded, of, want) in &ROWS {
-        let (whole, done, came, got) = visits(&rt, *bytes, *then)?;
+        let (whole, done, came, got) = visits(&rt, &rt, *bytes, *then)?;
         let row = (*bytes, *then);
         expect_row(
             &rt,
@@ -125,24 +141,60 @@ fn senders_at_a_door(rt: HostRuntime) -> Result<(), Fail> {
     Ok(())
 }
 
-// By a clock that shows a tenth of a second more each time, a command has a second from its
-// greeting on, and not a hundredth of one.
+/// The milliseconds by which a clock advances each time that it is read; how many commands are
+/// carried out, and what the sender of a whole one gets. Each limit of 200 milliseconds begins with
+/// a reading, and each read or write has one more.
+static LATE: [(u64, u64, &[u8]); 4] = [
+    (0, 1, b"!\x01\0"),
+    // The time is over before the end of the command is read, and before that of the answer is
+    // written.
+    (150, 1, b"!\x01"),
+    // The greeting itself is too late.
+    (200, 0, b""),
+    (1_000, 0, b""),
+];
+
+// A command that lies in the socket is carried out, also by a server that was stopped until its
+// time was over.
 #[test]
-fn a_command_has_a_second(rt: HostRuntime) -> Result<(), Fail> {
-    let path = new_path(&rt, "has-a-second")?;
-    let door = door_at(&rt, path.as_str())?;
-    let listener = TcpListener::bind(&rt, "127.0.0.1:0")?;
-    let _sender = sender_at(&rt, path.as_str(), 8, Then::Ends)?;
-    let clock = Ticking::new(0, 100_000);
-    let mut arrivals = Listening::new(&listener, Some(&door), &clock, Duration::from_secs(10));
-    let Arrival::Command(mut handed) = arrivals.next() else {
-        return Err("no command".into());
-    };
-    let noon = Moment::read(NOON.as_bytes()).ok_or("a moment")?;
-    let mut desk = Noting::new(rt.alloc(), noon);
-    let whole = handed.carry_out(&mut desk).is_some();
+fn a_command_that_is_there_is_in_time(rt: HostRuntime) -> Result<(), Fail> {
+    for (step, commanded, want) in &LATE {
+        let clock = Ticking::new(0, step.saturating_mul(1_000));
+        let (_, done, _, got) = visits(&rt, &clock, 8, Then::Ends)?;
+        expect_row(&rt, &done, commanded, step);
+        expect_bytes(&rt, &got, want, "what the office got");
+    }
+    Ok(())
+}
+
+// A silent sender has a fifth of a second, and not a thousandth.
+#[test]
+fn a_command_has_a_fifth_of_a_second(rt: HostRuntime) -> Result<(), Fail> {
+    let before = rt.monotonic()?;
+    let (whole, _, _, got) = visits(&rt, &rt, 8, Then::Waits)?;
+    let waited = rt.monotonic()?.saturating_sub(before);
+    expect_bytes(&rt, &got, NOTHING, "what the office got");
+    let long = waited >= Duration::from_millis(190);
+    expect_eq(&rt, &(whole, long), &(false, true));
+    Ok(())
+}
+
+// A door that is shut down is readable, and each accepting fails. That is no client: the client
+// that waits comes next, after a rest of ten milliseconds.
+#[test]
+fn a_door_that_fails_is_no_client(rt: HostRuntime) -> Result<(), Fail> {
+    let path = new_path(&rt, "fails")?;
+    let door = UnixListener::bind(&rt, path.as_str())?;
+    let _ = c::shutdown(door.as_raw_fd(), c::SHUT_RDWR);
+    let listener = loopback_listener(&rt);
+    let _clients = (connect(&rt, &listener), connect(&rt, &listener));
+    let clock = Running::new(1_000);
+    let mut arrivals = Listening::new(&listener, Some(&door), &clock, patience());
+    for rested in &[10, 20] {
+        expect_eq(&rt, &is_command(&mut arrivals), &Some(false));
+        expect_eq(&rt, &clock.elapsed(), rested);
+    }
     fs::remove_file(&rt, path.as_str())?;
-    expect_eq(&rt, &(whole, desk.bytes), &(true, 8));
     Ok(())
 }
 
@@ -181,8 +233,8 @@ impl Office for Wordy<'_> {
 /// More bytes than the buffers of a socket hold.
 const LONG: usize = 2_000_000;
 
-// A sender that doesn't take its answer has its command carried out, and is cut off once the
-// patience is over.
+// A sender that doesn't take its answer has its command carried out, and is cut off: its answer has
+// no end.
 #[test]
 fn a_sender_that_takes_no_answer(rt: HostRuntime) -> Result<(), Fail> {
     let path = new_path(&rt, "takes-no-answer")?;
@@ -194,7 +246,7 @@ fn a_sender_that_takes_no_answer(rt: HostRuntime) -> Result<(), Fail> {
         rt: &rt,
         commanded: 0,
     };
-    let whole = hand_over(&rt, &door, Duration::from_millis(50), &mut desk)?;
+    let whole = hand_over(&rt, &door, &rt, &mut desk)?;
     fs::remove_file(&rt, path.as_str())?;
     let got = got_by(&rt, sender);
     let cut_off = got.len() > 2 && got.len() < LONG;
@@ -229,7 +281,7 @@ fn commands_and_clients_take_turns(rt: HostRuntime) -> Result<(), Fail> {
         UnixStream::connect(&rt, path.as_str())?,
         UnixStream::connect(&rt, path.as_str())?,
     );
-    let mut arrivals = Listening::new(&listener, Some(&door), &rt, Duration::from_secs(10));
+    let mut arrivals = Listening::new(&listener, Some(&door), &rt, patience());
     for turn in &TURNS {
         expect_eq(&rt, &is_command(&mut arrivals), &Some(*turn));
     }

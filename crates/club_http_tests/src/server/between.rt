@@ -54,7 +54,7 @@ struct Row {
 /// The request, but for its first letter.
 const REST: &[u8] = b"ET /account HTTP/1.1\r\nAuthorization: Bearer AgEJ\r\n\r\n";
 
-static ROWS: [Row; 5] = [
+static ROWS: [Row; 6] = [
     // Its request is there: no command goes before it.
     Row {
         steps: &[Step::Bytes(0, REQUEST), Step::Command(0, b"an order")],
@@ -113,11 +113,26 @@ static ROWS: [Row; 5] = [
             (6_000, Call::Commanded(13)),
             (6_000, Call::NotedCommand),
             (6_000, Call::WaitedBytesFirst(4_000)),
+            (10_000, Call::Read(0)),
             (10_000, Call::Closed),
             (10_000, Call::NotedClient),
         ],
     },
-    // A command that takes all its time cuts a client off.
+    // A command that takes all its time cuts a client off, unless its request is there by then.
+    Row {
+        steps: &[Step::Command(1_000, b"an order")],
+        command_takes: 20_000,
+        calls: &[
+            (0, Call::Began),
+            (0, Call::WaitedBytesFirst(10_000)),
+            (1_000, Call::Began),
+            (1_000, Call::Commanded(8)),
+            (21_000, Call::NotedCommand),
+            (21_000, Call::Read(0)),
+            (21_000, Call::Closed),
+            (21_000, Call::NotedClient),
+        ],
+    },
     Row {
         steps: &[Step::Command(1_000, b"an order"), Step::Bytes(0, REQUEST)],
         command_takes: 20_000,
@@ -127,6 +142,9 @@ static ROWS: [Row; 5] = [
             (1_000, Call::Began),
             (1_000, Call::Commanded(8)),
             (21_000, Call::NotedCommand),
+            (21_000, Call::Read(0)),
+            (21_000, Call::Asked),
+            (21_000, Call::Wrote(10_000, 140)),
             (21_000, Call::Closed),
             (21_000, Call::NotedClient),
         ],

@@ -1,6 +1,7 @@
 //! Commands that come by the office's door while a client's request is awaited, over sockets in one
 //! process.
 
+use super::doubles::Noting;
 use super::{REPLY, REQUEST, always};
 use crate::expect::{expect_bytes, expect_eq};
 use crate::sockets::{client_of, expect_reply, loopback_listener};
@@ -11,12 +12,15 @@ use desk_server::{
     Answer, Arrival, Arrivals, Carried, Connection, Listening, Office, RequestLine, Unlogged,
 };
 use http_request::Words;
+use libc::net as c;
 use std::alloc::Global;
-use std::io::{Read, Write};
+use std::cell::Cell;
+use std::io::{self, Read, Write};
 use std::net::{Shutdown, TcpListener, TcpStream};
+use std::os::fd::AsRawFd;
 use std::os::unix::net::{UnixListener, UnixStream};
 use std::test::Fail;
-use std::time::Duration;
+use std::time::{Clock, Duration};
 use std::{env, fs, process};
 use test_kit::moments::NOON;
 
@@ -135,7 +139,7 @@ fn a_command_between_two_pieces(rt: HostRuntime) -> Result<(), Fail> {
     let path = path.as_str();
     let outcome = exchanges(&rt, &listener, path, patience, &client, rest, &mut got)?;
     expect_eq(&rt, &outcome, &(None, 8, 1));
-    expect_bytes(&rt, &got, b"!\x07", "what the office got");
+    expect_bytes(&rt, &got, b"!\x07\0", "what the office got");
     expect_reply(&rt, &mut client, REPLY);
     Ok(())
 }
@@ -152,5 +156,60 @@ fn a_command_beside_a_silent_client(rt: HostRuntime) -> Result<(), Fail> {
     let path = path.as_str();
     let outcome = exchanges(&rt, &listener, path, patience, &client, b"", &mut got)?;
     expect_eq(&rt, &outcome, &(Some(AnswerFault::Read), 8, 0));
+    Ok(())
+}
+
+/// A clock by which a client sends the rest of its request while the server sleeps, once.
+#[derive(Drop)]
+struct Sending<'s> {
+    client: &'s TcpStream,
+    rest: Cell<&'s [u8]>,
+    slept: Cell<Duration>,
+}
+
+impl Clock for Sending<'_> {
+    fn monotonic(&self) -> io::Result<Duration> {
+        Ok(self.slept.get())
+    }
+
+    fn since_1970(&self) -> io::Result<Duration> {
+        self.monotonic()
+    }
+
+    fn sleep(&self, duration: Duration) {
+        self.slept.set(self.slept.get().saturating_add(duration));
+        let mut client = self.client;
+        let _ = client.write_all(self.rest.replace(b""));
+    }
+}
+
+// The client has sent a letter when the door is shut down: from then on each accepting at it fails.
+// The server sleeps ten milliseconds, and the rest of the request comes before the door.
+#[test]
+fn a_door_that_fails_beside_a_client(rt: HostRuntime) -> Result<(), Fail> {
+    let path = new_path(&rt, "fails-beside-a-client")?;
+    let door = UnixListener::bind(&rt, path.as_str())?;
+    let listener = loopback_listener(&rt);
+    let mut client = client_of(&rt, &listener, b"G");
+    let peer = client.try_clone()?;
+    let clock = Sending {
+        client: &peer,
+        rest: Cell::new(&REQUEST[1..]),
+        slept: Cell::new(Duration::ZERO),
+    };
+    let mut arrivals = Listening::new(&listener, Some(&door), &clock, Duration::from_secs(10));
+    let Arrival::Client(mut connection) = arrivals.next() else {
+        return Err("no client".into());
+    };
+    let _ = c::shutdown(door.as_raw_fd(), c::SHUT_RDWR);
+    let noon = Moment::read(NOON.as_bytes()).ok_or("a moment")?;
+    let mut desk = Noting::new(rt.alloc(), noon);
+    let mut face = Face::new(rt.alloc())?;
+    let outcome = connection.exchange(&mut face, &mut always(noon), &mut desk, &mut Unlogged, noon);
+    drop(connection);
+    fs::remove_file(&rt, path.as_str())?;
+    expect_eq(&rt, &(outcome.is_ok(), desk.asked), &(true, 1));
+    expect_eq(&rt, &clock.slept.get(), &Duration::from_millis(10));
+    expect_reply(&rt, &mut client, REPLY);
     Ok(())
 }

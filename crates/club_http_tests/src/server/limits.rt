@@ -30,26 +30,26 @@ type Outcome = (Option<AnswerFault>, u64, u64, u64);
 
 const CUT: Option<AnswerFault> = Some(AnswerFault::Read);
 
+const UNWRITTEN: Option<AnswerFault> = Some(AnswerFault::Write(0));
+
 /// The request has 53 bytes and its reply 140, and the patience is ten seconds for each. A client
-/// that keeps within both is served, and is cut off else once the limit is over. Nothing is read or
-/// written if the clock can't be read.
-static OUTCOMES: [(Client, Outcome); 10] = [
+/// that keeps within both is served, and is cut off else once the limit is over. The last read then
+/// doesn't wait. So it is if the clock can't be read, and then nothing is written.
+static OUTCOMES: [(Client, Outcome); 11] = [
     ((0, 0, ALWAYS), (None, 53, 140, 0)),
     ((100, 50, ALWAYS), (None, 53, 140, 12_300)),
-    ((1_000, 0, ALWAYS), (CUT, 10, 0, 10_000)),
+    ((1_000, 0, ALWAYS), (CUT, 11, 0, 10_000)),
     ((3_000, 0, ALWAYS), (CUT, 4, 0, 10_000)),
     ((NEVER, 0, ALWAYS), (CUT, 1, 0, 10_000)),
     (
         (0, 1_000, ALWAYS),
         (Some(AnswerFault::Write(10)), 53, 10, 10_000),
     ),
-    (
-        (0, NEVER, ALWAYS),
-        (Some(AnswerFault::Write(0)), 53, 1, 10_000),
-    ),
-    ((0, 0, 0), (CUT, 0, 0, 0)),
-    ((0, 0, 4), (CUT, 2, 0, 0)),
-    ((0, 0, 55), (Some(AnswerFault::Write(0)), 53, 0, 0)),
+    ((0, NEVER, ALWAYS), (UNWRITTEN, 53, 1, 10_000)),
+    ((1, 0, 0), (CUT, 1, 0, 0)),
+    ((0, 0, 0), (UNWRITTEN, 53, 0, 0)),
+    ((0, 0, 4), (UNWRITTEN, 53, 0, 0)),
+    ((0, 0, 55), (UNWRITTEN, 53, 0, 0)),
 ];
 
 /// What comes of an exchange with a client.
@@ -128,12 +128,12 @@ fn goes_on_after_a_signal(rt: HostRuntime) {
 }
 
 /// The milliseconds before each of the bytes that follow a request; how often was read for them,
-/// and the milliseconds that passed. The patience is ten seconds, and no wait is longer than 200
-/// milliseconds.
+/// and the milliseconds that passed. The patience is ten seconds, no wait is longer than 200
+/// milliseconds, and the read once all are over doesn't wait.
 static RESTS: [(u64, u64, u64); 5] = [
     (0, 54, 0),
     (100, 54, 5_300),
-    (200, 50, 10_000),
+    (200, 51, 10_000),
     (201, 1, 200),
     (NEVER, 1, 200),
 ];

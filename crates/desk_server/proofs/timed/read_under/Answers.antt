@@ -8,7 +8,7 @@ loop-interrupted-init g c = record { repeated = spec.not_called; kept = Keeps-re
 pub loop-interrupted-preserved : goal.loop-interrupted-preserved
 loop-interrupted-preserved g c =
     let so_far = c.loop-interrupted.invariant in
-    let left = c.left-left.ensures in
+    let left = c.left.ensures in
     record {
       repeated = spec.once_more _ _ _ so_far.repeated (left.0, left.1, rw left.2 at c.in-Interrupted.ensures.limited);
       kept = Keeps-trans _ _ _ so_far.kept c.in-Interrupted.ensures.bytes;

@@ -1,0 +1,50 @@
+//! Descriptors that are polled.
+
+use libc::net as c;
+use libc::types::pollfd;
+use std::os::fd::RawFd;
+
+/// What a wait for a command and for a client found.
+pub(crate) enum Next {
+    /// The command goes first.
+    Command,
+    /// The client goes first.
+    Client,
+    /// Neither came in time.
+    Nothing,
+    /// Waiting failed.
+    Failed,
+}
+
+/// Waits for a command at a door and for a client, at most so many milliseconds, or without end for
+/// -1, and returns which of them goes first.
+pub(crate) fn next_of(door: RawFd, client: RawFd, milliseconds: i32, command_first: bool) -> Next {
+    let mut asked = [waits_for(door), waits_for(client)];
+    let ready = c::poll(&mut asked, milliseconds);
+    if ready < 0 {
+        return Next::Failed;
+    }
+    let command = asked[0].revents != 0;
+    let client = asked[1].revents != 0;
+    if command && (command_first || !client) {
+        Next::Command
+    } else if client {
+        Next::Client
+    } else {
+        Next::Nothing
+    }
+}
+
+/// Whether a read of a descriptor wouldn't wait: its bytes, its end or its fault is there.
+pub(crate) fn is_readable(fd: RawFd) -> bool {
+    c::poll(&mut [waits_for(fd)], 0) > 0
+}
+
+// What `poll` is asked to wait for: the bytes of a descriptor, or its next connection.
+fn waits_for(fd: RawFd) -> pollfd {
+    pollfd {
+        fd,
+        events: c::POLLIN,
+        revents: 0,
+    }
+}
