@@ -1,5 +1,5 @@
 -- The steps of an exchange, put together.
-use Rattle.std.proofs.Common.{◌≡◌, ◌∙◌, ℕ, List, take, Option, Result, Ok, Err, ap, refl}
+use Rattle.std.proofs.Common.{◌≡◌, ◌∙◌, ℕ, List, [], take, Option, Some, None, IfSome, Result, Ok, Err, ap, refl}
 use Rattle.std.specs.Io.KnownBytes.{Appends, Keeps}
 use Rattle.std.proofs.KnownBytes.{Appends-kept, Keeps-refl, Keeps-trans}
 use Rattle.club_core.specs.declared.reply.Reply.{Reply}
@@ -35,6 +35,22 @@ spoken Answers bytes old new before after (Ok reply) (replied, writes) =
 spoken Answers bytes old new before after (Err Read) never = absurd never
 spoken Answers bytes old new before after (Err (Write n)) (reply, replied, fewer, writes) =
     record { written = take n (reply_text reply); exchanged = (reply, replied, fewer, refl); writes = writes }
+
+-- what was done by the bytes that came is done by all that the reader would give
+pub exchanged_to_all : {Desk : Type 0} (Answers : AnswerRelation Desk) (before : Option (List ℕ)) (bytes written : List ℕ) (old new : Desk)
+    (outcome : Result Reply AnswerFault)
+    → ((reply : Reply) → IsReplied Answers bytes old reply new → IfSome before (λ all. IsReplied Answers all old reply new))
+    → IsExchanged Answers bytes old written outcome new → IfSome before (λ all. IsExchanged Answers all old written outcome new)
+exchanged_to_all Answers None bytes written old new outcome replies is = tt
+exchanged_to_all Answers (Some all) bytes written old new (Ok reply) replies (replied, is) = (replies reply replied, is)
+exchanged_to_all Answers (Some all) bytes written old new (Err Read) replies is = is
+exchanged_to_all Answers (Some all) bytes written old new (Err (Write n)) replies (reply, replied, fewer, is) = (reply, replies reply replied, fewer, is)
+
+-- if the reader failed, nothing was done
+pub unasked_to_all : {Desk : Type 0} (Answers : AnswerRelation Desk) (before : Option (List ℕ)) (desk : Desk)
+    → IfSome before (λ all. IsExchanged Answers all desk [] (Err Read) desk)
+unasked_to_all Answers None desk = tt
+unasked_to_all Answers (Some all) desk = (refl, refl)
 
 module _ {S C : Type 0} (to_come taken : S → Option (List ℕ)) (Shows : C → Option ℕ → Type 0) (Reads Writes : Calls S) where
   -- while it was read, nothing was written

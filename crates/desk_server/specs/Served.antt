@@ -1,6 +1,6 @@
 -- A server: it serves what arrives, clients and commands of the office, one after the other, and commands also while a client's request is awaited
 -- (ours).
-use Rattle.std.specs.Prelude.{◌≡◌, ℕ, suc, ◌+◌, ◌^◌, ◌<◌, ◌≤◌, length, List, [], ◌∷◌, ◌++◌, take, Option, Some, None, Result, MatchResult}
+use Rattle.std.specs.Prelude.{◌≡◌, ℕ, suc, ◌+◌, ◌^◌, ◌<◌, ◌≤◌, length, List, [], ◌∷◌, ◌++◌, take, Option, Some, None, IfSome, Result, MatchResult}
 use Rattle.std.specs.Io.KnownBytes.{Appends}
 use Rattle.std.specs.String.{string_bytes}
 use Rattle.club_clock.specs.Moments.{GivesMoment}
@@ -197,10 +197,13 @@ module _ {Clock Desk Log : Type 0} (Gives : GivesMoment Clock) (Carries : Comman
     pub noted : AreNotedMeanwhile Begins Noted log fates log'
 
   -- An exchange: while the request was awaited, commands were carried out and noted; then the outcome is as at the desk that they left.
-  pub record ExchangesBetween {Client : Type 0} (Answers : AnswerRelation Desk) (Talks : Talk Client) (bytes : List ℕ) (clock : Clock) (desk : Desk)
-      (log : Log) (client : Client) (outcome : Result Reply AnswerFault) (clock' : Clock) (desk' : Desk) (log' : Log) (client' : Client) : Type 0 where
+  pub record ExchangesBetween {Client : Type 0} (Answers : AnswerRelation Desk) (ToCome : Client → Option (List ℕ)) (Talks : Talk Client)
+      (bytes : List ℕ) (clock : Clock) (desk : Desk) (log : Log) (client : Client) (outcome : Result Reply AnswerFault) (clock' : Clock)
+      (desk' : Desk) (log' : Log) (client' : Client) : Type 0 where
     pub left : Desk
     pub written : List ℕ
     pub meanwhile : Meanwhile clock desk log clock' left log'
     pub exchanged : IsExchanged Answers bytes left written outcome desk'
+    -- it is so also by all that the client would give until its end
+    pub to_all : IfSome (ToCome client) (λ all. IsExchanged Answers all left written outcome desk')
     pub talked : Talks client bytes written outcome client'

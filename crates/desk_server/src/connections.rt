@@ -7,18 +7,24 @@ use crate::office::Office;
 use crate::stream::{ClientStream, Woken};
 use crate::timed::Accepted;
 use club_clock::Moments;
+use club_http::laws::replies_to_all;
 use club_http::{AnswerFault, Face, Moment, Reply};
 
 /// A client's connection.
 pub trait Connection {
+    ghost use Rattle.std.specs.Prelude.{ℕ, List, Option};
     ghost use Rattle.desk_server.specs.Served.{ExchangesBetween, Talk};
+
+    // the bytes that are still to come of it, if they are known
+    ghost to_come: { Self → Option (List ℕ) };
 
     // the exchanges that it may have
     ghost talks: { Talk Self };
 
     /// One exchange with the desk, at a moment. While the request is awaited, commands are carried
     /// out and logged, each at a moment of its own; then the desk changed, and was written, as the
-    /// returned outcome says. The bytes that were read of the request stay in the face.
+    /// returned outcome says. The bytes that were read of the request stay in the face. What follows
+    /// a whole request changes nothing, read or not.
     ///
     /// # Errors
     ///
@@ -32,7 +38,7 @@ pub trait Connection {
         moment: Moment,
     ) -> Result<Reply, AnswerFault>
         ensures exchanged { ExchangesBetween M.gives D.commands G.begins G.notes (D.answers moment)
-            talks face.new moments.old desk.old log.old self.old
+            to_come talks face.new moments.old desk.old log.old self.old
             result moments.new desk.new log.new self.new };
 }
 
@@ -74,6 +80,8 @@ impl<S: ClientStream, C: MonotonicClock> Connection for Accepted<'_, S, C> {
     ghost use Rattle.desk_server.specs.Accepted.{Talks};
     ghost use Rattle.desk_server.specs.Served.{ExchangesBetween};
 
+    ghost to_come = { λ accepted. S.to_come accepted.stream };
+
     ghost talks = { Talks S.to_come S.taken C.shows S.reads S.writes };
 
     fn exchange<M: Moments, D: Office, G: Log>(
@@ -85,6 +93,7 @@ impl<S: ClientStream, C: MonotonicClock> Connection for Accepted<'_, S, C> {
         moment: Moment,
     ) -> Result<Reply, AnswerFault>
         ensures exchanged { ExchangesBetween M.gives D.commands G.begins G.notes (D.answers moment)
+            (λ accepted. S.to_come accepted.stream)
             (Talks S.to_come S.taken C.shows S.reads S.writes)
             face.new moments.old desk.old log.old self.old
             result moments.new desk.new log.new self.new }
@@ -92,6 +101,7 @@ impl<S: ClientStream, C: MonotonicClock> Connection for Accepted<'_, S, C> {
         let Some(scan) = receive_between(face, self, moments, desk, log) else {
             return Err(AnswerFault::Read);
         };
+        replies_to_all::<D>();
         match face.respond(&scan, desk, moment, self) {
             Ok(reply) => {
                 let over = face.is_over(&scan);

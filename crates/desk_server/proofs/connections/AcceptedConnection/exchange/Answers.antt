@@ -3,7 +3,7 @@ use Rattle.std.specs.Io.KnownBytes.{Appends}
 use Rattle.std.proofs.KnownBytes.{Appends-nil}
 use Rattle.club_http.specs.Calls.{not_put}
 use Rattle.club_http.specs.declared.fault.AnswerFault.TheVariants.{Read}
-use Rattle.desk_server.proofs.ExchangeLemmas.{reached, spoken, talked}
+use Rattle.desk_server.proofs.ExchangeLemmas.{exchanged_to_all, reached, spoken, talked, unasked_to_all}
 use Rattle.desk_server.proofs.connections.AcceptedConnection.exchange.Goals as goal
 
 pub returns-in_default : goal.returns-in_default
@@ -15,6 +15,7 @@ returns-in_default g c =
         written = [];
         meanwhile = received.meanwhile;
         exchanged = (refl, refl);
+        to_all = unasked_to_all (g.D.Responder.answers c.args.moment) _ _;
         talked = talked _ _ _ _ _ _ _ _ _ _ [] (Err Read) received.calls received.cut_off not_put refl (Appends-nil _) received.counted refl;
       };
     }
@@ -32,6 +33,11 @@ returns-in-Ok g c =
         written = it.written;
         meanwhile = received.meanwhile;
         exchanged = it.exchanged;
+        to_all =
+            exchanged_to_all (g.D.Responder.answers c.args.moment) (g.S.TimedStream.to_come c.args.self.now.stream) c.receive_between.new.face it.written
+            c.receive_between.new.desk c.respond.new.desk (Ok c.in-Ok.reply)
+            (λ reply replied. c.replies_to_all.ensures c.args.moment _ _ c.receive_between.new.face c.receive_between.new.desk reply c.respond.new.desk
+            received.received replied) it.exchanged;
         talked =
             talked _ _ _ _ _ _ _ c.respond.new.writer _ _ it.written (Ok c.in-Ok.reply) received.calls received.received c.in-Ok.ensures.calls
             (λ one. c.end.ensures.over (c.is_over-over.ensures.1 one), c.end.ensures.rest) it.writes received.counted c.in-Ok.ensures.writes;
@@ -55,6 +61,11 @@ returns-in-Err g c =
         written = it.written;
         meanwhile = received.meanwhile;
         exchanged = it.exchanged;
+        to_all =
+            exchanged_to_all (g.D.Responder.answers c.args.moment) (g.S.TimedStream.to_come c.args.self.now.stream) c.receive_between.new.face it.written
+            c.receive_between.new.desk c.respond.new.desk (Err c.in-Err.fault)
+            (λ reply replied. c.replies_to_all.ensures c.args.moment _ _ c.receive_between.new.face c.receive_between.new.desk reply c.respond.new.desk
+            received.received replied) it.exchanged;
         talked =
             talked _ _ _ _ _ _ _ c.respond.new.writer _ _ it.written (Err c.in-Err.fault) received.calls request.came c.in-Err.ensures.calls refl it.writes
             request.failed_reads c.in-Err.ensures.writes;
