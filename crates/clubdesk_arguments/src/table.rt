@@ -31,7 +31,8 @@ const STATUSES: &str = "Exit status:
   5  storage failed
   6  serve, show-account: the clock doesn't stand in the years 2000 to 2099
   7  input or output failed
-  8  no answer from the server that was handed the order";
+  8  no answer from the server that was handed the order
+  9  nothing was done: the server didn't get the order whole";
 
 const ADD_MEMBER_HELP: &str = "FILE is the database; it is made where it isn't there.
 QUOTA is the most bookings that the member has open at once, 0 to 99.

@@ -1,7 +1,8 @@
 -- A command that is handed to a server, and the answer to it (ours).
-use Rattle.std.specs.Prelude.{◌≡◌, ℕ, List, ◌∷◌, Option}
+use Rattle.std.specs.Prelude.{◌≡◌, ℕ, List, Option}
 use Rattle.std.specs.Io.KnownBytes.{Appends, Consumes, IsAtEnd}
 use Rattle.std.specs.Str.Lossy.{utf8_lossy}
+use Rattle.desk_server.specs.Served.{answer_bytes}
 
 -- The bytes of the command were written, once, and then its end was told.
 pub record SendsCommand {Writer : Type 0} (Contents : Writer → Option (List ℕ)) (Ends : Writer → Writer → Type 0) (command : List ℕ) (old new : Writer) :
@@ -10,9 +11,9 @@ pub record SendsCommand {Writer : Type 0} (Contents : Writer → Option (List �
   pub writes : Appends (Contents old) (Contents written) command
   pub ends : Ends written new
 
--- All that came was read, up to the end: the status, and then the text, in which a replacement character stands for what isn't UTF-8.
+-- All that came was read, up to the end: the bytes of an answer. In its text a replacement character stands for what isn't UTF-8.
 pub record ReadsAnswer (left left' : Option (List ℕ)) (status : ℕ) (text : List ℕ) : Type 0 where
   pub bytes : List ℕ
-  pub reads : Consumes left left' (status ∷ bytes)
+  pub reads : Consumes left left' (answer_bytes status bytes)
   pub at_end : IsAtEnd left'
   pub is : text ≡ utf8_lossy bytes

@@ -5,7 +5,7 @@ ghost use Rattle.std.specs.Io.KnownBytes.{Consumes};
 ghost use Rattle.std.specs.String.{string_bytes};
 ghost use Rattle.clubdesk_files.specs.Handover.{ReadsAnswer, SendsCommand};
 
-use desk_server::GREETING;
+use desk_server::{ANSWER_END, GREETING};
 use std::alloc::Global;
 use std::io::{self, ErrorKind, Read, Write};
 use std::net::Shutdown;
@@ -48,12 +48,13 @@ pub fn greeted<R: Read>(reader: &mut R) -> io::Result<()>
     }
 }
 
-/// Sends a command and its end, and reads the answer to its end: the status, and the text.
+/// Sends a command and its end, and reads the answer: the status, the text, and the byte that ends
+/// it.
 ///
 /// # Errors
 ///
-/// The writer's and the reader's, and `UnexpectedEof` if there is no answer: nobody knows then
-/// whether the command was carried out.
+/// The writer's: the command wasn't sent whole. The reader's, and `UnexpectedEof` if the answer
+/// isn't whole: nobody knows then whether the command was carried out.
 pub fn answered<R: Read, W: CommandWriter>(
     alloc: Global,
     reader: &mut R,
@@ -70,10 +71,13 @@ pub fn answered<R: Read, W: CommandWriter>(
     let mut bytes = Vec::new(alloc);
     reader.read_to_end(&mut bytes)?;
     match bytes.split_first() {
-        Some((status, text)) => {
-            let text = String::from_utf8_lossy(alloc, text)?;
-            Ok((*status, text))
-        }
+        Some((status, rest)) => match rest.split_last() {
+            Some((end, text)) if [*end] == ANSWER_END => {
+                let text = String::from_utf8_lossy(alloc, text)?;
+                Ok((*status, text))
+            }
+            _ => Err(io::Error::from(ErrorKind::UnexpectedEof)),
+        },
         None => Err(io::Error::from(ErrorKind::UnexpectedEof)),
     }
 }

@@ -4,7 +4,7 @@ use crate::attempts::Attempts;
 use crate::beside::{fault_of, make_private};
 use crate::named::NamedStore;
 use crate::open_file::OpenFile;
-use crate::visit::{FileVisit, find_server};
+use crate::visit::{FileVisit, Found, find_server};
 use club_core::StoreFault;
 use club_store::{Remains, Store};
 use desk_server::Reached;
@@ -51,7 +51,8 @@ impl<'a> Attempts for ServerOpenings<'a, '_> {
     }
 }
 
-/// The office's attempts to reach a database: by the door of its server, or by opening it.
+/// The office's attempts to reach a database: by the door of its server, or by opening it. An
+/// attempt fails if another program has the file, or a server ends before it greets.
 #[derive(Drop)]
 pub struct OfficeOpenings<'a, 'n> {
     pub rt: &'a HostRuntime,
@@ -65,9 +66,10 @@ impl<'a> Attempts for OfficeOpenings<'a, '_> {
 
     fn attempt(&mut self) -> Option<Result<Reached<FileClub<'a>, FileVisit<'a>>, StoreFault>> {
         match find_server(self.rt, self.name) {
-            Some(Ok(visit)) => Some(Ok(Reached::Served(visit))),
-            Some(Err(fault)) => Some(Err(fault)),
-            None => match try_open(self.rt, self.name)? {
+            Ok(Found::Server(visit)) => Some(Ok(Reached::Served(visit))),
+            Ok(Found::Ended) => None,
+            Err(fault) => Some(Err(fault)),
+            Ok(Found::Nobody) => match try_open(self.rt, self.name)? {
                 Ok(store) => {
                     let file = OpenFile::unwatched(self.rt);
                     Some(Ok(Reached::Opened(NamedStore { store, file })))

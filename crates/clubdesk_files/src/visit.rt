@@ -3,7 +3,7 @@
 use crate::beside::{Place, fault_of};
 use crate::handover::{answered, greeted};
 use club_core::StoreFault;
-use desk_server::Visit;
+use desk_server::{NOTHING_DONE, NOTHING_DONE_TEXT, Visit};
 use std::io;
 use std::io::ErrorKind;
 use std::os::unix::net::UnixStream;
@@ -36,29 +36,38 @@ impl<'a> FileVisit<'a> {
     }
 }
 
-/// Connects to the server of a database, and waits for its greeting. `None` if nobody listens, the
-/// database's name is too long for a door, or root's door keeps this user out: then the lock of
-/// the file says whether a server has it.
+/// What was found at the door of a database.
+pub(crate) enum Found<'a> {
+    /// A server has greeted.
+    Server(FileVisit<'a>),
+    /// A server ended before it greeted. Nothing was sent.
+    Ended,
+    /// Nobody listens, the database's name is too long for a door, or root's door keeps this user
+    /// out: then the lock of the file says whether a server has it.
+    Nobody,
+}
+
+/// Connects to the server of a database, and waits for its greeting.
 ///
 /// # Errors
 ///
-/// The server doesn't greet in time, the door can't be used, a user who may not make the door made
-/// it, or memory is refused. Nothing was sent.
-pub(crate) fn find_server<'a>(
-    rt: &'a HostRuntime,
-    file: &str,
-) -> Option<Result<FileVisit<'a>, StoreFault>> {
+/// The server doesn't greet in time, or otherwise; the door can't be used; a user who may not make
+/// the door made it; or memory is refused. Nothing was sent.
+pub(crate) fn find_server<'a>(rt: &'a HostRuntime, file: &str) -> Result<Found<'a>, StoreFault> {
     match connect(rt, file) {
         Ok(stream) => match FileVisit::over(rt, stream) {
-            Ok(visit) => Some(Ok(visit)),
-            Err(error) => Some(Err(fault_of(&error))),
+            Ok(visit) => Ok(Found::Server(visit)),
+            Err(error) => match error.kind() {
+                ErrorKind::UnexpectedEof | ErrorKind::ConnectionReset => Ok(Found::Ended),
+                _ => Err(fault_of(&error)),
+            },
         },
         Err(error) => match error.kind() {
             ErrorKind::NotFound
             | ErrorKind::ConnectionRefused
             | ErrorKind::InvalidInput
-            | ErrorKind::PermissionDenied => None,
-            _ => Some(Err(fault_of(&error))),
+            | ErrorKind::PermissionDenied => Ok(Found::Nobody),
+            _ => Err(fault_of(&error)),
         },
     }
 }
@@ -86,8 +95,21 @@ impl Visit for FileVisit<'_> {
     fn give(self, command: &[u8]) -> Option<(u8, String)> {
         let FileVisit { rt, stream } = self;
         limit_answer(&stream).ok()?;
-        answered(rt.alloc(), &mut &stream, &mut &stream, command).ok()
+        match answered(rt.alloc(), &mut &stream, &mut &stream, command) {
+            Ok(answer) => Some(answer),
+            // The server closed before it had read the whole command, so it can't carry it out.
+            Err(error) => match error.kind() {
+                ErrorKind::BrokenPipe | ErrorKind::ConnectionReset => nothing_done(rt),
+                _ => None,
+            },
+        }
     }
+}
+
+// What a server says that was given no whole command.
+fn nothing_done(rt: &HostRuntime) -> Option<(u8, String)> {
+    let text = format!(in rt.alloc(); "{NOTHING_DONE_TEXT}").ok()?;
+    Some((NOTHING_DONE, text))
 }
 
 // Limits how long the server may take a command, and answer it.

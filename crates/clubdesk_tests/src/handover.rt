@@ -17,13 +17,20 @@ const COMMAND: &[u8] = b"5\0\0clubdesk\0add-member\0club\0amy\05\0";
 /// What a server sends, and the status and the text that are read of it.
 type Answered = (&'static [u8], Option<(u8, &'static str)>);
 
-static ANSWERED: [Answered; 5] = [
-    (b"!\0done\n", Some((0, "done\n"))),
-    (b"!\x01refused: exists", Some((1, "refused: exists"))),
-    (b"!\x04", Some((4, ""))),
-    (b"!\x03\xc3\x84 is no name", Some((3, "\u{c4} is no name"))),
-    // It took the command, and then it was gone.
+static ANSWERED: [Answered; 9] = [
+    (b"!\0done\n\0", Some((0, "done\n"))),
+    (b"!\x01refused: exists\0", Some((1, "refused: exists"))),
+    (b"!\x04\0", Some((4, ""))),
+    (
+        b"!\x03\xc3\x84 is no name\0",
+        Some((3, "\u{c4} is no name")),
+    ),
+    (b"!\x09nothing was done\0", Some((9, "nothing was done"))),
+    // It took the command, and then it was gone, or its answer was cut.
     (b"!", None),
+    (b"!\0", None),
+    (b"!\0done\n", None),
+    (b"!\0done\n!", None),
 ];
 
 // Sends what a server sends, up to its end.
@@ -70,6 +77,19 @@ fn hands_a_command_over(rt: HostRuntime) -> Result<(), Fail> {
     Ok(())
 }
 
+// A server that is gone once it has greeted wasn't given the command, and can't carry it out.
+#[test]
+fn nothing_was_done_by_a_server_that_is_gone(rt: HostRuntime) -> Result<(), Fail> {
+    let (client, mut server) = UnixStream::pair(&rt)?;
+    server.write_all(b"!")?;
+    let visit = FileVisit::over(&rt, client)?;
+    drop(server);
+    match visit.give(COMMAND) {
+        Some((9, line)) if line.as_str() == "nothing was done" => Ok(()),
+        _ => Err("something else was told".into()),
+    }
+}
+
 /// What is no greeting. The system resets a connection that is closed while bytes of it are unread,
 /// so each is one byte or none.
 static NO_GREETINGS: [&[u8]; 3] = [b"", b"?", b"\0"];
@@ -111,7 +131,7 @@ fn hands_over_by_a_door_behind_a_link(rt: HostRuntime) -> Result<(), Fail> {
     let listener = door.listener().ok_or("a door")?;
     let (mut server, _) = listener.accept()?;
     server.set_nonblocking(false)?;
-    send(&mut server, b"!\0done\n")?;
+    send(&mut server, b"!\0done\n\0")?;
     let want = Some((0, "done\n"));
     expect_handed(&rt, FileVisit::over(&rt, client)?, &mut server, &want)?;
     fs::remove_file(&rt, link.as_str())?;

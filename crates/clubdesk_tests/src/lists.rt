@@ -212,7 +212,7 @@ impl Plan {
         bytes_of_command(rt.alloc(), plain, &command).expect(rt, "memory")
     }
 
-    // The status of a command, and what it prints.
+    // The status of a command, what it prints, and a zero byte.
     fn wants_answer(&mut self, rt: &(impl Abort + Alloc<A = Global>), answer: &OfficeAnswer) {
         match answer {
             OfficeAnswer::Done => self.wants(rt, b"\0done\n"),
@@ -230,6 +230,7 @@ impl Plan {
                 self.wants(rt, line.expect(rt, "memory").as_str().as_bytes());
             }
         }
+        self.wants(rt, b"\0");
     }
 
     // The office comes with a command.

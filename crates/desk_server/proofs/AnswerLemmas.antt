@@ -26,7 +26,8 @@ module _ (status : ℕ) (text : List ℕ) where
   sent_text t t1 t2 t3 f2 f3 (Ok done) first second third =
       let all = answer_bytes status text in (
         length all,
-        rw (take_all (length all) all (omega arith)) (Appends-trans t t1 t3 (status ∷ []) (text ++ 0 ∷ []) first (Appends-trans t1 t2 t3 text (0 ∷ []) second third.0)),
+        rw (take_all (length all) all (omega arith))
+            (Appends-trans t t1 t3 (status ∷ []) (text ++ 0 ∷ []) first (Appends-trans t1 t2 t3 text (0 ∷ []) second third.0)),
       )
   sent_text t t1 t2 t3 f2 f3 (Err n) first second third = (
     suc (length text + n),

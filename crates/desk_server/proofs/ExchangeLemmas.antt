@@ -1,5 +1,5 @@
 -- The steps of an exchange, put together.
-use Rattle.std.proofs.Common.{◌≡◌, ◌∙◌, ℕ, List, [], take, Option, Some, None, IfSome, Result, Ok, Err, ap, refl}
+use Rattle.std.proofs.Common.{◌≡◌, ◌∙◌, ℕ, List, [], ◌++◌, take, Option, Some, None, IfSome, Result, Ok, Err, ap, refl}
 use Rattle.std.specs.Io.KnownBytes.{Appends, Keeps}
 use Rattle.std.proofs.KnownBytes.{Appends-kept, Keeps-refl, Keeps-trans}
 use Rattle.club_core.specs.declared.reply.Reply.{Reply}
@@ -18,7 +18,6 @@ use Rattle.desk_server.specs.Limits.{Calls}
 use Rattle.desk_server.specs.Served.{IsExchanged}
 use Rattle.desk_server.specs.declared.timed.Accepted.{Accepted}
 use Rattle.desk_server.proofs.MeanwhileLemmas.{reads_kept}
-use Rattle.desk_server.proofs.TimedLemmas.{kept_appends}
 
 -- the second step of an exchange, with what it wrote
 pub record Written {Desk : Type 0} (Answers : AnswerRelation Desk) (bytes : List ℕ) (old new : Desk) (before after : Option (List ℕ))
@@ -51,6 +50,12 @@ pub unasked_to_all : {Desk : Type 0} (Answers : AnswerRelation Desk) (before : O
     → IfSome before (λ all. IsExchanged Answers all desk [] (Err Read) desk)
 unasked_to_all Answers None desk = tt
 unasked_to_all Answers (Some all) desk = (refl, refl)
+
+kept_appends : (a b c : Option (List ℕ)) (bytes : List ℕ) → Keeps a b → Appends b c bytes → Appends a c bytes
+kept_appends None b c bytes kept appends = tt
+kept_appends (Some xs) None c bytes kept appends = absurd kept
+kept_appends (Some xs) (Some ys) None bytes kept appends = absurd appends
+kept_appends (Some xs) (Some ys) (Some zs) bytes kept appends = appends ∙ ap (λ (list : List ℕ). list ++ bytes) kept
 
 module _ {S C : Type 0} (to_come taken : S → Option (List ℕ)) (Shows : C → Option ℕ → Type 0) (Reads Writes : Calls S) where
   -- while it was read, nothing was written

@@ -1,10 +1,10 @@
 -- Lemmas on the bytes of several reads, and on calls under a limit.
-use Rattle.std.proofs.Common.{◌≡◌, ◌+◌, ◌≤◌, ◌∙◌, ℕ, List, ◌++◌, length, take, Option, Some, None, true, false, sym, ap}
+use Rattle.std.proofs.Common.{◌≡◌, ◌+◌, ◌≤◌, ◌∙◌, ℕ, List, ◌++◌, length, take, Option, true, false, sym, ap}
 use Rattle.std.proofs.Math.Seq.{take-append-add}
 use Rattle.std.proofs.lemmas.List.{take-append-le, length-take-le}
 use borrow.Rule.Slice.PartMut.{put_mid}
 use Rattle.std.specs.Bool.{IsTrue}
-use Rattle.std.specs.Io.KnownBytes.{Appends, Keeps}
+use Rattle.std.specs.Io.KnownBytes.{Keeps}
 use Rattle.desk_server.specs.Limits.{AreInterrupted, Calls, InTime}
 use Rattle.desk_server.specs.declared.limit.Limit.{Limit}
 use Rattle.desk_server.specs.declared.timed.Waited.{Waited}
@@ -16,13 +16,6 @@ filled room part len n k within few =
     ap (λ (m : ℕ). take (m + n) (put_mid len k room part)) (sym front)
     ∙ take-append-add (take len room) _ n
     ∙ ap (λ (l : List ℕ). take len room ++ l) (take-append-le n part _ few)
-
--- bytes were kept, and then some were added
-pub kept_appends : (a b c : Option (List ℕ)) (bytes : List ℕ) → Keeps a b → Appends b c bytes → Appends a c bytes
-kept_appends None b c bytes kept appends = tt
-kept_appends (Some xs) None c bytes kept appends = absurd kept
-kept_appends (Some xs) (Some ys) None bytes kept appends = absurd appends
-kept_appends (Some xs) (Some ys) (Some zs) bytes kept appends = appends ∙ ap (λ (list : List ℕ). list ++ bytes) kept
 
 -- a call that was made while time was left
 pub in_time : {Stream : Type 0} (Does : Calls Stream) (left : ℕ) (old : Stream) (how : Waited) (new : Stream) → (left ≡ 0 → IsTrue false)

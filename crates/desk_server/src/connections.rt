@@ -23,8 +23,8 @@ pub trait Connection {
 
     /// One exchange with the desk, at a moment. While the request is awaited, commands are carried
     /// out and logged, each at a moment of its own; then the desk changed, and was written, as the
-    /// returned outcome says. The bytes that were read of the request stay in the face. What follows
-    /// a whole request changes nothing, read or not.
+    /// returned outcome says. The bytes that were read of the request stay in the face. What
+    /// follows a whole request changes nothing, read or not.
     ///
     /// # Errors
     ///
@@ -43,8 +43,7 @@ pub trait Connection {
 }
 
 /// Its bytes and commands take turns, if both are there, also after a command that couldn't be
-/// accepted. A command that is carried out meanwhile
-/// doesn't extend the patience.
+/// accepted. A command that is carried out meanwhile doesn't extend the patience.
 impl<S: ClientStream, C: MonotonicClock> Waits for Accepted<'_, S, C> {
     ghost use Rattle.desk_server.specs.Accepted.{HasWaited};
 

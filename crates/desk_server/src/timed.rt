@@ -106,8 +106,8 @@ pub(crate) fn outcome_of(returned: io::Result<usize>) -> Waited
     }
 }
 
-// Reads with the time that is left of a limit. Once it is over the read doesn't wait: what came while
-// the server was stopped isn't lost.
+// Reads with the time that is left of a limit. Once it is over the read doesn't wait: what came
+// while the server was stopped isn't lost.
 fn read_under<R: TimedStream, C: MonotonicClock>(
     reader: &mut R,
     limit: &Limit<'_, C>,
@@ -133,7 +133,8 @@ fn write_under<W: TimedStream, C: MonotonicClock>(
     limit: &Limit<'_, C>,
     bytes: &[u8],
 ) -> Option<usize>
-    ensures { EndsUnder C.shows (InTime W.writes) limit.now writer.old result writer.new (length bytes.now)
+    ensures { EndsUnder C.shows (InTime W.writes) limit.now writer.old result writer.new
+        (length bytes.now)
         (Takes (W.taken writer.old) (W.taken writer.new) result bytes.now)
         (Keeps (W.to_come writer.old) (W.to_come writer.new)) }
 {

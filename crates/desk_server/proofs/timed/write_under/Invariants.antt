@@ -5,4 +5,5 @@ use Rattle.desk_server.proofs.timed.write_under.Given as goal
 
 abbrev pub invariant-loop-interrupted : goal.invariant-loop-interrupted
 invariant-loop-interrupted g l =
-    Interrupted g.C.MonotonicClock.shows (InTime g.W.TimedStream.writes) g.W.TimedStream.taken g.W.TimedStream.to_come l.limit l.initial.writer l.interrupted l.writer
+    Interrupted g.C.MonotonicClock.shows (InTime g.W.TimedStream.writes) g.W.TimedStream.taken g.W.TimedStream.to_come l.limit l.initial.writer l.interrupted
+    l.writer
