@@ -1,8 +1,11 @@
 #!/usr/bin/env python3
-"""docs/AUDIT.md, what has to be believed of each promise, is what the sources say; each contract that docs/PROMISES.md cites is there, and rests
-on no computing definition but the three that it names, nor does what stands for a ghost, while each in docs/COMPUTED.md rests on one; the
-vectors hold of the rules in Python (`tests/reference`) by which it marks what they show; and each step of a path through the definitions in
-docs/TOUR.md is cited by the one before it. Writes that page, unless it is asked to check.
+"""docs/AUDIT.md is what the sources say. Contracts that docs/PROMISES.md cites exist, and rest on no computing definition but three;
+docs/COMPUTED.md, the vectors' marks and the paths of docs/TOUR.md hold.
+
+AUDIT lists what a reader must believe of each promise. Each contract that PROMISES cites exists. It rests on no computing definition but
+the three that the page names; nor does what stands for a ghost. Each contract in COMPUTED rests on one. The vectors hold of the rules in
+Python (`tests/reference`), which mark what they show. Each step of a path in TOUR is cited by the one before it. Writes docs/AUDIT.md,
+unless it is asked to check.
 
 It reads the promises of docs/PROMISES.md, the clauses that carry them, and the definitions below these, by tests/definitions.py.
 

@@ -1,8 +1,10 @@
 #!/usr/bin/env -S /usr/bin/python3 -B -m pytest -q -p no:cacheprovider
-"""Runs clubdesk's server under a clock that is set for it, at the first and the last minutes of the years 2000 to 2099 and beyond
-them, in three zones. If the clock shows a moment of the club's, each client has its reply. If it shows none, or can't be
-read, the first client has no byte, a second one isn't waited for, the server ends with status 6 and its line, and the club is
-as it was. Not part of the gate.
+"""The server under a set clock, around the first and last minutes of 2000 to 2099: it serves at moments of the club, and else ends with
+status 6, unchanged.
+
+The clock is also beyond those years, and the zones are three. If it shows a moment of the club's, each client has its reply. If it
+shows none, or can't be read, the first client has no byte, and a second one isn't waited for. The server ends with its line, and the
+club is as it was. Not part of the gate.
 """
 # groups: faults
 # wants: python3-pytest gcc libc6-dev

@@ -1,10 +1,10 @@
 #!/usr/bin/env python3
-"""Random requests, most of them wrong somewhere, and commands of the office: each reply is byte for byte that of the rules in Python
-(`tests/reference`, written from the pages on the desk, passes and caveats alone), and so are the rows and totals after each server. With
-`--self-test` each of eight planted faults of those rules is found.
+"""Random requests, most of them wrong somewhere, and commands of the office: each reply, row and total is that of the rules in Python
+(`tests/reference`). `--self-test` finds planted faults of the rules.
 
-Requests are drawn by a seed: passes in three forms under current, older and other roots, narrowed by caveats at their limits, cut,
-changed in a byte, or a third party's; heads and bodies with other letters, line ends, lengths, fields and paths. Servers follow one
+Replies are compared byte for byte, rows and totals after each server. The rules are written only from the pages on the desk, passes and
+caveats. Requests are drawn by a seed. Passes in three forms are under current, older and other roots, narrowed by caveats at their limits, cut,
+changed in a byte, or a third party's. Heads and bodies with other letters, line ends, lengths, fields and paths. Servers follow one
 another, each at a moment of its own, and the office gives its commands between them.
 
     tests/hostile.py [--seed N] [--count M] [--plant FAULT | --self-test]

@@ -1,7 +1,8 @@
 #!/bin/sh
-# What the timers start: copies of a running club, of what is none, that are killed or made two at once; which copies are kept, on each
-# day of three years, against the rule in Python; the sheet in four zones; checks of a desk that is well and of what isn't; mail and
-# reports.
+# The timers' jobs work: copies of a running club, which of them are kept, the sheet in four zones, checks of the desk, mail and reports.
+#
+# Copies are made of a running club and of what is none, killed, and made two at once. The kept copies, on each day of three years, are
+# those of the rule in Python. Checks are made of a desk that is well, and of faults.
 #
 # By hand and without systemd, with a mailer of the test's own. A job that is killed leaves nothing that the next one takes for its own.
 # Not part of the gate.

@@ -1,8 +1,10 @@
 #!/usr/bin/env -S /usr/bin/python3 -B
-"""The office by questions, at a terminal of its own, as a clerk who knows no command: each task of a week and of a season's start by the
-menu alone, in English and in German, and what each changed by the tables. Parts of names, days and hours as people write them, also in the
-words of commands; two members that fit; what is odd is asked about; Ctrl-C in each question changes nothing; and without a terminal a part
-of a name is none. Wants root, for a machine of its own (tests/office_room.sh). Not part of the gate.
+"""The office by menu and questions, at a terminal, in English and German: each task of a week and of a season's start, and what it changed.
+Wants root, for a machine of its own (tests/office_room.sh).
+
+The clerk knows no command, and uses the menu alone. Names, days and hours are written as people write them, also in commands. If two
+members fit, or something is odd, the office asks. Ctrl-C in each question changes nothing. Without a terminal a part of a name is none.
+Not part of the gate.
 """
 # groups: package root
 # wants: sudo sqlite3 openssl util-linux bsdutils iproute2 systemd python3-psutil python3-pexpect

@@ -1,10 +1,11 @@
 #!/usr/bin/env -S /usr/bin/python3 -B -m pytest -q -x -s -p no:cacheprovider
-"""The office beside the desk, with real processes: 500 commands of two offices, by the server's door, while four clients make 5,000
-requests of it, each command and each reply as it has to be, and the totals are the sums, by sqlite3 once the server is stopped. Then
-20 kills of servers and of commands, clients of which one is silent and one sends a byte a second, a door that is stale or taken, a
-second server, links to the file and its folder, a file that is moved, replaced or removed, another user, the modes of the files, and
-the lines of commands. Prints how long commands and requests took, in one run with a server without commands, also at 300,000 bookings. Not
-part of the gate.
+"""Two offices give 500 commands beside four clients with 5,000 requests: every answer and total is right, also with kills, slow clients,
+stale doors and moved files. Prints how long commands and requests took.
+
+The processes are real, and sqlite3 finds the totals to be the sums once the server is stopped. Then come 20 kills of servers and of
+commands, and a client that is silent next to one that sends a byte a second. Tried are also a door that is stale or taken, a second
+server, links to the file and its folder, and a file that is moved, replaced or removed. So are another user, the modes of the files, and
+the lines of commands. Times are those of one run, also at 300,000 bookings, with a server without commands. Not part of the gate.
 """
 # groups: programs faults
 # wants: python3-pytest sqlite3 util-linux

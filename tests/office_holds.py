@@ -1,5 +1,8 @@
 #!/usr/bin/env -S /usr/bin/python3 -B
-"""The office's wrapper, deploy/office, as clerks use it who are not root: by the sudoers lines of deploy/office.sudoers, beside a server
+"""The office's wrapper, deploy/office, as clerks use it: each command, list and correction against the desk, what it refuses, passes, the
+book, restores, and what a hostile clerk may try. Wants root, for a machine of its own (tests/office_room.sh).
+
+The office's wrapper, deploy/office, as clerks use it who are not root: by the sudoers lines of deploy/office.sudoers, beside a server
 that a small manager of services runs. Each command, what it shows, each list and each correction against show-account, the sheet, the desk's replies
 and the totals; what it refuses; passes and their files; the book, in a file and in systemd's journal; a copy that is put in the club's
 place, also of a file that is damaged or gone; and what a clerk or a machine may do to it: forged lines, another's programs, a stopped

@@ -1,10 +1,14 @@
 #!/usr/bin/env -S /usr/bin/python3 -B
-"""The office, killed: 100 commands and corrections, each killed at a random moment, beside a running desk with four clients; then no total
-is off, each reply was right, each command is done once or not at all, and the desk serves. An import of twelve members, killed before
-and after each of its commands, and 40 times at random: nobody is credited twice, and each pass that it leaves opens its account. A restore,
-killed 25 times: the club is that of before or that of the copy. Points for all, bookings for members who call, and undos, each killed at
-random and given again: each member is credited once, each slot booked once, each correction undone whole. Wants root, for a machine of its own (tests/office_room.sh). Not part of
-the gate.
+"""Commands, corrections, imports and restores of the office, killed at random moments beside a running desk: each is done once or not at
+all, and no total is off. Wants root, for a machine of its own (tests/office_room.sh).
+
+- 100 commands and corrections are killed while four clients use the desk. Each reply is right, and the desk goes on.
+- An import of twelve members is killed before and after each of its commands, and 40 times at random. Nobody is credited twice, and
+  each pass that it leaves opens its account.
+- A restore is killed 25 times. The club is that of before or that of the copy.
+- Points for all, bookings for members who call, and undos are killed at random and given again. Each member is credited once, each slot
+  booked once, each correction undone whole.
+Not part of the gate.
   tests/office_killed.py [KILLS [SEED]]
 """
 # groups: package faults root

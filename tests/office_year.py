@@ -1,8 +1,9 @@
 #!/usr/bin/env -S /usr/bin/python3 -B
-"""A new year: a club after a year of 1,500 requests, a part of its bookings cancelled, past and to come, and the file that `office CLUB
-new-year` makes of it. The old file is kept byte for byte; balances, what each key has spent, keys, facilities and slots to come are
-those of before by sums; the server answers the same requests with the same bytes; and the command, killed at random, leaves the old
-club or the new one. Wants root, for a machine of its own (tests/office_room.sh). Not part of the gate.
+"""`office CLUB new-year` after a year of 1,500 requests keeps balances, keys and slots to come, the server answers the same, and a kill
+leaves the old club or the new one. Wants root, for a machine of its own (tests/office_room.sh).
+
+A part of the club's bookings is cancelled, past and to come. The old file is kept byte for byte. Balances, what each key has spent, keys,
+facilities and slots to come are the same by sums. The server answers the same requests with the same bytes. Not part of the gate.
   tests/office_year.py [REQUESTS]
 """
 # groups: package root

@@ -1,9 +1,11 @@
 #!/bin/sh
-# Runs what docs/RUNNING.md has for root under "A club", "The pages", "A certificate", "TLS" and "Several clubs", line by line, on a
-# machine of its own (tests/office_room.sh): certbot gets a certificate by nginx's site of the challenges, from an authority of the test's own
-# (Let's Encrypt's pebble), and renews it, after which the site has the new one. Then the desk's replies and the pages behind nginx with
-# TLS, a slow client, two clubs at one proxy, that nothing else is answered at the port of the challenges, and the limit of requests, with
-# its sentence. Wants root. Not part of the gate.
+# The lines for root of docs/RUNNING.md about a club, pages, certificates, TLS and several clubs work behind nginx, on a machine of the
+# test's own (tests/office_room.sh). Wants root.
+#
+# These are the sections "A club", "The pages", "A certificate", "TLS" and "Several clubs". Certbot gets a certificate by nginx's site of the
+# challenges, from an authority of the test's own (Let's Encrypt's pebble). It renews it, and then the site has the new one. Then come the
+# desk's replies and the pages behind nginx with TLS, a slow client, and two clubs at one proxy. Nothing else is answered at the port of the
+# challenges. The limit of requests holds, with its sentence. Not part of the gate.
 # groups: package root
 # wants: sudo sqlite3 openssl util-linux bsdutils iproute2 systemd curl nginx-light certbot pebble qrencode tzdata
 set -eu

@@ -1,7 +1,8 @@
 #!/usr/bin/env -S /usr/bin/python3 -B
-"""Tests with each allocation refused in turn: the known passes read and written in each form, each opening of a store, each command of the
-office, and the known booking through `Desk::ask`, `Desk::run` and `answer`. Each call answers as if nothing had been refused, or is
-out of memory and has changed nothing.
+"""Tests with each allocation refused in turn: each call answers as if nothing had been refused, or is out of memory and has changed nothing.
+
+The tests read and write the known passes in each form, open a store in each way, and give each command of the office. They make the
+known booking through `Desk::ask`, `Desk::run` and `answer`.
 
 It fails if a test isn't there, fails with ample memory, or allocates nothing. Tests that are missing or older than their sources are
 proved and built first. Not part of the gate.

@@ -1,6 +1,6 @@
 #!/bin/sh
-# What docs/RUNNING.md says: installations whole or not at all; the units, and that the desk makes no call that its unit forbids; copies
-# of a club that is written to, and a restored one; a full disk.
+# The claims of docs/RUNNING.md hold of installations, which are whole or not at all, of units, which forbid no call of the desk, and of
+# copies and a full disk.
 #
 # The units are tried by systemd's own tools. Wants root. Not part of the gate.
 # groups: pages package root

@@ -1,7 +1,9 @@
 #!/usr/bin/env -S /usr/bin/python3 -B
-"""A club set up by the five questions of deploy/clubdesk-setup, on a machine of its own: what it makes, with which modes and owners, that given
-again it changes nothing that is there, also after a stop at each of its steps; what it refuses; and from its end to a member's first booking
-by the clerk whom it made, with nginx's site in front if nginx is there. Wants root (tests/office_room.sh). Not part of the gate.
+"""A club set up by the questions of deploy/clubdesk-setup: modes and owners, repeats and stops at each step, refusals, and the way to a first
+booking. Wants root (tests/office_room.sh).
+
+There are five questions. Given again, also after a stop at each step, the setup changes nothing that is there. The clerk whom it made
+goes on from its end to a member's first booking, with nginx's site in front if nginx is there. Not part of the gate.
 """
 # groups: package root
 # wants: sudo sqlite3 openssl util-linux bsdutils iproute2 systemd python3-psutil python3-pexpect nginx-light

@@ -1,9 +1,11 @@
 #!/usr/bin/env -S /usr/bin/python3 -B -m pytest -q -p no:cacheprovider
-"""Runs clubdesk's server with a patience of two seconds, and clients that dawdle: one that sends nothing, one that begins its request,
-one that sends a byte a second, one that never reads its reply, and one that stays behind its request. The client behind each has its
-reply in time. Then 1,000 requests with 1 to 100,000 bytes after them, and 1,000 heads of 100,000 bytes, half of them in two pieces,
-by clients that send all before they read; 200 requests in three, four and six pieces each, by a length and by chunks, and 100 beside
-a server that is stopped and goes on: none loses its reply. Not part of the gate.
+"""Clients that dawdle are cut off in time, and those behind them get their replies; clients that send far more than a request, before they
+read, lose no reply.
+
+The server has a patience of two seconds. One client sends nothing, one begins its request, one sends a byte a second, one never reads its
+reply, and one stays after its request. Then come 1,000 requests with 1 to 100,000 bytes after them, and 1,000 heads of 100,000 bytes,
+half of them in two pieces. Then come 200 requests in three, four and six pieces each, by a length and by chunks, and 100 while the server
+is stopped and goes on. Not part of the gate.
 
 Clients send all before they read, as Python's do: one whose send fails gives up.
 """

@@ -1,8 +1,7 @@
 #!/usr/bin/env -S /usr/bin/python3 -B -m pytest -q -p no:cacheprovider
-"""The small desk in JavaScript that web/demo.html tries the page with answers 8,000 random requests as the rules in Python do, in four clubs:
-bookings, repeats, cancellations, narrowed and odd passes, at moments of two days.
+"""The small desk in JavaScript behind web/demo.html answers 8,000 random requests, in four clubs, as the rules in Python do.
 
-Not part of the gate.
+The requests are bookings, repeats and cancellations, under narrowed and odd passes, at moments of two days. Not part of the gate.
 """
 # groups: browser quick
 # wants: python3-pytest nodejs
