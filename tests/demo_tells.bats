@@ -1,6 +1,4 @@
 #!/usr/bin/env bats
-# `bin/demo` prints what it should, installs `curl` and `sqlite3` or says what is missing, and always ends its server.
-#
 # `bin/demo` prints what it is to print; without `curl` and `sqlite3` it installs them or says what is missing; it ends its server, also
 # one that doesn't listen, and after a signal.
 #
