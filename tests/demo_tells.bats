@@ -1,12 +1,12 @@
 #!/usr/bin/env bats
-# `bin/demo` prints what it is to print; without `curl` and `sqlite3` it installs them or says what is missing; it ends its server, also
-# one that doesn't listen, and after a signal.
+# `bin/demo` prints tests/demo.told; it installs missing `curl` and `sqlite3` or names them; it ends its server, even one that doesn't
+# listen, and after a signal.
 #
-# What it prints is tests/demo.told. Each time that it can't go on it ends and says why, as root and as somebody else.
+# When it can't continue it says why and exits, as root and as another user.
 # groups: pages
 # wants: bats curl sqlite3
 
-# A folder of this machine's commands, without those that may be missing.
+# Makes a folder with this machine's commands, without those that may be missing.
 setup() {
     bats_require_minimum_version 1.5.0
     load serving.sh
@@ -20,27 +20,27 @@ setup() {
     export CLUBDESK PASSTOOL
 }
 
-# put NAME: a command of that folder, from standard input; is_user NUMBER: who is asking.
+# put NAME: adds a command to that folder, from standard input. is_user NUMBER: sets the user's id.
 put() { cat >"some/$1" && chmod +x "some/$1"; }
 is_user() { echo "echo $1" | put id; }
 demo() { "$here/../bin/demo"; }
 demo_of_some() { PATH=$some demo; }
 
-# says_what_is_missing: the demo prints nothing, and says what is missing and what to type.
+# says_what_is_missing: the demo prints nothing on standard output, and names the missing commands and the line to type.
 says_what_is_missing() {
     run -1 --separate-stderr demo_of_some
     [ -z "$output" ]
     [ "$stderr" = 'demo: these commands are missing: curl sqlite3. Root installs them so: apt-get install curl sqlite3' ]
 }
 
-# A desk whose server writes down its process and does nothing.
+# Replaces the desk with one whose server records its process id and never listens.
 silent_desk() {
     # shellcheck disable=SC2016 # another shell reads it
     printf '#!/bin/sh\n[ "$1" = serve ] || exec %s "$@"\necho $$ >%s/server\nexec sleep 600\n' "$desk" "$PWD" >silent
     chmod +x silent
     CLUBDESK=$PWD/silent
 }
-# ended: its server is gone.
+# ended: waits until that server is gone.
 ended() { for _ in $(seq 20); do kill -0 "$(cat server)" 2>/dev/null || return 0; sleep 0.1; done; return 1; }
 
 @test 'with all commands' {

@@ -168,14 +168,14 @@ def test_passes_are_written_under_temporary_names(page):
 
 
 def test_laws():
-    """README's table has the laws of docs/PROMISES.md in the same order, in its last cell a function, and of it a clause. That each law's
-    functions and clauses are there is held by tests/audit.py."""
-    laws = re.findall(r"^\d+\. \*\*(.*)\.\*\*", TEXTS["docs/PROMISES.md"], re.MULTILINE)
-    table = re.search(r"^\| Law \|.*?\n\n", TEXTS["README.md"], re.MULTILINE | re.DOTALL)[0]
-    rows = re.findall(r"^\| ([A-Z][a-z ]*) \|.*\| `([^`]*)`(?:.*?`([^`]*)`)?.* \|$", table, re.MULTILINE)
+    """README lists the laws of docs/PROMISES.md in the same order. Each ends in a link to them, whose text is a function and one of its clauses.
+    tests/audit.py holds the functions and clauses of docs/PROMISES.md."""
+    title = r"^\d+\. \*\*(.*?)\.\*\*"
+    laws = re.findall(title, TEXTS["docs/PROMISES.md"], re.MULTILINE)
+    rows = re.findall(title + r" .*\(\[`([^`]*)`: `([^`]*)`.*\]\(docs/PROMISES\.md#the-law-of-the-desk\)\)$", TEXTS["README.md"], re.MULTILINE)
     assert [law for law, _, _ in rows] == laws
     for _, function, clause in rows:
-        assert function in {it[-1] for it in FUNCTIONS} and (not clause or (function, clause) in {it[1:] for it in CLAUSES}), function
+        assert (function, clause) in {it[1:] for it in CLAUSES}, f"{function}: {clause}"
 
 
 def test_layers():
