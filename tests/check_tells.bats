@@ -1,7 +1,7 @@
 #!/usr/bin/env bats
 # `bin/check` runs `rt ci` and then tests/run, even if `rt ci` fails; it names what failed, and refuses arguments and a path without rt.
 #
-# Stubs stand in for rt and tests/run. Not part of the gate.
+# It runs with stubs of rt and tests/run. Not part of the gate.
 # groups: quick
 # wants: bats
 

@@ -1,32 +1,40 @@
 #!/usr/bin/env -S /usr/bin/python3 -B
-"""Names defined twice, long lines, functions, files and crates past their limits, numbers without units, other versions, files that
-nothing uses.
+"""Names defined twice, long lines, functions, files and crates past their limits, numbers without units, other versions, unused files,
+misspelt words, and foreign English in what a change adds.
 
-Prints each, with its place; the status is 1 if there is one.
-- one name that two specs modules define, of one crate or of two, but for those of one meaning that TWINS has;
-- lines that are too long: code, comments and clauses past 100 columns, imports, specs and proofs past 160;
-- limits of CONTRIBUTING: a function's body of 40 lines or more, a file of code of 800 or more, a proof of 400 or more, a crate that is
-  none of tests with more than 100 functions;
-- a number in a public docstring without a unit (a guess: it looks for a word after the number, or a unit's word in the text);
-- another version than that of VERSION: in the code, as both programs print it, or in the newest heading of CHANGELOG.md;
-- files that nothing uses: modules of specs and proofs that no file imports, files of code that no `mod` names, scripts that no
-  page names, names that a crate's proofs/Common passes on and no proof takes, and edits of must-fail/ and more-edits/ whose old
-  text doesn't stand once in its file.
-Not part of the gate.
-  tests/lint.py                  every crate
-  tests/lint.py club_core ..     these crates
+Prints each slip with its place; the status is 1 if there is one.
+- A name is defined by two specs modules, of one crate or of two, and TWINS doesn't say that both mean the same.
+- A line is too long: code, comments and clauses past 100 columns, imports, specs and proofs past 160.
+- A limit of CONTRIBUTING is passed: a function's body of 40 lines, a file of code of 800, a proof of 400, a crate of 100 functions.
+- A public docstring has a number without a unit (a guess: it looks for a unit's word in the text).
+- The version differs from VERSION in the code or in the newest heading of CHANGELOG.md.
+- A module of specs or proofs is imported nowhere, a file of code has no `mod`, or no page names a script.
+- A name that a crate's proofs/Common passes on is taken by no proof, or the old text of an edit isn't in its file once.
+- A word of the pages or of web/ is known neither to aspell nor to tests/words.txt.
+- A line that the change adds has a pattern of tests/prose.py, such as a sentence of more than 30 words.
+- The subject of one of its commits has no area, or more than 60 letters.
+The change is what this clone has beyond the branch that it follows. Not part of the gate.
+  tests/lint.py                  every crate, the pages, and the change
+  tests/lint.py club_core ..     these crates, and what the change adds to them
+  tests/lint.py --since COMMIT   the same for the lines and commits since a commit
 """
 # groups: quick
+# wants: aspell aspell-en aspell-de
 
+import argparse
 import os
 import re
+import shutil
+import subprocess
 import sys
 from collections import defaultdict
 from pathlib import Path
 
 import more_edits
+import prose
 
-os.chdir(Path(__file__).resolve().parent.parent)
+ROOT = Path(__file__).resolve().parent.parent
+os.chdir(ROOT)
 # Names that two specs modules define with the same meaning, each with the reason.
 TWINS = {
     "◌>>=◌": "the bind of `do`, which each kind of result has",
@@ -170,15 +178,45 @@ def unnamed_scripts():
             yield f"no page names: {script}"
 
 
-def main(named):
+def install_aspell():
+    """Installs aspell if it is missing, root runs this and the system is Debian."""
+    if not shutil.which("aspell") and os.geteuid() == 0 and shutil.which("apt-get"):
+        for words in (["update"], ["install", "-y", "--no-install-recommends", "aspell", "aspell-en", "aspell-de"]):
+            subprocess.run(["apt-get", "-o", "DPkg::Lock::Timeout=300", *words], stdin=subprocess.DEVNULL, stdout=subprocess.DEVNULL, check=False)
+
+
+def worded(named, since):
+    """Slips of prose in what a change adds, and of spelling in all pages if no crates are named."""
+    base = since or prose.base_of(ROOT)
+    if base:
+        for below in [f"crates/{it}/" for it in named] or [""]:
+            yield from prose.of_change(ROOT, base, below)
+    if not named:
+        yield from prose.unused_exceptions(ROOT)
+        install_aspell()
+        try:
+            yield from prose.misspellings(ROOT)
+        except prose.Missing as fault:
+            print(f"the spelling wasn't checked: {fault}")
+
+
+def main():
+    parser = argparse.ArgumentParser(usage="tests/lint.py [--since COMMIT] [CRATE ..]")
+    parser.add_argument("named", nargs="*", metavar="CRATE")
+    parser.add_argument("--since", metavar="COMMIT", help="checks the prose of the lines and commits since this commit")
+    given = parser.parse_args()
+    if given.since and prose.git(ROOT, "rev-parse", "--verify", "--quiet", given.since + "^{commit}") is None:
+        parser.error(f"no commit {given.since}")
+    named = given.named
     crates = named or sorted(it.name for it in Path("crates").iterdir() if it.is_dir())
     slips = list(twice_defined(crates))
     for crate in crates:
         slips += [*too_long(crate), *too_large(crate), *without_unit(crate), *unused_modules(crate, "specs"), *unused_modules(crate, "proofs"),
                   *unused_names(crate), *unused_code(crate), *stale_edits(crate)]
     slips += [] if named else [*other_versions(), *unnamed_scripts()]
+    slips += worded(named, given.since)
     print(*slips, f"{len(slips)} slips", sep="\n")
     return 1 if slips else 0
 
 
-sys.exit(main(sys.argv[1:]))
+sys.exit(main())
