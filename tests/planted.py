@@ -32,7 +32,7 @@ PLANTS = {
     "jobs_hold": ("deploy/old_copies", "now - its_day < 14", "now - its_day < 13", "too few"),
     "lint": ("VERSION", "0.1.0", "0.1.1", "another version"),
     "lint:spelling": ("docs/TOUR.md", "Where is the signature compared", "Where is the signatture compared", "misspelt: docs/TOUR.md"),
-    "lint_tells": ("tests/prose.py", "exactly if", "exactlyif", "exactly if-exactly if]"),
+    "lint_tells": ("tests/prose.py", "exactly if", "exactlyif", "nothing is left.-exactly if]"),
     "linters": ("tests/desk.py", "import errno\n", "import errno\nimport ast\n", "'ast' imported but unused"),
     "man_pages": ("man/clubdesk.1", ".It Cm revoke-key Ar FILE KEY", ".It Cm revoke-key Ar FILE", "revoke-key KEY"),
     "memory_after_commit": ("tests/refused_memory.c", 'O_APPEND, "send ");', 'O_APPEND, (seen++, "send "));', "allocations after the commit"),
