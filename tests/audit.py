@@ -24,6 +24,7 @@ import re
 import shutil
 import sys
 from collections import defaultdict
+from itertools import groupby
 from pathlib import Path
 
 sys.dont_write_bytecode = True
@@ -249,7 +250,7 @@ class Audit:
 
     def faults(self):
         cited = self.first_computed()
-        yield "| Computing definition | In | Cited by |"
+        yield "| Computing definition | File | Cited by |"
         yield "|---|---|---|"
         for it in self.computed():
             if id(it) in cited:
@@ -267,18 +268,17 @@ class Audit:
         for file, names in by_file.items():
             yield f"| `{file}` | {', '.join(names)} |"
 
-    def table_of(self, crate):
+    def definitions_of(self, crate):
+        """The definitions of a crate by their files. Neighbours with the same promises and mark share an item."""
         listed = [it for it in self.every.values() if it.crate == crate and it.kind in OF_SPECS and not it.is_computed]
-        files = in_reading_order(self.book, [self.book.specs[module] for module in {it.module for it in listed}])
-        yield "| Line | Definition | Lines | Promises | Shown |"
-        yield "|---|---|---|---|---|"
-        for file in files:
-            rows = sorted((it for it in listed if it.module == file.module), key=lambda it: it.line)
+        for file in in_reading_order(self.book, [self.book.specs[module] for module in {it.module for it in listed}]):
+            own = sorted((it for it in listed if it.module == file.module), key=lambda it: it.line)
             gist = re.sub(r" \([^)]*\)", "", re.match(r".*?[^A-Z0-9][.:](?= |$)|.*", file.head)[0]).rstrip(".:")
-            source = source_of(" ".join([file.head, *(it.comment for it in rows)]))
-            yield f"| | **`{file.path.relative_to(ROOT)}`**: {gist} [{source}] | | | |"
-            for it in rows:
-                yield f"| {it.line} | `{it.name}` | {it.lines} | {self.numbers(it)} | {self.mark(it)} |"
+            source = source_of(" ".join([file.head, *(it.comment for it in own)]))
+            yield f"**`{file.path.relative_to(ROOT)}`**: {gist} [{source}], {sum(it.lines for it in own)} lines\n"
+            for (numbers, mark), group in groupby(own, lambda it: (self.numbers(it), self.mark(it))):
+                yield f"- {numbers}{mark and ', ' + mark}: " + ", ".join(f"`{it.name}` {it.line}" for it in group)
+            yield ""
 
     def types(self):
         by_file = defaultdict(list)
@@ -293,7 +293,7 @@ class Audit:
             yield f"| `{path.relative_to(ROOT)}` | {names} |"
 
     def ghosts(self):
-        yield "| Ghost | Promises | What stands for it |"
+        yield "| Ghost | Promises | Its values |"
         yield "|---|---|---|"
         for it in sorted((it for it in self.every.values() if it.kind == "ghost"), key=lambda it: (it.path, it.line)):
             stands = []
@@ -373,9 +373,8 @@ class Audit:
             return ["None of these clauses rests on a computing definition, nor does another clause of their functions, nor what stands for a "
                     "[ghost](#ghosts-of-traits), nor any other contract that [PROMISES](PROMISES.md) cites."]
         sections = [
-            f"These promises rest on {len(computed)} definitions that compute what another one states. [COMPUTED](COMPUTED.md) has the laws that say "
-            f"that both agree, but whoever reads a clause comes upon these. They aren't in the tables below. {len(self.first_computed())} of them "
-            f"are cited by a definition that doesn't compute:",
+            f"These promises rest on {len(computed)} definitions that compute what another one states. [COMPUTED](COMPUTED.md) has the laws that both "
+            f"agree. They aren't in the lists below. Definitions that don't compute cite {len(self.first_computed())} of them:",
             "\n".join(self.faults()),
         ]
         if len(computed) > len(self.first_computed()):
@@ -389,46 +388,44 @@ class Audit:
         handles = (ROOT / "HANDLES").read_text(encoding="utf-8").strip().rpartition(": ")[2].rstrip(".")
         sections = [
             "# What has to be believed",
-            "For whoever asks what the eight promises of [README](../README.md#what-is-proved) mean: the definitions below their clauses, each "
-            "once, from the standards up, and what is trusted beside them. Proofs aren't among them, since the check reads those; lemmas and laws "
-            "neither. `tests/audit.py` makes this page of the sources, and `tests/audit.py --below NAME` prints what is below one definition, or "
-            "below all clauses of a function, as `Desk::ask`. "
-            "[TOUR](TOUR.md#when-is-a-root-good) answers twelve questions by a path each.",
-            "To believe a promise: read its clause, then the rows with its number, from the top. Each file has in brackets where its definitions are "
-            "from: a standard, libmacaroons, or ours. A line is one of code, without comments and empty ones.",
+            "For anyone who asks what the eight laws of [README](../README.md#what-is-proved) mean: each definition below their clauses, once, from the "
+            "standards up, and what is trusted besides. Proofs, lemmas and laws aren't here, since the check reads them. `tests/audit.py` writes this "
+            "page from the sources. `tests/audit.py --below NAME` prints what is below one definition, or below all clauses of a function, as "
+            "`Desk::ask`. [TOUR](TOUR.md#when-is-a-root-good) answers twelve questions by a path each.",
+            "To check a promise, read its clause, then the definitions with its number, from the top. Each has its line after its name, and its promises "
+            "and [mark](#marks) before it. Each file has its source in brackets: a standard, libmacaroons, or ours. Lines are lines of code, without "
+            "comments and empty ones.",
             "\n".join(self.summary()),
-            f"The functions have further clauses, such as why a request fails. Below all clauses together are: {', '.join(self.of_all_clauses())}.",
+            f"These functions have further clauses, such as why a request fails. Below all clauses are: {', '.join(self.of_all_clauses())}.",
             "## Computing definitions",
             *self.section_of_faults(),
-            "## What a mark means",
-            "*Shown* says what [vectors.json](vectors.json) shows of a definition. `tests/reference` is a second writing of it in Python, made from "
-            "the pages alone, which gives for each vector what the vector wants. With `all` the vectors run each line of that writing, with `part` "
-            f"some, with `none` no line: {counts['all']}, {counts['part']} and {counts['none']} of {len(plain)} definitions. {counts['row']} "
-            "more, with `row`, are in statements over worked rows, which are proved by computing them. "
-            f"The other {counts['']} no vector shows: laws, which speak of all clubs, texts or stores, and what a store and its tables hold. HMAC "
-            "is shown by the seven cases of RFC 4231, too.",
+            "## Marks",
+            "`tests/reference` is a second writing of the definitions in Python, made from the pages alone. It gives the expected answer for each vector "
+            "of [vectors.json](vectors.json). The mark of a definition says which lines of that writing the vectors run: `all`, `part` or `none`. These "
+            f"are {counts['all']}, {counts['part']} and {counts['none']} of {len(plain)} definitions. {counts['row']} more, with `row`, are in "
+            "statements over worked rows, which are proved by computing them. "
+            f"No vector shows the other {counts['']}: laws, which speak of all clubs, texts or stores, and what a store and its tables hold. The seven "
+            "cases of RFC 4231 also show HMAC.",
         ]
         for crate in self.book.crates:
             if any(it.crate == crate for it in plain):
-                sections += [f"## {crate}", "\n".join(self.table_of(crate))]
+                sections += [f"## {crate}", "\n".join(self.definitions_of(crate)).strip()]
         sections += [
             "## Types and constants of the code",
-            "A definition sees a type of the code by its fields and variants, or as the value that its `Model` says. The constants are statements "
-            "of SQL.",
+            "A definition sees a type of the code by its fields and variants, or as the value that its `Model` gives. The constants are SQL.",
             "\n".join(self.types()),
             "## Ghosts of traits",
-            "Promises over any store, reader, writer or desk name it by a ghost of its trait. What a type of ours has for it is read with them: in "
-            "brackets is how many definitions are below that, and how many of these compute; not all are in the tables above. Those of a reader and a "
-            "writer stand for the bytes that they give and take.",
+            "A promise over any store, reader, writer or desk names it by a ghost of its trait. Read with it what a type of ours has for that ghost. "
+            "Brackets give the number of definitions below, and how many of these compute; not all are in the lists above. The ghosts of a reader and "
+            "a writer are the bytes that they give and take.",
             "\n".join(self.ghosts()),
-            "## Trusted beside them",
-            "The toolchain's contracts of the libraries that these promises rest on. Calls are those of the crates below a promise, by name: a "
-            "function or a method that a file calls which imports from the library, and that the library declares; `perhaps` where a method of "
-            "ours has the same name. Words are those of the library's own definitions that ours or the clauses cite. Those of std are left out: "
-            "nearly every line has one.",
+            "## Trusted besides",
+            "These promises rest on the toolchain's contracts of these libraries. Calls are made by the crates below a promise: functions and methods "
+            "that the library declares, in files that import from it. `perhaps` marks those that share their name with a method of ours. Words are "
+            "the library's definitions that ours or the clauses cite. std is left out: nearly every line uses it.",
             "\n".join(self.trusted()),
             f"{self.externs()} The programs' handle is {handles}. [TRUST](TRUST.md#trusted) has the rest: the compiler, the prover, the C library and "
-            "the system; and what is [only read](TRUST.md#read-and-shown-by-vectors), and [not claimed](TRUST.md#not-claimed).",
+            "the system, what is [only read](TRUST.md#read-and-shown-by-vectors), and what is [not claimed](TRUST.md#not-claimed).",
         ]
         return "\n\n".join(sections) + "\n"
 
