@@ -9,7 +9,8 @@ Prints each slip with its place; the status is 1 if there is one.
 - A public docstring has a number without a unit (a guess: it looks for a unit's word in the text).
 - The version differs from VERSION in the code or in the newest heading of CHANGELOG.md.
 - A module of specs or proofs is imported nowhere, a file of code has no `mod`, or no page names a script.
-- A name that a crate's proofs/Common passes on is taken by no proof, or the old text of an edit isn't in its file once.
+- No proof uses a name that its crate's proofs/Common passes on.
+- The old text of an edit isn't in its file, or is in it twice.
 - A word of the pages or of web/ is known neither to aspell nor to tests/words.txt.
 - A line that the change adds has a pattern of tests/prose.py, such as a sentence of more than 30 words.
 - The subject of one of its commits has no area, or more than 60 letters.
@@ -186,7 +187,7 @@ def install_aspell():
 
 
 def worded(named, since):
-    """Slips of prose in what a change adds, and of spelling in all pages if no crates are named."""
+    """Yields slips of prose in added lines and, unless crates are named, misspelt words of all pages."""
     base = since or prose.base_of(ROOT)
     if base:
         for below in [f"crates/{it}/" for it in named] or [""]:

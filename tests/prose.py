@@ -14,7 +14,7 @@ import subprocess
 CODE = "§"
 MOST_WORDS = 30
 MOST_LETTERS = 60
-# (pattern, remedy). Those of FIRST are sought at the beginning of a sentence.
+# (pattern, remedy). FIRST is matched at the beginning of a sentence.
 PATTERNS = [(re.compile(pattern, re.IGNORECASE), remedy) for pattern, remedy in (
     (r"\bexactly if\b", "write 'if and only if', or 'exactly when'"),
     (r"\bso (many|often)\b(?! (\w+ )?(that|as)\b)", "name the number: 'n times'"),
@@ -30,7 +30,7 @@ FIRST = [(re.compile(pattern), remedy) for pattern, remedy in (
     (r"(What|Whatever|Whoever|Whichever|Who|How) (?!.*\?$)", "begin with a noun, not a clause"),
     (r"That (an?|the|its?|they|each|every|no|nobody|all|there|this|what|some|those|" + CODE + r")\b", "begin with a noun, not a clause"),
 )]
-# (file, words of the sentence): the reason why a sentence stands.
+# (file, words of the sentence): why the sentence stays.
 EXCEPTIONS = {
     ("CONTRIBUTING.md", "exactly if"): "names the wording to avoid",
     ("CONTRIBUTING.md", "so many"): "names the wording to avoid",
@@ -38,7 +38,7 @@ EXCEPTIONS = {
 }
 # Generated pages, data, and texts that tests compare byte for byte.
 LEFT_OUT = re.compile(r"docs/(AUDIT|RUNS)\.md|.*\.(told|png|svg|lock|toml|edit)|.*/stdout|tests/words\.txt|docs/vectors\.json|web/[a-z]+\.(html|js|webmanifest)")
-# Folders that a commit's subject names beside crates.
+# Areas of a commit's subject other than crates.
 AREAS = {"docs", "tests", "web", "deploy", "bin", "ci", "man", "examples"}
 IMPERATIVE = re.compile(r"[a-z]\S*(?<![^su]s)(?<!ed)(?<!ing)\b|(pass|process|discuss|compress|express|need|feed|bring|embed|seed|speed)\b")
 PAGES = ["README.md", "CONTRIBUTING.md", "CHANGELOG.md", "SECURITY.md"]
@@ -52,7 +52,7 @@ class Missing(Exception):
 
 
 def plain(text):
-    """A line of Markdown as its words."""
+    """Returns a line of Markdown without its markup."""
     text = re.sub(r"`+[^`]*`+", CODE, text)
     text = re.sub(r"!?\[((?:[^\[\]]|\[[^\]]*\])*)\]\([^)]*\)", r"\1", text)
     text = re.sub(r"<?https?://\S+|<[^<>]*>", CODE, text)
@@ -60,7 +60,7 @@ def plain(text):
 
 
 def of_markdown(lines):
-    """The paragraphs of numbered lines of Markdown."""
+    """Returns the paragraphs of numbered lines of Markdown."""
     found, open_one, fence, was_blank = [], None, False, True
     for number, line in lines:
         if line.lstrip().startswith(("```", "~~~")):
@@ -87,7 +87,7 @@ def of_markdown(lines):
 
 
 def runs(lines, pattern):
-    """Runs of neighbouring comment lines, without their signs."""
+    """Returns the runs of neighbouring comment lines, without their signs."""
     found, last = [], None
     for number, line in lines:
         if comment := re.match(pattern, line):
@@ -116,7 +116,7 @@ def of_python(text, lines):
 
 
 def of_help(lines):
-    """The help texts of a table of commands: its literals of several words, without their examples."""
+    """Returns the help texts of a table of commands: its literals of several words, without examples."""
     text = "\n".join(line for _, line in lines)
     found = []
     for literal in re.finditer(r'"((?:[^"\\]|\\.)*)"', re.sub(r"//.*", lambda it: re.sub(r"\S", " ", it[0]), text)):
@@ -127,13 +127,13 @@ def of_help(lines):
 
 
 def of_texts(text):
-    """The English texts of the office, the first of each pair in its table."""
+    """Returns the English texts of the office: the first of each pair in its table."""
     pairs = [it.value for it in ast.parse(text).body if isinstance(it, ast.Assign) and getattr(it.targets[0], "id", "") == "TEXTS"]
     return [[(it.elts[0].lineno, it.elts[0].value)] for pair in pairs for it in pair.values if isinstance(it, ast.Tuple) and isinstance(it.elts[0], ast.Constant)]
 
 
 def paragraphs(path, text):
-    """The paragraphs of a file; none of one that has no prose."""
+    """Returns the paragraphs of a file, or none if it has no prose."""
     name = str(path)
     lines = list(enumerate(text.splitlines(), 1))
     first = text.partition("\n")[0]
@@ -164,7 +164,7 @@ def paragraphs(path, text):
 
 
 def sentences(paragraph):
-    """(lines, sentence) of each, without headings. An ellipsis of two dots ends none."""
+    """Yields the sentences of a paragraph, each with its line numbers. Skips headings; two dots end no sentence."""
     joined, starts = "", []
     for number, text in paragraph:
         starts.append((len(joined), number))
@@ -201,7 +201,7 @@ def is_excepted(file, sentence):
 
 
 def foreign(file, text, added=None):
-    """The lines of a report on the sentences of a file that a change adds, or on all."""
+    """Yields a line for each slip in a file's sentences; with `added`, only in those that touch these lines."""
     for paragraph in paragraphs(file, text):
         for numbers, sentence in sentences(paragraph):
             if (added is None or numbers & added) and not is_excepted(str(file), sentence):
@@ -235,14 +235,14 @@ def git(root, *words):
 
 
 def base_of(root):
-    """The commit where this branch left the one that it follows, or its last commit; None outside a clone."""
+    """Returns the commit at which this branch left its upstream, or HEAD if it has none; None outside a clone."""
     if git(root, "rev-parse", "--show-toplevel") is None or not (root / ".git").exists():
         return None
     return (git(root, "merge-base", "HEAD", "@{upstream}") or git(root, "rev-parse", "HEAD") or "").strip() or None
 
 
 def added_lines(root, base):
-    """For each file the numbers of the lines that are there now and weren't at the base."""
+    """Returns for each file the numbers of the lines added since the base, or None for a new file."""
     found, file = {}, None
     for line in git(root, "diff", "--unified=0", "--no-color", "--no-ext-diff", "-M", base, "--").splitlines():
         if line.startswith("+++ "):
@@ -256,7 +256,7 @@ def added_lines(root, base):
 
 
 def of_change(root, base, below=""):
-    """The report on what the lines and commits since a base add."""
+    """Yields a line for each slip in the lines and subjects of commits that were added since a base."""
     for file, added in added_lines(root, base).items():
         path = root / file
         if path.is_file() and file.startswith(below):
@@ -274,7 +274,7 @@ def of_change(root, base, below=""):
 
 
 def spelled(root):
-    """(file, language) of what aspell reads: the pages, and the words of web/."""
+    """Yields the files that aspell reads, each with its language: the pages, and the texts of web/."""
     pages = [*map(root.joinpath, PAGES), *sorted((root / "docs").glob("*.md")), *sorted(root.glob("crates/*/README.md"))]
     yield from ((it, "en") for it in pages if it.name not in ("AUDIT.md", "RUNS.md"))
     yield root / "web/src/words/en.json", "en"
@@ -282,7 +282,7 @@ def spelled(root):
 
 
 def known_words(root):
-    """The project's own words, by their language."""
+    """Returns the project's own words by language."""
     found, language = {}, None
     for line in (root / "tests/words.txt").read_text(encoding="utf-8").splitlines():
         if line.startswith("# "):
@@ -293,7 +293,7 @@ def known_words(root):
 
 
 def misspelt(text, language):
-    """The words of a text that aspell doesn't know."""
+    """Returns the words of a text that aspell doesn't know."""
     if not shutil.which("aspell"):
         raise Missing("aspell is missing: apt-get install aspell aspell-en aspell-de")
     done = subprocess.run(["aspell", f"--lang={language}", "--encoding=utf-8", "list"], input=text, capture_output=True, text=True, check=False)
@@ -303,7 +303,7 @@ def misspelt(text, language):
 
 
 def misspellings(root):
-    """The report on words that neither aspell nor tests/words.txt knows. Names of files aren't read."""
+    """Yields a line for each word that neither aspell nor tests/words.txt knows. Skips names of files."""
     known, texts = known_words(root), {}
     for path, language in spelled(root):
         file = str(path.relative_to(root))

@@ -32,7 +32,7 @@ def kind_of(file):
 
 
 def all_sentences(below):
-    """Each kind's sentences, as (file, line, sentence), in the order of the tree."""
+    """Returns the sentences of each kind, as (file, line, sentence), in the order of the tree."""
     found = {kind: [] for kind in KINDS}
     for file in sorted(prose.git(ROOT, "ls-files").splitlines()):
         kind = kind_of(file)
@@ -48,7 +48,7 @@ def all_sentences(below):
 
 
 def drawn(found, seed, count):
-    """As many of each kind that has some, the first kinds one more if the count leaves a rest."""
+    """Yields an equal share of each kind. If the count doesn't divide evenly, the first kinds get one more."""
     dice, kinds = random.Random(seed), [it for it in found if found[it]]
     for place, kind in enumerate(kinds):
         share = count // len(kinds) + (place < count % len(kinds))
