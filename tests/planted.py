@@ -86,6 +86,7 @@ PLANTS = {
     "running_holds": ("deploy/back_up", 'cp -- "$1-wal" "$work/copy-wal"', ":", "a copy: wanted and found"),
     "running_holds:full-disk": ("deploy/back_up", 'said=$(LC_ALL=C cp -- "$1" "$work/copy" 2>&1) || fail "$said"', 'cp -- "$1" "$work/copy" || :',
                                 "the lines of a refused copy"),
+    "scenarios": ("clubdesk", "quota reached", "quota reachex", "quota reachex"),
     "setup_holds": ("deploy/clubdesk-setup", "SITE=https://{domain}", "SITE=http://{domain}", "the configuration has SITE=https"),
     "small_desk": ("web/src/small_desk.mjs", "Math.floor(booking.charge / 2)", "Math.ceil(booking.charge / 2)", "assert one == other"),
     "slow_clients": ("clubdesk", BY_HAND, 'exec "$PROGRAM" $(echo "$@" | sed "s/--patience 2/--patience 6/")', "test_client_behind_one_that_dawdles[silent]"),

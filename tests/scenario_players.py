@@ -1,0 +1,235 @@
+"""What plays a scenario: the rules in Python, and the real programs over a file and a socket. At a difference each raises one, with its place."""
+
+import copy
+import random
+import socket
+import subprocess
+import tempfile
+import time
+from contextlib import suppress
+from pathlib import Path
+
+import desk as programs
+import scenario_lines as lines
+from both import spelled_moment
+from reference import caveats, club as rules, passes, wire
+from scenario_lines import Crash, Fault, Listing, Office, Reopen, Request
+
+KILLS = 4  # of one line, each at a moment of its own
+# What an older program left: no older roots, and no index but the first.
+AS_VERSION_1 = "DROP TABLE old_roots; DROP INDEX IF EXISTS bookings_by_key; UPDATE desk SET version = 1"
+
+
+class Difference(AssertionError):
+    """A line of a scenario that is answered otherwise."""
+
+    def __init__(self, place, wanted, found):
+        super().__init__(f"{place}: wanted {wanted}\n{' ' * len(str(place))}  found  {found}")
+
+
+def compare(event, wanted, found):
+    if wanted != found:
+        raise Difference(event.place, shown(wanted), shown(found))
+
+
+def shown(value):
+    return value.decode(errors="backslashreplace").replace("\r\n", "|") if isinstance(value, bytes) else " / ".join(value) if isinstance(value, tuple) else str(value)
+
+
+def printed(event):
+    """What a command prints that is carried out: the pass of a key in V2, or in the form that is asked for."""
+    name, *values = event.words
+    if name not in lines.OF_KEYS:
+        return "done"
+    form = values[-1] if "--form" in values else "v2"
+    return passes.text_of(passes.minted(bytes.fromhex(values[lines.OF_KEYS[name]]), b"key:" + values[0].encode()), form).decode()
+
+
+def wanted_of(event, number=0):
+    """The outcome of a command, or the one where it was carried out before."""
+    outcome = event.outcomes[min(number, len(event.outcomes) - 1)]
+    return printed(event) if outcome == "done" else outcome.removeprefix("prints ")
+
+
+class Rules:
+    """The rules in Python."""
+
+    name = "the rules in Python"
+
+    def __init__(self, plant=None):
+        self.plant = plant
+
+    def play(self, scenario, form):
+        self.club, self.form = lines.made(scenario, self.plant), form
+        for event in scenario.events:
+            self.happens(event)
+
+    def happens(self, event):
+        if isinstance(event, Crash):
+            self.crashes(event.event)
+        elif not isinstance(event, Reopen):
+            compare(event, self.wanted(event), self.found(event))
+
+    def wanted(self, event, number=0):
+        if isinstance(event, Office):
+            return wanted_of(event, number)
+        return event.reply.data if isinstance(event, Request) else event.lines
+
+    def found(self, event):
+        """What the rules answer."""
+        if isinstance(event, Request):
+            return wire.exchange(self.club, event.data(self.form), event.moment)
+        if isinstance(event, Office):
+            try:
+                self.club.command(event.command)
+            except rules.CommandRefused as refusal:
+                return f"refused: {refusal}"
+            return printed(event)
+        return listing(self.club, event)
+
+    def crashes(self, event):
+        """The event is lost, or it is kept; then it comes once more."""
+        before = copy.deepcopy(self.club)
+        compare(event, self.wanted(event), self.found(event))
+        compare(event, self.wanted(event, 1), self.found(event))
+        after, self.club = self.club, before
+        compare(event, self.wanted(event), self.found(event))
+        if repr(vars(after)["bookings"]) != repr(vars(self.club)["bookings"]):
+            raise Difference(event.place, "one club after both", "two")
+
+
+def listing(club, event):
+    """The lines that the office reads."""
+    command, *words = event.words
+    if command == "sheet":
+        rows = club.sheet(caveats.day_of(words[0]))
+        found = [f"{facility:<24} {hour:02d}:00 {key:<24} {number:9d} {persons:2d} {charge:6d}" for facility, hour, key, number, persons, charge in rows]
+        total = f"Total bookings {len(rows)}, persons {sum(it[4] for it in rows)}, charge {sum(it[5] for it in rows)}"
+        return (f"Day sheet {words[0]}", *found, total) if rows else (f"Day sheet {words[0]}", "No bookings.")
+    if command == "show-account":
+        key = club.keys.get(words[0])
+        if key is None:
+            return ("refused: unknown",)
+        older = f"until {spelled_moment(key.older[1])}" if key.older else "none"
+        return (f"member {key.member}", f"balance {club.balance(key.member)}", f"quota {club.members[key.member].quota}",
+                f"open {club.open_count(key.member, event.moment, words[0])}", f"spent {club.spent(words[0])}",
+                f"revoked {'yes' if key.is_revoked else 'no'}", f"older root {older}")
+    slot = (words[0], caveats.day_of(words[1]), int(words[2]))
+    facility = club.facilities.get(words[0])
+    if facility is None:
+        return ("refused: unknown",)
+    return (f"facility {slot[0]}", f"day {words[1]}", f"hour {slot[2]}", f"kind {facility.kind}", f"price {facility.price}", f"places {facility.places}",
+            f"taken {club.taken(slot)}", f"closed {'yes' if slot in club.closed else 'no'}")
+
+
+class Programs:
+    """`clubdesk` over a file, and its server at a socket."""
+
+    name = "clubdesk over a file and a socket"
+
+    def __init__(self, desk, folder):
+        self.desk, self.folder = desk, folder
+        self.draw = random.Random(1)
+
+    def play(self, scenario, form):
+        with tempfile.TemporaryDirectory(dir=self.folder) as folder:
+            self.file, self.form = Path(folder, "club"), form
+            programs.copy(self.made(scenario), self.file)
+            for run in runs(scenario.events):
+                if isinstance(run[0], Request):
+                    self.serve(run)
+                else:
+                    self.happens(run[0])
+
+    def made(self, scenario):
+        """A file with the club, which is made once."""
+        file = Path(self.folder, f"club-{abs(hash(tuple(scenario.commands)))}")
+        if file.exists():
+            return file
+        fresh = Path(f"{file}.{id(self)}")
+        rich = {}
+        for command in scenario.commands or [()]:
+            if command[:1] == ("credit",):  # a thousand of them would take long
+                rich[command[1]] = rich.get(command[1], 0) + int(command[2])
+            elif command:
+                self.carry_out(scenario, fresh, command)
+            else:
+                self.carry_out(scenario, fresh, ("sheet", "2000-01-01"))
+        for member, points in rich.items():
+            if points <= lines.MOST_CREDIT:
+                self.carry_out(scenario, fresh, ("credit", member, str(points)))
+            else:
+                with programs.opened(fresh) as database:
+                    database.execute("UPDATE members SET credited = ? WHERE name = ?", (points, member))
+        fresh.rename(file)
+        return file
+
+    def carry_out(self, scenario, file, words):
+        status, _, fault = programs.command(self.desk, words[0], file, *words[1:])
+        if status != 0:
+            raise Fault(f"{scenario.place}: no such club: {' '.join(words)}: {fault}")
+
+    def serve(self, requests):
+        """Requests of one moment to one server."""
+        with self.server(requests[0], len(requests)) as server:
+            for it in requests:
+                compare(it, it.reply.data, server.exchange(it.data(self.form)))
+
+    def server(self, event, count):
+        return programs.Server(self.desk, self.file, count, "--at", spelled_moment(event.moment))
+
+    def happens(self, event):
+        if isinstance(event, Crash):
+            self.crashes(event.event)
+        elif isinstance(event, Office):
+            compare(event, wanted_of(event), self.command(event.words))
+        elif isinstance(event, Listing):
+            at = ("--at", spelled_moment(event.moment)) if event.words[0] == "show-account" else ()
+            compare(event, event.lines, tuple(self.command(event.words + at).split("\n")))
+        elif event.version == 1:
+            with programs.opened(self.file) as database:
+                database.executescript(AS_VERSION_1)
+
+    def command(self, words):
+        """What a command prints, or the line of its fault."""
+        status, output, fault = programs.command(self.desk, words[0], self.file, *words[1:])
+        return output.removesuffix("\n") if status == 0 else fault.removesuffix("\n")
+
+    def crashes(self, event):
+        """The line, killed at several moments, each in a copy of the file; then the line again."""
+        before = Path(f"{self.file}.before")
+        programs.copy(self.file, before)
+        for _ in range(KILLS):
+            programs.copy(before, self.file)
+            if isinstance(event, Request):
+                self.kill_server(event)
+                self.serve([event])
+            else:
+                self.kill_command(event)
+                found = self.command(event.words)
+                if found not in {wanted_of(event, it) for it in range(len(event.outcomes))}:
+                    raise Difference(event.place, " or ".join(event.outcomes), found)
+
+    def kill_server(self, event):
+        with self.server(event, None) as server:
+            with socket.create_connection(("127.0.0.1", server.port), 30) as client:
+                client.sendall(event.data(self.form))
+                time.sleep(self.draw.choice((0, 0.0002, 0.001, 0.003)))
+                server.kill()
+
+    def kill_command(self, event):
+        with subprocess.Popen([self.desk, event.words[0], str(self.file), *event.words[1:]], stdout=subprocess.DEVNULL, stderr=subprocess.DEVNULL) as command:
+            time.sleep(self.draw.choice((0, 0.001, 0.003, 0.01)))
+            with suppress(ProcessLookupError):
+                command.kill()
+
+
+def runs(events):
+    """The events in order, requests of one moment together."""
+    found = []
+    for event in events:
+        if found and isinstance(event, Request) and isinstance(found[-1][0], Request) and found[-1][0].moment == event.moment:
+            found[-1].append(event)
+        else:
+            found.append([event])
+    return found
