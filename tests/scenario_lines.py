@@ -8,6 +8,7 @@ from pathlib import Path
 from reference import caveats, club as rules, passes, wire
 
 FOLDER = Path(__file__).resolve().parent / "scenarios"
+PAGE = FOLDER.parent.parent / "docs" / "SCENARIOS.md"  # whose example is played too
 FIRST_ROOT = "00112233445566778899aabbccddeeff"
 NAME = caveats.NAME
 MOST_CREDIT = 1_000_000  # points of one command
@@ -184,6 +185,8 @@ class Reader:
 
     def __init__(self, path):
         self.name, self.lines = path.name, path.read_text(encoding="utf-8").split("\n")
+        if path == PAGE:
+            self.lines = example(self.lines)
         self.roots, self.texts, self.moment = {"first": FIRST_ROOT}, {}, None
         self.club, self.keys, self.scenarios = None, {}, []
         self.at, self.crashes = 0, False
@@ -461,6 +464,13 @@ class Reader:
         self.happens(Reopen(self.place, self.moment, version and int(version)))
 
 
+def example(lines):
+    """The lines of a page's example, at their places."""
+    begin = lines.index("```scenario") + 1
+    end = lines.index("```", begin)
+    return [""] * begin + lines[begin:end] + [""] * (len(lines) - end)
+
+
 def unquoted(text):
     return text[1:-1] if len(text) > 1 and text[0] == text[-1] == '"' else text
 
@@ -478,7 +488,7 @@ def made(scenario, plant=None):
 
 def files(names=()):
     """The files of these names, or all."""
-    found = sorted(FOLDER.glob("*.txt"))
+    found = [*sorted(FOLDER.glob("*.txt")), PAGE]
     unknown = set(names) - {it.stem for it in found}
     if unknown:
         raise Fault(f"no file of scenarios: {' '.join(sorted(unknown))}")

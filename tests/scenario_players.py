@@ -6,6 +6,7 @@ import socket
 import subprocess
 import tempfile
 import time
+from collections import Counter
 from contextlib import suppress
 from pathlib import Path
 
@@ -143,26 +144,29 @@ class Programs:
 
     def made(self, scenario):
         """A file with the club, which is made once."""
-        file = Path(self.folder, f"club-{abs(hash(tuple(scenario.commands)))}")
-        if file.exists():
-            return file
-        fresh = Path(f"{file}.{id(self)}")
-        rich = {}
-        for command in scenario.commands or [()]:
-            if command[:1] == ("credit",):  # a thousand of them would take long
-                rich[command[1]] = rich.get(command[1], 0) + int(command[2])
-            elif command:
-                self.carry_out(scenario, fresh, command)
+        whole = Path(self.folder, f"club-{abs(hash(tuple(scenario.commands)))}")
+        if not whole.exists():
+            begun = Path(tempfile.mkdtemp(dir=self.folder))
+            self.make(scenario, begun / "club")
+            with suppress(OSError):  # another made it meanwhile
+                begun.rename(whole)
+        return whole / "club"
+
+    def make(self, scenario, file):
+        """Makes the club by commands, but for points that a thousand of them would give."""
+        points = Counter()
+        self.carry_out(scenario, file, ("sheet", "2000-01-01"))
+        for command in scenario.commands:
+            if command[0] == "credit":
+                points[command[1]] += int(command[2])
             else:
-                self.carry_out(scenario, fresh, ("sheet", "2000-01-01"))
-        for member, points in rich.items():
-            if points <= lines.MOST_CREDIT:
-                self.carry_out(scenario, fresh, ("credit", member, str(points)))
+                self.carry_out(scenario, file, command)
+        for member, count in points.items():
+            if count <= lines.MOST_CREDIT:
+                self.carry_out(scenario, file, ("credit", member, str(count)))
             else:
-                with programs.opened(fresh) as database:
-                    database.execute("UPDATE members SET credited = ? WHERE name = ?", (points, member))
-        fresh.rename(file)
-        return file
+                with programs.opened(file) as database:
+                    database.execute("UPDATE members SET credited = ? WHERE name = ?", (count, member))
 
     def carry_out(self, scenario, file, words):
         status, _, fault = programs.command(self.desk, words[0], file, *words[1:])

@@ -120,12 +120,12 @@ def self_test(paths):
 
 def main():
     parser = argparse.ArgumentParser(description=__doc__.splitlines()[0])
-    parser.add_argument("files", nargs="*", metavar="FILE", help="files of tests/scenarios, by their names")
+    parser.add_argument("files", nargs="*", metavar="FILE", help="files of tests/scenarios, by their names without `.txt`")
     parser.add_argument("--player", choices=("rules", "programs"), help="without it both play")
     parser.add_argument("--fill", action="store_true", help="prints files with what their lines leave out")
     parser.add_argument("--self-test", action="store_true", help="plants each fault of the rules in turn")
     given = parser.parse_args()
-    paths = lines.files([it.removesuffix(".txt") for it in given.files])
+    paths = lines.files([it.rpartition("/")[2].removesuffix(".txt") for it in given.files])
     if given.fill:
         print(*map(filled, paths), sep="\n", end="")
         return 0
