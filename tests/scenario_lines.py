@@ -13,6 +13,7 @@ FIRST_ROOT = "00112233445566778899aabbccddeeff"
 NAME = caveats.NAME
 MOST_CREDIT = 1_000_000  # points of one command
 ESCAPES = {"r": b"\r", "n": b"\n", "t": b"\t", "\\": b"\\"}
+AGAIN = "anywhere in the next line; then the same line again"
 REFUSALS = ("exists", "unknown", "out of range", "slot in use")
 # What the values of a command are, and which of them name a key and a root.
 COMMANDS = {"add-member": ("name", "number"), "credit": ("name", "number"), "add-facility": ("name", "kind", "number", "number", "number", "number"),
@@ -184,7 +185,7 @@ class Reader:
     """Reads a file of scenarios, line by line."""
 
     def __init__(self, path):
-        self.name, self.lines = path.name, path.read_text(encoding="utf-8").split("\n")
+        self.name, self.lines = path.name, path.read_text(encoding="utf-8").splitlines()
         if path == PAGE:
             self.lines = example(self.lines)
         self.roots, self.texts, self.moment = {"first": FIRST_ROOT}, {}, None
@@ -454,13 +455,13 @@ class Reader:
 
     def read_crash(self, columns, below):
         self.none_below(below)
-        if columns[1:] != ["anywhere in the next line; then the same line again"]:
-            raise ValueError("a crash is anywhere in the next line; then the same line again")
+        if columns[1:] != [AGAIN]:
+            raise ValueError(f"a crash is {AGAIN}")
         self.crashes = True
 
     def read_reopen(self, columns, below):
         self.none_below(below)
-        version, = self.matched(" ".join(columns[1:]), r"(?:as version (\d))?", "the tables are opened again, maybe as version 1")
+        version, = self.matched(" ".join(columns[1:]), r"(?:as version (1))?", "the tables are opened again, maybe as version 1")
         self.happens(Reopen(self.place, self.moment, version and int(version)))
 
 

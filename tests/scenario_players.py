@@ -95,7 +95,7 @@ class Rules:
         compare(event, self.wanted(event, 1), self.found(event))
         after, self.club = self.club, before
         compare(event, self.wanted(event), self.found(event))
-        if repr(vars(after)["bookings"]) != repr(vars(self.club)["bookings"]):
+        if vars(after) != vars(self.club):
             raise Difference(event.place, "one club after both", "two")
 
 

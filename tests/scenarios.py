@@ -3,7 +3,8 @@
 Python (`tests/reference`) and by the real programs over a file and a socket, with passes in each of the three forms. With `--self-test` each of
 eight planted faults of the rules is found.
 
-A file that can't be read, a club that can't be made, and a file without an expectation are faults, with file and line.
+A file that can't be read, a club that can't be made, and a file without an expectation are faults, with file and line. The self-test has a file
+for each of them.
 
     tests/scenarios.py [--player rules|programs] [FILE ..]     all files, or those of these names
     tests/scenarios.py --self-test                             the planted faults
@@ -17,13 +18,14 @@ import os
 import sys
 import tempfile
 from concurrent.futures import ThreadPoolExecutor
+from pathlib import Path
 
 sys.dont_write_bytecode = True
 import desk as programs
 import scenario_lines as lines
 from both import finds_each_plant
 from reference import wire
-from scenario_lines import Crash, Fault, Listing, Office, Request, inner
+from scenario_lines import AGAIN, Crash, Fault, Listing, Office, Request, inner
 from scenario_players import Difference, Programs, Rules
 
 
@@ -44,38 +46,31 @@ def whole(path):
     return found
 
 
-def play_file(path, players):
+def play_file(path, player, prints):
     """Plays a file, and prints its counts."""
     scenarios = whole(path)
-    begun = 0
-    for player in players:
-        for scenario in scenarios:
-            for form in scenario.forms:
-                player().play(scenario, form)
-                begun += 1
-    print(f"{path.name}: {len(scenarios)} clubs, {expectations(scenarios)} lines", flush=True)
+    for scenario in scenarios:
+        for form in scenario.forms:
+            player().play(scenario, form)
+    if prints:
+        print(f"{path.name}: {len(scenarios)} clubs, {expectations(scenarios)} lines", flush=True)
     return expectations(scenarios)
 
 
-def play(paths, players, jobs):
-    with ThreadPoolExecutor(jobs) as pool:
-        for it in [pool.submit(play_file, path, players) for path in paths]:
-            yield it
-
-
-def played(paths, players, jobs):
+def played(paths, player, jobs, prints=True):
     """Plays files side by side; the number of lines, and what differs."""
     count, faults = 0, []
-    for it in list(play(paths, players, jobs)):
-        try:
-            count += it.result()
-        except (Difference, Fault) as fault:
-            faults.append(str(fault))
+    with ThreadPoolExecutor(jobs) as pool:
+        for it in [pool.submit(play_file, path, player, prints) for path in paths]:
+            try:
+                count += it.result()
+            except (Difference, Fault) as fault:
+                faults.append(str(fault))
     return count, faults
 
 
-def outcome_of(answer, refusals=lines.REFUSALS):
-    return answer if answer.removeprefix("refused: ") in refusals else "done"
+def outcome_of(answer):
+    return answer if answer.removeprefix("refused: ") in lines.REFUSALS else "done"
 
 
 def filled(path):
@@ -110,12 +105,56 @@ def reply_in(data):
     return str(reply)
 
 
+CLUB = "club  members amy 5 100; court-1 court 4 200 8-22; keys amy-1\nat  2026-04-20T12:00\n"
+ACCOUNT = 'amy-1  GET account  200 {"member":"amy","balance":100,"quota":5,"open":0,"spent":0}'
+# Files that can't be played: the text after a club and a moment, or the whole one, and the fault, with its line.
+FAULTY = (
+    ("", 2, "no expectation"), ("amy-1", 3, "not understood"), ("amy-1  GET", 3, "a request has"), ("offce  revoke-key amy-1  done", 3, "is unknown"),
+    ("bob-1  GET account  200 {}", 3, "the key bob-1 is unknown"), ("amy-1 [unknown]  GET account  200 {}", 3, "the key amy-1 is known"),
+    ("amy-1  GET account", 3, "no expectation"), ("amy-1  GET account  200", 3, "a status and a body"), ("amy-1  GET account  299 {}", 3, "no status"),
+    ("amy-1  GET account  200 {", 3, "Expecting"), ("amy-1  POST account  405 {}", 3, "the methods of the path"), (ACCOUNT + "  50 bytes", 3, "59, not 50 bytes"),
+    ("amy-1  GET account  200 {}  allows GET", 3, "no other status"), ("amy-1 [\\q]  GET account  200 {}", 3, "no escape"),
+    ("text none  GET account  400 {}", 3, "no text none"), ("office  fly amy-1  done", 3, "no command"), ("office  revoke-key  done", 3, "no command"),
+    ("office  revoke-key Amy  done", 3, "no name"), ("office  close-slot court-1 2026-02-29 18  done", 3, "no day"), ("office  add-key k amy 00  done", 3, "a root has"),
+    ("office  revoke-key amy-1  dome", 3, "no outcome"), ("office  revoke-key amy-1", 3, "no expectation"), ("sheet  2026-05-01", 3, "no expectation"),
+    ("account  amy-1", 3, "no expectation"), ("slot  court-1 2026-05-01", 3, "another number"), ("at  2026-04-20", 3, "no moment"), ("crash  at noon", 3, "a crash is"),
+    (f"crash  {AGAIN}\nreopen", 4, "what is stopped"), (f"{ACCOUNT}\ncrash  {AGAIN}", 4, "without a line after it"), ("reopen  as version 7", 3, "opened again"),
+    (f"{ACCOUNT}\n  more", 3, "no lines"), ("root  third", 3, "a name and its bytes"), (f"text  x\n  AgEJ\n{ACCOUNT}\n", None, ""), (ACCOUNT, None, ""),
+)
+FAULTY_CLUBS = (
+    (ACCOUNT, 1, "the key amy-1 is unknown"), ("club  again", 1, "no club before"), ("club  members amy 100 5; keys amy-1", 1, "refused: out of range"),
+    ("club  members amy 5", 1, "a quota and points"), ("club  keys amy-1", 1, "refused: unknown"), ("club  members amy 5 0, amy 5 0", 1, "refused: exists"),
+    ("club  members amy 5 0; court 4 200", 1, "a facility has"), ("club  members amy 5 0; keys amy-1 under x", 1, "a root has"), (" club", 1, "belongs to none"),
+    ("club  empty\nnobody  GET account  200 {}", 2, "no moment before it"),
+)
+
+
+def is_refused(text, line, words):
+    """Whether a file is refused at its line, in these words; if there is no line, whether it is played."""
+    with tempfile.TemporaryDirectory() as folder:
+        path = Path(folder, "odd.txt")
+        path.write_text(text, encoding="utf-8")
+        try:
+            whole(path)
+            found = ""
+        except Fault as fault:
+            found = str(fault)
+    is_so = found.startswith(f"odd.txt:{line}: ") and words in found if line else not found
+    if not is_so:
+        print(f"{text!r}: wanted {line}: {words}, found {found}")
+    return is_so
+
+
 def self_test(paths):
+    """Each faulty file is refused, and each planted fault of the rules is found."""
+    are_refused = [is_refused(CLUB + text, line, words) for text, line, words in FAULTY] + [is_refused(*it) for it in FAULTY_CLUBS]
+    print(f"{sum(are_refused)} of {len(are_refused)} odd files are refused, or played, as they have to be")
+
     def run(plant):
-        _, faults = played(paths, [lambda: Rules(plant)], 1)
+        _, faults = played(paths, lambda: Rules(plant), 1, prints=False)
         if faults:
             raise AssertionError(faults[0])
-    return 0 if finds_each_plant(run) else 1
+    return 0 if finds_each_plant(run) and all(are_refused) else 1
 
 
 def main():
@@ -133,12 +172,12 @@ def main():
         return self_test(paths)
     faults = []
     if given.player != "programs":
-        count, faults = played(paths, [Rules], 1)
+        count, faults = played(paths, Rules, 1)
         print(f"{Rules.name}: {count} lines in {len(paths)} files, {len(faults)} faults")
     if given.player != "rules" and not faults:
         desk = programs.program("clubdesk")
         with tempfile.TemporaryDirectory(dir=programs.IN_MEMORY) as folder:
-            count, faults = played(paths, [lambda: Programs(desk, folder)], len(os.sched_getaffinity(0)))
+            count, faults = played(paths, lambda: Programs(desk, folder), len(os.sched_getaffinity(0)))
         print(f"{Programs.name}: {count} lines in {len(paths)} files, {len(faults)} faults")
     print(*faults, sep="\n", end="\n" if faults else "")
     return 1 if faults else 0
