@@ -5,7 +5,8 @@ For each table of the test crates it has a reader, or the reason why its rows st
 row that a scenario can say is in no file. Not part of the gate.
 
     tests/scenarios_count.py             counts, and what is missing
-    tests/scenarios_count.py --stays     also each table that stays, with its reason
+    tests/scenarios_count.py --leaves    also each table whose rows the files say, with how many of them stay
+    tests/scenarios_count.py --stays     also how many rows stay for each reason
 """
 
 import argparse
@@ -700,7 +701,7 @@ class Count:
             for scenario in lines.read(path):
                 for fact in facts.facts_of(scenario):
                     self.said[fact[:2]].append(fact)
-        self.rows, self.sayable, self.staying, self.missing = 0, set(), Counter(), []
+        self.rows, self.sayable, self.staying, self.missing, self.leaving = 0, set(), Counter(), [], {}
 
     def is_said(self, fact):
         return any(it.answer == fact.answer for it in self.said.get(fact[:2], ()))
@@ -715,6 +716,7 @@ class Count:
             return
         found = read(reader, value, file)
         self.rows += len(found)
+        self.leaving[module, name] = len(found), sum(isinstance(it, str) for it in found)
         for number, row in enumerate(found):
             if isinstance(row, str):
                 self.staying[row] += 1
@@ -725,6 +727,7 @@ class Count:
 
 def main():
     parser = argparse.ArgumentParser(description=__doc__.splitlines()[0])
+    parser.add_argument("--leaves", action="store_true", help="also prints the tables whose rows the files say")
     parser.add_argument("--stays", action="store_true", help="also prints what stays, with its reason")
     given = parser.parse_args()
     count = Count()
@@ -737,6 +740,9 @@ def main():
                 raise
     for module, name, number, fact in count.missing:
         print(f"missing: {module} {name} {number}: {str(fact)[:300]}")
+    if given.leaves:
+        for (module, name), (rows, staying) in count.leaving.items():
+            print(f"{module} {name}: {rows} rows" + (f", of which {staying} stay" if staying else ""))
     if given.stays:
         print(*(f"{number:5} rows stay: {why}" for why, number in sorted(count.staying.items())), sep="\n")
     in_files = sum(len(it) for it in count.said.values())
