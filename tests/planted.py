@@ -87,6 +87,7 @@ PLANTS = {
     "running_holds:full-disk": ("deploy/back_up", 'said=$(LC_ALL=C cp -- "$1" "$work/copy" 2>&1) || fail "$said"', 'cp -- "$1" "$work/copy" || :',
                                 "the lines of a refused copy"),
     "scenarios": ("clubdesk", "quota reached", "quota reachex", "quota reachex"),
+    "scenarios_beside": ("tests/beside_c/desk.c", "number used", "number usex", "number usex", "bookings"),
     "setup_holds": ("deploy/clubdesk-setup", "SITE=https://{domain}", "SITE=http://{domain}", "the configuration has SITE=https"),
     "small_desk": ("web/src/small_desk.mjs", "Math.floor(booking.charge / 2)", "Math.ceil(booking.charge / 2)", "assert one == other"),
     "slow_clients": ("clubdesk", BY_HAND, 'exec "$PROGRAM" $(echo "$@" | sed "s/--patience 2/--patience 6/")', "test_client_behind_one_that_dawdles[silent]"),
