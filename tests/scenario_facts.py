@@ -8,8 +8,8 @@ from typing import NamedTuple
 
 import scenario_lines as lines
 from reference import caveats, club as rules, passes, wire
-from scenario_lines import Crash, Listing, Office, Request, inner
-from scenario_players import Rules, listing, printed
+from scenario_lines import Crash, Listing, Office, Request
+from scenario_players import Rules, listing
 
 NO_FIELD = re.compile(rb"Host: club\r\n|Content-Length: 0\r\n(?=\r\n$)")
 PLAIN_PASS = re.compile(rb"(?i)(Authorization:? Bearer )[\w-]+(?=\r?\n)|(Authorization: Bearer )\{\"c\":.*?\}(?=\r?\n)")
@@ -258,12 +258,4 @@ def listing_fact(club, event):
 def facts_of(scenario):
     player = Rules()
     player.club, player.form = lines.made(scenario), "v2"
-    facts = []
-    for command in scenario.commands:
-        facts.append(Fact("club", command[:1], "done"))
-    for event in scenario.events:
-        facts += event_facts(player, event)
-    return facts
-
-
-__all__ = ["Fact", "facts_of", "inner", "printed"]
+    return [fact for event in scenario.events for fact in event_facts(player, event)]

@@ -141,6 +141,7 @@ class Programs:
                     self.serve(run)
                 else:
                     self.happens(run[0])
+            compare(scenario, [], programs.unsound(self.file))
 
     def made(self, scenario):
         """A file with the club, which is made once."""
