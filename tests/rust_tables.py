@@ -9,6 +9,7 @@ from pathlib import Path
 CRATES = Path(__file__).resolve().parent.parent / "crates"
 TOKEN = re.compile(r"""\s+|//[^\n]*|(?P<string>b?"(?:\\[\s\S]|[^"\\])*")|(?P<byte>b'(?:\\.[^']*|[^'\\])')|(?P<number>\d[\d_]*(?:\.\d+)?)(?:u8|u16|u32|u64|usize|i64)?
                    |(?P<name>r?[A-Za-z_]\w*(?:::[A-Za-z_]\w*)*)|(?P<sign>\.\.|->|::|[\[\](){}<>,;:=&*+.'|!?#-])""", re.VERBOSE)
+METHODS = {"len": len, "as_bytes": str.encode}
 BOUNDS = {"u8::MAX": 2**8 - 1, "u16::MAX": 2**16 - 1, "u32::MAX": 2**32 - 1, "u64::MAX": 2**64 - 1, "usize::MAX": 2**64 - 1}
 
 
@@ -68,11 +69,24 @@ class Expression:
         return self.tokens[self.at - 1]
 
     def sum(self):
-        value = self.one()
+        value = self.called()
         while self.peek() in ("+", "-"):
             sign = self.take()[1]
-            other = self.one()
+            other = self.called()
             value = value + other if sign == "+" else value - other
+        return value
+
+    def called(self):
+        """A value, or what a call of one of its methods returns."""
+        value = self.one()
+        while self.peek() == ".":
+            self.take()
+            name = self.take()[1]
+            self.take("(")
+            self.listed(")")
+            if name not in METHODS:
+                raise NotRead(f".{name}()")
+            value = METHODS[name](value)
         return value
 
     def listed(self, end):
