@@ -34,6 +34,8 @@ mod long_paths;
 #[cfg(test)]
 mod long_roots;
 #[cfg(test)]
+mod long_sheet;
+#[cfg(test)]
 mod memory;
 #[cfg(test)]
 mod ports;
