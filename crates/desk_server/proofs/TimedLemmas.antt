@@ -1,13 +1,11 @@
 -- Lemmas on the bytes of several reads, and on calls under a limit.
-use Rattle.std.proofs.Common.{◌≡◌, ◌+◌, ◌≤◌, ◌∙◌, ℕ, List, ◌++◌, length, take, Option, true, false, sym, ap}
+use Rattle.std.proofs.Common.{◌≡◌, ◌+◌, ◌≤◌, ◌∙◌, ℕ, List, ◌++◌, length, take, Option, sym, ap}
 use Rattle.std.proofs.Math.Seq.{take-append-add}
 use Rattle.std.proofs.lemmas.List.{take-append-le, length-take-le}
 use borrow.Rule.Slice.PartMut.{put_mid}
-use Rattle.std.specs.Bool.{IsTrue}
 use Rattle.std.specs.Io.KnownBytes.{Keeps}
-use Rattle.desk_server.specs.Limits.{AreInterrupted, Calls, InTime}
+use Rattle.desk_server.specs.Limits.{AreInterrupted, Calls}
 use Rattle.desk_server.specs.declared.limit.Limit.{Limit}
-use Rattle.desk_server.specs.declared.timed.Waited.{Waited}
 
 -- a buffer that was filled from a place on
 pub filled : (room part : List ℕ) (len n k : ℕ) → len ≤ length room → n ≤ length part → take (len + n) (put_mid len k room part) ≡ take len room ++ take n part
@@ -16,11 +14,6 @@ filled room part len n k within few =
     ap (λ (m : ℕ). take (m + n) (put_mid len k room part)) (sym front)
     ∙ take-append-add (take len room) _ n
     ∙ ap (λ (l : List ℕ). take len room ++ l) (take-append-le n part _ few)
-
--- a call that was made while time was left
-pub in_time : {Stream : Type 0} (Does : Calls Stream) (left : ℕ) (old : Stream) (how : Waited) (new : Stream) → (left ≡ 0 → IsTrue false)
-    → Does old left how new → InTime Does old left how new
-in_time Does left old how new some does = (λ none. let bad : false ≡ true = some none in cc, λ more. does)
 
 -- all calls so far were interrupted, and kept what is known of both ends
 pub record Interrupted {C Stream : Type 0} (Shows : C → Option ℕ → Type 0) (Does : Calls Stream) (near far : Stream → Option (List ℕ)) (limit : Limit C)

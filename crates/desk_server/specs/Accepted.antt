@@ -10,7 +10,7 @@ use Rattle.club_http.specs.declared.fault.AnswerFault.{AnswerFault}
 use Rattle.club_http.specs.declared.fault.AnswerFault.TheVariants.{Read, Write}
 use Rattle.http_request.specs.Frame.{IsOneRequest}
 use Rattle.desk_server.specs.Between.{Awaits}
-use Rattle.desk_server.specs.Limits.{Calls, InTime, IsCalledUnder, StartsLimit, TakesAtMost}
+use Rattle.desk_server.specs.Limits.{Calls, IsCalledUnder, StartsLimit, TakesAtMost}
 use Rattle.desk_server.specs.declared.timed.Accepted.{Accepted}
 
 -- only its stream moved on
@@ -24,11 +24,11 @@ module _ {S C : Type 0} (Shows : C → Option ℕ → Type 0) (Does : Calls S) (
     pub limited : IsCalledUnder Shows Does old.reading old.stream result new.stream
     pub writes_nothing : Keeps (kept old.stream) (kept new.stream)
 
-  -- A write under the limit of the writes, which begins with the first one. None is made once it is over. The stream gave no bytes.
+  -- A write under the limit of the writes, which begins with the first one. It waits for nothing once that is over. The stream gave no bytes.
   pub record IsWritten (old : Accepted S C) (result : Option ℕ) (bytes : List ℕ) (new : Accepted S C) : Type 0 where
     pub same : new ≡ record old { stream = new.stream; writing = new.writing; write_failures = new.write_failures }
     pub begins : StartsLimit Shows old.clock.now (as_nanos old.patience) old.writing new.writing
-    pub limited : IsSomeAnd new.writing (λ limit. IsCalledUnder Shows (InTime Does) limit old.stream result new.stream)
+    pub limited : IsSomeAnd new.writing (λ limit. IsCalledUnder Shows Does limit old.stream result new.stream)
     pub reads_nothing : Keeps (kept old.stream) (kept new.stream)
 
 module _ {S C : Type 0} (to_come taken : S → Option (List ℕ)) where

@@ -46,10 +46,6 @@ abbrev pub ended : Option ℕ → Waited
 ended (Some n) = Moved n
 ended None = Failed
 
--- A call that is made only while time is left. With none it fails, and the stream isn't called.
-abbrev pub InTime : {Stream : Type 0} → Calls Stream → Calls Stream
-InTime Does old left how new = (left ≡ 0 → (how ≡ Failed) × (new ≡ old)) × (0 < left → Does old left how new)
-
 -- a call with so many nanoseconds left: with none it is made all the same, and may wait for none
 abbrev pub IsCalled : {Stream : Type 0} → Calls Stream → ℕ → Stream → Option ℕ → Stream → Type 0
 IsCalled Does left old result new = Does old left (ended result) new

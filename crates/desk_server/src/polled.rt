@@ -19,7 +19,7 @@ pub(crate) enum Next {
 /// Waits for a command at a door and for a client, at most so many milliseconds, or without end for
 /// -1, and returns which of them goes first.
 pub(crate) fn next_of(door: RawFd, client: RawFd, milliseconds: i32, command_first: bool) -> Next {
-    let mut asked = [waits_for(door), waits_for(client)];
+    let mut asked = [waits_for(door, c::POLLIN), waits_for(client, c::POLLIN)];
     let ready = c::poll(&mut asked, milliseconds);
     if ready < 0 {
         return Next::Failed;
@@ -37,14 +37,19 @@ pub(crate) fn next_of(door: RawFd, client: RawFd, milliseconds: i32, command_fir
 
 /// Whether a read of a descriptor wouldn't wait: its bytes, its end or its fault is there.
 pub(crate) fn is_readable(fd: RawFd) -> bool {
-    c::poll(&mut [waits_for(fd)], 0) > 0
+    c::poll(&mut [waits_for(fd, c::POLLIN)], 0) > 0
 }
 
-// What `poll` is asked to wait for: the bytes of a descriptor, or its next connection.
-fn waits_for(fd: RawFd) -> pollfd {
+/// Whether a write to a descriptor wouldn't wait: there is room, or its fault is there.
+pub(crate) fn is_writable(fd: RawFd) -> bool {
+    c::poll(&mut [waits_for(fd, c::POLLOUT)], 0) > 0
+}
+
+// What `poll` is asked to wait for: the bytes of a descriptor, its next connection, or room.
+fn waits_for(fd: RawFd, events: i16) -> pollfd {
     pollfd {
         fd,
-        events: c::POLLIN,
+        events,
         revents: 0,
     }
 }

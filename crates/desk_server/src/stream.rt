@@ -3,8 +3,8 @@
 use crate::between::Handover;
 use crate::door::Handed;
 use crate::limit::MonotonicClock;
-use crate::polled::{Next, is_readable, next_of};
-use crate::timed::{TimedStream, Waited, outcome_of};
+use crate::polled::{Next, is_readable, is_writable, next_of};
+use crate::timed::{LEAST_MICROSECONDS, TimedStream, Waited, outcome_of};
 use std::io::{ErrorKind, Read, Write};
 use std::net::{Shutdown, TcpStream};
 use std::os::fd::AsRawFd;
@@ -102,9 +102,12 @@ impl<C: MonotonicClock> TimedStream for ClientSocket<'_, C> {
 
     fn write_within(&mut self, limit: Duration, bytes: &[u8]) -> Waited {
         let mut stream = &self.stream;
-        match stream.set_write_timeout(Some(limit)) {
-            Ok(()) => outcome_of(stream.write(bytes)),
-            Err(_) => Waited::Failed,
+        let least = Duration::from_micros(LEAST_MICROSECONDS);
+        let may_write = !limit.is_zero() || is_writable(stream.as_raw_fd());
+        if may_write && stream.set_write_timeout(Some(limit.max(least))).is_ok() {
+            outcome_of(stream.write(bytes))
+        } else {
+            Waited::Failed
         }
     }
 }

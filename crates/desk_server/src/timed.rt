@@ -3,10 +3,10 @@
 ghost use Rattle.std.specs.Prelude.{◌≡◌, length, MatchResult, None};
 ghost use Rattle.std.specs.Io.KnownBytes.{Keeps};
 ghost use Rattle.club_http.specs.Ends.{Fills, Takes};
-ghost use Rattle.desk_server.specs.Limits.{EndsUnder, InTime, moved};
+ghost use Rattle.desk_server.specs.Limits.{EndsUnder, moved};
 
 use crate::limit::{Limit, MonotonicClock};
-use crate::polled::is_readable;
+use crate::polled::{is_readable, is_writable};
 use club_http::{Inlet, Outlet};
 use std::io;
 use std::io::{ErrorKind, Read, Write};
@@ -25,8 +25,8 @@ pub enum Waited {
     Failed,
 }
 
-/// A stream whose reads and writes take a time limit, such as a socket. A read with no time takes
-/// what is there.
+/// A stream whose reads and writes take a time limit, such as a socket. With no time a read takes
+/// what is there, and a write is taken as far as there is room.
 pub trait TimedStream {
     ghost use Rattle.std.specs.Prelude.{◌≤◌, ℕ, List, length, Option, IfSome};
     ghost use Rattle.std.specs.Duration.{as_nanos};
@@ -62,6 +62,10 @@ pub trait TimedStream {
         ensures limited { writes self.old (as_nanos limit) result self.new };
 }
 
+/// The microseconds of the least timeout that a socket takes. A write of more than there is room
+/// for needs one, if it isn't to wait.
+pub(crate) const LEAST_MICROSECONDS: u64 = 1;
+
 /// No contract states which bytes a socket gives or takes.
 impl TimedStream for &UnixStream {
     ghost use Rattle.std.specs.Prelude.{None};
@@ -88,9 +92,12 @@ impl TimedStream for &UnixStream {
     }
 
     fn write_within(&mut self, limit: Duration, bytes: &[u8]) -> Waited {
-        match self.set_write_timeout(Some(limit)) {
-            Ok(()) => outcome_of(self.write(bytes)),
-            Err(_) => Waited::Failed,
+        let least = Duration::from_micros(LEAST_MICROSECONDS);
+        let may_write = !limit.is_zero() || is_writable(self.as_raw_fd());
+        if may_write && self.set_write_timeout(Some(limit.max(least))).is_ok() {
+            outcome_of(self.write(bytes))
+        } else {
+            Waited::Failed
         }
     }
 }
@@ -127,23 +134,18 @@ fn read_under<R: TimedStream, C: MonotonicClock>(
     None
 }
 
-// Writes with the time that is left of a limit, and not once it is over.
+// Writes with the time that is left of a limit. Once it is over the write doesn't wait.
 fn write_under<W: TimedStream, C: MonotonicClock>(
     writer: &mut W,
     limit: &Limit<'_, C>,
     bytes: &[u8],
 ) -> Option<usize>
-    ensures { EndsUnder C.shows (InTime W.writes) limit.now writer.old result writer.new
-        (length bytes.now)
+    ensures { EndsUnder C.shows W.writes limit.now writer.old result writer.new (length bytes.now)
         (Takes (W.taken writer.old) (W.taken writer.new) result bytes.now)
         (Keeps (W.to_come writer.old) (W.to_come writer.new)) }
 {
     for interrupted in 0..u64::MAX {
-        let left = limit.left();
-        if left.is_zero() {
-            return None;
-        }
-        match writer.write_within(left, bytes) {
+        match writer.write_within(limit.left(), bytes) {
             Waited::Moved(taken) => return Some(taken),
             Waited::Interrupted => {}
             Waited::Failed => return None,
@@ -164,8 +166,8 @@ const MAX_REST_AT_ONCE: usize = 4_096;
 /// An accepted connection, both ends of it, under limits of time. All reads together have the
 /// patience, from the accepting on, and all writes together have it once more, from the first write
 /// on. A call waits at most for the time that is left of its limit. If none is left, or the clock
-/// can't be read, a read takes what is there without waiting, and a write fails. A call that a
-/// signal interrupted goes on with what is left of its time.
+/// can't be read, it is made all the same, and doesn't wait. A call that a signal interrupted goes
+/// on with what is left of its time.
 #[derive(Drop)]
 pub struct Accepted<'c, S, C> {
     pub(crate) stream: S,

@@ -141,41 +141,41 @@ fn senders_at_a_door(rt: HostRuntime) -> Result<(), Fail> {
     Ok(())
 }
 
-/// The milliseconds by which a clock advances each time that it is read; how many commands are
-/// carried out, and what the sender of a whole one gets. Each limit of 200 milliseconds begins with
-/// a reading, and each read or write has one more.
-static LATE: [(u64, u64, &[u8]); 4] = [
-    (0, 1, b"!\x01\0"),
-    // The time is over before the end of the command is read, and before that of the answer is
-    // written.
-    (150, 1, b"!\x01"),
-    // The greeting itself is too late.
-    (200, 0, b""),
-    (1_000, 0, b""),
-];
+/// The milliseconds by which a clock advances each time that it is read. Each limit of 200
+/// milliseconds begins with a reading, and each read or write has one more.
+static LATE: [u64; 4] = [0, 150, 200, 1_000];
 
-// A command that lies in the socket is carried out, also by a server that was stopped until its
-// time was over.
+// A command that lies in the socket is carried out, and its answer is written whole, also by a
+// server that was stopped until the time for them was over.
 #[test]
 fn a_command_that_is_there_is_in_time(rt: HostRuntime) -> Result<(), Fail> {
-    for (step, commanded, want) in &LATE {
+    for step in &LATE {
         let clock = Ticking::new(0, step.saturating_mul(1_000));
         let (_, done, _, got) = visits(&rt, &clock, 8, Then::Ends)?;
-        expect_row(&rt, &done, commanded, step);
-        expect_bytes(&rt, &got, want, "what the office got");
+        expect_row(&rt, &done, &1, step);
+        expect_bytes(&rt, &got, b"!\x01\0", "what the office got");
     }
     Ok(())
 }
 
-// A silent sender has a fifth of a second, and not a thousandth.
+// How long a silent sender is waited for, by this clock. It is told that nothing was done.
+fn waits_for_a_silent_sender<C: Clock>(rt: &HostRuntime, clock: &C) -> Result<Duration, Fail> {
+    let before = rt.monotonic()?;
+    let (whole, _, _, got) = visits(rt, clock, 8, Then::Waits)?;
+    if whole || got.as_slice() != NOTHING {
+        return Err("the sender was told something else".into());
+    }
+    Ok(rt.monotonic()?.saturating_sub(before))
+}
+
+// A silent sender has a fifth of a second, and not a thousandth; nor has it more: by a clock that
+// is a fifth of a second later at each reading it isn't waited for.
 #[test]
 fn a_command_has_a_fifth_of_a_second(rt: HostRuntime) -> Result<(), Fail> {
-    let before = rt.monotonic()?;
-    let (whole, _, _, got) = visits(&rt, &rt, 8, Then::Waits)?;
-    let waited = rt.monotonic()?.saturating_sub(before);
-    expect_bytes(&rt, &got, NOTHING, "what the office got");
-    let long = waited >= Duration::from_millis(190);
-    expect_eq(&rt, &(whole, long), &(false, true));
+    let waited = waits_for_a_silent_sender(&rt, &rt)?;
+    expect_eq(&rt, &(waited >= Duration::from_millis(190)), &true);
+    let waited = waits_for_a_silent_sender(&rt, &Ticking::new(0, 200_000))?;
+    expect_eq(&rt, &(waited < Duration::from_millis(700)), &true);
     Ok(())
 }
 

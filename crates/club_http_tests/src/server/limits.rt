@@ -33,9 +33,9 @@ const CUT: Option<AnswerFault> = Some(AnswerFault::Read);
 const UNWRITTEN: Option<AnswerFault> = Some(AnswerFault::Write(0));
 
 /// The request has 53 bytes and its reply 140, and the patience is ten seconds for each. A client
-/// that keeps within both is served, and is cut off else once the limit is over. The last read then
-/// doesn't wait. So it is if the clock can't be read, and then nothing is written.
-static OUTCOMES: [(Client, Outcome); 11] = [
+/// that keeps within both is served, and is cut off else once the limit is over. A last read or
+/// write then doesn't wait. So it is with all of them if the clock can't be read.
+static OUTCOMES: [(Client, Outcome); 12] = [
     ((0, 0, ALWAYS), (None, 53, 140, 0)),
     ((100, 50, ALWAYS), (None, 53, 140, 12_300)),
     ((1_000, 0, ALWAYS), (CUT, 11, 0, 10_000)),
@@ -43,13 +43,14 @@ static OUTCOMES: [(Client, Outcome); 11] = [
     ((NEVER, 0, ALWAYS), (CUT, 1, 0, 10_000)),
     (
         (0, 1_000, ALWAYS),
-        (Some(AnswerFault::Write(10)), 53, 10, 10_000),
+        (Some(AnswerFault::Write(10)), 53, 11, 10_000),
     ),
     ((0, NEVER, ALWAYS), (UNWRITTEN, 53, 1, 10_000)),
     ((1, 0, 0), (CUT, 1, 0, 0)),
-    ((0, 0, 0), (UNWRITTEN, 53, 0, 0)),
-    ((0, 0, 4), (UNWRITTEN, 53, 0, 0)),
-    ((0, 0, 55), (UNWRITTEN, 53, 0, 0)),
+    ((0, 1, 0), (UNWRITTEN, 53, 1, 0)),
+    ((0, 0, 0), (None, 53, 140, 0)),
+    ((0, 0, 4), (None, 53, 140, 0)),
+    ((0, 0, 55), (None, 53, 140, 0)),
 ];
 
 /// What comes of an exchange with a client.

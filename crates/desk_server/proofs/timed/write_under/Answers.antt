@@ -1,7 +1,5 @@
-use Rattle.std.proofs.Common.{◌∙◌}
 use Rattle.std.proofs.KnownBytes.{Keeps-refl, Keeps-trans}
 use Rattle.desk_server.specs.Limits as spec
-use Rattle.desk_server.proofs.TimedLemmas.{in_time}
 use Rattle.desk_server.proofs.timed.write_under.Goals as goal
 
 pub loop-interrupted-init : goal.loop-interrupted-init
@@ -10,14 +8,9 @@ loop-interrupted-init g c = record { repeated = spec.not_called; kept = Keeps-re
 pub loop-interrupted-preserved : goal.loop-interrupted-preserved
 loop-interrupted-preserved g c =
     let so_far = c.loop-interrupted.invariant in
-    let left = c.left-left.ensures in
+    let left = c.left.ensures in
     record {
-      repeated = spec.once_more _ _ _ so_far.repeated (
-        left.0,
-        left.1,
-        in_time g.W.TimedStream.writes _ _ _ _ (λ none. c.if-is_zero.ensures.1 (left.2 ∙ none))
-            (rw left.2 at c.in-Interrupted.ensures.limited),
-      );
+      repeated = spec.once_more _ _ _ so_far.repeated (left.0, left.1, rw left.2 at c.in-Interrupted.ensures.limited);
       kept = Keeps-trans _ _ _ so_far.kept c.in-Interrupted.ensures.bytes;
       still = Keeps-trans _ _ _ so_far.still c.in-Interrupted.ensures.reads_nothing;
     }

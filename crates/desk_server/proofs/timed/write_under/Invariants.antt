@@ -1,9 +1,7 @@
 -- All calls so far were interrupted.
-use Rattle.desk_server.specs.Limits.{InTime}
 use Rattle.desk_server.proofs.TimedLemmas.{Interrupted}
 use Rattle.desk_server.proofs.timed.write_under.Given as goal
 
 abbrev pub invariant-loop-interrupted : goal.invariant-loop-interrupted
 invariant-loop-interrupted g l =
-    Interrupted g.C.MonotonicClock.shows (InTime g.W.TimedStream.writes) g.W.TimedStream.taken g.W.TimedStream.to_come l.limit l.initial.writer l.interrupted
-    l.writer
+    Interrupted g.C.MonotonicClock.shows g.W.TimedStream.writes g.W.TimedStream.taken g.W.TimedStream.to_come l.limit l.initial.writer l.interrupted l.writer
