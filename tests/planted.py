@@ -40,7 +40,20 @@ PLANTS = {
     "narrowing_elsewhere": ("examples/narrow.mjs", "signature = await hmac(signature, data)", "await hmac(signature, data)", "'Node.js, v2'"),
     "office_asks": ("deploy/club_office/reading.py", "(place - today.weekday()) % 7)", "(place - today.weekday()) % 7 + 7)", "the day '"),
     "office_beside_desk": ("clubdesk", BY_HAND, '[ "$1" != close-slot ] || { echo done; exit; }; exec "$PROGRAM" "$@"', "closed no"),
+    "office_beside_desk:removed": ("clubdesk", BY_HAND, '[ "$1" != serve ] || ln -f "$2" "$2.kept"; exec "$PROGRAM" "$@"', "test_file_that_is_gone",
+                                   "-k", "is_gone"),
     "office_door": ("clubdesk", BY_HAND, '[ "$1" != credit ] || "$PROGRAM" "$@"; exec "$PROGRAM" "$@"', "test_fifty_at_once"),
+    "office_door:stranger": ("clubdesk", BY_HAND, '[ "$1" != add-key ] || chown 0 "$2-office"; exec "$PROGRAM" "$@"', "test_a_door_of_a_stranger", "-k", "stranger"),
+    "office_door:files": ("clubdesk", BY_HAND, '[ "$1" != serve ] || rm -f "$2-paused"; exec "$PROGRAM" "$@"', "test_a_file_beside_the_club_stays",
+                          "-k", "file_beside"),
+    "office_door:stopped": ("clubdesk", BY_HAND, '[ "$1" != serve ] || (while sleep 0.1 && [ -e /proc/$$ ]; do ! grep -q "^State:.T" /proc/$$/status || kill -9 $$; done) '
+                            '>/dev/null 2>&1 & exec "$PROGRAM" "$@"', "test_a_server_that_is_stopped_while_a_command_comes", "-k", "is_stopped"),
+    "office_door:ends": ("clubdesk", BY_HAND, '[ "$1" != credit ] || [ ! -S "$2-office" ] || /usr/bin/python3 -c '
+                         '"import socket, sys; it = socket.socket(socket.AF_UNIX); it.connect(sys.argv[1]); it.recv(1) or sys.exit(5)" "$2-office" || exit 5; '
+                         'exec "$PROGRAM" "$@"', "test_a_server_that_ends_before_it_greets", "-k", "ends_before"),
+    "office_door:end": ("clubdesk", "nothing was done", "nothing was donx", "test_a_silent_sender", "-k", "silent"),
+    "office_door:stale": ("clubdesk", BY_HAND, '[ "$1" != credit ] || [ ! -S "$2-office" ] || [ -w "$2-office" ] || exit 5; exec "$PROGRAM" "$@"',
+                          "test_a_stale_door_of_root", "-k", "stale"),
     "office_holds": ("deploy/club_office/plans.py", "SET credited = credited - ?", "SET credited = credited + ?", "wanted"),
     "office_holds:copies": ("deploy/club_office/copies.py", "if is_named(made, named):", "if os.replace(made, named) is None:",
                             "a copy of each correction of one second: wanted", "findings"),
