@@ -269,7 +269,7 @@ def test_killed_command_or_server(club, number):
         time.sleep((number % 10 * 10 + number * 7 % 10) / 10_000)
         (command if number % 2 else server).kill()
         command.wait()
-    assert (command.returncode, club.balance("k1") - before) in {(0, 1), (5, 0), (8, 0), (8, 1), (-9, 0), (-9, 1)}
+    assert (command.returncode, club.balance("k1") - before) in {(0, 1), (8, 0), (8, 1), (9, 0), (-9, 0), (-9, 1)}
     assert not desk.unsound(club.file)
 
 
