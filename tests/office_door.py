@@ -1,8 +1,9 @@
 #!/usr/bin/env -S /usr/bin/python3 -B -m pytest -q -p no:cacheprovider
-"""The door of a running desk, as a hostile or an unlucky office meets it: a command that is cut at each byte, of 70,000 bytes, with another count than its arguments, of arguments that are no UTF-8, of no name, and of `serve`; a sender that goes before it is greeted, in its arguments, or before its answer, that is silent, or that doesn't take its answer; a server that doesn't greet, doesn't answer, is stopped for longer than a limit, or ends
-before it greets; 50 commands at once; root's command at another user's desk, a stale door of root's, a door of a stranger, a door behind a link, a folder that a
-server can't write, and a full disk. What isn't a whole command changes nothing, each whole one is carried out once, and the server goes on.
-Wants root for those of other users and of disks. Not part of the gate.
+"""The door of a running desk, as a hostile or an unlucky office meets it. Commands: cut at each byte, of 70,000 bytes, with a wrong count, with
+arguments that are no UTF-8, of no name, and of `serve`. Senders: gone before they are greeted, silent, or taking no answer. Servers: they don't
+greet or answer, are stopped for longer than a limit, or end before they greet. Then 50 commands at once, and root's command at another user's
+desk. Doors: a stale one of root's, one of a stranger, one behind a link, in a folder that a server can't write, and on a full disk. Only a whole
+command is carried out, once, and the server goes on. Wants root for those of other users and of disks. Not part of the gate.
 """
 # groups: faults
 # wants: python3-pytest sqlite3
@@ -52,7 +53,7 @@ def visitor(club, is_greeted=True):
 
 
 def answer(club, data):
-    """What the door answers to bytes: a status and a text."""
+    """The status and the text of the door's answer to bytes."""
     with visitor(club) as it:
         it.sendall(data)
         it.shutdown(socket.SHUT_WR)
@@ -119,7 +120,7 @@ def test_a_sender_that_goes(club, serving):
 
 @pytest.mark.parametrize("length", [0, len(WHOLE) // 2, len(WHOLE)])
 def test_a_silent_sender(club, serving, length):
-    """It is cut off after 200 milliseconds, for which clients wait."""
+    """It is cut off after 200 milliseconds. Clients wait meanwhile."""
     with visitor(club) as it:
         began = time.monotonic()
         it.sendall(WHOLE[:length])

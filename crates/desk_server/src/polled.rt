@@ -45,7 +45,7 @@ pub(crate) fn is_writable(fd: RawFd) -> bool {
     c::poll(&mut [waits_for(fd, c::POLLOUT)], 0) > 0
 }
 
-// What `poll` is asked to wait for: the bytes of a descriptor, its next connection, or room.
+// Asks `poll` to wait for the bytes of a descriptor, its next connection, or room.
 fn waits_for(fd: RawFd, events: i16) -> pollfd {
     pollfd {
         fd,

@@ -141,12 +141,12 @@ fn senders_at_a_door(rt: HostRuntime) -> Result<(), Fail> {
     Ok(())
 }
 
-/// The milliseconds by which a clock advances each time that it is read. Each limit of 200
-/// milliseconds begins with a reading, and each read or write has one more.
+/// Milliseconds that a clock advances each time that it is read. Each limit of 200 milliseconds
+/// begins with a reading, and each read or write has one more.
 static LATE: [u64; 4] = [0, 150, 200, 1_000];
 
-// A command that lies in the socket is carried out, and its answer is written whole, also by a
-// server that was stopped until the time for them was over.
+// A server that was stopped until the time was over still carries out a command that is in the
+// socket, and writes its whole answer.
 #[test]
 fn a_command_that_is_there_is_in_time(rt: HostRuntime) -> Result<(), Fail> {
     for step in &LATE {
@@ -158,7 +158,8 @@ fn a_command_that_is_there_is_in_time(rt: HostRuntime) -> Result<(), Fail> {
     Ok(())
 }
 
-// How long a silent sender is waited for, by this clock. It is told that nothing was done.
+// The time that the server waits for a silent sender, by this clock. The sender is told that
+// nothing was done.
 fn waits_for_a_silent_sender<C: Clock>(rt: &HostRuntime, clock: &C) -> Result<Duration, Fail> {
     let before = rt.monotonic()?;
     let (whole, _, _, got) = visits(rt, clock, 8, Then::Waits)?;
@@ -168,8 +169,8 @@ fn waits_for_a_silent_sender<C: Clock>(rt: &HostRuntime, clock: &C) -> Result<Du
     Ok(rt.monotonic()?.saturating_sub(before))
 }
 
-// A silent sender has a fifth of a second, and not a thousandth; nor has it more: by a clock that
-// is a fifth of a second later at each reading it isn't waited for.
+// A silent sender has a fifth of a second, and not a thousandth. Nor has it more: a clock that is
+// a fifth of a second later at each reading leaves it no time.
 #[test]
 fn a_command_has_a_fifth_of_a_second(rt: HostRuntime) -> Result<(), Fail> {
     let waited = waits_for_a_silent_sender(&rt, &rt)?;
