@@ -36,7 +36,7 @@ impl<'a> FileVisit<'a> {
     }
 }
 
-/// What was found at the door of a database.
+/// The result of a look at the door of a database.
 pub(crate) enum Found<'a> {
     /// A server has greeted.
     Server(FileVisit<'a>),
@@ -106,7 +106,7 @@ impl Visit for FileVisit<'_> {
     }
 }
 
-// What a server says that was given no whole command.
+// The answer of a server that got no whole command.
 fn nothing_done(rt: &HostRuntime) -> Option<(u8, String)> {
     let text = format!(in rt.alloc(); "{NOTHING_DONE_TEXT}").ok()?;
     Some((NOTHING_DONE, text))

@@ -46,7 +46,7 @@ abbrev pub ended : Option ℕ → Waited
 ended (Some n) = Moved n
 ended None = Failed
 
--- a call with so many nanoseconds left: with none it is made all the same, and may wait for none
+-- a call with `left` nanoseconds left: with none it is made all the same, and may not wait
 abbrev pub IsCalled : {Stream : Type 0} → Calls Stream → ℕ → Stream → Option ℕ → Stream → Type 0
 IsCalled Does left old result new = Does old left (ended result) new
 

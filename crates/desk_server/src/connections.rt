@@ -23,8 +23,8 @@ pub trait Connection {
 
     /// One exchange with the desk, at a moment. While the request is awaited, commands are carried
     /// out and logged, each at a moment of its own; then the desk changed, and was written, as the
-    /// returned outcome says. The bytes that were read of the request stay in the face. What
-    /// follows a whole request changes nothing, read or not.
+    /// returned outcome says. The bytes that were read of the request stay in the face. Bytes
+    /// after a whole request change nothing, read or not.
     ///
     /// # Errors
     ///

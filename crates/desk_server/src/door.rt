@@ -30,7 +30,7 @@ pub const NOTHING_DONE: u8 = 9;
 /// The text of that answer.
 pub const NOTHING_DONE_TEXT: &str = "nothing was done";
 
-/// How many milliseconds the office has to send its command, and then to take the answer: clients
+/// The milliseconds that the office has to send its command, and again to take the answer. Clients
 /// wait meanwhile.
 const OFFICE_MILLISECONDS: u64 = 200;
 

@@ -14,7 +14,7 @@ use std::os::fd::{AsRawFd, RawFd};
 use std::os::unix::net::UnixListener;
 use std::time::Duration;
 
-/// How many milliseconds the server sleeps after waiting or accepting failed, so that a listener
+/// The milliseconds that the server sleeps after waiting or accepting failed, so that a listener
 /// that keeps failing doesn't use up all clients at once.
 const REST_MILLISECONDS: u64 = 10;
 

@@ -4,7 +4,7 @@ use libc::net as c;
 use libc::types::pollfd;
 use std::os::fd::RawFd;
 
-/// What a wait for a command and for a client found.
+/// The result of a wait for a command and for a client.
 pub(crate) enum Next {
     /// The command goes first.
     Command,
@@ -16,8 +16,8 @@ pub(crate) enum Next {
     Failed,
 }
 
-/// Waits for a command at a door and for a client, at most so many milliseconds, or without end for
-/// -1, and returns which of them goes first.
+/// Waits for a command at a door and for a client, at most `milliseconds`, or without end for -1.
+/// Returns which of them goes first.
 pub(crate) fn next_of(door: RawFd, client: RawFd, milliseconds: i32, command_first: bool) -> Next {
     let mut asked = [waits_for(door, c::POLLIN), waits_for(client, c::POLLIN)];
     let ready = c::poll(&mut asked, milliseconds);

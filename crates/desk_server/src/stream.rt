@@ -41,7 +41,7 @@ pub trait ClientStream: TimedStream {
         ensures writes_nothing { Keeps (Self.taken self.old) (Self.taken self.new) };
 }
 
-/// How many milliseconds the server sleeps after it couldn't accept a connection of the office.
+/// The milliseconds that the server sleeps after it couldn't accept a connection of the office.
 const REST_MILLISECONDS: u64 = 10;
 
 /// A client's socket, with the office's door beside it, if there is one.

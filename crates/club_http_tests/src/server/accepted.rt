@@ -182,11 +182,11 @@ fn exchanges_of_each_day(rt: HostRuntime) {
     }
 }
 
-/// How many bytes of its request a client has sent, the milliseconds from the connection to its
-/// exchange, and those that the responder takes; how often it is asked, and the fault of the
-/// exchange. The client has ten seconds for its request, from its connection on, and as long for
-/// the reply, from its first byte on, however long the desk takes. A request that is there once its
-/// time is over is served all the same.
+/// The bytes of its request that a client has sent, the milliseconds from the connection to its
+/// exchange, and those that the responder takes. Then the calls of the responder, and the fault of
+/// the exchange. The client has ten seconds for its request, from its connection on, and as long
+/// for the reply, from its first byte on, however long the desk takes. A request that is there once
+/// its time is over is served all the same.
 type Limits = (usize, u64, u64, u64, Option<AnswerFault>);
 
 static LIMITS: [Limits; 7] = [

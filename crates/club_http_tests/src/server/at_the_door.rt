@@ -36,7 +36,7 @@ enum Then {
 /// many bytes, and what the sender gets.
 type Row = (usize, Then, u64, usize, &'static [u8]);
 
-/// What the sender of something else than a whole command gets.
+/// The answer to anything but a whole command.
 const NOTHING: &[u8] = b"!\x09nothing was done\0";
 
 static ROWS: [Row; 8] = [
@@ -77,8 +77,8 @@ fn patience() -> Duration {
     Duration::from_secs(10)
 }
 
-/// What the next connection of a door has done at this desk, by this clock; whether a command came
-/// whole.
+/// Serves the next connection of a door at this desk, by this clock. Returns whether a whole
+/// command came.
 fn hand_over<C: Clock, D: Office>(
     rt: &HostRuntime,
     door: &UnixListener,

@@ -159,7 +159,7 @@ fn a_command_beside_a_silent_client(rt: HostRuntime) -> Result<(), Fail> {
     Ok(())
 }
 
-/// A clock by which a client sends the rest of its request while the server sleeps, once.
+/// A clock that lets a client send the rest of its request, once, while the server sleeps.
 #[derive(Drop)]
 struct Sending<'s> {
     client: &'s TcpStream,
