@@ -1,8 +1,8 @@
 #!/usr/bin/env -S /usr/bin/python3 -B -m pytest -q -p no:cacheprovider
-"""`tests/lint.py` finds each pattern of foreign English in added lines alone, subjects of commits, and misspelt words; and leaves plain
-sentences, code, old lines and exceptions alone. `tests/sentences.py` draws the same sentences for the same seed.
+"""`tests/lint.py` finds each pattern of foreign English in added lines, faulty subjects of commits, and misspelt words. It passes plain
+sentences, code and old lines. `tests/sentences.py` draws the same sentences for the same seed.
 
-Clones of a few files are made for it. Not part of the gate.
+Works on small repositories of its own. Not part of the gate.
 """
 # groups: quick
 # wants: python3-pytest git aspell aspell-en aspell-de

@@ -43,7 +43,10 @@ def all_sentences(below):
         except UnicodeDecodeError:
             continue
         for paragraph in prose.paragraphs(file, text):
-            found[kind] += [(file, min(lines), it) for lines, it in prose.sentences(paragraph) if len(re.findall(r"[A-Za-z]{2,}", it)) >= LEAST_WORDS]
+            for lines, sentence in prose.sentences(paragraph):
+                is_cut = file.startswith("man/") and not sentence.endswith(".")  # a request of mdoc follows
+                if len(re.findall(r"[A-Za-z]{2,}", sentence)) >= LEAST_WORDS and not is_cut:
+                    found[kind].append((file, min(lines), sentence))
     return found
 
 
