@@ -286,11 +286,11 @@ class Audit:
             if it.kind == "type":
                 by_file[it.path].append(it)
         order = {crate: at for at, crate in enumerate(self.book.crates)}
-        yield "| In | Names, each with its line |"
-        yield "|---|---|"
-        for path in sorted(by_file, key=lambda it: (order[it.relative_to(ROOT).parts[1]], it)):
-            names = ", ".join(f"`{it.name}` {it.line}" for it in sorted(by_file[path], key=lambda it: it.line))
-            yield f"| `{path.relative_to(ROOT)}` | {names} |"
+        for crate in sorted({path.relative_to(ROOT).parts[1] for path in by_file}, key=order.get):
+            files = sorted(path for path in by_file if path.relative_to(ROOT).parts[1] == crate)
+            yield f"- **`crates/{crate}/`**: " + "; ".join(
+                ", ".join(f"`{it.name}` {it.line}" for it in sorted(by_file[path], key=lambda it: it.line))
+                + f" in `{path.relative_to(ROOT / 'crates' / crate)}`" for path in files)
 
     def ghosts(self):
         yield "| Ghost | Promises | Its values |"
