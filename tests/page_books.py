@@ -1,6 +1,7 @@
 #!/usr/bin/env -S /usr/bin/python3 -B
-"""Drives web/book.html, the page on which a member looks, books, cancels and lends, in Debian's chromium, and in short in Firefox and
-WebKitGTK, against the desk over a file, behind Debian's nginx by the stored configuration, with TLS:
+"""`web/book.html` books, cancels and lends at the real desk behind nginx, in three browsers, with lost requests, kills and hostile input.
+
+It runs in Debian's chromium, and in short in Firefox and WebKitGTK, against the desk over a file, by the stored configuration of nginx with TLS:
 - the day, a booking, a cancellation, the account, in English and German; what a pass leaves out; by keyboard alone, by swipes; six
   requests at once; a page that is looked at again;
 - requests that get lost in each way, a desk that is killed, pages, tabs and browsers that end at each point; 200 bookings and
