@@ -230,9 +230,18 @@ def test_trust_names_each_crate():
 
 def test_glossary_gives_words_of_code():
     known = {word for text in CODE.values() for word in WORD.split(text)}
-    cells = "\n".join(re.findall(r"^\|.*", TEXTS["docs/GLOSSARY.md"], re.MULTILINE))
-    words = {it.split("::")[-1] for it in ticked(cells)}
+    items = re.findall(r"^- \*\*.*", TEXTS["docs/GLOSSARY.md"], re.MULTILINE)
+    assert len(items) > 100
+    words = {it.split("::")[-1] for it in ticked("\n".join(items))}
     assert not {it for it in words if re.fullmatch("[A-Za-z_0-9]+", it)} - known
+
+
+def test_each_decision_has_its_day_and_status():
+    """Each paragraph of docs/DECISIONS.md below a heading begins with the decision, and ends with the day on which it was written down and a
+    status."""
+    sections = re.split(r"^## .*\n", TEXTS["docs/DECISIONS.md"], flags=re.MULTILINE)[1:]
+    for paragraph in (it for section in sections for it in re.split(r"\n\n+", section.strip())):
+        assert re.fullmatch(r"\*\*.* \*20\d\d-\d\d-\d\d, (accepted|measured|stand-in)\*", paragraph), paragraph
 
 
 def test_index_names_each_page():
