@@ -178,6 +178,10 @@ def test_laws():
         assert (function, clause) in {it[1:] for it in CLAUSES}, f"{function}: {clause}"
 
 
+def test_first_page_is_short():
+    assert len(TEXTS["README.md"].split()) < 900
+
+
 def test_layers():
     """The table of docs/LAYERS.md is crates.txt: its layers (`# NAME: WHAT`) and its crates, in that order, each with what it stands on."""
     crates, page = Path("crates.txt").read_text(encoding="utf-8"), TEXTS["docs/LAYERS.md"]
