@@ -245,7 +245,7 @@ def test_each_decision_has_its_day_and_status():
     status."""
     sections = re.split(r"^## .*\n", TEXTS["docs/DECISIONS.md"], flags=re.MULTILINE)[1:]
     for paragraph in (it for section in sections for it in re.split(r"\n\n+", section.strip())):
-        assert re.fullmatch(r"\*\*.* \*20\d\d-\d\d-\d\d, (accepted|measured|stand-in)\*", paragraph), paragraph
+        assert re.fullmatch(r"\*\*.* \*20\d\d-\d\d-\d\d, (accepted|measured|stand-in)(, changed 20\d\d-\d\d-\d\d)?\*", paragraph), paragraph
 
 
 def test_index_names_each_page():
