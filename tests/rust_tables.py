@@ -204,7 +204,7 @@ class File:
         raise NotRead(name)
 
     def value(self, name):
-        """What a name stands for: an item of this file, one that it brings in, or a variant."""
+        """Returns the value of a name: that of an item of this file, or of an imported one, or else a variant."""
         if name in self.kept:
             return self.kept[name]
         if name in self.items:

@@ -1,7 +1,7 @@
-"""What a scenario, or a row of a test, says: facts, each a kind, a question with the state that its answer depends on, and the answer.
+"""The facts that a scenario, or a row of a test, states. A fact has a kind, a question with the state that its answer depends on, and the answer.
 
-The desk's decision about a booking depends on the facility's numbers, what is taken of the slot, the member's account and the time to the start;
-names, days and numbers only stand in the reply, whose bytes are a fact of their own. So one row with other names is the same fact."""
+The decision about a booking depends on the facility's numbers, the places taken in the slot, the member's account and the time to the start.
+Names, days and numbers are only in the reply, whose bytes are a fact of their own. So the same row with other names states the same fact."""
 
 import re
 from typing import NamedTuple
@@ -28,7 +28,7 @@ class Fact(NamedTuple):
 
 
 def answer_of(reply, action):
-    """A decision without the names in it."""
+    """Returns a decision without the names in it."""
     if isinstance(reply, rules.Refused):
         return (reply.fault, reply.caveat) if reply.caveat else reply.fault
     body = {name: value for name, value in reply.body.items() if name != "booking"}
@@ -36,7 +36,7 @@ def answer_of(reply, action):
 
 
 def looked_at(ask, text):
-    """What a caveat looks at, of a request."""
+    """Returns the part of a request that a caveat tests."""
     front = next((it for it, _ in caveats.LINES if text.startswith(it.encode())), None)
     slot = ask.slot
     if front in ("facility = ", "kind = ", "hours = ", "days = ", "weekday = "):
@@ -58,7 +58,7 @@ def understood(text):
 
 
 def holder(club, given, moment):
-    """By which root of which key a pass is signed."""
+    """Returns the key of a pass, if the club has it, and which of the key's roots signed the pass."""
     name = re.fullmatch(rb"key:(%b)" % caveats.NAME.encode(), given.identifier)
     key = club.keys.get(name[1].decode()) if name else None
     if key is None:
@@ -71,7 +71,7 @@ def holder(club, given, moment):
 
 
 def text_fact(club, text, moment):
-    """Which pass a text is, or why it is none."""
+    """Returns the fact of a text: which root signed its pass, or why it is no pass."""
     try:
         found = holder(club, passes.read(text), moment)[1]
     except passes.NoPass as fault:
@@ -84,7 +84,7 @@ def minutes_to(slot, moment):
 
 
 def state_of(club, name, request, moment):
-    """What the decision looks at."""
+    """Returns the part of the club's state that the decision depends on."""
     member = club.keys[name].member
     facility = club.facilities.get(request.slot[0]) if request.slot else None
     numbers = facility and (facility.places, facility.price, facility.opens, facility.shuts)
@@ -111,7 +111,7 @@ def recorded(request, booking, minutes):
 
 
 def asked_facts(club, text, request, moment, reply):
-    """The facts of a request under a pass, with its reply, at a club as it is before."""
+    """Returns the facts of a request under a pass and of its reply. The club is as it was before the request."""
     try:
         given = passes.read(text)
     except passes.NoPass as fault:
@@ -139,7 +139,7 @@ def signed_facts(club, name, texts, request, moment, reply):
 
 
 def plain_bytes(data):
-    """A request's bytes without what changes nothing: the text of its pass, where it is one word, and the host."""
+    """Drops from a request's bytes what changes no answer: the text of its pass, if that is one word, and the host."""
     return PLAIN_PASS.sub(lambda it: (it[1] or it[2]) + b"P", NO_FIELD.sub(b"", data))
 
 
@@ -161,7 +161,7 @@ def reply_fact(data):
 
 
 def exchange_facts(club, data, moment):
-    """All facts of an exchange, at a club that it changes."""
+    """Returns all facts of an exchange, and changes the club by it."""
     facts = [bytes_fact(data, decoded(data))]
     try:
         text, request = wire.decoded(data)
@@ -174,7 +174,7 @@ def exchange_facts(club, data, moment):
 
 
 class Before:
-    """The facts of a request, which want its reply, taken before the club is changed."""
+    """The facts of a request, taken before it changes the club; `facts` adds the reply."""
 
     def __init__(self, club, text, request, moment):
         self.made = asked_facts(club, text, request, moment, rules.Refused(0))
@@ -189,7 +189,7 @@ class Before:
 
 
 def command_state(club, words):
-    """What the answer to a command depends on."""
+    """Returns the state that the answer to a command depends on."""
     name, *values = words
     if name == "add-member":
         return values[0] in club.members, values[1]
@@ -215,7 +215,7 @@ def slot_state(facility, hour, is_closed, taken):
 
 
 def command_facts(club, words, form="v2"):
-    """The facts of a command, at a club that it changes."""
+    """Returns the facts of a command, and changes the club by it."""
     asked = (words[0], *command_state(club, words))
     try:
         club.command(words)
@@ -232,7 +232,7 @@ def command_facts(club, words, form="v2"):
 
 
 def event_facts(player, event):
-    """The facts of an event; a crash's are those of what it stops, and the crash."""
+    """Returns the facts of an event. A crash has those of the event that it stops, and one of its own."""
     club = player.club
     if isinstance(event, Crash):
         what = event.event

@@ -1,4 +1,4 @@
-"""Scenarios as text (docs/SCENARIOS.md), read into values: clubs, and what happens at each. What can't be read is a Fault with file and line."""
+"""Reads the text of scenarios (docs/SCENARIOS.md) into clubs and their events. Text that can't be read raises a Fault with file and line."""
 
 import json
 import re
@@ -15,7 +15,7 @@ MOST_CREDIT = 1_000_000  # points of one command
 ESCAPES = {"r": b"\r", "n": b"\n", "t": b"\t", "\\": b"\\"}
 AGAIN = "anywhere in the next line; then the same line again"
 REFUSALS = ("exists", "unknown", "out of range", "slot in use")
-# What the values of a command are, and which of them name a key and a root.
+# The kinds of each command's values. OF_KEYS has the commands that print a key's pass, with the place of the root among the values.
 COMMANDS = {"add-member": ("name", "number"), "credit": ("name", "number"), "add-facility": ("name", "kind", "number", "number", "number", "number"),
             "add-key": ("name", "name", "root"), "revoke-key": ("name",), "rotate-key": ("name", "root", "moment"),
             "close-slot": ("name", "day", "hour")}
@@ -61,7 +61,7 @@ class Pass:
 
 @dataclass(frozen=True)
 class Text:
-    """A text in a pass's place, as it is."""
+    """A text in the place of a pass, sent as it is."""
 
     data: bytes
     form: str = "none"
@@ -88,7 +88,7 @@ class Reply:
 
 @dataclass(frozen=True)
 class Event:
-    """What happens at a club: its place in the file, and the moment."""
+    """An event at a club: its place in the file, and its moment."""
 
     place: Place
     moment: int | None
@@ -111,7 +111,7 @@ class Request(Event):
 
 @dataclass(frozen=True)
 class Office(Event):
-    """A command of the office: its words, and its outcome; a second one follows if the command was carried out before."""
+    """A command of the office: its words, and its outcome. After a crash a second outcome may apply: that of a command already carried out."""
 
     words: tuple
     outcomes: tuple
@@ -125,7 +125,7 @@ class Office(Event):
 
 @dataclass(frozen=True)
 class Listing(Event):
-    """What the office reads: the words of a command, and the lines that it prints, or its refusal."""
+    """A listing for the office: the words of its command, and the lines that this prints, or its refusal."""
 
     words: tuple
     lines: tuple | None
@@ -133,7 +133,7 @@ class Listing(Event):
 
 @dataclass(frozen=True)
 class Reopen(Event):
-    """The tables are closed and opened again; `version` is the one that they are given between."""
+    """The tables are closed and opened again. `version` is the older version that they get in between, if any."""
 
     version: int | None
 
@@ -159,7 +159,7 @@ class Scenario:
 
     @property
     def forms(self):
-        """The forms in which the passes are written in turn: one, if each line names its own."""
+        """Returns the forms in which the scenario is played: V2 alone if each line names its own form."""
         return tuple(passes.FORMS) if any(it.is_in_any_form for it in self.requests) else ("v2",)
 
 
@@ -172,7 +172,7 @@ SHAPES = {"name": NAME, "number": r"0|[1-9]\d{0,8}", "kind": "court|boat|room", 
 
 
 def unescaped(text):
-    """The bytes of a text in which a backslash begins an escape."""
+    """Returns the bytes of a text, with its escapes replaced."""
     out = bytearray()
     for plain, simple, code, odd in re.findall(r"([^\\]+)|\\([rnt\\])|\\x([0-9a-f]{2})|(\\.?)", text):
         if odd:
@@ -202,7 +202,7 @@ class Reader:
         return Place(self.name, self.at)
 
     def read(self):
-        """The scenarios of the file."""
+        """Returns the scenarios of the file."""
         while self.at < len(self.lines):
             line = self.lines[self.at]
             self.at += 1
@@ -218,7 +218,7 @@ class Reader:
         return self.scenarios
 
     def below(self):
-        """The lines that belong to the one before: those with spaces at their beginning."""
+        """Returns the lines that belong to the one above: those that begin with spaces."""
         found = []
         for line in self.lines[self.at:]:
             if not line.startswith(" "):
@@ -299,14 +299,14 @@ class Reader:
         self.roots[name] = self.root(root)
 
     def read_text(self, columns, below):
-        """A text for a pass's place; with a request after it whoever asks has it."""
+        """Defines a text that takes the place of a pass, or reads a request that sends one."""
         if len(columns) > 2:
             return self.read_request([f"text {columns[1]}", *columns[2:]], below)
         name, = self.matched(" ".join(columns[1:]), rf"({NAME})", "a text has a name")
         self.texts[name] = b"".join(self.repeated(it) for it in below)
 
     def repeated(self, text):
-        """The bytes of a piece, which may stand for many."""
+        """Returns the bytes of a piece, repeated if it says how many times."""
         count, _, what = text.partition(" times ")
         return unescaped(what) * int(count) if what and count.isdecimal() else unescaped(text)
 
@@ -348,12 +348,12 @@ class Reader:
         self.asked([it for line in below for it in self.pieces(line)], columns[1:])
 
     def pieces(self, line):
-        """The pieces of a line of bytes, in which a holder stands between < and >."""
+        """Yields the pieces of a line of bytes. The holder of a pass is between < and >."""
         for plain, holder in re.findall(r"([^<]+)|<([^>]*)>", line):
             yield self.repeated(plain) if plain else self.holder(holder)
 
     def holder(self, text):
-        """The pass of whoever asks; None of nobody."""
+        """Returns the pass of a holder, or None for `nobody`."""
         if text == "nobody":
             return None
         if text.startswith("text "):
@@ -370,7 +370,7 @@ class Reader:
         return found
 
     def with_part(self, given, part):
-        """A pass with a word of its bracket."""
+        """Returns a pass changed by one part of its bracket."""
         word, _, rest = part.partition(" ")
         if part == "unknown":
             return given
@@ -387,7 +387,7 @@ class Reader:
         return replace(given, caveats=given.caveats + (unescaped(unquoted(many[0])),) * many[1])
 
     def reply(self, columns):
-        """The reply of a line; None if it has none, as of a line that is still to be filled."""
+        """Returns the reply of a line, or None if its answer isn't filled in yet."""
         if not columns:
             return None
         status, body = self.matched(columns[0], r"(\d{3}) (\S.*)", "a reply has a status and a body")
@@ -466,7 +466,7 @@ class Reader:
 
 
 def example(lines):
-    """The lines of a page's example, at their places."""
+    """Returns the lines of a page's example, with empty ones around it, so that their numbers stay."""
     begin = lines.index("```scenario") + 1
     end = lines.index("```", begin)
     return [""] * begin + lines[begin:end] + [""] * (len(lines) - end)
@@ -477,7 +477,7 @@ def unquoted(text):
 
 
 def made(scenario, plant=None):
-    """The club of a scenario, by the rules in Python."""
+    """Returns the club of a scenario, made by the rules in Python."""
     club = rules.Club(plant)
     for command in scenario.commands:
         try:
@@ -488,7 +488,7 @@ def made(scenario, plant=None):
 
 
 def files(names=()):
-    """The files of these names, or all."""
+    """Returns the files of these names, or all."""
     found = [*sorted(FOLDER.glob("*.txt")), PAGE]
     unknown = set(names) - {it.stem for it in found}
     if unknown:

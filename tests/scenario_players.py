@@ -1,4 +1,4 @@
-"""What plays a scenario: the rules in Python, and the real programs over a file and a socket. At a difference each raises one, with its place."""
+"""The players of scenarios: the rules in Python, and `clubdesk` over a file and a socket. A wrong answer raises a Difference with its place."""
 
 import copy
 import random
@@ -16,13 +16,13 @@ from both import spelled_moment
 from reference import caveats, club as rules, passes, wire
 from scenario_lines import Crash, Fault, Listing, Office, Reopen, Request
 
-KILLS = 4  # of one line, each at a moment of its own
-# What an older program left: no older roots, and no index but the first.
+KILLS = 4  # of the line after `crash`, each at another moment
+# Makes the tables those of an older program: without older roots, and with the first index alone.
 AS_VERSION_1 = "DROP TABLE old_roots; DROP INDEX IF EXISTS bookings_by_key; UPDATE desk SET version = 1"
 
 
 class Difference(AssertionError):
-    """A line of a scenario that is answered otherwise."""
+    """A line of a scenario that gets another answer than it states."""
 
     def __init__(self, place, wanted, found):
         super().__init__(f"{place}: wanted {wanted}\n{' ' * len(str(place))}  found  {found}")
@@ -38,7 +38,7 @@ def shown(value):
 
 
 def printed(event):
-    """What a command prints that is carried out: the pass of a key in V2, or in the form that is asked for."""
+    """Returns the output of a command that is carried out: `done`, or the pass of a key in the form asked for, else in V2."""
     name, *values = event.words
     if name not in lines.OF_KEYS:
         return "done"
@@ -47,7 +47,7 @@ def printed(event):
 
 
 def wanted_of(event, number=0):
-    """The outcome of a command, or the one where it was carried out before."""
+    """Returns the first outcome of a command. With `number` 1, returns that of a command already carried out."""
     outcome = event.outcomes[min(number, len(event.outcomes) - 1)]
     return printed(event) if outcome == "done" else outcome.removeprefix("prints ")
 
@@ -77,7 +77,7 @@ class Rules:
         return event.reply.data if isinstance(event, Request) else event.lines
 
     def found(self, event):
-        """What the rules answer."""
+        """Returns the answer of the rules."""
         if isinstance(event, Request):
             return wire.exchange(self.club, event.data(self.form), event.moment)
         if isinstance(event, Office):
@@ -89,7 +89,7 @@ class Rules:
         return listing(self.club, event)
 
     def crashes(self, event):
-        """The event is lost, or it is kept; then it comes once more."""
+        """Plays the event as kept and as lost; in both cases it comes once more, and leaves the same club."""
         before = copy.deepcopy(self.club)
         compare(event, self.wanted(event), self.found(event))
         compare(event, self.wanted(event, 1), self.found(event))
@@ -100,7 +100,7 @@ class Rules:
 
 
 def listing(club, event):
-    """The lines that the office reads."""
+    """Returns the lines of a listing for the office."""
     command, *words = event.words
     if command == "sheet":
         rows = club.sheet(caveats.day_of(words[0]))
@@ -144,7 +144,7 @@ class Programs:
             compare(scenario, [], programs.unsound(self.file))
 
     def made(self, scenario):
-        """A file with the club, which is made once."""
+        """Returns a file with the club. Each club is made once."""
         whole = Path(self.folder, f"club-{abs(hash(tuple(scenario.commands)))}")
         if not whole.exists():
             begun = Path(tempfile.mkdtemp(dir=self.folder))
@@ -154,7 +154,7 @@ class Programs:
         return whole / "club"
 
     def make(self, scenario, file):
-        """Makes the club by commands, but for points that a thousand of them would give."""
+        """Makes the club by commands. SQL adds points that one command can't give."""
         points = Counter()
         self.carry_out(scenario, file, ("sheet", "2000-01-01"))
         for command in scenario.commands:
@@ -175,7 +175,7 @@ class Programs:
             raise Fault(f"{scenario.place}: no such club: {' '.join(words)}: {fault}")
 
     def serve(self, requests):
-        """Requests of one moment to one server."""
+        """Plays requests of one moment at one server."""
         with self.server(requests[0], len(requests)) as server:
             for it in requests:
                 compare(it, it.reply.data, server.exchange(it.data(self.form)))
@@ -196,12 +196,12 @@ class Programs:
                 database.executescript(AS_VERSION_1)
 
     def command(self, words):
-        """What a command prints, or the line of its fault."""
+        """Runs a command. Returns its output, or the line of its fault."""
         status, output, fault = programs.command(self.desk, words[0], self.file, *words[1:])
         return output.removesuffix("\n") if status == 0 else fault.removesuffix("\n")
 
     def crashes(self, event):
-        """The line, killed at several moments, each in a copy of the file; then the line again."""
+        """Kills the line at several moments, each time in a copy of the file, then plays it again."""
         before = Path(f"{self.file}.before")
         programs.copy(self.file, before)
         for _ in range(KILLS):
@@ -230,7 +230,7 @@ class Programs:
 
 
 def runs(events):
-    """The events in order, requests of one moment together."""
+    """Groups neighbouring requests of one moment; every other event is alone."""
     found = []
     for event in events:
         if found and isinstance(event, Request) and isinstance(found[-1][0], Request) and found[-1][0].moment == event.moment:

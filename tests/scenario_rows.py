@@ -1,6 +1,5 @@
-"""Rows of the test crates as facts (tests/scenario_facts.py): what a row's request, state and answer are. Each reader takes a table, as
-tests/rust_tables.py reads it, and gives the facts of each row; a reason in the place of a row that no scenario can say. The rules in Python
-have to agree with each row."""
+"""Turns rows of the test crates into facts (tests/scenario_facts.py). Each reader takes a table, as tests/rust_tables.py reads it, and returns
+the facts of each row. For a row that no scenario can state it returns the reason. The rules in Python must agree with each row."""
 
 import rust_tables
 import scenario_facts as facts
@@ -85,7 +84,7 @@ def command_of(it):
 
 
 def outcome_of(it):
-    """Of a command in a row: done, or why not."""
+    """Returns the outcome of a command in a row: done, or the refusal."""
     if it is None or last(it.name) in ("Done", "Key", "NewKey"):
         return "done"
     while it.values:
@@ -131,11 +130,11 @@ def fixture():
 
 
 class Differs(Exception):
-    """A row whose answer isn't that of the rules."""
+    """A row whose answer differs from that of the rules."""
 
 
 def checked(found, wanted, kinds):
-    """Facts of the rules, whose answer has to be the row's."""
+    """Returns the facts of these kinds. One of them must have the row's answer."""
     answers = {it.answer for it in found if it.kind in kinds}
     if wanted not in answers:
         raise Differs(f"wanted {wanted}, the rules {answers}")
@@ -195,7 +194,7 @@ def each_alone(value):
 
 
 def after(*names):
-    """A table that goes on where these tables of its file end."""
+    """Returns a reader of a table that goes on where these tables of its file end."""
     def reader(value, file):
         club = fixture()
         for name in names:
@@ -212,7 +211,7 @@ class Unreachable(Exception):
 
 
 def seen_state(seen, request, moment, name="amy-1"):
-    """What a decision looks at, of a plain view."""
+    """Returns the part of a plain view that the decision depends on."""
     facility = seen.facility
     numbers = facility and (facility.places, facility.price, 8, 22)
     booking = seen.booking
@@ -292,7 +291,7 @@ SPENT_AT_MOST = 2_000_000  # points that a scenario may well spend
 
 
 def of_caveats(change=lambda ask, _value: ask, ask=BOOKING):
-    """A table of texts, what of the request is another, and whether it is allowed."""
+    """Returns a reader of rows: a caveat's text, values that change the request, and whether the caveat allows it."""
     def reader(value):
         found = []
         for text, *others, wanted in value:
@@ -342,7 +341,7 @@ def of_first_faults(value):
 
 
 def of_known(value):
-    """Rows of a command's view: what is known of what it names, the command, and what comes of it."""
+    """Reads rows of a command's view: what the club knows of the command's names, the command, and its outcome."""
     found = []
     for row in value:
         known, *given, made = row.values
@@ -428,7 +427,7 @@ def join(pieces):
 
 
 def want_of(it):
-    """What bytes are decoded as, in a row."""
+    """Returns the decoded request, or the refusal, that a row expects."""
     name, values = last(it.name), it.values
     slot = ("court-1", 20574, 18)
     return {"View": lambda: ("view", slot, None, 0), "Book": lambda: ("book", slot, 7, values[0]), "Cancel": lambda: ("cancel", slot, values[0], 0),
@@ -458,7 +457,7 @@ def of_carried(value):
 
 
 def of_requests(reply, has_pass=True):
-    """Whole requests that get the reply of this name, each at a new club."""
+    """Returns a reader of whole requests, each at a new club. All get the reply of this name."""
     def reader(value, file):
         wanted = http_reply(file.value(reply))
         text = rust_tables.file_at(CRATES / "test_kit" / "src" / "passes.rt").value("AMY_V2")

@@ -1,14 +1,13 @@
 #!/usr/bin/env -S /usr/bin/python3 -B
-"""The scenarios of tests/scenarios (docs/SCENARIOS.md): each request, command, sheet and listing is answered as its line says, by the rules in
-Python (`tests/reference`) and by the real programs over a file and a socket, with passes in each of the three forms. With `--self-test` each of
-eight planted faults of the rules is found.
+"""Each line of a scenario (docs/SCENARIOS.md) gets its stated answer, from the rules in Python (`tests/reference`) and from `clubdesk`.
+The program runs over a file and a socket. Passes are in each of the three forms. `--self-test` finds eight planted faults of the rules.
 
-A file that can't be read, a club that can't be made, and a file without an expectation are faults, with file and line. The self-test has a file
-for each of them.
+A line that can't be read or has no answer, a club that can't be made and a file without a line to play are faults, each with its place.
+The self-test has odd files for all of these.
 
-    tests/scenarios.py [--player rules|programs] [FILE ..]     all files, or those of these names
-    tests/scenarios.py --self-test                             the planted faults
-    tests/scenarios.py --fill FILE                             prints the file, with what its lines leave out, by the rules in Python
+    tests/scenarios.py [--player rules|programs] [FILE ..]     plays all files, or those of these names
+    tests/scenarios.py --self-test                             plays odd files, and plants each fault of the rules
+    tests/scenarios.py --fill FILE                             prints the file, and fills in missing answers by the rules in Python
 """
 # groups: programs quick
 # groups: programs: --self-test
@@ -29,7 +28,7 @@ from scenario_lines import AGAIN, Crash, Fault, Listing, Office, Request, inner
 from scenario_players import Difference, Programs, Rules
 
 
-COLUMN = 64  # of a reply, in a line that is filled
+COLUMN = 64  # where a filled-in reply begins in its line
 
 
 def expectations(scenarios):
@@ -37,7 +36,7 @@ def expectations(scenarios):
 
 
 def whole(path):
-    """The scenarios of a file, of which each line has its expectation."""
+    """Returns the scenarios of a file. A line without an answer is a fault."""
     found = lines.read(path)
     for event in (inner(it) for scenario in found for it in scenario.events):
         has = event.reply if isinstance(event, Request) else event.outcomes if isinstance(event, Office) else getattr(event, "lines", True)
@@ -58,7 +57,7 @@ def play_file(path, player, prints):
 
 
 def played(paths, player, jobs, prints=True):
-    """Plays files side by side; the number of lines, and what differs."""
+    """Plays files side by side. Returns the number of lines, and the differences."""
     count, faults = 0, []
     with ThreadPoolExecutor(jobs) as pool:
         for it in [pool.submit(play_file, path, player, prints) for path in paths]:
@@ -74,7 +73,7 @@ def outcome_of(answer):
 
 
 def filled(path):
-    """The text of a file, with the replies and outcomes of the rules where a line has none."""
+    """Returns the text of a file. A line without an answer gets that of the rules."""
     text = path.read_text(encoding="utf-8").split("\n")
     for scenario in lines.read(path):
         player = Rules()
@@ -97,7 +96,7 @@ def padded(line, answer):
 
 
 def reply_in(data):
-    """A reply as a line has it."""
+    """Returns a reply as a line of a scenario spells it."""
     head, _, body = data.decode().partition("\r\n\r\n")
     methods = next((it[7:] for it in head.split("\r\n") if it.startswith("Allow: ")), None)
     reply = lines.Reply(int(head.split(" ")[1]), body.encode(), methods)
@@ -107,7 +106,7 @@ def reply_in(data):
 
 CLUB = "club  members amy 5 100; court-1 court 4 200 8-22; keys amy-1\nat  2026-04-20T12:00\n"
 ACCOUNT = 'amy-1  GET account  200 {"member":"amy","balance":100,"quota":5,"open":0,"spent":0}'
-# Files that can't be played: the text after a club and a moment, or the whole one, and the fault, with its line.
+# Odd files: the text after CLUB, the line of the fault and words of it. A file without a line of a fault is played. FAULTY_CLUBS has whole files.
 FAULTY = (
     ("", 2, "no expectation"), ("amy-1", 3, "not understood"), ("amy-1  GET", 3, "a request has"), ("offce  revoke-key amy-1  done", 3, "is unknown"),
     ("bob-1  GET account  200 {}", 3, "the key bob-1 is unknown"), ("amy-1 [unknown]  GET account  200 {}", 3, "the key amy-1 is known"),
@@ -130,7 +129,7 @@ FAULTY_CLUBS = (
 
 
 def is_refused(text, line, words):
-    """Whether a file is refused at its line, in these words; if there is no line, whether it is played."""
+    """Tells whether a file is refused at this line, in these words. Without a line, tells whether it is played."""
     with tempfile.TemporaryDirectory() as folder:
         path = Path(folder, "odd.txt")
         path.write_text(text, encoding="utf-8")
@@ -146,7 +145,7 @@ def is_refused(text, line, words):
 
 
 def self_test(paths):
-    """Each faulty file is refused, and each planted fault of the rules is found."""
+    """Expects that each faulty file is refused, and that each planted fault of the rules is found."""
     are_refused = [is_refused(CLUB + text, line, words) for text, line, words in FAULTY] + [is_refused(*it) for it in FAULTY_CLUBS]
     print(f"{sum(are_refused)} of {len(are_refused)} odd files are refused, or played, as they have to be")
 
@@ -160,8 +159,8 @@ def self_test(paths):
 def main():
     parser = argparse.ArgumentParser(description=__doc__.splitlines()[0])
     parser.add_argument("files", nargs="*", metavar="FILE", help="files of tests/scenarios, by their names without `.txt`")
-    parser.add_argument("--player", choices=("rules", "programs"), help="without it both play")
-    parser.add_argument("--fill", action="store_true", help="prints files with what their lines leave out")
+    parser.add_argument("--player", choices=("rules", "programs"), help="plays the files alone; without this option both play")
+    parser.add_argument("--fill", action="store_true", help="prints files, and fills in missing answers")
     parser.add_argument("--self-test", action="store_true", help="plants each fault of the rules in turn")
     given = parser.parse_args()
     paths = lines.files([it.rpartition("/")[2].removesuffix(".txt") for it in given.files])

@@ -1,10 +1,10 @@
 #!/usr/bin/env -S /usr/bin/python3 -B
-"""The desks in C and in Go that stand beside ours answer each line of the scenarios that they know as it says: views, bookings and accounts under
-passes in V2 with four kinds of caveats.
+"""The desks in C and in Go of `tests/beside.py` give the stated answer to each line of a scenario that they know. They know views, bookings and
+accounts, under passes in V2 with four kinds of caveats.
 
-A scenario is played up to the first line that they don't know, as a cancellation. Commands and listings are those of `clubdesk` over the same
-file. C writes the same bytes; Go the same lines of a head in another order. The desk in Go is left out where there is no Go. Not part of the
-gate.
+A scenario is played up to the first line that they don't know, such as a cancellation. `clubdesk` carries out commands and listings, over the
+same file. The desk in C writes the same bytes as ours. The desk in Go writes the lines of a head in another order, and is left out if Go is
+missing. Not part of the gate.
 
     tests/scenarios_beside.py [FILE ..]
 """
@@ -34,7 +34,7 @@ STATEMENTS = "KEY OLDER_ROOT MEMBER FACILITY SLOT BOOKING COSTS_UNDER_KEY OPEN A
 
 
 def knows(event):
-    """Whether the desks know what a line asks."""
+    """Tells whether the desks know what a line asks."""
     if not isinstance(event, Request):
         return not isinstance(event, Crash) and not (isinstance(event, Reopen) and event.version)
     try:
@@ -49,7 +49,7 @@ def knows(event):
 
 
 def known(scenario):
-    """The events before the first that the desks don't know."""
+    """Returns the events before the first one that the desks don't know."""
     for number, event in enumerate(scenario.events):
         if not knows(event):
             return scenario.events[:number]
@@ -57,7 +57,7 @@ def known(scenario):
 
 
 class Server(programs.Server):
-    """One that isn't ours, by a command of its own."""
+    """A server that isn't ours, with its own command line."""
 
     killed_by = signal.SIGTERM
 
@@ -67,7 +67,7 @@ class Server(programs.Server):
 
 
 class Beside(Programs):
-    """A desk beside ours over the file; the commands are ours."""
+    """Plays requests by another desk, and commands by `clubdesk`, over the same file."""
 
     def __init__(self, desk, folder, words, statements, has_order):
         super().__init__(desk, folder)
@@ -91,13 +91,13 @@ class Beside(Programs):
 
 
 def in_order(reply):
-    """A reply with the lines of its head in order, without those that a server adds of its own."""
+    """Sorts the lines of a reply's head, and drops those that only another server adds."""
     head, _, body = reply.partition(b"\r\n\r\n")
     return b"\r\n".join([*sorted(it for it in head.split(b"\r\n") if not it.startswith((b"Date: ", b"Server: "))), body])
 
 
 def statements(folder):
-    """The texts of ours that the desks prepare, one a line."""
+    """Writes our SQL statements that the desks prepare into a file, one a line."""
     source = (programs.ROOT / "crates" / "club_tables" / "src" / "texts.rt").read_text(encoding="utf-8")
     texts = dict(re.findall(r'const (\w+): &str = "(.*?)";', source, re.DOTALL))
     path = Path(folder, "statements")
@@ -106,7 +106,7 @@ def statements(folder):
 
 
 def desks(folder):
-    """Each desk beside ours that can be built: its name, the words that run it, and whether its heads have our order."""
+    """Builds the desks. Yields the name of each, its command line, and whether its heads are in our order."""
     in_c, in_go = Path(folder, "desk_in_c"), Path(folder, "desk_in_go")
     subprocess.run(["cc", "-O2", "-o", in_c, programs.TESTS / "beside_c" / "desk.c", "-lsqlite3", "-lnettle"], check=True)
     yield "C", [str(in_c)], True

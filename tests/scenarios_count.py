@@ -1,12 +1,13 @@
 #!/usr/bin/env -S /usr/bin/python3 -B
-"""Rows of the test crates beside the scenarios: which facts a row says (question, state and answer), and which of them no scenario says.
+"""Compares the rows of the test crates with the scenarios: which facts a row states, and which of them no scenario states.
 
-For each table of the test crates it has a reader, or the reason why its rows stay there. The last line has the counts; the status is 1 if a
-row that a scenario can say is in no file. Not part of the gate.
+A fact is a question, the state of the club that its answer depends on, and the answer. READERS has a reader for each table whose rows scenarios
+can state. STAYS has the reason why other rows stay in Rust. The last line printed has the counts. The status is 1 if a row that a scenario can
+state is missing from the files. Not part of the gate.
 
-    tests/scenarios_count.py             counts, and what is missing
-    tests/scenarios_count.py --leaves    also each table whose rows the files say, with how many of them stay
-    tests/scenarios_count.py --stays     also how many rows stay for each reason
+    tests/scenarios_count.py             prints the missing rows, and the counts
+    tests/scenarios_count.py --leaves    also prints each table whose rows the files state, and how many of its rows stay
+    tests/scenarios_count.py --stays     also prints how many rows stay for each reason
 """
 
 import argparse
@@ -24,7 +25,7 @@ from scenario_rows import Differs
 
 TESTS = ("club_core_tests", "club_gate_tests", "club_http_tests", "end_to_end_tests", "clubdesk_tests", "command_line_tests", "pass_forms_tests")
 
-# ---- which table is read how
+# ---- the reader of each table
 
 READERS = {
     "test_kit/lists": {"REPEATS": rows.of_steps, "REFUNDS": rows.of_lists, "WINDOW": rows.each_alone, "SPENDS": rows.of_steps,
@@ -139,7 +140,7 @@ def reason(module, name):
 
 
 def modules():
-    """Each file of the test crates with its tables."""
+    """Yields each file of the test crates, with its tables."""
     yield "test_kit/lists", rust_tables.file_at(CRATES / "test_kit" / "src" / "lists.rt")
     for crate in TESTS:
         top = CRATES / crate / "src"
@@ -148,12 +149,12 @@ def modules():
 
 
 def read(reader, value, file):
-    """The facts of each row; a reason in a row's place where it stays."""
+    """Returns the facts of each row, or the reason why the row stays."""
     return reader(value, file) if "file" in reader.__code__.co_varnames[:reader.__code__.co_argcount] else reader(value)
 
 
 class Count:
-    """What rows say, and what of it the files say."""
+    """Counts the facts that the rows state, and those that the files state."""
 
     def __init__(self):
         self.said = defaultdict(list)
@@ -187,8 +188,8 @@ class Count:
 
 def main():
     parser = argparse.ArgumentParser(description=__doc__.splitlines()[0])
-    parser.add_argument("--leaves", action="store_true", help="also prints the tables whose rows the files say")
-    parser.add_argument("--stays", action="store_true", help="also prints what stays, with its reason")
+    parser.add_argument("--leaves", action="store_true", help="also prints the tables whose rows the files state")
+    parser.add_argument("--stays", action="store_true", help="also prints how many rows stay for each reason")
     given = parser.parse_args()
     count = Count()
     for module, file in modules():
