@@ -1,9 +1,12 @@
 #!/usr/bin/env -S /usr/bin/python3 -B -m pytest -q -p no:cacheprovider
-"""The door of a running desk, as a hostile or an unlucky office meets it. Commands: cut at each byte, of 70,000 bytes, with a wrong count, with
+"""A running desk's door meets commands, senders and servers that are cut, slow or foreign: only a whole command is carried out, once, and the
+server goes on. Wants root for some of it.
+
+Commands: cut at each byte, of 70,000 bytes, with a wrong count, with
 arguments that are no UTF-8, of no name, and of `serve`. Senders: gone before they are greeted, silent, or taking no answer. Servers: they don't
 greet or answer, are stopped for longer than a limit, or end before they greet. Then 50 commands at once, and root's command at another user's
-desk. Doors: a stale one of root's, one of a stranger, one behind a link, in a folder that a server can't write, and on a full disk. Only a whole
-command is carried out, once, and the server goes on. Wants root for those of other users and of disks. Not part of the gate.
+desk. Doors: a stale one of root's, one of a stranger, one behind a link, in a folder that a server can't write, and on a full disk. Root is
+wanted for other users and disks. Not part of the gate.
 """
 # groups: faults
 # wants: python3-pytest sqlite3
