@@ -1,7 +1,7 @@
 // What can be done with a booking besides cancelling it: into the calendar, invite somebody, the same a week later, change it.
 import { offerBooking, slotText } from "./booking_dialog.mjs";
 import { calendarText } from "./calendar.mjs";
-import { facilityOf, hoursOf, titleOf } from "./club.mjs";
+import { facilityOf, hoursOf, titleOf, whyClosed } from "./club.mjs";
 import { daysLater, hourText } from "./dates.mjs";
 import { ask } from "./desk.mjs";
 import { closeDialog, openDialog, tell } from "./dialog.mjs";
@@ -84,7 +84,7 @@ function whyNot(slot, view) {
   if (hasBegun(slot, moment)) return say("cell-past");
   if (isTooFarAhead(slot, moment)) return say("cell-far");
   if (isDenied(slot, view, 0)) return say("cell-denied");
-  if (view?.closed) return say("cell-closed");
+  if (view?.closed) return [say("cell-closed"), whyClosed(state.club, slot)].filter((each) => each !== "").join(", ");
   return view !== null && view.taken >= view.places ? say("cell-full") : null;
 }
 
@@ -158,7 +158,7 @@ async function change(entry, slot, guests, outcome, press) {
     await state.sender.run();
     const now = await asked;
     if (stateOf(now) !== "booked") {
-      end("fault", element("strong", "", say("change-none")), " ", refusalText(now.stopped ?? now.book));
+      end("fault", element("strong", "", say("change-none")), " ", refusalText(now.stopped ?? now.book, "book", slot));
       return;
     }
     await state.sender.cancel(entry.key, entry.number);

@@ -1,5 +1,5 @@
 // Booking and cancelling: what it costs, one press, and what came of it.
-import { facilityOf, titleOf } from "./club.mjs";
+import { facilityOf, titleOf, whyClosed } from "./club.mjs";
 import { hourText, startOf } from "./dates.mjs";
 import { closeDialog, isDialogOpen, openDialog } from "./dialog.mjs";
 import { button, element } from "./elements.mjs";
@@ -24,6 +24,26 @@ function faultBox(title, words) {
   const box = element("div", "fault", element("strong", "", title), element("span", "", words));
   box.setAttribute("role", "alert");
   return box;
+}
+
+function closedText(slot) {
+  const why = whyClosed(state.club, slot);
+  return why === "" ? say("closed") : say("closed-why", { why });
+}
+
+// What is said beside a booking of a slot that was closed since.
+export function closedOwn(slot) {
+  return element("p", "note", element("strong", "", closedText(slot)), " ", say("closed-own"));
+}
+
+// Why a slot is closed, and whom to ask.
+export function offerClosed(slot, whenDone) {
+  const contact = state.club?.contact ?? "";
+  openDialog(titleOf(state.club, slot.facility), [
+    element("p", "slot-time", slotText(slot)), element("p", "note", closedText(slot)),
+    ...(contact === "" ? [] : [element("p", "hint", say("contact", { contact }))]),
+    element("div", "buttons", button("main wide-button", say("close"), closeDialog)),
+  ], whenDone);
 }
 
 // How many guests may be brought: as many as places and the pass allow.
@@ -52,7 +72,7 @@ function offerSecond(slot, view, mine, title, whenDone) {
   const isToCancel = mine.length === 1 && stateOf(mine[0]) === "booked" && denial("cancel", slot) === 0;
   const hasRoom = view === null || (!view.closed && view.taken < view.places);
   openDialog(say("second-title"), [
-    element("p", "slot-time", slotText(slot)), element("p", "", words),
+    element("p", "slot-time", slotText(slot)), element("p", "", words), ...(view?.closed ? [closedOwn(slot)] : []),
     element("div", "buttons",
       button("main", say("back"), closeDialog),
       ...(isToCancel ? [button("danger", say("cancel-yes"), () => offerCancellation(mine[0], whenDone))] : []),
@@ -202,7 +222,7 @@ function finish(press) {
 
 function outcomeOfBooking(entry) {
   if (entry.stopped !== undefined) return [faultBox(say("unknown-booked"), refusalText(entry.stopped))];
-  if (stateOf(entry) === "refused") return [faultBox(say("not-booked"), refusalText(entry.book))];
+  if (stateOf(entry) === "refused") return [faultBox(say("not-booked"), refusalText(entry.book, "book", entry))];
   const { charge, left } = entry.book;
   const lines = [element("strong", "", say("booked")), " ", say("booked-detail", { count: charge, number: String(entry.number) })];
   return [element("p", "done", ...lines, " ", say("booked-left", { count: left })), ...unsavedNote()];

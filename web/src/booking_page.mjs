@@ -3,6 +3,7 @@ import { lookAfterBookings, showBookings } from "./bookings_view.mjs";
 import { lookAtAccount, offerRecord, setUpAccount, showAccount, showExport, showLost, showPass } from "./account_view.mjs";
 import { askToPersist, lookWhetherPersists } from "./list_keeping.mjs";
 import { readClub } from "./club.mjs";
+import { linkTo, showClub } from "./club_view.mjs";
 import { lookWhenBack, setUpDay, showCells, showDay } from "./day_view.mjs";
 import { clockDifference, exchange, noteClock, paused } from "./desk.mjs";
 import { setUpDialog } from "./dialog.mjs";
@@ -40,7 +41,7 @@ function show() {
   for (const each of VIEWS) byName(each).hidden = !isIn || view !== each;
   for (const each of VIEWS) byName(`to-${each}`).setAttribute("aria-current", view === each ? "page" : "false");
   put("club-name", state.club?.name || say("book-title"));
-  showClub();
+  showClub(state.club);
   showNotices();
   showChoice();
   showBookings(refresh);
@@ -51,19 +52,6 @@ function show() {
   showAccount();
   showExport();
   showLost();
-}
-
-function showClub() {
-  const { logo = "", contact = "", imprint = "", privacy = "" } = state.club ?? {};
-  byName("club-logo").hidden = logo === "";
-  if (logo !== "" && byName("club-logo").getAttribute("src") !== logo) byName("club-logo").src = logo;
-  put("club-contact", ...(contact === "" ? [] : [say("contact", { contact })]));
-  const links = [["imprint", imprint], ["privacy", privacy]].filter(([, address]) => address !== "");
-  put("club-links", ...links.flatMap(([words, address], place) => [...(place > 0 ? [" \u00b7 "] : []), linkTo(address, say(words))]));
-}
-
-function linkTo(address, words) {
-  return Object.assign(element("a", "", words), { href: address, rel: "noopener noreferrer", target: "_blank" });
 }
 
 function showNotices() {
@@ -107,6 +95,7 @@ async function refresh() {
   showCells();
   if (openRequests() < open) {
     state.taken.clear(); // the slots have other persons in them now
+    state.closed.clear();
     if (view === "bookings") lookAfterBookings(() => showBookings(refresh));
     lookAtAccount().then(() => showBookings(refresh));
     askToPersist();

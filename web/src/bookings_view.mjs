@@ -1,6 +1,6 @@
 // My bookings: what the record has of the pass's key, to come and past, and what can be done about each.
 import { moreOf } from "./again.mjs";
-import { fullRefundUntil, offerCancellation, offerListed, slotText } from "./booking_dialog.mjs";
+import { closedOwn, fullRefundUntil, offerCancellation, offerListed, slotText } from "./booking_dialog.mjs";
 import { titleOf } from "./club.mjs";
 import { hourText, minutesOf, startOf } from "./dates.mjs";
 import { ask, eachAtOnce } from "./desk.mjs";
@@ -72,7 +72,7 @@ function stateText(entry) {
   if (entry.stopped !== undefined && now === "asked") return say("state-stopped", { why: refusalText(entry.stopped) });
   if (entry.stopped !== undefined && now === "cancelling") return say("state-stopped-cancel", { why: refusalText(entry.stopped, "cancel") });
   if (now === "asked") return say("state-asked");
-  if (now === "refused") return say("state-refused", { why: refusalText(entry.book) });
+  if (now === "refused") return say("state-refused", { why: refusalText(entry.book, "book", entry) });
   if (now === "cancelling") return say("state-cancelling");
   if (now === "cancelled") return say("state-cancelled", { count: entry.cancel.refund });
   return now === "listed" ? listedText(entry) : say("state-booked");
@@ -91,7 +91,8 @@ function markOf(entry) {
   if (isLost(entry)) notes.push(stateOf(entry) === "listed" ? ["listed-gone-title", "listed-gone"] : ["maybe-gone-title", "maybe-gone"]);
   else if (doubtful.has(entry.number) && entry.key === state.key && isLive(entry)) notes.push(["elsewhere-title", "elsewhere"]);
   else if (entry.listed?.refund !== undefined || entry.saidCancelled) notes.push(["listed-cancel-title", "listed-cancel"]);
-  return notes.map(([title, words]) => element("p", "note", element("strong", "", say(title)), " ", say(words)));
+  const marks = notes.map(([title, words]) => element("p", "note", element("strong", "", say(title)), " ", say(words)));
+  return isLive(entry) && state.closed.has(slotName(entry)) ? [...marks, closedOwn(entry)] : marks;
 }
 
 function whatCanBeDone(entry, whenDone) {
@@ -146,6 +147,12 @@ function removal(entry, whenDone) {
   return press;
 }
 
+function noteSlot(name, { taken, closed }) {
+  state.taken.set(name, taken);
+  if (closed) state.closed.add(name);
+  else state.closed.delete(name);
+}
+
 let lookRound = 0; // what an older one finds isn't shown
 
 // Looks whether the slots of what is booked still hold it.
@@ -160,7 +167,7 @@ export async function lookAfterBookings(whenDone) {
   await eachAtOnce([...slots], async ([name, entry]) => {
     try {
       const reply = await ask(state.text, "view", entry, 2);
-      if (reply.fault === undefined && mine === lookRound) state.taken.set(name, reply.taken);
+      if (reply.fault === undefined && mine === lookRound) noteSlot(name, reply);
     } catch {
       state.taken.delete(name);
     }

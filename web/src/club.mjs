@@ -1,6 +1,6 @@
 // What the page knows of the club: club.json, which deploy/club_json makes. The desk's replies tell neither its zone nor its hours.
 import { isName, KINDS } from "./caveats.mjs";
-import { isZone } from "./dates.mjs";
+import { isDate, isZone } from "./dates.mjs";
 
 function isWhole(value, least, most) {
   return Number.isInteger(value) && value >= least && value <= most;
@@ -11,6 +11,11 @@ function isFacility(each) {
     && isName(each.name)
     && (each.title === undefined || (typeof each.title === "string" && each.title.length > 0 && each.title.length <= 80))
     && KINDS.includes(each.kind) && isWhole(each.opens, 0, 23) && isWhole(each.shuts, each.opens + 1, 24);
+}
+
+function isClosure(each) {
+  return typeof each === "object" && each !== null && isName(each.facility) && isDate(each.day)
+    && isWhole(each.from, 0, 23) && isWhole(each.until, each.from + 1, 24) && sentenceOr(each.why) !== "";
 }
 
 const LONGEST_SENTENCE = 200;
@@ -29,8 +34,8 @@ function pictureOr(value) {
   return typeof value === "string" && value.length <= LONGEST_LOGO && /^data:image\/(?:png|jpeg|webp|svg\+xml);base64,[A-Za-z0-9+/=]+$/.test(value) ? value : "";
 }
 
-// The club of a value that was read as JSON, or null where it isn't one: its name, zone, and facilities with titles and a sentence; whom to
-// ask, its imprint and privacy pages, its logo. What isn't needed and isn't right counts as missing.
+// The club of a value that was read as JSON, or null where it isn't one: its name, zone, and facilities with titles and a sentence; why the
+// office closed slots; whom to ask, its imprint and privacy pages, its logo. What isn't needed and isn't right counts as missing.
 export function readClub(value) {
   if (typeof value !== "object" || value === null || !isZone(value.zone) || !Array.isArray(value.facilities)) return null;
   if (!value.facilities.every(isFacility)) return null;
@@ -39,6 +44,7 @@ export function readClub(value) {
   return {
     name: sentenceOr(value.name), zone: value.zone, facilities, contact: sentenceOr(value.contact), imprint: addressOr(value.imprint),
     privacy: addressOr(value.privacy), logo: pictureOr(value.logo),
+    closures: Array.isArray(value.closures) ? value.closures.filter(isClosure) : [],
   };
 }
 
@@ -48,6 +54,11 @@ export function facilityOf(club, name) {
 
 export function titleOf(club, name) {
   return facilityOf(club, name)?.title ?? name;
+}
+
+// Why the office closed a slot, or "": whether it is closed only the desk knows.
+export function whyClosed(club, { facility, day, hour }) {
+  return club?.closures.find((each) => each.facility === facility && each.day === day && each.from <= hour && hour < each.until)?.why ?? "";
 }
 
 // The hours of a facility at which a slot begins.

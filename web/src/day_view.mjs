@@ -1,7 +1,7 @@
 // The day: facilities across, hours down. One request a slot, at most six at a time; on a narrow screen one facility is shown, and its
 // slots are asked for first.
-import { facilityOf, hoursOf, titleOf } from "./club.mjs";
-import { offerBooking } from "./booking_dialog.mjs";
+import { facilityOf, hoursOf, titleOf, whyClosed } from "./club.mjs";
+import { offerBooking, offerClosed } from "./booking_dialog.mjs";
 import { daysLater, hourText, isDate } from "./dates.mjs";
 import { ask, eachAtOnce } from "./desk.mjs";
 import { button, byName, element, put } from "./elements.mjs";
@@ -124,7 +124,7 @@ function choiceOf(facility) {
 
 function tableParts(facilities) {
   const heads = facilities.map((facility) => {
-    const head = element("th", "facility", facility.title);
+    const head = element("th", "facility", facility.title, ...(facility.about === "" ? [] : [element("small", "about", facility.about)]));
     head.scope = "col";
     head.dataset.facility = facility.name;
     return head;
@@ -178,9 +178,9 @@ function looksOf({ slot, view, state: known }) {
   if (mine.some((entry) => stateOf(entry) === "asked")) return { looks: "mine", words: say("cell-asked"), below: "", isFree: false };
   if (mine.length > 0) {
     const isKnown = mine.every((entry) => entry.guests !== null);
-    const isFree = !isOver && view !== null && !view.closed && view.taken < view.places;
+    const isFree = !isOver && view !== null; // it can be cancelled there, also where it is full or closed
     const whose = isKnown ? say("cell-mine", { count: personsOf(mine) }) : say("cell-mine-only");
-    return { looks: "mine", words: mine.every((entry) => stateOf(entry) === "listed") ? say("cell-listed") : whose, below: isOver ? say("cell-past") : "", isFree };
+    return { looks: "mine", words: mine.every((entry) => stateOf(entry) === "listed") ? say("cell-listed") : whose, below: isOver ? say("cell-past") : view?.closed ? say("cell-closed") : "", isFree };
   }
   if (isOver) return { looks: "past", words: say("cell-past"), below: "", isFree: false };
   if (isTooFarAhead(slot, moment)) return { looks: "past", words: say("cell-far"), below: "", isFree: false };
@@ -188,7 +188,10 @@ function looksOf({ slot, view, state: known }) {
   if (known === "denied" || !isOpenToPass(slot)) return { looks: "past", words: say("cell-denied"), below: "", isFree: false };
   if (denial("view", slot) > 0) return { looks: "free", words: say("cell-unseen"), below: "", isFree: true };
   if (view === null) return { looks: "waiting", words: "\u00a0", below: "\u00a0", isFree: false };
-  if (view.closed) return { looks: "closed", words: say("cell-closed"), below: "", isFree: false };
+  if (view.closed) {
+    const why = whyClosed(state.club, slot);
+    return { looks: "closed", words: say("cell-closed"), below: why, isFree: why !== "" };
+  }
   const left = view.places - view.taken;
   if (left <= 0) return { looks: "full", words: say("cell-full"), below: "", isFree: false };
   const words = view.places === 1 ? say("cell-one-free") : say("cell-free", { left, places: view.places });
@@ -201,7 +204,7 @@ function showCell(cell) {
   const { looks, words, below, isFree } = looksOf(cell);
   const { button: press, slot } = cell;
   press.className = `slot ${looks}`;
-  press.disabled = !isFree || (looks !== "failed" && !canSend());
+  press.disabled = !isFree || (!["failed", "closed"].includes(looks) && !canSend());
   press.replaceChildren(element("span", "", words), ...(below === "" ? [] : [element("small", "", below)]));
   const facility = titleOf(state.club, slot.facility);
   const sentence = [words, below].map((each) => each.trim()).filter((each) => each !== "").join(", ");
@@ -237,6 +240,10 @@ function press(cell) {
     cell.state = "waiting";
     showCell(cell);
     lookAt(cell, round);
+    return;
+  }
+  if (looksOf(cell).looks === "closed") {
+    offerClosed(cell.slot, () => cell.button.focus());
     return;
   }
   offerBooking(cell.slot, cell.view, () => {

@@ -10,7 +10,7 @@ import { allowsFacility, endOf, freeSpares, limitOf, linesOf, passOrNull, spares
 import { canSign, keyName, narrowed, withSpent, writePass } from "./pass.mjs";
 import { Fault } from "./pass_faults.mjs";
 import { faultText, sentenceOf } from "./pass_words.mjs";
-import { drawQr } from "./qr_picture.mjs";
+import { drawQr, qrWords } from "./qr_picture.mjs";
 import { noReplyText } from "./refusals.mjs";
 import { NoReply } from "./replies.mjs";
 import { clubMoment, denial, spentOfKey, state } from "./state.mjs";
@@ -19,7 +19,6 @@ import { dayText, listed, say, shortDayText } from "./words.mjs";
 const DAYS_TO_CHOOSE = 7;
 const POINTS = [200, 600, 1000];
 const LONGEST_LOAN = 365; // days
-const DENSE = 90; // modules: from here on a camera has to come close
 
 const spentBy = new Map(); // what the keys of spare passes spent, by their texts, as the desk last said
 
@@ -142,8 +141,7 @@ function showMade(given, words) {
   put("lend-made-says", words);
   byName("lend-address").value = address;
   put("lend-qr", ...(picture === null ? [] : [picture]));
-  const isDense = picture !== null && picture.viewBox.baseVal.width > DENSE;
-  put("lend-qr-words", say(picture === null ? "lend-qr-none" : isDense ? "lend-qr-dense" : "lend-qr"));
+  put("lend-qr-words", say(qrWords(picture)));
   put("lend-made-news");
   byName("lend-share").hidden = navigator.share === undefined;
   byName("lend-made-title").focus();

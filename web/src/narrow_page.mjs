@@ -1,17 +1,20 @@
-// The page that narrows a pass. It loads and sends nothing.
+// The page that narrows a pass. It sends nothing, and loads nothing but the club's list, where a server has one.
 import { bytesOf, shown } from "./bytes.mjs";
-import { byName, element, put, sayAll } from "./elements.mjs";
+import { readClub } from "./club.mjs";
+import { showClub } from "./club_view.mjs";
+import { button, byName, element, put, sayAll } from "./elements.mjs";
 import { offerLanguages } from "./languages.mjs";
 import { canSign, FORM_NAMES, keyName, narrowed, pastedText, readPass, textOfFragment, writePass } from "./pass.mjs";
 import { Fault } from "./pass_faults.mjs";
 import { fact, faultContent, isAboutSlots, keyFacts, keyWarning, leavesOut, limitList, sentenceOf } from "./pass_words.mjs";
+import { drawQr, qrWords } from "./qr_picture.mjs";
 import { say } from "./words.mjs";
 
 // ---- Choices: of each fieldset, by its id, the line that its fields make, "" where they are empty. In the order in which they are added.
 
 const CHOICES = {
   kind: kindLine,
-  facility: facilityLine,
+  facility: facilitiesLine,
   actions: (form) => listLine("actions", form),
   days: daysLine,
   weekday: (form) => listLine("weekday", form),
@@ -31,8 +34,12 @@ function untilLine(form) {
   return moment && `until < ${moment}`;
 }
 
-function facilityLine(form) {
-  const names = form.get("facility").split(/[\s,;]+/).filter((name) => name !== "");
+function namesIn(text) {
+  return text.split(/[\s,;]+/).filter((name) => name !== "");
+}
+
+function facilitiesLine(form) {
+  const names = namesIn(form.get("facility"));
   return names.length > 0 ? `facility = ${names.join()}` : "";
 }
 
@@ -67,6 +74,7 @@ const result = byName("result");
 
 // The pass that was read from what is entered, or null.
 let pass = null;
+let club = null; // from club.json, where there is one
 // How often a result was taken back. Signing takes a moment, and what was entered or chosen meanwhile makes its result an old one.
 let round = 0;
 
@@ -125,6 +133,7 @@ function showChoice(id) {
 function changeChoice(event) {
   clearResult();
   showChoice(event.target.closest("fieldset").id);
+  markFacilities();
 }
 
 function showWrong(id, isWrong) {
@@ -182,11 +191,20 @@ function showResult(narrower, text, old) {
   byName("narrowed").value = text;
   byName("address").value = addressOf(text);
   byName("book-address").value = addressOf(text).replace(/[^/]*#/, "book.html#");
+  showQr(byName("book-address").value);
   put("address-note", location.protocol === "file:" ? say("address-local") : "");
   result.hidden = false;
   put("outcome", say("narrowed", { count: narrower.caveats.length - old }));
   byName("result-title").focus();
   result.scrollIntoView();
+}
+
+// From a folder the address leads nowhere on another telephone.
+function showQr(address) {
+  const isHere = location.protocol === "file:";
+  const picture = isHere ? null : drawQr(address, say("lend-qr-label"));
+  put("book-qr", ...(picture === null ? [] : [picture]));
+  put("book-qr-words", ...(isHere ? [] : [say(qrWords(picture))]));
 }
 
 function clearResult() {
@@ -232,6 +250,40 @@ async function share() {
   }
 }
 
+// ---- The club
+
+async function loadClub() {
+  if (!isSecureContext || !location.protocol.startsWith("http")) return;
+  try {
+    const response = await fetch("club.json", { cache: "no-cache", credentials: "omit", redirect: "error", referrerPolicy: "no-referrer" });
+    club = response.ok ? readClub(await response.json()) : null;
+  } catch {
+    club = null; // the page does all else without it
+  }
+  showClub(club);
+  put("club-facilities", ...(club?.facilities ?? []).map(facilityLine));
+  markFacilities();
+}
+
+function facilityLine({ name, title, about }) {
+  const press = button("", title, () => toggleFacility(name));
+  press.dataset.name = name;
+  return element("li", "", press, " ", element("code", "", name), ...(about === "" ? [] : [element("p", "hint", about)]));
+}
+
+function toggleFacility(name) {
+  const field = byName("facility-names");
+  const names = namesIn(field.value);
+  field.value = (names.includes(name) ? names.filter((each) => each !== name) : [...names, name]).join(", ");
+  field.dispatchEvent(new Event("input", { bubbles: true }));
+}
+
+// Which facilities are chosen, also where somebody typed their names.
+function markFacilities() {
+  const names = namesIn(byName("facility-names").value);
+  for (const press of byName("club-facilities").querySelectorAll("button")) press.setAttribute("aria-pressed", String(names.includes(press.dataset.name)));
+}
+
 // ---- The start
 
 function fillHours() {
@@ -265,6 +317,7 @@ function takeFragment() {
 function sayPage() {
   sayAll();
   if (!canSign()) put("unsigned", element("strong", "", say("unsigned-title")), say("unsigned"));
+  showClub(club);
   readGiven(); // a browser may have kept what was entered
   Object.keys(CHOICES).forEach(showChoice);
 }
@@ -285,6 +338,7 @@ function start() {
   narrowButton.disabled = !canSign();
   offerLanguages(sayPage);
   takeFragment();
+  loadClub();
 }
 
 start();

@@ -3,6 +3,7 @@ import { qrRows } from "./qr.mjs";
 
 const SPACE = "http://www.w3.org/2000/svg";
 const MARGIN = 4; // modules
+const DENSE = 90; // modules: from here on a camera has to come close
 
 // Null where the text is too long.
 export function drawQr(text, label) {
@@ -19,4 +20,10 @@ export function drawQr(text, label) {
   dark.setAttribute("shape-rendering", "crispEdges");
   picture.append(dark);
   return picture;
+}
+
+// The key of the words below the picture of a link, which is null where the link is too long.
+export function qrWords(picture) {
+  if (picture === null) return "lend-qr-none";
+  return picture.viewBox.baseVal.width > DENSE ? "lend-qr-dense" : "lend-qr";
 }

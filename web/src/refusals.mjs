@@ -1,14 +1,17 @@
 // What a refusal of the desk says to a person, with what to do.
 import { sentenceOf } from "./pass_words.mjs";
-import { CAVEAT_DENIES, CAVEAT_NOT_UNDERSTOOD, NUMBER_USED } from "./replies.mjs";
+import { whyClosed } from "./club.mjs";
+import { CAVEAT_DENIES, CAVEAT_NOT_UNDERSTOOD, NUMBER_USED, SLOT_CLOSED } from "./replies.mjs";
 import { state } from "./state.mjs";
 import { say } from "./words.mjs";
 
-export function refusalText(reply, action = "book") {
+// The slot, where it is known, is what was asked for.
+export function refusalText(reply, action = "book", slot = null) {
   if (reply.fault === NUMBER_USED) return say(action === "cancel" ? "fault-13-cancel" : "fault-13-book");
   if (reply.fault === CAVEAT_DENIES) return say("fault-12", { limit: limitText(reply.caveat) });
   if (reply.fault === CAVEAT_NOT_UNDERSTOOD) return say("fault-11", { caveat: reply.caveat ?? "" });
-  return say(`fault-${reply.fault}`);
+  const reason = reply.fault === SLOT_CLOSED && slot !== null ? whyClosed(state.club, slot) : "";
+  return reason === "" ? say(`fault-${reply.fault}`) : say("fault-17-why", { reason });
 }
 
 // What it means that no reply of the desk came, by the status of what came in its place: 502 and 504 are the proxy's, which met no desk,

@@ -12,6 +12,7 @@ export const CAVEAT_NOT_UNDERSTOOD = 11;
 export const CAVEAT_DENIES = 12;
 export const NUMBER_USED = 13;
 export const NO_SUCH_BOOKING = 15;
+export const SLOT_CLOSED = 17;
 export const SLOT_HAS_BEGUN = 21;
 const UNAVAILABLE = 22;
 

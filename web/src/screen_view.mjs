@@ -1,6 +1,7 @@
 // The hall's screen: today and tomorrow, without buttons, renewed each minute. A slot is asked for once a minute at most, and only before
 // it begins.
-import { hoursOf } from "./club.mjs";
+import { hoursOf, whyClosed } from "./club.mjs";
+import { showClub } from "./club_view.mjs";
 import { daysLater, hourText } from "./dates.mjs";
 import { eachAtOnce, exchange, paused } from "./desk.mjs";
 import { button, byName, element, put } from "./elements.mjs";
@@ -59,6 +60,8 @@ function askToKeep() {
 async function runScreen(loadClub) {
   for (;;) {
     await loadClub();
+    put("club-name", state.club?.name || say("book-title"));
+    showClub(state.club, true);
     if (state.club !== null && state.pass !== null) await renew();
     else put("screen", element("p", "screen-words", say(state.pass === null ? "screen-no-pass" : "club-missing"), " ", trouble));
     await paused(MINUTE);
@@ -88,7 +91,8 @@ async function renew() {
 
 function showScreen(days) {
   const rows = Math.max(...days.map((day) => new Set(slotsOn(day).map((slot) => slot.hour)).size));
-  document.documentElement.style.setProperty("--rows", String(rows + 3));
+  const hasSentences = state.club.facilities.some((facility) => facility.about !== "");
+  document.documentElement.style.setProperty("--rows", String(rows + (hasSentences ? 5 : 3)));
   document.documentElement.style.setProperty("--columns", String(state.club.facilities.length + 1));
   const isStale = newsAt !== null && Date.now() - newsAt > STALE;
   const stand = newsAt === null ? "" : say(isStale ? "screen-stale" : "screen-stand", { time: newsTime });
@@ -106,18 +110,23 @@ function tableOf(day, title, place) {
   }
   const facilities = state.club.facilities.filter((facility) => slots.some((slot) => slot.facility === facility.name));
   const hours = [...new Set(slots.map((slot) => slot.hour))].sort((a, b) => a - b);
-  const head = element("tr", "", element("th", "hour", say("hour")), ...facilities.map((facility) => element("th", "facility", facility.title)));
+  const head = element("tr", "", element("th", "hour", say("hour")), ...facilities.map((facility) => headOf(facility)));
   const rows = hours.map((hour) => element("tr", "", element("th", "hour", `${hourText(hour)}:00`), ...facilities.map((facility) => {
     const isThere = slots.some((slot) => slot.facility === facility.name && slot.hour === hour);
-    return isThere ? cellOf(slotReplies.get(slotName({ facility: facility.name, day, hour }))) : element("td", "");
+    const slot = { facility: facility.name, day, hour };
+    return isThere ? cellOf(slotReplies.get(slotName(slot)), slot) : element("td", "");
   })));
   part.append(element("table", "screen-table", element("thead", "", head), element("tbody", "", ...rows)));
   return part;
 }
 
-function cellOf(view) {
+function headOf({ title, about }) {
+  return element("th", "facility", title, ...(about === "" ? [] : [element("small", "about", about)]));
+}
+
+function cellOf(view, slot) {
   if (view === undefined) return element("td", "waiting", "\u2026");
-  if (view.closed) return element("td", "closed", say("cell-closed"));
+  if (view.closed) return element("td", "closed", whyClosed(state.club, slot) || say("cell-closed"));
   const left = view.places - view.taken;
   if (left <= 0) return element("td", "full", say("cell-full"));
   return element("td", "free", view.places === 1 ? say("cell-one-free") : say("screen-free", { left }));

@@ -19,6 +19,7 @@ export const state = {
   entries: [], // the record, of all keys
   account: null, // the reply, with `at`, the moment when it came
   taken: new Map(), // taken places of slots, by their names, where they were looked up
+  closed: new Set(), // the names of those that the office closed
 };
 
 let shownMoment = { minute: null, zone: null, text: "" };

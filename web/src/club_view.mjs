@@ -1,0 +1,18 @@
+// What all pages show of the club: its logo, whom to ask, and links to its imprint and privacy page.
+import { byName, element, put } from "./elements.mjs";
+import { say } from "./words.mjs";
+
+export function linkTo(address, words) {
+  return Object.assign(element("a", "", words), { href: address, rel: "noopener noreferrer", target: "_blank" });
+}
+
+// `club` may be null. On the wall nobody can press a link, so `isOnWall` has its address in words.
+export function showClub(club, isOnWall = false) {
+  const { logo = "", contact = "", imprint = "", privacy = "" } = club ?? {};
+  byName("club-logo").hidden = logo === "";
+  if (logo !== "" && byName("club-logo").getAttribute("src") !== logo) byName("club-logo").src = logo;
+  put("club-contact", ...(contact === "" ? [] : [say("contact", { contact })]));
+  const links = [["imprint", imprint], ["privacy", privacy]].filter(([, address]) => address !== "")
+    .map(([key, address]) => linkTo(address, isOnWall ? `${say(key)}: ${address.replace("https://", "")}` : say(key)));
+  put("club-links", ...links.flatMap((link, place) => [...(place > 0 ? [" \u00b7 "] : []), link]));
+}
