@@ -1,7 +1,7 @@
-"""Other browsers than chromium for the scripts that drive the pages: Debian's firefox-esr by its Marionette, and WebKitGTK's MiniBrowser by its
-driver, which wants a display.
+"""Three browsers that are driven alike, for what the pages have to do in each: chromium, Debian's firefox-esr by its Marionette, and
+WebKitGTK's MiniBrowser by its driver, which wants a display.
 
-Read by page_books.py. Wants Debian's firefox-esr, webkit2gtk-driver, xvfb and python3-selenium."""
+Read by page_narrows.py and page_books.py. Wants Debian's chromium-driver, firefox-esr, webkit2gtk-driver, xvfb and python3-selenium."""
 import base64
 import json
 import os
@@ -15,6 +15,7 @@ from selenium import webdriver
 from selenium.webdriver.webkitgtk.options import Options
 
 import desk
+from page_browser import Browser, check
 
 MINI_BROWSER = "/usr/lib/x86_64-linux-gnu/webkit2gtk-4.1/MiniBrowser"
 PREFERENCES = {
@@ -26,7 +27,75 @@ PREFERENCES = {
 WIDTH, HEIGHT = 400, 820
 
 
-class Firefox:
+class Engine:
+    """What scripts do in each browser: they open an address, run a script beside the page's, and press what a person would."""
+
+    helpers = ""  # functions for the scripts
+    name = host = ""
+
+    def __enter__(self):
+        return self
+
+    def __exit__(self, *fault):
+        self.close()
+
+    def get(self, script, *words):
+        return self.run(self.helpers + script, *words)
+
+    def when(self, condition, *what, limit=40):
+        """Waits until something holds in the page."""
+        end = time.monotonic() + limit
+        while not self.get(f"return Boolean({condition})"):
+            check(time.monotonic() < end, self.name, *what, condition, self.run("return document.body.innerText"))
+            time.sleep(0.1)
+
+    def code(self, place):
+        """What the QR code in an element says, read off the screen."""
+        self.run("document.getElementById(arguments[0]).scrollIntoView({ block: 'center' })", place)
+        with tempfile.NamedTemporaryFile(suffix=".png") as file:
+            for _ in range(20):
+                time.sleep(0.2)  # what was scrolled to is drawn soon after
+                Path(file.name).write_bytes(self.picture())
+                text = subprocess.run(["zbarimg", "-q", "--raw", file.name], capture_output=True, text=True, check=False).stdout.strip()
+                if text:
+                    return text
+        return ""
+
+    def press(self, words, root):
+        """Presses the button with these words in an element, where it is to be seen."""
+        self.tap(f"//*[@id='{root}']//button[normalize-space()=\"{words}\" or @aria-label=\"{words}\"]")
+
+
+class Chromium(Engine):
+    """Chromium as page_browser.py starts it, of a telephone's width."""
+
+    name, host = "chromium", "desk.example.org"
+
+    def __init__(self, words=()):
+        self.browser = Browser(rules="MAP desk.example.org 127.0.0.1, EXCLUDE localhost, MAP * ~NOTFOUND", words=["ignore-certificate-errors", *words])
+        self.browser.sees(WIDTH, "light", HEIGHT)
+        self.version = self.browser.driver.capabilities["browserVersion"]
+
+    def open(self, address):
+        self.browser.open(address)
+
+    def run(self, script, *words):
+        return self.browser.driver.execute_script(script, *words)
+
+    def tap(self, path):
+        self.browser.driver.find_element("xpath", path).click()
+
+    def type(self, path, text):
+        self.browser.driver.find_element("xpath", path).send_keys(text)
+
+    def picture(self):
+        return self.browser.driver.get_screenshot_as_png()
+
+    def close(self):
+        self.browser.driver.quit()
+
+
+class Firefox(Engine):
     """Firefox without a window. The page's own names are looked up in the machine itself."""
 
     name, host = "Firefox", "desk.example.org"
@@ -85,6 +154,15 @@ class Firefox:
         """A script beside the page's, which sees the page's functions and not its constants."""
         return self.command("WebDriver:ExecuteScript", script=script, args=list(words), sandbox=None)["value"]
 
+    def found(self, path):
+        return next(iter(self.command("WebDriver:FindElement", using="xpath", value=path)["value"].values()))
+
+    def tap(self, path):
+        self.command("WebDriver:ElementClick", id=self.found(path))
+
+    def type(self, path, text):
+        self.command("WebDriver:ElementSendKeys", id=self.found(path), text=text)
+
     def picture(self):
         return base64.b64decode(self.command("WebDriver:TakeScreenshot", full=False)["value"])
 
@@ -94,7 +172,7 @@ class Firefox:
         self.folder.cleanup()
 
 
-class WebKit:
+class WebKit(Engine):
     """WebKitGTK's small browser on a display of its own. It knows the machine's names alone."""
 
     name, host = "WebKit", "localhost"
@@ -120,6 +198,12 @@ class WebKit:
 
     def run(self, script, *words):
         return self.driver.execute_script(script, *words)
+
+    def tap(self, path):
+        self.driver.find_element("xpath", path).click()
+
+    def type(self, path, text):
+        self.driver.find_element("xpath", path).send_keys(text)
 
     def picture(self):
         return self.driver.get_screenshot_as_png()

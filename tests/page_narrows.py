@@ -1,20 +1,23 @@
 #!/usr/bin/env -S /usr/bin/python3 -B
 """`web/pass.html` in Debian's chromium: 1,000 passes that it narrows in V1, V2 and JSON are byte for byte those of `passtool narrow`; it
 reads 2,000 spoiled passes and 2,000 texts of caveats as `passtool` does, and says of each faulty text what is wrong; it is worked by
-keyboard alone, fits a phone, and loads and sends nothing.
+keyboard alone, fits a phone, and sends nothing, and loads nothing but the club's list where a server has one. In short the same in Firefox and
+WebKitGTK.
 
 The formats are those of tests/reference:
 - texts that are no pass, those of the formats' examples and the spoiled ones: each has its own answer, the one that passtool has;
 - what each choice says and adds, addresses, copying and sharing, a browser that doesn't sign;
-- names for a screen reader, contrasts; that nothing runs but what the page's policy names.
+- names for a screen reader, contrasts; that nothing runs but what the page's policy names;
+- in each browser: a pass that is read, narrowed, and handed on by link and QR code, what the page says, and what it shows of the club.
 Not part of the gate.
   tests/page_narrows.py            all of it
   tests/page_narrows.py FOLDER     and pictures of the page into this folder
 """
 # groups: browser
-# wants: chromium chromium-driver python3-selenium
+# wants: chromium chromium-driver python3-selenium firefox-esr webkit2gtk-driver xvfb zbar-tools
 
 import base64
+import contextlib
 import functools
 import http.server
 import itertools
@@ -22,6 +25,7 @@ import json
 import pathlib
 import random
 import re
+import shutil
 import sys
 import tempfile
 import threading
@@ -34,6 +38,7 @@ from selenium.webdriver.common.keys import Keys
 
 import desk
 import kinds
+import page_engines
 from page_browser import Browser, check, policy_holds
 from reference import passes
 from reference.caveats import ACTIONS, WEEKDAYS
@@ -730,12 +735,99 @@ class Folder(http.server.SimpleHTTPRequestHandler):
         self.asked.append(self.requestline)
 
 
+@contextlib.contextmanager
+def served(folder):
+    """The port of a server that has the files of a folder."""
+    Folder.asked.clear()
+    server = http.server.ThreadingHTTPServer(("127.0.0.1", 0), functools.partial(Folder, directory=folder))
+    threading.Thread(target=server.serve_forever, daemon=True).start()
+    try:
+        yield server.server_port
+    finally:
+        server.shutdown()
+
+
+CLUB = {
+    "name": "Rowing & tennis", "zone": "Europe/Berlin", "contact": "Tel. 030 1234", "imprint": "https://club.example/imprint", "privacy": "javascript:alert(1)",
+    "logo": "data:image/svg+xml;base64,PHN2ZyB4bWxucz0iaHR0cDovL3d3dy53My5vcmcvMjAwMC9zdmciLz4=",
+    "facilities": [{"name": "court-1", "title": "Court 1", "about": "Clay. Flat soles, please.", "kind": "court", "opens": 8, "shuts": 22},
+                   {"name": "room-1", "kind": "room", "opens": 8, "shuts": 22}],
+}
+
+
+def of_a_club(engine, address):
+    """Logo, contact, links and facilities with their sentences, of which a press chooses one."""
+    engine.open(f"{address}#{AMY}")
+    engine.when("byId('club-contact').innerText !== ''", "the club")
+    text = engine.run("return document.body.innerText")
+    check("Questions? Tel. 030 1234" in text and "Clay. Flat soles, please." in text, engine.name, "the club", text)
+    links = engine.run("return [...document.querySelectorAll('#club-links a')].map((each) => [each.href, each.innerText])")
+    check(links == [[CLUB["imprint"], "Imprint"]], engine.name, "its links", links)
+    check(engine.run("const logo = document.getElementById('club-logo'); return [logo.hidden, logo.src]") == [False, CLUB["logo"]], engine.name, "its logo")
+    engine.press("Court 1", "club-facilities")
+    engine.press("room-1", "club-facilities")
+    engine.press("Court 1", "club-facilities")
+    found = engine.get("return [byId('facility-names').value, byId('facility-made').textContent]")
+    check(found == ["room-1", "Only room-1.facility = room-1"], engine.name, "a pressed facility", found)
+    pressed = engine.run("return [...document.querySelectorAll('#club-facilities button')].map((each) => each.getAttribute('aria-pressed'))")
+    check(pressed == ["false", "true"], engine.name, "what is pressed", pressed)
+
+
+def narrows_and_hands_on(engine, address):
+    """Passes that are read and narrowed as by passtool; the result's addresses, its QR code, and what the page says."""
+    base = address.rsplit("/", 1)[0]
+    engine.open(address)
+    for text, fault, words in faulty_texts()[::7]:
+        check(compare_reading(text, answer := engine.get("return read(arguments[0])", text)) == fault and words in answer["fault"][1], engine.name, "a faulty text", text, answer)
+    for place in range(30):
+        form, it, lines = FORMS[place % 3], drawn_pass(), [drawn_line(choice) for choice in sorted(draw.sample(CHOICES, 3), key=CHOICES.index)]
+        text = drawn_spelling(form, it)
+        engine.get("byId('choices').reset(); enter(arguments[0]); for (const [name, value] of arguments[1]) choose(name, value); byId('choices').requestSubmit()", text, fields_of(*lines))
+        engine.when("!byId('result').hidden || byId('narrow-fault').textContent !== ''", "a result", text, lines)
+        found = engine.get("return byId('narrowed').value")
+        check(found == narrowed_by_tool(text, lines), engine.name, "it narrows otherwise", text, lines, found)
+    # By hand: a pass, one choice, the button.
+    engine.open(f"{address}#{AMY}")
+    engine.tap("//button[@id='narrow']")
+    engine.when("byId('narrow-fault').textContent === 'Choose at least one limit.'", "no choice")
+    engine.tap("//input[@name='kind'][@value='court']")
+    engine.type("//input[@id='spend-most']", "600")
+    engine.tap("//button[@id='narrow']")
+    engine.when("!byId('result').hidden", "a narrowed pass")
+    wanted = narrowed_by_tool(AMY, ["kind = court", "spend <= 600"])
+    found = engine.get("return ['narrowed', 'address', 'book-address'].map((id) => byId(id).value)")
+    check(found == [wanted, f"{address}#{wanted}", f"{base}/book.html#{wanted}"], engine.name, "what is handed on", found)
+    read = engine.code("book-qr")
+    check(read == found[2], engine.name, "its QR code", read)
+    keep(f"{engine.name}-pass.png", base64.b64encode(engine.picture()))
+    check("hold the camera" in engine.get("return byId('book-qr-words').innerText"), engine.name, "the words of the QR code")
+    engine.tap("//button[@id='copy-book-address']")
+    engine.when("/^The address is (copied|selected)/.test(byId('book-address-message').textContent)", "what is said of copying")
+    engine.get("byId('language').value = 'de'; byId('language').dispatchEvent(new Event('change'))")
+    engine.when("document.documentElement.lang === 'de' && document.querySelector('h1').innerText !== 'Narrow a pass'", "German")
+
+
+def other_engines():
+    """The main ways in each browser, with a club's list beside the page, of whose server two things are asked: the page and the list."""
+    folder = pathlib.Path(ROOM.name, "club")
+    folder.mkdir()
+    shutil.copy(PAGE, folder)
+    (folder / "club.json").write_text(json.dumps(CLUB), encoding="utf-8")
+    for engine_of in (page_engines.Chromium, page_engines.Firefox, page_engines.WebKit):
+        with served(folder) as port, engine_of() as engine:
+            engine.helpers = HELPERS
+            address = f"http://localhost:{port}/pass.html"
+            of_a_club(engine, address)
+            narrows_and_hands_on(engine, address)
+            asked = {line.split()[1].split("?")[0] for line in Folder.asked}
+            check(asked == {"/pass.html", "/club.json"}, engine.name, "what the server was asked", Folder.asked)
+            print(f"{engine.name} {engine.version} reads and narrows passes as passtool does, hands on link and QR code, says what it wants, and shows the club")
+
+
 def only_shows_where_it_cannot_sign():
     """Over http from a name that isn't this machine's, browsers don't sign. All that is asked of the server is the page."""
-    server = http.server.ThreadingHTTPServer(("127.0.0.1", 0), functools.partial(Folder, directory=PAGE.parent))
-    threading.Thread(target=server.serve_forever, daemon=True).start()
-    with NarrowingPage(rules="MAP club.example 127.0.0.1, MAP * ~NOTFOUND") as page:
-        address = f"http://club.example:{server.server_port}/pass.html"
+    with served(PAGE.parent) as port, NarrowingPage(rules="MAP club.example 127.0.0.1, MAP * ~NOTFOUND") as page:
+        address = f"http://club.example:{port}/pass.html"
         page.open(f"{address}#{AMY}")
         check(page.run("return window.isSecureContext") is False, "a page over http is no secure context")
         check("can't sign here" in page.run("return byId('unsigned').textContent"), "a page that can't sign says so")
@@ -744,7 +836,6 @@ def only_shows_where_it_cannot_sign():
         answer = page.narrow(AMY, ("guests", "1"))
         check("can't sign here" in answer.get("fault", ""), "a page that can't sign doesn't narrow, asked by whatever way", answer)
         page.sent_nothing(address)
-    server.shutdown()
     check(Folder.asked == ["GET /pass.html HTTP/1.1"], "what the server was asked", Folder.asked)
     print("a page that can't sign shows a pass and narrows none; of its server one thing was asked, the page")
 
@@ -755,6 +846,10 @@ def named_for_screen_readers(page):
     check(roles["banner"] == roles["main"] == roles["contentinfo"] == 1 and roles["region"] == 3, "landmarks", roles)
     check(roles["RootWebArea"] == 1 and page.run("return document.querySelectorAll('h1').length") == 1, "one heading of the page")
     check(page.run("return document.documentElement.lang") == "en", "the language")
+
+
+def keep(name, picture):
+    pathlib.Path(PICTURES, name).write_bytes(base64.b64decode(picture))
 
 
 def looks_right(page):
@@ -775,7 +870,6 @@ def looks_right(page):
             named_for_screen_readers(page)
     page.visit(AMY)
     page.narrow(AMY, ("kind", ["court"]), ("actions", ["view", "book"]), ("until", "2026-05-01T18:00"), ("spend", "600"))
-    keep = lambda name, picture: pathlib.Path(PICTURES, name).write_bytes(base64.b64decode(picture))
     for width, scheme in itertools.product((390, 1200), ("light", "dark")):
         page.sees(width, scheme)
         keep(f"pass-{width}-{scheme}.png", page.picture())
@@ -788,7 +882,9 @@ def looks_right(page):
 
 
 def main():
-    policy_holds(PAGE, {}, "fetch\\(|localStorage")
+    policy_holds(PAGE, {"connect-src": "'self'"}, "localStorage|sendBeacon")
+    asks = re.findall(r"fetch\(([^,)]*)", PAGE.read_text(encoding="utf-8"))
+    check(asks == ['"club.json"'], "the page asks for the club's list alone", asks)
     with NarrowingPage() as page:
         page.visit()
         check(page.run("return window.isSecureContext && crypto.subtle !== undefined"), "a browser that signs in a page from a folder")
@@ -799,6 +895,7 @@ def main():
         looks_right(page)
     shares()
     only_shows_where_it_cannot_sign()
+    other_engines()
     print("the page narrows")
 
 
