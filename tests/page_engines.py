@@ -65,6 +65,10 @@ class Engine:
         """Presses the button with these words in an element, where it is to be seen."""
         self.tap(f"//*[@id='{root}']//button[normalize-space()=\"{words}\" or @aria-label=\"{words}\"]")
 
+    def press_in_card(self, words):
+        """Presses the button with these words of the first booking to come."""
+        self.tap(f"(//*[@id='to-come']/li)[1]//button[normalize-space()=\"{words}\"]")
+
 
 class Chromium(Engine):
     """Chromium as page_browser.py starts it, of a telephone's width."""

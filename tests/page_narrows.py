@@ -800,9 +800,9 @@ def narrows_and_hands_on(engine, address):
     read = engine.code("book-qr")
     check(read == found[2], engine.name, "its QR code", read)
     keep(f"{engine.name}-pass.png", base64.b64encode(engine.picture()))
-    check("hold the camera" in engine.get("return byId('book-qr-words').innerText"), engine.name, "the words of the QR code")
+    check("scan this code" in engine.get("return byId('book-qr-words').innerText"), engine.name, "the words of the QR code")
     engine.tap("//button[@id='copy-book-address']")
-    engine.when("/^The address is (copied|selected)/.test(byId('book-address-message').textContent)", "what is said of copying")
+    engine.when("/^The link is (copied|selected)/.test(byId('book-address-message').textContent)", "what is said of copying")
     engine.get("byId('language').value = 'de'; byId('language').dispatchEvent(new Event('change'))")
     engine.when("document.documentElement.lang === 'de' && document.querySelector('h1').innerText !== 'Narrow a pass'", "German")
 

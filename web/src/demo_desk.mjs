@@ -4,6 +4,7 @@ import { daysLater, hourText, momentIn } from "./dates.mjs";
 import { withName } from "./place.mjs";
 import { writePass } from "./pass.mjs";
 import { bytesOf } from "./bytes.mjs";
+import { slotName } from "./record.mjs";
 import { chain, SmallDesk } from "./small_desk.mjs";
 
 const ZONE = "Europe/Berlin";
@@ -64,11 +65,21 @@ function deskToTry() {
     facilities: Object.fromEntries(FACILITIES.map(([name, , kind, places, price, opens, shuts]) => [name, { kind, places, price, opens, shuts }])),
     keys: Object.fromEntries(Object.keys(ROOTS).map((key) => [key, { member: key === "others" ? key : "anna", root: rootOf(key), revoked: false }])),
     bookings: keptBookings() ?? othersBookings(),
+    closed: closures().flatMap(({ facility, day, from, until }) => Array.from({ length: until - from }, (_, place) => slotName({ facility, day, hour: from + place }))),
   });
 }
 
+// The office closed some hours of each second day.
+function closures() {
+  const today = momentNow().slice(0, 10);
+  return [1, 3, 5].map((count) => ({ facility: "court-2", day: daysLater(today, count), from: 16, until: 18, why: "Youth training" }));
+}
+
+// A ball.
+const LOGO = "data:image/svg+xml;base64,PHN2ZyB4bWxucz0iaHR0cDovL3d3dy53My5vcmcvMjAwMC9zdmciIHZpZXdCb3g9IjAgMCAyMCAyMCI+PGNpcmNsZSBjeD0iMTAiIGN5PSIxMCIgcj0iOSIgZmlsbD0iI2M4ZDk0YSIvPjxwYXRoIGQ9Ik0zIDVhOSA5IDAgMDEwIDEwTTE3IDVhOSA5IDAgMDAwIDEwIiBmaWxsPSJub25lIiBzdHJva2U9IiNmZmYiIHN0cm9rZS13aWR0aD0iMS41Ii8+PC9zdmc+";
+
 const CLUB = {
-  name: "Club to try", zone: ZONE,
+  name: "Club to try", zone: ZONE, contact: "Club house, Mondays from 16 to 18", logo: LOGO, closures: closures(),
   facilities: FACILITIES.map(([name, title, kind, , , opens, shuts, about]) => ({ name, title, kind, opens, shuts, about })),
 };
 
