@@ -1719,6 +1719,9 @@ def at_hand(passes, server):
               done(found.sort());
             })();""")
         base = page.address.rsplit("/", 1)[0]
+        manifest = page.command("Page.getAppManifest")
+        check(manifest["url"].endswith("/app.webmanifest") and not manifest["errors"] and json.loads(manifest["data"])["display"] == "standalone", "the manifest", manifest)
+        check(page.command("Page.getInstallabilityErrors")["installabilityErrors"] == [], "a page for the home screen", page.command("Page.getInstallabilityErrors"))
         check(kept == sorted(f"{base}/{name}" for name in ("book.html", "pass.html", "club.json", "app.webmanifest")), "what the worker keeps", kept)
         stop_proxy(front)
         page.command("Network.enable")
@@ -1770,10 +1773,15 @@ def at_hand(passes, server):
 def tells_what_is_missing(passes, front):
     """The desk's count beside the list: a booking that was cancelled elsewhere, one that isn't listed; a reminder to take the list along."""
     key = "counts-1"
-    with BookingPage(front) as page:
+    asks = "globalThis.persistAsked = 0; navigator.storage.persist = async () => { persistAsked += 1; return true; }; navigator.storage.persisted = async () => false;"
+    with BookingPage(front, before=asks) as page:
         page.enter(passes[key], 35, "Keep it")
+        check(page.run("return persistAsked") == 0, "nothing is asked of the browser before there is a list")
         for place, guests in enumerate((0, 1, 0)):
             page.booked("court-2", 9 + place, guests)
+        check(page.run("return persistAsked") == 1, "the browser is asked once to keep the list", page.run("return persistAsked"))
+        page.view("bookings")
+        has(page.run("return shownText('list-kept')"), "what it promised", "This browser keeps the list until you clear it.")
         first = page.entries()
         page.view("bookings")
         page.when("state.account?.spent === 800", "the account")
@@ -1945,7 +1953,7 @@ def finds_a_time(page, passes):
     print("a time is found over a week of a kind, and the next free one; the last facility and hours are remembered")
 
 
-def does_more_with_bookings(page, passes):
+def does_more_with_bookings(page, passes, between):
     """Into the calendar, an invitation, the same a week later, and another hour or more guests."""
     page.enter(passes["browser-1"], 20)
     entry = page.booked("court-2", 10)
@@ -1997,6 +2005,17 @@ def does_more_with_bookings(page, passes):
     page.press("Book the new one for 400 points, cancel the old one")
     page.comes("Not changed: you still have the old booking.", "a change that isn't one")
     check(not amounts("browser-1")[moved["number"]][-2], "the old booking stays")
+    # The old one can't be cancelled any more: she has both, and is told so.
+    between.fates["DELETE"] = ['answer 409 {"fault":21,"text":"slot has begun"}']
+    more("Change", moved["number"])
+    page.run("byName('change-hour').value = '15'; byName('change-guests').value = '0'")
+    page.press("Look up")
+    page.when("dialogText().includes('cancel the old one')", "another hour")
+    page.press("Book the new one for 200 points, cancel the old one")
+    page.comes("You have both bookings: the old one wasn't cancelled.", "a change of which half fails")
+    both = page.entries()[-1]
+    check([amounts("browser-1")[each["number"]][-2] for each in (moved, both)] == [0, 0], "both are in the file")
+    page.cancelled(both["number"], "the new one")
     more("Change", moved["number"])
     page.press("Look up")
     check("That is what you have." in page.run("return dialogText()"), "no change")
@@ -2079,7 +2098,16 @@ def club_to_try():
         check(page.run("return byName('lend-address').value").startswith(f"{address}#"), "a link", page.run("return byName('lend-address').value"))
         check(page.run("return Object.keys(localStorage).every((name) => name.startsWith('demo ') || name === 'club to try')"), "names of its own")
         page.sent_nothing(address)
-    print("the club to try books, cancels and lends, and loads and sends nothing")
+    # The page of a club that is opened from a folder says what it is, and leads there.
+    shutil.copy(f"{TOP}/web/book.html", "book.html")
+    with Browser() as page:
+        page.open(pathlib.Path("book.html").absolute().as_uri())
+        time.sleep(1)
+        has(page.run("return document.getElementById('notices').innerText"), "a page from a folder", "You opened this page from a folder.", "A club to try")
+        page.driver.find_element("link text", "A club to try").click()
+        page.driver.switch_to.window(page.driver.window_handles[-1])
+        check(page.driver.current_url.endswith("/demo.html"), "where it leads", page.driver.current_url)
+    print("the club to try books, cancels and lends, and loads and sends nothing; a page from a folder leads there")
 
 
 def large_letters(passes, front):
@@ -2156,6 +2184,8 @@ def other_engines(passes, server):
         engine.press("Close", "dialog")
         keep(f"{engine.name}-day.png", base64.b64encode(engine.picture()))
         check([rest[:4] for rest in amounts(key).values()] == [("court-1", wanted, 10, 1)], engine.name, "the file", amounts(key))
+        others = engine.run("return performance.getEntriesByType('resource').map((each) => each.name).filter((each) => !each.startsWith(location.origin) && !each.startsWith('data:'))")
+        check(not others, engine.name, "the page asks for", others)
         # A time is found, over a week of a kind.
         engine.tap("//button[@id='to-find']")
         engine.when("shown('find-looked').includes(':')", "a week")
@@ -2423,7 +2453,7 @@ def main():
     one_browser((refusals_say_what_to_do, passes, between),)
     one_browser((looks_six_at_a_time, passes, between), (swipes, passes), (looks_again, passes), (moves_little, passes))
     for step, *words in [(survives_failures, passes, between), (pages_end, passes, between, server), (tabs_send_nothing_twice, passes, between, server),
-                         (lists_send_nothing, passes, server), (nothing_by_itself, passes, between, server), (keeps_each_pass, passes), (finds_a_time, passes), (does_more_with_bookings, passes), (shows_the_club, passes),
+                         (lists_send_nothing, passes, server), (nothing_by_itself, passes, between, server), (keeps_each_pass, passes), (finds_a_time, passes), (does_more_with_bookings, passes, between), (shows_the_club, passes),
                          (goes_by_keyboard, passes), (odd_passes, passes), (odd_clubs, passes), (offline, passes)]:
         one_browser((step, *words))
     for step, *words in [(letters,), (writes_before_it_sends, front), (lists_what_is_past, front), (browser_ends, front, between),

@@ -88,6 +88,8 @@ PLANTS = {
     "page_books:keeps-one-pass": ("web/src/keeping.mjs", "JSON.stringify([{ text, name }, ...others])", "JSON.stringify([{ text, name }])", "both are kept", ".", "keeps_each_pass"),
     "page_books:a-flood-slows-others": ("deploy/nginx.conf", "$http_authorization zone=", "$server_name zone=", "another pass beside it", ".", "days_at_once"),
     "page_books:spends-from-nothing": ("web/src/lend.mjs", "spend <= ${Math.min(spent + points, MOST_SPENT)}", "spend <= ${Math.min(points, MOST_SPENT)}", "a second loan", ".", "lends"),
+    "page_books:a-reason-for-all-day": ("web/src/club.mjs", "each.from <= hour && hour < each.until)", "each.from <= hour)", "the day", ".", "says_why_it_is_closed"),
+    "page_books:any-address": ("deploy/nginx.conf", "connect-src https://$http_host/club.json; ", "", "what the page that narrows can ask for", ".", "shows_the_club"),
     "page_books:shows-refused-buttons": ("web/src/points.mjs", "{ guests, owed: owedFor(view, guests) }", "{ guests }", "no more guests than its points allow", ".", "lends"),
     "page_books:worker-keeps-old-pages": ("web/src/worker.js", "names.filter((name) => name !== CACHE)", "names.filter((name) => name === null)", "the new worker's pages alone", ".", "at_hand"),
     "page_books:counts-nothing": ("web/src/record.mjs", "if (points < 0) return", "if (points !== 0) return", "a booking that was cancelled elsewhere", ".", "tells_what_is_missing"),

@@ -5,7 +5,7 @@ import { mkdtempSync, readdirSync, readFileSync, rmSync, writeFileSync } from "n
 import { tmpdir } from "node:os";
 import { join } from "node:path";
 import { test } from "node:test";
-import { facilityOf, hoursOf, readClub, titleOf } from "../src/club.mjs";
+import { facilityOf, hoursOf, readClub, titleOf, whyClosed } from "../src/club.mjs";
 import { daysLater, isDate, isZone, minutesOf, momentIn, startOf, weekdayOf } from "../src/dates.mjs";
 import { qrRows } from "../src/qr.mjs";
 import { dateText, grouped, languageFor, listed, say, shortDayText } from "../src/words.mjs";
@@ -30,6 +30,13 @@ test("all faults of the desk have a sentence", () => {
   for (let fault = 1; fault <= 22; fault += 1) {
     const keys = fault === 13 ? ["fault-13-book", "fault-13-cancel"] : [`fault-${fault}`];
     for (const table of Object.values(TABLES)) for (const key of keys) assert.match(table[key], /[.}]$/);
+  }
+});
+
+test("a pass is called a pass", () => {
+  for (const [key, sentence] of Object.values(TABLES).flatMap(Object.entries)) {
+    const words = [sentence].flat().join(" ").replaceAll(/\{[a-z]+\}/g, "");
+    assert.doesNotMatch(words, /\b(?:keys?|macaroons?|tokens?|Schl\u00fcssel)\b/i, key);
   }
 });
 
@@ -58,6 +65,14 @@ test("the club's list", () => {
   assert.equal(titleOf(club, "court-1"), "Court 1");
   assert.equal(titleOf(club, "room-1"), "room-1");
   assert.equal(titleOf(null, "room-1"), "room-1");
+  const closure = { facility: "court-1", day: "2026-05-01", from: 18, until: 20, why: "Training" };
+  const oddOnes = [null, {}, { ...closure, day: "2026-02-30" }, { ...closure, until: 18 }, { ...closure, why: "" }, { ...closure, why: 7 }, { ...closure, facility: "Court" }, { ...closure, from: 24 }];
+  const closed = readClub({ zone: "Europe/Berlin", facilities: [court], closures: [...oddOnes, closure] });
+  assert.deepEqual(closed.closures, [closure]);
+  const why = (hour, day = "2026-05-01", facility = "court-1") => whyClosed(closed, { facility, day, hour });
+  assert.deepEqual([17, 18, 19, 20].map((hour) => why(hour)), ["", "Training", "Training", ""]);
+  assert.deepEqual([why(18, "2026-05-02"), why(18, "2026-05-01", "room-1"), whyClosed(null, closure), whyClosed(club, closure)], ["", "", "", ""]);
+  for (const closures of [null, {}, "x", 7]) assert.deepEqual(readClub({ zone: "Europe/Berlin", facilities: [court], closures }).closures, []);
   assert.equal(facilityOf(club, "court-2"), null);
   assert.deepEqual(hoursOf({ opens: 8, shuts: 10 }), [8, 9]);
   const odd = [null, 7, [], {}, { zone: "Europe/Berlin" }, { zone: "Nowhere", facilities: [] }, { zone: "UTC", facilities: [null] },
