@@ -453,14 +453,15 @@ def day_says_what_is(page, passes):
     print("closed, full, over, not yet; nothing to press out of the 60 days")
 
 
-def says_why_it_is_closed(page, passes):
-    """Why the office closed a slot: in the day, its detail, beside a booking that stands, and where a booking meets it. Only the desk knows
-    whether it is closed."""
+def says_why_it_is_closed(page, passes, server):
+    """Why the office closed a slot: in the day, its detail, beside a booking that it cancelled for it, and where a booking meets it. Only the
+    desk knows whether it is closed."""
     good, wanted = pathlib.Path("www/club.json").read_text(), day(25)
     number = (datetime.strptime(wanted, "%Y-%m-%d") - datetime(1970, 1, 1)).days
     page.enter(passes["lists-1"], 25)
     own = page.booked("court-3", 9)
-    for hour in ("9", "10", "12"):
+    cancel_by_office(server, own, "lists-1", "amy")
+    for hour in ("09", "10", "12"):
         office("close-slot", "court-3", wanted, hour)
     pathlib.Path("club-reasons").write_text(json.dumps([{"facility": "court-3", "day": number, "from": 9, "until": 12, "why": "Training der Jugend"}]))
     listed = json.loads(club_list("court-3 Court 3 (indoor)\n"))
@@ -478,7 +479,7 @@ def says_why_it_is_closed(page, passes):
     page.run("byName('dialog').querySelector('.main').click()")
     check(page.run("return document.activeElement === cellAt('court-3', 10).button"), "the slot has the focus again")
     page.offer("court-3", 9)
-    has(page.run("return dialogText()"), "her own slot", "The office closed this slot: Training der Jugend", "Your booking is still there.", "Cancel the booking")
+    has(page.run("return dialogText()"), "her own slot", "The office closed this slot: Training der Jugend", "So it cancelled your booking.", "Cancel the booking")
     page.press("Back")
     page.view("bookings")
     page.when("byName('to-come').innerText.includes('The office closed this slot: Training der Jugend')", "beside the booking")
@@ -489,7 +490,8 @@ def says_why_it_is_closed(page, passes):
     pathlib.Path("club-reasons").unlink()
     pathlib.Path("www/club.json").write_text(good)
     page.cancelled(own["number"], "her own")
-    print("a closed slot says why, in the day, its detail, beside a booking and where a booking meets it")
+    check(page.entries()[0]["cancel"] == {"booking": f"lists-1/{own['number']}", "refund": 300}, "what came back", page.entries())
+    print("a closed slot says why, in the day, its detail, beside a booking that was cancelled for it, and where a booking meets it")
 
 
 def looks_six_at_a_time(page, passes, between):
@@ -1372,6 +1374,20 @@ def devices(passes, front, server):
     print("the record goes to other browsers by text, by QR code and from the office; number and slot suffice to cancel")
 
 
+def cancel_by_office(server, entry, key, member):
+    """What deploy/office makes of the file, as a booking is cancelled with all of its points."""
+    server.kill()
+    with contextlib.closing(sqlite3.connect("club")) as club:
+        club.executescript(f"""
+            BEGIN IMMEDIATE;
+            UPDATE members SET used = used - {entry['book']['charge']} WHERE name = '{member}';
+            UPDATE slots SET taken = taken - {entry['guests'] + 1} WHERE facility = '{entry['facility']}' AND day = strftime('%s', '{entry['day']}') / 86400
+                AND hour = {entry['hour']};
+            UPDATE bookings SET cancelled = 1, refund = charge WHERE pass_key = '{key}' AND number = {entry['number']};
+            COMMIT;""")
+    server.start()
+
+
 def cancelled_by_the_office(passes, front, server):
     with BookingPage(front) as page:
         page.enter(passes["bob-2"], 14)
@@ -1379,15 +1395,7 @@ def cancelled_by_the_office(passes, front, server):
         page.view("bookings")
         page.when("byName('to-come').innerText.includes('Booked')", "a booking")
         check("may have cancelled" not in page.run("return byName('to-come').innerText"), "no mark yet")
-        server.kill()
-        with contextlib.closing(sqlite3.connect("club")) as club:
-            club.executescript(f"""
-                BEGIN IMMEDIATE;
-                UPDATE members SET used = used - {entry['book']['charge']} WHERE name = 'bob';
-                UPDATE slots SET taken = taken - 2 WHERE facility = 'boat-2' AND day = strftime('%s', '{day(14)}') / 86400 AND hour = 9;
-                UPDATE bookings SET cancelled = 1, refund = charge WHERE pass_key = 'bob-2' AND number = {entry['number']};
-                COMMIT;""")
-        server.start()
+        cancel_by_office(server, entry, "bob-2", "bob")
         page.view("day")
         page.view("bookings")
         page.when("byName('to-come').innerText.includes('The office may have cancelled this.')", "a booking that the office cancelled")
@@ -2449,7 +2457,7 @@ def main():
             complaints = page.complaints()
             check(not complaints, "the console says", complaints)
 
-    one_browser((books_and_cancels, passes), (day_says_what_is, passes), (says_why_it_is_closed, passes), (leaves_out_what_the_pass_denies, passes))
+    one_browser((books_and_cancels, passes), (day_says_what_is, passes), (says_why_it_is_closed, passes, server), (leaves_out_what_the_pass_denies, passes))
     one_browser((refusals_say_what_to_do, passes, between),)
     one_browser((looks_six_at_a_time, passes, between), (swipes, passes), (looks_again, passes), (moves_little, passes))
     for step, *words in [(survives_failures, passes, between), (pages_end, passes, between, server), (tabs_send_nothing_twice, passes, between, server),

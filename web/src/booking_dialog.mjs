@@ -31,7 +31,7 @@ function closedText(slot) {
   return why === "" ? say("closed") : say("closed-why", { why });
 }
 
-// What is said beside a booking of a slot that was closed since.
+// What is said beside a booking of a slot that was closed since: the desk closes no slot that is in use.
 export function closedOwn(slot) {
   return element("p", "note", element("strong", "", closedText(slot)), " ", say("closed-own"));
 }
@@ -72,7 +72,7 @@ function offerSecond(slot, view, mine, title, whenDone) {
   const isToCancel = mine.length === 1 && stateOf(mine[0]) === "booked" && denial("cancel", slot) === 0;
   const hasRoom = view === null || (!view.closed && view.taken < view.places);
   openDialog(say("second-title"), [
-    element("p", "slot-time", slotText(slot)), element("p", "", words), ...(view?.closed ? [closedOwn(slot)] : []),
+    element("p", "slot-time", slotText(slot)), view?.closed ? closedOwn(slot) : element("p", "", words),
     element("div", "buttons",
       button("main", say("back"), closeDialog),
       ...(isToCancel ? [button("danger", say("cancel-yes"), () => offerCancellation(mine[0], whenDone))] : []),

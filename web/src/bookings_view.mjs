@@ -87,12 +87,12 @@ function listedText({ guests, listed }) {
 }
 
 function markOf(entry) {
+  if (isLive(entry) && state.closed.has(slotName(entry))) return [closedOwn(entry)];
   const notes = [];
   if (isLost(entry)) notes.push(stateOf(entry) === "listed" ? ["listed-gone-title", "listed-gone"] : ["maybe-gone-title", "maybe-gone"]);
   else if (doubtful.has(entry.number) && entry.key === state.key && isLive(entry)) notes.push(["elsewhere-title", "elsewhere"]);
   else if (entry.listed?.refund !== undefined || entry.saidCancelled) notes.push(["listed-cancel-title", "listed-cancel"]);
-  const marks = notes.map(([title, words]) => element("p", "note", element("strong", "", say(title)), " ", say(words)));
-  return isLive(entry) && state.closed.has(slotName(entry)) ? [...marks, closedOwn(entry)] : marks;
+  return notes.map(([title, words]) => element("p", "note", element("strong", "", say(title)), " ", say(words)));
 }
 
 function whatCanBeDone(entry, whenDone) {
