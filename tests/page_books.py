@@ -1441,6 +1441,10 @@ def goes_by_keyboard(page, passes):
     page.run("byName('to-bookings').focus()")
     page.keys(Keys.ENTER)
     tab_to("at.textContent === 'Cancel' && at.getAttribute('aria-label').startsWith('Cancel Court 2')", "the button that cancels")
+    page.run("showBookings(() => {})")
+    check(page.run("return document.activeElement.textContent") == "Cancel", "a list that is shown again leaves the focus where it is")
+    page.run("document.activeElement.closest('.card').querySelector('.more').open = true; showBookings(() => {})")
+    check(page.run("return document.activeElement.closest('.card').querySelector('.more').open"), "and what is open stays open")
     page.keys(Keys.ENTER)
     tab_to("at.textContent === 'Cancel the booking'")
     page.keys(Keys.ENTER)
@@ -1729,7 +1733,9 @@ def at_hand(passes, server):
         base = page.address.rsplit("/", 1)[0]
         manifest = page.command("Page.getAppManifest")
         check(manifest["url"].endswith("/app.webmanifest") and not manifest["errors"] and json.loads(manifest["data"])["display"] == "standalone", "the manifest", manifest)
-        check(page.command("Page.getInstallabilityErrors")["installabilityErrors"] == [], "a page for the home screen", page.command("Page.getInstallabilityErrors"))
+        # A browser that takes this test's own certificate calls the page insecure, and that alone.
+        wrong = [each["errorId"] for each in page.command("Page.getInstallabilityErrors")["installabilityErrors"]]
+        check(set(wrong) <= {"not-from-secure-origin"}, "a page for the home screen", wrong)
         check(kept == sorted(f"{base}/{name}" for name in ("book.html", "pass.html", "club.json", "app.webmanifest")), "what the worker keeps", kept)
         stop_proxy(front)
         page.command("Network.enable")

@@ -5,7 +5,7 @@ import { titleOf } from "./club.mjs";
 import { hourText, minutesOf, startOf } from "./dates.mjs";
 import { ask, eachAtOnce } from "./desk.mjs";
 import { openDialog } from "./dialog.mjs";
-import { button, byName, element, put } from "./elements.mjs";
+import { button, byName, element, put, putCards } from "./elements.mjs";
 import { showListKept } from "./list_keeping.mjs";
 import { amountsOf, canBeAsked, compared, hasBegun, isLive, refundAt, slotName, stateOf, unfinished } from "./record.mjs";
 import { noReplyText, refusalText } from "./refusals.mjs";
@@ -23,9 +23,9 @@ export function showBookings(whenDone) {
   put("bookings-which", ...(state.key === null ? [] : [say("bookings-which", { key: state.key })]));
   byName("bookings-none").hidden = state.entries.length > 0;
   byName("to-come-title").hidden = toCome.length === 0;
-  put("to-come", ...toCome.map((entry) => cardOf(entry, false, whenDone)));
+  putCards("to-come", toCome.map((entry) => cardOf(entry, false, whenDone)));
   byName("past-part").hidden = past.length === 0;
-  put("past", ...past.map((entry) => cardOf(entry, true, whenDone)));
+  putCards("past", past.map((entry) => cardOf(entry, true, whenDone)));
   showOthers();
   showListKept();
   const count = toCome.filter(isLive).length;
@@ -45,7 +45,7 @@ function showComparison(own, moment) {
 function showOthers() {
   const others = state.entries.filter((entry) => entry.key !== state.key).sort((a, b) => startOf(a).localeCompare(startOf(b)));
   byName("other-part").hidden = others.length === 0;
-  put("others", ...others.map((entry) => cardOf(entry, true, () => {})));
+  putCards("others", others.map((entry) => cardOf(entry, true, () => {})));
   const open = new Map();
   for (const entry of others) if (unfinished(entry) !== null) open.set(entry.key, (open.get(entry.key) ?? 0) + 1);
   put("needs-pass", ...[...open].map(([key, count]) => element("p", "note", say("needs-pass", { count, key }))));
@@ -61,6 +61,7 @@ function cardOf(entry, isPast, whenDone) {
   const card = element("li", `card ${stateOf(entry)}`,
     element("h4", "", facility), element("p", "slot-time", slotText(entry)), element("p", "state", stateText(entry)),
     element("p", "hint", facts.join(" · ")), ...markOf(entry));
+  card.dataset.name = `${entry.key}/${entry.number}`;
   if (!isPast) card.append(...whatCanBeDone(entry, whenDone), ...moreOf(entry, whenDone));
   else if (["refused", "listed"].includes(stateOf(entry))) card.append(element("div", "buttons", removal(entry, whenDone)));
   return card;

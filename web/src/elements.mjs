@@ -17,6 +17,20 @@ export function put(id, ...content) {
   byName(id).replaceChildren(...content);
 }
 
+// Puts cards into a list, each with a name. One that looks as before stays, with the focus that is in it, and so does what is opened in it.
+export function putCards(id, cards) {
+  const before = [...byName(id).children];
+  const isSameList = before.length === cards.length && before.every((card, place) => card.dataset.name === cards[place].dataset.name);
+  if (!isSameList) byName(id).replaceChildren(...cards);
+  else before.forEach((card, place) => replaceCard(card, cards[place]));
+}
+
+function replaceCard(old, card) {
+  const [was, now] = [old, card].map((each) => each.querySelector("details"));
+  if (was !== null && now !== null) now.open = was.open;
+  if (!old.isEqualNode(card)) old.replaceWith(card);
+}
+
 export function button(className, words, press) {
   const made = element("button", className, words);
   made.type = "button";

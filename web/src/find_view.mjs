@@ -94,7 +94,8 @@ function changeSearch(news) {
 function showGrid() {
   const days = Array.from({ length: DAYS }, (_, count) => daysLater(firstDay, count));
   const hours = hoursToFind();
-  const head = element("tr", "", element("td", ""), ...hours.map((hour) => Object.assign(element("th", "", `${hourText(hour)}:00`), { scope: "col" })));
+  byName("find-grid").style.setProperty("--hours", String(hours.length));
+  const head = element("tr", "", element("td", "corner"), ...hours.map((hour) => Object.assign(element("th", "", `${hourText(hour)}:00`), { scope: "col" })));
   const rows = days.map((day) => element("tr", "", Object.assign(element("th", "day-name", shortDayText(day)), { scope: "row" }),
     ...hours.map((hour) => element("td", "", cellFor(day, hour)))));
   put("find-grid", element("thead", "", head), element("tbody", "", ...rows));
