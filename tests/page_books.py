@@ -490,7 +490,8 @@ def says_why_it_is_closed(page, passes, server):
     pathlib.Path("club-reasons").unlink()
     pathlib.Path("www/club.json").write_text(good)
     page.cancelled(own["number"], "her own")
-    check(page.entries()[0]["cancel"] == {"booking": f"lists-1/{own['number']}", "refund": 300}, "what came back", page.entries())
+    back = next(each["cancel"] for each in page.entries() if each["number"] == own["number"])
+    check(back == {"booking": f"lists-1/{own['number']}", "refund": 300}, "what came back", back)
     print("a closed slot says why, in the day, its detail, beside a booking that was cancelled for it, and where a booking meets it")
 
 

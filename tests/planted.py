@@ -106,6 +106,7 @@ PLANTS = {
     "setup_holds": ("deploy/clubdesk-setup", "SITE=https://{domain}", "SITE=http://{domain}", "the configuration has SITE=https"),
     "small_desk": ("web/src/small_desk.mjs", "Math.floor(booking.charge / 2)", "Math.ceil(booking.charge / 2)", "assert one == other"),
     "slow_clients": ("clubdesk", BY_HAND, 'exec "$PROGRAM" $(echo "$@" | sed "s/--patience 2/--patience 6/")', "test_client_behind_one_that_dawdles[silent]"),
+    "spares_hold": ("deploy/club_office/spares.py", "range(1, count + 1)", "range(1, count)", "keys of an import"),
     "tables_by_sqlite3": ("clubdesk", "quota BETWEEN 0 AND 99)", "quota BETWEEN 0 AND 98)", "test_limit[members quota 0 99]"),
     "vectors": ("docs/vectors.json", '\\"left\\":1}', '\\"left\\":2}', "test_replies_of_a_run"),
     "year-quick": ("clubdesk", "quota reached", "quota reachex", "quota reachex"),
