@@ -2138,10 +2138,7 @@ def large_letters(passes, front):
             }.items():
                 show()
                 time.sleep(0.4)
-                across = page.run("return document.documentElement.scrollWidth")
-                check(across <= 360, "sideways scrolling with large letters", name, language, across)
-                cut = page.run(CUT_OFF)
-                check(not cut, "words that are cut off", name, language, cut)
+                page.cuts_nothing_off(360, name, language)
                 wide = page.run(TOO_WIDE)
                 check(not wide, "slots that are wider than their place", name, language, wide)
                 page.is_audited(name, language)
@@ -2154,11 +2151,6 @@ return [...document.querySelectorAll("button.slot, .slot span, .slot small")].fi
   && (each.scrollWidth > each.clientWidth + 1 && each.tagName === "BUTTON" || each.getBoundingClientRect().right > each.closest(".slot").getBoundingClientRect().right + 1
     || each.getBoundingClientRect().right > innerWidth)).map((each) => each.outerHTML.slice(0, 100));
 """
-CUT_OFF = """
-return [...document.querySelectorAll("button, h1, h2, h3, label, p, .choice, td, th")].filter((each) => each.checkVisibility()
-  && each.closest("#facility-choice, .table-room") === null && each.getBoundingClientRect().right > innerWidth + 1).map((each) => each.outerHTML.slice(0, 100));
-"""
-
 
 DAY_THERE = "document.getElementById('progress').hidden && shown('looked').includes(':')"
 

@@ -110,6 +110,13 @@ class Browser:
         found = self.run(AUDIT)
         check(not found, "what an audit finds", *what, *found)
 
+    def cuts_nothing_off(self, width, *what):
+        """No word is beyond the edge, and nothing scrolls sideways but what is made to."""
+        across = self.run("return document.documentElement.scrollWidth")
+        check(across <= width, "sideways scrolling", *what, across)
+        cut = self.run(CUT_OFF)
+        check(not cut, "words that are cut off", *what, *cut)
+
     def focus_is_seen(self, *what):
         """But for the focus in a date, of which the browser marks a part."""
         outline = self.run("""const style = getComputedStyle(document.activeElement);
@@ -216,6 +223,10 @@ const viewport = document.querySelector("meta[name=viewport]")?.content ?? "";
 if (/user-scalable\\s*=\\s*(no|0)|maximum-scale/.test(viewport)) found.push(`meta-viewport: ${viewport}`);
 if (document.title.trim() === "" || document.documentElement.lang === "") found.push("document-title, html-has-lang");
 return found;
+"""
+CUT_OFF = """
+return [...document.querySelectorAll("button, h1, h2, h3, label, legend, p, dd, code, .choice, td, th")].filter((each) => each.checkVisibility()
+  && each.closest("#facility-choice, .table-room") === null && each.getBoundingClientRect().right > innerWidth + 1).map((each) => each.outerHTML.slice(0, 100));
 """
 SMALL_TARGETS = """
 return [...document.querySelectorAll("button, select, textarea, input:not([type=radio]):not([type=checkbox]), .options label")]

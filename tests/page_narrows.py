@@ -881,6 +881,20 @@ def looks_right(page):
     print(f"{texts} texts with a contrast of at least 4.5, names for screen readers, no sideways scrolling from 360 pixels on")
 
 
+def large_letters():
+    """Twice the browser's letters at 360 pixels, with all that can stand in the page, in both languages."""
+    for language in ("en-US", "de-DE"):
+        with NarrowingPage(letters=32, language=language) as page:
+            page.sees(360, "light", 740)
+            for name, show in {"empty": page.visit, "narrowed": lambda: (page.visit(AMY), page.narrow(AMY, *fields_of(*NINE_LINES))),
+                               "faulty": lambda: (page.narrow(AMY, ("guests", "x"), ("facility", "É"), ("until", "1999-01-01T00:00")), page.run("enter('{')"))}.items():
+                show()
+                page.cuts_nothing_off(360, name, language)
+                page.is_audited(name, language)
+                keep(f"pass-large-{name}-{language[:2]}.png", page.picture())
+    print("with twice the letters at 360 pixels nothing is cut off; an audit finds nothing")
+
+
 def main():
     policy_holds(PAGE, {"connect-src": "'self'"}, "localStorage|sendBeacon")
     asks = re.findall(r"fetch\(([^,)]*)", PAGE.read_text(encoding="utf-8"))
@@ -893,6 +907,7 @@ def main():
             holds(page)
         page.sent_nothing(PAGE.as_uri())
         looks_right(page)
+    large_letters()
     shares()
     only_shows_where_it_cannot_sign()
     other_engines()
