@@ -1507,8 +1507,19 @@ def keep(name, picture):
     pathlib.Path(PICTURES, name).write_bytes(base64.b64decode(picture))
 
 
+LOGO = ('<svg xmlns="http://www.w3.org/2000/svg" viewBox="0 0 20 20"><circle cx="10" cy="10" r="9" fill="#c8d94a"/>'
+        '<path d="M3 5a9 9 0 010 10M17 5a9 9 0 000 10" fill="none" stroke="#fff" stroke-width="1.5"/></svg>')
+
+
 def on_three_phones(passes, front):
     """A day, a booking and my bookings side by side, as README shows them, and a day in three widths, as docs/BOOKING.md does."""
+    good = pathlib.Path("www/club.json").read_text()
+    club = {**json.loads(good), "contact": "Tel. 030 1234", "closures": [{"facility": "court-1", "day": day(27), "from": 13, "until": 15, "why": "Youth training"}],
+            "logo": f"data:image/svg+xml;base64,{base64.b64encode(LOGO.encode()).decode()}"}
+    club["facilities"][0]["about"] = "Clay: flat soles, please."
+    pathlib.Path("www/club.json").write_text(json.dumps(club))
+    for hour in ("13", "14"):
+        office("close-slot", "court-1", day(27), hour)
     with BookingPage(front) as page:
         page.sees(360, "light", 740)
         page.enter(passes["carol-1"], 27, "Not here")
@@ -1533,13 +1544,14 @@ def on_three_phones(passes, front):
         page.run("return state.sender.cancel(arguments[0], arguments[1])", entry["key"], entry["number"])
         page.run("return state.sender.run()")
         keep("booking-page.png", page.side_by_side(stripes, 1120, 740))
-        page.enter(passes["carol-1"], 27)
+        page.enter(passes["carol-1"], 27, "Not here")
         widths = []
         for width, height in [(360, 740), (768, 900), (1280, 900)]:
             page.sees(width, "light", height)
             time.sleep(0.5)
             widths.append(page.command("Page.captureScreenshot")["data"])
         keep("booking-widths.png", page.side_by_side(widths, 1283, 450))
+    pathlib.Path("www/club.json").write_text(good)
     print("pictures of a day, a booking and my bookings, and of a day on a telephone, a tablet and a computer")
 
 
@@ -1914,7 +1926,7 @@ def days_at_once(passes, server):
     check(flooded["429"] > 500, "a flood that isn't limited", flooded)
     check(all(set(statuses) == {"200"} for statuses, _ in beside), "another pass beside it", beside)
     check(min(seconds for _, seconds in beside) < max(most, 3 * alone), "how long its day takes", beside, alone, is_flooding, os.getloadavg())
-    judged = "" if most == MOST_SECONDS else f"; not judged by {MOST_SECONDS} s, as the machine has a load of {os.getloadavg()[0]:.0f}"
+    judged = "" if max(min(took), slowest) < MOST_SECONDS else f"; not judged by {MOST_SECONDS} s, as the machine has a load of {os.getloadavg()[0]:.0f}"
     print(f"a day in {min(took):.2f} to {max(took):.2f} s{judged}, ten members' at one address in {slowest:.2f}, none limited; beside a flood of a pass, of which {flooded['429']} are, "
           f"another's in {min(seconds for _, seconds in beside):.2f}")
 
