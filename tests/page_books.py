@@ -1376,7 +1376,7 @@ def devices(passes, front, server):
 
 
 def cancel_by_office(server, entry, key, member):
-    """What deploy/office makes of the file, as a booking is cancelled with all of its points."""
+    """Changes the file as deploy/office does to cancel a booking with all of its points."""
     server.kill()
     with contextlib.closing(sqlite3.connect("club")) as club:
         club.executescript(f"""
@@ -2244,7 +2244,7 @@ def other_engines(passes, server):
         engine.when("shown('dialog').includes('400 points came back')", "a cancellation")
         keep(f"{engine.name}-cancelled.png", base64.b64encode(engine.picture()))
         engine.press("Close", "dialog")
-        # What was lent, beside her own pass.
+        # The lent part, beside her own pass.
         engine.open(lent)
         engine.when(f"{DAY_THERE} && shown('pass-says').includes('0 of 600 points')", "what was lent")
         engine.press("Keep it", "notices")
@@ -2253,7 +2253,7 @@ def other_engines(passes, server):
         check(engine.run("return [...document.querySelectorAll('#facility-choice button')].every((each) => each.textContent.startsWith('Court'))"), engine.name, "courts alone")
         engine.run("const who = document.getElementById('who'); who.value = arguments[0]; who.dispatchEvent(new Event('change'))", passes[key])
         engine.when("document.querySelectorAll('#facility-choice button').length === 6", "her own pass again")
-        # What a pass leaves out, and one that has ended.
+        # A pass that only looks, and one that has ended.
         engine.open(f"{address}#{narrowed(passes[key], 'actions = view')}")
         engine.when(f"{DAY_THERE} && [...document.querySelectorAll('#slots button')].every((each) => each.disabled)", "a pass that looks")
         engine.open(f"{address}#{narrowed(passes[key], f'until < {day(0)}T00:00')}")

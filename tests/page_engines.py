@@ -1,5 +1,5 @@
-"""Three browsers that are driven alike, for what the pages have to do in each: chromium, Debian's firefox-esr by its Marionette, and
-WebKitGTK's MiniBrowser by its driver, which wants a display.
+"""Drives three browsers alike: chromium, Debian's firefox-esr by its Marionette, and WebKitGTK's MiniBrowser by its driver, which wants a
+display.
 
 Read by page_narrows.py and page_books.py. Wants Debian's chromium-driver, firefox-esr, webkit2gtk-driver, xvfb and python3-selenium."""
 import base64
@@ -28,7 +28,7 @@ WIDTH, HEIGHT = 400, 820
 
 
 class Engine:
-    """What scripts do in each browser: they open an address, run a script beside the page's, and press what a person would."""
+    """One way to drive each browser: open an address, run a script in the page, press a button."""
 
     helpers = ""  # functions for the scripts
     name = host = ""
@@ -50,7 +50,7 @@ class Engine:
             time.sleep(0.1)
 
     def code(self, place):
-        """What the QR code in an element says, read off the screen."""
+        """Reads the QR code in an element off the screen."""
         self.run("document.getElementById(arguments[0]).scrollIntoView({ block: 'center' })", place)
         with tempfile.NamedTemporaryFile(suffix=".png") as file:
             for _ in range(20):
@@ -62,7 +62,7 @@ class Engine:
         return ""
 
     def press(self, words, root):
-        """Presses the button with these words in an element, where it is to be seen."""
+        """Presses the button with these words in an element."""
         self.tap(f"//*[@id='{root}']//button[normalize-space()=\"{words}\" or @aria-label=\"{words}\"]")
 
     def press_in_card(self, words):

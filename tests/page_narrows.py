@@ -1,8 +1,7 @@
 #!/usr/bin/env -S /usr/bin/python3 -B
-"""`web/pass.html` in Debian's chromium: 1,000 passes that it narrows in V1, V2 and JSON are byte for byte those of `passtool narrow`; it
-reads 2,000 spoiled passes and 2,000 texts of caveats as `passtool` does, and says of each faulty text what is wrong; it is worked by
-keyboard alone, fits a phone, and sends nothing, and loads nothing but the club's list where a server has one. In short the same in Firefox and
-WebKitGTK.
+"""Drives `web/pass.html` in Debian's chromium, and its main ways also in Firefox and WebKitGTK. It narrows 1,000 passes in three forms byte for
+byte as `passtool narrow` does. It reads 2,000 spoiled passes and 2,000 texts of caveats as `passtool` does, and says what is wrong with
+each faulty one. It works by keyboard alone, fits a phone, and sends nothing. It loads nothing but the club's list, where a server has one.
 
 The formats are those of tests/reference:
 - texts that are no pass, those of the formats' examples and the spoiled ones: each has its own answer, the one that passtool has;
@@ -756,7 +755,7 @@ CLUB = {
 
 
 def of_a_club(engine, address):
-    """Logo, contact, links and facilities with their sentences, of which a press chooses one."""
+    """Logo, contact, links and facilities with their sentences; a press chooses one."""
     engine.open(f"{address}#{AMY}")
     engine.when("byId('club-contact').innerText !== ''", "the club")
     text = engine.run("return document.body.innerText")
@@ -808,7 +807,7 @@ def narrows_and_hands_on(engine, address):
 
 
 def other_engines():
-    """The main ways in each browser, with a club's list beside the page, of whose server two things are asked: the page and the list."""
+    """The main ways in each browser, with a club's list beside the page. The page asks the server for that list alone."""
     folder = pathlib.Path(ROOM.name, "club")
     folder.mkdir()
     shutil.copy(PAGE, folder)
@@ -882,7 +881,7 @@ def looks_right(page):
 
 
 def large_letters():
-    """Twice the browser's letters at 360 pixels, with all that can stand in the page, in both languages."""
+    """Twice the browser's letters at 360 pixels, with everything that the page can show, in both languages."""
     for language in ("en-US", "de-DE"):
         with NarrowingPage(letters=32, language=language) as page:
             page.sees(360, "light", 740)

@@ -31,7 +31,7 @@ function closedText(slot) {
   return why === "" ? say("closed") : say("closed-why", { why });
 }
 
-// What is said beside a booking of a slot that was closed since: the desk closes no slot that is in use.
+// A note for a booking of a slot that was closed since. The desk closes no slot that is in use.
 export function closedOwn(slot) {
   return element("p", "note", element("strong", "", closedText(slot)), " ", say("closed-own"));
 }

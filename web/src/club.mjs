@@ -34,8 +34,8 @@ function pictureOr(value) {
   return typeof value === "string" && value.length <= LONGEST_LOGO && /^data:image\/(?:png|jpeg|webp|svg\+xml);base64,[A-Za-z0-9+/=]+$/.test(value) ? value : "";
 }
 
-// The club of a value that was read as JSON, or null where it isn't one: its name, zone, and facilities with titles and a sentence; why the
-// office closed slots; whom to ask, its imprint and privacy pages, its logo. What isn't needed and isn't right counts as missing.
+// Reads a club from JSON, or returns null. It needs a zone and facilities; the rest counts as missing where it isn't right: titles and
+// sentences, reasons of closed slots, whom to ask, imprint and privacy pages, logo.
 export function readClub(value) {
   if (typeof value !== "object" || value === null || !isZone(value.zone) || !Array.isArray(value.facilities)) return null;
   if (!value.facilities.every(isFacility)) return null;

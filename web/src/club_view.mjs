@@ -1,4 +1,4 @@
-// What all pages show of the club: its logo, whom to ask, and links to its imprint and privacy page.
+// The club on all pages: its logo, whom to ask, and links to its imprint and privacy page.
 import { byName, element, put } from "./elements.mjs";
 import { say } from "./words.mjs";
 
