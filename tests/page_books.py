@@ -173,7 +173,7 @@ def make_club():
     for place, (key, member) in enumerate([("amy-1", "amy"), ("amy-phone", "amy"), ("bob-1", "bob"), ("bob-2", "bob"), ("hall-screen", "hall"),
                                            ("kill-1", "amy"), ("amy-son", "amy"), ("other", "amy"), ("carol-1", "carol"),
                                            ("fails-1", "amy"), ("ends-1", "amy"), ("tabs-1", "amy"), ("browser-1", "amy"), ("full-1", "amy"), ("lists-1", "amy"), ("amy-lend-1", "amy"), ("amy-lend-2", "amy"),
-                                           ("hand-1", "amy"), ("counts-1", "amy"), ("engine-1", "amy"), ("engine-2", "amy"),
+                                           ("hand-1", "amy"), ("counts-1", "amy"), ("engine-1", "amy"), ("engine-2", "amy"), ("more-1", "amy"),
                                            *((f"{key}{place}", "amy") for place in range(3) for key in ("minute-", "minute-lend-")), ("engine-lend-1", "amy"), ("engine-lend-2", "amy")]):
         passes[key] = office("add-key", key, member, f"{place:02x}" + ROOT)
     return passes
@@ -1985,7 +1985,7 @@ def finds_a_time(page, passes):
 
 def does_more_with_bookings(page, passes, between):
     """Into the calendar, an invitation, the same a week later, and another hour or more guests."""
-    page.enter(passes["browser-1"], 20)
+    page.enter(passes["more-1"], 20)
     entry = page.booked("court-2", 10)
     page.view("bookings")
 
@@ -2005,7 +2005,7 @@ def does_more_with_bookings(page, passes, between):
     page.when("dialogText().includes('sent')", "an invitation")
     text = page.run("return sharedIt.text")
     has(text, "what an invitation says", "Court 2", "10:00 to 11:00", "Rowing & tennis")
-    check(str(entry["number"]) not in text and passes["browser-1"] not in text, "and nothing else", text)
+    check(str(entry["number"]) not in text and passes["more-1"] not in text, "and nothing else", text)
     page.press("Close")
     more("Book again next week")
     page.when("dialogText().includes('Book for 200 points')", "the same a week later")
@@ -2021,7 +2021,7 @@ def does_more_with_bookings(page, passes, between):
     has(page.run("return dialogText()"), "what a change does", "12:00 to 13:00", "2 persons", "The old booking gives back 200 points", "you have both")
     page.press("Book the new one for 400 points, cancel the old one")
     page.comes("Changed. 200 points came back.", "a change")
-    found = amounts("browser-1")
+    found = amounts("more-1")
     check([found[entry["number"]][-2:], sorted(rest[:4] for rest in found.values() if not rest[-2])]
           == [(1, 200), [("court-2", day(20), 12, 1), ("court-2", day(27), 10, 0)]], "the file after a change", found)
     moved = next(each for each in page.entries() if each["hour"] == 12 and each["day"] == day(20))
@@ -2035,7 +2035,7 @@ def does_more_with_bookings(page, passes, between):
     page.when("dialogText().includes('cancel the old one')", "a full slot")
     page.press("Book the new one for 400 points, cancel the old one")
     page.comes("Not changed: you still have the old booking.", "a change that isn't one")
-    check(not amounts("browser-1")[moved["number"]][-2], "the old booking stays")
+    check(not amounts("more-1")[moved["number"]][-2], "the old booking stays")
     # The old one can't be cancelled any more: she has both, and is told so.
     between.fates["DELETE"] = ['answer 409 {"fault":21,"text":"slot has begun"}']
     more("Change", moved["number"])
@@ -2045,7 +2045,7 @@ def does_more_with_bookings(page, passes, between):
     page.press("Book the new one for 200 points, cancel the old one")
     page.comes("You have both bookings: the old one wasn't cancelled.", "a change of which half fails")
     both = page.entries()[-1]
-    check([amounts("browser-1")[each["number"]][-2] for each in (moved, both)] == [0, 0], "both are in the file")
+    check([amounts("more-1")[each["number"]][-2] for each in (moved, both)] == [0, 0], "both are in the file")
     page.cancelled(both["number"], "the new one")
     more("Change", moved["number"])
     page.press("Look up")
@@ -2055,7 +2055,7 @@ def does_more_with_bookings(page, passes, between):
     for each in (moved, later):
         page.cancelled(each["number"], "all of them")
     page.run("return Promise.all(ownEntries().filter((each) => stateOf(each) === 'refused').map((each) => state.store.remove(each.key, each.number)))")
-    same_record(page, "browser-1")
+    same_record(page, "more-1")
     print("a booking goes into a calendar, an invitation, the next week, to another hour with more guests; what fails leaves the old one")
 
 
