@@ -1,0 +1,102 @@
+-- The pass of an object after its bytes were written.
+use Rattle.std.proofs.Common.{◌≡◌, ℕ, ◌+◌, ◌≤◌, ◌<◌, suc, List, [], ◌∷◌, ◌++◌, length, take, drop, set, map, get_or, Vec, ap, sym, ◌∙◌, arith}
+use Rattle.std.specs.List.{sum}
+use Rattle.std.specs.Vec.{vec_items}
+use Rattle.std.proofs.Math.Seq.{take-suc-set}
+use Rattle.std.proofs.lemmas.Grind.{common_steps, take_at_read}
+use Rattle.std.proofs.lemmas.List.{length-drop, length-append, length-map, length-take}
+use Rattle.pass_forms.specs.Pass.{Plain}
+use Rattle.pass_c.specs.Object.{held, pieces_of, with_one_more}
+use Rattle.pass_c.specs.declared.object.Object.{Object}
+use Rattle.pass_c.proofs.PieceLemmas.{written, part_in, take_before, drop_before, one_more_piece}
+
+abbrev pub pass_of : List ℕ → List ℕ → List (List ℕ) → List ℕ → Plain
+pass_of location identifier caveats signature =
+    record { location = location; identifier = identifier; caveats = caveats; signature = signature }
+
+pub same_pass : (l l' i i' : List ℕ) (c c' : List (List ℕ)) (s : List ℕ) → l ≡ l' → i ≡ i' → c ≡ c' → pass_of l i c s ≡ pass_of l' i' c' s
+same_pass l l' i i' c c' s e f g =
+    ap (λ (x : List ℕ). pass_of x i c s) e ∙ ap (λ (x : List ℕ). pass_of l' x c s) f ∙ ap (λ (x : List (List ℕ)). pass_of l' i' x s) g
+
+-- a location, and an identifier after it
+pub started : (location identifier bytes : List ℕ) → length location + length identifier ≤ length bytes
+    → (take (length location) (written (length location) identifier (written 0 location bytes)) ≡ location)
+    × (take (length identifier) (drop (length location) (written (length location) identifier (written 0 location bytes))) ≡ identifier)
+started location identifier bytes low =
+    let first = written 0 location bytes in
+    let len : length location ≤ length first =
+    omega (arith, length-append location (drop (0 + length location) bytes), length-drop (0 + length location) bytes) in
+    let whole : length location + 0 ≡ length location = omega arith in (
+      (ap (λ (n : ℕ). take (length location) (written n identifier first)) (sym whole) ∙ take_before (length location) 0 identifier first (omega (arith, len)))
+          ∙ part_in 0 location bytes (omega arith),
+      part_in (length location) identifier first len,
+    )
+
+-- one more caveat after all others
+pub pushed : (ll il : ℕ) (lens part bytes : List ℕ) → ll + (il + sum lens) + length part ≤ length bytes
+    → (take ll (written (ll + (il + sum lens)) part bytes) ≡ take ll bytes)
+    × ((take il (drop ll (written (ll + (il + sum lens)) part bytes)) ≡ take il (drop ll bytes))
+    × (pieces_of (lens ++ length part ∷ []) (drop il (drop ll (written (ll + (il + sum lens)) part bytes)))
+    ≡ pieces_of lens (drop il (drop ll bytes)) ++ part ∷ []))
+pushed ll il lens part bytes low =
+    let here = drop_before ll (il + sum lens) part bytes (omega arith) in
+    let rest = drop ll bytes in
+    let len : il + sum lens + length part ≤ length rest = omega (arith, length-drop ll bytes) in
+    let there = drop_before il (sum lens) part rest (omega (arith, len)) in
+    let left : sum lens + length part ≤ length (drop il rest) = omega (arith, len, length-drop il rest) in (
+      take_before ll (il + sum lens) part bytes (omega arith),
+      (
+        ap (take il) here ∙ take_before il (sum lens) part rest (omega (arith, len)),
+        ap (λ (b : List ℕ). pieces_of (lens ++ length part ∷ []) (drop il b)) here ∙ ap (pieces_of (lens ++ length part ∷ [])) there
+            ∙ one_more_piece lens part (drop il rest) left,
+      ),
+    )
+
+-- an object of fewer than 64 caveats, after one more was written
+pub held_push : (o : Object) (part bytes : List ℕ) (count tot : ℕ) → count ≡ length (take o.caveat_count o.caveat_lens) → count < 64
+    → length o.caveat_lens ≡ 64 → length o.bytes ≡ 8192 → tot ≡ sum (take o.caveat_count o.caveat_lens)
+    → o.location_len + o.identifier_len + tot + length part ≤ 8192 → bytes ≡ written (o.location_len + o.identifier_len + tot) part o.bytes
+    → held (record o { caveat_count = count + 1; caveat_lens = set o.caveat_lens count (length part); bytes = bytes })
+    ≡ with_one_more part (held o)
+held_push o part bytes count tot counted few lens whole summed low is =
+    let as_many : count ≡ o.caveat_count = omega (arith, length-take o.caveat_count o.caveat_lens) in
+    let place : o.location_len + o.identifier_len + tot ≡ o.location_len + (o.identifier_len + sum (take o.caveat_count o.caveat_lens)) = omega arith in
+    let there = is ∙ ap (λ (n : ℕ). written n part o.bytes) place in
+    let all = pushed o.location_len o.identifier_len (take o.caveat_count o.caveat_lens) part o.bytes (omega (arith, place)) in
+    let next : count + 1 ≡ suc count = omega arith in
+    let more : take (count + 1) (set o.caveat_lens count (length part)) ≡ take o.caveat_count o.caveat_lens ++ length part ∷ [] =
+    ap (λ (n : ℕ). take n (set o.caveat_lens count (length part))) next
+    ∙ take-suc-set o.caveat_lens count (length part) (omega arith)
+    ∙ ap (λ (n : ℕ). take n o.caveat_lens ++ length part ∷ []) as_many in
+    same_pass _ _ _ _ _ _ o.signature (ap (take o.location_len) there ∙ all.0)
+    (ap (λ (b : List ℕ). take o.identifier_len (drop o.location_len b)) there ∙ all.1.0)
+    (ap (λ (ls : List ℕ). pieces_of ls (drop o.identifier_len (drop o.location_len bytes))) more
+    ∙ ap (λ (b : List ℕ). pieces_of (take o.caveat_count o.caveat_lens ++ length part ∷ []) (drop o.identifier_len (drop o.location_len b))) there
+    ∙ all.1.1)
+
+-- an object without caveats, after its location and its identifier were written
+pub held_start : (form count : ℕ) (location identifier lens signature old first bytes : List ℕ) → count ≡ 0 → length old ≡ 8192
+    → length location + length identifier ≤ 8192 → first ≡ written 0 location old → bytes ≡ written (length location) identifier first
+    → held (record {
+      form = form;
+      location_len = length location;
+      identifier_len = length identifier;
+      caveat_count = count;
+      caveat_lens = lens;
+      signature = signature;
+      bytes = bytes;
+    }) ≡ pass_of location identifier [] signature
+held_start form count location identifier lens signature old first bytes none whole low one two =
+    let both = started location identifier old (omega arith) in
+    let there = two ∙ ap (written (length location) identifier) one in
+    same_pass _ _ _ _ _ _ signature (ap (take (length location)) there ∙ both.0)
+    (ap (λ (b : List ℕ). take (length identifier) (drop (length location) b)) there ∙ both.1)
+    (ap (λ (n : ℕ). pieces_of (take n lens) (drop (length identifier) (drop (length location) bytes))) none)
+
+-- the caveats so far, and the next one
+pub next_caveat : {Z : Type 0} (vs : List (Vec ℕ Z)) (caveats : List (List ℕ)) (i : ℕ) (v : Vec ℕ Z) (text : List ℕ)
+    → map vec_items vs ≡ caveats → i < length vs → v ≡ get_or vs i v → text ≡ vec_items v → take (i + 1) caveats ≡ take i caveats ++ text ∷ []
+next_caveat vs caveats i v text same low at is =
+    let here : get_or (map vec_items vs) i [] ≡ text = grind (arith, common_steps) in
+    let few : i < length (map vec_items vs) = omega (arith, length-map vs vec_items) in
+    grind (arith, common_steps, take_at_read (map vec_items vs) i [] few)

@@ -1,0 +1,3 @@
+pub mod PieceLemmas
+pub mod HeldLemmas
+pub mod VerdictLemmas

@@ -1,0 +1,4 @@
+pub mod Ask
+pub mod Code
+pub mod Object
+pub mod Output

@@ -1,0 +1,44 @@
+-- A pass as an object of plain data holds it (ours).
+use Rattle.std.specs.Prelude.{◌≡◌, ℕ, List, [], ◌∷◌, ◌++◌, take, drop, Result, Ok, Err}
+use Rattle.pass_forms.specs.declared.fault.FormFault.{FormFault}
+use Rattle.pass_forms.specs.declared.form.Form.{Form}
+use Rattle.pass_forms.specs.FieldSource.{no_fields}
+use Rattle.pass_forms.specs.Pass.{Plain}
+use Rattle.pass_c.specs.Code.{form_of}
+use Rattle.pass_c.specs.declared.object.Object.{Object}
+
+-- the pieces of bytes with these lengths, one after the other
+abbrev pub pieces_of : List ℕ → List ℕ → List (List ℕ)
+pieces_of [] bytes = []
+pieces_of (len ∷ lens) bytes = take len bytes ∷ pieces_of lens (drop len bytes)
+
+-- The pass of an object: its location, its identifier and its caveats follow one another in the bytes.
+abbrev pub held : Object → Plain
+held object = record {
+  location = take object.location_len object.bytes;
+  identifier = take object.identifier_len (drop object.location_len object.bytes);
+  caveats = pieces_of (take object.caveat_count object.caveat_lens) (drop object.identifier_len (drop object.location_len object.bytes));
+  signature = object.signature;
+}
+
+-- the form of the text that an object was read from
+abbrev pub form_in : Object → Form
+form_in object = form_of object.form
+
+-- what a call that fills an object answers: the form and the pass that the object then holds, or its fault
+abbrev pub filled : Result (Unit {0}) FormFault → Object → Result (Form × Plain) FormFault
+filled (Ok done) object = Ok (form_in object, held object)
+filled (Err fault) object = Err fault
+
+-- the most bytes of an object's location, identifier and caveats together
+abbrev pub room : ℕ
+room = 8192
+
+-- the object holds no pass: no form, no fields and a signature of zeros
+pub record IsEmpty (object : Object) : Type 0 where
+  pub form : object.form ≡ 0
+  pub fields : held object ≡ no_fields
+
+-- a pass with one more caveat, not yet signed
+abbrev pub with_one_more : List ℕ → Plain → Plain
+with_one_more caveat pass = record pass { caveats = pass.caveats ++ caveat ∷ [] }

@@ -1,0 +1,126 @@
+//! An ask as an object of plain numbers.
+
+ghost use Rattle.std.specs.Prelude.{◌≡◌};
+ghost use Rattle.pass_c.specs.Ask as spec;
+ghost use Rattle.club_values.specs.Day.{first_day, last_day};
+ghost use Rattle.club_values.specs.Moment.{first_moment, last_moment};
+
+use pass_caveats::{Action, Ask, Day, Hour, Kind, MAX_NAME_LEN, Moment, Name, Slot};
+
+/// An ask as an object of plain numbers, which C fills.
+#[repr(C)]
+#[derive(Drop)]
+pub struct AskObject {
+    /// The points that the request would charge.
+    pub owed: u64,
+    /// The points that the key has spent before.
+    pub spent: u64,
+    /// 1 to view, 2 to book, 3 to cancel, 4 for the account.
+    pub action: u32,
+    /// 1 for a court, 2 for a boat, 3 for a room, 0 if it isn't known.
+    pub kind: u32,
+    /// The civil minutes since 1970-01-01T00:00.
+    pub moment: u32,
+    /// The days since 1970-01-01 to the slot's.
+    pub day: u16,
+    /// The slot's hour, 0 to 23.
+    pub hour: u8,
+    /// The guests of a booking, else 0.
+    pub guests: u8,
+    /// The bytes of the facility's name; 0 without a slot.
+    pub facility_len: u8,
+    pub facility: [u8; MAX_NAME_LEN],
+}
+
+impl AskObject {
+    ghost use Rattle.std.specs.Prelude.{◌≡◌};
+    ghost use Rattle.pass_c.specs.Ask as spec;
+
+    /// The ask, if each of its values is within its range.
+    pub fn to_ask(&self) -> Option<Ask>
+        ensures { result ≡ spec.ask_of self.now }
+    {
+        let action = action_of(self.action)?;
+        let slot = self.slot()?;
+        let kind = kind_of(self.kind)?;
+        let moment = moment_of(self.moment)?;
+        Some(Ask {
+            action,
+            slot,
+            kind,
+            guests: self.guests,
+            moment,
+            owed: self.owed,
+            spent: self.spent,
+        })
+    }
+
+    // The slot; `Some(None)` without one.
+    fn slot(&self) -> Option<Option<Slot>>
+        ensures { result ≡ spec.slot_of self.now }
+    {
+        if self.facility_len == 0 {
+            return Some(None);
+        }
+        let facility = self.facility()?;
+        let day = day_of(self.day)?;
+        let hour = hour_of(self.hour)?;
+        Some(Some(Slot {
+            facility,
+            day,
+            hour,
+        }))
+    }
+
+    fn facility(&self) -> Option<Name>
+        ensures { result ≡ spec.facility_of self.now }
+    {
+        let len = usize::from(self.facility_len);
+        if len > MAX_NAME_LEN {
+            return None;
+        }
+        Name::read(&self.facility[..len])
+    }
+}
+
+fn action_of(number: u32) -> Option<Action>
+    ensures { result ≡ spec.action_of number }
+{
+    match number {
+        1 => Some(Action::View),
+        2 => Some(Action::Book),
+        3 => Some(Action::Cancel),
+        4 => Some(Action::Account),
+        _ => None,
+    }
+}
+
+fn kind_of(number: u32) -> Option<Option<Kind>>
+    ensures { result ≡ spec.kind_of number }
+{
+    match number {
+        0 => Some(None),
+        1 => Some(Some(Kind::Court)),
+        2 => Some(Some(Kind::Boat)),
+        3 => Some(Some(Kind::Room)),
+        _ => None,
+    }
+}
+
+fn day_of(number: u16) -> Option<Day>
+    ensures { result ≡ spec.within first_day last_day number }
+{
+    Day::from_number(number)
+}
+
+fn hour_of(number: u8) -> Option<Hour>
+    ensures { result ≡ spec.within 0 23 number }
+{
+    Hour::from_number(number)
+}
+
+fn moment_of(number: u32) -> Option<Moment>
+    ensures { result ≡ spec.within first_moment last_moment number }
+{
+    Moment::from_number(number)
+}

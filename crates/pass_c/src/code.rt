@@ -1,0 +1,92 @@
+//! The numbers by which C knows a form and a fault.
+
+ghost use Rattle.std.specs.Prelude.{◌≡◌};
+ghost use Rattle.club_values.specs.Reading.{Reads};
+ghost use Rattle.pass_c.specs.Ask.{verdict_code, verdict_number};
+ghost use Rattle.pass_c.specs.Code as spec;
+
+use pass_caveats::CaveatFault;
+use pass_forms::{Form, FormFault};
+
+/// A call did what it was asked for.
+pub const OK: u32 = 0;
+
+/// Memory ran out, or the object has no room for the pass.
+pub const MEMORY: u32 = 5;
+
+/// The caller's buffer is shorter than what was to be written into it.
+pub const SHORT_BUFFER: u32 = 6;
+
+/// The pass has no caveat of this index.
+pub const NO_CAVEAT: u32 = 7;
+
+/// No form has this number.
+pub const NO_FORM: u32 = 8;
+
+/// A value of an ask is out of its range.
+pub const BAD_ASK: u32 = 9;
+
+/// A caveat isn't understood.
+pub const NOT_UNDERSTOOD: u32 = 10;
+
+/// A caveat denies the ask.
+pub const DENIED: u32 = 11;
+
+/// The number of a form.
+pub fn form_number(form: Form) -> u32
+    ensures { result ≡ spec.form_number form }
+{
+    match form {
+        Form::V1 => 1,
+        Form::V2 => 2,
+        Form::Json => 3,
+    }
+}
+
+/// The form with this number.
+pub fn form_of(number: u32) -> Option<Form>
+    ensures { Reads (λ form. number ≡ spec.form_number form) result }
+{
+    match number {
+        1 => Some(Form::V1),
+        2 => Some(Form::V2),
+        3 => Some(Form::Json),
+        _ => None,
+    }
+}
+
+/// The code of a fault, 1 to 5.
+pub fn fault_code(fault: FormFault) -> u32
+    ensures { result ≡ spec.fault_code fault }
+{
+    match fault {
+        FormFault::TooLong => 1,
+        FormFault::Malformed => 2,
+        FormFault::ThirdParty => 3,
+        FormFault::TooMany => 4,
+        FormFault::Memory => MEMORY,
+    }
+}
+
+/// The code of a call without a value.
+pub fn code_of(ended: Result<(), FormFault>) -> u32
+    ensures code { result ≡ spec.code_of ended }
+    ensures back { spec.result_of result ≡ ended }
+{
+    match ended {
+        Ok(()) => OK,
+        Err(fault) => fault_code(fault),
+    }
+}
+
+/// The code of a list's first fault, and the number of its caveat, counted from 1; 0 without one.
+pub fn verdict_of(fault: Option<CaveatFault>) -> (u32, usize)
+    ensures code { result.0 ≡ verdict_code fault }
+    ensures number { result.1 ≡ verdict_number fault }
+{
+    match fault {
+        None => (OK, 0),
+        Some(CaveatFault::NotUnderstood(number)) => (NOT_UNDERSTOOD, number),
+        Some(CaveatFault::Denied(number)) => (DENIED, number),
+    }
+}

@@ -1,0 +1,215 @@
+//! The exports. A slice crosses as a pointer and a length, and `Global` takes no argument in C.
+
+ghost use Rattle.std.specs.Prelude.{
+  ◌≡◌,
+  ◌≢◌,
+  ◌↔◌,
+  ◌+◌,
+  ◌≤◌,
+  ◌⊎◌,
+  ℕ,
+  List,
+  Err,
+  IfOk,
+  IsTrue,
+  MatchOption,
+  length,
+  slice_get,
+};
+ghost use Rattle.pass_caveats.specs.Caveat.{Understood};
+ghost use Rattle.pass_caveats.specs.Fault.{IsFirstFault};
+ghost use Rattle.pass_caveats.specs.declared.caveat.Caveat.{Caveat};
+ghost use Rattle.pass_forms.specs.declared.fault.FormFault.TheVariants.{Memory, TooMany};
+ghost use Rattle.pass_forms.specs.Pass.{IsSigned, minted_pass};
+ghost use Rattle.pass_forms.specs.computed.Pass.{is_signed};
+ghost use Rattle.pass_forms.specs.Reading.{UnlessMemory, max_caveats};
+ghost use Rattle.pass_forms.specs.Writing.{with_caveat};
+ghost use Rattle.pass_json.specs.AnyForm.{IsAnyReading, MayRunOut};
+ghost use Rattle.pass_json.specs.computed.AnyForm.{reading};
+ghost use Rattle.pass_c.specs.Ask.{ask_of, Reports};
+ghost use Rattle.pass_c.specs.Code.{code_of, form_number, result_of, room_code};
+ghost use Rattle.pass_c.specs.Object.{IsEmpty, filled, form_in, held, room};
+ghost use Rattle.pass_c.specs.Output.{Puts, PutsNothing, Writes, WritesForm};
+
+use crate::ask::AskObject;
+use crate::code::{
+    BAD_ASK, MEMORY, NO_CAVEAT, NO_FORM, OK, code_of, fault_code, form_of, verdict_of,
+};
+use crate::object::Object;
+use crate::output::put;
+use pass_caveats::laws::reads_what_is_understood;
+use pass_forms::Form;
+use std::alloc::Global;
+
+/// Reads a pass from a text in any form. After a fault the object is empty.
+#[unsafe(no_mangle)]
+pub extern "C" fn clubpass_read(alloc: Global, text: &[u8], pass: &mut Object) -> u32
+    ensures spelling { UnlessMemory (IsAnyReading text.now) (filled (result_of result) pass.new) }
+    ensures computed { UnlessMemory (λ answer. reading text.now ≡ answer)
+        (filled (result_of result) pass.new) }
+    ensures memory { result_of result ≡ Err Memory → MayRunOut text.now }
+    ensures code { result ≡ code_of (result_of result) }
+    ensures form { result ≡ 0 → pass.new.form ≡ form_number (form_in pass.new) }
+    ensures empty { result ≢ 0 → IsEmpty pass.new }
+{
+    code_of(pass.read(alloc, text))
+}
+
+/// The number of the form that the pass was read from: 1 for V1, 2 for V2, 3 for JSON.
+#[unsafe(no_mangle)]
+pub extern "C" fn clubpass_form(pass: &Object) -> u32
+    ensures { result ≡ pass.now.form }
+{
+    pass.form
+}
+
+/// The location.
+#[unsafe(no_mangle)]
+pub extern "C" fn clubpass_location(pass: &Object, out: &mut [u8], len: &mut usize) -> u32
+    ensures { Puts (held pass.now).location out.old out.new len.new result }
+{
+    put(pass.location(), out, len)
+}
+
+/// The identifier.
+#[unsafe(no_mangle)]
+pub extern "C" fn clubpass_identifier(pass: &Object, out: &mut [u8], len: &mut usize) -> u32
+    ensures { Puts (held pass.now).identifier out.old out.new len.new result }
+{
+    put(pass.identifier(), out, len)
+}
+
+/// The number of caveats.
+#[unsafe(no_mangle)]
+pub extern "C" fn clubpass_caveat_count(pass: &Object) -> usize
+    ensures { result ≡ length (held pass.now).caveats }
+{
+    pass.caveat_count()
+}
+
+/// The caveat of this index, counted from 0.
+#[unsafe(no_mangle)]
+pub extern "C" fn clubpass_caveat(
+    pass: &Object,
+    index: usize,
+    out: &mut [u8],
+    len: &mut usize,
+) -> u32
+    ensures { MatchOption (slice_get (held pass.now).caveats index)
+        (PutsNothing 7 out.old out.new len.new result)
+        (λ caveat. Puts caveat out.old out.new len.new result) }
+{
+    match pass.caveat(index) {
+        Some(caveat) => put(caveat, out, len),
+        None => {
+            *len = 0;
+            NO_CAVEAT
+        }
+    }
+}
+
+/// The signature.
+#[unsafe(no_mangle)]
+pub extern "C" fn clubpass_signature(pass: &Object, out: &mut [u8; 32])
+    ensures { out.new ≡ (held pass.now).signature }
+{
+    *out = pass.signature;
+}
+
+/// Writes the text of a pass in a form.
+#[unsafe(no_mangle)]
+pub extern "C" fn clubpass_write(
+    alloc: Global,
+    pass: &Object,
+    form: u32,
+    out: &mut [u8],
+    len: &mut usize,
+) -> u32
+    ensures { WritesForm form (held pass.now) out.old out.new len.new result }
+{
+    match form_of(form) {
+        Some(form) => write_in(alloc, pass, form, out, len),
+        None => {
+            *len = 0;
+            NO_FORM
+        }
+    }
+}
+
+// The same in a form that is known.
+fn write_in(alloc: Global, pass: &Object, form: Form, out: &mut [u8], len: &mut usize) -> u32
+    ensures { Writes form (held pass.now) out.old out.new len.new result }
+{
+    *len = 0;
+    match pass.write(alloc, form) {
+        Ok(text) => put(text.as_bytes(), out, len),
+        Err(fault) => fault_code(fault),
+    }
+}
+
+/// Makes a new pass without caveats under a root.
+#[unsafe(no_mangle)]
+pub extern "C" fn clubpass_mint(
+    root: &[u8],
+    location: &[u8],
+    identifier: &[u8],
+    pass: &mut Object,
+) -> u32
+    ensures code { result ≡ room_code (length location.now + length identifier.now) }
+    ensures value { result ≡ 0 → held pass.new ≡ minted_pass root.now location.now identifier.now }
+    ensures signed { result ≡ 0 → IsSigned root.now (held pass.new) }
+    ensures form { result ≡ 0 → pass.new.form ≡ 2 }
+    ensures empty { result ≢ 0 → IsEmpty pass.new }
+{
+    if pass.mint(root, location, identifier) {
+        OK
+    } else {
+        MEMORY
+    }
+}
+
+/// Adds a caveat to a pass, and signs it without the root. After a fault the pass is unchanged.
+#[unsafe(no_mangle)]
+pub extern "C" fn clubpass_narrow(pass: &mut Object, caveat: &[u8]) -> u32
+    ensures value { result ≡ 0 → held pass.new ≡ with_caveat caveat.now (held pass.old) }
+    ensures signed { result ≡ 0
+        → (root : List ℕ) → IsSigned root (held pass.old) → IsSigned root (held pass.new) }
+    ensures unchanged { result ≢ 0 → pass.new ≡ pass.old }
+    ensures form { pass.new.form ≡ pass.old.form }
+    ensures too_many { (result ≡ 4) ↔ (max_caveats ≤ length (held pass.old).caveats) }
+    ensures code { (result ≡ 0) ⊎ ((result ≡ 4) ⊎ (result ≡ 5)) }
+{
+    code_of(pass.narrow(caveat))
+}
+
+/// Whether a pass is signed under a root.
+#[unsafe(no_mangle)]
+pub extern "C" fn clubpass_is_signed(pass: &Object, root: &[u8]) -> bool
+    ensures signed { IsTrue result ↔ IsSigned root.now (held pass.now) }
+    ensures computed { result ≡ is_signed root.now (held pass.now) }
+{
+    pass.is_signed(root)
+}
+
+/// The first caveat that isn't understood or denies an ask.
+#[unsafe(no_mangle)]
+pub extern "C" fn clubpass_first_fault(pass: &Object, ask: &AskObject, number: &mut usize) -> u32
+    ensures { MatchOption (ask_of ask.now) ((result ≡ 9) × (number.new ≡ 0))
+        (λ real. Reports (held pass.now).caveats real result number.new) }
+{
+    *number = 0;
+    let Some(ask) = ask.to_ask() else {
+        return BAD_ASK;
+    };
+    let (code, place) = verdict_of(pass.first_fault(&ask));
+    *number = place;
+    code
+}
+
+/// Whether a text is a caveat of the language.
+#[unsafe(no_mangle)]
+pub extern "C" fn clubpass_is_caveat(text: &[u8]) -> bool
+    ensures { IsTrue result ↔ ((caveat : Caveat) × Understood text.now caveat) }
+{
+    pass_caveats::read(text).is_some()
+}

@@ -1,0 +1,341 @@
+//! A pass as an object of plain data.
+
+ghost use Rattle.std.specs.Prelude.{
+  ◌≡◌,
+  ◌≢◌,
+  ◌↔◌,
+  ◌+◌,
+  ◌≤◌,
+  ◌++◌,
+  ◌∷◌,
+  [],
+  ℕ,
+  List,
+  Err,
+  IfErr,
+  IfOk,
+  IfSome,
+  IsTrue,
+  IsFalse,
+  OnErr,
+  OnOk,
+  drop,
+  length,
+  map,
+  option_map,
+  slice_get,
+  sum,
+  take,
+};
+
+use crate::code::form_number;
+use crate::pieces::{copy_pieces, cut, extended, first_fault_in, piece, total};
+use pass_caveats::laws::{finds_the_first_fault, reads_what_is_understood};
+use pass_caveats::{Ask, CaveatFault};
+use pass_forms::{Form, FormFault, MAX_CAVEATS, Pass};
+use pass_json::{read_any, write_any};
+use pass_mac::{Chain, same};
+use std::alloc::{AllocError, Global};
+
+/// The most bytes of a pass's location, identifier and caveats together.
+pub const ROOM: usize = 8192;
+
+/// A pass as an object of plain data, which C can hold, copy and forget. Contracts see its pass as
+/// `held`: whatever its bytes are, they hold a pass.
+#[repr(C)]
+#[derive(Drop)]
+pub struct Object {
+    /// The number of the form of its text; 0 without one.
+    pub form: u32,
+    pub location_len: u32,
+    pub identifier_len: u32,
+    pub caveat_count: u32,
+    pub caveat_lens: [u16; MAX_CAVEATS],
+    pub signature: [u8; 32],
+    /// The location, the identifier and the caveats, one after the other.
+    pub bytes: [u8; ROOM],
+}
+
+impl Object {
+    ghost use Rattle.std.specs.Prelude.{
+      ◌≡◌,
+      ◌≢◌,
+      ◌↔◌,
+      ◌+◌,
+      ◌≤◌,
+      ◌++◌,
+      ◌∷◌,
+      [],
+      ℕ,
+      List,
+      Err,
+      IfErr,
+      IfOk,
+      IsTrue,
+      IsFalse,
+      MatchResult,
+      Ok,
+      OnErr,
+      OnOk,
+      drop,
+      length,
+      map,
+      option_map,
+      slice_get,
+      sum,
+      take,
+    };
+    ghost use Rattle.std.specs.String.{string_bytes};
+    ghost use Rattle.pass_caveats.specs.Fault.{IsFirstFault};
+    ghost use Rattle.pass_forms.specs.declared.fault.FormFault.TheVariants.{Memory, TooMany};
+    ghost use Rattle.pass_forms.specs.declared.form.Form.TheVariants.{V2};
+    ghost use Rattle.pass_forms.specs.FieldSource.{no_fields};
+    ghost use Rattle.pass_forms.specs.Pass.{IsSigned, Plain, minted_pass};
+    ghost use Rattle.pass_forms.specs.computed.Pass.{is_signed};
+    ghost use Rattle.pass_forms.specs.Reading.{UnlessMemory, max_caveats};
+    ghost use Rattle.pass_forms.specs.Writing.{IsNarrowingFault, IsWritableText, with_caveat};
+    ghost use Rattle.pass_json.specs.AnyForm.{IsAnyReading, IsRefusedIn, IsTextIn, MayRunOut};
+    ghost use Rattle.pass_json.specs.computed.AnyForm.{reading, writing};
+    ghost use Rattle.pass_c.specs.Code as code;
+    ghost use Rattle.pass_c.specs.Object.{IsEmpty, filled, form_in, held, room, with_one_more};
+
+    /// A hint at where the pass is valid.
+    pub fn location(&self) -> &[u8]
+        ensures { result.now ≡ (held self.now).location }
+    {
+        cut(&self.bytes, self.location_len as usize).0
+    }
+
+    // The identifier, and the bytes of the caveats.
+    fn after_location(&self) -> (&[u8], &[u8])
+        ensures identifier { result.0.now ≡ (held self.now).identifier }
+        ensures others { result.1.now
+            ≡ drop self.now.identifier_len (drop self.now.location_len self.now.bytes) }
+    {
+        let (_, rest) = cut(&self.bytes, self.location_len as usize);
+        cut(rest, self.identifier_len as usize)
+    }
+
+    /// The identifier.
+    pub fn identifier(&self) -> &[u8]
+        ensures { result.now ≡ (held self.now).identifier }
+    {
+        self.after_location().0
+    }
+
+    // The lengths of the caveats.
+    fn lens(&self) -> &[u16]
+        ensures value { result.now ≡ take self.now.caveat_count self.now.caveat_lens }
+        ensures few { length result.now ≤ 64 }
+    {
+        &self.caveat_lens[..(self.caveat_count as usize).min(MAX_CAVEATS)]
+    }
+
+    /// The number of caveats, at most 64.
+    #[tactic(auto, using(crate::proofs::PieceLemmas::length_pieces))]
+    pub fn caveat_count(&self) -> usize
+        ensures value { result ≡ length (held self.now).caveats }
+        ensures lens { result ≡ length (take self.now.caveat_count self.now.caveat_lens) }
+        ensures few { result ≤ 64 }
+    {
+        self.lens().len()
+    }
+
+    /// The caveat of this index, counted from 0.
+    pub fn caveat(&self, index: usize) -> Option<&[u8]>
+        ensures { option_map (λ caveat. caveat.now) result
+            ≡ slice_get (held self.now).caveats index }
+    {
+        piece(self.lens(), self.after_location().1, index)
+    }
+
+    /// Makes the object hold no pass: it has no form, no fields, and a signature of zeros.
+    pub fn clear(&mut self)
+        ensures empty { IsEmpty self.new }
+        ensures count { self.new.caveat_count ≡ 0 }
+        ensures bytes { self.new.bytes ≡ self.old.bytes }
+    {
+        self.form = 0;
+        self.location_len = 0;
+        self.identifier_len = 0;
+        self.caveat_count = 0;
+        self.signature = [0; 32];
+    }
+
+    // Makes the object hold a pass without caveats, if its fields have room.
+    fn start(
+        &mut self,
+        form: Form,
+        location: &[u8],
+        identifier: &[u8],
+        signature: &[u8; 32],
+    ) -> bool
+        ensures room { IsTrue result ↔ (length location.now + length identifier.now ≤ room) }
+        ensures value { IsTrue result → held self.new ≡ record {
+          location = location.now;
+          identifier = identifier.now;
+          caveats = [];
+          signature = signature.now;
+        } }
+        ensures form { IsTrue result → self.new.form ≡ code.form_number form }
+        ensures none { IsFalse result → IsEmpty self.new }
+    {
+        self.clear();
+        if location.len() > ROOM || identifier.len() > ROOM - location.len() {
+            return false;
+        }
+        put(&mut self.bytes, 0, location);
+        put(&mut self.bytes, location.len(), identifier);
+        self.form = form_number(form);
+        self.location_len = location.len() as u32;
+        self.identifier_len = identifier.len() as u32;
+        self.signature = *signature;
+        true
+    }
+
+    // Adds a caveat without signing it, if there is room.
+    fn push(&mut self, caveat: &[u8]) -> bool
+        ensures more { IsTrue result → held self.new ≡ with_one_more caveat.now (held self.old) }
+        ensures form { self.new.form ≡ self.old.form }
+        ensures none { IsFalse result → self.new ≡ self.old }
+    {
+        let count = self.caveat_count();
+        if count >= MAX_CAVEATS || caveat.len() > ROOM {
+            return false;
+        }
+        let start = self.location_len as usize + self.identifier_len as usize + total(self.lens());
+        if start + caveat.len() > ROOM {
+            return false;
+        }
+        put(&mut self.bytes, start, caveat);
+        self.caveat_lens[count] = caveat.len() as u16;
+        self.caveat_count = count as u32 + 1;
+        true
+    }
+
+    // Makes the object hold this pass, if there is room.
+    fn fill(&mut self, form: Form, pass: &Pass) -> Result<(), FormFault>
+        ensures value { OnOk result (held self.new ≡ pass.now) }
+        ensures form { OnOk result (self.new.form ≡ code.form_number form) }
+        ensures fault { IfErr result (λ fault. fault ≡ Memory) }
+        ensures none { OnErr result (IsEmpty self.new) }
+    {
+        if !self.start(form, pass.location(), pass.identifier(), pass.signature()) {
+            return Err(FormFault::Memory);
+        }
+        for caveat in pass.caveats() {
+            if !self.push(caveat.as_slice()) {
+                self.clear();
+                return Err(FormFault::Memory);
+            }
+        }
+        Ok(())
+    }
+
+    /// Reads a pass from a text in any form.
+    pub fn read(&mut self, alloc: Global, text: &[u8]) -> Result<(), FormFault>
+        ensures spelling { UnlessMemory (IsAnyReading text.now) (filled result self.new) }
+        ensures computed { UnlessMemory (λ answer. reading text.now ≡ answer)
+            (filled result self.new) }
+        ensures memory { result ≡ Err Memory → MayRunOut text.now }
+        ensures form { OnOk result (self.new.form ≡ code.form_number (form_in self.new)) }
+        ensures none { OnErr result (IsEmpty self.new) }
+    {
+        self.clear();
+        let (form, pass) = read_any(alloc, text)?;
+        self.fill(form, &pass)
+    }
+
+    /// Makes a new pass under a root.
+    pub fn mint(&mut self, root: &[u8], location: &[u8], identifier: &[u8]) -> bool
+        ensures room { IsTrue result ↔ (length location.now + length identifier.now ≤ room) }
+        ensures value { IsTrue result
+            → held self.new ≡ minted_pass root.now location.now identifier.now }
+        ensures signed { IsTrue result → IsSigned root.now (held self.new) }
+        ensures form { IsTrue result → self.new.form ≡ code.form_number V2 }
+        ensures none { IsFalse result → IsEmpty self.new }
+    {
+        let signature = Chain::start(root, identifier).signature();
+        self.start(Form::V2, location, identifier, &signature)
+    }
+
+    /// Adds a caveat and signs it without the root.
+    pub fn narrow(&mut self, caveat: &[u8]) -> Result<(), FormFault>
+        ensures ok { OnOk result (held self.new ≡ with_caveat caveat.now (held self.old)) }
+        ensures signed { OnOk result ((root : List ℕ)
+            → IsSigned root (held self.old) → IsSigned root (held self.new)) }
+        ensures form { self.new.form ≡ self.old.form }
+        ensures err { OnErr result (self.new ≡ self.old) }
+        ensures too_many { (result ≡ Err TooMany) ↔ (max_caveats ≤ length (held self.old).caveats) }
+        ensures fault { IfErr result IsNarrowingFault }
+    {
+        if self.caveat_count() >= MAX_CAVEATS {
+            return Err(FormFault::TooMany);
+        }
+        if !self.push(caveat) {
+            return Err(FormFault::Memory);
+        }
+        let mut chain = Chain::resume(self.signature);
+        chain.add(caveat);
+        self.signature = chain.signature();
+        Ok(())
+    }
+
+    /// Whether the signature is that of the identifier and the caveats under this root.
+    #[tactic(auto, unfolding(pass_forms::specs::computed::Pass::is_signed))]
+    pub fn is_signed(&self, root: &[u8]) -> bool
+        ensures signed { IsTrue result ↔ IsSigned root.now (held self.now) }
+        ensures computed { result ≡ is_signed root.now (held self.now) }
+    {
+        let (identifier, bytes) = self.after_location();
+        let chain = extended(Chain::start(root, identifier), self.lens(), bytes);
+        same(&chain.signature(), &self.signature)
+    }
+
+    /// The first caveat that isn't understood or denies the ask.
+    pub fn first_fault(&self, ask: &Ask) -> Option<CaveatFault>
+        ensures { IsFirstFault (held self.now).caveats ask.now result }
+    {
+        // By these laws the code finds the fault that the clause means.
+        finds_the_first_fault();
+        reads_what_is_understood();
+        first_fault_in(self.lens(), self.after_location().1, 1, ask)
+    }
+
+    // A copy of the pass on the heap.
+    fn to_pass(&self, alloc: Global) -> Result<Pass, AllocError>
+        ensures { IfOk result (λ pass. pass ≡ held self.now) }
+    {
+        let (identifier, bytes) = self.after_location();
+        let location = Vec::from_slice(alloc, self.location())?;
+        let identifier = Vec::from_slice(alloc, identifier)?;
+        let mut caveats = Vec::new(alloc);
+        copy_pieces(alloc, &mut caveats, self.lens(), bytes)?;
+        Ok(Pass::new(location, identifier, caveats, self.signature))
+    }
+
+    /// The text of the pass in this form.
+    pub fn write(&self, alloc: Global, form: Form) -> Result<String, FormFault>
+        ensures ok { IfOk result
+            (λ text. IsWritableText (IsTextIn form) (held self.now) (string_bytes text)) }
+        ensures err { IfErr result
+            (λ fault. fault ≢ Memory → IsRefusedIn form (held self.now) fault) }
+        ensures read_back { IfOk result
+            (λ text. IsAnyReading (string_bytes text) (Ok (form, held self.now))) }
+        ensures computed { MatchResult result
+            (λ text. writing form (held self.now) ≡ Ok (string_bytes text))
+            (λ fault. fault ≢ Memory → writing form (held self.now) ≡ Err fault) }
+    {
+        let pass = self.to_pass(alloc)?;
+        write_any(alloc, form, &pass)
+    }
+}
+
+// Writes a part over the bytes from this place on.
+fn put(bytes: &mut [u8; ROOM], place: usize, part: &[u8])
+    requires { place + length part.now ≤ 8192 }
+    ensures { bytes.new
+        ≡ take place bytes.old ++ (part.now ++ drop (place + length part.now) bytes.old) }
+{
+    bytes[place..place + part.len()].copy_from_slice(part);
+}
