@@ -1,0 +1,277 @@
+"""Passes that their holders can narrow: read, written, narrowed and verified by the library libclubpass.
+
+    import clubpass
+
+    lent = clubpass.Pass.parse(text).narrow("kind = court", "guests <= 1")
+    print(lent, lent.verify(root))
+
+A pass is a value: no method changes it. Roots, signatures and the parts of a pass are bytes; where a method takes bytes, a str stands for
+its UTF-8. Each fault of the library is an exception of its own, a subclass of PassError.
+"""
+
+from __future__ import annotations
+
+import ctypes
+import os
+from dataclasses import dataclass
+from datetime import date, datetime
+from pathlib import Path
+from typing import Union
+
+__all__ = [
+    "Ask", "CaveatFault", "Malformed", "NotAnAsk", "NoRoom", "Pass", "PassError", "ThirdParty", "TooLong", "TooMany", "is_caveat",
+]
+
+MAX_TEXT = 8192
+MAX_CAVEATS = 64
+MAX_NAME = 24
+_SIZE = 16 + 2 * MAX_CAVEATS + 32 + 8192
+
+Bytes = Union[bytes, str]
+
+
+class PassError(ValueError):
+    """Why a pass can't be read, written or narrowed."""
+
+
+class TooLong(PassError):
+    """A text would have more than 8,192 bytes."""
+
+
+class Malformed(PassError):
+    """The text is no pass."""
+
+
+class ThirdParty(PassError):
+    """A caveat is a third party's."""
+
+
+class TooMany(PassError):
+    """There are more than 64 caveats."""
+
+
+class NoRoom(PassError):
+    """Memory ran out, or the pass has no room in its object: 8,192 bytes for its location, identifier and caveats."""
+
+
+class NotAnAsk(PassError):
+    """A value of an ask is out of its range."""
+
+
+_OK, _SHORT_BUFFER = 0, 6
+_ERRORS = {1: TooLong, 2: Malformed, 3: ThirdParty, 4: TooMany, 5: NoRoom, 9: NotAnAsk}
+_VERDICTS = {10: "not understood", 11: "denies"}
+_FORMS = {"v1": 1, "v2": 2, "json": 3}
+_FORM_NAMES = {number: name for name, number in _FORMS.items()}
+_ACTIONS = {"view": 1, "book": 2, "cancel": 3, "account": 4}
+_KINDS = {None: 0, "court": 1, "boat": 2, "room": 3}
+
+
+class _Object(ctypes.Structure):
+    """The `clubpass` of the header, whose members are the library's own."""
+
+    _fields_ = [("words", ctypes.c_uint32 * (_SIZE // 4))]
+
+
+class _AskObject(ctypes.Structure):
+    """The `clubpass_ask` of the header."""
+
+    _fields_ = [
+        ("owed", ctypes.c_uint64), ("spent", ctypes.c_uint64), ("action", ctypes.c_uint32), ("kind", ctypes.c_uint32), ("moment", ctypes.c_uint32),
+        ("day", ctypes.c_uint16), ("hour", ctypes.c_uint8), ("guests", ctypes.c_uint8), ("facility_len", ctypes.c_uint8),
+        ("facility", ctypes.c_uint8 * MAX_NAME),
+    ]
+
+
+def _load() -> ctypes.CDLL:
+    beside = Path(__file__).with_name("libclubpass.so.0")
+    library = ctypes.CDLL(os.environ.get("CLUBPASS_LIBRARY") or (str(beside) if beside.exists() else "libclubpass.so.0"))
+    text, size, pass_at, length = ctypes.c_char_p, ctypes.c_size_t, ctypes.POINTER(_Object), ctypes.POINTER(ctypes.c_size_t)
+    code = ctypes.c_uint32
+    for name, result, arguments in [
+        ("read", code, [text, size, pass_at]),
+        ("form", code, [pass_at]),
+        ("location", code, [pass_at, text, size, length]),
+        ("identifier", code, [pass_at, text, size, length]),
+        ("caveat_count", size, [pass_at]),
+        ("caveat", code, [pass_at, size, text, size, length]),
+        ("signature", None, [pass_at, text]),
+        ("write", code, [pass_at, code, text, size, length]),
+        ("mint", code, [text, size, text, size, text, size, pass_at]),
+        ("narrow", code, [pass_at, text, size]),
+        ("is_signed", ctypes.c_bool, [pass_at, text, size]),
+        ("first_fault", code, [pass_at, ctypes.POINTER(_AskObject), length]),
+        ("is_caveat", ctypes.c_bool, [text, size]),
+    ]:
+        function = getattr(library, f"clubpass_{name}")
+        function.restype, function.argtypes = result, arguments
+    return library
+
+
+_library = _load()
+
+
+def _bytes(value: Bytes) -> bytes:
+    if isinstance(value, str):
+        return value.encode()
+    if isinstance(value, bytes):
+        return value
+    raise TypeError(f"bytes or str, not {type(value).__name__}")
+
+
+def _check(code: int) -> None:
+    if code != _OK:
+        error = _ERRORS[code]
+        raise error(error.__doc__)
+
+
+def is_caveat(text: Bytes) -> bool:
+    """Whether a text is a caveat of the club's language, such as `kind = court`."""
+    line = _bytes(text)
+    return _library.clubpass_is_caveat(line, len(line))
+
+
+@dataclass(frozen=True)
+class Ask:
+    """A request, as caveats see it: `action` is view, book, cancel or account. Without a facility there is no slot."""
+
+    action: str
+    moment: datetime
+    facility: str | None = None
+    day: date | None = None
+    hour: int = 0
+    kind: str | None = None
+    guests: int = 0
+    owed: int = 0
+    spent: int = 0
+
+    def _object(self) -> _AskObject:
+        name = b"" if self.facility is None else self.facility.encode()
+        minutes = (self.moment.replace(tzinfo=None) - datetime(1970, 1, 1)).total_seconds() // 60
+        day = 0 if self.day is None else (self.day - date(1970, 1, 1)).days
+        if self.action not in _ACTIONS or self.kind not in _KINDS:
+            raise NotAnAsk(f"no such action or kind: {self.action}, {self.kind}")
+        limits = [(self.hour, 8), (self.guests, 8), (self.owed, 64), (self.spent, 64), (minutes, 32), (day, 16)]
+        if (self.facility is not None and not 0 < len(name) <= MAX_NAME) or not all(0 <= value < 1 << bits for value, bits in limits):
+            raise NotAnAsk(NotAnAsk.__doc__)
+        return _AskObject(
+            self.owed, self.spent, _ACTIONS[self.action], _KINDS[self.kind], int(minutes), day, self.hour, self.guests, len(name),
+            (ctypes.c_uint8 * MAX_NAME)(*name))
+
+
+@dataclass(frozen=True)
+class CaveatFault:
+    """The first caveat that isn't understood, or denies an ask: its number from 1, and which of both."""
+
+    number: int
+    understood: bool
+
+    def __str__(self) -> str:
+        return f"caveat {self.number} {'denies' if self.understood else 'not understood'}"
+
+
+class Pass:
+    """A pass, with the form of the text that it was read from. `str` of it is its text in that form."""
+
+    __slots__ = ("_at", "_object")
+
+    def __init__(self, of: _Object) -> None:
+        self._object = of
+        self._at = ctypes.byref(of)
+
+    @classmethod
+    def parse(cls, text: Bytes) -> Pass:
+        """Reads a text in any form. Raises TooLong, Malformed, ThirdParty or TooMany."""
+        line, made = _bytes(text), cls(_Object())
+        _check(_library.clubpass_read(line, len(line), made._at))
+        return made
+
+    @classmethod
+    def mint(cls, root: bytes, identifier: Bytes, location: Bytes = b"") -> Pass:
+        """Makes a new pass without caveats, signed under a root."""
+        place, name, made = _bytes(location), _bytes(identifier), cls(_Object())
+        _check(_library.clubpass_mint(root, len(root), place, len(place), name, len(name), made._at))
+        return made
+
+    def narrow(self, *caveats: Bytes) -> Pass:
+        """The pass with these caveats after its own. Raises TooMany for more than 64."""
+        made = Pass(_Object.from_buffer_copy(self._object))
+        for caveat in caveats:
+            line = _bytes(caveat)
+            _check(_library.clubpass_narrow(made._at, line, len(line)))
+        return made
+
+    def verify(self, root: bytes) -> bool:
+        """Whether the root signed the pass with its caveats. It tries no caveat."""
+        if not isinstance(root, bytes):
+            raise TypeError(f"a root is bytes, not {type(root).__name__}")
+        return _library.clubpass_is_signed(self._at, root, len(root))
+
+    def first_fault(self, ask: Ask) -> CaveatFault | None:
+        """The first caveat that isn't understood or denies the ask; None if each allows it. It doesn't look at the signature."""
+        number = ctypes.c_size_t()
+        code = _library.clubpass_first_fault(self._at, ctypes.byref(ask._object()), ctypes.byref(number))
+        if code in _VERDICTS:
+            return CaveatFault(number.value, code == 11)
+        _check(code)
+        return None
+
+    def to(self, form: str) -> str:
+        """The text in a form: v1, v2 or json. Raises TooLong if it would have more than 8,192 bytes."""
+        if form not in _FORMS:
+            raise ValueError(f"no such form: {form}")
+        return self._told(lambda *out: _library.clubpass_write(self._at, _FORMS[form], *out)).decode()
+
+    @property
+    def form(self) -> str:
+        """The form of the text that the pass was read from; v2 for a new one."""
+        return _FORM_NAMES[_library.clubpass_form(self._at)]
+
+    @property
+    def location(self) -> bytes:
+        """A hint at where the pass is valid. It isn't signed."""
+        return self._told(lambda *out: _library.clubpass_location(self._at, *out))
+
+    @property
+    def identifier(self) -> bytes:
+        """By this the root is found."""
+        return self._told(lambda *out: _library.clubpass_identifier(self._at, *out))
+
+    @property
+    def caveats(self) -> list[bytes]:
+        """The caveats, in the order in which they were added."""
+        return [self._told(lambda *out, place=place: _library.clubpass_caveat(self._at, place, *out))
+                for place in range(_library.clubpass_caveat_count(self._at))]
+
+    @property
+    def signature(self) -> bytes:
+        """The last signature of the chain, 32 bytes."""
+        out = ctypes.create_string_buffer(32)
+        _library.clubpass_signature(self._at, out)
+        return out.raw
+
+    def _told(self, call) -> bytes:
+        """What a call writes into a buffer: one of 1,024 bytes, and if that is too short one of the length that it tells."""
+        room, length = 1024, ctypes.c_size_t()
+        while True:
+            out = ctypes.create_string_buffer(room)
+            code = call(out, room, ctypes.byref(length))
+            if code != _SHORT_BUFFER:
+                _check(code)
+                return out.raw[: length.value]
+            room = length.value
+
+    def __str__(self) -> str:
+        return self.to(self.form)
+
+    def __repr__(self) -> str:
+        return f"Pass.parse({str(self)!r})"
+
+    def __eq__(self, other: object) -> bool:
+        return isinstance(other, Pass) and self._parts() == other._parts()
+
+    def __hash__(self) -> int:
+        return hash(self._parts())
+
+    def _parts(self) -> tuple[bytes, bytes, tuple[bytes, ...], bytes]:
+        return self.location, self.identifier, tuple(self.caveats), self.signature
