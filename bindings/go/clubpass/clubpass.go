@@ -1,0 +1,160 @@
+// Package clubpass reads, writes, narrows and verifies passes by the library libclubpass.
+//
+// A Pass is a value: a copy is another pass, and calls in different goroutines share nothing.
+package clubpass
+
+/*
+#cgo pkg-config: clubpass
+#include <clubpass.h>
+*/
+import "C"
+
+import (
+	"fmt"
+	"unsafe"
+)
+
+// A Fault says why a call failed. Its numbers are those of clubpass.h.
+type Fault int
+
+const (
+	TooLong       Fault = C.CLUBPASS_TOO_LONG
+	Malformed     Fault = C.CLUBPASS_MALFORMED
+	ThirdParty    Fault = C.CLUBPASS_THIRD_PARTY
+	TooMany       Fault = C.CLUBPASS_TOO_MANY
+	Memory        Fault = C.CLUBPASS_MEMORY
+	NoForm        Fault = C.CLUBPASS_NO_FORM
+	BadAsk        Fault = C.CLUBPASS_BAD_ASK
+	NotUnderstood Fault = C.CLUBPASS_NOT_UNDERSTOOD
+	Denied        Fault = C.CLUBPASS_DENIED
+)
+
+var texts = map[Fault]string{
+	TooLong: "too long", Malformed: "malformed", ThirdParty: "third-party caveat", TooMany: "too many caveats",
+	Memory: "out of memory", NoForm: "no such form", BadAsk: "no such ask", NotUnderstood: "caveat not understood",
+	Denied: "caveat denies",
+}
+
+func (fault Fault) Error() string {
+	if text, ok := texts[fault]; ok {
+		return text
+	}
+	return fmt.Sprintf("fault %d", int(fault))
+}
+
+// A Form is one of the three forms of a text.
+type Form uint32
+
+const (
+	V1   Form = C.CLUBPASS_V1
+	V2   Form = C.CLUBPASS_V2
+	JSON Form = C.CLUBPASS_JSON
+)
+
+func (form Form) String() string {
+	return map[Form]string{V1: "v1", V2: "v2", JSON: "json"}[form]
+}
+
+// A Pass is a pass, with the form of the text that it was read from.
+type Pass struct {
+	object C.clubpass
+}
+
+var none [1]byte
+
+// at is where bytes begin: never nil, also for none.
+func at(data []byte) *C.uint8_t {
+	if len(data) == 0 {
+		return (*C.uint8_t)(unsafe.Pointer(&none[0]))
+	}
+	return (*C.uint8_t)(unsafe.Pointer(&data[0]))
+}
+
+func check(code C.clubpass_fault) error {
+	if code == C.CLUBPASS_OK {
+		return nil
+	}
+	return Fault(code)
+}
+
+// Parse reads a text in any form.
+func Parse(text []byte) (Pass, error) {
+	var made Pass
+	err := check(C.clubpass_read(at(text), C.size_t(len(text)), &made.object))
+	return made, err
+}
+
+// Mint makes a new pass without caveats, signed under a root.
+func Mint(root, identifier, location []byte) (Pass, error) {
+	var made Pass
+	err := check(C.clubpass_mint(at(root), C.size_t(len(root)), at(location), C.size_t(len(location)), at(identifier),
+		C.size_t(len(identifier)), &made.object))
+	return made, err
+}
+
+// Narrow is the pass with these caveats after its own.
+func (pass Pass) Narrow(caveats ...string) (Pass, error) {
+	for _, caveat := range caveats {
+		data := []byte(caveat)
+		if err := check(C.clubpass_narrow(&pass.object, at(data), C.size_t(len(data)))); err != nil {
+			return Pass{}, err
+		}
+	}
+	return pass, nil
+}
+
+// Verify says whether the root signed the pass with its caveats. It tries no caveat.
+func (pass *Pass) Verify(root []byte) bool {
+	return bool(C.clubpass_is_signed(&pass.object, at(root), C.size_t(len(root))))
+}
+
+// Text is the pass in a form.
+func (pass *Pass) Text(form Form) (string, error) {
+	out := make([]byte, C.CLUBPASS_MAX_TEXT)
+	var length C.size_t
+	err := check(C.clubpass_write(&pass.object, C.uint32_t(form), at(out), C.size_t(len(out)), &length))
+	return string(out[:length]), err
+}
+
+// Form is the form of the text that the pass was read from; V2 for a new one.
+func (pass *Pass) Form() Form { return Form(C.clubpass_form(&pass.object)) }
+
+// Location is a hint at where the pass is valid. It isn't signed.
+func (pass *Pass) Location() []byte {
+	out := make([]byte, C.CLUBPASS_ROOM)
+	var length C.size_t
+	_ = C.clubpass_location(&pass.object, at(out), C.size_t(len(out)), &length)
+	return out[:length:length]
+}
+
+// Identifier is that by which the root is found.
+func (pass *Pass) Identifier() []byte {
+	out := make([]byte, C.CLUBPASS_ROOM)
+	var length C.size_t
+	_ = C.clubpass_identifier(&pass.object, at(out), C.size_t(len(out)), &length)
+	return out[:length:length]
+}
+
+// Caveats are the caveats, in the order in which they were added.
+func (pass *Pass) Caveats() []string {
+	caveats := make([]string, C.clubpass_caveat_count(&pass.object))
+	out := make([]byte, C.CLUBPASS_ROOM)
+	for place := range caveats {
+		var length C.size_t
+		_ = C.clubpass_caveat(&pass.object, C.size_t(place), at(out), C.size_t(len(out)), &length)
+		caveats[place] = string(out[:length])
+	}
+	return caveats
+}
+
+// Signature is the last signature of the chain.
+func (pass *Pass) Signature() (signature [32]byte) {
+	C.clubpass_signature(&pass.object, at(signature[:]))
+	return signature
+}
+
+// IsCaveat says whether a text is a caveat of the club's language, such as "kind = court".
+func IsCaveat(text string) bool {
+	data := []byte(text)
+	return bool(C.clubpass_is_caveat(at(data), C.size_t(len(data))))
+}

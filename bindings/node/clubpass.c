@@ -1,0 +1,172 @@
+/* The library of passes for Node.js, by its N-API. Each function takes and gives Buffers; an object is a Buffer of the size of `clubpass`. */
+#define NAPI_VERSION 8
+#include <clubpass.h>
+#include <node_api.h>
+#include <stdlib.h>
+
+typedef struct {
+    uint8_t *at;
+    size_t len;
+} bytes;
+
+static uint8_t none[1];
+
+/* The arguments: `count` Buffers. False, with an exception, if one is none. */
+static bool buffers(napi_env env, napi_callback_info info, size_t count, napi_value *values, bytes *into) {
+    size_t given = count;
+    napi_get_cb_info(env, info, &given, values, NULL, NULL);
+    for (size_t i = 0; i < count; i++) {
+        void *at = NULL;
+        bool is = false;
+        if (i >= given || napi_is_buffer(env, values[i], &is) != napi_ok || !is || napi_get_buffer_info(env, values[i], &at, &into[i].len) != napi_ok) {
+            napi_throw_type_error(env, NULL, "a Buffer is missing");
+            return false;
+        }
+        into[i].at = into[i].len > 0 ? at : none;
+    }
+    return true;
+}
+
+/* The object of an argument, which has to be aligned as the compiler aligns it. */
+static clubpass *object_of(napi_env env, bytes of) {
+    if (of.len == sizeof(clubpass) && (uintptr_t)of.at % _Alignof(clubpass) == 0)
+        return (clubpass *)(void *)of.at;
+    napi_throw_type_error(env, NULL, "no pass");
+    return NULL;
+}
+
+static napi_value number(napi_env env, uint32_t of) {
+    napi_value made = NULL;
+    napi_create_uint32(env, of, &made);
+    return made;
+}
+
+static napi_value truth(napi_env env, bool of) {
+    napi_value made = NULL;
+    napi_get_boolean(env, of, &made);
+    return made;
+}
+
+/* The fault's number, or a Buffer of what was written. */
+static napi_value told(napi_env env, clubpass_fault fault, const uint8_t *out, size_t len) {
+    napi_value made = NULL;
+    if (fault != CLUBPASS_OK)
+        return number(env, fault);
+    napi_create_buffer_copy(env, len, out, NULL, &made);
+    return made;
+}
+
+static uint32_t number_at(napi_env env, napi_value value) {
+    uint32_t found = UINT32_MAX;
+    napi_get_value_uint32(env, value, &found);
+    return found;
+}
+
+static napi_value read_text(napi_env env, napi_callback_info info) {
+    napi_value values[2];
+    bytes given[2];
+    clubpass *pass;
+    if (!buffers(env, info, 2, values, given) || !(pass = object_of(env, given[1])))
+        return NULL;
+    return number(env, clubpass_read(given[0].at, given[0].len, pass));
+}
+
+static napi_value mint(napi_env env, napi_callback_info info) {
+    napi_value values[4];
+    bytes given[4];
+    clubpass *pass;
+    if (!buffers(env, info, 4, values, given) || !(pass = object_of(env, given[3])))
+        return NULL;
+    return number(env, clubpass_mint(given[0].at, given[0].len, given[1].at, given[1].len, given[2].at, given[2].len, pass));
+}
+
+static napi_value narrow(napi_env env, napi_callback_info info) {
+    napi_value values[2];
+    bytes given[2];
+    clubpass *pass;
+    if (!buffers(env, info, 2, values, given) || !(pass = object_of(env, given[0])))
+        return NULL;
+    return number(env, clubpass_narrow(pass, given[1].at, given[1].len));
+}
+
+static napi_value is_signed(napi_env env, napi_callback_info info) {
+    napi_value values[2];
+    bytes given[2];
+    clubpass *pass;
+    if (!buffers(env, info, 2, values, given) || !(pass = object_of(env, given[0])))
+        return NULL;
+    return truth(env, clubpass_is_signed(pass, given[1].at, given[1].len));
+}
+
+static napi_value is_caveat(napi_env env, napi_callback_info info) {
+    napi_value values[1];
+    bytes given[1];
+    return buffers(env, info, 1, values, given) ? truth(env, clubpass_is_caveat(given[0].at, given[0].len)) : NULL;
+}
+
+/* An object, and a number: what the part is, 0 for the location, 1 for the identifier, 2 for the signature, from 3 on a caveat. */
+static napi_value part(napi_env env, napi_callback_info info) {
+    napi_value values[2] = {NULL, NULL};
+    bytes given[1];
+    size_t count = 2, len = 0;
+    uint8_t out[CLUBPASS_ROOM];
+    clubpass *pass;
+    napi_get_cb_info(env, info, &count, values, NULL, NULL);
+    if (!buffers(env, info, 1, values, given) || !(pass = object_of(env, given[0])))
+        return NULL;
+    napi_get_cb_info(env, info, &(size_t){2}, values, NULL, NULL);
+    uint32_t which = number_at(env, values[1]);
+    if (which == 2) {
+        clubpass_signature(pass, out);
+        return told(env, CLUBPASS_OK, out, CLUBPASS_SIGNATURE);
+    }
+    clubpass_fault fault = which == 0   ? clubpass_location(pass, out, sizeof out, &len)
+                           : which == 1 ? clubpass_identifier(pass, out, sizeof out, &len)
+                                        : clubpass_caveat(pass, which - 3, out, sizeof out, &len);
+    return told(env, fault, out, len);
+}
+
+static napi_value write_text(napi_env env, napi_callback_info info) {
+    napi_value values[2] = {NULL, NULL};
+    bytes given[1];
+    size_t len = 0;
+    uint8_t out[CLUBPASS_MAX_TEXT];
+    clubpass *pass;
+    if (!buffers(env, info, 1, values, given) || !(pass = object_of(env, given[0])))
+        return NULL;
+    napi_get_cb_info(env, info, &(size_t){2}, values, NULL, NULL);
+    return told(env, clubpass_write(pass, number_at(env, values[1]), out, sizeof out, &len), out, len);
+}
+
+static napi_value form(napi_env env, napi_callback_info info) {
+    napi_value values[1];
+    bytes given[1];
+    clubpass *pass;
+    if (!buffers(env, info, 1, values, given) || !(pass = object_of(env, given[0])))
+        return NULL;
+    return number(env, clubpass_form(pass));
+}
+
+static napi_value caveat_count(napi_env env, napi_callback_info info) {
+    napi_value values[1];
+    bytes given[1];
+    clubpass *pass;
+    if (!buffers(env, info, 1, values, given) || !(pass = object_of(env, given[0])))
+        return NULL;
+    return number(env, (uint32_t)clubpass_caveat_count(pass));
+}
+
+NAPI_MODULE_INIT() {
+    static const struct {
+        const char *name;
+        napi_callback call;
+    } calls[] = {{"read", read_text}, {"mint", mint}, {"narrow", narrow}, {"isSigned", is_signed}, {"isCaveat", is_caveat},
+                 {"part", part}, {"write", write_text}, {"form", form}, {"caveatCount", caveat_count}};
+    for (size_t i = 0; i < sizeof calls / sizeof *calls; i++) {
+        napi_value made = NULL;
+        napi_create_function(env, calls[i].name, NAPI_AUTO_LENGTH, calls[i].call, NULL, &made);
+        napi_set_named_property(env, exports, calls[i].name, made);
+    }
+    napi_set_named_property(env, exports, "size", number(env, sizeof(clubpass)));
+    return exports;
+}

@@ -1,0 +1,88 @@
+"use strict";
+// Passes that can be narrowed, by the library libclubpass. `clubpass.node` beside this file is built of clubpass.c:
+//   gcc -shared -fPIC -o clubpass.node clubpass.c $(pkg-config --cflags --libs clubpass) -I/usr/include/node
+
+const library = require(process.env.CLUBPASS_NODE || "./clubpass.node");
+
+const FORMS = { v1: 1, v2: 2, json: 3 };
+const FAULTS = {
+  1: "too long", 2: "malformed", 3: "third-party caveat", 4: "too many caveats", 5: "out of memory", 7: "no such caveat", 8: "no such form",
+};
+
+class PassError extends Error {
+  constructor(fault) {
+    super(FAULTS[fault] || `fault ${fault}`);
+    this.name = "PassError";
+    this.fault = fault;
+  }
+}
+
+const check = (fault) => {
+  if (fault !== 0) throw new PassError(fault);
+};
+const told = (answer) => {
+  if (typeof answer === "number") throw new PassError(answer);
+  return answer;
+};
+// An object of its own memory, from its beginning, and so aligned.
+const object = () => Buffer.from(new ArrayBuffer(library.size));
+
+// A pass is a value: no method changes it. Text is a string or a Buffer, a root a Buffer.
+class Pass {
+  #object = object();
+
+  static parse(text) {
+    const made = new Pass();
+    check(library.read(Buffer.from(text), made.#object));
+    return made;
+  }
+
+  static mint(root, identifier, location = "") {
+    const made = new Pass();
+    check(library.mint(root, Buffer.from(location), Buffer.from(identifier), made.#object));
+    return made;
+  }
+
+  narrow(...caveats) {
+    const made = new Pass();
+    this.#object.copy(made.#object);
+    for (const caveat of caveats) check(library.narrow(made.#object, Buffer.from(caveat)));
+    return made;
+  }
+
+  verify(root) {
+    return library.isSigned(this.#object, root);
+  }
+
+  to(form) {
+    return told(library.write(this.#object, FORMS[form] || 0)).toString();
+  }
+
+  get form() {
+    return Object.keys(FORMS).find((name) => FORMS[name] === library.form(this.#object));
+  }
+
+  get location() {
+    return told(library.part(this.#object, 0));
+  }
+
+  get identifier() {
+    return told(library.part(this.#object, 1));
+  }
+
+  get signature() {
+    return told(library.part(this.#object, 2));
+  }
+
+  get caveats() {
+    return Array.from({ length: library.caveatCount(this.#object) }, (_, place) => told(library.part(this.#object, place + 3)));
+  }
+
+  toString() {
+    return this.to(this.form);
+  }
+}
+
+const isCaveat = (text) => library.isCaveat(Buffer.from(text));
+
+module.exports = { Pass, PassError, isCaveat };
