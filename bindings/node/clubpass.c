@@ -135,7 +135,8 @@ static napi_value write_text(napi_env env, napi_callback_info info) {
     if (!buffers(env, info, 1, values, given) || !(pass = object_of(env, given[0])))
         return NULL;
     napi_get_cb_info(env, info, &(size_t){2}, values, NULL, NULL);
-    return told(env, clubpass_write(pass, number_at(env, values[1]), out, sizeof out, &len), out, len);
+    clubpass_fault fault = clubpass_write(pass, number_at(env, values[1]), out, sizeof out, &len);
+    return told(env, fault, out, len);
 }
 
 static napi_value form(napi_env env, napi_callback_info info) {

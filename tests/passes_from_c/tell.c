@@ -1,6 +1,7 @@
 /* For each line `ROOT TEXT` of standard input, the root in hexadecimal, what the library says of the text: `fault N`, or form, location,
    identifier, caveats with commas, signature, its three texts, and `signed` or `not signed`; bytes in hexadecimal, `-` for none. */
 #include <clubpass.h>
+#include <ctype.h>
 #include <stdio.h>
 #include <stdlib.h>
 #include <string.h>
@@ -16,7 +17,7 @@ static void put_hex(const uint8_t *bytes, size_t len) {
 
 static size_t from_hex(const char *text, uint8_t *bytes) {
     size_t len = 0;
-    for (unsigned byte; text[2 * len] && text[2 * len] != '-' && sscanf(text + 2 * len, "%2x", &byte) == 1; len++)
+    for (unsigned byte; isxdigit((unsigned char)text[2 * len]) && sscanf(text + 2 * len, "%2x", &byte) == 1; len++)
         bytes[len] = (uint8_t)byte;
     return len;
 }

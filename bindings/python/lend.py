@@ -1,0 +1,11 @@
+"""Reads a pass, narrows it, and prints it and whether README's root signed it: lend.py < PASS."""
+import sys
+
+from clubpass import Pass, PassError
+
+ROOT = bytes.fromhex("00112233445566778899aabbccddeeff")
+try:
+    lent = Pass.parse(sys.stdin.read().strip()).narrow("kind = court")
+except PassError as fault:
+    sys.exit(f"{type(fault).__name__}: {fault}")
+print(lent, "signed" if lent.verify(ROOT) else "not signed", sep="\n")
