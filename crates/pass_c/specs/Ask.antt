@@ -1,7 +1,6 @@
 -- An ask as an object of plain numbers (ours).
-use Rattle.std.specs.Prelude.{◌≡◌, ℕ, ◌==◌, if◌then◌else◌, take, List, Option, None, Some, nat_lt}
+use Rattle.std.specs.Prelude.{◌≡◌, ℕ, ◌==◌, if◌then◌else◌, take, List, Option, None, Some, ◌≤◌, MatchOption}
 use Rattle.std.specs.Int.{is_in_range}
-use Rattle.pass_forms.specs.computed.Parts.{◌>>=◌}
 use Rattle.club_values.specs.declared.action.Action.{Action}
 use Rattle.club_values.specs.declared.action.Action.TheVariants.{View, Book, Cancel, Account}
 use Rattle.club_values.specs.declared.kind.Kind.{Kind}
@@ -9,12 +8,19 @@ use Rattle.club_values.specs.declared.kind.Kind.TheVariants.{Court, Boat, Room}
 use Rattle.club_values.specs.declared.slot.Slot.{Slot}
 use Rattle.club_values.specs.Day.{first_day, last_day}
 use Rattle.club_values.specs.Moment.{first_moment, last_moment}
-use Rattle.club_values.specs.computed.TextOf.{name_of_text}
+use Rattle.club_values.specs.Name.{IsName, max_name_len}
+use Rattle.club_values.specs.Reading.{Reads}
 use Rattle.pass_caveats.specs.Fault.{IsFirstFault}
 use Rattle.pass_caveats.specs.declared.ask.Ask.{Ask}
 use Rattle.pass_caveats.specs.declared.fault.CaveatFault.{CaveatFault}
 use Rattle.pass_caveats.specs.declared.fault.CaveatFault.TheVariants.{NotUnderstood, Denied}
 use Rattle.pass_c.specs.declared.ask.AskObject.{AskObject}
+
+-- the second of two steps, which takes what the first gives
+infixl 10 ◌>>=◌
+abbrev pub ◌>>=◌ : {A B : Type 0} → Option A → (A → Option B) → Option B
+None >>= step = None
+(Some value) >>= step = step value
 
 -- the action of a number
 abbrev pub action_of : ℕ → Option Action
@@ -28,25 +34,27 @@ kind_of n = if n == 0 then Some None else if n == 1 then Some (Some Court) else 
 abbrev pub within : ℕ → ℕ → ℕ → Option ℕ
 within low high n = if is_in_range low high n then Some n else None
 
-abbrev pub facility_of : AskObject → Option (List ℕ)
-facility_of object = if nat_lt 24 object.facility_len then None else name_of_text (take object.facility_len object.facility)
+-- The facility that a slot is of: the name that its bytes spell, none where they are no name.
+abbrev pub IsFacility : AskObject → Option (List ℕ) → Type 0
+IsFacility object facility =
+    Reads (λ name. (object.facility_len ≤ max_name_len) × IsName name × (name ≡ take object.facility_len object.facility)) facility
 
-abbrev pub slot_of_parts : AskObject → Option (Option Slot)
-slot_of_parts object =
-    facility_of object >>= (λ facility.
+abbrev pub slot_at : AskObject → Option (List ℕ) → Option (Option Slot)
+slot_at object facility =
+    facility >>= (λ name.
     within first_day last_day object.day >>= (λ day.
     within 0 23 object.hour >>= (λ hour.
-    Some (Some (record { facility = facility; day = day; hour = hour })))))
+    Some (Some (record { facility = name; day = day; hour = hour })))))
 
--- the slot; none where the facility is empty
-abbrev pub slot_of : AskObject → Option (Option Slot)
-slot_of object = if object.facility_len == 0 then Some None else slot_of_parts object
+-- the slot of a facility; none where the object has no name
+abbrev pub slot_of : AskObject → Option (List ℕ) → Option (Option Slot)
+slot_of object facility = if object.facility_len == 0 then Some None else slot_at object facility
 
--- the ask of an object, if each of its values is within its range
-abbrev pub ask_of : AskObject → Option Ask
-ask_of object =
+-- the ask of an object whose facility this is, if each of its values is within its range
+abbrev pub ask_of : AskObject → Option (List ℕ) → Option Ask
+ask_of object facility =
     action_of object.action >>= (λ action.
-    slot_of object >>= (λ slot.
+    slot_of object facility >>= (λ slot.
     kind_of object.kind >>= (λ kind.
     within first_moment last_moment object.moment >>= (λ moment.
     Some (record {
@@ -58,6 +66,12 @@ ask_of object =
       owed = object.owed;
       spent = object.spent;
     })))))
+
+-- the ask that an object holds, none where a value is out of its range
+pub record IsAskOf (object : AskObject) (ask : Option Ask) : Type 0 where
+  pub facility : Option (List ℕ)
+  pub named : IsFacility object facility
+  pub values : ask ≡ ask_of object facility
 
 -- the code of the first fault, and the number of its caveat
 abbrev pub verdict_code : Option CaveatFault → ℕ
@@ -76,3 +90,9 @@ pub record Reports (caveats : List (List ℕ)) (ask : Ask) (code number : ℕ) :
   pub first : IsFirstFault caveats ask fault
   pub says : code ≡ verdict_code fault
   pub counts : number ≡ verdict_number fault
+
+-- What a call answers to an object: the first fault of the caveats for its ask, or that it holds none.
+pub record Answers (caveats : List (List ℕ)) (object : AskObject) (code number : ℕ) : Type 0 where
+  pub ask : Option Ask
+  pub asked : IsAskOf object ask
+  pub told : MatchOption ask ((code ≡ 9) × (number ≡ 0)) (λ real. Reports caveats real code number)

@@ -6,7 +6,6 @@ use Rattle.pass_forms.specs.declared.form.Form.{Form}
 use Rattle.pass_forms.specs.Pass.{Plain}
 use Rattle.pass_forms.specs.Writing.{IsWritableText}
 use Rattle.pass_json.specs.AnyForm.{IsAnyReading, IsRefusedIn, IsTextIn}
-use Rattle.pass_json.specs.computed.AnyForm.{writing}
 use Rattle.pass_c.specs.Code.{fault_code, form_number}
 
 -- A part that fits is written to the front of the buffer, and the rest of the buffer stays. A part that doesn't fit changes
@@ -26,8 +25,8 @@ pub record PutsNothing (why : ℕ) (old new : List ℕ) (len code : ℕ) : Type 
 -- is written.
 abbrev pub IsWriting : Form → Plain → Result (List ℕ) FormFault → Type 0
 IsWriting form pass (Ok text) =
-    IsWritableText (IsTextIn form) pass text × IsAnyReading text (Ok (form, pass)) × (writing form pass ≡ Ok text)
-IsWriting form pass (Err fault) = fault ≢ Memory → IsRefusedIn form pass fault × (writing form pass ≡ Err fault)
+    IsWritableText (IsTextIn form) pass text × IsAnyReading text (Ok (form, pass))
+IsWriting form pass (Err fault) = fault ≢ Memory → IsRefusedIn form pass fault
 
 -- the writing of a pass, put into a buffer
 pub record Writes (form : Form) (pass : Plain) (old new : List ℕ) (len code : ℕ) : Type 0 where

@@ -38,10 +38,16 @@ impl AskObject {
 
     /// The ask, if each of its values is within its range.
     pub fn to_ask(&self) -> Option<Ask>
-        ensures { result ≡ spec.ask_of self.now }
+        ensures { spec.IsAskOf self.now result }
+    {
+        self.ask_at(self.facility())
+    }
+
+    fn ask_at(&self, facility: Option<Name>) -> Option<Ask>
+        ensures { result ≡ spec.ask_of self.now facility }
     {
         let action = action_of(self.action)?;
-        let slot = self.slot()?;
+        let slot = self.slot(facility)?;
         let kind = kind_of(self.kind)?;
         let moment = moment_of(self.moment)?;
         Some(Ask {
@@ -56,13 +62,13 @@ impl AskObject {
     }
 
     // The slot; `Some(None)` without one.
-    fn slot(&self) -> Option<Option<Slot>>
-        ensures { result ≡ spec.slot_of self.now }
+    fn slot(&self, facility: Option<Name>) -> Option<Option<Slot>>
+        ensures { result ≡ spec.slot_of self.now facility }
     {
         if self.facility_len == 0 {
             return Some(None);
         }
-        let facility = self.facility()?;
+        let facility = facility?;
         let day = day_of(self.day)?;
         let hour = hour_of(self.hour)?;
         Some(Some(Slot {
@@ -73,7 +79,7 @@ impl AskObject {
     }
 
     fn facility(&self) -> Option<Name>
-        ensures { result ≡ spec.facility_of self.now }
+        ensures { spec.IsFacility self.now result }
     {
         let len = usize::from(self.facility_len);
         if len > MAX_NAME_LEN {

@@ -26,7 +26,7 @@ ghost use Rattle.pass_forms.specs.Reading.{UnlessMemory, max_caveats};
 ghost use Rattle.pass_forms.specs.Writing.{with_caveat};
 ghost use Rattle.pass_json.specs.AnyForm.{IsAnyReading, MayRunOut};
 ghost use Rattle.pass_json.specs.computed.AnyForm.{reading};
-ghost use Rattle.pass_c.specs.Ask.{ask_of, Reports};
+ghost use Rattle.pass_c.specs.Ask.{Answers};
 ghost use Rattle.pass_c.specs.Code.{code_of, form_number, result_of, room_code};
 ghost use Rattle.pass_c.specs.Object.{IsEmpty, filled, form_in, held, room};
 ghost use Rattle.pass_c.specs.Output.{Puts, PutsNothing, Writes, WritesForm};
@@ -194,8 +194,7 @@ pub extern "C" fn clubpass_is_signed(pass: &Object, root: &[u8]) -> bool
 /// The first caveat that isn't understood or denies an ask.
 #[unsafe(no_mangle)]
 pub extern "C" fn clubpass_first_fault(pass: &Object, ask: &AskObject, number: &mut usize) -> u32
-    ensures { MatchOption (ask_of ask.now) ((result ≡ 9) × (number.new ≡ 0))
-        (λ real. Reports (held pass.now).caveats real result number.new) }
+    ensures { Answers (held pass.now).caveats ask.now result number.new }
 {
     *number = 0;
     let Some(ask) = ask.to_ask() else {
