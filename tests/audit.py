@@ -362,7 +362,7 @@ class Audit:
             yield f"| `{library}` | {names} | {cited} | {self.spelled(below[library] | citing[library])} |"
 
     def externs(self):
-        found = [f"`{file.path.relative_to(ROOT)}`" for file in self.book.code.values() if re.search(r"\bextern\b", file.text)]
+        found = [f"`{file.path.relative_to(ROOT)}`" for file in self.book.code.values() if re.search(r'\bextern (?:"C" )?\{', file.text)]
         return f"Functions of C are declared in {', '.join(found)}." if found else "No file declares a function of C (`extern`)."
 
     # ---- the page

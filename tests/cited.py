@@ -9,7 +9,7 @@ from dataclasses import dataclass
 
 from definitions import closure
 
-FUNCTION = r"^ *(?:pub(?:\([a-z]+\))? )?(?:final )?(?:const )?fn "
+FUNCTION = r"^ *(?:pub(?:\([a-z]+\))? )?(?:final )?(?:const )?(?:extern \"C\" )?fn "
 
 
 @dataclass

@@ -476,7 +476,7 @@ class CodeFile:
 
     def clauses(self, name, owner=None):
         """The clauses of a function, as (label, text, place), and where its head is."""
-        for found in re.finditer(rf"^ *(?:pub(?:\([a-z]+\))? )?(?:final )?fn {name}\b", self.text, re.MULTILINE):
+        for found in re.finditer(rf"^ *(?:pub(?:\([a-z]+\))? )?(?:final )?(?:extern \"C\" )?fn {name}\b", self.text, re.MULTILINE):
             head = self.block_around(found.start())[0]
             if owner and not re.search(rf"\b{owner}\b", head.split(" for ")[-1]):
                 continue

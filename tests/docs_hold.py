@@ -60,7 +60,7 @@ def within(places, pattern):
     return {(*place, name) for *place, text in places for name in re.findall(pattern, text, re.MULTILINE)}
 
 
-HEAD = r"^ *(?:pub(?:\([a-z]+\))? )?(?:final )?(?:const )?"
+HEAD = r"^ *(?:pub(?:\([a-z]+\))? )?(?:final )?(?:const )?(?:extern \"C\" )?"
 RECORD = r"^ *(?:pub )?record "
 FUNCTIONS = found(".rt", rf"{HEAD}fn (\w+)")
 CLAUSES = within(found(".rt", rf"(?s){HEAD}fn (\w+)(.*?)(?={HEAD}fn |\Z)"), r"^ *ensures ([a-z_0-9]+) ")
@@ -187,7 +187,7 @@ def test_layers():
     crates, page = Path("crates.txt").read_text(encoding="utf-8"), TEXTS["docs/LAYERS.md"]
     order = re.findall(r"^# ([^:\n]*):|^([a-z][a-z_0-9]*)[ :]", crates, re.MULTILINE)
     assert re.findall(r"^\| \*\*([^*]*)\*\* \||^\| `([a-z_0-9]+)` \|", page, re.MULTILINE) == order
-    uses = {(line.split(":")[0].split()[0], it) for line in crates.splitlines() if line and line[0] != "#" for it in line.split()[1:]}
+    uses = {(line.split(":")[0].split()[0], it) for line in crates.splitlines() if line and line[0] != "#" for it in line.split(":")[1].split()}
     for line in re.findall(r"^\| `.*", page, re.MULTILINE):
         cells = line.split("|")
         crate = cells[1].strip(" `")
@@ -293,7 +293,7 @@ def test_commands(page, tmp_path):
     room, out = tmp_path / "room", tmp_path / "out"
     room.mkdir()
     # A page's commands may be those of the repository's top.
-    for folder in ("bin", "deploy"):
+    for folder in ("bin", "deploy", "bindings"):
         (room / folder).symlink_to(desk.ROOT / folder)
     # Bodies of replies end without a line feed, which a terminal shows as a prompt after them.
     (tmp_path / ".curlrc").write_text('silent\nshow-error\nnoproxy = "*"\nwrite-out = "\\n"\n')

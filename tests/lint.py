@@ -50,7 +50,7 @@ UNITS = re.compile("byte|bit|character|letter|digit|column|line|caveat|pass|plac
 # What begins with a literal, or with a field that is one, may be longer, so that a known pass can be searched for whole; an attribute can't be
 # broken.
 LITERAL = r' *([a-z_]+: )?b?"'
-FN = re.compile(r"( *)(?:pub(?:\([a-z]+\))? )?(?:const )?fn (\w*)")
+FN = re.compile(r"( *)(?:pub(?:\([a-z]+\))? )?(?:const )?(?:extern \"C\" )?fn (\w*)")
 
 
 def texts_below(folder, *endings):

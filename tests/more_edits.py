@@ -28,7 +28,7 @@ FAULT = re.compile(r"(?:note: )?(?:\./)?((?:src|specs|proofs)/\S+?):(\d+):\d+: (
 WANTED = re.compile(r"no proof: expected answers in (?:\./)?(\S+);")
 HEAD = re.compile(r"(?:pub )?([^\s:]+) : ")
 # The heads of a function and of a block that owns functions, as `rt fmt` leaves them.
-FUNCTION = re.compile(r"(?P<indent> {4})?(?:pub(?:\([^)]*\))? )?(?:const )?fn (?P<name>\w+)")
+FUNCTION = re.compile(r"(?P<indent> {4})?(?:pub(?:\([^)]*\))? )?(?:const )?(?:extern \"C\" )?fn (?P<name>\w+)")
 BLOCK = re.compile(r"(?:impl(?:<.*?>)? |(?:pub(?:\([^)]*\))? )?trait )(?:(?:\w+::)*(?P<trait>\w+)(?:<.*?>)? for )?(?:\w+::)*(?P<type>\w+)")
 AT_ONCE = 10  # edits that one check tries at most
 # What it says where it meets a limit of its own, and gives no verdict.

@@ -1,4 +1,4 @@
-/* Reads a pass, narrows it, and prints it: lend ROOT < PASS. ROOT is text, here the sixteen bytes of README's root as C writes them. */
+/* Reads a pass, narrows it, and prints it and whether README's root signed it: lend < PASS. */
 #include <clubpass.h>
 #include <stdio.h>
 #include <string.h>
