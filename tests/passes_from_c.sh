@@ -64,10 +64,10 @@ ALLOCATIONS_COUNTED=$work/counted LD_PRELOAD=$work/refused_memory ./tell <lines 
 same 'two lines' 2 "$(wc -l <whole)"
 met=0
 for number in $(seq 1 "$(cat counted)"); do
-    REFUSED_ALLOCATION=$number LD_PRELOAD=$work/refused_memory ./tell <lines >cut 2>/dev/null
-    [ "$(wc -l <cut)" = 2 ] || continue
+    REFUSED_ALLOCATION=$number LD_PRELOAD=$work/refused_memory ./tell <lines >told 2>/dev/null
+    [ "$(wc -l <told)" = 2 ] || continue
     checks=$((checks + 1))
-    cmp -s whole cut || { grep -Eq '^fault 5$| fault-5 ' cut && met=$((met + 1)); } || fail "allocation $number is refused: $(cat cut)"
+    cmp -s whole told || { grep -Eq '^fault 5$| fault-5 ' told && met=$((met + 1)); } || fail "allocation $number is refused: $(cat told)"
 done
 [ "$met" -gt 5 ] || fail "a refused allocation was met $met times"
 echo "$checks checks hold; memory was refused $met times"

@@ -31,32 +31,32 @@ abbrev pub kind_of : ℕ → Option (Option Kind)
 kind_of n = if n == 0 then Some None else if n == 1 then Some (Some Court) else if n == 2 then Some (Some Boat) else if n == 3 then Some (Some Room) else None
 
 -- a number within these two
-abbrev pub within : ℕ → ℕ → ℕ → Option ℕ
-within low high n = if is_in_range low high n then Some n else None
+abbrev pub number_within : ℕ → ℕ → ℕ → Option ℕ
+number_within low high n = if is_in_range low high n then Some n else None
 
 -- The facility that a slot is of: the name that its bytes spell, none where they are no name.
-abbrev pub IsFacility : AskObject → Option (List ℕ) → Type 0
-IsFacility object facility =
+abbrev pub IsFacilityNamed : AskObject → Option (List ℕ) → Type 0
+IsFacilityNamed object facility =
     Reads (λ name. (object.facility_len ≤ max_name_len) × IsName name × (name ≡ take object.facility_len object.facility)) facility
 
-abbrev pub slot_at : AskObject → Option (List ℕ) → Option (Option Slot)
-slot_at object facility =
+abbrev pub slot_in_parts : AskObject → Option (List ℕ) → Option (Option Slot)
+slot_in_parts object facility =
     facility >>= (λ name.
-    within first_day last_day object.day >>= (λ day.
-    within 0 23 object.hour >>= (λ hour.
+    number_within first_day last_day object.day >>= (λ day.
+    number_within 0 23 object.hour >>= (λ hour.
     Some (Some (record { facility = name; day = day; hour = hour })))))
 
 -- the slot of a facility; none where the object has no name
-abbrev pub slot_of : AskObject → Option (List ℕ) → Option (Option Slot)
-slot_of object facility = if object.facility_len == 0 then Some None else slot_at object facility
+abbrev pub slot_within : AskObject → Option (List ℕ) → Option (Option Slot)
+slot_within object facility = if object.facility_len == 0 then Some None else slot_in_parts object facility
 
 -- the ask of an object whose facility this is, if each of its values is within its range
-abbrev pub ask_of : AskObject → Option (List ℕ) → Option Ask
-ask_of object facility =
+abbrev pub ask_at : AskObject → Option (List ℕ) → Option Ask
+ask_at object facility =
     action_of object.action >>= (λ action.
-    slot_of object facility >>= (λ slot.
+    slot_within object facility >>= (λ slot.
     kind_of object.kind >>= (λ kind.
-    within first_moment last_moment object.moment >>= (λ moment.
+    number_within first_moment last_moment object.moment >>= (λ moment.
     Some (record {
       action = action;
       slot = slot;
@@ -70,8 +70,8 @@ ask_of object facility =
 -- the ask that an object holds, none where a value is out of its range
 pub record IsAskOf (object : AskObject) (ask : Option Ask) : Type 0 where
   pub facility : Option (List ℕ)
-  pub named : IsFacility object facility
-  pub values : ask ≡ ask_of object facility
+  pub named : IsFacilityNamed object facility
+  pub values : ask ≡ ask_at object facility
 
 -- the code of the first fault, and the number of its caveat
 abbrev pub verdict_code : Option CaveatFault → ℕ

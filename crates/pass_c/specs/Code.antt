@@ -5,14 +5,14 @@ use Rattle.pass_forms.specs.declared.fault.FormFault.TheVariants.{TooLong, Malfo
 use Rattle.pass_forms.specs.declared.form.Form.{Form}
 use Rattle.pass_forms.specs.declared.form.Form.TheVariants.{V1, V2, Json}
 
-abbrev pub form_number : Form → ℕ
-form_number V1 = 1
-form_number V2 = 2
-form_number Json = 3
+abbrev pub number_of_form : Form → ℕ
+number_of_form V1 = 1
+number_of_form V2 = 2
+number_of_form Json = 3
 
 -- the form with this number; V2 for any other number
-abbrev pub form_of : ℕ → Form
-form_of n = if n == 1 then V1 else if n == 3 then Json else V2
+abbrev pub form_with_number : ℕ → Form
+form_with_number n = if n == 1 then V1 else if n == 3 then Json else V2
 
 abbrev pub fault_code : FormFault → ℕ
 fault_code TooLong = 1
@@ -27,11 +27,11 @@ code_of (Ok done) = 0
 code_of (Err fault) = fault_code fault
 
 -- what a code says; `Memory` for a number that is no other fault's
-abbrev pub fault_of : ℕ → FormFault
-fault_of n = if n == 1 then TooLong else if n == 2 then Malformed else if n == 3 then ThirdParty else if n == 4 then TooMany else Memory
+abbrev pub fault_with_code : ℕ → FormFault
+fault_with_code n = if n == 1 then TooLong else if n == 2 then Malformed else if n == 3 then ThirdParty else if n == 4 then TooMany else Memory
 
 abbrev pub result_of : ℕ → Result (Unit {0}) FormFault
-result_of n = if n == 0 then Ok tt else Err (fault_of n)
+result_of n = if n == 0 then Ok tt else Err (fault_with_code n)
 
 -- the code of a new pass whose fields have this length
 abbrev pub room_code : ℕ → ℕ

@@ -4,7 +4,7 @@ use Rattle.pass_forms.specs.declared.fault.FormFault.{FormFault}
 use Rattle.pass_forms.specs.declared.form.Form.{Form}
 use Rattle.pass_forms.specs.FieldSource.{no_fields}
 use Rattle.pass_forms.specs.Pass.{Plain}
-use Rattle.pass_c.specs.Code.{form_of}
+use Rattle.pass_c.specs.Code.{form_with_number}
 use Rattle.pass_c.specs.declared.object.Object.{Object}
 
 -- the pieces of bytes with these lengths, one after the other
@@ -23,7 +23,7 @@ held object = record {
 
 -- the form of the text that an object was read from
 abbrev pub form_in : Object → Form
-form_in object = form_of object.form
+form_in object = form_with_number object.form
 
 -- what a call that fills an object answers: the form and the pass that the object then holds, or its fault
 abbrev pub filled : Result (Unit {0}) FormFault → Object → Result (Form × Plain) FormFault

@@ -15,9 +15,9 @@ pub struct AskObject {
     pub owed: u64,
     /// The points that the key has spent before.
     pub spent: u64,
-    /// 1 to view, 2 to book, 3 to cancel, 4 for the account.
+    /// The number of the action: 1 to view, 2 to book, 3 to cancel, 4 for the account.
     pub action: u32,
-    /// 1 for a court, 2 for a boat, 3 for a room, 0 if it isn't known.
+    /// The number of the kind: 1 for a court, 2 for a boat, 3 for a room, 0 if it isn't known.
     pub kind: u32,
     /// The civil minutes since 1970-01-01T00:00.
     pub moment: u32,
@@ -44,7 +44,7 @@ impl AskObject {
     }
 
     fn ask_at(&self, facility: Option<Name>) -> Option<Ask>
-        ensures { result ≡ spec.ask_of self.now facility }
+        ensures { result ≡ spec.ask_at self.now facility }
     {
         let action = action_of(self.action)?;
         let slot = self.slot(facility)?;
@@ -63,7 +63,7 @@ impl AskObject {
 
     // The slot; `Some(None)` without one.
     fn slot(&self, facility: Option<Name>) -> Option<Option<Slot>>
-        ensures { result ≡ spec.slot_of self.now facility }
+        ensures { result ≡ spec.slot_within self.now facility }
     {
         if self.facility_len == 0 {
             return Some(None);
@@ -79,7 +79,7 @@ impl AskObject {
     }
 
     fn facility(&self) -> Option<Name>
-        ensures { spec.IsFacility self.now result }
+        ensures { spec.IsFacilityNamed self.now result }
     {
         let len = usize::from(self.facility_len);
         if len > MAX_NAME_LEN {
@@ -114,19 +114,19 @@ fn kind_of(number: u32) -> Option<Option<Kind>>
 }
 
 fn day_of(number: u16) -> Option<Day>
-    ensures { result ≡ spec.within first_day last_day number }
+    ensures { result ≡ spec.number_within first_day last_day number }
 {
     Day::from_number(number)
 }
 
 fn hour_of(number: u8) -> Option<Hour>
-    ensures { result ≡ spec.within 0 23 number }
+    ensures { result ≡ spec.number_within 0 23 number }
 {
     Hour::from_number(number)
 }
 
 fn moment_of(number: u32) -> Option<Moment>
-    ensures { result ≡ spec.within first_moment last_moment number }
+    ensures { result ≡ spec.number_within first_moment last_moment number }
 {
     Moment::from_number(number)
 }

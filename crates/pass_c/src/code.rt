@@ -34,7 +34,7 @@ pub const DENIED: u32 = 11;
 
 /// The number of a form.
 pub fn form_number(form: Form) -> u32
-    ensures { result ≡ spec.form_number form }
+    ensures { result ≡ spec.number_of_form form }
 {
     match form {
         Form::V1 => 1,
@@ -45,7 +45,7 @@ pub fn form_number(form: Form) -> u32
 
 /// The form with this number.
 pub fn form_of(number: u32) -> Option<Form>
-    ensures { Reads (λ form. number ≡ spec.form_number form) result }
+    ensures { Reads (λ form. number ≡ spec.number_of_form form) result }
 {
     match number {
         1 => Some(Form::V1),

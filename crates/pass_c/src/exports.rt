@@ -27,9 +27,9 @@ ghost use Rattle.pass_forms.specs.Writing.{with_caveat};
 ghost use Rattle.pass_json.specs.AnyForm.{IsAnyReading, MayRunOut};
 ghost use Rattle.pass_json.specs.computed.AnyForm.{reading};
 ghost use Rattle.pass_c.specs.Ask.{Answers};
-ghost use Rattle.pass_c.specs.Code.{code_of, form_number, result_of, room_code};
+ghost use Rattle.pass_c.specs.Code.{code_of, number_of_form, result_of, room_code};
 ghost use Rattle.pass_c.specs.Object.{IsEmpty, filled, form_in, held, room};
-ghost use Rattle.pass_c.specs.Output.{Puts, PutsNothing, Writes, WritesForm};
+ghost use Rattle.pass_c.specs.Output.{IsCopied, IsLeft, IsTextCopied, WritesForm};
 
 use crate::ask::AskObject;
 use crate::code::{
@@ -49,7 +49,7 @@ pub extern "C" fn clubpass_read(alloc: Global, text: &[u8], pass: &mut Object) -
         (filled (result_of result) pass.new) }
     ensures memory { result_of result ≡ Err Memory → MayRunOut text.now }
     ensures code { result ≡ code_of (result_of result) }
-    ensures form { result ≡ 0 → pass.new.form ≡ form_number (form_in pass.new) }
+    ensures form { result ≡ 0 → pass.new.form ≡ number_of_form (form_in pass.new) }
     ensures empty { result ≢ 0 → IsEmpty pass.new }
 {
     code_of(pass.read(alloc, text))
@@ -66,7 +66,7 @@ pub extern "C" fn clubpass_form(pass: &Object) -> u32
 /// The location.
 #[unsafe(no_mangle)]
 pub extern "C" fn clubpass_location(pass: &Object, out: &mut [u8], len: &mut usize) -> u32
-    ensures { Puts (held pass.now).location out.old out.new len.new result }
+    ensures { IsCopied (held pass.now).location out.old out.new len.new result }
 {
     put(pass.location(), out, len)
 }
@@ -74,7 +74,7 @@ pub extern "C" fn clubpass_location(pass: &Object, out: &mut [u8], len: &mut usi
 /// The identifier.
 #[unsafe(no_mangle)]
 pub extern "C" fn clubpass_identifier(pass: &Object, out: &mut [u8], len: &mut usize) -> u32
-    ensures { Puts (held pass.now).identifier out.old out.new len.new result }
+    ensures { IsCopied (held pass.now).identifier out.old out.new len.new result }
 {
     put(pass.identifier(), out, len)
 }
@@ -96,8 +96,8 @@ pub extern "C" fn clubpass_caveat(
     len: &mut usize,
 ) -> u32
     ensures { MatchOption (slice_get (held pass.now).caveats index)
-        (PutsNothing 7 out.old out.new len.new result)
-        (λ caveat. Puts caveat out.old out.new len.new result) }
+        (IsLeft 7 out.old out.new len.new result)
+        (λ caveat. IsCopied caveat out.old out.new len.new result) }
 {
     match pass.caveat(index) {
         Some(caveat) => put(caveat, out, len),
@@ -138,7 +138,7 @@ pub extern "C" fn clubpass_write(
 
 // The same in a form that is known.
 fn write_in(alloc: Global, pass: &Object, form: Form, out: &mut [u8], len: &mut usize) -> u32
-    ensures { Writes form (held pass.now) out.old out.new len.new result }
+    ensures { IsTextCopied form (held pass.now) out.old out.new len.new result }
 {
     *len = 0;
     match pass.write(alloc, form) {

@@ -177,7 +177,7 @@ impl Object {
           caveats = [];
           signature = signature.now;
         } }
-        ensures form { IsTrue result → self.new.form ≡ code.form_number form }
+        ensures form { IsTrue result → self.new.form ≡ code.number_of_form form }
         ensures none { IsFalse result → IsEmpty self.new }
     {
         self.clear();
@@ -216,7 +216,7 @@ impl Object {
     // Makes the object hold this pass, if there is room.
     fn fill(&mut self, form: Form, pass: &Pass) -> Result<(), FormFault>
         ensures value { OnOk result (held self.new ≡ pass.now) }
-        ensures form { OnOk result (self.new.form ≡ code.form_number form) }
+        ensures form { OnOk result (self.new.form ≡ code.number_of_form form) }
         ensures fault { IfErr result (λ fault. fault ≡ Memory) }
         ensures none { OnErr result (IsEmpty self.new) }
     {
@@ -238,7 +238,7 @@ impl Object {
         ensures computed { UnlessMemory (λ answer. reading text.now ≡ answer)
             (filled result self.new) }
         ensures memory { result ≡ Err Memory → MayRunOut text.now }
-        ensures form { OnOk result (self.new.form ≡ code.form_number (form_in self.new)) }
+        ensures form { OnOk result (self.new.form ≡ code.number_of_form (form_in self.new)) }
         ensures none { OnErr result (IsEmpty self.new) }
     {
         self.clear();
@@ -252,7 +252,7 @@ impl Object {
         ensures value { IsTrue result
             → held self.new ≡ minted_pass root.now location.now identifier.now }
         ensures signed { IsTrue result → IsSigned root.now (held self.new) }
-        ensures form { IsTrue result → self.new.form ≡ code.form_number V2 }
+        ensures form { IsTrue result → self.new.form ≡ code.number_of_form V2 }
         ensures none { IsFalse result → IsEmpty self.new }
     {
         let signature = Chain::start(root, identifier).signature();

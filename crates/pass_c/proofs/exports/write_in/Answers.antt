@@ -1,13 +1,13 @@
 use Rattle.std.proofs.Common.{refl, subst, Ok, Err, List, ℕ}
 use Rattle.std.specs.String.{string_bytes}
-use Rattle.pass_c.specs.Output.{Puts}
+use Rattle.pass_c.specs.Output.{IsCopied}
 use Rattle.pass_c.proofs.exports.write_in.Goals as goal
 
 pub returns-in-Ok : goal.returns-in-Ok
 returns-in-Ok c = record {
   answer = Ok (string_bytes c.in-Ok.text);
   written = (c.in-Ok.ensures.ok, c.in-Ok.ensures.read_back);
-  put = subst (λ (text : List ℕ). Puts text c.args.out.now c.put.new.out c.put.new.len c.put.result) c.as_bytes.ensures.value c.put.ensures;
+  put = subst (λ (text : List ℕ). IsCopied text c.args.out.now c.put.new.out c.put.new.len c.put.result) c.as_bytes.ensures.value c.put.ensures;
 }
 
 pub returns-in-Err : goal.returns-in-Err

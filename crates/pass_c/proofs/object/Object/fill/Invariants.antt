@@ -1,9 +1,9 @@
 -- The object holds the pass with the caveats so far.
 use Rattle.std.proofs.Common.{◌≡◌, take}
-use Rattle.pass_c.specs.Code.{form_number}
+use Rattle.pass_c.specs.Code.{number_of_form}
 use Rattle.pass_c.specs.Object.{held}
 use Rattle.pass_c.proofs.object.Object.fill.Given as goal
 
 abbrev pub invariant-loop-caveat : goal.invariant-loop-caveat
 invariant-loop-caveat l =
-    (held l.self ≡ record l.pass { caveats = take l.caveat-index l.pass.caveats }) × (l.self.form ≡ form_number l.fn.form)
+    (held l.self ≡ record l.pass { caveats = take l.caveat-index l.pass.caveats }) × (l.self.form ≡ number_of_form l.fn.form)
