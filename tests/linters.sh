@@ -1,8 +1,8 @@
 #!/bin/sh
 # Pyflakes, shellcheck, gofmt and go vet have nothing to say of the scripts and the Go, or the reason is noted in place.
 #
-# The shell scripts and bats files of tests/, bin/ and deploy/ are read by shellcheck, the Python there and in examples/ by pyflakes.
-# The Go of tests/ and examples/ is read if Debian's Go is there. Not part of the gate.
+# The shell scripts and bats files of tests/, bin/ and deploy/ are read by shellcheck, the Python there, in examples/ and in bindings/ by pyflakes.
+# The Go of tests/, examples/ and bindings/ is read if Debian's Go is there. Not part of the gate.
 # groups: quick
 # wants: shellcheck pyflakes3
 set -eu
@@ -19,9 +19,9 @@ shellcheck -x -P tests $(by_first_line '^#!/bin/(ba)?sh') || status=1
 # A file of bats reads what bats sets, and a test ends at its first command that fails.
 shellcheck -x -P tests -e SC2154,SC2164 tests/*.bats || status=1
 # shellcheck disable=SC2046
-pyflakes3 $(by_first_line 'python3') $(find tests examples deploy -name '*.py') || status=1
+pyflakes3 $(by_first_line 'python3') $(find tests examples deploy bindings -name '*.py') || status=1
 if command -v gofmt > /dev/null; then
-    spelled_otherwise=$(gofmt -l tests/beside_go examples)
+    spelled_otherwise=$(gofmt -l tests/beside_go tests/passes_from_c examples bindings)
     [ -z "$spelled_otherwise" ] || { echo "gofmt: $spelled_otherwise"; status=1; }
     if [ -d /usr/share/gocode/src/github.com/mattn/go-sqlite3 ] && [ -d /usr/share/gocode/src/gopkg.in/macaroon.v2 ]; then
         (cd tests/beside_go && GO111MODULE=off GOPATH=/usr/share/gocode go vet -tags libsqlite3 .) || status=1
