@@ -44,7 +44,7 @@ PASS
 inside() { unshare --net chroot "$root" env -i PATH=/usr/sbin:/usr/bin:/sbin:/bin HOME=/root LC_ALL=C.UTF-8 DEBIAN_FRONTEND=noninteractive "$@"; }
 
 before=$(inside find /usr /etc ! -name '*.pyc' ! -path '*__pycache__*' ! -path '/etc/ld.so.cache' | sort)
-inside python3 -m zipfile -e /root/wheel/*.whl /root/wheel 2>/dev/null || holds 'the wheel' inside sh -c 'cd /root/wheel && python3 -m zipfile -e *.whl .'
+holds 'the wheel' inside sh -c 'cd /root/wheel && python3 -m zipfile -e *.whl .'
 holds 'Python by the wheel' inside sh -c "PYTHONPATH=/root/wheel python3 -c 'import clubpass; print(clubpass.Pass.parse(\"$text\").narrow(\"kind = court\"))'"
 same 'Python by the wheel' "$lent" "$(cat told)"
 
