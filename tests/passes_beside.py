@@ -57,7 +57,7 @@ def main():
         ask = clubpass.Ask("book", datetime(2026, 4, 20, 12), "court-1", date(2026, 5, 1), 18, "court", owed=200)
         found = defaultdict(list)
         for _ in range(rounds):
-            for line in subprocess.run([f"{room}/beside", str(count)], check=True, capture_output=True, text=True).stdout.splitlines():
+            for line in subprocess.run([f"{room}/beside", str(count)], check=True, stdout=subprocess.PIPE, text=True).stdout.splitlines():
                 name, spent = line.split()
                 found["C", name].append(float(spent) / 1e3)
             for form, text in texts.items():

@@ -45,6 +45,8 @@ printf '"%s"\n' '\"i\":\"' '\"i64\":\"' '\"c\":[' '{\"i\":\"' '\"s64\":\"' '\"v\
 clang -g -O1 -fsanitize=fuzzer,address -o fuzz "$here/passes_from_c/fuzz.c" -I "$here/../include" library/lib/libclubpass.a
 seconds=${1-600}
 status=0
+# Each seed once: a fuzzer that forks leaves out those at which the target ends.
+./fuzz seeds/* >log 2>&1 || { tail -n 40 log >&2; exit 1; }
 ./fuzz -max_total_time="$seconds" -max_len=20000 -len_control=20 -dict=words -fork="${FUZZERS-$(nproc)}" -ignore_crashes=0 -print_final_stats=1 seeds >log 2>&1 || status=$?
 if [ "$status" != 0 ] || grep -q 'ERROR: \|not so, line' log; then
     tail -n 40 log >&2

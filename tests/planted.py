@@ -94,6 +94,13 @@ PLANTS = {
     "page_books:worker-keeps-old-pages": ("web/src/worker.js", "names.filter((name) => name !== CACHE)", "names.filter((name) => name === null)", "the new worker's pages alone", ".", "at_hand"),
     "page_books:counts-nothing": ("web/src/record.mjs", "if (points < 0) return", "if (points !== 0) return", "a booking that was cancelled elsewhere", ".", "tells_what_is_missing"),
     "page_narrows": ("web/src/caveats.mjs", '[1-4][0-9])", (most)', '[1-5][0-9])", (most)', "understood otherwise"),
+    "library_package": ("bindings/c/lend.c", '"kind = court"', '"kind = boat"', "/root/lend: wanted"),
+    "passes_beside": ("tests/passes_beside.c", "satisfy_exact(verifier, (const unsigned char *)CAVEATS[i]", "satisfy_exact(verifier, ROOT",
+                      "libmacaroons failed", "1", "100"),
+    "passes_from_c": ("include/clubpass.h", "CLUBPASS_DENIED = 11", "CLUBPASS_DENIED = 12", "not so: clubpass_first_fault"),
+    "passes_from_python": ("bindings/python/clubpass/__init__.py", "3: ThirdParty, 4: TooMany", "3: TooMany, 4: TooMany", "'fault 4:')", "--count", "3000"),
+    "passes_fuzzed": ("include/clubpass.h", "CLUBPASS_TOO_LONG = 1", "CLUBPASS_TOO_LONG = 9", "not so, line", "60"),
+    "passes_in_languages": ("bindings/node/clubpass.js", "place + 3", "place + 4", "test_vectors[node]"),
     "passes_by_pymacaroons": ("clubdesk", "caveat denies", "caveat deniex", "caveat deniex"),
     "proxy_holds": ("deploy/nginx.conf", "limit_req_status 429;", "limit_req_status 503;", "were limited"),
     "refused_memory": ("tests/refused_memory.c", "errno = ENOMEM;", "abort();", "(-6, "),
@@ -150,6 +157,10 @@ def plant(name, folder):
         copy.parent.mkdir(parents=True)
         shutil.copy(desk.program(program), copy)
         variables[program.upper()] = str(copy)
+    archive = Path("crates/pass_c/out/libpass_c.a")  # of which bin/library makes the library
+    if (desk.ROOT / archive).exists():
+        (folder / archive).parent.mkdir(parents=True)
+        shutil.copy(desk.ROOT / archive, folder / archive)
     for built in desk.ROOT.glob("crates/pass_[fm]*/out/rlib") if name == "field_outlives_bytes" else ():  # what checks have kept
         shutil.copytree(built, folder / built.relative_to(desk.ROOT))
     spoil(Path(variables[file.upper()]) if file in PROGRAMS else folder / file, old, new)
