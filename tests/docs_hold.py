@@ -13,7 +13,7 @@ Programs are proved and built by bin/proved if they have to be. Not part of the 
 """
 # groups: pages
 # groups: quick: --no-commands
-# wants: python3-pytest curl sqlite3 openssl
+# wants: python3-pytest curl sqlite3 openssl gcc libc6-dev pkg-config golang-go nodejs
 
 import os
 import re
