@@ -1,11 +1,11 @@
 #!/bin/sh
-# `bin/package_library` makes the same bytes twice, of which lintian complains nowhere; in a fresh Debian a C program of 30 lines, a static one and
-# a Python one of ten read, narrow and verify the pass of README.
+# `bin/package_library` makes the same bytes twice, and in a fresh Debian programs in C and Python read, narrow and verify the pass of README.
 #
-# Debian is made by debootstrap with a C compiler, pkg-config and Python, and is entered by chroot without a network. The packages are
-# installed by dpkg, the programs are those that libclubpass-dev and python3-clubpass bring as examples, and the wheel is unpacked and imported
-# beside no package at all. After the packages are removed nothing of them is left. Wants root, and Debian's mirror for the fresh Debian:
-# DEBIAN=FOLDER names one that is there already, of which a copy is taken. Not part of the gate.
+# lintian complains nowhere. Debian is made by debootstrap with a C compiler, pkg-config and Python, and is entered by chroot without a network.
+# The packages are installed by dpkg. The programs are the examples that libclubpass-dev and python3-clubpass bring: at most 30 lines in C, also
+# linked statically, and at most ten in Python. The wheel is unpacked and imported without any package. After the packages are removed nothing
+# of them is left. Wants root, and Debian's mirror for the fresh Debian. DEBIAN=FOLDER names one that is there already; the test takes a copy.
+# Not part of the gate.
 # groups: package root
 # wants: debootstrap lintian dpkg-dev xz-utils util-linux python3-build python3-setuptools python3-wheel
 # shellcheck disable=SC2016 # a shell of the fresh Debian reads what is quoted

@@ -1,9 +1,9 @@
 #!/usr/bin/env -S /usr/bin/python3 -B
 """The library of passes beside libmacaroons and pymacaroons: the time to read and verify a pass of three caveats, from the text on.
 
-In C over each form, and libmacaroons over V1, the only one that Debian's reads. In Python the module over each form, and pymacaroons over
-V1, V2 and JSON. pymacaroons and libmacaroons are told the three caveats, and ours tries them against an ask too, in a line of its own. Prints
-the medians of the processor's microseconds, over rounds in which each has its turn, and the ratios. Not part of the gate.
+In C the library reads each form, and Debian's libmacaroons V1 alone. In Python the module reads each form, and so does pymacaroons. Both other
+libraries are given the three caveats; the module tries them against an ask in a line of its own. Prints the medians of the processor's
+microseconds, over rounds in which each has its turn, and the ratios. Not part of the gate.
 
   tests/passes_beside.py [ROUNDS [COUNT]]      COUNT passes of each kind in a round; without: 11 2000
 """

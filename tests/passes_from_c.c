@@ -1,6 +1,6 @@
 /*
- * Calls each function of clubpass.h on its happy path, at its limits and into each fault; and, by the word `threads`, in eight threads at
- * once, each over passes of its own and one that all of them only read. tests/passes_from_c.sh runs it as it is, under valgrind and with
+ * Calls each function of clubpass.h on its happy path, at its limits and into each fault. By the word `threads` it narrows in eight threads at
+ * once. Each has passes of its own, and all of them read one more. Its script tests/passes_from_c.sh runs it as it is, under valgrind and with
  * AddressSanitizer. Texts and signatures are those of docs/vectors.json and of libmacaroons' README.
  *
  * Each input lies at the end of a page, before one that can't be touched: a byte read beyond it ends the program. So does one read before

@@ -1,11 +1,10 @@
 #!/bin/sh
 # Each function of clubpass.h does what the header says, called from C: on its happy path, at its limits and into each fault.
 #
-# tests/passes_from_c.c is built over the shared library and over the static one, by gcc and by clang, in C99 but for what POSIX adds, and the
-# header is read as C++ too. It runs as it is, under valgrind, where no byte that was never written is used and none is lost or beyond a block,
-# with AddressSanitizer and UndefinedBehaviorSanitizer, and in eight threads, which helgrind watches: calls share nothing. Each input ends
-# before a page that can't be touched. Every allocation is refused in its turn: the call says that memory ran out, the object is empty, and
-# nothing is lost. Not part of the gate.
+# tests/passes_from_c.c is built over the shared library and over the static one, by gcc and by clang. The header is also read as C99 and as C++.
+# The program runs as it is, under valgrind, with AddressSanitizer and UndefinedBehaviorSanitizer, and in eight threads, also under helgrind.
+# Each input ends before a page that can't be touched. Every allocation is refused in its turn: the call says that memory ran out, and the object
+# is empty. Not part of the gate.
 # groups: programs quick
 # wants: gcc g++ clang libc6-dev pkg-config valgrind
 set -eu

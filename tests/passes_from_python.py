@@ -1,11 +1,11 @@
 #!/usr/bin/env -S /usr/bin/python3 -B
 """The library of passes says of 100,000 drawn and spoiled texts what `passtool` says, byte for byte, called from Python.
 
-They are drawn by a seed: passes of any bytes in each form, with up to 66 caveats, and of them some are spoiled: a byte of the text or of
-what it encodes is changed, put in, taken out or doubled, an end is cut off, the base64 is written in another alphabet, names of JSON are
-changed, or the text is of any bytes. Each goes to one command of passtool, drawn too, and to the same calls of the library: `show` and
-every part, `convert`, `narrow`, `verify`. Compared are what is printed, the fault's number, and whether the pass is signed. Caveats that
-are drawn are lines of the language or nearly so, and the library knows those that `narrow` without `--any` takes. Not part of the gate.
+They are drawn by a seed: passes of any bytes in each form, with up to 64 caveats. Some are spoiled: bytes of the text, or of what it
+encodes, are changed, put in, taken out or doubled. Others are cut off, in another alphabet of base64, or have odd names in JSON. Each goes to
+one command of passtool and to the same calls of the library: `show` and every part, `convert`, `narrow`, `verify`. The test compares the output,
+the fault's number, and whether the pass is signed. Caveats are lines of the language or nearly so: the library knows those that `narrow` without
+`--any` takes. Not part of the gate.
 
   tests/passes_from_python.py [--count N] [--seed N]
 """

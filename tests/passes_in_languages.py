@@ -1,9 +1,9 @@
 #!/usr/bin/env -S /usr/bin/python3 -B -m pytest -q -p no:cacheprovider
 """The library of passes agrees with docs/vectors.json from C, Python, Go and Node.js, and with libmacaroons and pymacaroons both ways.
 
-Each pass in each form, each text that is read as another's pass, each text that is none; from Python also the verdict of each caveat on
-each request. libmacaroons, from C, and pymacaroons narrow and verify what the library mints, and the library what they make. The examples
-of bindings/ print what docs/LIBRARY.md shows. Not part of the gate.
+The vectors are each pass in each form, texts that are read as the same pass, and texts that are none. Python also has the verdict of each caveat
+on each request. libmacaroons and pymacaroons narrow and verify passes that the library mints, and the library passes that they make. The
+examples of bindings/ narrow the pass of README. Not part of the gate.
 """
 # groups: programs
 # wants: python3-pytest python3-pymacaroons gcc libc6-dev pkg-config golang-go nodejs libmacaroons-dev
@@ -53,7 +53,7 @@ def told(vector, form):
 
 
 def lines():
-    """What each program is given, and what it has to tell."""
+    """Each line that a program is given, with the line that it has to tell."""
     for vector in VECTORS["passes"]:
         for form in FORMS:
             if form in vector:

@@ -1,8 +1,8 @@
 /*
- * A target of libFuzzer over the library of passes, for tests/passes_fuzzed.sh. The first byte of an input says what the rest is: a text; the
- * bytes of V1, V2 or JSON, which are put into base64; a caveat; or the bytes of an object. It ends the program where a call breaks its header:
- * a text that is read must be written and read again as the same pass, a narrowed pass must be signed under a root that it was minted under,
- * and a fault must leave what the header says.
+ * A target of libFuzzer over the library of passes, for tests/passes_fuzzed.sh. The first byte of an input names the kind of the rest: a text,
+ * bytes that are put into base64, a caveat, or the bytes of an object. The target aborts if a call breaks its header. A text that is read must
+ * be written and read again as the same pass. A narrowed pass must be signed under the root of its minting. A fault must leave what the header
+ * says.
  *
  * The library's own code counts no branches, so the fuzzer is led by that of this file: by faults, forms, counts and lengths. Each text lies at
  * the end of a page, before one that can't be touched.

@@ -127,7 +127,7 @@ func (pass *Pass) Location() []byte {
 	return out[:length:length]
 }
 
-// Identifier is that by which the root is found.
+// Identifier names the root.
 func (pass *Pass) Identifier() []byte {
 	out := make([]byte, C.CLUBPASS_ROOM)
 	var length C.size_t

@@ -234,7 +234,7 @@ class Pass:
 
     @property
     def identifier(self) -> bytes:
-        """By this the root is found."""
+        """The name of the root."""
         return self._told(lambda *out: _library.clubpass_identifier(self._at, *out))
 
     @property
@@ -251,7 +251,7 @@ class Pass:
         return out.raw
 
     def _told(self, call) -> bytes:
-        """What a call writes into a buffer: one of 1,024 bytes, and if that is too short one of the length that it tells."""
+        """Returns the bytes that a call writes. The buffer has 1,024 bytes; if that is too short, a second one has the length that it tells."""
         room, length = 1024, ctypes.c_size_t()
         while True:
             out = ctypes.create_string_buffer(room)

@@ -91,7 +91,7 @@ pub record Reports (caveats : List (List ℕ)) (ask : Ask) (code number : ℕ) :
   pub says : code ≡ verdict_code fault
   pub counts : number ≡ verdict_number fault
 
--- What a call answers to an object: the first fault of the caveats for its ask, or that it holds none.
+-- The answer to an object: the first fault of the caveats for its ask, or that it holds no ask.
 pub record Answers (caveats : List (List ℕ)) (object : AskObject) (code number : ℕ) : Type 0 where
   pub ask : Option Ask
   pub asked : IsAskOf object ask

@@ -1,4 +1,4 @@
--- The numbers by which C knows a form and a fault (ours).
+-- The numbers of forms and faults in C (ours).
 use Rattle.std.specs.Prelude.{ℕ, nat_le, if◌then◌else◌, ◌==◌, Result, Ok, Err}
 use Rattle.pass_forms.specs.declared.fault.FormFault.{FormFault}
 use Rattle.pass_forms.specs.declared.fault.FormFault.TheVariants.{TooLong, Malformed, ThirdParty, TooMany, Memory}

@@ -1,4 +1,4 @@
-//! The numbers by which C knows a form and a fault.
+//! The numbers of forms and faults in C.
 
 ghost use Rattle.std.specs.Prelude.{◌≡◌};
 ghost use Rattle.club_values.specs.Reading.{Reads};

@@ -90,7 +90,7 @@ pub fn copy_pieces(
     copy_pieces(alloc, list, others, rest)
 }
 
-/// The first fault of the pieces as caveats, the first of which has this number.
+/// The first fault of the pieces as caveats, numbered from this number on.
 pub fn first_fault_in(lens: &[u16], bytes: &[u8], number: usize, ask: &Ask) -> Option<CaveatFault>
     requires { number + length lens.now ≤ 65 }
     ensures { result
