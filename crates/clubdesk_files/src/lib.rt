@@ -10,6 +10,7 @@ mod handover;
 mod named;
 mod open_file;
 mod openings;
+mod retried;
 mod user;
 mod visit;
 
@@ -20,5 +21,6 @@ pub use files::Files;
 pub use handover::{CommandWriter, answered, greeted};
 pub use named::{NamedStore, Removable};
 pub use open_file::OpenFile;
+pub use retried::{Servers, hand_over_until_done};
 pub use user::{DatabasesUser, run_over_files};
 pub use visit::{FileVisit, connect};

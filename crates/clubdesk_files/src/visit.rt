@@ -1,9 +1,10 @@
 //! A command that is given to a server.
 
 use crate::beside::{Place, fault_of};
-use crate::handover::{answered, greeted};
+use crate::handover::greeted;
+use crate::retried::{Servers, hand_over_until_done};
 use club_core::StoreFault;
-use desk_server::{NOTHING_DONE, NOTHING_DONE_TEXT, Visit};
+use desk_server::Visit;
 use std::io;
 use std::io::ErrorKind;
 use std::os::unix::net::UnixStream;
@@ -13,30 +14,32 @@ use std::time::Duration;
 /// patience.
 const GREETING_SECONDS: u64 = 60;
 
-/// How many seconds the server has to take a command and to answer it.
-const ANSWER_SECONDS: u64 = 600;
-
-/// A server that has greeted.
+/// A server of a database, which has greeted.
 #[derive(Drop)]
 pub struct FileVisit<'a> {
     rt: &'a HostRuntime,
-    stream: UnixStream,
+    file: String,
+    // `None` once the command was handed over: the next attempt looks for a server again
+    greeted: Option<UnixStream>,
 }
 
 impl<'a> FileVisit<'a> {
-    /// Waits for the greeting of a server, over a connection to its door.
+    /// Waits for the greeting of the server of a database, over a connection to its door.
     ///
     /// # Errors
     ///
-    /// It doesn't greet in time, or otherwise, or the connection fails.
-    pub fn over(rt: &'a HostRuntime, stream: UnixStream) -> io::Result<FileVisit<'a>> {
+    /// It doesn't greet in time, or otherwise; the connection fails; or memory is refused.
+    pub fn over(rt: &'a HostRuntime, file: &str, stream: UnixStream) -> io::Result<FileVisit<'a>> {
+        let file = format!(in rt.alloc(); "{file}")?;
         stream.set_read_timeout(Some(Duration::from_secs(GREETING_SECONDS)))?;
         greeted(&mut &stream)?;
-        Ok(FileVisit { rt, stream })
+        let greeted = Some(stream);
+        Ok(FileVisit { rt, file, greeted })
     }
 }
 
 /// The result of a look at the door of a database.
+#[derive(Drop)]
 pub(crate) enum Found<'a> {
     /// A server has greeted.
     Server(FileVisit<'a>),
@@ -55,7 +58,7 @@ pub(crate) enum Found<'a> {
 /// the door made it; or memory is refused. Nothing was sent.
 pub(crate) fn find_server<'a>(rt: &'a HostRuntime, file: &str) -> Result<Found<'a>, StoreFault> {
     match connect(rt, file) {
-        Ok(stream) => match FileVisit::over(rt, stream) {
+        Ok(stream) => match FileVisit::over(rt, file, stream) {
             Ok(visit) => Ok(Found::Server(visit)),
             Err(error) => match error.kind() {
                 ErrorKind::UnexpectedEof | ErrorKind::ConnectionReset => Ok(Found::Ended),
@@ -88,33 +91,27 @@ pub fn connect(rt: &HostRuntime, file: &str) -> io::Result<UnixStream> {
     UnixStream::connect(rt, path.as_str())
 }
 
-/// No contract states what a server answers.
-impl Visit for FileVisit<'_> {
-    ghost gives = { λ _ _ _. Unit {0} };
-
-    fn give(self, command: &[u8]) -> Option<(u8, String)> {
-        let FileVisit { rt, stream } = self;
-        limit_answer(&stream).ok()?;
-        match answered(rt.alloc(), &mut &stream, &mut &stream, command) {
-            Ok(answer) => Some(answer),
-            // The server closed before it had read the whole command, so it can't carry it out.
-            Err(error) => match error.kind() {
-                ErrorKind::BrokenPipe | ErrorKind::ConnectionReset => nothing_done(rt),
+impl Servers for FileVisit<'_> {
+    fn next(&mut self) -> Option<UnixStream> {
+        match self.greeted.take() {
+            Some(stream) => Some(stream),
+            None => match find_server(self.rt, self.file.as_str()) {
+                Ok(Found::Server(visit)) => {
+                    let FileVisit { greeted, .. } = visit;
+                    greeted
+                }
                 _ => None,
             },
         }
     }
 }
 
-// The answer of a server that got no whole command.
-fn nothing_done(rt: &HostRuntime) -> Option<(u8, String)> {
-    let text = format!(in rt.alloc(); "{NOTHING_DONE_TEXT}").ok()?;
-    Some((NOTHING_DONE, text))
-}
+/// No contract states what a server answers.
+impl Visit for FileVisit<'_> {
+    ghost gives = { λ _ _ _. Unit {0} };
 
-// Limits how long the server may take a command, and answer it.
-fn limit_answer(stream: &UnixStream) -> io::Result<()> {
-    let most = Some(Duration::from_secs(ANSWER_SECONDS));
-    stream.set_read_timeout(most)?;
-    stream.set_write_timeout(most)
+    fn give(mut self, command: &[u8]) -> Option<(u8, String)> {
+        let rt = self.rt;
+        hand_over_until_done(rt.alloc(), rt, &mut self, command)
+    }
 }

@@ -62,7 +62,19 @@ impl Attempts for Trier {
 
 /// Counts the milliseconds that are slept by it.
 #[derive(Drop)]
-struct Sleeper(Cell<u64>);
+pub struct Sleeper(Cell<u64>);
+
+impl Sleeper {
+    /// One by which nothing was slept yet.
+    pub fn new() -> Sleeper {
+        Sleeper(Cell::new(0))
+    }
+
+    /// The milliseconds slept.
+    pub fn slept(&self) -> u64 {
+        self.0.get()
+    }
+}
 
 impl Clock for Sleeper {
     fn monotonic(&self) -> io::Result<Duration> {
@@ -83,10 +95,10 @@ impl Clock for Sleeper {
 static TRIED: [(u32, bool, u64); 4] = [(0, true, 0), (1, true, 10), (4, true, 40), (5, false, 50)];
 
 fn expect_tried(rt: &impl Abort, vain: u32, gains: bool, millis: u64) {
-    let sleeper = Sleeper(Cell::new(0));
+    let sleeper = Sleeper::new();
     let gained = gain(&mut Trier(vain), &sleeper, 5);
     expect_eq(rt, &gained.is_some(), &gains);
-    expect_eq(rt, &sleeper.0.get(), &millis);
+    expect_eq(rt, &sleeper.slept(), &millis);
 }
 
 #[test]

@@ -1,8 +1,9 @@
 //! Commands that are handed over to a server, over sockets: what the server is sent, and what is
 //! made of its answer.
 
+use crate::beside::Sleeper;
 use crate::runs::{Row, expect_rows, new_path, remove};
-use clubdesk_files::{FileDoor, FileVisit, connect};
+use clubdesk_files::{FileDoor, FileVisit, Servers, connect, hand_over_until_done};
 use desk_server::{Door, Visit};
 use std::fs;
 use std::io::{Read, Write};
@@ -14,10 +15,13 @@ use std::test::Fail;
 /// The bytes of a command: those that come by the door, whole.
 const COMMAND: &[u8] = b"5\0\0clubdesk\0add-member\0club\0amy\05\0";
 
+/// The name of a database that has no server.
+const NO_FILE: &str = "none";
+
 /// What a server sends, and the status and the text that are read of it.
 type Answered = (&'static [u8], Option<(u8, &'static str)>);
 
-static ANSWERED: [Answered; 9] = [
+static ANSWERED: [Answered; 8] = [
     (b"!\0done\n\0", Some((0, "done\n"))),
     (b"!\x01refused: exists\0", Some((1, "refused: exists"))),
     (b"!\x04\0", Some((4, ""))),
@@ -25,7 +29,6 @@ static ANSWERED: [Answered; 9] = [
         b"!\x03\xc3\x84 is no name\0",
         Some((3, "\u{c4} is no name")),
     ),
-    (b"!\x09nothing was done\0", Some((9, "nothing was done"))),
     // It took the command, and then it was gone, or its answer was cut.
     (b"!", None),
     (b"!\0", None),
@@ -66,7 +69,7 @@ fn expect_handed(
 fn hands_over(rt: &HostRuntime, (bytes, want): &Answered) -> Result<(), Fail> {
     let (client, mut server) = UnixStream::pair(rt)?;
     send(&mut server, bytes)?;
-    expect_handed(rt, FileVisit::over(rt, client)?, &mut server, want)
+    expect_handed(rt, FileVisit::over(rt, NO_FILE, client)?, &mut server, want)
 }
 
 #[test]
@@ -77,15 +80,111 @@ fn hands_a_command_over(rt: HostRuntime) -> Result<(), Fail> {
     Ok(())
 }
 
-// A server that is gone once it has greeted wasn't given the command, and can't carry it out.
+/// Servers that have greeted, the next one last. They are asked for by a clock that only sleeps
+/// move.
+#[derive(Drop)]
+struct Greeted(Vec<UnixStream>);
+
+impl Servers for Greeted {
+    fn next(&mut self) -> Option<UnixStream> {
+        self.0.pop()
+    }
+}
+
+/// What servers send one after the other, to whom a command is handed until it is done; then what
+/// is told, how many of them get it, and the milliseconds slept.
+struct Retried(
+    &'static [&'static [u8]],
+    Option<(u8, &'static str)>,
+    usize,
+    u64,
+);
+
+const NOTHING: &[u8] = b"\x09nothing was done\0";
+
+static RETRIED: [Retried; 6] = [
+    Retried(&[b"\0done\n\0", NOTHING], Some((0, "done\n")), 1, 0),
+    Retried(&[NOTHING, b"\0done\n\0"], Some((0, "done\n")), 2, 10),
+    Retried(
+        &[NOTHING, NOTHING, b"\x01refused: exists\0"],
+        Some((1, "refused: exists")),
+        3,
+        20,
+    ),
+    // It may have been carried out, so it isn't sent again.
+    Retried(&[b"", b"\0done\n\0"], None, 1, 0),
+    Retried(&[NOTHING, b"\0done\n", b"\0done\n\0"], None, 2, 10),
+    // Ten seconds are over.
+    Retried(
+        &[NOTHING, NOTHING],
+        Some((9, "nothing was done")),
+        2,
+        10_000,
+    ),
+];
+
+// Fails unless the first so many servers got the command once, and the others nothing.
+fn expect_got(rt: &HostRuntime, servers: &mut Vec<UnixStream>, got: usize) -> Result<(), Fail> {
+    for (n, server) in servers.iter_mut().enumerate() {
+        let mut sent = Vec::new(rt.alloc());
+        server.read_to_end(&mut sent)?;
+        let want = if n < got { COMMAND } else { b"" };
+        if sent.as_slice() != want {
+            return Err("a server got other bytes".into());
+        }
+    }
+    Ok(())
+}
+
+fn tries_again(rt: &HostRuntime, retried: &Retried) -> Result<(), Fail> {
+    let Retried(replies, want, got, millis) = retried;
+    let mut servers = Vec::new(rt.alloc());
+    let mut clients = Vec::new(rt.alloc());
+    for bytes in *replies {
+        let (client, mut server) = UnixStream::pair(rt)?;
+        send(&mut server, bytes)?;
+        servers.push(server)?;
+        clients.push(client)?;
+    }
+    clients.reverse();
+    let clock = Sleeper::new();
+    let mut greeted = Greeted(clients);
+    let answer = hand_over_until_done(rt.alloc(), &clock, &mut greeted, COMMAND);
+    drop(greeted);
+    expect_got(rt, &mut servers, *got)?;
+    let answer = match &answer {
+        Some((status, text)) => Some((*status, text.as_str())),
+        None => None,
+    };
+    if answer != *want || clock.slept() != *millis {
+        return Err("another answer, or another time".into());
+    }
+    Ok(())
+}
+
+// A command that no server got whole is tried again for ten seconds, and no other command is.
+#[test]
+fn tries_again_until_done(rt: HostRuntime) -> Result<(), Fail> {
+    for retried in &RETRIED {
+        tries_again(&rt, retried)?;
+    }
+    Ok(())
+}
+
+// A server that is gone once it has greeted wasn't given the command, and can't carry it out: the
+// next one does.
 #[test]
 fn nothing_was_done_by_a_server_that_is_gone(rt: HostRuntime) -> Result<(), Fail> {
-    let (client, mut server) = UnixStream::pair(&rt)?;
-    server.write_all(b"!")?;
-    let visit = FileVisit::over(&rt, client)?;
+    let (gone, server) = UnixStream::pair(&rt)?;
     drop(server);
-    match visit.give(COMMAND) {
-        Some((9, line)) if line.as_str() == "nothing was done" => Ok(()),
+    let (client, mut server) = UnixStream::pair(&rt)?;
+    send(&mut server, b"\0done\n\0")?;
+    let mut clients = Vec::new(rt.alloc());
+    clients.push(client)?;
+    clients.push(gone)?;
+    let mut greeted = Greeted(clients);
+    match hand_over_until_done(rt.alloc(), &Sleeper::new(), &mut greeted, COMMAND) {
+        Some((0, line)) if line.as_str() == "done\n" => Ok(()),
         _ => Err("something else was told".into()),
     }
 }
@@ -98,7 +197,7 @@ static NO_GREETINGS: [&[u8]; 3] = [b"", b"?", b"\0"];
 fn hands_nothing(rt: &HostRuntime, bytes: &[u8]) -> Result<(), Fail> {
     let (client, mut server) = UnixStream::pair(rt)?;
     send(&mut server, bytes)?;
-    if FileVisit::over(rt, client).is_ok() {
+    if FileVisit::over(rt, NO_FILE, client).is_ok() {
         return Err("this is no greeting".into());
     }
     let mut sent = Vec::new(rt.alloc());
@@ -133,7 +232,8 @@ fn hands_over_by_a_door_behind_a_link(rt: HostRuntime) -> Result<(), Fail> {
     server.set_nonblocking(false)?;
     send(&mut server, b"!\0done\n\0")?;
     let want = Some((0, "done\n"));
-    expect_handed(&rt, FileVisit::over(&rt, client)?, &mut server, &want)?;
+    let visit = FileVisit::over(&rt, link.as_str(), client)?;
+    expect_handed(&rt, visit, &mut server, &want)?;
     fs::remove_file(&rt, link.as_str())?;
     remove(&rt, path.as_str());
     Ok(())
