@@ -223,6 +223,7 @@ def test_what_a_server_may_send(club, greeting, reply, wanted):
                 if greeting == b"!":
                     desk.read(it)
                     it.sendall(reply)
+            door.close()
 
         server = threading.Thread(target=serve_one)
         server.start()
@@ -231,7 +232,7 @@ def test_what_a_server_may_send(club, greeting, reply, wanted):
 
 
 def test_a_server_that_closes_after_it_greeted(club):
-    """It read nothing of the command, or not all of it: so it can't carry it out, and the command says so."""
+    """It read nothing of the command, or not all of it: so it can't carry it out, and the next one does."""
     with socket.socket(socket.AF_UNIX) as door:
         door.bind(f"{club.file}-office")
         door.listen()
@@ -240,11 +241,15 @@ def test_a_server_that_closes_after_it_greeted(club):
             with door.accept()[0] as it:
                 it.sendall(b"!")
                 assert len(it.recv(count)) == count
+            with door.accept()[0] as it:
+                it.sendall(b"!")
+                desk.read(it)
+                it.sendall(b"\0done\n\0")
 
         for count in (0, 1, 7):
             server = threading.Thread(target=close_after, args=[count])
             server.start()
-            assert club.command("credit", "amy", "1") == NOTHING
+            assert club.command("credit", "amy", "1") == DONE
             server.join()
 
 
