@@ -8,13 +8,13 @@ use std::io::{self, ErrorKind};
 use std::os::unix::net::UnixStream;
 use std::time::{Clock, Duration, Instant};
 
-/// How many seconds the server has to take a command and to answer it.
+/// The seconds that the server has to take a command and to answer it.
 const ANSWER_SECONDS: u64 = 600;
 
-/// How many seconds a command is tried again for.
+/// A command is tried again within this many seconds.
 const RETRY_SECONDS: u64 = 10;
 
-/// How often a command is tried, at most.
+/// The most attempts of a command.
 const MAX_HANDOVERS: u32 = 10 * ATTEMPTS_A_SECOND;
 
 /// The servers that a command finds, one after the other.

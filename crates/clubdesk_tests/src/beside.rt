@@ -65,7 +65,7 @@ impl Attempts for Trier {
 pub struct Sleeper(Cell<u64>);
 
 impl Sleeper {
-    /// One by which nothing was slept yet.
+    /// A clock before its first sleep.
     pub fn new() -> Sleeper {
         Sleeper(Cell::new(0))
     }

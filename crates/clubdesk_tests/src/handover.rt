@@ -80,8 +80,7 @@ fn hands_a_command_over(rt: HostRuntime) -> Result<(), Fail> {
     Ok(())
 }
 
-/// Servers that have greeted, the next one last. They are asked for by a clock that only sleeps
-/// move.
+/// Servers that have greeted, the next one last.
 #[derive(Drop)]
 struct Greeted(Vec<UnixStream>);
 
@@ -91,8 +90,8 @@ impl Servers for Greeted {
     }
 }
 
-/// What servers send one after the other, to whom a command is handed until it is done; then what
-/// is told, how many of them get it, and the milliseconds slept.
+/// A command that is tried again: the answers of the servers in order, the command's own answer,
+/// the number of servers that get it, and the milliseconds slept.
 struct Retried(
     &'static [&'static [u8]],
     Option<(u8, &'static str)>,
