@@ -3,20 +3,22 @@
 Wants root, for a machine of its own (tests/office_room.sh).
 
 The clerk knows no command, and uses the menu alone. Names, days and hours are written as people write them, also in commands. If two
-members fit, or something is odd, the office asks. Ctrl-C in each question changes nothing. Without a terminal a part of a name is none.
+members fit, or something is odd, the office asks. Refusals, lists and usage are in German, too. Ctrl-C in each question changes nothing. Without a terminal a part of a name is none.
 Not part of the gate.
 """
 # groups: package root
 # wants: sudo sqlite3 openssl util-linux bsdutils iproute2 systemd python3-psutil python3-pexpect
 
 import datetime
+import subprocess
 import time
 
 import pexpect
 
-from office_room import Service, configure, done, everything, leave, office, rows, run_as, same, whole
+from office_room import ROOM, Service, configure, done, everything, leave, office, rows, run_as, same, whole
 
 TODAY = datetime.date.today()
+LINES = {"SITE": "https://desk.example.org", "PAGES": ROOM / "pages", "ZONE_NAME": "Etc/UTC", "TITLE": '"Our club"'}
 ENTER = ""
 
 
@@ -62,7 +64,8 @@ def task(called, *pairs, language="C.UTF-8", begin="Task: ", end="Enter for"):
 
 
 def make_club():
-    configure()
+    subprocess.run(["install", "-d", "-o", "clubdesk", ROOM / "pages"], check=True)
+    configure(**LINES)
     done("new")
     for words in ("add-facility court-1 court 4 200 8 22", "add-facility court-2 court 4 200 8 22", "add-facility boat-1 boat 2 50 6 20",
                   "add-member baecker-karin 5", "add-member baecker-karl 5", "add-member mueller-bob 2", "credit baecker-karin 5000",
@@ -110,6 +113,76 @@ def in_german():
     same("every line fits 80 columns", [it for it in shown.shown.replace("\r", "").split("\n") if len(it) > 80], [])
 
 
+def refused_in_german():
+    """What is refused says so in the clerk's language; comma-separated values are the same in each."""
+    def german(*words):
+        return run_as("anna", "env", "LANG=de_DE.UTF-8", "office", "club", *words)
+
+    for words, status, line in (
+        (["set-quota", "nobody", "3", "--yes"], 1, "abgelehnt: es gibt kein Mitglied nobody\n"),
+        (["debit", "mueller-bob", "99999", "--yes"], 1, "abgelehnt: mueller-bob hat 5000 Punkte\n"),
+        (["close", "2026-13-01", "9", "court-1", "--yes"], 3, "falscher Wert: '2026-13-01' ist kein Tag JJJJ-MM-TT von 2000 bis 2099\n"),
+        (["credit", "nobody", "5"], 1, "abgelehnt: gibt es nicht\n"),
+        (["credit", "mueller-bob", "x"], 3, "falscher Wert\n"),
+        (["restore", "2001-01-01T000000Z", "--yes"], 1, "abgelehnt: es gibt keine Kopie 2001-01-01T000000Z; `office club copies` zeigt sie\n"),
+        (["record", "nobody-1"], 1, "abgelehnt: es gibt keinen Schlüssel nobody-1\n"),
+        (["import", "nothing.csv"], 7, "nothing.csv ist nicht zu lesen: "),
+        (["book", "mueller-bob", "court-1", "+1", "23"], 1, "abgelehnt: der Empfang sagt: nicht zu buchen"),
+    ):
+        found, _, errors = german(*words)
+        same(f"{words} in German", (found, errors if line.endswith("\n") else errors[:len(line)]), (status, line))
+    status, _, errors = german("credit")
+    same("usage in German", (status, "Aufruf: " in errors, "es fehlen: MEMBER, POINTS" in errors), (2, True, True))
+    same("done, in German", german("set-quota", "mueller-bob", "7", "--yes")[1].splitlines()[-1], "erledigt")
+    same("a list's heads", german("members")[1].split()[:5], ["Mitglied", "Punkte", "zugleich", "offen", "Schlüssel"])
+    same("but not in values", german("members", "--csv"), office("members", "--csv"))
+    status, _, errors = run_as("anna", "env", "LANG=de_DE.UTF-8", "office", "other", "members")
+    same("no such club", (status, errors), (1, "abgelehnt: kein Verein other ist eingerichtet: es gibt kein /etc/clubdesk/other.conf\n"))
+
+
+def calls():
+    """What members ask for who call, by the menu."""
+    day = TODAY + datetime.timedelta(2)
+    shown = task("book for", ("Member", "bob"), ("Court", "court 2"), ("Day", "+2"), ("Hours", "15-17"), ("How many", "1"), ("Do it", ENTER))
+    shown.has("a booking for a caller", f"office club book mueller-bob court-2 {day} 15 1", f"booked court-2 {day} 16:00 for mueller-bob, 2 persons")
+    task("cancel for", ("Member", "bob"), ("Number", "1"), ("Do it", ENTER)).has("a cancellation for a caller", f"cancelled court-2 {day} 15:00 of mueller-bob")
+    task("cancel, all", ("Member", "bob"), ("Number", "1"), ("Shall", "y")).has("all points back", "office club cancel mueller-bob-office 2", "done")
+    same("nothing is booked", rows("SELECT count(*) FROM bookings WHERE cancelled = 0"), [(0,)])
+    task("book for", ("Member", "bob"), ("Court", "court 2"), ("Day", "+2"), ("Hours", "15"), ("How many", "0"), ("Do it", ENTER))
+    task("rain", ("Day", "+2"), ("Which", "courts"), ("Hours", "15"), ("Shall", "y")).has("rain", "1 person", "done")
+    task("undo the last", ("Shall", "y")).has("undone", "undoes what was done on", "puts back the booking")
+    same("the booking again", rows("SELECT count(*) FROM bookings WHERE cancelled = 0"), [(1,)])
+    task("name, mail", ("Member", "bob"), ("Name", "Bob Müller"), ("Mail", "bob@example.org"), ("Telephone", "+49 1")).has("a person", "done")
+    task("what a member has", ("Member", "müller bob")).has("a member by the name as it is written", "Bob Müller")
+    task("a lost list", ("Member", "bob"), ("none: ", "2")).has("a lost list", "record of mueller-bob-office")
+    task("one more key", ("Member", "bob"), ("Do it", ENTER)).has("one more key", "the pass is in the file mueller-bob-2")
+    task("the sheet", ("Day", "+2")).has("a sheet", "Day sheet", "mueller-bob-office")
+    task("who has booked a day", ("Day", "+2")).has("a day", "mueller-bob-office")
+    task("who has booked one", ("Court", "court-2")).has("a court", "mueller-bob-office")
+    task("a member leaves", ("Member", "karl"), ("Shall", "y")).has("a member leaves", "member baecker-karl becomes 1")
+
+
+def season_start():
+    """The season's start, by the menu: members from a list, letters, points for all, training, a new court, a new year, the board's page."""
+    run_as("anna", "sh", "-c", "printf 'Name;Buchungen;Punkte\\nIda Lund;3;500\\nÖzil, Can;3;500\\n' >members.csv; mkdir -p passes")
+    task("members from a list", ("File", "members.csv"), ("Shall", "y")).has("a list", "read as UTF-8 with ;", "ida-lund: done", "2 of 2 rows done")
+    task("letters with").has("letters", f"office club letters --to letters-{TODAY}.html", "sheets for 2 members")
+    task("the season's points", ("Points", "300"), ("A name", "season 2027"), ("Shall", "y")).has("points for all", "office club credit-all 300 --as season-2027", "members credited with 300 points")
+    same("they have them", rows("SELECT credited FROM members WHERE name = 'ida-lund'"), [(800,)])
+    task("the season's points", ("Points", "300"), ("A name", "season 2027")).has("once", "season-2027 was given already")
+    first = TODAY + datetime.timedelta(7)
+    task("close each week", ("First", "+7"), ("Last", "+28"), ("Hours", "18-20"), ("Why", "Training"), ("Which", "court-1"), ("Shall", "y")).has(
+        "training", f"office club close {first}..{TODAY + datetime.timedelta(28)} 18-20 court-1 --weekday {first:%A} --why Training".lower().replace("training", "Training"), "in all: 8 slots closed")
+    task("a new one", ("Short", "court-3"), ("Kind", "court"), ("Places", "2"), ("Points", "100"), ("Opening", "8-22"), ("Do it", ENTER)).has("a new court", "office club add-facility court-3 court 2 100 8 22")
+    task("the page's list").has("the page's list", "club.json: done")
+    task("the board's page").has("the board's page", f"report-{TODAY.year}.html")
+    done("close", str(TODAY - datetime.timedelta(3)), "10", "court-3", "--yes")
+    task("a new year", ("Shall", "n")).has("a new year that isn't confirmed", "not confirmed")
+    task("a new year", ("Shall", "y")).has("a new year", "office club new-year", "copies the file, as it is, to", "done")
+    task("put a copy", ("Number", "1"), ("Shall", "n")).has("a restore that isn't confirmed", "not confirmed")
+    task("all of them").has("all courts", "court-3")
+
+
 def what_is_odd():
     """A day that is over or far, and points above ten times the usual, are asked about, in the menu and in words."""
     before = everything()
@@ -137,6 +210,8 @@ def words_of_commands():
     same("without a terminal", office("credit", "muller", "10"), (1, "", "refused: unknown\n"))
     same("a correction without a terminal", office("debit", "muller", "10", "--yes")[0], 1)
     day = TODAY + datetime.timedelta(3)
+    for near, word in ((0, "today"), (0, "heute"), (1, "tomorrow"), (1, "morgen"), (-1, "gestern")):
+        same(f"the day {word!r}", office("sheet", word)[1].splitlines()[0], f"Day sheet {TODAY + datetime.timedelta(near)}")
     for word in ("+3", f"{day:%A}", f"{day:%a}".lower(), f"{day.day}.{day.month}.", f"{day.day} {day:%B}", str(day)):
         same(f"the day {word!r}", office("sheet", word), (0, done("sheet", str(day)), ""))
     same("an hour", office("show-slot", "court-1", "+3", "10:00")[1].splitlines()[2], "hour 10")
@@ -187,5 +262,11 @@ what_is_odd()
 words_of_commands()
 interrupted()
 previews()
+server = Service(at=f"{TODAY}T08:00")
+configure(**LINES, PORT=server.port)
+refused_in_german()
+calls()
+season_start()
+server.stop()
 whole("all tasks")
 leave()

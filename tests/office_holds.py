@@ -378,7 +378,7 @@ def restores(server):
     done("set-facility", "boat-1", "--price", "60", *YES)
     done("close-slot", "court-2", DAY, "11")
     after = everything()
-    same("the copies", {line.rsplit(",", 1)[0] for line in lines("copies", "--csv")} >= {"copy,is", f"{night},back-up"}, True)
+    same("the copies", {",".join(line.split(",")[:2]) for line in lines("copies", "--csv")} >= {"copy,is", f"{night},back-up"}, True)
     shown = [
         "forgets the member dora", f"balance of amy: {balance + 250}, then {balance}", "forgets the key dora-1: its passes are refused",
         "takes passes of amy-3 of before it was rotated, and refuses those of after", "takes passes of amy-5, which is revoked now",
@@ -394,7 +394,7 @@ def restores(server):
     same("the server began anew", server.starts > starts, True)
     whole("a restore")
     undone = sorted(file for file in os.listdir(f"{HOME}/club-before") if file.endswith("-restore"))[-1]
-    same("its own copy is listed", f"{undone},before a correction" in {line.rsplit(",", 1)[0] for line in lines("copies", "--csv")}, True)
+    same("its own copy is listed", f"{undone},before a correction" in {",".join(line.split(",")[:2]) for line in lines("copies", "--csv")}, True)
     same("what undoes it", lines("restore", undone, *YES), [
         "has the member dora again", f"balance of amy: {balance}, then {balance + 250}", "has the key dora-1 again, and its passes",
         "takes passes of amy-3 of before it was rotated, and refuses those of after", "refuses passes of amy-5, which is revoked again",
@@ -577,6 +577,24 @@ def make_season_club():
     return server, pages, lines_of, today + datetime.timedelta(1)
 
 
+def lists_as_they_are_written():
+    """A list with tabs, a byte-order mark, in UTF-16, or with columns of other names, is read as it is meant, which is said first."""
+    for called, data, words, read in (
+        ("tabs.csv", "name\tquota\tpoints\nTab Ulator\t1\t5\n".encode(), [], "read as UTF-8 with tab between the columns: name = name, quota = quota, points = points"),
+        ("mark.csv", "\ufeffname,quota,points\nBörte Mark,1,5\n".encode(), [], "read as UTF-8 with , between the columns: name = name, quota = quota, points = points"),
+        ("wide.csv", "name;quota;points\nWíde Ünit;1;5\n".encode("utf-16"), [], "read as UTF-16 with ; between the columns: name = name, quota = quota, points = points"),
+        ("map.csv", "Player,Balance,Team\nMap Ola,5,A\n".encode(), ["--columns", "name=Player,points=Balance", "--quota", "1"],
+         "read as UTF-8 with , between the columns: name = Player, points = Balance; passed over: Team"),
+    ):
+        Path(f"/home/anna/{called}").write_bytes(data)
+        out = done("import", called, *words, "--passes", "written", "--yes")
+        same(f"how {called} was read", " ".join(out.partition("\nline")[0].split()), read)
+    same("the members", rows("SELECT name, quota, credited FROM members WHERE name IN ('tab-ulator', 'boerte-mark', 'wide-uenit', 'map-ola') ORDER BY name"),
+         [("boerte-mark", 1, 5), ("map-ola", 1, 5), ("tab-ulator", 1, 5), ("wide-uenit", 1, 5)])
+    same("their names as they are written", [it.split(",", 5)[5] for it in lines("members", "--csv") if it.startswith(("boerte", "wide"))], ["Börte Mark", "Wíde Ünit"])
+    same("a map that is none", office("import", "map.csv", "--columns", "name=Nobody")[0], 3)
+
+
 def for_callers(server, day):
     """A booking and a cancellation for a member who calls are requests at the desk, under its rules."""
     shown = done("book", "moeller-kaethe", "court-1", str(day), "18", "1")
@@ -624,8 +642,9 @@ def in_use_of_persons(server, lines_of, day):
     given = '{"name": "Bob Ray", "mail": "b@example.org", "telephone": "=1"}'
     line = "sudo -n -u clubdesk /usr/bin/office --desk club set-person ray-bob".split()
     same("a telephone number that is none", run_as("anna", *line, given=given)[0], 3)
-    same("a person", run_as("anna", *line, given=given.replace("=1", "+1"))[:2], (0, "done\n"))
-    same("a formula is quoted", [line for line in lines("members", "--csv") if "Bob Ray" in line], ["ray-bob,1000,5,0,1,Bob Ray"])
+    for name, cell in (("=SUM(A1)", "'=SUM(A1)"), ("+1", "'+1"), ("@x", "'@x"), ("-1", "'-1"), ("Bob Ray", "Bob Ray")):
+        same("a person", run_as("anna", *line, given=given.replace("=1", "+1").replace("Bob Ray", name))[:2], (0, "done\n"))
+        same(f"the cell {name}", [it for it in lines("members", "--csv") if it.startswith("ray-bob")], [f"ray-bob,1000,5,0,1,{cell}"])
     kept = [BOOK.read_text(encoding="utf-8"), (ROOM / "club.log").read_text(encoding="utf-8", errors="replace")]
     same("nothing of a person in the book or the log", [it for it in ("example.org", "Käthe", "171") for text in kept if it in text], [])
     same("nor in a copy", [it.name for it in (HOME / "club-before").iterdir() if b"example.org" in it.read_bytes()], [])
@@ -685,13 +704,13 @@ def season(pages, day):
 
 
 def letters_and_records(day):
-    out = done("letters", "moeller-kaethe-1", "--passes", "season", "--spare")
-    same("letters", out, "2 sheets for 1 members are in letters.html\n")
+    out = done("letters", "moeller-kaethe-1", "oez-ali-1", "--passes", "season")
+    same("letters", out, "2 sheets for 2 members are in letters.html\n")
     page = run_as("anna", "cat", "letters.html")[1]
-    texts = [run_as("anna", "cat", f"season/{key}")[1].strip() for key in ("moeller-kaethe-1", "moeller-kaethe-2")]
+    texts = [run_as("anna", "cat", f"season/{key}")[1].strip() for key in ("moeller-kaethe-1", "oez-ali-1")]
     same("their links", [page.count(f'href="https://desk.example.org/book.html#{text}"') for text in texts], [1, 1])
     same("their codes", page.count("<svg"), 2)
-    same("whose they are", page.count('<p class="to">Möller, Käthe</p>'), 2)
+    same("whose they are", page.count('<p class="to">Möller, Käthe</p>'), 1)
     same("their mode", run_as("anna", "stat", "-c", "%a", "letters.html")[1], "600\n")
     same("a file that is there", office("letters", "--passes", "season")[0], 1)
     same("a pass that isn't there", office("letters", "nobody-1", "--passes", "season", "--to", "l.html")[0], 1)
@@ -700,6 +719,23 @@ def letters_and_records(day):
     wanted = run_as("root", "/usr/lib/clubdesk/record", CLUB, "moeller-kaethe-office", folder="/")[1]
     same("a record", done("record", "moeller-kaethe-office"), wanted)
     refused(["record", "nobody-1"], 1, "refused: there is no key nobody-1")
+
+
+def spare_passes(lines_of):
+    """Each member's spare passes, by an import that is given again, are the second half of the member's letter."""
+    configure(**lines_of, SPARES=2)
+    run_as("anna", "sh", "-c", "head -n 3 season.csv >spares.csv")
+    done("import", "spares.csv", "--quota", "5", "--points", "1000", "--passes", "season", "--yes")
+    spares = ["moeller-kaethe-lend-1", "moeller-kaethe-lend-2"]
+    same("spare keys", rows("SELECT name, revoked FROM keys WHERE member = 'moeller-kaethe' AND name LIKE '%-lend-%' ORDER BY name"), [(it, 0) for it in spares])
+    same("nobody has points again", rows("SELECT count(*) FROM members WHERE credited > 2000"), [(0,)])
+    out = done("letters", "moeller-kaethe-1", *spares, "--passes", "season", "--to", "spares.html")
+    same("a letter with them", out, "1 sheets for 1 members are in spares.html\n")
+    page = run_as("anna", "cat", "spares.html")[1]
+    texts = [run_as("anna", "cat", f"season/{key}")[1].strip() for key in spares]
+    same("its half to cut off", (page.count("<svg"), page.count('class="half"'), page.count(f"book.html#spare={';'.join(texts)}")), (2, 1, 2))
+    same("no other way to one", office("letters", "--spare")[0], 2)
+    configure(**lines_of)
 
 
 def old_years(lines_of):
@@ -928,6 +964,26 @@ def memory_that_is_full():
         shutil.rmtree(home / alive)
 
 
+def disk_that_is_full():
+    """An order that has no room is done or not, and says which; a correction changes nothing. With room again all goes on."""
+    def credited():
+        return rows("SELECT credited FROM members WHERE name = 'amy'")[0][0]
+
+    before = credited()
+    used = shutil.disk_usage(ROOM).used
+    subprocess.run(["mount", "-o", f"remount,size={used // 1024 + 12}k", ROOM], check=True)
+    ended = [office(*words)[0] for words in (["credit", "amy", "1"], ["debit", "amy", "100", *YES], ["close", "2026-06-01", "9-19", "court-1", *YES], ["credit", "amy", "1"])]
+    copies = office("copies")[0]
+    subprocess.run(["mount", "-o", "remount,size=50%", ROOM], check=True)
+    same("orders on a full disk", (set(ended) <= {0, 5}, 5 in ended), (True, True))
+    same("what was done is what they say", credited() - before, (ended[0] == 0) - 100 * (ended[1] == 0) + (ended[3] == 0))
+    same("closed slots", len(rows("SELECT * FROM slots WHERE closed = 1 AND day = 20605")), 10 * (ended[2] == 0))
+    same("a look", copies, 0)
+    whole("a full disk")
+    done("credit", "amy", "1")
+    done("debit", "amy", "1", *YES)
+
+
 def titles_of_the_page():
     """club.json has each title as it is written, or the line is refused by its number."""
     def made(text):
@@ -957,6 +1013,7 @@ def findings():
     terminals_that_stop()
     file_that_came_since()
     memory_that_is_full()
+    disk_that_is_full()
     whole("what others did")
 
 
@@ -975,6 +1032,8 @@ if sys.argv[1:] == ["season"]:
     undone(server, tomorrow)
     season(pages, tomorrow)
     letters_and_records(tomorrow)
+    spare_passes(lines_of)
+    lists_as_they_are_written()
     old_years(lines_of)
     leave()
 server = Service()
@@ -997,5 +1056,7 @@ in_use_of_persons(server, lines_of, tomorrow)
 undone(server, tomorrow)
 season(pages, tomorrow)
 letters_and_records(tomorrow)
+spare_passes(lines_of)
+lists_as_they_are_written()
 old_years(lines_of)
 leave()

@@ -6,6 +6,7 @@ all, and no total is off. Wants root, for a machine of its own (tests/office_roo
 - An import of twelve members is killed before and after each of its commands, and 40 times at random. Nobody is credited twice, and
   each pass that it leaves opens its account.
 - A restore is killed 25 times. The club is that of before or that of the copy.
+- Copies elsewhere, and a restore of one, are killed at random. Each copy with a name there is whole and tested.
 - Points for all, bookings for members who call, and undos are killed at random and given again. Each member is credited once, each slot
   booked once, each correction undone whole.
 Not part of the gate.
@@ -15,9 +16,11 @@ Not part of the gate.
 # wants: sudo sqlite3 openssl util-linux bsdutils iproute2 systemd python3-psutil
 
 import argparse
+import contextlib
 import itertools
 import random
 import shutil
+import sqlite3
 import subprocess
 import threading
 import time
@@ -203,6 +206,52 @@ def undos():
             same("it is undone", everything(), before)
 
 
+def copies_elsewhere():
+    """Copies to another disk, killed: each that has a name is whole and in the list of what was tested; then the last change is there."""
+    place = ROOM / "away"
+    place.mkdir(exist_ok=True)
+    subprocess.run(["mount", "-t", "tmpfs", "-o", "mode=777", "tmpfs", place], check=True)
+    ROOM.chmod(0o755)
+    configure(OFFSITE=place)
+    line = ["runuser", "-u", "clubdesk", "--", "/usr/lib/clubdesk/copy_offsite", "club", "--once"]
+    begun_at = time.monotonic()
+    same("a copy elsewhere", run_as("clubdesk", *line[4:], folder="/")[0], 0)
+    plain, killed = time.monotonic() - begun_at, 0
+    for attempt in range(min(given.kills, 25)):
+        done("credit", "zoe", str(1 + attempt))
+        command = subprocess.Popen(line, stdin=subprocess.DEVNULL, stdout=subprocess.PIPE, stderr=subprocess.PIPE, text=True, cwd="/", start_new_session=True)
+        time.sleep(chance.uniform(0, plain * 1.2))
+        killed += command.poll() is None
+        kill(command, chance if attempt % 3 == 0 else None)
+        named = [it.name for it in place.glob("2*Z")]
+        tested = [it.split()[0] for it in (place / "tested").read_text(encoding="ascii").splitlines()]
+        same("each was tested", [it for it in named if it not in tested], [])
+        for it in named[-3:]:
+            found = subprocess.run(["sqlite3", f"file:{place / it}?immutable=1", "PRAGMA integrity_check; SELECT count(*) FROM desk"], capture_output=True, text=True, check=False)
+            same(f"the copy {it} is whole", found.stdout, "ok\n1\n")
+    same("it is done after all kills", run_as("clubdesk", *line[4:], folder="/")[0], 0)
+    newest = sorted(it.name for it in place.glob("2*Z"))[-1]
+    same("the last change is there", copy_rows(place / newest), [it for it in everything() if "INSERT" in it])
+    same("nothing is left here", left(), [])
+    copy, after = copy_rows(place / newest), None
+    for _ in range(min(given.kills, 8)):
+        done("credit", "zoe", "7")
+        after = [it for it in everything() if "INSERT" in it]
+        killed_after(chance.uniform(0.2, 3), ["restore", newest, "--yes"])
+        same("a killed restore of one", [it for it in everything() if "INSERT" in it] in (copy, after), True)
+        done("restore", newest, "--yes")
+        same("a restore of one", [it for it in everything() if "INSERT" in it], copy)
+    print(f"copies elsewhere, killed {killed} times")
+    subprocess.run(["umount", place], check=True)
+    configure()
+
+
+def copy_rows(path):
+    """The rows of a copy that nobody changes."""
+    with contextlib.closing(sqlite3.connect(f"file:{path}?immutable=1", uri=True)) as db:
+        return [it for it in db.iterdump() if "INSERT" in it]
+
+
 # Name, quota and points of each member, and the name that the office makes of it.
 MEMBERS = [
     ("Amy Müller", 5, 10000, "amy-mueller"), ("Bob", 3, 5000, "bob"), ("Çelik, Ayşe", 2, 0, "celik-ayse"), ("Ole Sørensen", 9, 700, "ole-soerensen"),
@@ -316,7 +365,7 @@ def refused_lists():
         ("two of one name", "name,quota,points\nAmy,1,1\nÄmy,1,1\nämy,2,2", 3),
         ("two of one key", "name,quota,points,key\nAmy,1,1,k\nBob,1,1,K", 3),
         ("no letter", "name,quota,points\n\udc81,1,1", 7),
-        ("no list of members", "name,quota,points\n" + "Amy,1,1\n" * 300_000, 3),
+        ("no list of members", "name,quota,points\n" + "Amy,1,1\n" * 1_300_000, 3),
         ("a mail address that is none", "name,quota,points,mail\nAmy,1,1,amy", 3),
     ):
         LIST.write_text(f"{lines}\n", encoding="utf-8", errors="surrogateescape")
@@ -338,5 +387,6 @@ restores()
 season_points()
 bookings_for_callers()
 undos()
+copies_elsewhere()
 imports()
 leave()

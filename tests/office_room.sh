@@ -25,7 +25,7 @@ over() {
     mkdir "$room/$called" "$room/$called.work"
     mount -t overlay overlay -o "lowerdir=$1,upperdir=$room/$called,workdir=$room/$called.work" "$1"
 }
-for folder in /usr/bin /usr/lib /usr/share /etc /var/lib /home; do over "$folder"; done
+for folder in /usr/bin /usr/lib /usr/share /etc /var/lib /home /root; do over "$folder"; done
 # For systemd's journal and what it keeps, and for copies of a club that are in use.
 for folder in /run/systemd /run/log /dev/shm; do
     mkdir -p "$folder"
@@ -45,7 +45,7 @@ install -m 440 "$top/deploy/office.sudoers" /etc/sudoers.d/clubdesk-office
 mkdir -p /usr/lib/clubdesk /usr/share/doc/clubdesk/examples /usr/share/clubdesk/web
 install -m 755 "$top/deploy/clubdesk-setup" /usr/bin/clubdesk-setup
 find "$top/deploy" -maxdepth 1 -type f -perm -100 ! -name office ! -name clubdesk-setup -exec install -m 755 -t /usr/lib/clubdesk {} +
-install -m 644 -t /usr/share/doc/clubdesk/examples "$top"/deploy/*.conf
+install -m 644 -t /usr/share/doc/clubdesk/examples "$top"/deploy/*.conf "$top/deploy/Caddyfile"
 find "$top/web" -maxdepth 1 -type f -exec install -m 644 -t /usr/share/clubdesk/web {} +
 
 # page_block HEADING: the lines of docs/RUNNING.md for root under this heading, but for those that install Debian's packages.

@@ -3,7 +3,8 @@
 leaves the old club or the new one. Wants root, for a machine of its own (tests/office_room.sh).
 
 A part of the club's bookings is cancelled, past and to come. The old file is kept byte for byte. Balances, what each key has spent, keys,
-facilities and slots to come are the same by sums. The server answers the same requests with the same bytes. Not part of the gate.
+facilities and slots to come are the same by sums. The server answers the same requests with the same bytes. Each
+other command of a season works after it, and the old year is copied elsewhere. Not part of the gate.
   tests/office_year.py [REQUESTS]
 """
 # groups: package root
@@ -15,7 +16,7 @@ import random
 import subprocess
 
 from desk import opened
-from office_room import CLUB, HOME, ROOM, Service, configure, desk, done, killed_after, leave, mode, office, rows, same, whole
+from office_room import CLUB, HOME, ROOM, Service, configure, desk, done, killed_after, leave, mode, office, rows, run_as, same, whole
 
 parser = argparse.ArgumentParser()
 parser.add_argument("requests", type=int, nargs="?", default=1500, choices=range(10, 100_001), metavar="REQUESTS")
@@ -123,6 +124,44 @@ def kept_files():
     return sorted(it for it in HOME.glob("club-until-*") if it.suffix != ".new")
 
 
+def goes_on():
+    """What a season's commands do after a new year, which isn't undone; its old file goes elsewhere."""
+    place, pages = ROOM / "away", ROOM / "pages"
+    for folder in (place, pages):
+        subprocess.run(["install", "-d", "-o", "clubdesk", folder], check=True)
+    subprocess.run(["mount", "-t", "tmpfs", "-o", "mode=777", "tmpfs", place], check=True)
+    ROOM.chmod(0o755)
+    server = Service(at=NOW)
+    configure(PORT=server.port, PAGES=pages, ZONE_NAME="Etc/UTC", SITE="https://desk.example.org", OFFSITE=place)
+    same("a new year isn't undone", office("undo", "--yes")[::2], (1, "refused: there is no correction to undo; `office club copies` has the club of before each\n"))
+    same("the copy of before it", "-new-year,before a correction," in done("copies", "--csv"), True)
+    credited = dict(rows("SELECT name, credited FROM members WHERE quota > 0"))
+    done("credit-all", "70", "--as", "season-2026", "--yes")
+    same("points for all", dict(rows("SELECT name, credited FROM members WHERE quota > 0")), {name: points + 70 for name, points in credited.items()})
+    same("once", office("credit-all", "70", "--as", "season-2026", "--yes")[0], 1)
+    same("a booking for a caller", done("book", "eve", "court-1", "2026-01-07", "9").split(",")[0], "booked court-1 2026-01-07 09:00 for eve")
+    same("its cancellation", done("cancel-for", "eve", "court-1", "2026-01-07", "9").split(",")[0], "cancelled court-1 2026-01-07 09:00 of eve")
+    same("a weekly closure", done("close", "2026-01-12..2026-01-26", "20-22", "court-1", "--weekday", "mon", "--why", "League", "--yes").splitlines()[-1], "done")
+    same("three Mondays", rows("SELECT count(*) FROM slots WHERE closed = 1 AND day >= 20465"), [(6,)])
+    done("undo", "--yes")
+    same("undone", rows("SELECT count(*) FROM slots WHERE closed = 1 AND day >= 20465"), [(0,)])
+    same("the page's list", done("page"), f"{pages / 'club.json'}: done\n")
+    same("a record has what is to come, and what was carried forward", done("record", "amy-1").count("\n"),
+         1 + rows("SELECT count(*) FROM bookings WHERE pass_key = 'amy-1'")[0][0])
+    done("lost-pass", "bob-1", "--to", "bob-1")
+    same("letters", done("letters", "bob-1", "--passes", "."), "1 sheets for 1 members are in letters.html\n")
+    same("the old year's bookings", len(office("bookings", "amy", "--all", "--csv", club="club@2025")[1].splitlines()) > 10, True)
+    same("the board's page of the old year", done("report", "2025").split(",")[0].strip(), "the page is in report-2025.html")
+    (sent,) = kept_files()
+    same("copied elsewhere", run_as("clubdesk", "/usr/lib/clubdesk/copy_offsite", "club", "--once", folder="/")[0], 0)
+    same("with the old year", sum_of(place / sent.name.removeprefix("club-")), sum_of(sent))
+    same("and listed", ",off-site," in done("copies", "--csv"), True)
+    same("the totals", done("check"), "the totals are the sums of the bookings\n")
+    server.stop()
+    subprocess.run(["umount", place], check=True)
+    configure()
+
+
 texts = make_club()
 live_a_year(texts)
 whole("a year")
@@ -159,6 +198,8 @@ for request, old, new in zip(asked, wanted, replies(asked), strict=True):
 same("sheets", (0, done("sheet", "2026-01-04")), desk("sheet", "2026-01-04"))
 same("once more", office("new-year", *YES)[0], 1)
 same_sums(", once more", "keys", "older roots", "facilities")
+
+goes_on()
 
 # Killed: the old club, or the new one; and then done.
 outcomes = {"old": 0, "new": 0}

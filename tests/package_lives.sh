@@ -430,6 +430,9 @@ same 'units that failed' '' "$(inside systemctl --failed --plain --no-legend)"
 halt
 sort -u given >wanted
 cut -f 1 running | sort -u >found
-same 'sections whose lines nobody gave, but those of a certificate, which tests/proxy_holds.sh gives' 'A certificate' "$(comm -13 wanted found)"
+same 'sections whose lines nobody gave, but those that tests/proxy_holds.sh and tests/machine_lives.sh give' 'A certificate
+A club by five questions
+Copies elsewhere
+The machine is gone' "$(comm -13 wanted found)"
 echo "$checks checks of the package's life passed; a served club behind TLS after $served seconds of RUNNING, without the downloads;" \
     "$acknowledged bookings in the course of three upgrades"

@@ -12,7 +12,8 @@ import time
 
 from club_office.clubs import clubdesk, show, wants_file
 from club_office.copies import clear_unnamed
-from club_office.faults import STORAGE, Fault
+from club_office.faults import STORAGE, Fault, fault, storage_failed
+from club_office.texts import say
 
 # How long an order waits for another one, and a line for the journal, in seconds.
 WAITS_FOR_TURN = 60
@@ -123,9 +124,9 @@ class Turn:
             if self.is_gained():
                 return
             if attempt == 20:
-                print("waiting for another order", file=sys.stderr)
+                print(say("waits"), file=sys.stderr)
             time.sleep(0.05)
-        raise Fault(STORAGE, f"storage failed: another order has been under way for {WAITS_FOR_TURN} seconds")
+        raise storage_failed("order under way", seconds=WAITS_FOR_TURN)
 
     def is_gained(self):
         """Whether the lock is gained now. Nothing stops this process between the lock and its refusal of such signals."""
@@ -157,8 +158,8 @@ class Turn:
         os.fsync(self.file)
         try:
             status = act()
-        except Fault as fault:
-            status = fault.status
+        except Fault as failure:
+            status = failure.status
             raise
         finally:
             self.note(line_of(moment, status, words), status)
@@ -168,19 +169,19 @@ class Turn:
         try:
             write_line(self.club, line)
             os.ftruncate(self.file, 0)
-        except OSError as fault:
-            raise Fault(STORAGE, f"the order ended with status {status}, but the book can't be written: {fault}") from None
+        except OSError as failure:
+            raise fault(STORAGE, "book unwritten", status=status, fault=failure) from None
 
 
 def now():
     return time.strftime("%Y-%m-%dT%H:%M:%S")
 
 
-def refuse(club, words, fault):
+def refuse(club, words, failure):
     """Ends an order by a fault, with its line in the book."""
 
     def act():
-        raise fault
+        raise failure
 
     with Turn(club) as turn:
         turn.order(words.given, act)

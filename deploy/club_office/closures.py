@@ -15,7 +15,7 @@ def reason(word):
     """A reason that a page shows."""
     text = " ".join(word.split())
     if not text or not text.isprintable() or len(text) > MOST_LETTERS:
-        raise bad_value(f"{word!r} is no reason of at most {MOST_LETTERS} letters")
+        raise bad_value("no reason", word=word, most=MOST_LETTERS)
     return text
 
 

@@ -11,7 +11,8 @@ import subprocess
 import sys
 import time
 
-from club_office.faults import STORAGE, Fault, bad_value, refusal
+from club_office.faults import STORAGE, bad_value, fault, refusal
+from club_office.texts import in_language, say
 from club_office.values import NAME, moment, moment_text
 
 # The program that the clerk called.
@@ -56,16 +57,16 @@ def club_named(called, is_at_desk=False):
     """The club of this name, or of NAME@YEAR its file of an old year. Its zone is the zone of the command's clock from then on."""
     word, at, year = called.partition("@")
     if not NAME.fullmatch(word) or at and not re.fullmatch("20[0-9]{2}", year):
-        raise bad_value(f"{called!r} is no name of a club")
+        raise bad_value("no club name", word=called)
     folder = os.environ.get("OFFICE_CONF", "/etc/clubdesk")
     try:
         found = settings(os.path.join(folder, word + ".conf"))
     except FileNotFoundError:
-        raise refusal(f"no club {word} is configured: there is no {folder}/{word}.conf") from None
-    except (OSError, UnicodeDecodeError) as fault:
-        raise Fault(STORAGE, f"{folder}/{word}.conf can't be read: {fault}") from None
+        raise refusal("no such club", word=word, path=f"{folder}/{word}.conf") from None
+    except (OSError, UnicodeDecodeError) as failure:
+        raise fault(STORAGE, "cannot be read", path=f"{folder}/{word}.conf", fault=failure) from None
     if not os.path.isabs(found.get("file", "")):
-        raise Fault(STORAGE, f"{folder}/{word}.conf has no line FILE=PATH with a path from /")
+        raise fault(STORAGE, "no file line", path=f"{folder}/{word}.conf")
     os.environ["TZ"] = found.get("zone") or "UTC0"
     time.tzset()
     stop = found.get("stop") or f"sudo -n /usr/bin/systemctl kill clubdesk@{word}.service"
@@ -90,7 +91,7 @@ def old_file(file, year):
     whole = [path for day, path in found if day >= f"{year}-12-31"]
     part = [path for day, path in found if day.startswith(year)]
     if not whole and not part:
-        raise refusal(f"there is no file of {year}: it is made by `new-year`")
+        raise refusal("no old year", year=year)
     return whole[0] if whole else part[-1]
 
 
@@ -110,7 +111,7 @@ def program(variable, called):
     """The path of a program: that of the variable, else where the shell finds it."""
     found = os.environ.get(variable) or shutil.which(called, path=os.environ.get("PATH", "") + ":/usr/local/bin:/usr/bin")
     if not found:
-        raise Fault(STORAGE, f"there is no program {called}")
+        raise fault(STORAGE, "no program", path=called)
     return found
 
 
@@ -118,7 +119,7 @@ def back_up_program():
     """deploy/back_up, which lies beside the folder of these modules."""
     found = os.path.join(os.path.dirname(os.path.dirname(os.path.realpath(__file__))), "back_up")
     if not os.access(found, os.X_OK):
-        raise Fault(STORAGE, f"there is no program {found}")
+        raise fault(STORAGE, "no program", path=found)
     return found
 
 
@@ -134,14 +135,16 @@ def clock():
 def refuse_to_come(words):
     """A correction at a moment to come would take for over what is to come."""
     if getattr(words, "at", None) is not None and words.at > clock():
-        raise refusal(f"--at {moment_text(words.at)} is to come: it is {moment_text(clock())}")
+        raise refusal("at is to come", at=moment_text(words.at), now=moment_text(clock()))
 
 
 def clubdesk(club, command, words, options=(), root=None):
     """Runs a command of clubdesk over the club's file; its status and what it prints."""
     line = [program("CLUBDESK", "clubdesk"), command, *options, "--", club.file, *words]
-    done = subprocess.run(line, input=root, stdout=subprocess.PIPE, check=False, stdin=None if root is not None else subprocess.DEVNULL)
-    return done.returncode, done.stdout
+    done = subprocess.run(line, input=root, capture_output=True, check=False, stdin=None if root is not None else subprocess.DEVNULL)
+    for said in done.stderr.decode(errors="backslashreplace").splitlines():
+        print(in_language(said), file=sys.stderr, flush=True)
+    return done.returncode, f"{say('done')}\n".encode() if done.stdout == b"done\n" else done.stdout
 
 
 def show(printed):
@@ -151,7 +154,7 @@ def show(printed):
 
 def wants_file(club):
     if not os.path.isfile(club.file):
-        raise refusal(f"there is no file {club.file}; `office {club.name} new` makes it")
+        raise refusal("no club file", path=club.file, club=club.name)
 
 
 def desk_user(club):

@@ -16,13 +16,14 @@ from club_office.clubs import club_named, clubdesk, desk_user, forget_environmen
 from club_office.copies import scratch, snapshot
 from club_office.corrections import correct
 from club_office.counter import ask_person, desk_line, make_pass, read_book, show_book, write_report
-from club_office.faults import OUTPUT, STORAGE, USAGE, Fault, bad_value, refusal
+from club_office.faults import OUTPUT, STORAGE, USAGE, Fault, bad_value, fault, refusal
 from club_office.asking import is_terminal
 from club_office.importing import import_members, import_row, import_state
 from club_office.letters import letters
 from club_office.menu import menu
 from club_office.restoring import list_copies, restore
 from club_office.season import credit_all
+from club_office.texts import say, usage
 from club_office.typed import Reader, confirms_odd, names_of, print_names, read_words
 from club_office.undoing import plan_undo
 from club_office.values import MOST_CREDIT, MOST_NUMBER, copy_name, day, days, hour_or_hours, hours, moment, name, names, number, weekday
@@ -33,14 +34,18 @@ def make_new(club):
 
     def act():
         if os.path.lexists(club.file):
-            raise refusal(f"exists: {club.file}")
+            raise refusal("exists", path=club.file)
         return clubdesk(club, "sheet", ["2000-01-01"])[0]
 
     with Turn(club) as turn:
         status = turn.order(["new"], act)
     if status == 0:
-        print("done")
+        print(say("done"))
     return status
+
+
+# argparse's own texts, in the clerk's language.
+argparse._ = usage
 
 
 class Words(argparse.ArgumentParser):
@@ -223,10 +228,9 @@ COMMANDS = {
         [
             word("KEY", nargs="*", help="all passes of the folder without it"),
             ("--passes", {"metavar": "FOLDER", "default": "passes", "help": "where the passes are: passes without it"}),
-            ("--spare", {"action": "store_true", "help": "also make a further key of each member, with a sheet of its own"}),
             ("--to", {"metavar": "FILE", "default": "letters.html", "help": "the file; letters.html without it"}),
         ],
-        "write a sheet for each pass into a file to print: the link, its code, and what to do",
+        "write a sheet for each pass into a file to print: the link, its code, what to do, and spare passes as a half to cut off",
         lambda club, words: letters(club, words, names_of),
     ),
     "report": Command(
@@ -312,7 +316,7 @@ def at_desk(given):
     club = club_named(words.club, True)
     command = COMMANDS[words.command]
     if club.is_old and command.kind not in (LIST, LOOK):
-        raise refusal(f"{club.name} is an old year: it has lists, sheets and records alone")
+        raise refusal("old year", club=club.name)
     if command.kind == ORDER:
         status = give_order(club, words.command, plain_words(words, command))
         if status == 0 and words.command == "add-facility":
@@ -338,13 +342,13 @@ def at_desk(given):
         return status
     if command.kind == DESK:
         return command.does(club, words)
-    raise Fault(USAGE, f"{words.command} is a command of the clerk's side")
+    raise fault(USAGE, "clerk's side", command=words.command)
 
 
 def order_pass(club, words):
     """add-key and rotate-key, with the root from standard input."""
     if words.to or words.root or not words.root_stdin:
-        raise Fault(USAGE, f"{words.command}: the desk's side takes a root from standard input, and writes no file")
+        raise fault(USAGE, "root from input", command=words.command)
     line = [words.key, words.member if words.command == "add-key" else words.moment]
     options = ["--root-stdin", *([f"--form={words.form}"] if words.form is not None else [])]
     return give_order(club, words.command, line, options, sys.stdin.buffer.read(200))
@@ -388,7 +392,7 @@ def show_names(club, sheet):
 def refuse_too_much(given):
     """So many words are no command of a clerk, and would be no line of the book."""
     if len(given) > MOST_WORDS or any(len(os.fsencode(it)) > MOST_BYTES for it in given):
-        raise bad_value(f"more than {MOST_WORDS} arguments, or one of more than {MOST_BYTES} bytes")
+        raise bad_value("too many words", words=MOST_WORDS, bytes=MOST_BYTES)
 
 
 def at_counter(given):
@@ -404,7 +408,7 @@ def at_counter(given):
     if COMMANDS[words.command].kind == PASS:
         return make_pass(club, words)
     if club.is_old and COMMANDS[words.command].kind in (PASS, COUNTER):
-        raise refusal(f"{club.name} is an old year: it has lists, sheets and records alone")
+        raise refusal("old year", club=club.name)
     if COMMANDS[words.command].kind == COUNTER:
         return COMMANDS[words.command].does(club, words)
     if os.geteuid() == desk_user(club).pw_uid:
@@ -432,14 +436,14 @@ def main():
         if given[:1] == ["--desk"]:
             forget_environment()
         return at_desk(given[1:]) if given[:1] in (["--desk"], ["--own"]) else at_counter(given)
-    except Fault as fault:
-        print(fault, file=sys.stderr)
-        return fault.status
+    except Fault as failure:
+        print(failure, file=sys.stderr)
+        return failure.status
     except BrokenPipeError:
         os.dup2(os.open(os.devnull, os.O_WRONLY), sys.stdout.fileno())
         return OUTPUT
     except KeyboardInterrupt:
         return 130
-    except (OSError, sqlite3.Error) as fault:
-        print(f"storage failed: {fault}", file=sys.stderr)
+    except (OSError, sqlite3.Error) as failure:
+        print(say("storage failed", why=failure), file=sys.stderr)
         return STORAGE

@@ -13,7 +13,7 @@ import time
 import urllib.parse
 
 from club_office.clubs import back_up_program, wants_file
-from club_office.faults import STORAGE, Fault
+from club_office.faults import storage_failed
 
 BACK_UPS_KEPT = 30
 MEMORY = "/dev/shm"
@@ -40,10 +40,11 @@ def clear_killed(home):
                 shutil.rmtree(stale)
 
 
-def homes(club, file=None):
-    """Where copies of the club, or of another file, are made: in memory if it has room for them, and beside the club's file."""
-    beside, file = os.path.dirname(club.file), file or club.file
-    size = sum(os.path.getsize(file + it) for it in ("", "-wal") if os.path.exists(file + it))
+def homes(club, size=None):
+    """Where copies of the club, or of a file of this size, are made: in memory if it has room for them, and beside the club's file."""
+    beside = os.path.dirname(club.file)
+    if size is None:
+        size = sum(os.path.getsize(club.file + it) for it in ("", "-wal") if os.path.exists(club.file + it))
     found = [beside]
     if os.access(MEMORY, os.W_OK | os.X_OK):
         room = os.statvfs(MEMORY)
@@ -79,7 +80,7 @@ def snapshot(club):
                 break
             said = done.stderr.strip()
     else:
-        raise Fault(STORAGE, f"storage failed: {said}")
+        raise storage_failed("said", said=said)
     yield memory
     memory.close()
 
@@ -101,7 +102,7 @@ def keep_before(club, db, command):
         with contextlib.closing(sqlite3.connect(address(made, "rwc"), uri=True)) as copy:
             db.backup(copy)
             if copy.execute("PRAGMA integrity_check").fetchall() != [("ok",)]:
-                raise Fault(STORAGE, "storage failed: the back-up isn't whole; nothing changed")
+                raise storage_failed("back-up unsound")
         synced(made)
         named = name_new(made, os.path.join(folder, called))
     finally:
@@ -159,11 +160,11 @@ def synced(path):
 def copy_file(club, db, to):
     """Copies the file with its log, byte for byte, by another program: with a descriptor of its own this one would lose its locks."""
     if db.execute("PRAGMA wal_checkpoint(TRUNCATE)").fetchone()[0]:
-        raise Fault(STORAGE, "storage failed: the log can't be copied into the file; nothing changed")
+        raise storage_failed("log uncopied")
     place = next(path for path in [to, *(f"{to}-{more}" for more in range(2, 1000))] if not os.path.exists(path))
     for words in (["cp", "--", club.file, place + ".new"], ["sync", "--", place + ".new"], ["mv", "-nT", "--", place + ".new", place]):
         if subprocess.run(words, check=False, stdin=subprocess.DEVNULL).returncode:
-            raise Fault(STORAGE, f"storage failed: {club.file} can't be copied to {place}; nothing changed")
+            raise storage_failed("uncopied", path=club.file, to=place)
     synced(os.path.dirname(place))
 
 

@@ -9,7 +9,7 @@ from club_office.asking import confirms, show_lines
 from club_office.book import Turn, refuse
 from club_office.clubs import now_of, refuse_to_come, wants_file
 from club_office.copies import address, copy_file, keep_before, snapshot
-from club_office.faults import STORAGE, Fault, refusal
+from club_office.faults import Fault, refusal, storage_failed
 from club_office.lists import faults
 from club_office.people import forget_person, mail_concerned, show_concerned
 from club_office.plans import slot_text
@@ -26,14 +26,14 @@ def correct(club, words, planned):
     if not words.yes:
         show_lines(shown.all_lines())
         if not confirms():
-            refuse(club, words, refusal(say("not confirmed")))
+            refuse(club, words, refusal("not confirmed"))
     plans = []
     with Turn(club) as turn:
         wants_file(club)
         status = turn.order(words.given, lambda: carry_out(club, words, planned, plans, None if words.yes else shown))
     if words.yes:
         show_lines(plans[0].all_lines())
-    print("done")
+    print(say("done"))
     cancelled = plans[0].cancelled
     show_concerned(club, [it.member for it in cancelled])
     if getattr(words, "mail", False):
@@ -61,7 +61,7 @@ def carry_out(club, words, planned, plans, shown):
             plan = planned(db, words, now_of(words))
             plans.append(plan)
             if shown and plan.changes != shown.changes:
-                raise refusal("the club has changed since this was shown; nothing changed. Give the order again")
+                raise refusal("changed since")
             attach_before(db, keep_before(club, db, words.command))
             if plan.copy_to:
                 copy_file(club, db, plan.copy_to)
@@ -71,10 +71,8 @@ def carry_out(club, words, planned, plans, shown):
             if plan.copy_to:
                 with contextlib.suppress(sqlite3.Error):
                     db.execute("VACUUM")
-    except sqlite3.Error as fault:
-        raise Fault(STORAGE, f"storage failed: {fault}; nothing changed") from None
-    except OSError as fault:
-        raise Fault(STORAGE, f"storage failed: {fault}; nothing changed") from None
+    except (sqlite3.Error, OSError) as failure:
+        raise storage_failed("nothing changed", why=failure) from None
     return 0
 
 
@@ -110,7 +108,7 @@ def take(club, db):
             said = ended(club)
             stopped = time.monotonic()
         time.sleep(0.002)
-    raise Fault(STORAGE, f"storage failed: another program has had {club.file} for {WAITS_FOR_FILE} seconds; nothing changed. {said}")
+    raise storage_failed("file taken", path=club.file, seconds=WAITS_FOR_FILE, said=said)
 
 
 def ended(club):
@@ -131,12 +129,12 @@ def change(db, plan, keep):
         for rows, sql, values in plan.changes:
             done = db.execute(sql, values).rowcount
             if rows is not None and done != rows:
-                raise refusal(f"{done} rows in place of {rows} would change; nothing changed")
+                raise refusal("other rows", done=done, rows=rows)
         new = faults(db) - before
         if new:
-            raise refusal(f"{sorted(new)[0]}; nothing changed")
+            raise refusal("nothing changed", why=sorted(new)[0])
         if rows_kept(db, plan) != kept:
-            raise refusal("the sums would change; nothing changed")
+            raise refusal("other sums")
         keep()
         db.execute("COMMIT")
     except BaseException:

@@ -16,7 +16,7 @@ from club_office.asking import Back, ask
 from club_office.book import book_of, clerk, is_in_journal, printable
 from club_office.clubs import SELF, desk_user, program, show
 from club_office.copies import is_named, name_new, synced
-from club_office.faults import OUTPUT, USAGE, Fault, refusal
+from club_office.faults import OUTPUT, USAGE, fault, refusal
 from club_office.texts import say
 
 
@@ -50,11 +50,11 @@ def make_pass(club, words):
     if words.command == "lost-pass":
         words.root, words.root_stdin, words.moment = None, False, LONG_AGO
     if words.root and words.root_stdin:
-        raise Fault(USAGE, f"{words.command}: a ROOT, or --root-stdin")
+        raise fault(USAGE, "root or input", command=words.command)
     if words.to and os.path.lexists(words.to):
-        raise refusal(f"there is a file {words.to} already")
+        raise refusal("file there", path=words.to)
     if words.to and not os.access(os.path.dirname(words.to) or ".", os.W_OK):
-        raise Fault(OUTPUT, f"no leave to write to {os.path.dirname(words.to) or '.'}; nothing was done")
+        raise fault(OUTPUT, "no leave", path=os.path.dirname(words.to) or ".")
     root = sys.stdin.buffer.read(200) if words.root_stdin else (words.root or secrets.token_hex(32)).encode()
     line = [words.command.replace("lost-pass", "rotate-key"), *([f"--form={words.form}"] if words.form is not None else []), "--root-stdin", "--"]
     line += [words.key, words.member if words.command == "add-key" else words.moment]
@@ -65,10 +65,10 @@ def make_pass(club, words):
     try:
         named = name_new(written(words.to, text.decode()), words.to)
         synced(os.path.dirname(named) or ".")
-    except OSError as fault:
-        raise Fault(OUTPUT, f"the key {words.key} was changed, but its pass can't be written: {fault}. Rotate it for another pass") from None
+    except OSError as failure:
+        raise fault(OUTPUT, "pass unwritten", key=words.key, fault=failure) from None
     if named != words.to:
-        raise Fault(OUTPUT, f"the key {words.key} was changed. There is a file {words.to} by now, so its pass is in {named}")
+        raise fault(OUTPUT, "pass elsewhere", key=words.key, path=words.to, named=named)
     return 0
 
 
@@ -111,7 +111,7 @@ def ask_person(club, words):
             answer = ask(say(f"ask {what}", now=value or "-"))
             person[what] = "" if answer == "-" else answer or value
     except Back:
-        raise refusal(say("not confirmed")) from None
+        raise refusal("not confirmed") from None
     status, text = as_desk(club, ["set-person", words.member], json.dumps(person).encode())
     show(text)
     return status
@@ -121,14 +121,14 @@ def write_report(club, words):
     """The board's page, in a file of the clerk that isn't there yet; also as PDF, if the machine has a browser."""
     place = words.to or f"report-{words.year or time.strftime('%Y')}.html"
     if os.path.lexists(place):
-        raise refusal(f"there is a file {place} already")
+        raise refusal("file there", path=place)
     status, text = as_desk(club, ["print-report", *([str(words.year)] if words.year else []), *(["--no-names"] if words.no_names else [])])
     if status:
         return status
     try:
         write_new(place, text.decode())
-    except OSError as fault:
-        raise Fault(OUTPUT, f"{place} can't be written: {fault}") from None
+    except OSError as failure:
+        raise fault(OUTPUT, "cannot be written", path=place, fault=failure) from None
     printed = print_to_pdf(place)
     print(say("report made in", files=f"{place}, {printed}" if printed else place))
     return 0

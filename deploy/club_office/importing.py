@@ -14,11 +14,12 @@ from club_office.clubs import clubdesk, show
 from club_office.copies import snapshot
 from club_office.asking import confirms, show_lines
 from club_office.counter import as_desk, write_again, write_new
-from club_office.faults import BAD_VALUE, Fault, bad_value, refusal
+from club_office.faults import BAD_VALUE, bad_value, fault, refusal
 from club_office.lists import table
 from club_office.member_list import rows_of
 from club_office.people import NOBODY, keep_person, person_of, read_people
 from club_office.spares import spare_keys
+from club_office.texts import say
 
 ROOT = re.compile("[0-9a-f]{64}")
 
@@ -31,7 +32,7 @@ def read_given():
     except (ValueError, TypeError, KeyError):
         roots = []
     if not isinstance(roots, list) or not roots or not all(isinstance(root, str) and ROOT.fullmatch(root) for root in roots):
-        raise bad_value("import-row reads the roots of a key from standard input, each of 64 hexadecimal digits")
+        raise bad_value("roots")
     return roots, person_of(person if isinstance(person, dict) else {})
 
 
@@ -51,7 +52,7 @@ def import_row(club, words):
             ).fetchone()
             key = db.execute("SELECT member, lower(hex(root)) FROM keys WHERE name = ?", [words.key]).fetchone()
         if key and key[0] != words.member:
-            raise refusal(f"the key {words.key} is one of {key[0]}")
+            raise refusal("key of another", key=words.key, member=key[0])
 
         def order(command, line, options=(), root=None):
             found = []
@@ -63,7 +64,7 @@ def import_row(club, words):
 
             status = turn.order([command, *line], act)
             if status:
-                raise Fault(status, f"{command} {' '.join(line)}: status {status}")
+                raise fault(status, "order failed", order=f"{command} {' '.join(line)}", status=status)
             return found[0]
 
         if not member:
@@ -88,7 +89,7 @@ def refuse_twins(path, rows, columns=("member", "key")):
             lines[getattr(row, column)].append(str(row.line))
         for value, at in lines.items():
             if len(at) > 1:
-                raise Fault(BAD_VALUE, f"{path}: lines {' and '.join(at)} are one {column}, {value}: write other names")
+                raise fault(BAD_VALUE, "twins", path=path, lines=say("and").join(at), column=column, value=value)
 
 
 def spare_rows(club, path, rows):
@@ -107,21 +108,21 @@ def import_members(club, words):
     members, keys = already(club)
     shown = [[row.line, row.written, row.member, row.quota, row.points, row.key, state(row, members, keys, words.passes)] for row in rows]
     table(["line", "as written", "member", "quota", "points", "key", "is"], shown, False)
-    done = [row for row, line in zip(rows, shown) if line[-1] == "there"]
-    wanted = [row for row in [*rows, *spares] if row not in done and state(row, members, keys, words.passes) != "there"]
+    done = [row for row, line in zip(rows, shown) if line[-1] == say("there")]
+    wanted = [row for row in [*rows, *spares] if row not in done and state(row, members, keys, words.passes) != say("there")]
     if not wanted:
-        print("nothing to do")
+        print(say("nothing to do"))
         return 0
     for row in wanted:
         if os.path.lexists(os.path.join(words.passes, row.key)) and not os.path.exists(mark_of(words.passes, row.key)):
-            raise refusal(f"line {row.line}: there is a file {os.path.join(words.passes, row.key)} already")
+            raise refusal("at line", line=row.line, why=say("file there", path=os.path.join(words.passes, row.key)))
     if not words.yes and not confirms():
-        raise refusal("not confirmed; nothing changed")
+        raise refusal("not confirmed")
     os.makedirs(words.passes, 0o700, exist_ok=True)
     for row in wanted:
         import_one(club, row, words.passes)
-        print(f"{row.member}: {'spare pass ' + row.key if row in spares else 'done'}", flush=True)
-    print(f"{len(rows) - len(done)} of {len(rows)} rows done, {len(done)} were there; passes are in {words.passes}")
+        print(f"{row.member}: {say('spare pass', key=row.key) if row in spares else say('done')}", flush=True)
+    print(say("imported", done=len(rows) - len(done), rows=len(rows), there=len(done), folder=words.passes))
     return 0
 
 
@@ -129,7 +130,7 @@ def already(club):
     """The points credited to each member, and the member of each key."""
     status, text = as_desk(club, ["import-state"])
     if status:
-        raise Fault(status, "the club can't be read")
+        raise fault(status, "club unread")
     found = json.loads(text)
     return found["members"], found["keys"]
 
@@ -143,11 +144,11 @@ def import_state(db, _words, _now):
 def state(row, members, keys, folder):
     if row.key in keys:
         if keys[row.key] != row.member:
-            raise refusal(f"line {row.line}: the key {row.key} is one of {keys[row.key]}")
-        return "begun" if os.path.exists(mark_of(folder, row.key)) else "there"
+            raise refusal("at line", line=row.line, why=say("key of another", key=row.key, member=keys[row.key]))
+        return say("begun" if os.path.exists(mark_of(folder, row.key)) else "there")
     if row.member in members:
-        return f"begun, credited {members[row.member]}" if members[row.member] else "begun"
-    return "new"
+        return say("begun credited", points=members[row.member]) if members[row.member] else say("begun")
+    return say("new")
 
 
 def mark_of(folder, key):
@@ -170,7 +171,7 @@ def write_mark(mark, roots, digest=None):
 def import_one(club, row, folder):
     """A row: nothing is left of its mark once its pass has its name. A file that came to that name from elsewhere stays as it is."""
     place, mark = os.path.join(folder, row.key), mark_of(folder, row.key)
-    taken = refusal(f"line {row.line}: there is a file {place}, which isn't this row's pass: move it away, and run the import again")
+    taken = refusal("at line", line=row.line, why=say("other's file", path=place))
     roots, digest = read_mark(mark)
     if os.path.lexists(place):
         with open(place, "rb") as file:
@@ -183,7 +184,7 @@ def import_one(club, row, folder):
     given = json.dumps({"roots": roots, "person": row.person._asdict()}).encode()
     status, text = as_desk(club, ["import-row", row.member, str(row.quota), str(row.points), row.key], given)
     if status:
-        raise Fault(status, f"line {row.line}: {row.member} isn't done; mend it and run the import again")
+        raise fault(status, "at line", line=row.line, why=say("row undone", member=row.member))
     if text:
         write_mark(mark, roots, hashlib.sha256(text).hexdigest())
         try:

@@ -4,12 +4,11 @@ import base64
 import html
 import os
 import re
-import secrets
 import subprocess
 
 from club_office.clubs import program
-from club_office.counter import as_desk, write_new
-from club_office.faults import OUTPUT, Fault, refusal
+from club_office.counter import write_new
+from club_office.faults import OUTPUT, fault, refusal
 from club_office.spares import spare_keys
 from club_office.texts import language, say
 from club_office.values import NAME
@@ -29,11 +28,11 @@ svg { display: block; width: 60mm; height: 60mm; margin: 1rem 0; }
 def key_of(text):
     """The key that a pass in V1 or V2 names."""
     if not re.fullmatch(r"[A-Za-z0-9_+/=-]{1,8192}", text) or re.fullmatch("[0-9a-f]+", text):
-        raise ValueError("it holds no pass in one line")
+        raise ValueError(say("no one-line pass"))
     data = base64.urlsafe_b64decode(text.rstrip("=").replace("+", "-").replace("/", "_") + "=" * (-len(text.rstrip("=")) % 4))
     named = re.search(rb"key:([a-z0-9-]+)", data)
     if not named:
-        raise ValueError("it holds no pass of a key")
+        raise ValueError(say("no key's pass"))
     return named[1].decode()
 
 
@@ -42,7 +41,7 @@ def code_of(link):
     line = [program("QRENCODE", "qrencode"), "-8", "-l", "M", "-t", "SVG", "--svg-path", "-m", "4", "-o", "-"]
     done = subprocess.run(line, input=link.encode(), capture_output=True, check=False)
     if done.returncode:
-        raise Fault(OUTPUT, f"no code of the link: {done.stderr.decode(errors='replace').strip()}")
+        raise fault(OUTPUT, "no code", said=done.stderr.decode(errors="replace").strip())
     text = done.stdout.decode()
     return text[text.index("<svg"):]
 
@@ -56,12 +55,11 @@ def half(club, spares):
 """
 
 
-def sheet(club, name, key, text, is_spare, spares=()):
+def sheet(club, name, key, text, spares):
     link = f"{club.site}/book.html#{text}"
     steps = "".join(f"<li>{html.escape(say(f'letter step {it}'))}</li>" for it in (1, 2, 3))
-    spare = f'<p><strong>{html.escape(say("letter spare"))}</strong></p>' if is_spare else ""
     return f"""<section><h1>{html.escape(say("letter title", club=club.title))}</h1>
-<p class="to">{html.escape(name)}</p>{spare}
+<p class="to">{html.escape(name)}</p>
 <p>{html.escape(say("letter first", key=key))}</p><ol>{steps}</ol>
 {code_of(link)}
 <p class="link"><a href="{html.escape(link)}">{html.escape(link)}</a></p>
@@ -77,7 +75,7 @@ def passes_of(folder, keys):
         except FileNotFoundError:
             keys = []
         if not keys:
-            raise refusal(f"there are no passes in {folder}")
+            raise refusal("no passes", path=folder)
     texts = {}
     for key in keys:
         path = os.path.join(folder, key)
@@ -85,24 +83,13 @@ def passes_of(folder, keys):
             with open(path, encoding="ascii") as file:
                 text = file.read(9_000).strip()
             if key_of(text) != key:
-                raise ValueError(f"it holds a pass of {key_of(text)}")
+                raise ValueError(say("pass of another", key=key_of(text)))
         except FileNotFoundError:
-            raise refusal(f"there is no pass {path}; `lost-pass {key}` makes another") from None
-        except (OSError, ValueError) as fault:
-            raise Fault(OUTPUT, f"{path}: {fault}") from None
+            raise refusal("no pass file", path=path, key=key) from None
+        except (OSError, ValueError) as failure:
+            raise fault(OUTPUT, "in file", path=path, why=failure) from None
         texts[key] = text
     return texts
-
-
-def spare_key(club, names, folder, member):
-    """Makes a further key of a member, with its pass in the folder; its name, and the pass."""
-    stem = member[:20].rstrip("-")
-    key = next(it for it in (f"{stem}-{number}" for number in range(2, 1000)) if it not in names.keys and not os.path.lexists(os.path.join(folder, it)))
-    status, text = as_desk(club, ["add-key", "--root-stdin", "--", key, member], secrets.token_hex(32).encode())
-    if status:
-        raise Fault(status, f"add-key {key} {member}: status {status}")
-    write_new(os.path.join(folder, key), text.decode())
-    return key, text.decode().strip()
 
 
 def spares_of(club, names, texts):
@@ -118,22 +105,20 @@ def spares_of(club, names, texts):
 def letters(club, words, names_of):
     """Writes the sheets of passes into one file, which isn't there yet."""
     if not re.fullmatch(r"https://[A-Za-z0-9.:/-]+", club.site):
-        raise refusal(f"the configuration of {club.name} has no line SITE=https://ADDRESS")
+        raise refusal("no site", club=club.name)
     if os.path.lexists(words.to):
-        raise refusal(f"there is a file {words.to} already")
+        raise refusal("file there", path=words.to)
     program("QRENCODE", "qrencode")
     texts = passes_of(words.passes, words.key)
     names = names_of(club)
     gone = [it for it in texts if it not in names.keys or names.keys[it].revoked]
     if gone:
-        raise refusal(f"the club has no key {gone[0]}, or it is revoked")
+        raise refusal("no such key", key=gone[0])
     sheets, members, lent = [], {}, spares_of(club, names, texts)
     for key, text in texts.items():
         member = names.keys[key].member
         name = names.written.get(member) or member
-        sheets.append(sheet(club, name, key, text, False, lent.pop(member, ())))
-        if words.spare and member not in members:
-            sheets.append(sheet(club, name, *spare_key(club, names, words.passes, member), True))
+        sheets.append(sheet(club, name, key, text, lent.pop(member, ())))
         members[member] = name
     for member, spares in lent.items():
         members[member] = names.written.get(member) or member
@@ -146,7 +131,7 @@ def letters(club, words, names_of):
 """
     try:
         write_new(words.to, page)
-    except OSError as fault:
-        raise Fault(OUTPUT, f"{words.to} can't be written: {fault}") from None
+    except OSError as failure:
+        raise fault(OUTPUT, "cannot be written", path=words.to, fault=failure) from None
     print(say("letters made", count=len(sheets), members=len(members), file=words.to))
     return 0

@@ -5,6 +5,7 @@ import re
 import sys
 
 from club_office.faults import refusal
+from club_office.texts import head, say
 from club_office.values import date_of, day, name
 
 
@@ -13,7 +14,8 @@ def table(heads, rows, as_csv):
     if as_csv:
         csv.writer(sys.stdout, lineterminator="\n").writerows([heads, *(map(unformed, row) for row in rows)])
         return
-    cells = [[str(cell) for cell in row] for row in [heads, *rows]]
+    words = {"no", "yes", "none", "court", "boat", "room"}
+    cells = [[head(it) for it in heads], *([head(cell) if cell in words else str(cell) for cell in row] for row in rows)]
     widths = [max(len(row[column]) for row in cells) for column in range(len(heads))]
     right = [bool(rows) and all(isinstance(row[column], int) for row in rows) for column in range(len(heads))]
     for row in cells:
@@ -39,7 +41,7 @@ def is_row(db, table_name, row_name):
 
 def wants_row(db, table_name, row_name):
     if not is_row(db, table_name, row_name):
-        raise refusal(f"there is no {'key' if table_name == 'keys' else table_name[:-1].replace('facilitie', 'facility')} {row_name}")
+        raise refusal(f"no row {table_name}", name=row_name)
 
 
 def list_members(db, words, now):
@@ -101,7 +103,7 @@ def asked_of_bookings(db, what):
     name(what)
     found = [column for column, rows in (("member", "members"), ("facility", "facilities")) if is_row(db, rows, what)]
     if len(found) != 1:
-        raise refusal(f"{what} is {'a member and a facility' if found else 'no member and no facility'}")
+        raise refusal("both" if found else "neither", name=what)
     return found[0], what
 
 
@@ -123,8 +125,8 @@ def list_faults(db, _words, _now):
     for line in found:
         print(line)
     if found:
-        raise refusal(f"{len(found)} faults")
-    print("the totals are the sums of the bookings")
+        raise refusal("faults", count=len(found))
+    print(say("sums are right"))
 
 
 def faults(db):
@@ -135,27 +137,27 @@ def faults(db):
            FROM members LEFT JOIN keys ON member = members.name LEFT JOIN bookings ON pass_key = keys.name
            GROUP BY members.name HAVING used <> spent"""
     ):
-        found.add(f"member {member}: used is {used}, its bookings cost {spent}")
+        found.add(say("used off", member=member, used=used, spent=spent))
     for facility, on, hour, off in db.execute(
         """SELECT facility, day, hour, sum(persons) FROM
                (SELECT facility, day, hour, guests + 1 AS persons FROM bookings WHERE cancelled = 0
                 UNION ALL SELECT facility, day, hour, -taken FROM slots)
            GROUP BY facility, day, hour HAVING sum(persons) <> 0"""
     ):
-        found.add(f"slot {facility} {date_of(on)} {hour}: its bookings have {off} persons more than taken")
+        found.add(say("taken off", facility=facility, day=date_of(on), hour=hour, persons=off))
     for what, sql in LIMITS:
-        found.update(f"{what}: {row[0]}" for row in db.execute(sql))
+        found.update(say(f"limit {what}", row=row[0]) for row in db.execute(sql))
     return found
 
 
 LIMITS = [
-    ("balance below 0", "SELECT name FROM members WHERE used > credited"),
-    ("opens not before shuts", "SELECT name FROM facilities WHERE opens >= shuts"),
+    ("balance", "SELECT name FROM members WHERE used > credited"),
+    ("hours", "SELECT name FROM facilities WHERE opens >= shuts"),
     (
-        "more persons than places",
+        "places",
         "SELECT facility || ' ' || date(day * 86400, 'unixepoch') || ' ' || hour FROM slots JOIN facilities ON name = facility"
         " WHERE taken NOT BETWEEN 0 AND places",
     ),
-    ("refund without a cancellation", "SELECT pass_key || '/' || number FROM bookings WHERE refund > charge * cancelled"),
-    ("reference to nothing", 'SELECT "table" || \' \' || rowid FROM pragma_foreign_key_check'),
+    ("refund", "SELECT pass_key || '/' || number FROM bookings WHERE refund > charge * cancelled"),
+    ("reference", 'SELECT "table" || \' \' || rowid FROM pragma_foreign_key_check'),
 ]

@@ -6,7 +6,7 @@ import csv
 import io
 import re
 
-from club_office.faults import BAD_VALUE, OUTPUT, Fault, bad_value
+from club_office.faults import BAD_VALUE, OUTPUT, Fault, bad_value, fault
 from club_office.people import person_of
 from club_office.reading import fitted, plain
 from club_office.texts import say
@@ -32,10 +32,10 @@ def text_of(path):
     try:
         with open(path, "rb") as file:
             data = file.read(MOST_BYTES + 1)
-    except OSError as fault:
-        raise Fault(OUTPUT, f"{path} can't be read: {fault}") from None
+    except OSError as failure:
+        raise fault(OUTPUT, "cannot be read", path=path, fault=failure) from None
     if len(data) > MOST_BYTES:
-        raise Fault(BAD_VALUE, f"{path}: more than {MOST_BYTES // 1_000_000} MB are no list of members")
+        raise fault(BAD_VALUE, "too large", path=path, most=MOST_BYTES // 1_000_000)
     for mark, called in ((codecs.BOM_UTF8, "utf-8-sig"), (codecs.BOM_UTF16_LE, "utf-16"), (codecs.BOM_UTF16_BE, "utf-16")):
         if data.startswith(mark):
             return decoded(path, data, called), called.upper().removesuffix("-SIG")
@@ -48,8 +48,8 @@ def text_of(path):
 def decoded(path, data, called):
     try:
         return data.decode(called)
-    except UnicodeDecodeError as fault:
-        raise Fault(OUTPUT, f"{path} can't be read: {fault}") from None
+    except UnicodeDecodeError as failure:
+        raise fault(OUTPUT, "cannot be read", path=path, fault=failure) from None
 
 
 def columns_of(path, heads, given):
@@ -63,10 +63,10 @@ def columns_of(path, heads, given):
     for each in filter(None, (given or "").split(",")):
         what, sign, head = each.partition("=")
         if not sign or what.strip() not in HEADS or plain(head) not in called:
-            raise bad_value(f"--columns {each}: it is WHAT=COLUMN, of {', '.join(HEADS)} and {', '.join(heads)}")
+            raise bad_value("no such column", each=each, whats=", ".join(HEADS), heads=", ".join(heads))
         found[what.strip()] = called.index(plain(head))
     if "name" not in found and not {"surname", "first name"} <= set(found):
-        raise Fault(BAD_VALUE, f"{path}: the first line isn't name,quota,points or name,quota,points,key: it has {', '.join(heads)}; --columns says which is what")
+        raise fault(BAD_VALUE, "no heads", path=path, heads=", ".join(heads))
     return found
 
 
@@ -85,13 +85,13 @@ def rows_of(words):
                 columns = columns_of(path, heads, words.columns)
                 for what, value in (("quota", words.quota), ("points", words.points)):
                     if what not in columns and value is None:
-                        raise Fault(BAD_VALUE, f"{path}: no column is {what}; --{what} gives it to all")
+                        raise fault(BAD_VALUE, "no column", path=path, what=what)
             elif any(it.strip() for it in cells):
                 rows.append(row_of(path, reader.line_num, heads, cells, columns, words))
-    except csv.Error as fault:
-        raise Fault(BAD_VALUE, f"{path}, line {reader.line_num}: {fault}") from None
+    except csv.Error as failure:
+        raise fault(BAD_VALUE, "in line", path=path, line=reader.line_num, why=failure) from None
     if columns is None:
-        raise Fault(BAD_VALUE, f"{path} is empty")
+        raise fault(BAD_VALUE, "is empty", path=path)
     understood = ", ".join(f"{what} = {heads[place]}" for what, place in columns.items())
     over = [it for place, it in enumerate(heads) if place not in columns.values() and it]
     signs = {",": ",", ";": ";", "\t": "tab"}[delimiter]
@@ -101,7 +101,7 @@ def rows_of(words):
 def row_of(path, line, heads, cells, columns, words):
     try:
         if len(cells) != len(heads):
-            raise bad_value("another number of cells than in the first line")
+            raise bad_value("other cells")
         values = {what: cells[place].strip() for what, place in columns.items()}
         if "name" not in values:
             values["name"] = ", ".join(filter(None, (values["surname"], values["first name"])))
@@ -113,5 +113,5 @@ def row_of(path, line, heads, cells, columns, words):
         if quota is None or points is None:
             raise bad_value("no quota" if quota is None else "no points")
         return Row(line, written, member, quota, points, key, person_of({**values, "name": written}))
-    except Fault as fault:
-        raise Fault(fault.status, f"{path}, line {line}: {fault}") from None
+    except Fault as failure:
+        raise fault(failure.status, "in line", path=path, line=line, why=failure) from None

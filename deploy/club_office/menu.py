@@ -7,6 +7,7 @@ import csv
 import datetime
 import importlib
 import io
+import re
 import shlex
 import subprocess
 import sys
@@ -14,7 +15,7 @@ import sys
 from club_office.asking import Back, ask, ask_day, ask_facilities, ask_hours, ask_name, ask_number, chosen, until_read
 from club_office.clubs import SELF
 from club_office.counter import as_desk
-from club_office.reading import fitted, found, found_members, plain, read_hours
+from club_office.reading import fitted, found as found_names, found_members, plain, read_hours
 from club_office.spares import spare_keys
 from club_office.texts import WEEKDAYS, day_text, language, means, say
 from club_office.values import NAME
@@ -164,7 +165,7 @@ def new_facility_words(office):
         return name if NAME.fullmatch(name) and name not in office.names.facilities else None
 
     name = until_read(say("ask facility name"), read, say("no name"))
-    kind = until_read(say("ask kind"), lambda typed: found(plain(typed), ["court", "boat", "room"])[:1] or None, say("no name"))[0]
+    kind = until_read(say("ask kind"), lambda typed: found_names(plain(typed), ["court", "boat", "room"])[:1] or None, say("no name"))[0]
     places, price = ask_number(say("ask places"), 1, 50), ask_number(say("ask price"), 0, 9999)
     begin, end = until_read(say("ask opening"), read_hours, say("no hours"))
     return [["add-facility", name, kind, str(places), str(price), str(begin), str(end)]]
@@ -299,13 +300,26 @@ def menu_lines():
     return [f"{one.ljust(width)}{other}".rstrip() for one, other in zip(left, right)]
 
 
-def task_named(answer):
-    """The task of a number, or of a part of what it is called; None if there is none, or several."""
+def tasks_named(answer):
+    """The task of a number, or those of a part of what they are called: the whole of it, its beginning, a word of it, or letters of it."""
     if answer.isdigit():
-        return TASKS[int(answer) - 1] if 0 < int(answer) <= len(TASKS) else None
-    fits = [task for task in TASKS if plain(answer) in plain(say(task.called))]
-    whole = [task for task in fits if plain(answer) == plain(say(task.called))]
-    return (whole or fits)[0] if len(whole or fits) == 1 else None
+        return [TASKS[int(answer) - 1]] if 0 < int(answer) <= len(TASKS) else []
+    typed = plain(answer)
+    called = {task: plain(say(task.called)) for task in TASKS}
+    for fits in (typed.__eq__, lambda text: text.startswith(typed), lambda text: typed in re.findall("[a-z0-9]+", text), lambda text: typed in text):
+        found = [task for task, text in called.items() if fits(text)]
+        if found:
+            return found
+    return []
+
+
+def task_named(answer):
+    """The task that is meant; of several the clerk chooses one. None if there is none."""
+    tasks = tasks_named(answer)
+    if len(tasks) < 2:
+        return tasks[0] if tasks else None
+    texts = {say(task.called): task for task in tasks}
+    return texts[chosen(answer, list(texts))]
 
 
 def carry_out(office, task):
@@ -336,11 +350,11 @@ def menu(club, names):
                 return 0
         except Back:
             return 0
-        task = task_named(answer)
-        if not task:
-            print(say("no task"))
-            continue
         try:
+            task = task_named(answer)
+            if not task:
+                print(say("no task"))
+                continue
             carry_out(office, task)
         except (Back, KeyboardInterrupt):
             print(say("back"))

@@ -7,10 +7,11 @@ import sys
 from club_office.closures import add_reasons, closures_of, reasons_of
 from club_office.clubs import clock
 from club_office.copies import snapshot, synced
-from club_office.faults import STORAGE, Fault, refusal
+from club_office.faults import Fault, refusal, storage_failed
 from club_office.lists import wants_row
 from club_office.page import more_of, page_of, wants_rule
 from club_office.report import report_of
+from club_office.texts import say
 
 RECORD = """
     SELECT printf('%d %s %s %02d guests %d charge %d left %d', number, facility, date(day * 86400, 'unixepoch'), hour, guests, charge, remains)
@@ -26,7 +27,7 @@ def print_record(db, words, _now):
 
 
 def make_page(club, _words):
-    print(f"{write_page(club)}: done")
+    print(f"{write_page(club)}: {say('done')}")
     return 0
 
 
@@ -34,7 +35,7 @@ def write_page(club):
     """Makes club.json anew, whole or not at all, in the folder PAGES of the configuration; returns its path."""
     folder, zone = club.settings.get("pages"), club.settings.get("zone_name")
     if not folder or not zone:
-        raise refusal(f"the configuration of {club.name} has no lines PAGES=FOLDER and ZONE_NAME=ZONE, as /var/www/{club.name} and Europe/Berlin")
+        raise refusal("no pages", club=club.name)
     wants_rule(zone, club.zone)
     titles = club.settings.get("titles")
     with snapshot(club) as db:
@@ -43,6 +44,8 @@ def write_page(club):
     place = os.path.join(folder, "club.json")
     made = f"{place}.new"
     try:
+        if is_as(place, text):
+            return place
         with open(made, "w", encoding="utf-8") as file:
             os.fchmod(file.fileno(), 0o644)
             file.write(text)
@@ -50,17 +53,26 @@ def write_page(club):
             os.fsync(file.fileno())
         os.rename(made, place)
         synced(folder)
-    except OSError as fault:
-        raise Fault(STORAGE, f"storage failed: {place} can't be written: {fault}") from None
+    except OSError as failure:
+        raise storage_failed("cannot be written", path=place, fault=failure) from None
     return place
+
+
+def is_as(place, text):
+    """Whether a file is there with this text."""
+    try:
+        with open(place, "rb") as file:
+            return file.read() == text.encode()
+    except FileNotFoundError:
+        return False
 
 
 def keep_reasons(club, words):
     """Keeps why slots were closed. The slots stay closed if this fails."""
     try:
         add_reasons(club, words, clock() // 1440)
-    except OSError as fault:
-        print(f"the reason can't be written: {fault}", file=sys.stderr)
+    except OSError as failure:
+        print(say("reason unwritten", fault=failure), file=sys.stderr)
 
 
 def page_again(club):
@@ -69,8 +81,8 @@ def page_again(club):
         return
     try:
         write_page(club)
-    except Fault as fault:
-        print(f"the page still shows the club of before: {fault}", file=sys.stderr)
+    except Fault as failure:
+        print(say("page of before", fault=failure), file=sys.stderr)
 
 
 def print_report(club, words):
@@ -79,6 +91,6 @@ def print_report(club, words):
     with snapshot(club) as db:
         year = words.year or today.year
         if year > today.year:
-            raise refusal(f"{year} is to come")
+            raise refusal("is to come", day=year)
         sys.stdout.buffer.write(report_of(club, db, year, today, not words.no_names).encode())
     return 0

@@ -6,7 +6,8 @@ import json
 import os
 import re
 
-from club_office.faults import STORAGE, Fault, refusal
+from club_office.faults import STORAGE, fault, refusal
+from club_office.texts import say
 
 ZONES = "/usr/share/zoneinfo"
 # How long a title may be for the page, in the units of JavaScript's strings.
@@ -16,19 +17,19 @@ MOST_TITLE = 80
 def rule_of(zone, zones=ZONES):
     """The rule of a zone of this name, as POSIX writes it: the last line of its file."""
     if not re.fullmatch(r"[A-Za-z0-9_+-]+(/[A-Za-z0-9_+-]+)*", zone):
-        raise refusal(f"{zone} is no name of a zone")
+        raise refusal("no zone name", zone=zone)
     try:
         with open(os.path.join(zones, zone), "rb") as file:
             return file.read().rstrip(b"\n").rpartition(b"\n")[2].decode(errors="replace")
     except OSError:
-        raise refusal(f"there is no zone {zone} in {zones}") from None
+        raise refusal("no zone", zone=zone, path=zones) from None
 
 
 def wants_rule(zone, rule, zones=ZONES):
     """Refuses a zone whose rule isn't the server's."""
     found = rule_of(zone, zones)
     if found != rule:
-        raise refusal(f"the rule of {zone} is {found}, and the server's is {rule}: one of them is another zone")
+        raise refusal("other zone", zone=zone, found=found, rule=rule)
 
 
 def titles_of(path, facilities):
@@ -38,9 +39,9 @@ def titles_of(path, facilities):
         with open(path, "rb") as file:
             lines = file.read().removeprefix(b"\xef\xbb\xbf").split(b"\n")
     except FileNotFoundError:
-        raise refusal(f"there is no file {path}") from None
-    except OSError as fault:
-        raise Fault(STORAGE, f"{path} can't be read: {fault}") from None
+        raise refusal("no file", path=path) from None
+    except OSError as failure:
+        raise fault(STORAGE, "cannot be read", path=path, fault=failure) from None
     found = {}
     for number, line in enumerate(lines, 1):
         try:
@@ -48,24 +49,24 @@ def titles_of(path, facilities):
             if text and not text.startswith("#"):
                 add_title(found, *(text.split(None, 1) if " " in text or "\t" in text else (text, "")), number, facilities)
         except UnicodeDecodeError:
-            raise refusal(f"{path}, line {number}: it is no UTF-8, as another program writes umlauts: save the file as UTF-8") from None
-        except ValueError as fault:
-            raise refusal(f"{path}, line {number}: {fault}") from None
+            raise refusal("in line", path=path, line=number, why=say("no UTF-8")) from None
+        except ValueError as failure:
+            raise refusal("in line", path=path, line=number, why=failure) from None
     return {name: titled for name, (_, titled) in found.items()}
 
 
 def add_title(found, name, written, line, facilities):
     title, bar, about = (" ".join(it.split()) for it in written.partition("|"))
     if name not in facilities:
-        raise ValueError(f"the club has no facility {name}")
+        raise ValueError(say("club without", name=name))
     if name in found:
-        raise ValueError(f"{name} has a title already, in line {found[name][0]}")
+        raise ValueError(say("titled already", name=name, line=found[name][0]))
     if bar and (not about or not about.isprintable() or len(about.encode("utf-16-le")) > 2 * MOST_SENTENCE):
-        raise ValueError(f"its sentence is missing, or has a letter that isn't printed, or more than {MOST_SENTENCE} letters")
+        raise ValueError(say("no sentence", most=MOST_SENTENCE))
     if not title or not title.isprintable():
-        raise ValueError(f"{name} has no title" if not title else "its title has a letter that isn't printed")
+        raise ValueError(say("title unprinted" if title else "no title", name=name))
     if len(title.encode("utf-16-le")) > 2 * MOST_TITLE:
-        raise ValueError(f"its title has more than {MOST_TITLE} letters")
+        raise ValueError(say("title too long", most=MOST_TITLE))
     found[name] = line, {"title": title, **({"about": about} if about else {})}
 
 
@@ -81,9 +82,9 @@ def more_of(given):
     found = {it: given[it] for it in MORE if given.get(it)}
     for it, value in found.items():
         if not value.isprintable() or len(value.encode("utf-16-le")) > 2 * MOST_SENTENCE:
-            raise refusal(f"{it.upper()} has a letter that isn't printed, or more than {MOST_SENTENCE} letters")
+            raise refusal("setting unprinted", what=it.upper(), most=MOST_SENTENCE)
         if it != "contact" and not re.fullmatch(r"https://[^\s\"'<>\\]+", value):
-            raise refusal(f"{it.upper()} is no address, as https://club.example/imprint")
+            raise refusal("no address", what=it.upper())
     if given.get("logo"):
         found["logo"] = logo_of(given["logo"])
     return found
@@ -94,10 +95,10 @@ def logo_of(path):
     try:
         with open(path, "rb") as file:
             data = file.read(MOST_PICTURE + 1)
-    except OSError as fault:
-        raise Fault(STORAGE, f"{path} can't be read: {fault}") from None
+    except OSError as failure:
+        raise fault(STORAGE, "cannot be read", path=path, fault=failure) from None
     if kind is None or len(data) > MOST_PICTURE:
-        raise refusal(f"{path}: a logo is an SVG, PNG, JPEG or WebP of at most {MOST_PICTURE:,} bytes")
+        raise refusal("no logo", path=path, most=MOST_PICTURE)
     return f"data:image/{kind};base64,{base64.b64encode(data).decode()}"
 
 
@@ -106,7 +107,7 @@ def page_of(db, name, zone, titles_file, closures=(), more=()):
     rows = db.execute("SELECT name, kind, opens, shuts FROM facilities ORDER BY rowid").fetchall()
     titles = titles_of(titles_file, {row[0] for row in rows}) if titles_file else {}
     if not name.isprintable():
-        raise refusal("the club's name has a letter that isn't printed, or is no UTF-8")
+        raise refusal("club name unprinted")
     facilities = [
         {"name": each, **titles.get(each, {}), "kind": kind, "opens": opens, "shuts": shuts} for each, kind, opens, shuts in rows
     ]

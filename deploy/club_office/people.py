@@ -51,11 +51,11 @@ def person_of(values):
     found = Person(*(" ".join(str(values.get(it) or "").split()) for it in Person._fields))
     for it in found:
         if len(it) > MOST_LETTERS or not it.isprintable():
-            raise bad_value(f"a name, mail address or telephone number has more than {MOST_LETTERS} letters, or one that isn't printed")
+            raise bad_value("person too long", most=MOST_LETTERS)
     if found.mail and not re.fullmatch(r"[^@\s<>,;\"]+@[A-Za-z0-9.-]+", found.mail):
-        raise bad_value("the mail address is none")
+        raise bad_value("no mail address")
     if found.telephone and not re.fullmatch(r"[0-9 +()/.-]+", found.telephone):
-        raise bad_value("the telephone number is none: digits, spaces and +()/.-")
+        raise bad_value("no telephone")
     return found
 
 
@@ -65,7 +65,7 @@ def set_person(club, words):
     try:
         values = json.loads(sys.stdin.buffer.read(10_000))
     except ValueError:
-        raise bad_value("standard input has no person") from None
+        raise bad_value("no person") from None
     person = person_of(values if isinstance(values, dict) else {})
 
     def act():
@@ -76,7 +76,7 @@ def set_person(club, words):
 
     with Turn(club) as turn:
         status = turn.order(["person", words.member], act)
-    print("done")
+    print(say("done"))
     return status
 
 

@@ -11,10 +11,10 @@ import time
 from club_office.book import Turn
 from club_office.clubs import clubdesk, wants_file
 from club_office.copies import snapshot
-from club_office.faults import STORAGE, Fault, refusal
+from club_office.faults import fault, refusal, storage_failed
 from club_office.lists import wants_row
 from club_office.plans import slot_text
-from club_office.texts import say
+from club_office.texts import in_language, say
 from club_office.values import date_of
 
 # How long the desk may take for a reply, in seconds, and how often it is asked again.
@@ -45,7 +45,7 @@ def packet(kind, data):
 
 def asked(club, method, path, text, body=None):
     """The status and the body of the desk's reply. A desk between two servers is asked again; the same request is never done twice."""
-    fault = None
+    failed = None
     for _ in range(TRIES):
         client = http.client.HTTPConnection("127.0.0.1", club.port, timeout=PATIENCE)
         try:
@@ -54,20 +54,20 @@ def asked(club, method, path, text, body=None):
             found = reply.status, json.loads(reply.read(100_000))
             if found[0] < 500:
                 return found
-            fault = found[1].get("text")
+            failed = found[1].get("text")
         except (OSError, http.client.HTTPException, ValueError) as failure:
-            fault = failure
+            failed = failure
         finally:
             client.close()
         time.sleep(0.5)
-    raise Fault(STORAGE, f"storage failed: the desk at port {club.port} doesn't answer: {fault}")
+    raise storage_failed("desk silent", port=club.port, fault=failed)
 
 
 def answer(found):
     """The body of a reply that serves; else the refusal that it is."""
     status, body = found
     if status != 200:
-        raise refusal(f"the desk says: {body.get('text')}")
+        raise refusal("desk says", text=in_language(body.get("text")))
     return body
 
 
@@ -79,7 +79,7 @@ def office_key(db, member):
         row = db.execute("SELECT member, revoked FROM keys WHERE name = ?", [name]).fetchone()
         if row is None or row == (member, 0):
             return name, row is not None
-    raise refusal(f"no key of the office is free for {member}")
+    raise refusal("no office key", member=member)
 
 
 def make_key(club, turn, member, facility):
@@ -91,7 +91,7 @@ def make_key(club, turn, member, facility):
         root = secrets.token_hex(32).encode()
         status = turn.order(["add-key", name, member], lambda: clubdesk(club, "add-key", [name, member], ["--root-stdin"], root)[0])
         if status:
-            raise Fault(status, f"add-key {name} {member}: status {status}")
+            raise fault(status, "order failed", order=f"add-key {name} {member}", status=status)
     return name
 
 
@@ -121,7 +121,7 @@ def put(club, words, key, lines):
             [key, words.facility, words.day, words.hour],
         ).fetchone()
     if there and not words.again:
-        raise refusal(f"{slot} is booked for {words.member} already: {key} {there[0]}; --again books once more")
+        raise refusal("booked already", slot=slot, member=words.member, booking=f"{key} {there[0]}")
     reply = answer(asked(club, "PUT", path_of(words, number), pass_of(key, root, "actions = book"), json.dumps({"guests": words.guests or 0})))
     persons = say("persons", count=words.guests + 1) if words.guests else say("person")
     lines.append(say("booked", slot=slot, member=words.member, persons=persons, points=reply["charge"], booking=f"{key} {number}"))
@@ -151,12 +151,12 @@ def delete(club, words, lines):
     if words.number:
         found = [it for it in found if it[1] == words.number]
     if not found:
-        raise refusal(f"{words.member} has no booking of {slot}")
+        raise refusal("no booking of", member=words.member, slot=slot)
     if len(found) > 1:
-        raise refusal(f"{words.member} has several bookings of {slot}: {', '.join(f'{it[0]} {it[1]}' for it in found)}; --number says which")
+        raise refusal("several bookings", member=words.member, slot=slot, bookings=", ".join(f"{it[0]} {it[1]}" for it in found))
     key, number, root, revoked = found[0]
     if revoked:
-        raise refusal(f"the key {key} is revoked: `office {club.name} cancel {key} {number}` cancels it, with all points back")
+        raise refusal("key revoked", key=key, club=club.name, number=number)
     reply = answer(asked(club, "DELETE", path_of(words, number), pass_of(key, root, "actions = cancel")))
     lines.append(say("called off", slot=slot, member=words.member, points=reply["refund"], booking=f"{key} {number}"))
     return 0

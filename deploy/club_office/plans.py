@@ -2,7 +2,7 @@
 
 import collections
 
-from club_office.faults import USAGE, Fault, refusal
+from club_office.faults import USAGE, fault, refusal
 from club_office.lists import wants_row
 from club_office.texts import say
 from club_office.values import MOST_CHARGE, MOST_NUMBER, date_of
@@ -26,7 +26,7 @@ class Plan:
         # What the summary counts.
         self.cancelled, self.closed, self.opened = [], 0, 0
 
-    def tell(self, text, **values):
+    def tell(self, text, /, **values):
         self.lines.append(say(text, **values))
 
     def all_lines(self):
@@ -97,7 +97,7 @@ def plan_debit(db, words, _now):
     plan = Plan()
     (balance,) = db.execute("SELECT max(credited - used, 0) FROM members WHERE name = ?", [words.member]).fetchone()
     if words.points > balance:
-        raise refusal(f"the balance of {words.member} is {balance}")
+        raise refusal("balance is", member=words.member, balance=balance)
     plan.tell("balance of", member=words.member, before=balance, then=balance - words.points)
     plan.change(1, "UPDATE members SET credited = credited - ? WHERE name = ?", words.points, words.member)
     return plan
@@ -106,7 +106,7 @@ def plan_debit(db, words, _now):
 def plan_facility(db, words, now):
     wants_row(db, "facilities", words.facility)
     if words.price is None and words.places is None and words.hours is None:
-        raise Fault(USAGE, "set-facility: nothing to set: --price, --places or --hours")
+        raise fault(USAGE, "nothing to set")
     (places, price, opens, shuts) = db.execute(
         "SELECT places, price, opens, shuts FROM facilities WHERE name = ?", [words.facility]
     ).fetchone()
@@ -131,11 +131,11 @@ def refuse_unfit(db, facility, places, opens, shuts, now):
     """A booking to come needs its hour. Every slot needs its places, also one that is over: no slot of a club has more persons."""
     for it in bookings_of(db, "facility = ? AND day * 1440 + hour * 60 > ?", facility, now):
         if not opens <= it.hour < shuts:
-            raise refusal(f"{it.key} {it.number} is booked {date_of(it.day)} {it.hour:02d}:00")
+            raise refusal("is booked at", key=it.key, number=it.number, day=date_of(it.day), hour=it.hour)
     for on, hour, taken in db.execute(
         "SELECT day, hour, taken FROM slots WHERE facility = ? AND taken > ? ORDER BY day DESC, hour DESC LIMIT 1", [facility, places]
     ):
-        raise refusal(f"{taken} persons are booked {date_of(on)} {hour:02d}:00")
+        raise refusal("persons booked", count=taken, day=date_of(on), hour=hour)
 
 
 def plan_reopen(db, words, _now):
@@ -150,24 +150,24 @@ def plan_reopen(db, words, _now):
             plan.change(1, "UPDATE slots SET closed = 0 WHERE facility = ? AND day = ? AND hour = ? AND closed = 1", *where)
             plan.opened += 1
     if not plan.changes:
-        raise refusal(f"{slot_text(words.facility, words.day, begin)} isn't closed{'' if end == begin + 1 else ', nor one of the hours after it'}")
+        raise refusal("not closed" if end == begin + 1 else "none closed", slot=slot_text(words.facility, words.day, begin))
     return plan
 
 
 def plan_cancel(db, words, now):
     wants_row(db, "keys", words.key)
     if words.all == bool(words.number):
-        raise Fault(USAGE, "cancel: a NUMBER, or --all for all that is to come")
+        raise fault(USAGE, "number or all")
     plan = Plan()
     if words.all:
         found = bookings_of(db, "pass_key = ? AND day * 1440 + hour * 60 > ?", words.key, now)
         if not found:
-            raise refusal(f"{words.key} has no booking to come")
+            raise refusal("none to come", key=words.key)
     else:
         found = bookings_of(db, "pass_key = ? AND number = ?", words.key, words.number)
         if not found:
             known = db.execute("SELECT count(*) FROM bookings WHERE pass_key = ? AND number = ?", [words.key, words.number]).fetchone()[0]
-            raise refusal(f"booking {words.number} of {words.key} {'is cancelled already' if known else 'is unknown'}")
+            raise refusal("cancelled already" if known else "booking unknown", number=words.number, key=words.key)
     plan.cancel(found)
     return plan
 
@@ -181,7 +181,7 @@ def plan_close(db, words, _now):
         wants_row(db, "facilities", facility)
         opens, shuts = db.execute("SELECT opens, shuts FROM facilities WHERE name = ?", [facility]).fetchone()
         if not opens <= begin < end <= shuts:
-            raise refusal(f"{facility} opens {opens}-{shuts}")
+            raise refusal("opens then", facility=facility, opens=opens, shuts=shuts)
     for day in days:
         for facility in facilities:
             plan.cancel(bookings_of(db, "facility = ? AND day = ? AND hour >= ? AND hour < ?", facility, day, begin, end))
@@ -189,7 +189,7 @@ def plan_close(db, words, _now):
         for facility in facilities:
             close_hours(db, plan, facility, day, begin, end)
     if not plan.changes:
-        raise refusal("all of these slots are closed already")
+        raise refusal("all closed")
     return plan
 
 
@@ -197,7 +197,7 @@ def days_of(words):
     """The days that are to be closed: of a span those of a weekday, where one is named."""
     found = [it for it in words.day if words.weekday is None or (it + THURSDAY) % 7 == words.weekday]
     if not found:
-        raise refusal("no day of these is of that weekday")
+        raise refusal("no such weekday")
     return found
 
 
@@ -218,7 +218,7 @@ def plan_rain(db, words, _now):
         for hour in sorted({hour for begin, end in words.hours for hour in range(begin, end)}):
             plan.cancel(bookings_of(db, "facility = ? AND day = ? AND hour = ?", facility, words.day, hour))
     if not plan.changes:
-        raise refusal("nobody has booked these slots")
+        raise refusal("nobody booked")
     return plan
 
 
@@ -252,7 +252,7 @@ def plan_new_year(db, words, now, club):
     """Bookings of days before a day leave the file; of each key one cancelled booking stays, with what they cost."""
     before = now // 1440 if words.before is None else words.before
     if before > now // 1440:
-        raise refusal(f"{date_of(before)} is to come")
+        raise refusal("is to come", day=date_of(before))
     plan = Plan()
     (old,) = db.execute("SELECT count(*) FROM bookings WHERE day < ?", [before]).fetchone()
     (kept,) = db.execute("SELECT count(*) FROM bookings WHERE day >= ?", [before]).fetchone()
@@ -264,7 +264,7 @@ def plan_new_year(db, words, now, club):
     plan.change(slots, "DELETE FROM slots WHERE day < ?", before)
     carried = carry_forward(db, before)
     if not slots and carried == db.execute("SELECT * FROM bookings WHERE day < ? ORDER BY pass_key, number DESC", [before]).fetchall():
-        raise refusal(f"nothing of before {date_of(before)} is in the file but what was carried forward")
+        raise refusal("nothing carried", day=date_of(before))
     plan.tell("carries", points=sum(row[6] for row in carried), keys=len({row[0] for row in carried}))
     for row in carried:
         plan.change(1, "INSERT INTO bookings VALUES (?, ?, ?, ?, ?, ?, ?, ?, ?, ?)", *row)

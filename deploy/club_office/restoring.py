@@ -1,58 +1,125 @@
 """A copy of the club that is put in its place."""
 
+import calendar
+import collections
 import contextlib
+import hashlib
 import os
 import shutil
 import sqlite3
 import subprocess
+import sys
+import time
 
 from club_office.asking import confirms, show_lines
 from club_office.book import Turn, refuse
 from club_office.clubs import now_of, program, refuse_to_come
 from club_office.copies import address, homes, keep_before, lost_name, scratch, snapshot, synced
 from club_office.corrections import ended, file_taken
-from club_office.faults import REFUSED, STORAGE, Fault, refusal
+from club_office.faults import REFUSED, Fault, refusal, storage_failed
 from club_office.lists import faults, table
 from club_office.people import show_concerned
+from club_office.places import given_by, kept_in, place_of, refuse_own_disk
 from club_office.plans import bookings_of, persons_text, slot_text
 from club_office.texts import say
 from club_office.undoing import forget_undo
 from club_office.values import COPY
 
 
+Copy = collections.namedtuple("Copy", "called kind path size moment tested")
+
+
 def copies_of(club):
-    """The path of each copy, by its name: those of each night, and those of before a correction."""
-    found = {}
-    for folder in (club.back_ups, club.file + "-before"):
+    """The copies on this machine: those of each night, which clubdesk has opened, and those of before a correction, which SQLite has tested."""
+    found = []
+    for folder, kind, tested in ((club.back_ups, "back-up", "opened"), (club.file + "-before", "before a correction", "whole")):
         with contextlib.suppress(FileNotFoundError):
-            found.update({file: os.path.join(folder, file) for file in os.listdir(folder) if COPY.fullmatch(file)})
+            for called in sorted(it for it in os.listdir(folder) if COPY.fullmatch(it)):
+                path = os.path.join(folder, called)
+                with contextlib.suppress(FileNotFoundError):
+                    it = os.stat(path)
+                    found.append(Copy(called, kind, path, it.st_size, moment_of(called) or it.st_mtime, tested))
     return found
 
 
+def copies_off_site(club):
+    """Those in the place of OFFSITE; none without one. A place that can't be asked is said."""
+    if not club.settings.get("offsite"):
+        return []
+    try:
+        place = place_of(club.settings["offsite"])
+        refuse_own_disk(place, club.file)
+        return [Copy(it.name, "off-site", None, it.size, moment_of(it.name), it.tested) for it in kept_in(place) if moment_of(it.name)]
+    except Fault as fault:
+        print(say("not asked", fault=fault), file=sys.stderr)
+        return []
+
+
+def moment_of(called):
+    """When a copy was made whose name is a moment in UTC; None for another name."""
+    try:
+        return calendar.timegm(time.strptime(called, "%Y-%m-%dT%H%M%SZ"))
+    except ValueError:
+        return None
+
+
+def age_text(seconds):
+    """How old a copy is, in the largest unit that counts."""
+    for unit, size in (("days", 86_400), ("hours", 3_600), ("minutes", 60)):
+        if seconds >= 2 * size or unit == "minutes":
+            return say(f"age {unit}", count=int(max(seconds, 0) // size))
+    return None
+
+
 def list_copies(club, words):
-    rows = [[called, "before a correction" if called[-1] != "Z" else "back-up", os.stat(path).st_size] for called, path in copies_of(club).items()]
-    table(["copy", "is", "bytes"], sorted(rows), words.csv)
+    found = sorted([*copies_of(club), *copies_off_site(club)], key=lambda it: (it.moment, it.called))
+    if words.csv:
+        table(["copy", "is", "bytes", "minutes", "tested"], [[it.called, it.kind, it.size, int((time.time() - it.moment) // 60), it.tested] for it in found], True)
+        return 0
+    rows = [[it.called, say(it.kind), age_text(time.time() - it.moment), it.size, say(f"tested {it.tested}")] for it in found]
+    table(["copy", "is", "age", "bytes", "tested"], rows, False)
     return 0
+
+
+def copy_named(club, called):
+    """The copy of this name, on this machine if it is there, else in the place of OFFSITE."""
+    found = [it for it in copies_of(club) if it.called == called]
+    found += [it for it in ([] if found else copies_off_site(club)) if it.called == called]
+    if not found:
+        raise refusal("no copy", called=called, club=club.name)
+    return found[0]
+
+
+def brought(place, called, path, asks=False):
+    """Brings a copy from its place to a path. It has to have the digest that it was sent with."""
+    kept = next(it for it in kept_in(place, asks) if it.name == called)
+    data = given_by(place, called, asks)
+    if kept.sum and hashlib.sha256(data).hexdigest() != kept.sum:
+        raise storage_failed("not as sent", called=called, place=place.text)
+    with open(path, "wb") as file:
+        file.write(data)
+    return path
 
 
 @contextlib.contextmanager
 def copy_opened(club, called):
     """A copy, in memory, once clubdesk has opened it as it opens the club, whose tables may be newer, and its totals are the sums."""
-    path = copies_of(club).get(called)
-    if not path:
-        raise refusal(f"there is no copy {called}; `office {club.name} copies` lists them")
     memory = sqlite3.connect(":memory:", isolation_level=None)
-    with scratch(club, homes(club, path)[0]) as folder:
+    found = copy_named(club, called)
+    with scratch(club, homes(club, found.size)[0]) as folder:
         copy = os.path.join(folder, "copy")
-        shutil.copyfile(path, copy)
+        if found.path:
+            shutil.copyfile(found.path, copy)
+        else:
+            brought(place_of(club.settings["offsite"]), called, copy)
         done = subprocess.run([program("CLUBDESK", "clubdesk"), "sheet", "--", copy, "2000-01-01"], capture_output=True, text=True, check=False)
         if done.returncode:
-            raise refusal(f"the copy {called} is no club that clubdesk opens: {done.stderr.strip()}")
+            raise refusal("copy unopened", called=called, said=done.stderr.strip())
         with contextlib.closing(sqlite3.connect(address(copy, "ro"), uri=True)) as disk:
             disk.backup(memory)
     wrong = sorted(faults(memory))
     if wrong:
-        raise refusal(f"the copy {called} isn't sound: {wrong[0]}")
+        raise refusal("copy unsound", called=called, fault=wrong[0])
     yield memory
     memory.close()
 
@@ -101,14 +168,14 @@ def restore(club, words):
     if not words.yes:
         show_lines(shown)
         if not confirms():
-            refuse(club, words, refusal(say("not confirmed")))
+            refuse(club, words, refusal("not confirmed"))
     lines = []
     with Turn(club) as turn:
         forget_undo(club)
         status = turn.order(words.given, lambda: put_in_place(club, words, lines, None if words.yes else shown))
     if words.yes:
         show_lines(lines)
-    print("done")
+    print(say("done"))
     show_concerned(club, of_whom(lines))
     return status
 
@@ -122,7 +189,7 @@ def preview_of_copy(club, words):
                 with snapshot(club) as db:
                     return what_changes(copy, db, now_of(words))
             except Fault as fault:
-                return [f"the club's file can't be read, and is kept beside the new one: {fault}"]
+                return [say("file unread", fault=fault)]
     except Fault as fault:
         refused = fault
     refuse(club, words, refused)
@@ -134,8 +201,8 @@ def put_in_place(club, words, lines, shown):
     try:
         with copy_opened(club, words.copy) as copy:
             write_over(club, words, copy, lines, shown)
-    except OSError as fault:
-        raise Fault(STORAGE, f"storage failed: {fault}") from None
+    except OSError as failure:
+        raise storage_failed("said", said=failure) from None
     return 0
 
 
@@ -149,8 +216,8 @@ def write_over(club, words, copy, lines, shown):
             copy.backup(db)
     except sqlite3.DatabaseError as fault:
         if isinstance(fault, sqlite3.OperationalError) and "no such table" not in str(fault):
-            raise Fault(STORAGE, f"storage failed: {fault}; nothing changed") from None
-        lines[:] = [f"the club's file can't be read, and is kept beside the new one: {fault}"]
+            raise storage_failed("nothing changed", why=fault) from None
+        lines[:] = [say("file unread", fault=fault)]
         put_new_file(club, copy)
         # A server that opened the file of before meanwhile has it under its other name.
         ended(club)
@@ -161,19 +228,19 @@ def keep_or_put_away(club, db, words, copy, lines, shown):
     try:
         lines += what_changes(copy, db, now_of(words))
         if shown is not None and lines != shown:
-            raise refusal("the club has changed since this was shown; nothing changed. Give the order again")
+            raise refusal("changed since")
         keep_before(club, db, words.command)
     except (sqlite3.DatabaseError, Fault) as fault:
         if isinstance(fault, Fault) and fault.status == REFUSED:
             raise
-        lines[:] = [f"the club's file isn't whole, and is kept beside the new one: {fault}"]
+        lines[:] = [say("file unsound", fault=fault)]
         lost = lost_name(club)
         for ending in ("", "-wal"):
             if os.path.exists(club.file + ending):
                 # By another program: with a descriptor of its own this one would lose its locks.
                 done = subprocess.run(["cp", "--", club.file + ending, lost + ending], check=False, stdin=subprocess.DEVNULL)
                 if done.returncode:
-                    raise Fault(STORAGE, f"storage failed: {club.file} can't be kept; nothing changed") from None
+                    raise storage_failed("unkept", path=club.file) from None
 
 
 def put_new_file(club, copy):

@@ -9,7 +9,7 @@ from club_office.asking import confirms, show_lines
 from club_office.book import Turn, add_line, refuse
 from club_office.clubs import clubdesk, wants_file
 from club_office.copies import snapshot
-from club_office.faults import STORAGE, Fault, refusal
+from club_office.faults import STORAGE, Fault, fault, refusal
 from club_office.texts import say
 
 Step = collections.namedtuple("Step", "label member points before is_done")
@@ -42,17 +42,17 @@ def wanted(club, words):
     """The members who are still to be credited, each with its credit of now. Members who left, and keys of screens, have a quota of 0."""
     steps = steps_of(club, words.label)
     if WHOLE in steps:
-        raise refusal(f"{words.label} was given already: {steps[WHOLE].points} points to each of {steps[WHOLE].before} members")
+        raise refusal("given already", label=words.label, points=steps[WHOLE].points, members=steps[WHOLE].before)
     other = next((it.points for it in steps.values() if it.points != words.points), None)
     if other:
-        raise refusal(f"{words.label} was begun with {other} points")
+        raise refusal("begun otherwise", label=words.label, points=other)
     with snapshot(club) as db:
         rows = db.execute("SELECT name, credited FROM members WHERE quota > 0 ORDER BY name").fetchall()
     left = []
     for member, credited in rows:
         step = steps.get(member)
         if step and not step.is_done and credited not in (step.before, step.before + words.points):
-            raise refusal(f"{member} was credited otherwise since {words.label} was broken off: look at `log {member}`, and write it into {ledger_of(club)}")
+            raise refusal("credited otherwise", member=member, label=words.label, path=ledger_of(club))
         if not step or not step.is_done and credited == step.before:
             left.append((member, credited))
     return left, len(rows)
@@ -63,14 +63,14 @@ def credit_all(club, words):
     wants_file(club)
     try:
         left, count = wanted(club, words)
-    except Fault as fault:
-        refuse(club, words, fault)
+    except Fault as failure:
+        refuse(club, words, failure)
     if not words.yes:
         show_lines([say("credits all", members=len(left), points=words.points, total=len(left) * words.points, label=words.label)])
         if len(left) < count:
             show_lines([say("credited before", count=count - len(left))])
         if not confirms():
-            refuse(club, words, refusal(say("not confirmed")))
+            refuse(club, words, refusal("not confirmed"))
     with Turn(club) as turn:
         left, count = wanted(club, words)
         for member, credited in left:
@@ -87,7 +87,7 @@ def give(club, turn, words, member, credited):
     line = ["credit", member, str(words.points)]
     status = turn.order(line, lambda: clubdesk(club, line[0], line[1:])[0])
     if status:
-        raise Fault(status if status != 1 else STORAGE, f"{member} isn't credited: status {status}; mend it and give the order again")
+        raise fault(status if status != 1 else STORAGE, "not credited", member=member, status=status)
     note(club, words.label, member, words.points, credited, "done")
 
 

@@ -1,6 +1,6 @@
 """Spare keys of members, whose passes the page lends: how many each has, and their names."""
 
-from club_office.faults import STORAGE, Fault
+from club_office.faults import STORAGE, Fault, fault
 from club_office.values import name, number
 
 MOST_SPARES = 9
@@ -11,7 +11,7 @@ def spare_keys(club, member):
     """The names of a member's spare keys, as amy-lend-1. The configuration has SPARES, how many, and SPARE_NAME, `lend` without it."""
     try:
         count, called = number(0, MOST_SPARES)(club.settings.get("spares") or "0"), name(club.settings.get("spare_name") or "lend")
-    except Fault as fault:
-        raise Fault(STORAGE, f"the configuration of {club.name}, SPARES and SPARE_NAME: {fault}") from None
+    except Fault as failure:
+        raise fault(STORAGE, "spares", club=club.name, fault=failure) from None
     ends = [f"-{called}-{place}" for place in range(1, count + 1)]
     return [name(member[: max(1, LONGEST_NAME - len(end))].rstrip("-") + end) for end in ends]

@@ -2,6 +2,8 @@
 
 import os
 
+from club_office.refusals import GERMAN, REFUSALS
+
 LANGUAGES = ("en", "de")
 WEEKDAYS = {
     "en": "Monday Tuesday Wednesday Thursday Friday Saturday Sunday".split(),
@@ -13,6 +15,9 @@ MONTHS = {
 }
 
 TEXTS = {
+    "said": ("{said}", "{said}"),
+    "done": ("done", "erledigt"),
+    "and": (" and ", " und "),
     # Questions and their answers.
     "yes": ("y yes", "j ja y yes"),
     "shall": ("Shall this be done? [y/N] ", "Soll das geschehen? [j/N] "),
@@ -196,6 +201,29 @@ TEXTS = {
     # A list.
     "list read": ("read as {letters} with {sign} between the columns: {columns}", "gelesen als {letters} mit {sign} zwischen den Spalten: {columns}"),
     "list over": ("; passed over: {columns}", "; übergangen: {columns}"),
+    "nothing to do": ("nothing to do", "nichts zu tun"),
+    "spare pass": ("spare pass {key}", "Pass zum Verleihen {key}"),
+    "imported": (
+        "{done} of {rows} rows done, {there} were there; passes are in {folder}",
+        "{done} von {rows} Zeilen erledigt, {there} waren da; Pässe sind in {folder}",
+    ),
+    "new": ("new", "neu"),
+    "there": ("there", "da"),
+    "begun": ("begun", "begonnen"),
+    "begun credited": ("begun, credited {points}", "begonnen, {points} Punkte"),
+    # Copies.
+    "back-up": ("back-up", "der Nacht"),
+    "before a correction": ("before a correction", "vor einer Korrektur"),
+    "off-site": ("off-site", "außer Haus"),
+    "age minutes": ("{count} minutes", "{count} Minuten"),
+    "age hours": ("{count} hours", "{count} Stunden"),
+    "age days": ("{count} days", "{count} Tage"),
+    "tested opened": ("opened", "geöffnet"),
+    "tested whole": ("whole", "ganz"),
+    "tested sum": ("same bytes", "gleiche Bytes"),
+    "tested no": ("no", "nein"),
+    # Lists.
+    "sums are right": ("the totals are the sums of the bookings", "die Summen stimmen mit den Buchungen überein"),
     # The season's points.
     "credits all": (
         "credits {members} members with {points} points each, {total} in all, as {label}; members with quota 0 get none",
@@ -228,7 +256,6 @@ TEXTS = {
         "Die Seite fragt, ob dieser Browser den Pass speichern soll. Auf deinem eigenen Gerät: Speichern.",
     ),
     "letter step 3": ("Choose the day, press a free slot, and book.", "Wähle den Tag, drücke auf eine freie Zeit, und buche."),
-    "letter spare": ("A second pass: for another device, or when the first is lost.", "Ein zweiter Pass: für ein weiteres Gerät, oder wenn der erste verloren ist."),
     "letter lend title": ("To lend", "Zum Verleihen"),
     "letter lend": (
         "Cut this half off and keep it. Open its link once, on a device of your own: then you lend a part under “Lend” on the page, as courts until"
@@ -288,14 +315,53 @@ TEXTS = {
 }
 
 
+# The heads of lists, where they aren't comma-separated values, and what stands in some of their cells.
+HEADS = {
+    "member": "Mitglied", "balance": "Punkte", "quota": "zugleich", "open": "offen", "keys": "Schlüssel", "name": "Name", "facility": "Platz", "kind": "Art",
+    "places": "Plätze", "price": "Preis", "opens": "öffnet", "shuts": "schließt", "key": "Schlüssel", "revoked": "widerrufen", "spent": "ausgegeben",
+    "older root until": "ältere Wurzel bis", "day": "Tag", "hour": "Stunde", "number": "Nummer", "persons": "Personen", "charge": "Preis",
+    "cancelled": "abgesagt", "refund": "zurück", "credited": "gutgeschrieben", "charged": "berechnet", "refunded": "erstattet", "copy": "Kopie", "is": "ist",
+    "age": "Alter", "bytes": "Bytes", "tested": "geprüft", "line": "Zeile", "as written": "wie geschrieben", "points": "Punkte", "yes": "ja", "no": "nein",
+    "none": "keine", "court": "Platz", "boat": "Boot", "room": "Raum",
+}
+# What argparse says of words that are no command's.
+USAGE = {
+    "usage: ": "Aufruf: ",
+    "%(prog)s: error: %(message)s\n": "%(prog)s: Fehler: %(message)s\n",
+    "the following arguments are required: %s": "es fehlen: %s",
+    "unrecognized arguments: %s": "zu viel: %s",
+    "argument %(argument_name)s: %(message)s": "%(argument_name)s: %(message)s",
+    "invalid choice: %(value)r (choose from %(choices)s)": "%(value)r gibt es nicht; es gibt %(choices)s",
+    "expected one argument": "ein Wert fehlt",
+    "positional arguments": "Argumente",
+    "options": "Optionen",
+    "show this help message and exit": "zeigt diese Hilfe",
+}
+
+
 def language():
     """German where the clerk's language is German, else English."""
     value = next(filter(None, (os.environ.get(it) for it in ("LC_ALL", "LC_MESSAGES", "LANG"))), "")
     return "de" if value.startswith("de") else "en"
 
 
-def say(text, **values):
-    return TEXTS[text][LANGUAGES.index(language())].format(**values)
+def say(text, /, **values):
+    found = TEXTS.get(text) or REFUSALS[text]
+    return found[LANGUAGES.index(language())].format(**values)
+
+
+def head(word):
+    """A list's head, or a cell's word, in the clerk's language."""
+    return HEADS.get(word, word) if language() == "de" else word
+
+
+def usage(text):
+    return USAGE.get(text, text) if language() == "de" else text
+
+
+def in_language(line):
+    """A fixed text of clubdesk, or of the desk, in the clerk's language."""
+    return GERMAN.get(line, line) if language() == "de" else line
 
 
 def means(text, answer):

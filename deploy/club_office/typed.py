@@ -10,7 +10,7 @@ import sys
 
 from club_office.asking import Back, chosen, confirms, doubts, is_terminal
 from club_office.counter import as_desk
-from club_office.faults import Fault, refusal
+from club_office.faults import fault, refusal
 from club_office.reading import Facility, Key, Member, Names, found, found_members, is_group, read_day, read_facilities, read_hours
 from club_office.texts import day_text, say
 
@@ -19,7 +19,7 @@ def names_of(club):
     """The club's names, of a copy."""
     status, text = as_desk(club, ["names"])
     if status:
-        raise Fault(status, "the club can't be read")
+        raise fault(status, "club unread")
     it = json.loads(text)
     return Names(
         {name: Member(*row) for name, row in it["members"].items()},
@@ -112,7 +112,7 @@ class Reader:
         try:
             return chosen(word, fits)
         except Back:
-            raise refusal(say("not confirmed")) from None
+            raise refusal("not confirmed") from None
 
     def echoed(self, word, read, text=None):
         """Says how a word was read, if that isn't what was typed. Other output is the command's own."""
@@ -189,4 +189,4 @@ def confirms_odd(reader, called, words, is_order):
     for it in odd:
         print(it)
     if odd and not confirms("go on"):
-        raise refusal(say("not confirmed"))
+        raise refusal("not confirmed")

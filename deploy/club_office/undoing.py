@@ -75,7 +75,7 @@ def read_undo(club):
         with open(undo_of(club), encoding="ascii") as file:
             return json.load(file)
     except (FileNotFoundError, ValueError):
-        raise refusal(f"there is no correction to undo; `office {club.name} copies` has the club of before each") from None
+        raise refusal("no undo", club=club.name) from None
 
 
 def plan_undo(db, club):
@@ -88,7 +88,7 @@ def plan_undo(db, club):
     for table, rowid, was, is_now in it["rows"]:
         found = db.execute(f"SELECT * FROM {table} WHERE rowid = ?", [rowid]).fetchone()
         if (None if found is None else [plain(value) for value in found]) != is_now:
-            raise refusal(f"{row_text(table, is_now or was)} has changed since; `office {club.name} copies` has the club of before")
+            raise refusal("touched since", row=row_text(table, is_now or was), club=club.name)
         columns = columns_of(db, table)
         if was is None:
             plan.change(1, f"DELETE FROM {table} WHERE rowid = ?", rowid)

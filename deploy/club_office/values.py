@@ -19,14 +19,14 @@ MOST_CREDIT = 1_000_000
 
 def name(word):
     if not NAME.fullmatch(word):
-        raise bad_value(f"{word!r} is no name: 1 to 24 of a to z, 0 to 9 and -, with no - at the beginning")
+        raise bad_value("no name of", word=word)
     return word
 
 
 def number(least, most):
     def value(word):
         if not re.fullmatch(r"[0-9]{1,9}", word) or not least <= int(word) <= most:
-            raise bad_value(f"{word!r} is no number from {least} to {most}")
+            raise bad_value("no number of", word=word, least=least, most=most)
         return int(word)
 
     return value
@@ -38,7 +38,7 @@ def day(word):
     except ValueError:
         found = None
     if not found or found.isoformat() != word or not 2000 <= found.year <= 2099:
-        raise bad_value(f"{word!r} is no day YYYY-MM-DD from 2000 to 2099")
+        raise bad_value("no day of", word=word)
     return (found - EPOCH).days
 
 
@@ -47,14 +47,14 @@ def days(word):
     first, dots, last = word.partition("..")
     begin, end = day(first), day(last if dots else first)
     if not begin <= end <= begin + 400:
-        raise bad_value(f"{word!r} is no day, and no days FIRST..LAST of at most 400")
+        raise bad_value("no days of", word=word)
     return range(begin, end + 1)
 
 
 def hours(word):
     found = re.fullmatch(r"([0-9]{1,2})-([0-9]{1,2})", word)
     if not found or not int(found[1]) < int(found[2]) <= 24:
-        raise bad_value(f"{word!r} is no pair of hours FROM-TO, as 8-22")
+        raise bad_value("no hours of", word=word)
     return int(found[1]), int(found[2])
 
 
@@ -64,7 +64,7 @@ def weekday(word):
         for place, called in enumerate(language):
             if len(word) > 1 and called.lower().startswith(word.lower()):
                 return place
-    raise bad_value(f"{word!r} is no weekday, as tue")
+    raise bad_value("no weekday", word=word)
 
 
 def hour_or_hours(word):
@@ -85,13 +85,13 @@ def moment(word):
     except ValueError:
         found = None
     if not found or found.strftime("%Y-%m-%dT%H:%M") != word or not 2000 <= found.year <= 2099:
-        raise bad_value(f"{word!r} is no moment YYYY-MM-DDTHH:MM from 2000 to 2099")
+        raise bad_value("no moment", word=word)
     return (found.date() - EPOCH).days * 1440 + found.hour * 60 + found.minute
 
 
 def copy_name(word):
     if not COPY.fullmatch(word):
-        raise bad_value(f"{word!r} is no name of a copy, as `copies` lists them")
+        raise bad_value("no copy name", word=word)
     return word
 
 

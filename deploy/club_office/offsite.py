@@ -1,0 +1,211 @@
+"""Copies of a club in another place within a minute of a change, with what lies beside the club, so that it outlives its machine.
+
+A copy is made by back_up, opened by clubdesk, sent, and tested where it came. FILE-offsite says what was copied last, or since when and why
+nothing can be; deploy/check_health and deploy/metrics read it."""
+
+import glob
+import grp
+import hashlib
+import io
+import os
+import subprocess
+import sys
+import tarfile
+import time
+
+from club_office.clubs import back_up_program, program
+from club_office.copies import homes, scratch
+from club_office.faults import STORAGE, Fault, fault
+from club_office.places import BESIDE, NAME, OLD_YEAR, kept_in, place_of, refuse_own_disk, remove, take
+
+# How often the file is looked at, how long nothing is copied after a copy, and how long after a failure, in seconds.
+LOOKS, RESTS, RETRIES = 3, 15, 20
+# How often a copy is made again, where what lies beside the club has changed meanwhile.
+TRIES = 5
+# How often it is noted that somebody looks.
+NOTES = 30
+# What lies beside the club, by the ends of its files' names.
+BESIDE_FILES = ("-people.csv", "-seasons", "-reasons", "-book")
+
+
+def state_of(club):
+    return club.settings["file"] + "-offsite"
+
+
+def read_state(club):
+    """The lines of FILE-offsite, each by its first word."""
+    try:
+        with open(state_of(club), encoding="utf-8") as file:
+            return {word: rest for word, _, rest in (line.rstrip("\n").partition(" ") for line in file)}
+    except FileNotFoundError:
+        return {}
+
+
+def write_state(club, state):
+    made = state_of(club) + ".new"
+    with open(os.open(made, os.O_WRONLY | os.O_CREAT | os.O_TRUNC, 0o600), "w", encoding="utf-8") as file:
+        file.writelines(f"{word} {rest}\n" for word, rest in state.items())
+    os.rename(made, state_of(club))
+
+
+def signature(paths):
+    """What changes whenever one of these files does."""
+    found = []
+    for path in paths:
+        try:
+            it = os.stat(path)
+            found.append(f"{it.st_ino}:{it.st_size}:{it.st_mtime_ns}")
+        except OSError:
+            found.append("none")
+    return ",".join(found)
+
+
+# ---- What lies beside the club: its configuration, persons, reasons, the season's points, the clerks.
+
+
+def beside_paths(club):
+    """The path of each file that goes with the copies, by its name there."""
+    folder = os.environ.get("OFFICE_CONF", "/etc/clubdesk")
+    found = {f"conf/{os.path.basename(path)}": path for path in sorted(glob.glob(os.path.join(glob.escape(folder), f"{club.name}.*"))) if os.path.isfile(path) and os.access(path, os.R_OK)}
+    found |= {f"beside/{end[1:]}": club.file + end for end in BESIDE_FILES if os.path.isfile(club.file + end)}
+    for what in ("titles", "logo"):
+        path = club.settings.get(what, "")
+        if os.path.isfile(path) and os.access(path, os.R_OK) and path not in found.values():
+            found[f"{what}/{os.path.basename(path)}"] = path
+    return found
+
+
+def clerks():
+    try:
+        return sorted(grp.getgrnam("office").gr_mem)
+    except KeyError:
+        return []
+
+
+def beside_of(club):
+    """An archive of these files; the same files make the same bytes."""
+    made = io.BytesIO()
+    with tarfile.open(fileobj=made, mode="w", format=tarfile.USTAR_FORMAT) as archive:
+        files = {name: open(path, "rb").read() for name, path in beside_paths(club).items()}
+        for name, data in {**files, "clerks": "".join(f"{it}\n" for it in clerks()).encode()}.items():
+            about = tarfile.TarInfo(name)
+            about.size, about.mode = len(data), 0o600
+            archive.addfile(about, io.BytesIO(data))
+    return made.getvalue()
+
+
+# ---- A copy.
+
+
+def made_copy(club, folder):
+    """A copy of the club as it is, which clubdesk opens."""
+    copy, opened = os.path.join(folder, "copy"), os.path.join(folder, "opened")
+    for line in ([back_up_program(), club.file, copy], ["cp", "--", copy, opened], [program("CLUBDESK", "clubdesk"), "sheet", "--", opened, "2000-01-01"]):
+        done = subprocess.run(line, capture_output=True, text=True, errors="replace", check=False, stdin=subprocess.DEVNULL)
+        if done.returncode:
+            raise fault(STORAGE, "no copy made", said=done.stderr.strip())
+    with open(copy, "rb") as file:
+        return file.read()
+
+
+def too_old(names, day):
+    """Those of the names that aren't kept: by the rules of each night's copies, and of an hour that is over only the last."""
+    rules = os.path.join(os.path.dirname(back_up_program()), "old_copies")
+    done = subprocess.run([rules, "-", day], input="".join(f"{it}\n" for it in names), capture_output=True, text=True, check=True)
+    return done.stdout.split()
+
+
+def made_together(club):
+    """A copy, and what lies beside the club, of one time: while the season's points are given they are made again."""
+    for _ in range(TRIES):
+        beside = beside_of(club)
+        with scratch(club, homes(club)[0]) as folder:
+            data = made_copy(club, folder)
+        if beside_of(club) == beside:
+            break
+    return data, beside
+
+
+def copy_now(club, place, state):
+    """Copies the club and what lies beside it, if they aren't there as they are; what is told of it. A copy gets its name after what lies
+    beside it, so that the two of a name belong together."""
+    refuse_own_disk(place, club.file)
+    data, beside = made_together(club)
+    digest, beside_digest = (hashlib.sha256(it).hexdigest() for it in (data, beside))
+    is_new = digest != state.get("sum")
+    if not is_new and beside_digest == state.get("beside"):
+        return keep_in_order(club, place, None)
+    moment = time.strftime("%Y-%m-%dT%H%M%SZ", time.gmtime()) if is_new else state["copied"].split(" ")[1]
+    take(place, f"{moment}.tar", beside, beside_digest, "other")
+    said = [f"{moment}: what lies beside the club"]
+    if is_new:
+        tested = take(place, moment, data, digest, "club")
+        state.update(copied=f"{int(time.time())} {moment} {tested}", sum=digest)
+        said = [f"{moment}: {'tested there' if tested == 'whole' else 'there, with the same sum'}"]
+    state["beside"] = beside_digest
+    return said + keep_in_order(club, place, moment)
+
+
+def keep_in_order(club, place, newest):
+    """Sends old years that aren't there yet, and removes copies that are too old, and of what lies beside the club all but the newest."""
+    years = {path[len(club.file) + 1:]: path for path in glob.glob(glob.escape(club.file) + "-until-*")}
+    years = {name: path for name, path in sorted(years.items()) if OLD_YEAR.fullmatch(name)}
+    if newest is None and not years:
+        return []
+    said, names = [], {it.name: it.size for it in kept_in(place)}
+    for name, path in years.items():
+        if names.get(name) != os.path.getsize(path):
+            with open(path, "rb") as file:
+                data = file.read()
+            take(place, name, data, hashlib.sha256(data).hexdigest(), "club")
+            said.append(name)
+    old = too_old([it for it in names if NAME.fullmatch(it)], time.strftime("%Y-%m-%d", time.gmtime()))
+    said += [f"removed {it}" for it in old]
+    remove(place, [*old, *(it for it in names if newest and BESIDE.fullmatch(it) and it != f"{newest}.tar")])
+    return said
+
+
+def look(club, state, is_first):
+    """One look: copies what has changed. Returns whether the place has the club as it is. What fails is said at the first look, and when it
+    is something else than before."""
+    where = club.settings["offsite"]
+    seen = f"{where} " + signature([club.file, club.file + "-wal", *beside_paths(club).values()]) + f" {','.join(clerks())}"
+    if state.get("of") == seen and "failing" not in state:
+        return True
+    if state.get("of", "").split(" ")[0] != where:
+        state.pop("sum", None)
+        state.pop("beside", None)
+    try:
+        said = copy_now(club, place_of(where), state)
+    except (Fault, OSError, subprocess.CalledProcessError) as failure:
+        why = " ".join(str(getattr(failure, "why", failure)).split())
+        since, _, before = state.get("failing", f"{int(time.time())} ").partition(" ")
+        state["failing"] = f"{since} {why}"
+        if is_first or why != before:
+            print(f"copy_offsite: {why}; it is tried again", file=sys.stderr, flush=True)
+        return False
+    if state.pop("failing", None):
+        print(f"{where} takes copies again", flush=True)
+    state["of"] = seen
+    for it in said:
+        print(f"{where}: {it}", flush=True)
+    return True
+
+
+def watch(club, named, is_once=False):
+    """Looks again and again. `named` reads the configuration anew, so a change of it counts."""
+    noted, before = 0.0, None
+    state = read_state(club)
+    while True:
+        begun = time.monotonic()
+        was = dict(state)
+        is_there = look(club, state, before is None)
+        if state != was or begun - noted > NOTES or before is None:
+            write_state(club, state)
+            noted, before = begun, state
+        if is_once:
+            return 0 if is_there else STORAGE
+        time.sleep(RETRIES if not is_there else RESTS if state != was else LOOKS)
+        club = named()
+        if not club.settings.get("offsite"):
+            return 0

@@ -1,0 +1,125 @@
+"""Places for copies away from the club's disk: a folder of another machine, reached by ssh, or one that is mounted. Each takes a file whole,
+tests what came, lists what it has, and hands a file back. What runs there wants a shell, sha256sum, and sqlite3 to look through a copy."""
+
+import collections
+import os
+import re
+import shlex
+import subprocess
+
+from club_office.clubs import program
+from club_office.faults import STORAGE, bad_value, fault
+
+Place = collections.namedtuple("Place", "text host folder")
+# A file there: its bytes, its digest, and how it was tested: `whole` by SQLite, `sum` by its digest alone, or `no`.
+Kept = collections.namedtuple("Kept", "name size sum tested")
+NAME = re.compile(r"20[0-9]{2}-[0-9]{2}-[0-9]{2}T[0-9]{6}Z")
+# What lies beside the club, as it was with the copy whose name it has.
+BESIDE = re.compile(NAME.pattern + r"[.]tar")
+OLD_YEAR = re.compile(r"until-[0-9]{4}-[0-9]{2}-[0-9]{2}(-[0-9]{1,3})?")
+# How long a host may be silent, and how long a file may take, in seconds.
+PATIENCE, MOST_SECONDS = 10, 300
+OPTIONS = (f"ConnectTimeout={PATIENCE}", "ServerAliveInterval=5", "ServerAliveCountMax=3", "LogLevel=ERROR")
+# What is asked at a terminal is asked once: further calls use the first one's connection.
+ASKS = ("ControlMaster=auto", "ControlPersist=60", "ControlPath=~/.clubdesk-%C")
+
+# In each, $1 is the folder. A file has another name until it is whole and tested; its line is in the list before it has its own.
+TAKE = """set -eu
+umask 077
+[ "$5" = mounted ] || mkdir -p -- "$1"
+cd -- "$1"
+find . -maxdepth 1 -name '.new.*' -mmin +60 -exec rm -f {} + || :
+new=.new.$2.$$
+trap 'rm -f "$new"' EXIT
+trap 'exit 1' INT TERM HUP
+cat >"$new"
+[ "$(sha256sum <"$new" | cut -c 1-64)" = "$3" ] || { echo 'what came there is not what was sent' >&2; exit 1; }
+how=sum
+if [ "$4" = club ] && command -v sqlite3 >/dev/null; then
+    found=$(sqlite3 -bail "file:$new?immutable=1" 'PRAGMA integrity_check; PRAGMA foreign_key_check; SELECT count(*) FROM desk' 2>&1) || :
+    [ "$found" = 'ok
+1' ] || { echo "the copy there is no whole club: $found" >&2; exit 1; }
+    how=whole
+fi
+sync "$new" 2>/dev/null || sync
+echo "$2 $3 $how" >>tested
+mv -f -- "$new" "$2"
+sync . 2>/dev/null || sync
+echo "$how"
+"""
+LIST = """cd -- "$1" || exit 1
+for name in 2*Z 2*Z.tar until-*; do [ ! -f "$name" ] || stat -c '%s %n' -- "$name"; done
+echo --
+[ ! -f tested ] || cat tested
+"""
+GIVE = 'cd -- "$1" && cat -- "$2"\n'
+REMOVE = """set -eu
+umask 077
+cd -- "$1"
+shift
+for name; do rm -f -- "$name"; done
+[ -f tested ] || exit 0
+while read -r name rest; do [ ! -e "$name" ] || echo "$name $rest"; done <tested >.new.tested
+mv -f .new.tested tested
+"""
+
+
+def place_of(text):
+    """HOST:FOLDER, or a folder from / on."""
+    host, _, folder = ("", "", text) if text.startswith("/") else text.partition(":")
+    if not folder or not folder.isprintable() or folder.startswith("-") or not text.startswith("/") and not re.fullmatch(r"[A-Za-z0-9_][A-Za-z0-9_.@-]*", host):
+        raise bad_value("no place", text=text)
+    return Place(text, host or None, folder)
+
+
+def refuse_own_disk(place, file):
+    """A folder that isn't mounted would be on the disk that it is to outlive."""
+    if place.host is None:
+        try:
+            is_own = os.stat(place.folder).st_dev in (os.stat(os.path.dirname(file)).st_dev, os.stat("/").st_dev)
+        except OSError as failure:
+            raise fault(STORAGE, "not mounted", place=place.text, fault=failure.strerror) from None
+        if is_own:
+            raise fault(STORAGE, "own disk", place=place.text)
+
+
+def run_there(place, script, *words, given=None, asks=False):
+    """Runs a script in the place with words after its folder; what it prints. With `asks` ssh may ask for a password at the terminal."""
+    line = ["sh", "-c", script, "sh", place.folder, *words]
+    if place.host:
+        line = [program("SSH", "ssh"), *(it for option in (*OPTIONS, *(ASKS if asks else ("BatchMode=yes",))) for it in ("-o", option)), place.host, shlex.join(line)]
+    try:
+        done = subprocess.run(line, input=given, stdin=subprocess.DEVNULL if given is None else None, capture_output=True, check=False, timeout=MOST_SECONDS)
+    except subprocess.TimeoutExpired:
+        raise fault(STORAGE, "no answer there", place=place.text, seconds=MOST_SECONDS) from None
+    if done.returncode:
+        said = " ".join(done.stderr.decode(errors="replace").split())
+        raise fault(STORAGE, "said there", place=place.text, said=said or f"status {done.returncode}")
+    return done.stdout
+
+
+def take(place, name, data, digest, kind):
+    """Puts a file into the place, under its name once it is there whole; how it was tested there."""
+    return run_there(place, TAKE, name, digest, kind, "there" if place.host else "mounted", given=data).decode().strip()
+
+
+def kept_in(place, asks=False):
+    """What the place has, the oldest first."""
+    files, _, tested = run_there(place, LIST, asks=asks).decode(errors="replace").partition("--\n")
+    sums = {words[0]: words[1:] for words in (line.split() for line in tested.splitlines()) if len(words) == 3}
+    found = []
+    for line in files.splitlines():
+        size, _, name = line.partition(" ")
+        if any(it.fullmatch(name) for it in (NAME, BESIDE, OLD_YEAR)):
+            found.append(Kept(name, int(size), *sums.get(name, ("", "no"))))
+    return sorted(found)
+
+
+def given_by(place, name, asks=False):
+    """The bytes of a file of the place."""
+    return run_there(place, GIVE, name, asks=asks)
+
+
+def remove(place, names):
+    if names:
+        run_there(place, REMOVE, *names)
