@@ -66,7 +66,7 @@ fi
 printf 'APT::Get::Assume-Yes "true";\n' >first/etc/apt/apt.conf.d/99yes
 printf '127.0.0.1 localhost desk.example.org elsewhere.example first second\n' >first/etc/hosts
 cp "packages/$deb" first/root/
-# What is installed is fetched before the machines are cut off.
+# Packages are fetched before the machines are cut off.
 offline first sh -c "apt-get update && apt-get install --download-only /root/$deb caddy openssh-client openssh-server prometheus-node-exporter" >apt.log 2>&1 </dev/null ||
     fail "apt-get: $(tail apt.log)"
 cp -a first second
@@ -100,14 +100,14 @@ blocks() {
     awk -F '\t' -v heading="$1" '$1 == heading { print substr($0, length($1) + 2); found = 1 } END { exit !found }' running ||
         fail "RUNNING has no lines for root in '$1'"
 }
-# gives WHAT: the lines on standard input are given by root in the machine, each of which has to do its work.
+# gives WHAT: root gives the lines on standard input in the machine, and each has to do its work.
 gives() {
     checks=$((checks + 1))
     { echo 'set -e; cd /root'; cat; } >"$root/root/lines"
     inside sh /root/lines >told 2>&1 </dev/null || fail "RUNNING, $1: $(tail -n 30 told)"
 }
 
-# ---- Three commands. The site's name leads to this machine alone, so caddy's certificate is its own authority's.
+# ---- Three commands. The site's name leads to this machine alone. So caddy's certificate is its own authority's.
 # by_name METHOD PATH [BODY]: a request by the public name, under the pass in the file `pass` of the machine's root.
 by_name() {
     inside sh -c 'curl -sS --max-time 20 --cacert /root/ca.pem -X "$1" ${3:+-d "$3"} -H "Authorization: Bearer $(cat /root/pass)" -w " %{http_code}" "https://desk.example.org/$2"' sh "$@"
@@ -201,7 +201,7 @@ if grep -q '^made' told; then fail "the setup, again: $(cat told)"; fi
 sums | diff before - >told || fail "the setup, again: $(cat told)"
 checks=$((checks + 1))
 
-# ---- Copies elsewhere, by the page's lines. Whoever keeps the other machine adds the key that they print.
+# ---- Copies elsewhere, by the page's lines. The keeper of the other machine adds the key that they print.
 blocks 'Copies elsewhere' >lines
 sed '/known_hosts\|accept-new/,$d' lines | gives 'Copies elsewhere'
 grep '^ssh-ed25519' told >key || fail "no key was printed: $(cat told)"
@@ -280,7 +280,7 @@ took=$(($(date +%s) - began))
 [ "$took" -lt 600 ] || fail "the club was back after $took seconds"
 checks=$((checks + 1))
 
-# What was booked up to a minute before the loss is there; each of the others is booked anew by its repeat.
+# Bookings of up to a minute before the loss are there; each of the others is booked anew by its repeat.
 inside sh -c 'rm -f /root/looked; /usr/lib/clubdesk/back_up /var/lib/clubdesk/club /root/looked' >told
 inside sqlite3 /root/looked 'SELECT number FROM bookings WHERE cancelled = 0' | sort >numbers
 lost=0

@@ -114,7 +114,7 @@ def in_german():
 
 
 def refused_in_german():
-    """What is refused says so in the clerk's language; comma-separated values are the same in each."""
+    """Refusals are in the clerk's language; comma-separated values are the same in each."""
     def german(*words):
         return run_as("anna", "env", "LANG=de_DE.UTF-8", "office", "club", *words)
 
@@ -141,7 +141,7 @@ def refused_in_german():
 
 
 def calls():
-    """What members ask for who call, by the menu."""
+    """Wishes of members who call, by the menu."""
     day = TODAY + datetime.timedelta(2)
     shown = task("book for", ("Member", "bob"), ("Court", "court 2"), ("Day", "+2"), ("Hours", "15-17"), ("How many", "1"), ("Do it", ENTER))
     shown.has("a booking for a caller", f"office club book mueller-bob court-2 {day} 15 1", f"booked court-2 {day} 16:00 for mueller-bob, 2 persons")

@@ -96,7 +96,7 @@ def run(*line):
 
 
 def soon(seconds, holds):
-    """What `holds` gives, once it is true, within some seconds; its last value otherwise."""
+    """Returns the value of `holds`, once it is true, within some seconds; its last value otherwise."""
     end, found = time.monotonic() + seconds, None
     while time.monotonic() < end:
         with contextlib.suppress(OSError):
@@ -176,7 +176,7 @@ def within_a_minute(keeper):
 
 
 def beside():
-    """What goes with the newest copy: configuration, persons, reasons, points of a season, clerks; no more than that."""
+    """The archive beside the newest copy: configuration, persons, reasons, points of a season, clerks; no more than that."""
     given = '{"name": "Amy Möller", "mail": "amy@example.org", "telephone": "+49 1"}'
     line = "sudo -n -u clubdesk /usr/bin/office --desk club set-person amy".split()
     same("a person", run_as("anna", *line, given=given)[0], 0)

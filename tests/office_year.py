@@ -125,7 +125,7 @@ def kept_files():
 
 
 def goes_on():
-    """What a season's commands do after a new year, which isn't undone; its old file goes elsewhere."""
+    """A season's commands work after a new year, which isn't undone; its old file goes elsewhere."""
     place, pages = ROOM / "away", ROOM / "pages"
     for folder in (place, pages):
         subprocess.run(["install", "-d", "-o", "clubdesk", folder], check=True)

@@ -1,5 +1,5 @@
-"""A club that is brought back from its place away from the machine, once the machine is gone: its configuration, the newest copy that was
-tested there, persons, reasons, the season's points, old years' files. What is there already stays, so it may be run again after any stop."""
+"""Brings a club back from its place elsewhere, once its machine is gone: configuration, newest tested copy, persons, reasons, the season's
+points, old years' files. Files that are there already stay, so it may be run again after any stop."""
 
 import grp
 import io
@@ -37,7 +37,7 @@ def read_beside(data):
 
 
 class Bringing:
-    """What is brought, and where it goes. `said` is told each path, and whether it was made or there."""
+    """A club in its place elsewhere, and where it goes. `said` is told each path, and whether it was made or there."""
 
     def __init__(self, text, called, configurations, said):
         self.place = place_of(text)

@@ -1,5 +1,4 @@
-"""What a club's desk does, in Prometheus' text format: requests by their status and time, orders by theirs, how old the copies are, sizes,
-the version. Requests are counted by the lines of the desk's log, orders by those of the book; FILE-metrics has the counts, and how far the
+"""Numbers of a club's desk in Prometheus' text format: requests by status and time, orders by status, the age of copies, sizes, the version. Requests are counted by the lines of the desk's log, orders by those of the book; FILE-metrics has the counts, and how far the
 lines were read."""
 
 import json
@@ -22,7 +21,7 @@ MOST_SECONDS = 60
 
 
 def counts_of(club):
-    """What was counted up to now."""
+    """Returns the counts up to now."""
     found = {"requests": {}, "buckets": [0] * len(BUCKETS), "seconds": 0.0, "orders": {}, "cursors": {}, "book": None}
     try:
         with open(club.settings["file"] + "-metrics", encoding="utf-8") as file:

@@ -18,13 +18,13 @@ from club_office.copies import homes, scratch
 from club_office.faults import STORAGE, Fault, fault
 from club_office.places import BESIDE, NAME, OLD_YEAR, kept_in, place_of, refuse_own_disk, remove, take
 
-# How often the file is looked at, how long nothing is copied after a copy, and how long after a failure, in seconds.
+# Seconds between two looks at the file, after a copy, and after a failure.
 LOOKS, RESTS, RETRIES = 3, 15, 20
-# How often a copy is made again, where what lies beside the club has changed meanwhile.
+# Tries for a copy while the files beside the club change.
 TRIES = 5
-# How often it is noted that somebody looks.
+# Seconds between two notes that somebody looks.
 NOTES = 30
-# What lies beside the club, by the ends of its files' names.
+# The files beside the club, by the ends of their names.
 BESIDE_FILES = ("-people.csv", "-seasons", "-reasons", "-book")
 
 
@@ -49,7 +49,7 @@ def write_state(club, state):
 
 
 def signature(paths):
-    """What changes whenever one of these files does."""
+    """Returns a text that changes whenever one of these files does."""
     found = []
     for path in paths:
         try:
@@ -166,8 +166,8 @@ def keep_in_order(club, place, newest):
 
 
 def look(club, state, is_first):
-    """One look: copies what has changed. Returns whether the place has the club as it is. What fails is said at the first look, and when it
-    is something else than before."""
+    """One look: copies what has changed. Returns whether the place has the club as it is. A fault is printed at the first look, and when it
+    differs from the one before."""
     where = club.settings["offsite"]
     seen = f"{where} " + signature([club.file, club.file + "-wal", *beside_paths(club).values()]) + f" {','.join(clerks())}"
     if state.get("of") == seen and "failing" not in state:

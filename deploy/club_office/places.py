@@ -1,5 +1,5 @@
 """Places for copies away from the club's disk: a folder of another machine, reached by ssh, or one that is mounted. Each takes a file whole,
-tests what came, lists what it has, and hands a file back. What runs there wants a shell, sha256sum, and sqlite3 to look through a copy."""
+tests what came, lists what it has, and hands a file back. A place needs a shell and sha256sum, and sqlite3 to look through a copy."""
 
 import collections
 import os
@@ -14,13 +14,13 @@ Place = collections.namedtuple("Place", "text host folder")
 # A file there: its bytes, its digest, and how it was tested: `whole` by SQLite, `sum` by its digest alone, or `no`.
 Kept = collections.namedtuple("Kept", "name size sum tested")
 NAME = re.compile(r"20[0-9]{2}-[0-9]{2}-[0-9]{2}T[0-9]{6}Z")
-# What lies beside the club, as it was with the copy whose name it has.
+# The files beside the club, as they were with the copy of the same name.
 BESIDE = re.compile(NAME.pattern + r"[.]tar")
 OLD_YEAR = re.compile(r"until-[0-9]{4}-[0-9]{2}-[0-9]{2}(-[0-9]{1,3})?")
-# How long a host may be silent, and how long a file may take, in seconds.
+# Seconds that a host may be silent, and that a file may take.
 PATIENCE, MOST_SECONDS = 10, 300
 OPTIONS = (f"ConnectTimeout={PATIENCE}", "ServerAliveInterval=5", "ServerAliveCountMax=3", "LogLevel=ERROR")
-# What is asked at a terminal is asked once: further calls use the first one's connection.
+# A terminal is asked once: further calls use the first one's connection.
 ASKS = ("ControlMaster=auto", "ControlPersist=60", "ControlPath=~/.clubdesk-%C")
 
 # In each, $1 is the folder. A file has another name until it is whole and tested; its line is in the list before it has its own.
@@ -104,7 +104,7 @@ def take(place, name, data, digest, kind):
 
 
 def kept_in(place, asks=False):
-    """What the place has, the oldest first."""
+    """Returns the files of the place, the oldest first."""
     files, _, tested = run_there(place, LIST, asks=asks).decode(errors="replace").partition("--\n")
     sums = {words[0]: words[1:] for words in (line.split() for line in tested.splitlines()) if len(words) == 3}
     found = []

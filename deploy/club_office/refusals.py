@@ -1,4 +1,4 @@
-"""How a command of the office ends if it isn't done, in English and German: a table with a line for each text."""
+"""Refusals of the office, in English and German: a table with a line for each text."""
 
 REFUSALS = {
     "refused": ("refused: {why}", "abgelehnt: {why}"),
@@ -275,7 +275,7 @@ REFUSALS = {
     "limit reference": ("reference to nothing: {row}", "Verweis auf nichts: {row}"),
 }
 
-# What clubdesk says of an order, and the desk of a request, by their fixed texts.
+# Fixed texts of clubdesk about an order, and of the desk about a request.
 GERMAN = {
     "refused: exists": "abgelehnt: gibt es schon",
     "refused: unknown": "abgelehnt: gibt es nicht",

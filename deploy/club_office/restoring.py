@@ -64,7 +64,7 @@ def moment_of(called):
 
 
 def age_text(seconds):
-    """How old a copy is, in the largest unit that counts."""
+    """Returns a copy's age, in the largest unit that counts."""
     for unit, size in (("days", 86_400), ("hours", 3_600), ("minutes", 60)):
         if seconds >= 2 * size or unit == "minutes":
             return say(f"age {unit}", count=int(max(seconds, 0) // size))
