@@ -29,7 +29,7 @@ os.chdir(desk.ROOT)
 PAGES = ["README.md", "CONTRIBUTING.md", *(str(it) for pattern in ("docs/*.md", "crates/*/README.md") for it in sorted(Path().glob(pattern)))]
 TEXTS = {page: Path(page).read_text(encoding="utf-8") for page in PAGES}
 CODE = {str(it): it.read_text(encoding="utf-8") for it in sorted(Path("crates").glob("*/**/*"))
-        if re.fullmatch(r"(?!.*/out/).*(/src/.*\.rt|/(specs|proofs)/.*\.antt|\.edit)", str(it))}
+        if re.fullmatch(r"(?!.*/out/).*(/src/.*\.rt|/(specs|proofs)/.*\.antt|\.edit|/more-edits\.txt)", str(it))}
 WORD = re.compile(r"[^A-Za-z0-9_]+")
 each_page = pytest.mark.parametrize("page", PAGES)
 
@@ -114,7 +114,7 @@ def test_files_and_names_are_there(page):
     for path in [*words, *scripts]:
         if re.match(r"(crates|docs|tests|bin|deploy|man)/", path) and not re.search(r"[*<]|NAME|CRATE|(^|/)out(/|$)", path):
             assert Path(path.split(":")[0]).exists(), f"no file {path}"
-        if page.startswith("crates/") and re.match(r"(src|specs|proofs|must-fail|more-edits)/", path):
+        if page.startswith("crates/") and re.match(r"(src|specs|proofs|must-fail)/", path):
             assert (Path(page).parent / path).exists(), f"no file {path}"
     if page in ("docs/PROMISES.md", "docs/COMPUTED.md", "docs/AUDIT.md"):
         return  # promises are named within their crate, and held below; the audit is made of the sources, and names calls of libraries

@@ -10,7 +10,7 @@ Prints each slip with its place; the status is 1 if there is one.
 - The version differs from VERSION in the code or in the newest heading of CHANGELOG.md.
 - A module of specs or proofs is imported nowhere, a file of code has no `mod`, or no page names a script.
 - No proof uses a name that its crate's proofs/Common passes on.
-- The old text of an edit isn't in its file, or is in it twice.
+- The old text of an edit isn't in its file, or is in it twice; or a crate has two edits of one name.
 - A word of the pages or of web/ is known neither to aspell nor to tests/words.txt.
 - A line that the change adds has a pattern of tests/prose.py, such as a sentence of more than 30 words.
 - The subject of one of its commits has no area, or more than 60 letters.
@@ -156,11 +156,16 @@ def unused_code(crate):
 
 
 def stale_edits(crate):
-    for edit in [*texts_below(f"crates/{crate}/must-fail", ".edit"), *texts_below(f"crates/{crate}/more-edits", ".edit")]:
+    names = set()
+    for edit in more_edits.edits_of(Path("crates", crate)):
+        if edit.name in names:
+            yield f"two edits of one name: {crate} {edit.name}"
+        names.add(edit.name)
         try:
-            more_edits.edited_texts(Path("crates", crate), edit)
+            if not more_edits.edited_texts(Path("crates", crate), edit):
+                yield f"edit changes nothing: {crate} {edit.name}"
         except (more_edits.NoVerdict, OSError) as fault:
-            yield f"edit doesn't apply: {edit}: {fault.args[-1]}"
+            yield f"edit doesn't apply: {crate} {edit.name}: {fault.args[-1]}"
 
 
 def other_versions():

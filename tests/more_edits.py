@@ -1,5 +1,5 @@
 #!/usr/bin/env python3
-"""Tries edits of crates/NAME/must-fail/ and crates/NAME/more-edits/, and says how each is refused: see more_edits.sh.
+"""Tries the edits of crates/NAME/must-fail/ and crates/NAME/more-edits.txt, and says how each is refused: see more_edits.sh.
 
 Most edits change the body of one function. What is proved of a function rests on its own body and the contracts of those that it calls, so
 one check tries edits of several functions. An edit is tried alone if its function has no verdict of its own then."""
@@ -12,9 +12,10 @@ import tempfile
 from collections import Counter, defaultdict
 from contextlib import suppress
 from pathlib import Path
+from typing import NamedTuple
 
 ROOT = Path(__file__).resolve().parent.parent
-FOLDERS = ("must-fail", "more-edits")
+FOLDER, FILE = "must-fail", "more-edits.txt"
 WORDS = ("false", "goal", "names", "test", "proved", "limit", "bad")
 # The crate and the name of the test that an edit fails, if no contract refuses it.
 TEST = re.compile(r"^test: (\w+) ([\w:]+)$", re.MULTILINE)
@@ -39,9 +40,26 @@ class NoVerdict(Exception):
     """The word for why nothing was tried, and a line that says so."""
 
 
+class Edit(NamedTuple):
+    """A wrong body: its name, where it stands (a folder or a file of the crate), and its lines."""
+    name: str
+    place: str
+    text: str
+
+
+def edits_of(crate):
+    """The edits of a crate: each file of its folder, and each part of its file that begins with `edit: NAME`."""
+    for path in sorted((crate / FOLDER).glob("*.edit")):
+        yield Edit(path.stem, FOLDER, path.read_text(encoding="utf-8"))
+    if (crate / FILE).exists():
+        for part in re.split(r"^edit: ", (crate / FILE).read_text(encoding="utf-8"), flags=re.MULTILINE)[1:]:
+            name, _, text = part.partition("\n")
+            yield Edit(name.strip(), FILE, text)
+
+
 def changes_of(edit):
     """(path, old text, new text) of each change that an edit makes."""
-    for word, rest in re.findall(r"^(file|old|new): ?(.*)", edit.read_text(encoding="utf-8"), re.MULTILINE):
+    for word, rest in re.findall(r"^(file|old|new): ?(.*)", edit.text, re.MULTILINE):
         if word == "file":
             path = rest.strip()
         elif word == "old":
@@ -190,7 +208,7 @@ class Trial:
         for edit in group.values():
             try:
                 word, line = told.get(edit) or self.verdict(edit)
-                if word == "proved" and (test := TEST.search(edit.read_text(encoding="utf-8"))):
+                if word == "proved" and (test := TEST.search(edit.text)):
                     word, line = self.tested(edit, *test.groups())
             except NoVerdict as it:
                 word, line = it.args
@@ -299,18 +317,18 @@ def try_crate(crate, wanted, counts):
     if not check(crate)[1]:
         sys.exit(f"{crate.name}: not proved as it is")
     trial = Trial(crate)
-    edits = [it for folder in FOLDERS for it in sorted((crate / folder).glob("*.edit")) if not wanted or it.stem in wanted]
+    edits = [it for it in edits_of(crate) if not wanted or it.name in wanted]
     for group in groups_of(crate, edits):
         for edit, word, line in trial.verdicts(group):
             counts[word] += 1
-            print(f"{word:6} {edit.relative_to(crate.parent).with_suffix('')}: {line[:200]}", flush=True)
+            print(f"{word:6} {crate.name} {edit.name}: {line[:200]}", flush=True)
 
 
 def main(words):
     wanted = defaultdict(set)
     for name, _, edit in (word.partition("/") for word in words):
         wanted[name] |= {edit} if edit else set()
-    names = sorted({it.parent.name for folder in FOLDERS for it in (ROOT / "crates").glob(f"*/{folder}")})
+    names = sorted({it.parent.name for place in (FOLDER, FILE) for it in (ROOT / "crates").glob(f"*/{place}")})
     lacking = [name for name in wanted if name not in names]
     if lacking:
         print(f"{lacking[0]}: no crate that has edits", file=sys.stderr)

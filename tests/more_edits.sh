@@ -4,7 +4,7 @@
 # Wrong bodies are refused, also those that the gate leaves out for time: whether a goal is found false or stays open, or a proof only
 # misses a name that the edit took away; or, if it is proved, whether the test fails that the edit names.
 #
-# Those of crates/NAME/must-fail/ and crates/NAME/more-edits/, by `rt check` in a scratch copy of the tree as it is. Run it for each crate
+# Those of crates/NAME/must-fail/ and crates/NAME/more-edits.txt, by `rt check` in a scratch copy of the tree as it is. Run it for each crate
 # whose code or contracts change. The status is 1 if one is proved, or can't be tried.
 #   tests/more_edits.sh                             every crate that has such edits
 #   tests/more_edits.sh club_core club_reference    these crates

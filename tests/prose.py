@@ -39,7 +39,7 @@ EXCEPTIONS = {
     ("deploy/clubdesk-setup", "[--title TITLE]"): "a line of usage, no sentence",
 }
 # Generated pages, data, and texts that tests compare byte for byte.
-LEFT_OUT = re.compile(r"docs/(AUDIT|RUNS)\.md|.*\.(told|png|svg|lock|toml|edit)|.*/stdout|tests/words\.txt|docs/vectors\.json|web/[a-z]+\.(html|js|webmanifest)")
+LEFT_OUT = re.compile(r"docs/(AUDIT|RUNS)\.md|.*/more-edits\.txt|.*\.(told|png|svg|lock|toml|edit)|.*/stdout|tests/words\.txt|docs/vectors\.json|web/[a-z]+\.(html|js|webmanifest)")
 # Areas of a commit's subject other than crates.
 AREAS = {"docs", "tests", "web", "deploy", "bin", "ci", "man", "examples"}
 IMPERATIVE = re.compile(r"[a-z]\S*(?<![^su]s)(?<!ed)(?<!ing)\b|(pass|process|discuss|compress|express|need|feed|bring|embed|seed|speed)\b")
