@@ -51,14 +51,6 @@ const NOT_BOOKABLE: Outcome = Outcome {
     sheet: NOTHING,
 };
 
-/// A limit is over, or the clock can't be read while it is reckoned, so the connection fails: no
-/// byte comes back.
-const CUT_OFF: Outcome = Outcome {
-    end: "0 ",
-    reply: "",
-    sheet: NOTHING,
-};
-
 /// The clock shows no moment: no byte comes back.
 const OUT_OF_RANGE: Outcome = Outcome {
     end: "6 clock out of range",
@@ -123,12 +115,12 @@ fn serves(rt: &HostRuntime, serving: &Serving) -> Result<(), Fail> {
 
 /// Whatever the machine's clock shows, if it can be read.
 static AT: [Serving; 6] = [
-    Serving(None, "--at 2026-04-20T12:00", &CUT_OFF, ""),
+    Serving(None, "--at 2026-04-20T12:00", &SERVED, ""),
     Serving(
         None,
         "--at 2026-04-20T12:00 --log",
-        &CUT_OFF,
-        "2026-04-20T12:00 - - - 0\n",
+        &SERVED,
+        "2026-04-20T12:00 PUT /slots/court-1/2026-05-01/18/bookings/7 200 0\n",
     ),
     Serving(
         Some(1_777_658_400),
@@ -159,20 +151,20 @@ fn serves_at_a_fixed_moment(rt: HostRuntime) -> Result<(), Fail> {
     Ok(())
 }
 
-/// A request that is there after four seconds, with a patience of three, four and five; and one
-/// after an hour less a second, with a patience of an hour.
+/// A request that is there whole is served, even once its time is over. It waits four seconds, with
+/// a patience of three, four and five, and an hour less a second, with a patience of an hour.
 static PATIENT: [Serving; 4] = [
     Serving(
         Some(0),
         "--at 2026-04-20T12:00 --log --patience 3",
-        &CUT_OFF,
-        "2026-04-20T12:00 - - - 4000000\n",
+        &SERVED,
+        "2026-04-20T12:00 PUT /slots/court-1/2026-05-01/18/bookings/7 200 4000000\n",
     ),
     Serving(
         Some(0),
         "--at 2026-04-20T12:00 --log --patience 4",
-        &CUT_OFF,
-        "2026-04-20T12:00 - - - 4000000\n",
+        &SERVED,
+        "2026-04-20T12:00 PUT /slots/court-1/2026-05-01/18/bookings/7 200 4000000\n",
     ),
     Serving(
         Some(0),
