@@ -17,7 +17,7 @@ from club_office.places import BESIDE, NAME, OLD_YEAR, kept_in, place_of, given_
 from club_office.restoring import brought
 from club_office.texts import say
 
-# A file of the archive: in which part, and its name.
+# A file of the archive: its part and its name.
 MEMBER = re.compile(r"(conf|beside|titles|logo)/([A-Za-z0-9][A-Za-z0-9._-]{0,60})|clerks")
 MOST_BYTES = 50_000_000
 MOST_CLERKS = 100

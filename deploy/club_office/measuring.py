@@ -15,7 +15,7 @@ from club_office.restoring import copies_of
 
 REQUEST = re.compile(r"20[0-9-]{8}T[0-9:]{5} \S+ \S+ ([0-9]{3}|-) ([0-9]+)|- - - - ([0-9]+)")
 ORDER = re.compile(r"20[0-9-]{8}T[0-9:]{8} \S+ ([0-9]|[?]) .*")
-# The times in which a request may be answered, in seconds.
+# The upper bounds of the histogram of request times, in seconds.
 BUCKETS = (0.002, 0.005, 0.01, 0.025, 0.05, 0.1, 0.25, 0.5, 1, 5, 60)
 MOST_SECONDS = 60
 
