@@ -83,10 +83,36 @@ def indent_of(line):
     return len(line) - len(line.lstrip())
 
 
+def names_of(path, lead=""):
+    """The names of an import's path, as (module, name). A list in it has names, paths and further lists."""
+    head, brace, inner = path.partition("{")
+    if not brace:
+        module, _, name = (lead + path).rpartition(".")
+        return [(module, name)] if name else []
+    parts, depth = [""], 0
+    for sign in inner.rstrip()[:-1]:
+        depth += (sign == "{") - (sign == "}")
+        parts = [*parts, ""] if sign == "," and not depth else [*parts[:-1], parts[-1] + sign]
+    return [it for part in parts for it in names_of(part.strip(), lead + head)]
+
+
+@cache
+def spelled_out(text):
+    """The text with one import for each module in place of one that has paths in its list, on the same line."""
+
+    def flat(line):
+        modules = {}
+        for module, name in names_of(line[2]):
+            modules.setdefault(module, []).append(name)
+        return "".join(f"{line[1]}{module}.{{{', '.join(names)}}}{line[3]}\n" for module, names in modules.items())
+
+    return re.sub(r"^( *(?:unfoldable )?(?:pub )?(?:ghost )?use )(Rattle\.[^;{\n]*\{[^;\n]*[.{][^;\n]*\})(;?)\n", flat, text, flags=re.MULTILINE)
+
+
 def imports_in(text, word):
     """The imports of a text, as (module, name in it or None, name here or alias)."""
     found = []
-    for line in re.finditer(rf"^ *(pub )?{word} Rattle\.([\w.-]+?)(?:\.\{{([^}}]*)\}}|;|$| as ([\w◌]+))", text, re.MULTILINE):
+    for line in re.finditer(rf"^ *(pub )?{word} Rattle\.([\w.-]+?)(?:\.\{{([^}}]*)\}}|;|$| as ([\w◌]+))", spelled_out(text), re.MULTILINE):
         module, names, alias = line[2], line[3], line[4]
         if names is None:
             found.append((module, None, alias))

@@ -33,6 +33,7 @@ from pathlib import Path
 
 import more_edits
 import prose
+from definitions import spelled_out
 
 ROOT = Path(__file__).resolve().parent.parent
 os.chdir(ROOT)
@@ -135,7 +136,7 @@ def unused_modules(crate, part):
             yield f"not in {above}: {file}"
         path = r"(\.|::)".join([part, *file.relative_to(top).with_suffix("").parts])
         cited = re.compile(rf"({crate}\.|crate::){path}([^A-Za-z0-9_]|$)", re.MULTILINE)
-        if not MOD.search(text) and not any(cited.search(it) for other, it in FILES.items() if file.stem in it and other != file):
+        if not MOD.search(text) and not any(cited.search(spelled_out(it)) for other, it in FILES.items() if file.stem in it and other != file):
             yield f"imported nowhere: {file}"
 
 
@@ -143,8 +144,8 @@ def unused_names(crate):
     """Names that proofs/Common.antt passes on, and that no proof takes from there."""
     common = Path("crates", crate, "proofs", "Common.antt")
     taken = "".join(names + ", " for text in of_crate(crate, "proofs", ".antt").values()
-                    for names in re.findall(rf"^use Rattle\.{crate}\.proofs\.Common\.\{{(.*)\}}$", text, re.MULTILINE))
-    for names in re.findall(r"^(?:unfoldable )?pub use .*\.\{(.*)\}$", FILES.get(common, ""), re.MULTILINE):
+                    for names in re.findall(rf"^use Rattle\.{crate}\.proofs\.Common\.\{{(.*)\}}$", spelled_out(text), re.MULTILINE))
+    for names in re.findall(r"^(?:unfoldable )?pub use .*\.\{(.*)\}$", spelled_out(FILES.get(common, "")), re.MULTILINE):
         yield from (f"nothing takes {name} from {common}" for name in names.split(", ") if name not in taken.split(", "))
 
 
