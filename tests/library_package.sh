@@ -17,7 +17,7 @@ work=$(mktemp -d)
 trap 'rm -rf --one-file-system "$work"' EXIT
 . "$here/checks.sh"
 cd "$work"
-version=$(cat "$here/../VERSION")
+version=$("$here/../bin/version")
 
 holds 'the packages are made' "$here/../bin/package_library" first
 holds 'and again' "$here/../bin/package_library" second

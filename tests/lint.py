@@ -7,7 +7,7 @@ Prints each slip with its place; the status is 1 if there is one.
 - A line is too long: code, comments and clauses past 100 columns, imports, specs and proofs past 160.
 - A limit of CONTRIBUTING is passed: a function's body of 40 lines, a file of code of 800, a proof of 400, a crate of 100 functions.
 - A public docstring has a number without a unit (a guess: it looks for a unit's word in the text).
-- The version differs from VERSION in the code or in the newest heading of CHANGELOG.md.
+- The newest heading of CHANGELOG.md has another version than the code.
 - A module of specs or proofs is imported nowhere, a file of code has no `mod`, or no page names a script.
 - No proof uses a name that its crate's proofs/Common passes on.
 - The old text of an edit isn't in its file, or is in it twice; or a crate has two edits of one name.
@@ -170,12 +170,10 @@ def stale_edits(crate):
 
 
 def other_versions():
-    """VERSION has the version; the code and the list of changes repeat it."""
-    version = Path("VERSION").read_text(encoding="utf-8").strip()
-    for file, pattern in (("crates/command_line/src/tree.rt", r'^const VERSION: &str = "(.*)";$'), ("CHANGELOG.md", "^## ([^ ,]*), 20[0-9-]*$")):
-        found = re.search(pattern, Path(file).read_text(encoding="utf-8"), re.MULTILINE)
-        if not found or found[1] != version:
-            yield f"another version than {version}: {file}: {found and found[1]}"
+    version = subprocess.run(["bin/version"], capture_output=True, text=True, check=True).stdout.strip()
+    found = re.search("^## ([^ ,]*), 20[0-9-]*$", Path("CHANGELOG.md").read_text(encoding="utf-8"), re.MULTILINE)
+    if not found or found[1] != version:
+        yield f"another version than {version}: CHANGELOG.md: {found and found[1]}"
 
 
 def unnamed_scripts():

@@ -17,7 +17,7 @@ set -eu
 top=$(CDPATH='' cd -P -- "$here/.." && pwd)
 PATH=/usr/sbin:/sbin:$PATH
 export CLUBDESK="$desk" PASSTOOL="$tool"
-version=$(cat "$top/VERSION")
+version=$("$top/bin/version")
 . "$here/checks.sh"
 machine=
 client=

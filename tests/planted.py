@@ -30,7 +30,7 @@ PLANTS = {
     "field_outlives_bytes": ("tests/field_outlives_bytes.bats", "'drop(bytes);'", "''", "not ok 1 a field of V1"),
     "hostile-quick": ("clubdesk", "quota reached", "quota reachex", "quota reachex"),
     "jobs_hold": ("deploy/old_copies", "now - its_day < 14", "now - its_day < 13", "too few"),
-    "lint": ("VERSION", "0.1.0", "0.1.1", "another version"),
+    "lint": ("CHANGELOG.md", "## 0.1.0,", "## 0.1.1,", "another version"),
     "lint:spelling": ("docs/TOUR.md", "Where is the signature compared", "Where is the signatture compared", "misspelt: docs/TOUR.md"),
     "lint_tells": ("tests/prose.py", "exactly if", "exactlyif", "nothing is left.-exactly if]"),
     "linters": ("tests/desk.py", "import errno\n", "import errno\nimport ast\n", "'ast' imported but unused"),

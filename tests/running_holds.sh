@@ -47,7 +47,7 @@ for file in clubdesk passtool; do
     cmp "$top/man/$file.1" "local/share/man/man1/$file.1"
     [ "$(stat -c %a "local/bin/$file")" = 755 ] || fail "local/bin/$file has another mode"
 done
-version=$(cat "$top/VERSION")
+version=$("$top/bin/version")
 same 'the installed programs' "clubdesk $version passtool $version" "$(local/bin/clubdesk --version) $(local/bin/passtool --version)"
 
 # refused WHAT WORDS..: the installation is refused with a line on standard error, and the folder `local` and its files stay.
