@@ -221,7 +221,7 @@ class Audit:
         """The sizes of what is below all clauses of a function."""
         for function in self.functions():
             listed = [it for it in below_all(self.book, function) if it.kind in OF_SPECS]
-            yield f"`{function}` {len(listed)} definitions of {sum(it.lines for it in listed)} lines"
+            yield f"`{function}` {len(listed)} and {sum(it.lines for it in listed)}"
 
     def beside(self):
         """The computing definitions below the other clauses of those functions, and below what stands for a ghost in any of them."""
@@ -277,7 +277,7 @@ class Audit:
             source = source_of(" ".join([file.head, *(it.comment for it in own)]))
             yield f"**`{file.path.relative_to(ROOT)}`**: {gist} [{source}], {sum(it.lines for it in own)} lines\n"
             for (numbers, mark), group in groupby(own, lambda it: (self.numbers(it), self.mark(it))):
-                yield f"- {numbers}{mark and ', ' + mark}: " + ", ".join(f"`{it.name}` {it.line}" for it in group)
+                yield f"- {numbers}{mark and ', ' + mark}: " + ", ".join(f"`{it.name}`" for it in group)
             yield ""
 
     def types(self):
@@ -289,7 +289,7 @@ class Audit:
         for crate in sorted({path.relative_to(ROOT).parts[1] for path in by_file}, key=order.get):
             files = sorted(path for path in by_file if path.relative_to(ROOT).parts[1] == crate)
             yield f"- **`crates/{crate}/`**: " + "; ".join(
-                ", ".join(f"`{it.name}` {it.line}" for it in sorted(by_file[path], key=lambda it: it.line))
+                ", ".join(f"`{it.name}`" for it in sorted(by_file[path], key=lambda it: it.line))
                 + f" in `{path.relative_to(ROOT / 'crates' / crate)}`" for path in files)
 
     def ghosts(self):
@@ -301,7 +301,7 @@ class Audit:
                 below = [it for it in below if it.kind in OF_SPECS]
                 counts = f" ({len(below)}, {sum(it.is_computed for it in below)} computing)" if below else ""
                 stands.append(f"of `{of}` in `{file.path.relative_to(ROOT)}`: `{' '.join(value.split())}`{counts}")
-            yield f"| `{it.name}`, `{it.file}` line {it.line} | {self.numbers(it)} | {'; '.join(stands)} |"
+            yield f"| `{it.name}`, `{it.file}` | {self.numbers(it)} | {'; '.join(stands)} |"
 
     # ---- what is trusted beside them
 
@@ -374,7 +374,7 @@ class Audit:
                     "[ghost](#ghosts-of-traits), nor any other contract that [PROMISES](PROMISES.md) cites."]
         sections = [
             f"These promises rest on {len(computed)} definitions that compute what another one states. [COMPUTED](COMPUTED.md) has the laws that both "
-            f"agree. They aren't in the lists below. Definitions that don't compute cite {len(self.first_computed())} of them:",
+            f"agree. The lists below leave them out. Other definitions cite {len(self.first_computed())} of them:",
             "\n".join(self.faults()),
         ]
         if len(computed) > len(self.first_computed()):
@@ -388,44 +388,41 @@ class Audit:
         handles = (ROOT / "HANDLES").read_text(encoding="utf-8").strip().rpartition(": ")[2].rstrip(".")
         sections = [
             "# What has to be believed",
-            "For anyone who asks what the eight laws of [README](../README.md#what-is-proved) mean: each definition below their clauses, once, from the "
-            "standards up, and what is trusted besides. Proofs, lemmas and laws aren't here, since the check reads them. `tests/audit.py` writes this "
-            "page from the sources. `tests/audit.py --below NAME` prints what is below one definition, or below all clauses of a function, as "
-            "`Desk::ask`. [TOUR](TOUR.md#when-is-a-root-good) answers twelve questions by a path each.",
-            "To check a promise, read its clause, then the definitions with its number, from the top. Each has its line after its name, and its promises "
-            "and [mark](#marks) before it. Each file has its source in brackets: a standard, libmacaroons, or ours. Lines are lines of code, without "
-            "comments and empty ones.",
+            "For anyone who asks what the eight laws of [README](../README.md#what-is-proved) mean. This page lists each definition below their clauses, "
+            "from the standards up, and what is trusted besides. The check reads proofs, lemmas and laws, so they aren't here. `tests/audit.py` writes "
+            "the page. `tests/audit.py --below NAME` prints the files and lines below one definition, or below a function such as `Desk::ask`. "
+            "[TOUR](TOUR.md#when-is-a-root-good) follows twelve paths.",
+            "To check a promise, read its clause, then the definitions with its number, from the top. The numbers and the [mark](#marks) come before the "
+            "names. Each file has its source in brackets: a standard, libmacaroons, or ours. Lines are lines of code.",
             "\n".join(self.summary()),
-            f"These functions have further clauses, such as why a request fails. Below all clauses are: {', '.join(self.of_all_clauses())}.",
+            "These functions have further clauses, such as why a request fails. Definitions and lines below all of them: "
+            f"{', '.join(self.of_all_clauses())}.",
             "## Computing definitions",
             *self.section_of_faults(),
             "## Marks",
-            "`tests/reference` is a second writing of the definitions in Python, made from the pages alone. It gives the expected answer for each vector "
-            "of [vectors.json](vectors.json). The mark of a definition says which lines of that writing the vectors run: `all`, `part` or `none`. These "
-            f"are {counts['all']}, {counts['part']} and {counts['none']} of {len(plain)} definitions. {counts['row']} more, with `row`, are in "
-            "statements over worked rows, which are proved by computing them. "
-            f"No vector shows the other {counts['']}: laws, which speak of all clubs, texts or stores, and what a store and its tables hold. The seven "
-            "cases of RFC 4231 also show HMAC.",
+            "`tests/reference` has the definitions once more, in Python, written from the pages alone. It gives the expected answer of each vector of "
+            "[vectors.json](vectors.json). A mark says how many of a definition's lines there the vectors run: "
+            f"`all` ({counts['all']} of {len(plain)} definitions), `part` ({counts['part']}) or `none` ({counts['none']}). {counts['row']} more, with "
+            "`row`, are in statements over worked rows, which are proved by computing them. "
+            f"No vector shows the other {counts['']}: laws, and what a store and its tables hold. The seven cases of RFC 4231 also show HMAC.",
         ]
         for crate in self.book.crates:
             if any(it.crate == crate for it in plain):
                 sections += [f"## {crate}", "\n".join(self.definitions_of(crate)).strip()]
         sections += [
             "## Types and constants of the code",
-            "A definition sees a type of the code by its fields and variants, or as the value that its `Model` gives. The constants are SQL.",
+            "A definition sees a type's fields and variants, or the value of its `Model`. The constants are SQL.",
             "\n".join(self.types()),
             "## Ghosts of traits",
-            "A promise over any store, reader, writer or desk names it by a ghost of its trait. Read with it what a type of ours has for that ghost. "
-            "Brackets give the number of definitions below, and how many of these compute; not all are in the lists above. The ghosts of a reader and "
-            "a writer are the bytes that they give and take.",
+            "A promise over any store, reader, writer or desk names a ghost of its trait. Read what our types have for it. Brackets count the "
+            "definitions below, not all of them in the lists above. The ghosts of a reader and a writer are the bytes that they give and take.",
             "\n".join(self.ghosts()),
             "## Trusted besides",
-            "These promises rest on the toolchain's contracts of these libraries. Calls are made by the crates below a promise: functions and methods "
-            "that the library declares, in files that import from it. `perhaps` marks those that share their name with a method of ours. Words are "
-            "the library's definitions that ours or the clauses cite. std is left out: nearly every line uses it.",
+            "These promises rest on the toolchain's contracts of these libraries. The calls are those of the crates below a promise; `perhaps` marks "
+            "names that a method of ours has, too. The words are the library's definitions that ours cite. std is left out: nearly every line uses it.",
             "\n".join(self.trusted()),
-            f"{self.externs()} The programs' handle is {handles}. [TRUST](TRUST.md#trusted) has the rest: the compiler, the prover, the C library and "
-            "the system, what is [only read](TRUST.md#read-and-shown-by-vectors), and what is [not claimed](TRUST.md#not-claimed).",
+            f"{self.externs()} The programs' handle is {handles}. [TRUST](TRUST.md#trusted) has the rest: the compiler, the prover, the system, what is "
+            "[only read](TRUST.md#read-and-shown-by-vectors), and what is [not claimed](TRUST.md#not-claimed).",
         ]
         return "\n\n".join(sections) + "\n"
 
