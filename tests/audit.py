@@ -1,6 +1,7 @@
 #!/usr/bin/env python3
-"""docs/AUDIT.md is what the sources say. Contracts that docs/PROMISES.md cites exist, and rest on no computing definition but three;
-docs/COMPUTED.md, the vectors' marks and the paths of docs/TOUR.md hold.
+"""docs/AUDIT.md, docs/COMPUTED.md and the paths of docs/TOUR.md hold, and so do the contracts that docs/PROMISES.md cites.
+
+These contracts exist, and rest on no computing definition but three. The vectors' marks hold, too.
 
 AUDIT lists what a reader must believe of each promise. Each contract that PROMISES cites exists. It rests on no computing definition but
 the three that the page names; nor does what stands for a ghost. Each contract in COMPUTED rests on one. The vectors hold of the rules in

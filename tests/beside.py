@@ -1,6 +1,5 @@
 #!/usr/bin/env -S /usr/bin/python3 -B
-"""The server beside the same desk in C, in Go and in Python, over SQLite's library: the same replies to the same requests, and how long each
-takes.
+"""The server beside the same desk in C, Go and Python, over SQLite's library: same replies, and their times.
 
 Times are taken over 100 and 100,000 bookings, for a member with 10,000 of its own and for one with none. The desks are beside_c/desk.c, which is its own server, beside_go of net/http and database/sql, and beside_flask.py of Flask under gunicorn
 with one worker. They have the same file, transactions and pragmas, and the statements of crates/club_tables, and read the same rows for an

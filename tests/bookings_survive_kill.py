@@ -1,6 +1,7 @@
 #!/usr/bin/env -S /usr/bin/python3 -B -m pytest -q -p no:cacheprovider
-"""Servers killed in the middle of 200 bookings: each that was acknowledged is in the file, once, and the same requests then get the same
-replies.
+"""Each acknowledged booking of 200 is in the file, once, though servers are killed meanwhile.
+
+The same requests then get the same replies.
 
 They are killed at times drawn by a fixed seed. sqlite3, the day sheets and GETs find each acknowledged booking; the one under way may be
 there too, whole. The totals are the sums. At the end all 200 bookings are there, once. Not part of the gate. ROUNDS=N kills N servers.

@@ -1,6 +1,7 @@
 #!/usr/bin/env bats
-# `bin/proved` builds what is stale and nothing else, by the sources' checksum; an interrupted build leaves no program that counts as
-# built, and two calls build once.
+# `bin/proved` builds what is stale and nothing else; an interrupted build leaves no program that counts.
+#
+# It goes by the sources' checksum, and two calls build once.
 #
 # Over four small crates and a stand-in for rt, which writes down when it begins and ends. Libraries are built side by side, as many as
 # PROVED_AT_ONCE says, each after those below it; an edit in the course of a build builds again; a build that is stopped ends each rt and

@@ -1,5 +1,7 @@
 #!/usr/bin/env bats
-# `bin/check` runs `rt ci` and then tests/run, even if `rt ci` fails; it names what failed, and refuses arguments and a path without rt.
+# `bin/check` runs `rt ci` and then tests/run, and names what failed.
+#
+# It goes on if `rt ci` fails, and refuses arguments and a path without rt.
 #
 # It runs with stubs of rt and tests/run. Not part of the gate.
 # groups: quick

@@ -1,6 +1,7 @@
 #!/usr/bin/env -S /usr/bin/python3 -B -m pytest -q -p no:cacheprovider
-"""`examples/client.py` against a server that is killed and started again 100 times, and behind a proxy that fails: nothing is booked
-twice, and nothing that was acknowledged is lost.
+"""`examples/client.py` books nothing twice and loses nothing, while its server is killed or its proxy fails.
+
+The server is killed and started again 100 times. Nothing that was acknowledged is lost.
 
 Every fifth time the client is killed too. It books slots, each asked for once, and cancels most of them. At the end the file has each
 booking once: those on the client's record, with the charges, places and refunds that were acknowledged, and no others. The totals are the

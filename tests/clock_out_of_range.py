@@ -1,6 +1,7 @@
 #!/usr/bin/env -S /usr/bin/python3 -B -m pytest -q -p no:cacheprovider
-"""The server under a set clock, around the first and last minutes of 2000 to 2099: it serves at moments of the club, and else ends with
-status 6, unchanged.
+"""The server under a set clock, around the first and last minutes of 2000 to 2099.
+
+It serves at moments of the club, and else ends with status 6, unchanged.
 
 The clock is also beyond those years, and the zones are three. If it shows a moment of the club's, each client has its reply. If it
 shows none, or can't be read, the first client has no byte, and a second one isn't waited for. The server ends with its line, and the

@@ -1,6 +1,8 @@
 #!/usr/bin/env -S /usr/bin/python3 -B -m pytest -q -p no:cacheprovider
-"""Commands of `clubdesk`, and passes that it prints, with each allocation refused, with little storage, and killed: a fault wrote nothing
-and left the club as it was, and a kill left it as it was or done.
+"""Commands of `clubdesk` under refused memory, little storage and kills leave the club as it was, or are done.
+
+Each allocation is refused in turn, also while passes are printed. After a fault nothing was written, and the club is as it was. After a
+kill it is as it was, or the command is done.
 
 Then sqlite3 finds the file sound, and clubdesk reads it.
 - Each allocation is refused in turn: the command ends with status 4, or 2 if clap met the refusal, or as with ample memory.

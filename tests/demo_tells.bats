@@ -1,6 +1,7 @@
 #!/usr/bin/env bats
-# `bin/demo` prints tests/demo.told; it installs missing `curl` and `sqlite3` or names them; it ends its server, even one that doesn't
-# listen, and after a signal.
+# `bin/demo` prints tests/demo.told, and ends its server whatever happens.
+#
+# It installs missing `curl` and `sqlite3` or names them. It ends even a server that doesn't listen, and after a signal.
 #
 # When it can't continue it says why and exits, as root and as another user.
 # groups: pages

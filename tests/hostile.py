@@ -1,6 +1,7 @@
 #!/usr/bin/env python3
-"""Random requests, most of them wrong somewhere, and commands of the office: each reply, row and total is that of the rules in Python
-(`tests/reference`). `--self-test` finds planted faults of the rules.
+"""Random requests, most of them wrong somewhere, and commands get the replies of the rules in Python.
+
+The rules are those of `tests/reference`; each row and total is compared, too. `--self-test` finds planted faults of the rules.
 
 Replies are compared byte for byte, rows and totals after each server. The rules are written only from the pages on the desk, passes and
 caveats. Requests are drawn by a seed. Passes in three forms are under current, older and other roots, narrowed by caveats at their limits, cut,

@@ -1,5 +1,7 @@
 #!/bin/sh
-# The timers' jobs work: copies of a running club, which of them are kept, the sheet in four zones, checks of the desk, mail and reports.
+# The timers' jobs work: copies, the sheet in four zones, health, mail and reports.
+#
+# Copies are those of a running club, and the test looks at which of them are kept.
 #
 # Copies are made of a running club and of what is none, killed, and made two at once. The kept copies, on each day of three years, are
 # those of the rule in Python. Checks are made of a desk that is well, and of faults.

@@ -1,5 +1,7 @@
 #!/bin/sh
-# `bin/package_library` makes the same bytes twice, and in a fresh Debian programs in C and Python read, narrow and verify the pass of README.
+# `bin/package_library` makes the same bytes twice, and its package serves C and Python in a fresh Debian.
+#
+# Programs in both read, narrow and verify the pass of README.
 #
 # lintian complains nowhere. Debian is made by debootstrap with a C compiler, pkg-config and Python, and is entered by chroot without a network.
 # The packages are installed by dpkg. The programs are the examples that libclubpass-dev and python3-clubpass bring: at most 30 lines in C, also

@@ -1,6 +1,8 @@
 #!/usr/bin/env -S /usr/bin/python3 -B
-"""Names defined twice, long lines, functions, files and crates past their limits, numbers without units, other versions, unused files,
-misspelt words, and foreign English in what a change adds.
+"""Finds names defined twice, lines past their limits, unused files, misspelt words and foreign English.
+
+It also finds functions, files and crates past their limits, numbers without units, and other versions. English counts in what a change
+adds.
 
 Prints each slip with its place; the status is 1 if there is one.
 - A name is defined by two specs modules, of one crate or of two, and TWINS doesn't say that both mean the same.

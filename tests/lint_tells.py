@@ -1,6 +1,7 @@
 #!/usr/bin/env -S /usr/bin/python3 -B -m pytest -q -p no:cacheprovider
-"""`tests/lint.py` finds each pattern of foreign English in added lines, faulty subjects of commits, and misspelt words. It passes plain
-sentences, code and old lines. `tests/sentences.py` draws the same sentences for the same seed.
+"""`tests/lint.py` finds foreign English, faulty subjects of commits and misspelt words, and passes what is plain.
+
+It looks at added lines alone, and passes code. `tests/sentences.py` draws the same sentences for the same seed.
 
 Works on small repositories of its own. Not part of the gate.
 """

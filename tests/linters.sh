@@ -1,5 +1,5 @@
 #!/bin/sh
-# Pyflakes, shellcheck, gofmt and go vet have nothing to say of the scripts and the Go, or the reason is noted in place.
+# pyflakes, shellcheck, gofmt and go vet have nothing to say, or the reason is noted in place.
 #
 # The shell scripts and bats files of tests/, bin/ and deploy/ are read by shellcheck, the Python there, in examples/ and in bindings/ by pyflakes.
 # The Go of tests/, examples/ and bindings/ is read if Debian's Go is there. Not part of the gate.

@@ -1,6 +1,8 @@
 #!/bin/sh
-# A club is set up on a fresh Debian by three commands, behind caddy, and served within five minutes. Its machine is lost with its disk, and
-# the club serves again on another one within ten. Wants root.
+# Three commands set a club up on a fresh Debian, behind caddy; after its loss another machine serves it again.
+#
+# The club is served within five minutes. Its machine is lost with its disk, and the club serves again on another one within ten. Wants
+# root.
 #
 # Debian is made by debootstrap and booted by systemd-nspawn, without a network but loopback. The clerk uses the menu alone. The lines of
 # docs/RUNNING.md under "Copies elsewhere" and "The machine is gone" are given. A third Debian's ssh takes the copies while a client books. At

@@ -1,6 +1,7 @@
 #!/usr/bin/env -S /usr/bin/python3 -B -m pytest -q -p no:cacheprovider
-"""The server allocates nothing between a commit and its reply: six bookings and three cancellations in a file, under passes in V1, V2
-and JSON.
+"""The server allocates nothing between a commit and its reply.
+
+It takes six bookings and three cancellations in a file, under passes in V1, V2 and JSON.
 
 A refused allocation that the server passes over would change no byte, so no test over bytes can see one. The commit is the last call that
 syncs the file before the reply is sent.

@@ -1,5 +1,7 @@
 #!/bin/sh
-# The pages are those that `bin/pages` makes of web/src, and its modules pass their own tests, those of web/tests, by Node's runner.
+# The pages are those that `bin/pages` makes of web/src, and the modules pass their tests.
+#
+# These are the tests of web/tests, by Node's runner.
 #
 # Not part of the gate.
 # groups: browser quick

@@ -1,5 +1,7 @@
 #!/bin/sh
-# Mutants are refused, also those that the gate leaves out for time; where one is proved, the test that its edit names fails on it.
+# Mutants are refused, also those that the gate leaves out for time.
+#
+# Where one is proved, the test that its edit names fails on it.
 #
 # Wrong bodies are refused, also those that the gate leaves out for time: whether a goal is found false or stays open, or a proof only
 # misses a name that the edit took away; or, if it is proved, whether the test fails that the edit names.

@@ -1,6 +1,7 @@
 #!/usr/bin/env -S /usr/bin/python3 -B
-"""The office by menu and questions, at a terminal, in English and German: each task of a week and of a season's start, and what it changed.
-Wants root, for a machine of its own (tests/office_room.sh).
+"""The office by menu and questions, in English and German: each task of a week and of a season's start.
+
+It runs at a terminal, and what each task changed is compared. Wants root, for a machine of its own (tests/office_room.sh).
 
 The clerk knows no command, and uses the menu alone. Names, days and hours are written as people write them, also in commands. If two
 members fit, or something is odd, the office asks. Refusals, lists and usage are in German, too. Ctrl-C in each question changes nothing. Without a terminal a part of a name is none.

@@ -1,6 +1,7 @@
 #!/usr/bin/env -S /usr/bin/python3 -B -m pytest -q -x -s -p no:cacheprovider
-"""Two offices give 500 commands beside four clients with 5,000 requests: every answer and total is right, also with kills, slow clients,
-stale doors and moved files. Prints how long commands and requests took.
+"""Two offices give 500 commands beside four clients with 5,000 requests: every answer and total is right.
+
+So they are with kills, slow clients, stale doors and moved files. Prints how long commands and requests took.
 
 The processes are real, and sqlite3 finds the totals to be the sums once the server is stopped. Then come 20 kills of servers and of
 commands, and a client that is silent next to one that sends a byte a second. Tried are also a door that is stale or taken, a second

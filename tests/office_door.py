@@ -1,6 +1,7 @@
 #!/usr/bin/env -S /usr/bin/python3 -B -m pytest -q -p no:cacheprovider
-"""A running desk's door meets commands, senders and servers that are cut, slow or foreign: only a whole command is carried out, once, and the
-server goes on. Wants root for some of it.
+"""A running desk carries out only whole commands, once, whatever else comes through its door.
+
+The door meets commands, senders and servers that are cut, slow or foreign, and the server goes on. Wants root for some of it.
 
 Commands: cut at each byte, of 70,000 bytes, with a wrong count, with
 arguments that are no UTF-8, of no name, and of `serve`. Senders: gone before they are greeted, silent, or taking no answer. Servers: they don't

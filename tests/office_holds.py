@@ -1,6 +1,7 @@
 #!/usr/bin/env -S /usr/bin/python3 -B
-"""The office's wrapper, deploy/office, as clerks use it: each command, list and correction against the desk, what it refuses, passes, the
-book, restores, and what a hostile clerk may try. Wants root, for a machine of its own (tests/office_room.sh).
+"""`office` as clerks use it: commands, lists, corrections, restores, and what a hostile clerk may try.
+
+Each is compared with the desk. So are what it refuses, passes and the book. Wants root, for a machine of its own (tests/office_room.sh).
 
 The office's wrapper, deploy/office, as clerks use it who are not root: by the sudoers lines of deploy/office.sudoers, beside a server
 that a small manager of services runs. Each command, what it shows, each list and each correction against show-account, the sheet, the desk's replies

@@ -1,6 +1,7 @@
 #!/usr/bin/env -S /usr/bin/python3 -B
-"""Commands, corrections, imports and restores of the office, killed at random moments beside a running desk: each is done once or not at
-all, and no total is off. Wants root, for a machine of its own (tests/office_room.sh).
+"""Commands, corrections, imports and restores of the office, killed at random moments, are done once or not at all.
+
+They are killed beside a running desk, and no total is off. Wants root, for a machine of its own (tests/office_room.sh).
 
 - 100 commands and corrections are killed while four clients use the desk. Each reply is right, and the desk goes on.
 - An import of twelve members is killed before and after each of its commands, and 40 times at random. Nobody is credited twice, and

@@ -1,6 +1,7 @@
 #!/usr/bin/env -S /usr/bin/python3 -B
-"""Copies of a club elsewhere, by ssh and in a mounted folder: each change is there within a minute, tested, and brings a lost club back.
-Wants root, for a machine of its own (tests/office_room.sh).
+"""Each change of a club is in a copy elsewhere within a minute, and the copy brings a lost club back.
+
+The copies go by ssh or into a mounted folder, and are tested there. Wants root, for a machine of its own (tests/office_room.sh).
 
 - Nothing is sent without a change. Copies are kept by the rule in Python. `copies` lists them, and `restore` takes one.
 - A host that is down, a cut transfer, a full disk there and a folder that isn't mounted are said and tried again, and health fails.

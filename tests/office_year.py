@@ -1,6 +1,8 @@
 #!/usr/bin/env -S /usr/bin/python3 -B
-"""`office CLUB new-year` after a year of 1,500 requests keeps balances, keys and slots to come, the server answers the same, and a kill
-leaves the old club or the new one. Wants root, for a machine of its own (tests/office_room.sh).
+"""`office CLUB new-year` keeps balances, keys and slots to come, and a kill leaves the old club or the new one.
+
+It follows a year of 1,500 requests, and the server answers the same before and after. Wants root, for a machine of its own
+(tests/office_room.sh).
 
 A part of the club's bookings is cancelled, past and to come. The old file is kept byte for byte. Balances, what each key has spent, keys,
 facilities and slots to come are the same by sums. The server answers the same requests with the same bytes. Each

@@ -1,6 +1,8 @@
 #!/usr/bin/env -S /usr/bin/python3 -B -m pytest -q -p no:cacheprovider
-"""Each kind of reply of the server over a file, byte for byte: those of the table in tests/kinds.py. docs/openapi.yaml describes them, obeys
-the schema of OpenAPI 3.0, and each of its examples is such a reply.
+"""Each kind of reply of the server over a file, byte for byte, and docs/openapi.yaml, which describes them.
+
+The replies are those of the table in tests/kinds.py. docs/openapi.yaml obeys the schema of OpenAPI 3.0, and each of its examples is such
+a reply.
 
 The schema is that of Debian's openapi-specification. The scenes of the table are played, each request at a server of its own, so what a
 reply says of earlier ones comes from the file. Its bytes are those of the rules in Python; status, fields and body are those of the

@@ -1,7 +1,9 @@
 #!/usr/bin/env -S /usr/bin/python3 -B
-"""Drives `web/pass.html` in Debian's chromium, and its main ways also in Firefox and WebKitGTK. It narrows 1,000 passes in three forms byte for
-byte as `passtool narrow` does. It reads 2,000 spoiled passes and 2,000 texts of caveats as `passtool` does, and says what is wrong with
-each faulty one. It works by keyboard alone, fits a phone, and sends nothing. It loads nothing but the club's list, where a server has one.
+"""`web/pass.html` narrows 1,000 passes and reads 4,000 texts in a browser as `passtool` does, and sends nothing.
+
+It runs in Debian's chromium, and its main ways also in Firefox and WebKitGTK. It narrows 1,000 passes in three forms byte for byte as
+`passtool narrow` does. It reads 2,000 spoiled passes and 2,000 texts of caveats as `passtool` does, and says what is wrong with each
+faulty one. It works by keyboard alone, fits a phone, and sends nothing. It loads nothing but the club's list, where a server has one.
 
 The formats are those of tests/reference:
 - texts that are no pass, those of the formats' examples and the spoiled ones: each has its own answer, the one that passtool has;

@@ -1,5 +1,7 @@
 #!/usr/bin/env -S /usr/bin/python3 -B
-"""The library of passes beside libmacaroons and pymacaroons: the time to read and verify a pass of three caveats, from the text on.
+"""The library of passes beside libmacaroons and pymacaroons: times to read and verify a pass.
+
+The pass has three caveats, and the time runs from its text on.
 
 In C the library reads each form, and Debian's libmacaroons V1 alone. In Python the module reads each form, and so does pymacaroons. Both other
 libraries are given the three caveats; the module tries them against an ask in a line of its own. Prints the medians of the processor's

@@ -1,6 +1,7 @@
 #!/usr/bin/env -S /usr/bin/python3 -B
-"""1,500 requests to the server, every second one under a pass that pymacaroons narrowed, in V1, V2 and JSON: each reply is that of the
-rules in Python.
+"""1,500 requests, half of them under passes that pymacaroons narrowed, get the replies of the rules in Python.
+
+Passes are in V1, V2 and JSON.
 
 The rules are those of tests/reference; the club, requests and caveats are drawn as in tests/hostile.py, by a fixed seed. The other passes
 are narrowed by passtool; pymacaroons reads and writes these too. Not part of the gate.

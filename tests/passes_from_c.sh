@@ -1,5 +1,7 @@
 #!/bin/sh
-# Each function of clubpass.h does what the header says, called from C: on its happy path, at its limits and into each fault.
+# Each function of clubpass.h does what the header says, called from C.
+#
+# It is called on its happy path, at its limits and into each fault.
 #
 # tests/passes_from_c.c is built over the shared library and over the static one, by gcc and by clang. The header is also read as C99 and as C++.
 # The program runs as it is, under valgrind, with AddressSanitizer and UndefinedBehaviorSanitizer, and in eight threads, also under helgrind.

@@ -1,6 +1,7 @@
 #!/bin/sh
-# The lines for root of docs/RUNNING.md about a club, pages, certificates, TLS and several clubs work behind nginx, on a machine of the
-# test's own (tests/office_room.sh). Wants root.
+# The lines for root of docs/RUNNING.md about pages, certificates, TLS and several clubs work behind nginx.
+#
+# They run on a machine of the test's own (tests/office_room.sh). Wants root.
 #
 # These are the sections "A club", "The pages", "A certificate", "TLS" and "Several clubs". Certbot gets a certificate by nginx's site of the
 # challenges, from an authority of the test's own (Let's Encrypt's pebble). It renews it, and then the site has the new one. Then come the

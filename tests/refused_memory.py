@@ -1,6 +1,7 @@
 #!/usr/bin/env -S /usr/bin/python3 -B -m pytest -q -p no:cacheprovider
-"""Each command of `passtool`, in each form, with each allocation refused in turn: it ends with status 4 and no output, or as if nothing
-had been refused.
+"""Each command of `passtool`, with each allocation refused in turn, is right or out of memory.
+
+It runs in each form. It ends with status 4 and no output, or as if nothing had been refused.
 
 Not part of the gate.
 """

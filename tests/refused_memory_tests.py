@@ -1,5 +1,5 @@
 #!/usr/bin/env -S /usr/bin/python3 -B
-"""Tests with each allocation refused in turn: each call answers as if nothing had been refused, or is out of memory and has changed nothing.
+"""Tests with each allocation refused in turn: each call is right, or out of memory without a change.
 
 The tests read and write the known passes in each form, open a store in each way, and give each command of the office. They make the
 known booking through `Desk::ask`, `Desk::run` and `answer`.

@@ -1,6 +1,7 @@
 #!/bin/sh
-# The claims of docs/RUNNING.md hold of installations, which are whole or not at all, of units, which forbid no call of the desk, and of
-# copies and a full disk.
+# The claims of docs/RUNNING.md hold of installations, units, copies and a full disk.
+#
+# Installations are whole or not at all, and units forbid no call of the desk.
 #
 # The units are tried by systemd's own tools. Wants root. Not part of the gate.
 # groups: pages package root

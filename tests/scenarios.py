@@ -1,6 +1,8 @@
 #!/usr/bin/env -S /usr/bin/python3 -B
-"""Each line of a scenario (docs/SCENARIOS.md) gets its stated answer, from the rules in Python (`tests/reference`) and from `clubdesk`.
-The program runs over a file and a socket. Passes are in each of the three forms. `--self-test` finds eight planted faults of the rules.
+"""Each line of a scenario (docs/SCENARIOS.md) gets its stated answer, from the rules in Python and from `clubdesk`.
+
+The rules are those of `tests/reference`. The program runs over a file and a socket. Passes are in each of the three forms. `--self-test`
+finds eight planted faults of the rules.
 
 A line that can't be read or has no answer, a club that can't be made and a file without a line to play are faults, each with its place.
 The self-test has odd files for all of these.

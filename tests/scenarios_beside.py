@@ -1,6 +1,7 @@
 #!/usr/bin/env -S /usr/bin/python3 -B
-"""The desks in C and in Go of `tests/beside.py` give the stated answer to each line of a scenario that they know. They know views, bookings and
-accounts, under passes in V2 with four kinds of caveats.
+"""The desks in C and in Go of `tests/beside.py` give the stated answers to the scenarios' lines that they know.
+
+They know views, bookings and accounts, under passes in V2 with four kinds of caveats.
 
 A scenario is played up to the first line that they don't know, such as a cancellation. `clubdesk` carries out commands and listings, over the
 same file. The desk in C writes the same bytes as ours. The desk in Go writes the lines of a head in another order, and is left out if Go is

@@ -1,6 +1,7 @@
 #!/usr/bin/env -S /usr/bin/python3 -B
-"""A club set up by the questions of deploy/clubdesk-setup: modes and owners, repeats and stops at each step, refusals, and the way to a first
-booking. Wants root (tests/office_room.sh).
+"""A club set up by the questions of `deploy/clubdesk-setup`, with repeats, stops and refusals.
+
+It looks at modes and owners, repeats and stops at each step, and the way to a first booking. Wants root (tests/office_room.sh).
 
 There are five questions. Given again, also after a stop at each step, the setup changes nothing that is there. The clerk whom it made
 goes on from its end to a member's first booking, with nginx's site in front if nginx is there. Not part of the gate.

@@ -1,6 +1,7 @@
 #!/usr/bin/env -S /usr/bin/python3 -B -m pytest -q -p no:cacheprovider
-"""Clients that dawdle are cut off in time, and those behind them get their replies; clients that send far more than a request, before they
-read, lose no reply.
+"""Clients that dawdle are cut off in time, and clients that send too much lose no reply.
+
+The clients behind a slow one get their replies. The others send far more than a request before they read.
 
 The server has a patience of two seconds. One client sends nothing, one begins its request, one sends a byte a second, one never reads its
 reply, and one stays after its request. Then come 1,000 requests with 1 to 100,000 bytes after them, and 1,000 heads of 100,000 bytes,

@@ -1,5 +1,7 @@
 #!/usr/bin/env -S /usr/bin/python3 -B -m pytest -q -p no:cacheprovider
-"""The small desk in JavaScript behind web/demo.html answers 8,000 random requests, in four clubs, as the rules in Python do.
+"""The small desk behind web/demo.html answers 8,000 random requests as the rules in Python do.
+
+It is written in JavaScript, and serves four clubs.
 
 The requests are bookings, repeats and cancellations, under narrowed and odd passes, at moments of two days. Not part of the gate.
 """

@@ -1,7 +1,9 @@
 #!/usr/bin/env -S /usr/bin/python3 -B
-"""An import and the menu's new member make spare keys for lending, as many as the configuration says and under its names, once each. A
-letter has their passes as a second half. A spare key pays with its member's points, counts for itself, and reaches no booking of its
-member's. Wants root, for a machine of its own (tests/office_room.sh). Not part of the gate.
+"""`office` makes spare keys for lending, as many as the configuration says, once each.
+
+An import and the menu's new member make them, under the configuration's names. A letter has their passes as a second half. A spare key
+pays with its member's points, counts for itself, and reaches no booking of its member's. Wants root, for a machine of its own
+(tests/office_room.sh). Not part of the gate.
 """
 # groups: package root
 # wants: sudo sqlite3 openssl util-linux bsdutils iproute2 systemd qrencode python3-psutil python3-pexpect

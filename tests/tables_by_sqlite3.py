@@ -1,6 +1,7 @@
 #!/usr/bin/env -S /usr/bin/python3 -B -m pytest -q -p no:cacheprovider
-"""What `clubdesk` puts into a file against SQLite's shell; the lists and corrections of docs/RUNNING.md; files that hold no club, and
-rows out of their limits, are a fault of storage.
+"""The file of `clubdesk` as SQLite's shell reads it, and the lists and corrections of docs/RUNNING.md.
+
+Files that hold no club, and rows out of their limits, are a fault of storage.
 
 With the columns, keys, references and limits of docs/TABLES.md. What sqlite3 changes within them, clubdesk shows; a file that is refused
 stays as it was, byte for byte. Not part of the gate.

@@ -1,6 +1,8 @@
 #!/usr/bin/env python3
-"""A club's year beside the rules of `tests/reference`, with kills and both changes of summer time: each reply, command and day sheet, and
-each month's rows and totals. `--self-test` finds planted faults of the rules.
+"""A club's year beside the rules in Python, with kills and both changes of summer time.
+
+The rules are those of `tests/reference`. Each reply, command and day sheet is compared, and each month's rows and totals. `--self-test`
+finds planted faults of the rules.
 
 The year has narrowed passes, credits, rotations, revoked keys and closed slots. The clock of each server is set by tests/set_clock.c, and the server turns it into the club's civil time by the zone's rule; the test
 does so by Python's zoneinfo. After a kill the client sends the request again, and a command is given again: the reply is the
