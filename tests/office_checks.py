@@ -1,0 +1,58 @@
+"""What the parts of office_holds.py share: refusals, requests at the desk, and the lines of the book."""
+
+import json
+
+from office_room import HOME, NOON, begun, done, everything, office, same
+
+DAY = "2026-05-01"
+# The line of an order in the book.
+LINE = r"20\d\d-\d\d-\d\dT\d\d:\d\d:\d\d [a-z]+ [0-9] [ -~]+"
+AT = ["--at", NOON]
+YES = ["--yes", *AT]
+COPIES, BOOK, TURN = HOME / "back-ups", HOME / "club-book", HOME / "club-orders"
+
+
+def refused(words, status, line, by="anna", given="", keeps=True):
+    """The office refuses these words, with a line on standard error, and the club keeps its rows; what it prints."""
+    before = everything() if keeps else None
+    found, out, errors = office(*words, by=by, given=given)
+    same(f"office {' '.join(words)}: refused", (found, line in errors), (status, True))
+    if line not in errors:
+        print(f"  it says {errors!r}, {out!r}")
+    if keeps:
+        same(f"office {' '.join(words)}: the rows", everything(), before)
+    return out
+
+
+def lines(*words):
+    return done(*words).splitlines()
+
+
+def asked(server, text, method, path, body=None):
+    return json.loads(server.answer(text, method, path, body)[1])
+
+
+def book(server, text, facility, hour, number, guests=0, on=DAY):
+    return asked(server, text, "PUT", f"/slots/{facility}/{on}/{hour:02d}/bookings/{number}", f'{{"guests":{guests}}}')
+
+
+def slot(server, text, facility, hour):
+    return asked(server, text, "GET", f"/slots/{facility}/{DAY}/{hour:02d}")
+
+
+def account(server, text):
+    return asked(server, text, "GET", "/account")
+
+
+def book_lines(*words):
+    """The lines of the book, without their moments."""
+    return [line.split(" ", 1)[1] for line in lines("log", *words)]
+
+
+def changed_meanwhile(words, shown, change):
+    """What was shown is what is done: if the club has changed between the question and its answer, nothing is."""
+    with begun(*words, *AT) as command:
+        same("what is shown", command.stdout.readline(), f"{shown}\n")
+        change()
+        _, errors = command.communicate("y\n")
+    same(f"a change before the answer: {words}", (command.returncode, "has changed since" in errors), (1, True))

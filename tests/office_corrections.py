@@ -1,0 +1,255 @@
+"""A part of office_holds.py: each correction and what it refuses, and a copy in the club's place, also of a damaged file."""
+
+import os
+import re
+import sqlite3
+import subprocess
+import time
+
+from office_checks import AT, COPIES, DAY, YES, account, asked, book, changed_meanwhile, lines, refused, slot
+from office_room import CLUB, HOME, ROOM, Service, configure, desk, done, everything, mode, office, rows, run_as, same, whole
+
+
+def corrections(server, amy, bob):
+    same("a price", lines("set-facility", "court-1", "--price", "250", *YES), ["price of court-1: 200, then 250; what is booked keeps its charge", "done"])
+    same("its view", slot(server, amy, "court-1", 18), {
+        "facility": "court-1", "day": DAY, "hour": 18, "kind": "court", "price": 250, "places": 4, "taken": 3, "closed": False})
+    same("a booking at it", book(server, amy, "court-1", 19, 9, 0), {"booking": "amy-1/9", "charge": 250, "left": 3})
+    whole("a price")
+    refused(["set-facility", "court-1", "--places", "2", *YES], 1, f"refused: 3 persons are booked {DAY} 18:00")
+    refused(["set-facility", "court-1", "--hours", "8-19", *YES], 1, f"refused: amy-1 9 is booked {DAY} 19:00")
+    refused(["set-facility", "court-1", *YES], 2, "nothing to set")
+    refused(["set-facility", "court-9", "--price", "1", *YES], 1, "refused: there is no facility court-9")
+    for option, value in (("--price", "10000"), ("--places", "0"), ("--places", "51"), ("--hours", "9-9"), ("--hours", "9-25"), ("--price", "1; --")):
+        refused(["set-facility", "court-1", option, value, *YES], 3, "bad value")
+    done("set-facility", "court-1", "--places", "3", "--hours", "7-20", *YES)
+    same("places and hours", lines("show-slot", "court-1", DAY, "18")[5:7], ["places 3", "taken 3"])
+    same("a quota", lines("set-quota", "bob", "0", *YES), ["quota of bob: 2, then 0", "done"])
+    same("bookings above it stay", account(server, bob), {"member": "bob", "balance": 2900, "quota": 0, "open": 1, "spent": 100})
+    done("set-quota", "bob", "9", *YES)
+    refused(["set-quota", "bob", "100", *YES], 3, "bad value")
+    refused(["set-quota", "bo", "1", *YES], 1, "refused: there is no member bo")
+    same("a debit", lines("debit", "amy", "500", *YES), ["balance of amy: 8950, then 8450", "done"])
+    same("the balance", account(server, amy)["balance"], 8450)
+    refused(["debit", "amy", "8451", *YES], 1, "refused: the balance of amy is 8450")
+    refused(["debit", "amy' OR 1=1 --", "1", *YES], 3, "bad value")
+    done("reopen-slot", "court-1", DAY, "9", *YES)
+    same("a slot that is open again", slot(server, amy, "court-1", 9)["closed"], False)
+    refused(["reopen-slot", "court-1", DAY, "9", *YES], 1, "isn't closed")
+    whole("these corrections")
+    done("revoke-key", "amy-1")
+    shown = lines("cancel", "amy-1", "7", *YES)
+    same("a booking of a revoked key", shown, [f"cancels court-1 {DAY} 18:00, 3 persons, 600 points back: amy-1 7, amy", "done"])
+    same("its slot", lines("show-slot", "court-1", DAY, "18")[6], "taken 0")
+    same("its key", lines("show-account", "amy-1", *AT)[1:5], ["balance 9050", "quota 5", "open 2", "spent 450"])
+    refused(["cancel", "amy-1", "7", *YES], 1, "refused: booking 7 of amy-1 is cancelled already")
+    refused(["cancel", "amy-1", "77", *YES], 1, "refused: booking 77 of amy-1 is unknown")
+    refused(["cancel", "amy-7", "7", *YES], 1, "refused: there is no key amy-7")
+    refused(["cancel", "amy-1", *YES], 2, "a NUMBER, or --all")
+    refused(["cancel", "amy-1", "9", "--all", *YES], 2, "a NUMBER, or --all")
+    same("all to come", lines("cancel", "amy-1", "--all", *YES)[2:], ["in all: 2 bookings cancelled, 450 points back to amy", "done"])
+    same("its account", lines("show-account", "amy-1", *AT)[1:5], ["balance 9500", "quota 5", "open 0", "spent 0"])
+    refused(["cancel", "amy-1", "--all", *YES], 1, "no booking to come")
+    whole("cancellations")
+
+
+def tournament_and_rain(server, bob):
+    amy = done("add-key", "amy-3", "amy").strip()
+    book(server, amy, "court-1", 12, 1, 1)
+    book(server, bob, "court-2", 13, 21, 0)
+    done("close-slot", "court-2", DAY, "12")
+    out = refused(["close", DAY, "12-14", "court-1", "court-2", *AT], 1, "refused: not confirmed; nothing changed", given="n\n")
+    same("a tournament that isn't confirmed", out.splitlines()[0], f"cancels court-1 {DAY} 12:00, 2 persons, 500 points back: amy-3 1, amy")
+    refused(["close", DAY, "12-14", "court-1", *AT], 1, "refused: not confirmed; nothing changed", given="")
+    status, out, _ = office("close", DAY, "12-14", "court-1", "court-2", *AT, given="y\n")
+    same("a tournament", (status, out.count("cancels "), out.count("closes ")), (0, 2, 3))
+    for facility in ("court-1", "court-2"):
+        for hour in (12, 13):
+            found = slot(server, amy, facility, hour)
+            same(f"{facility} at {hour}", (found["taken"], found["closed"]), (0, True))
+    same("the money is back", (account(server, amy)["balance"], account(server, bob)["spent"]), (9500, 100))
+    same("a repeat of a cancellation", asked(server, amy, "DELETE", f"/slots/court-1/{DAY}/12/bookings/1"), {"booking": "amy-3/1", "refund": 500})
+    refused(["close", DAY, "12-14", "court-1", "court-2", *YES], 1, "closed already")
+    refused(["close", DAY, "6-14", "court-1", *YES], 1, "refused: court-1 opens 7-20")
+    refused(["close", DAY, "14-12", "court-1", *YES], 3, "bad value")
+    book(server, amy, "court-1", 15, 2, 1)
+    book(server, amy, "court-1", 16, 3, 1)
+    rained = lines("rain", DAY, "court-1", "15", "16", "17", "--yes", "--at", "2026-05-01T18:00")
+    same("rain, afterwards", (len(rained), account(server, amy)["balance"]), (4, 9500))
+    same("its sheet", lines("sheet", DAY)[-1], "Total bookings 1, persons 2, charge 100")
+    refused(["rain", DAY, "court-1", "15", *YES], 1, "nobody has booked")
+    refused(["rain", DAY, "court-1", "24", *YES], 3, "bad value")
+    whole("a tournament and rain")
+
+
+def member_leaves(server, bob):
+    book(server, bob, "court-2", 18, 33, 1)
+    shown = lines("leave", "bob", *YES)
+    same("what is shown", (shown[-3], len(shown)), ("member bob becomes 1, with quota 0 and a balance of 3000", 7))
+    same("the member", rows("SELECT name, credited, quota, used FROM members WHERE name IN ('1', 'bob')"), [("1", 3000, 0, 0)])
+    same("its keys", rows("SELECT name, member, revoked FROM keys WHERE member IN ('1', 'bob') ORDER BY name"), [("1-1", "1", 1), ("1-2", "1", 1)])
+    same("its passes", server.answer(bob, "GET", "/account"), (401, '{"fault":9,"text":"not verified"}'))
+    same("the money", lines("money", "1", "--csv")[1], "1,3000,700,700,3000")
+    for file in (it for it in (CLUB, HOME / "club-wal") if it.exists()):
+        same(f"the name in {file}", b"bob" in file.read_bytes(), False)
+    refused(["leave", "bob", *YES], 1, "refused: there is no member bob")
+    done("add-member", "bob", "1")
+    done("leave", "bob", *YES)
+    same("a second one", rows("SELECT name FROM members WHERE name = '2'"), [("2",)])
+    whole("a member that leaves")
+
+
+def breaks_no_total(server):
+    """A booking that somebody changed by hand: to cancel it would take more places back than the slot has."""
+    text = done("add-key", "amy-4", "amy").strip()
+    book(server, text, "court-2", 20, 5, 1)
+    by_hand("UPDATE bookings SET guests = 3 WHERE pass_key = 'amy-4'")
+    same("check", office("check")[:2], (1, f"slot court-2 {DAY} 20: its bookings have 2 persons more than taken\n"))
+    refused(["cancel", "amy-4", "5", *YES], 1, "nothing changed")
+    done("debit", "amy", "1", *YES)
+    by_hand("UPDATE bookings SET guests = 1 WHERE pass_key = 'amy-4'")
+    whole("a row that is as it was")
+    done("cancel", "amy-4", "5", *YES)
+    whole("its cancellation")
+
+
+def by_hand(sql):
+    """A change by SQLite's shell, once the server has let go of the file."""
+    for _ in range(50):
+        subprocess.run(["systemctl", "kill", "clubdesk@club.service"], check=False)
+        status, _, errors = run_as("clubdesk", "sqlite3", "-bail", CLUB, sql, folder="/")
+        if status == 0:
+            return
+        time.sleep(0.05)
+    raise RuntimeError(errors)
+
+
+def booked_meanwhile(server):
+    text = done("add-key", "amy-5", "amy").strip()
+    book(server, text, "court-2", 17, 1, 0)
+    changed_meanwhile(["close", DAY, "17-18", "court-2"], f"cancels court-2 {DAY} 17:00, 1 person, 200 points back: amy-5 1, amy",
+                      lambda: book(server, text, "court-2", 17, 2, 0))
+    same("the slot", slot(server, text, "court-2", 17)["taken"], 2)
+    whole("a change meanwhile")
+
+
+def back_ups():
+    """Each correction that was carried out left the club as it was before."""
+    made = sorted((HOME / "club-before").iterdir())
+    same("their number", 10 <= len(made) <= 30, True)
+    same("their modes", {mode(it) for it in made}, {"clubdesk 100600"})
+    same("nothing else", [it for it in made if not re.fullmatch(r"20\d\d-\d\d-\d\dT\d\d-\d\d-\d\d-[a-z-]+(-[0-9]+)?", it.name)], [])
+    subprocess.run(["cp", made[-1], ROOM / "before"], check=True)
+    status, out, _ = run_as("root", "clubdesk", "sheet", ROOM / "before", DAY, folder="/")
+    same("the newest is a club", (status, out.splitlines()[0]), (0, f"Day sheet {DAY}"))
+
+
+def keep_copy():
+    """A night's copy; its name."""
+    before = set(COPIES.glob("*"))
+    same("a night's copy", run_as("clubdesk", "/usr/lib/clubdesk/keep_copies", CLUB, COPIES, folder="/")[0], 0)
+    return (set(COPIES.glob("*")) - before).pop().name
+
+
+def restores(server):
+    """A copy in the club's place: what changes is shown, the club as it was becomes a copy, and a file that isn't whole is kept."""
+    configure(BACK_UPS=COPIES)
+    same("no copy of a night", [line for line in lines("copies", "--csv") if "back-up" in line], [])
+    text = done("add-key", "amy-6", "amy").strip()
+    book(server, text, "court-2", 19, 61, 1)
+    book(server, text, "court-2", 8, 62, 0)
+    done("add-member", "finn", "1")
+    night, before = keep_copy(), everything()
+    was = account(server, text)
+    balance = was["balance"]
+    same("a cancellation after the copy", server.answer(text, "DELETE", f"/slots/court-2/{DAY}/19/bookings/61")[0], 200)
+    book(server, text, "court-2", 9, 63, 0)
+    done("credit", "amy", "50")
+    done("add-member", "dora", "3")
+    done("add-key", "dora-1", "dora")
+    done("revoke-key", "amy-5")
+    done("rotate-key", "amy-3", "2000-01-01T00:00")
+    done("set-facility", "boat-1", "--price", "60", *YES)
+    done("close-slot", "court-2", DAY, "11")
+    after = everything()
+    same("the copies", {",".join(line.split(",")[:2]) for line in lines("copies", "--csv")} >= {"copy,is", f"{night},back-up"}, True)
+    shown = [
+        "forgets the member dora", f"balance of amy: {balance + 250}, then {balance}", "forgets the key dora-1: its passes are refused",
+        "takes passes of amy-3 of before it was rotated, and refuses those of after", "takes passes of amy-5, which is revoked now",
+        "the facility boat-1 is as it was", f"opens court-2 {DAY} 11:00 again", f"loses court-2 {DAY} 09:00, 1 person, 200 points: amy-6 63, amy",
+        f"books again court-2 {DAY} 19:00, 2 persons, 400 points: amy-6 61, amy",
+    ]
+    same("a restore that isn't confirmed", refused(["restore", night, *AT], 1, "refused: not confirmed", given="n\n").splitlines()[:-1], shown)
+    starts = server.starts
+    same("a restore", lines("restore", night, *YES), [*shown, "done"])
+    same("the club of the copy", everything(), before)
+    same("a repeat of before", book(server, text, "court-2", 19, 61, 1)["charge"], 400)
+    same("what came after", server.answer(text, "DELETE", f"/slots/court-2/{DAY}/09/bookings/63"), (404, '{"fault":15,"text":"no such booking"}'))
+    same("the server began anew", server.starts > starts, True)
+    whole("a restore")
+    undone = sorted(file for file in os.listdir(f"{HOME}/club-before") if file.endswith("-restore"))[-1]
+    same("its own copy is listed", f"{undone},before a correction" in {",".join(line.split(",")[:2]) for line in lines("copies", "--csv")}, True)
+    same("what undoes it", lines("restore", undone, *YES), [
+        "has the member dora again", f"balance of amy: {balance}, then {balance + 250}", "has the key dora-1 again, and its passes",
+        "takes passes of amy-3 of before it was rotated, and refuses those of after", "refuses passes of amy-5, which is revoked again",
+        "the facility boat-1 is as it was", f"closes court-2 {DAY} 11:00", f"loses court-2 {DAY} 19:00, 2 persons, 400 points: amy-6 61, amy",
+        f"books again court-2 {DAY} 09:00, 1 person, 200 points: amy-6 63, amy", "done",
+    ])
+    same("it is undone", everything(), after)
+    refused(["restore", "2001-01-01T000000Z", *YES], 1, "refused: there is no copy 2001-01-01T000000Z")
+    for wrong in ("../club", "club", "2026-04-20", f"{night}/..", "2026-04-20T12-00-00-debit;"):
+        refused(["restore", wrong, *YES], 3, "bad value")
+    for called, change, line in (
+        ("2026-01-01T000000Z", None, "is no club that clubdesk opens"),
+        ("2026-01-02T000000Z", "UPDATE members SET used = used + 1 WHERE name = 'amy'", "isn't sound: member amy: used is"),
+    ):
+        path = COPIES / called
+        if change:
+            subprocess.run(["cp", COPIES / night, path], check=True)
+            subprocess.run(["sqlite3", path, change], check=True)
+        else:
+            path.write_bytes(b"no club" * 1000)
+        subprocess.run(["chown", "clubdesk:", path], check=True)
+        refused(["restore", called, *YES], 1, line)
+        path.unlink()
+    done("add-key", "amy-7", "amy")
+    changed_meanwhile(["restore", night], "forgets the member dora", lambda: done("credit", "amy", "1"))
+    damaged(server, text, night, before, was)
+
+
+def spoil(what):
+    """Loses the head of the club's file, all its other pages, the first of an index, all its bytes, or the file."""
+    if what == "gone":
+        CLUB.rename(HOME / "mislaid")
+        return
+    first = "SELECT min(rootpage) FROM sqlite_master WHERE type = 'index' AND tbl_name = 'bookings'"
+    (page,) = sqlite3.connect(f"file:{CLUB}?immutable=1", uri=True).execute(first).fetchone()
+    data, lost = CLUB.read_bytes(), b"\xff" * 4096
+    CLUB.write_bytes({
+        "head": lost + data[4096:], "pages": data[:4096] + b"\xff" * (len(data) - 4096),
+        "index": data[:4096 * (page - 1)] + lost + data[4096 * page:], "empty": b"",
+    }[what])
+
+
+def damaged(server, text, night, before, was):
+    """A file whose head is lost, all of whose pages are, or one of an index; one that is empty, and one that isn't there."""
+    def lost_files():
+        return len([it for it in HOME.glob("club-lost-*") if not it.name.endswith("-wal")])
+
+    for what in ("head", "pages", "index", "empty", "gone"):
+        server.stop()
+        desk("sheet", DAY)  # its log is in it now
+        (HOME / "club-wal").unlink(missing_ok=True)
+        spoil(what)
+        if what in ("head", "pages"):
+            same(f"{what}: no club", desk("sheet", DAY)[0], 5)
+        lost = lost_files()
+        out = done("restore", night, *YES)
+        same(f"{what}: what is said", ("and is kept beside the new one" in out, out.splitlines()[-1]), (True, "done"))
+        same(f"{what}: the file is kept", lost_files() - lost, 0 if what == "gone" else 1)
+        same(f"{what}: the club of the copy", everything(), before)
+        same(f"{what}: its owner and mode", mode(CLUB), "clubdesk 100600")
+        server = Service(server.port)
+        same(f"{what}: the desk", account(server, text), was)
+        time.sleep(1)
+    server.stop()

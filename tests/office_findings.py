@@ -1,0 +1,284 @@
+"""A part of office_holds.py: what a hostile clerk, a full memory or disk, and a silent journal do."""
+
+import contextlib
+import json
+import os
+import pwd
+import re
+import shutil
+import signal
+import socket
+import subprocess
+import time
+from concurrent.futures import ThreadPoolExecutor
+from pathlib import Path
+
+import psutil
+
+from office_checks import AT, BOOK, DAY, LINE, TURN, YES, book_lines, refused
+from office_room import CLUB, HOME, NOON, ROOM, begun, done, kill, office, rows, run_as, same, whole
+
+
+def journal_that_is_silent():
+    """Whoever has its socket and takes nothing holds no order: the line goes into the file."""
+    entry = Path("/run/systemd/journal/socket")
+    entry.parent.mkdir(parents=True, exist_ok=True)
+    with socket.socket(socket.AF_UNIX, socket.SOCK_DGRAM) as silent, socket.socket(socket.AF_UNIX, socket.SOCK_DGRAM) as sender:
+        silent.bind(str(entry))
+        entry.chmod(0o666)
+        sender.setblocking(False)
+        with contextlib.suppress(BlockingIOError):
+            while True:
+                sender.sendto(b"MESSAGE=full\n", str(entry))
+        command = begun("credit", "amy", "14")
+        try:
+            command.communicate(timeout=60)
+        except subprocess.TimeoutExpired:
+            kill(command)
+    entry.unlink()
+    same("an order beside a silent journal", command.returncode, 0)
+    same("its line is in the file", BOOK.read_text(encoding="utf-8").splitlines()[-1].split(" ", 1)[1], "anna 0 credit amy 14")
+
+
+def copies_of_one_second():
+    """Corrections of one second keep a copy each."""
+    before = len(list((HOME / "club-before").glob("*-debit*")))
+    with ThreadPoolExecutor(6) as pool:
+        for _ in range(6):
+            pool.submit(done, "debit", "amy", "1", *YES)
+    made = sorted(it.name for it in (HOME / "club-before").glob("*-debit*"))
+    same("a copy of each correction of one second", len(made) - before, 6)
+    same("two of one second", [it for it in made if re.search("-debit-[0-9]$", it)] != [], True)
+    same("they are copies", [it for it in made if it not in done("copies", "--csv")], [])
+
+
+def moments_to_come():
+    """A correction at a moment to come would take for over what is to come."""
+    for words in (["new-year"], ["set-facility", "court-1", "--hours", "8-9"], ["cancel", "amy-1", "--all"], ["restore", "2026-01-01T000000Z"]):
+        refused([*words, "--yes", "--at", "2099-12-31T00:00"], 1, "refused: --at 2099-12-31T00:00 is to come: it is 20")
+    same("in the book", book_lines()[-1], "anna 1 restore 2026-01-01T000000Z --at 2099-12-31T00:00")
+
+
+def lines_that_are_forged():
+    """What ends a line to a terminal, or to a reader of lines, is escaped; so is what is no UTF-8. Orders that aren't confirmed have a line."""
+    before = len(book_lines())
+    forged = f"{NOON}:00 ben 0 credit amy 13"
+    for end in ("\n", "\r", "\x0b", "\x0c", "\x1c", "\x85", "\x9b2J", "\u2028", "\u2029", "\u202e"):
+        same(f"a word with {end!r}", office("credit", f"amy{end}{forged}", "5")[0] != 0, True)
+    for data in (b"amy\xff", b"\xc2\x85\xe2\x80", b"\xed\xb3\xbf"):
+        status, _, errors = office("credit", data, "5")
+        same(f"a word of bytes {data}", (status != 0, "Traceback" in errors), (True, False))
+    found = book_lines()[before:]
+    same("a line for each", (len(found), [it for it in found if not re.match("anna [0-9] credit ", it)]), (13, []))
+    same("each line", [line for line in done("log").split("\n")[:-1] if not re.fullmatch(LINE.replace("[0-9] ", "[0-9?] "), line)], [])
+    same("an escape that a clerk typed", (office("credit", "amy\\x85", "5")[0], book_lines()[-1]), (3, "anna 3 credit 'amy\\\\x85' 5"))
+    before = len(book_lines())
+    same("too many words", office("close", DAY, "10-11", *["court-1"] * 30_000, "--yes")[0], 3)
+    same("a long word", office("credit", "a" * 2_000, "5")[0], 3)
+    same("no line of them", len(book_lines()), before)
+    refused(["debit", "amy", "1", *AT], 1, "refused: not confirmed", given="n\n")
+    same("a correction that isn't confirmed", book_lines()[-1], f"anna 1 debit amy 1 --at {NOON}")
+    refused(["debit", "nobody", "1", *AT], 1, "refused: there is no member nobody")
+    same("one that is refused", book_lines()[-1], f"anna 1 debit nobody 1 --at {NOON}")
+
+
+def orders_that_cannot_be_read():
+    """What a power cut left of a line isn't wiped: it is a line with a question mark."""
+    for left in (b"\0" * 40, b"2026-04-20T12:00:00 b", b'{"moment"', b"2026-04-20T12:00:00 ben 0 credit amy 9\n2026"):
+        TURN.write_bytes(left)
+        done("credit", "amy", "1")
+        same(f"the rest of a line: {left}", re.match("unknown [?] .an order that can't be read. ", book_lines()[-2]) is not None, True)
+    TURN.write_bytes(b"2026-04-20T12:00:00 ben ? cred\xff\n\x85")
+    done("credit", "amy", "1")
+    same("a line that is cut", book_lines()[-2], "ben ? cred\\xff\\x0a\\x85")
+    BOOK.write_text(BOOK.read_text(encoding="utf-8") + "2026-04-20T12:00:00 anna 0 cred", encoding="utf-8")
+    done("credit", "amy", "1")
+    same("below a line that is cut", book_lines()[-2:], ["anna 0 cred", "anna 0 credit amy 1"])
+
+
+def programs_of_a_clerk():
+    """The desk's side takes no program and no folder from a clerk, even where sudo hands the clerk's environment on."""
+    home, lax = Path("/home/anna"), Path("/etc/sudoers.d/zz-lax")
+    (home / "bin").mkdir()
+    (home / "conf").mkdir()
+    home.chmod(0o755)
+    for name in ("clubdesk", "sqlite3", "sh", "cp", "sudo", "mktemp", "cmp"):
+        program = home / "bin" / name
+        program.write_text(f'#!/bin/sh\n[ "$(id -un)" != clubdesk ] || echo "$0" >>{ROOM}/ran-as-desk\nexec {shutil.which(name)} "$@"\n')
+        program.chmod(0o755)
+    (home / "conf" / "club.conf").write_text("FILE=/var/lib/clubdesk/other\nSTOP=/home/anna/bin/sh -c :\n")
+    sudoers = Path("/etc/sudoers")
+    kept = sudoers.read_text(encoding="utf-8")
+    sudoers.write_text(re.sub("^Defaults.*secure_path.*$", "", kept, flags=re.MULTILINE), encoding="utf-8")
+    lax.write_text('Defaults env_keep += "CLUBDESK OFFICE_CONF SUDO PATH"\n')
+    lax.chmod(0o440)
+    ran = ROOM / "ran-as-desk"
+    ran.write_text("")
+    ran.chmod(0o666)
+    variables = f"CLUBDESK={home}/bin/clubdesk SUDO={home}/bin/sudo OFFICE_CONF={home}/conf PATH={home}/bin:{os.environ['PATH']}".split()
+    line = "sudo -n -u clubdesk /usr/bin/office --desk club".split()
+    for words in (["sheet", DAY], ["members"], ["credit", "amy", "1"], ["debit", "amy", "1", *YES]):
+        same(f"{words} with programs of a clerk", run_as("anna", "env", *variables, *line, *words)[0], 0)
+        same(f"{words} at the counter", run_as("anna", "env", *variables[:2], variables[3], "office", "club", *words)[0], 0)
+    same("what ran as the desk", ran.read_text(), "")
+    same("sudo has a path of its own", "secure_path=" in Path("/etc/sudoers.d/clubdesk-office").read_text(encoding="utf-8"), True)
+    same("nobody's club", (HOME / "other").exists(), False)
+    lax.unlink()
+    sudoers.write_text(kept, encoding="utf-8")
+
+
+def inner_words():
+    """What the desk's side is told by the clerk's side alone is tested as well before anything is done."""
+    line = "sudo -n -u clubdesk /usr/bin/office --desk club import-row zed 1 5 zed-1".split()
+    for given in ("", "00", "g" * 64, f"{'0' * 64} x", "0" * 63):
+        same(f"the roots {given}", run_as("anna", *line, given=given)[0], 3)
+    same("nobody is made", rows("SELECT count(*) FROM members WHERE name = 'zed'"), [(0,)])
+
+
+def desk_side(command):
+    """The processes of the desk's user that a command has begun, once one of them has its turn and asks clubdesk."""
+    user = pwd.getpwnam("clubdesk").pw_uid
+    for _ in range(400):
+        with contextlib.suppress(psutil.NoSuchProcess):
+            found = [it for it in psutil.Process(command.pid).children(recursive=True) if it.uids().effective == user]
+            if any("sleep" in it.name() for it in found):
+                return found
+        time.sleep(0.02)
+    return []
+
+
+@contextlib.contextmanager
+def slow_clubdesk():
+    """clubdesk, before whose credit and new key two seconds go by."""
+    program, whole_one = Path("/usr/bin/clubdesk"), ROOM / "clubdesk-whole"
+    shutil.copy2(program, whole_one)
+    program.unlink()
+    program.write_text(f'#!/bin/sh\ncase $1 in credit | add-key) sleep 2 ;; esac\nexec {whole_one} "$@"\n')
+    program.chmod(0o755)
+    ROOM.chmod(0o755)
+    yield
+    program.unlink()
+    shutil.copy2(whole_one, program)
+
+
+def terminals_that_stop():
+    """Ctrl-Z and a terminal's end don't stop an order that has its turn."""
+    with slow_clubdesk():
+        for number in (signal.SIGTSTP, signal.SIGHUP, signal.SIGTTOU):
+            command = begun("credit", "amy", "3")
+            sent = desk_side(command)
+            for it in sent:
+                with contextlib.suppress(psutil.NoSuchProcess):
+                    it.send_signal(number)
+            try:
+                command.communicate(timeout=60)
+            except subprocess.TimeoutExpired:
+                kill(command)
+            same(f"an order at signal {number}", (sent != [], command.returncode), (True, 0))
+        done("credit", "amy", "1")
+
+
+def file_that_came_since():
+    """A file that got the pass's name while its key was made stays, and the pass has another name."""
+    with slow_clubdesk():
+        command = begun("add-key", "amy-8", "amy", "--to", "amy-8")
+        desk_side(command)
+        run_as("anna", "sh", "-c", "echo mine >amy-8")
+        _, errors = command.communicate()
+    same("a file that came since", (command.returncode, errors), (7, "the key amy-8 was changed. There is a file amy-8 by now, so its pass is in amy-8-2\n"))
+    same("it stays", run_as("anna", "cat", "amy-8")[1], "mine\n")
+    same("the pass", run_as("anna", "sh", "-c", "passtool show <amy-8-2")[1].count("key:amy-8"), 1)
+    run_as("anna", "sh", "-c", "mkdir -p came; printf 'name,quota,points\\nIda,1,1\\n' >ida.csv")
+    with slow_clubdesk():
+        command = begun("import", "ida.csv", "--passes", "came", "--yes")
+        desk_side(command)
+        run_as("anna", "sh", "-c", "echo mine >came/ida-1")
+        _, errors = command.communicate()
+    same("an import beside it", (command.returncode, "isn't this row's pass" in errors), (1, True))
+    same("once more", office("import", "ida.csv", "--passes", "came", "--yes")[0], 1)
+    same("it stays, too", run_as("anna", "cat", "came/ida-1")[1], "mine\n")
+    run_as("anna", "rm", "came/ida-1")
+    done("import", "ida.csv", "--passes", "came", "--yes")
+    root = rows("SELECT hex(root) FROM keys WHERE name = 'ida-1'")[0][0]
+    same("and its pass", run_as("anna", "sh", "-c", f"passtool verify --root {root} <came/ida-1")[1], "signed\n")
+
+
+def memory_that_is_full():
+    """Copies are made beside the club where memory has no room, and those of killed commands go with the next one."""
+    memory, user = Path("/dev/shm"), pwd.getpwnam("clubdesk")
+    subprocess.run(["mount", "-o", "remount,size=200k", memory], check=True)
+    (memory / "rest").write_bytes(bytes(190_000))
+    began = time.monotonic()
+    same("a list without memory", office("members")[::2], (0, ""))
+    same("a correction", office("debit", "amy", "1", *YES)[::2], (0, ""))
+    same("its time", time.monotonic() - began < 8, True)
+    (memory / "rest").unlink()
+    subprocess.run(["mount", "-o", "remount,size=50%", memory], check=True)
+    process = psutil.Process(os.getpid())
+    started = Path(f"/proc/{process.pid}/stat").read_text(encoding="ascii").rpartition(")")[2].split()[19]
+    gone, alive = (f".office-{process.pid}-{it}-x" for it in (int(started) - 1, started))
+    for home in (memory, HOME):
+        for called in (gone, alive):
+            (home / called).mkdir()
+            (home / called / "copy").write_bytes(b"roots")
+            os.chown(home / called, user.pw_uid, user.pw_gid)
+    (HOME / "club-before" / ".2026-01-01T00-00-00-debit.new").write_bytes(b"roots")
+    done("members")
+    done("credit", "amy", "1")
+    same("what killed ones left", [it.name for home in (memory, HOME) for it in home.glob(".office-*")], [alive, alive])
+    same("and unnamed copies", list((HOME / "club-before").glob(".*")), [])
+    for home in (memory, HOME):
+        shutil.rmtree(home / alive)
+
+
+def disk_that_is_full():
+    """An order that has no room is done or not, and says which; a correction changes nothing. With room again all goes on."""
+    def credited():
+        return rows("SELECT credited FROM members WHERE name = 'amy'")[0][0]
+
+    before = credited()
+    used = shutil.disk_usage(ROOM).used
+    subprocess.run(["mount", "-o", f"remount,size={used // 1024 + 12}k", ROOM], check=True)
+    ended = [office(*words)[0] for words in (["credit", "amy", "1"], ["debit", "amy", "100", *YES], ["close", "2026-06-01", "9-19", "court-1", *YES], ["credit", "amy", "1"])]
+    copies = office("copies")[0]
+    subprocess.run(["mount", "-o", "remount,size=50%", ROOM], check=True)
+    same("orders on a full disk", (set(ended) <= {0, 5}, 5 in ended), (True, True))
+    same("what was done is what they say", credited() - before, (ended[0] == 0) - 100 * (ended[1] == 0) + (ended[3] == 0))
+    same("closed slots", len(rows("SELECT * FROM slots WHERE closed = 1 AND day = 20605")), 10 * (ended[2] == 0))
+    same("a look", copies, 0)
+    whole("a full disk")
+    done("credit", "amy", "1")
+    done("debit", "amy", "1", *YES)
+
+
+def titles_of_the_page():
+    """club.json has each title as it is written, or the line is refused by its number."""
+    def made(text):
+        titles = ROOM / "titles"
+        titles.write_bytes(text)
+        line = ["env", "RULE=UTC0", "CLUB=Club", f"TITLES={titles}", "/usr/lib/clubdesk/club_json", CLUB, "Etc/UTC"]
+        return run_as("root", *line, folder="/")
+
+    status, out, errors = made(b'\xef\xbb\xbf# titles\r\n\r\ncourt-1\t"Centre" Court\tone \r\ncourt-2 Pl\xc3\xa4tzchen')
+    found = {it["name"]: it.get("title") for it in json.loads(out or '{"facilities":[]}')["facilities"]}
+    same("titles", (status, errors, found), (0, "", {"court-1": '"Centre" Court one', "court-2": "Plätzchen", "boat-1": None}))
+    for text, line in ((b"court-1 A\ncourt-2 B\ncourt-1 C\n", "line 3: court-1 has a title already, in line 1"), (b"\ncourt-1 Pl\xe4tze\n", "line 2: it is no UTF-8"),
+                       (b"court-9 Nowhere\n", "line 1: the club has no facility court-9"), (b"court-1\n", "line 1: court-1 has no title"),
+                       (b"court-1 a\x00b\n", "line 1: its title has a letter"), (b"court-1 " + b"x" * 81, "line 1: its title has more than 80 letters")):
+        same(f"titles {text[:30]}", [it for it in [made(text)] if it[0] != 1 or line not in it[2]], [])
+
+
+def findings():
+    titles_of_the_page()
+    journal_that_is_silent()
+    copies_of_one_second()
+    moments_to_come()
+    lines_that_are_forged()
+    orders_that_cannot_be_read()
+    programs_of_a_clerk()
+    inner_words()
+    terminals_that_stop()
+    file_that_came_since()
+    memory_that_is_full()
+    disk_that_is_full()
+    whole("what others did")

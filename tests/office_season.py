@@ -1,0 +1,231 @@
+"""A part of office_holds.py: a season's club, with lists, callers, persons, undo, letters, and files of old years."""
+
+import datetime
+import json
+import os
+import pwd
+import re
+import shutil
+from pathlib import Path
+
+from office_checks import BOOK, DAY, asked, book, book_lines, lines, refused
+from office_room import CLUB, HOME, ROOM, Service, configure, desk, done, everything, mode, office, rows, run_as, same, whole
+
+
+def make_season_club():
+    """Another club of the machine, with members of a list, and its server at today's clock."""
+    today = datetime.date.today()
+    for file in HOME.glob("club*"):
+        shutil.rmtree(file) if file.is_dir() else file.unlink()
+    pages = ROOM / "pages"
+    pages.mkdir()
+    os.chown(pages, *pwd.getpwnam("clubdesk")[2:4])
+    configure(PAGES=pages, ZONE_NAME="Etc/UTC", TITLE='"Our club"', SITE="https://desk.example.org")
+    done("new")
+    done("add-facility", "court-1", "court", "4", "200", "8", "22")
+    done("add-facility", "boat-1", "boat", "2", "50", "6", "20")
+    same("the page's list, by itself", [it["name"] for it in json.loads((pages / "club.json").read_text())["facilities"]], ["court-1", "boat-1"])
+    same("its mode", mode(pages / "club.json"), "clubdesk 100644")
+    made = "Vorname;Nachname;E-Mail;Telefon;Straße\nKäthe;Möller;k.m@example.org;+49 171 22;Weg 1\n=Ali;Öz;;;\nBob;Ray;;;\n"
+    Path("/home/anna/season.csv").write_bytes(made.encode("latin-1"))
+    out = done("import", "season.csv", "--quota", "5", "--points", "1000", "--passes", "season", "--yes").splitlines()
+    same("how the list was read", " ".join(" ".join(out[:3]).split()).partition(" line ")[0],
+         "read as Latin-1 with ; between the columns: surname = Nachname, first name = Vorname, mail = E-Mail, telephone = Telefon; passed over: Straße")
+    configure(PAGES=pages, ZONE_NAME="Etc/UTC", TITLE='"Our club"', SITE="https://desk.example.org")
+    server = Service(at=f"{today}T08:00")
+    lines_of = {"PAGES": pages, "ZONE_NAME": "Etc/UTC", "TITLE": '"Our club"', "SITE": "https://desk.example.org", "PORT": server.port}
+    configure(**lines_of)
+    return server, pages, lines_of, today + datetime.timedelta(1)
+
+
+def lists_as_they_are_written():
+    """A list with tabs, a byte-order mark, in UTF-16, or with columns of other names, is read as it is meant, which is said first."""
+    for called, data, words, read in (
+        ("tabs.csv", "name\tquota\tpoints\nTab Ulator\t1\t5\n".encode(), [], "read as UTF-8 with tab between the columns: name = name, quota = quota, points = points"),
+        ("mark.csv", "\ufeffname,quota,points\nBörte Mark,1,5\n".encode(), [], "read as UTF-8 with , between the columns: name = name, quota = quota, points = points"),
+        ("wide.csv", "name;quota;points\nWíde Ünit;1;5\n".encode("utf-16"), [], "read as UTF-16 with ; between the columns: name = name, quota = quota, points = points"),
+        ("map.csv", "Player,Balance,Team\nMap Ola,5,A\n".encode(), ["--columns", "name=Player,points=Balance", "--quota", "1"],
+         "read as UTF-8 with , between the columns: name = Player, points = Balance; passed over: Team"),
+    ):
+        Path(f"/home/anna/{called}").write_bytes(data)
+        out = done("import", called, *words, "--passes", "written", "--yes")
+        same(f"how {called} was read", " ".join(out.partition("\nline")[0].split()), read)
+    same("the members", rows("SELECT name, quota, credited FROM members WHERE name IN ('tab-ulator', 'boerte-mark', 'wide-uenit', 'map-ola') ORDER BY name"),
+         [("boerte-mark", 1, 5), ("map-ola", 1, 5), ("tab-ulator", 1, 5), ("wide-uenit", 1, 5)])
+    same("their names as they are written", [it.split(",", 5)[5] for it in lines("members", "--csv") if it.startswith(("boerte", "wide"))], ["Börte Mark", "Wíde Ünit"])
+    same("a map that is none", office("import", "map.csv", "--columns", "name=Nobody")[0], 3)
+
+
+def for_callers(server, day):
+    """A booking and a cancellation for a member who calls are requests at the desk, under its rules."""
+    shown = done("book", "moeller-kaethe", "court-1", str(day), "18", "1")
+    same("a booking", shown, f"booked court-1 {day} 18:00 for moeller-kaethe, 2 persons, 400 points: moeller-kaethe-office 1\n")
+    same("the key of the office", rows("SELECT member, revoked FROM keys WHERE name = 'moeller-kaethe-office'"), [("moeller-kaethe", 0)])
+    same("its charge", rows("SELECT used FROM members WHERE name = 'moeller-kaethe'"), [(400,)])
+    refused(["book", "moeller-kaethe", "court-1", str(day), "18", "1"], 1, "is booked for moeller-kaethe already: moeller-kaethe-office 1; --again")
+    same("once more", done("book", "moeller-kaethe", "court-1", str(day), "18", "--again").split(",")[0], f"booked court-1 {day} 18:00 for moeller-kaethe")
+    refused(["book", "oez-ali", "court-1", str(day), "18", "3"], 1, "refused: the desk says: no places", keeps=False)
+    refused(["book", "oez-ali", "court-1", str(day), "23"], 1, "refused: the desk says: not bookable")
+    refused(["book", "nobody", "court-1", str(day), "18"], 1, "refused: there is no member nobody")
+    refused(["book", "oez-ali", "court-9", str(day), "18"], 1, "refused: there is no facility court-9")
+    refused(["book", "oez-ali", "court-1", str(day), "18", "50"], 3, "bad value")
+    refused(["cancel-for", "moeller-kaethe", "court-1", str(day), "18"], 1, "has several bookings")
+    shown = done("cancel-for", "moeller-kaethe", "court-1", str(day), "18", "--number", "1")
+    same("a cancellation", shown, f"cancelled court-1 {day} 18:00 of moeller-kaethe, 400 points back: moeller-kaethe-office 1\n")
+    text = (Path("/home/anna/season") / "ray-bob-1").read_text(encoding="ascii").strip()
+    book(server, text, "court-1", 20, 7, 0, str(day))
+    same("of the member's own key", done("cancel-for", "ray-bob", "court-1", str(day), "20").split(":")[-1], " ray-bob-1 7\n")
+    refused(["cancel-for", "ray-bob", "court-1", str(day), "20"], 1, "has no booking of")
+    same("its repeat", asked(server, text, "DELETE", f"/slots/court-1/{day}/20/bookings/7"), {"booking": "ray-bob-1/7", "refund": 200})
+    same("the book", book_lines("book")[0], f"anna 0 book moeller-kaethe court-1 {day} 18 1")
+    whole("bookings for callers")
+
+
+def in_use_of_persons(server, lines_of, day):
+    """Names as they are written are in lists, and whom to tell after a correction; none is in the book, the log or a copy."""
+    same("members", lines("members", "--csv")[1:], [
+        'moeller-kaethe,800,5,1,2,"Möller, Käthe"', 'oez-ali,1000,5,0,2,"Öz, =Ali"', 'ray-bob,1000,5,0,1,"Ray, Bob"'])
+    same("the file", mode(HOME / "club-people.csv"), "clubdesk 100600")
+    shown = done("close", str(day), "18", "court-1", "--yes").splitlines()
+    same("whom to tell", shown[-3:], ["done", "To tell:", "    Möller, Käthe  k.m@example.org  +49 171 22"])
+    mailer = ROOM / "sendmail"
+    mailer.write_text(f"#!/bin/sh\ncat >>{ROOM}/mails\n")
+    mailer.chmod(0o755)
+    (ROOM / "mails").write_text("")
+    (ROOM / "mails").chmod(0o666)
+    shutil.copy(mailer, "/usr/sbin/sendmail") if not Path("/usr/sbin/sendmail").exists() else None
+    done("undo", "--yes")
+    same("the booking again", lines("show-slot", "court-1", str(day), "18")[6:], ["taken 1", "closed no"])
+    text = (Path("/home/anna/season") / "ray-bob-1").read_text(encoding="ascii").strip()
+    book(server, text, "court-1", 18, 8, 0, str(day))
+    shown = done("close", str(day), "18", "court-1", "--mail", "--yes").splitlines()
+    same("who is mailed", [it for it in shown if "mail" in it][-2:], ["Möller, Käthe: mailed", "Ray, Bob: no mail address is known"])
+    given = '{"name": "Bob Ray", "mail": "b@example.org", "telephone": "=1"}'
+    line = "sudo -n -u clubdesk /usr/bin/office --desk club set-person ray-bob".split()
+    same("a telephone number that is none", run_as("anna", *line, given=given)[0], 3)
+    for name, cell in (("=SUM(A1)", "'=SUM(A1)"), ("+1", "'+1"), ("@x", "'@x"), ("-1", "'-1"), ("Bob Ray", "Bob Ray")):
+        same("a person", run_as("anna", *line, given=given.replace("=1", "+1").replace("Bob Ray", name))[:2], (0, "done\n"))
+        same(f"the cell {name}", [it for it in lines("members", "--csv") if it.startswith("ray-bob")], [f"ray-bob,1000,5,0,1,{cell}"])
+    kept = [BOOK.read_text(encoding="utf-8"), (ROOM / "club.log").read_text(encoding="utf-8", errors="replace")]
+    same("nothing of a person in the book or the log", [it for it in ("example.org", "Käthe", "171") for text in kept if it in text], [])
+    same("nor in a copy", [it.name for it in (HOME / "club-before").iterdir() if b"example.org" in it.read_bytes()], [])
+    done("leave", "ray-bob", "--yes")
+    same("who leaves is no person", "ray-bob" in (HOME / "club-people.csv").read_text(encoding="utf-8"), False)
+
+
+def undone(server, day):
+    """Undo puts back the rows of the last correction, if nobody has touched them since."""
+    def as_it_is():
+        return [line for line in everything() if "INSERT" in line]
+
+    for words in (["debit", "oez-ali", "5"], ["set-quota", "oez-ali", "9"], ["close", str(day), "9-12", "court-1", "boat-1"], ["leave", "oez-ali"],
+                  ["set-facility", "boat-1", "--price", "60"]):
+        before = as_it_is()
+        done(*words, "--yes")
+        same(f"{words}: it changes", as_it_is() != before, True)
+        done("undo", "--yes")
+        same(f"{words}: undone", sorted(as_it_is()), sorted(before))
+        whole(f"an undone {words[0]}")
+    refused(["undo", "--yes"], 1, "refused: there is no correction to undo")
+    done("debit", "oez-ali", "5", "--yes")
+    done("credit", "oez-ali", "1")
+    refused(["undo", "--yes"], 1, "refused: the member oez-ali has changed since")
+    same("the file of an undo", mode(HOME / "club-undo"), "clubdesk 100600")
+
+
+def season(pages, day):
+    """Points for all are given once under a name, each week's hours are closed with a reason, a lost pass is replaced."""
+    count = len(rows("SELECT name FROM members WHERE quota > 0"))
+    before = dict(rows("SELECT name, credited FROM members"))
+    same("it asks", office("credit-all", "500", "--as", "season-2027", given="n\n")[0], 1)
+    same("nobody has any", dict(rows("SELECT name, credited FROM members")), before)
+    out = done("credit-all", "500", "--as", "season-2027", "--yes")
+    same("points for all", out, f"{count} members credited with 500 points, as season-2027\n")
+    same("each has them once", {name: points - before[name] for name, points in rows("SELECT name, credited FROM members WHERE quota > 0")},
+         dict.fromkeys((it for it, in rows("SELECT name FROM members WHERE quota > 0")), 500))
+    refused(["credit-all", "500", "--as", "season-2027", "--yes"], 1, f"refused: season-2027 was given already: 500 points to each of {count} members")
+    refused(["credit-all", "7", "--as", "season-2027", "--yes"], 1, "refused: season-2027 was given already")
+    first = day + datetime.timedelta((1 - day.weekday()) % 7)
+    last = first + datetime.timedelta(20)
+    shown = done("close", f"{first}..{last}", "18-20", "boat-1", "--weekday", "tue", "--why", "Training der Jugend", "--yes").splitlines()
+    same("three weeks", (len(shown), shown[-2:]), (8, ["in all: 6 slots closed", "done"]))
+    closures = json.loads((pages / "club.json").read_text(encoding="utf-8"))["closures"]
+    same("the page's list has the reason", closures, [
+        {"facility": "boat-1", "day": str(first + datetime.timedelta(7 * it)), "from": 18, "until": 20, "why": "Training der Jugend"} for it in range(3)])
+    done("reopen-slot", "boat-1", str(first), "18-20", "--yes")
+    same("one that is open again has none", len(json.loads((pages / "club.json").read_text(encoding="utf-8"))["closures"]), 2)
+    refused(["close", f"{first}..{first}", "9", "boat-1", "--weekday", "wed", "--yes"], 1, "no day of these is of that weekday")
+    for wrong in ("2026-12-09..2026-12-01", "2026-01-01..2028-01-01", "2026-12-01.."):
+        refused(["close", wrong, "9", "boat-1", "--yes"], 3, "bad value")
+    text = run_as("anna", "cat", "season/oez-ali-1")[1]
+    done("lost-pass", "oez-ali-1", "--to", "ali-new")
+    root = rows("SELECT hex(root) FROM keys WHERE name = 'oez-ali-1'")[0][0]
+    same("the new pass", run_as("anna", "sh", "-c", f"passtool verify --root {root} <ali-new")[1], "signed\n")
+    same("the lost one", run_as("anna", "passtool", "verify", "--root", root, given=text)[1], "not signed\n")
+
+
+def letters_and_records(day):
+    out = done("letters", "moeller-kaethe-1", "oez-ali-1", "--passes", "season")
+    same("letters", out, "2 sheets for 2 members are in letters.html\n")
+    page = run_as("anna", "cat", "letters.html")[1]
+    texts = [run_as("anna", "cat", f"season/{key}")[1].strip() for key in ("moeller-kaethe-1", "oez-ali-1")]
+    same("their links", [page.count(f'href="https://desk.example.org/book.html#{text}"') for text in texts], [1, 1])
+    same("their codes", page.count("<svg"), 2)
+    same("whose they are", page.count('<p class="to">Möller, Käthe</p>'), 1)
+    same("their mode", run_as("anna", "stat", "-c", "%a", "letters.html")[1], "600\n")
+    same("a file that is there", office("letters", "--passes", "season")[0], 1)
+    same("a pass that isn't there", office("letters", "nobody-1", "--passes", "season", "--to", "l.html")[0], 1)
+    run_as("anna", "sh", "-c", f"echo {'00' * 32} >season/root-1")
+    same("a root is no pass", office("letters", "root-1", "--passes", "season", "--to", "l.html")[0], 7)
+    wanted = run_as("root", "/usr/lib/clubdesk/record", CLUB, "moeller-kaethe-office", folder="/")[1]
+    same("a record", done("record", "moeller-kaethe-office"), wanted)
+    refused(["record", "nobody-1"], 1, "refused: there is no key nobody-1")
+
+
+def spare_passes(lines_of):
+    """Each member's spare passes, by an import that is given again, are the second half of the member's letter."""
+    configure(**lines_of, SPARES=2)
+    run_as("anna", "sh", "-c", "head -n 3 season.csv >spares.csv")
+    done("import", "spares.csv", "--quota", "5", "--points", "1000", "--passes", "season", "--yes")
+    spares = ["moeller-kaethe-lend-1", "moeller-kaethe-lend-2"]
+    same("spare keys", rows("SELECT name, revoked FROM keys WHERE member = 'moeller-kaethe' AND name LIKE '%-lend-%' ORDER BY name"), [(it, 0) for it in spares])
+    same("nobody has points again", rows("SELECT count(*) FROM members WHERE credited > 2000"), [(0,)])
+    out = done("letters", "moeller-kaethe-1", *spares, "--passes", "season", "--to", "spares.html")
+    same("a letter with them", out, "1 sheets for 1 members are in spares.html\n")
+    page = run_as("anna", "cat", "spares.html")[1]
+    texts = [run_as("anna", "cat", f"season/{key}")[1].strip() for key in spares]
+    same("its half to cut off", (page.count("<svg"), page.count('class="half"'), page.count(f"book.html#spare={';'.join(texts)}")), (2, 1, 2))
+    same("no other way to one", office("letters", "--spare")[0], 2)
+    configure(**lines_of)
+
+
+def old_years(server):
+    """An old year's file has lists, and nothing else; the board's page reads it too."""
+    with_past = HOME / "club"
+    year = datetime.date.today().year
+    server.stop()
+    desk("sheet", DAY)
+    days = (datetime.date(year - 1, 5, 4) - datetime.date(1970, 1, 1)).days
+    run_as("clubdesk", "sqlite3", with_past, f"""INSERT INTO keys VALUES ('old-1', 'oez-ali', zeroblob(32), 0);
+        INSERT INTO bookings VALUES ('old-1', 1, 'court-1', {days}, 10, 1, 400, 2, 0, 0), ('old-1', 2, 'court-1', {days + 7}, 10, 0, 200, 3, 1, 100);
+        INSERT INTO slots VALUES ('court-1', {days}, 10, 0, 2);
+        UPDATE members SET used = used + 500, credited = credited + 500 WHERE name = 'oez-ali'""", folder="/")
+    whole("a past year")
+    before = done("report", str(year - 1), "--to", "before.html")
+    done("new-year", "--before", f"{year}-01-01", "--yes")
+    same("the page is in", before.split(",")[0].strip(), "the page is in before.html")
+    done("report", str(year - 1), "--to", "after.html")
+    first, second = (re.sub("<p class=\"note\">made on.*?</p>", "", run_as("anna", "cat", it)[1]) for it in ("before.html", "after.html"))
+    same("the board's page of a year is the same after it left the file", second == first, True)
+    same("its numbers", re.findall("<tr><td>(bookings|points kept|points refunded|slots used|of them cancelled)</td><td>([0-9,]+)</td>", first),
+         [("bookings", "2"), ("of them cancelled", "1"), ("slots used", "1"), ("points refunded", "100"), ("points kept", "500")])
+    done("report", str(year - 1), "--no-names", "--to", "nobody.html")
+    same("its names", ["oez-ali" in run_as("anna", "cat", it)[1] for it in ("after.html", "nobody.html")], [True, False])
+    old = f"club@{year - 1}"
+    same("an old year's bookings", [it.split(",")[:4] for it in office("bookings", "oez-ali", "--all", "--csv", club=old)[1].splitlines()[1:]],
+         [[str(datetime.date(year - 1, 5, 4)), "10", "court-1", "oez-ali"], [str(datetime.date(year - 1, 5, 11)), "10", "court-1", "oez-ali"]])
+    same("its sheet", office("sheet", f"{year - 1}-05-04", club=old)[1].splitlines()[1].split()[:2], ["court-1", "10:00"])
+    for words in (["credit", "oez-ali", "5"], ["debit", "oez-ali", "5", "--yes"], ["add-key", "x-1", "oez-ali"], ["new"], ["import", "season.csv"], ["credit-all", "5", "--as", "x", "--yes"]):
+        same(f"{old} {words}", office(*words, club=old)[::2], (1, f"refused: {old} is an old year: it has lists, sheets and records alone\n"))
+    same("no such year", office("members", club="club@2099")[0], 1)
+    same("no year", office("members", club="club@x")[0], 3)
