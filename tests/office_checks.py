@@ -1,4 +1,4 @@
-"""What the parts of office_holds.py share: refusals, requests at the desk, and the lines of the book."""
+"""Refusals, requests at the desk, and the lines of the book, for the parts of office_holds.py."""
 
 import json
 
@@ -50,7 +50,7 @@ def book_lines(*words):
 
 
 def changed_meanwhile(words, shown, change):
-    """What was shown is what is done: if the club has changed between the question and its answer, nothing is."""
+    """Nothing is done if the club has changed between the question and its answer."""
     with begun(*words, *AT) as command:
         same("what is shown", command.stdout.readline(), f"{shown}\n")
         change()

@@ -232,7 +232,7 @@ def spoil(what):
 
 
 def damaged(server, text, night, before, was):
-    """A file whose head is lost, all of whose pages are, or one of an index; one that is empty, and one that isn't there."""
+    """A file that lost its head, all its other pages, or a page of an index; one that is empty, and one that isn't there."""
     def lost_files():
         return len([it for it in HOME.glob("club-lost-*") if not it.name.endswith("-wal")])
 

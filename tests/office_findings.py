@@ -20,7 +20,7 @@ from office_room import CLUB, HOME, NOON, ROOM, begun, done, kill, office, rows,
 
 
 def journal_that_is_silent():
-    """Whoever has its socket and takes nothing holds no order: the line goes into the file."""
+    """A program that has its socket and takes nothing holds no order: the line goes into the file."""
     entry = Path("/run/systemd/journal/socket")
     entry.parent.mkdir(parents=True, exist_ok=True)
     with socket.socket(socket.AF_UNIX, socket.SOCK_DGRAM) as silent, socket.socket(socket.AF_UNIX, socket.SOCK_DGRAM) as sender:
@@ -60,7 +60,7 @@ def moments_to_come():
 
 
 def lines_that_are_forged():
-    """What ends a line to a terminal, or to a reader of lines, is escaped; so is what is no UTF-8. Orders that aren't confirmed have a line."""
+    """Letters that end a line, to a terminal or a reader of lines, are escaped. So are bytes that are no UTF-8. Orders that aren't confirmed have a line."""
     before = len(book_lines())
     forged = f"{NOON}:00 ben 0 credit amy 13"
     for end in ("\n", "\r", "\x0b", "\x0c", "\x1c", "\x85", "\x9b2J", "\u2028", "\u2029", "\u202e"):
@@ -83,7 +83,7 @@ def lines_that_are_forged():
 
 
 def orders_that_cannot_be_read():
-    """What a power cut left of a line isn't wiped: it is a line with a question mark."""
+    """The rest of a line that a power cut left isn't wiped: it is a line with a question mark."""
     for left in (b"\0" * 40, b"2026-04-20T12:00:00 b", b'{"moment"', b"2026-04-20T12:00:00 ben 0 credit amy 9\n2026"):
         TURN.write_bytes(left)
         done("credit", "amy", "1")
@@ -128,7 +128,7 @@ def programs_of_a_clerk():
 
 
 def inner_words():
-    """What the desk's side is told by the clerk's side alone is tested as well before anything is done."""
+    """Words that the desk's side takes from the clerk's side alone are tested as well before anything is done."""
     line = "sudo -n -u clubdesk /usr/bin/office --desk club import-row zed 1 5 zed-1".split()
     for given in ("", "00", "g" * 64, f"{'0' * 64} x", "0" * 63):
         same(f"the roots {given}", run_as("anna", *line, given=given)[0], 3)

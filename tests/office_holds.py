@@ -4,11 +4,12 @@
 Each is compared with the desk. So are what it refuses, passes and the book. Wants root, for a machine of its own (tests/office_room.sh).
 
 The office's wrapper, deploy/office, as clerks use it who are not root: by the sudoers lines of deploy/office.sudoers, beside a server
-that a small manager of services runs. Each command, what it shows, each list and each correction against show-account, the sheet, the desk's replies
-and the totals; what it refuses; passes and their files; the book, in a file and in systemd's journal; a copy that is put in the club's
-place, also of a file that is damaged or gone; and what a clerk or a machine may do to it: forged lines, another's programs, a stopped
-terminal, a journal that is silent, a full memory, two corrections of one second. Its parts are office_orders.py, office_corrections.py,
-office_season.py and office_findings.py. Wants root, for a machine of its own (tests/office_room.sh). Not part of the gate.
+that a small manager of services runs. Its parts are:
+- office_orders.py: commands, looks and lists against the desk's replies; passes and their files; the book, in a file and in the journal;
+- office_corrections.py: corrections against show-account, the sheet and the totals; a copy in the club's place, also of a damaged file;
+- office_season.py: a season's points, closures, letters, persons, undo, and files of old years;
+- office_findings.py: forged lines, another's programs, a stopped terminal, a silent journal, a full memory or disk.
+Wants root, for a machine of its own (tests/office_room.sh). Not part of the gate.
   tests/office_holds.py [findings|season]    findings: what others may do, alone; season: a season's club, alone
 """
 # groups: package root
