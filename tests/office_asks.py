@@ -127,8 +127,8 @@ def refused_in_german():
         (["credit", "mueller-bob", "x"], 3, "falscher Wert\n"),
         (["restore", "2001-01-01T000000Z", "--yes"], 1, "abgelehnt: es gibt keine Kopie 2001-01-01T000000Z; `office club copies` zeigt sie\n"),
         (["record", "nobody-1"], 1, "abgelehnt: es gibt keinen Schlüssel nobody-1\n"),
-        (["import", "nothing.csv"], 7, "nothing.csv ist nicht zu lesen: "),
-        (["book", "mueller-bob", "court-1", "+1", "23"], 1, "abgelehnt: der Empfang sagt: nicht zu buchen"),
+        (["import", "nothing.csv"], 7, "nothing.csv lässt sich nicht lesen: "),
+        (["book", "mueller-bob", "court-1", "+1", "23"], 1, "abgelehnt: der Server sagt: nicht zu buchen"),
     ):
         found, _, errors = german(*words)
         same(f"{words} in German", (found, errors if line.endswith("\n") else errors[:len(line)]), (status, line))
