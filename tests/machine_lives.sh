@@ -153,7 +153,7 @@ it.close()
 sys.exit(it.exitstatus)
 MENU
 holds 'the third command, by its menu' /usr/bin/python3 -B menu.py "$leader"
-cp first/home/anna/moeller-amy-1 first/root/pass 2>/dev/null || cp first/home/anna/amy-moeller-1 first/root/pass
+cp first/home/anna/passes/moeller-amy-1 first/root/pass 2>/dev/null || cp first/home/anna/passes/amy-moeller-1 first/root/pass
 trusts_authority
 day=$(TZ=Europe/Berlin date -d '+2 days' +%F)
 soon 30 'the first booking' sh -c 'true'

@@ -8,7 +8,7 @@ members fit, or something is odd, the office asks. Refusals, lists and usage are
 Not part of the gate.
 """
 # groups: package root
-# wants: sudo sqlite3 openssl util-linux bsdutils iproute2 systemd python3-psutil python3-pexpect
+# wants: sudo sqlite3 openssl util-linux bsdutils iproute2 systemd qrencode python3-psutil python3-pexpect
 
 import datetime
 import subprocess
@@ -78,10 +78,12 @@ def week():
     """The tasks of a week."""
     shown = task("a new member", ("Name", "Özdemir, Ayşe"), ("Open bookings", "5"), ("Points", "3000"), ("Do it", ENTER))
     shown.has("a new member", "-> oezdemir-ayse", "office club add-member oezdemir-ayse 5", "office club credit oezdemir-ayse 3000",
-              "the pass is in the file oezdemir-ayse-1")
+              "the pass is in the file passes/oezdemir-ayse-1",
+              "office club letters oezdemir-ayse-1 --to letter-oezdemir-ayse-1.html", "1 sheets for 1 members are in letter-oezdemir-ayse-1.html")
+    same("her letter", run_as("anna", "sh", "-c", 'grep -c "book.html#$(cat passes/oezdemir-ayse-1)" letter-oezdemir-ayse-1.html')[1], "1\n")
     same("a new member", rows("SELECT name, credited, quota FROM members WHERE name = 'oezdemir-ayse'"), [("oezdemir-ayse", 3000, 5)])
     root = rows("SELECT hex(root) FROM keys WHERE name = 'oezdemir-ayse-1'")[0][0]
-    same("her pass", run_as("anna", "sh", "-c", f"passtool verify --root {root} <oezdemir-ayse-1")[1], "signed\n")
+    same("her pass", run_as("anna", "sh", "-c", f"passtool verify --root {root} <passes/oezdemir-ayse-1")[1], "signed\n")
     shown = task("credit points", ("Member", "bäck kar"), ("Number", "2"), ("Points", "1.000"), ("Do it", "y"))
     shown.has("a credit", "bäck kar may be", " 1 baecker-karin", " 2 baecker-karl", "office club credit baecker-karl 1000", "done")
     same("a credit", rows("SELECT credited FROM members WHERE name = 'baecker-karl'"), [(6000,)])
@@ -156,7 +158,7 @@ def calls():
     task("name, mail", ("Member", "bob"), ("Name", "Bob Müller"), ("Mail", "bob@example.org"), ("Telephone", "+49 1")).has("a person", "done")
     task("what a member has", ("Member", "müller bob")).has("a member by the name as it is written", "Bob Müller")
     task("a lost list", ("Member", "bob"), ("none: ", "2")).has("a lost list", "record of mueller-bob-office")
-    task("one more key", ("Member", "bob"), ("Do it", ENTER)).has("one more key", "the pass is in the file mueller-bob-2")
+    task("one more key", ("Member", "bob"), ("Do it", ENTER)).has("one more key", "the pass is in the file passes/mueller-bob-2", "are in letter-mueller-bob-2.html")
     task("the sheet", ("Day", "+2")).has("a sheet", "Day sheet", "mueller-bob-office")
     task("who has booked a day", ("Day", "+2")).has("a day", "mueller-bob-office")
     task("who has booked one", ("Court", "court-2")).has("a court", "mueller-bob-office")
@@ -165,9 +167,9 @@ def calls():
 
 def season_start():
     """The season's start, by the menu: members from a list, letters, points for all, training, a new court, a new year, the board's page."""
-    run_as("anna", "sh", "-c", "printf 'Name;Buchungen;Punkte\\nIda Lund;3;500\\nÖzil, Can;3;500\\n' >members.csv; mkdir -p passes")
+    run_as("anna", "sh", "-c", "printf 'Name;Buchungen;Punkte\\nIda Lund;3;500\\nÖzil, Can;3;500\\n' >members.csv")
     task("members from a list", ("File", "members.csv"), ("Shall", "y")).has("a list", "read as UTF-8 with ;", "ida-lund: done", "2 of 2 rows done")
-    task("letters with").has("letters", f"office club letters --to letters-{TODAY}.html", "sheets for 2 members")
+    task("letters with").has("letters", f"office club letters --to letters-{TODAY}.html", "sheets for 4 members")
     task("the season's points", ("Points", "300"), ("A name", "season 2027"), ("Shall", "y")).has("points for all", "office club credit-all 300 --as season-2027", "members credited with 300 points")
     same("they have them", rows("SELECT credited FROM members WHERE name = 'ida-lund'"), [(800,)])
     task("the season's points", ("Points", "300"), ("A name", "season 2027")).has("once", "season-2027 was given already")

@@ -109,6 +109,9 @@ def in_use_of_persons(server, lines_of, day):
     kept = [BOOK.read_text(encoding="utf-8"), (ROOM / "club.log").read_text(encoding="utf-8", errors="replace")]
     same("nothing of a person in the book or the log", [it for it in ("example.org", "Käthe", "171") for text in kept if it in text], [])
     same("nor in a copy", [it.name for it in (HOME / "club-before").iterdir() if b"example.org" in it.read_bytes()], [])
+    copy = [it for it in lines("copies", "--csv") if "-close" in it][-1].split(",")[0]
+    shown = done("restore", copy, "--yes").splitlines()
+    same("whom a restore concerns", shown[shown.index("done"):], ["done", "To tell:", "    Möller, Käthe  k.m@example.org  +49 171 22", "    Bob Ray  b@example.org  +1"])
     done("leave", "ray-bob", "--yes")
     same("who leaves is no person", "ray-bob" in (HOME / "club-people.csv").read_text(encoding="utf-8"), False)
 

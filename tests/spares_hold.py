@@ -61,7 +61,11 @@ def by_the_menu():
     terminal.close()
     same("the menu's status", terminal.exitstatus, 0)
     member, = next(iter(rows("SELECT name FROM members WHERE credited = 3000")))
-    same("the menu's new member", keys_of(member), [f"{member}-1", f"{member}-lend-1", f"{member}-lend-2"])
+    keys = [f"{member}-1", f"{member}-lend-1", f"{member}-lend-2"]
+    same("the menu's new member", keys_of(member), keys)
+    page = run_as("anna", "cat", f"letter-{keys[0]}.html")[1]
+    own, *spares = (pass_in("passes", it) for it in keys)
+    same("the new member's letter", re.findall(rf'href="{SITE}/book.html#([^"]*)"', page), [own, "spare=" + ";".join(spares)])
 
 
 def at_the_desk():

@@ -7,8 +7,10 @@ import csv
 import datetime
 import importlib
 import io
+import os
 import re
 import shlex
+import shutil
 import subprocess
 import sys
 
@@ -20,6 +22,8 @@ from club_office.spares import spare_keys
 from club_office.texts import WEEKDAYS, day_text, language, means, say
 from club_office.values import NAME
 
+# Where new passes are written, for letters.
+PASSES = "passes"
 Task = collections.namedtuple("Task", "group called words is_asked")
 
 
@@ -99,13 +103,19 @@ def new_member_words(office):
     quota = ask_number(say("ask quota"), 0, 99)
     points = office.points(1_000_000)
     keys = [free_key(office, name), *spare_keys(office.club, name)]
-    return [["add-member", name, str(quota)], ["credit", name, points], *(["add-key", key, name, "--to", key] for key in keys)]
+    return [["add-member", name, str(quota)], ["credit", name, points], *key_words(office, name, keys)]
+
+
+def key_words(office, member, keys):
+    """New keys of a member, whose passes are where letters look for them; and their letter, if one can be made."""
+    words = [["add-key", key, member, "--to", f"{PASSES}/{key}"] for key in keys]
+    has_letter = office.club.site and shutil.which("qrencode")
+    return [*words, *([["letters", *keys, "--to", f"letter-{keys[0]}.html"]] if has_letter else [])]
 
 
 def new_key_words(office):
     member = office.member()
-    key = free_key(office, member)
-    return [["add-key", key, member, "--to", key]]
+    return key_words(office, member, [free_key(office, member)])
 
 
 def lost_words(office):
@@ -330,11 +340,15 @@ def carry_out(office, task):
     if task.is_asked and means("no", ask(say("do it"))):
         raise Back
     for words in commands:
+        makes_pass = "--to" in words and words[0] != "letters"
+        place = words[words.index("--to") + 1] if makes_pass else ""
+        if os.path.dirname(place):
+            os.makedirs(os.path.dirname(place), 0o700, exist_ok=True)
         done = subprocess.run([sys.executable, "-I", SELF, office.club.name, *words], check=False)
         if done.returncode:
             return
-        if "--to" in words:
-            print("   " + say("pass is in", file=words[words.index("--to") + 1]))
+        if makes_pass:
+            print("   " + say("pass is in", file=place))
 
 
 def menu(club, names):
