@@ -220,6 +220,8 @@ def old_years(server):
     done("report", str(year - 1), "--to", "after.html")
     first, second = (re.sub("<p class=\"note\">made on.*?</p>", "", run_as("anna", "cat", it)[1]) for it in ("before.html", "after.html"))
     same("the board's page of a year is the same after it left the file", second == first, True)
+    lightness = [int(it) for it in re.findall(r"hsl\(156 59% ([0-9]+)%\)", first)]
+    same("its map is light enough for dark letters", (len(lightness) > 100, min(lightness) >= 40, "#fff" in first.partition("</style>")[2]), (True, True, False))
     same("its numbers", re.findall("<tr><td>(bookings|points kept|points refunded|slots used|of them cancelled)</td><td>([0-9,]+)</td>", first),
          [("bookings", "2"), ("of them cancelled", "1"), ("slots used", "1"), ("points refunded", "100"), ("points kept", "500")])
     done("report", str(year - 1), "--no-names", "--to", "nobody.html")

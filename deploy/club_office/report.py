@@ -160,7 +160,8 @@ def heat_map(use, kind):
                 cells.append('<td class="none">·</td>')
                 continue
             share = 100 * used[weekday, hour] / offered[weekday, hour]
-            cells.append(f'<td style="background:hsl(156 59% {96 - share * 0.7:.0f}%);color:{"#fff" if share > 55 else "#1b1f1d"}">{share:.0f}</td>')
+            # Dark letters have a contrast of 5 to 1 on the darkest cell.
+            cells.append(f'<td style="background:hsl(156 59% {96 - share * 0.55:.0f}%)">{share:.0f}</td>')
         lines.append(f"<tr>{''.join(cells)}</tr>")
     heads = ["", *(it[:2] for it in WEEKDAYS[language()])]
     return f'<table class="heat"><thead>{row(heads, "th")}</thead><tbody>{"".join(lines)}</tbody></table>'

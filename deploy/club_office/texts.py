@@ -290,7 +290,7 @@ TEXTS = {
     "report heat room": ("Rooms by weekday and hour", "Räume nach Wochentag und Stunde"),
     "report heat note": (
         "Percent of the open slots that somebody used: {share} in all, and {before} in {period}.",
-        "Anteil der offenen Zeiten, die jemand genutzt hat: {share} insgesamt, {before} in {period}.",
+        "Prozent der offenen Zeiten, die genutzt wurden: {share} insgesamt, {before} in {period}.",
     ),
     "report months": ("Points kept, by month", "Verbrauchte Punkte nach Monaten"),
     "report facilities": ("Each court, boat and room", "Jeder Platz, jedes Boot, jeder Raum"),
