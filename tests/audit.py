@@ -276,7 +276,8 @@ class Audit:
             own = sorted((it for it in listed if it.module == file.module), key=lambda it: it.line)
             gist = re.sub(r" \([^)]*\)", "", re.match(r".*?[^A-Z0-9][.:](?= |$)|.*", file.head)[0]).rstrip(".:")
             source = source_of(" ".join([file.head, *(it.comment for it in own)]))
-            yield f"**`{file.path.relative_to(ROOT)}`**: {gist} [{source}], {sum(it.lines for it in own)} lines\n"
+            source = "" if source == "ours" else f" [{source}]"
+            yield f"**`{file.path.relative_to(ROOT)}`** ({sum(it.lines for it in own)}): {gist}{source}\n"
             for (numbers, mark), group in groupby(own, lambda it: (self.numbers(it), self.mark(it))):
                 yield f"- {numbers}{mark and ', ' + mark}: " + ", ".join(f"`{it.name}`" for it in group)
             yield ""
@@ -394,7 +395,7 @@ class Audit:
             "the page. `tests/audit.py --below NAME` prints the files and lines below one definition, or below a function such as `Desk::ask`. "
             "[TOUR](TOUR.md#when-is-a-root-good) follows twelve paths.",
             "To check a promise, read its clause, then the definitions with its number, from the top. The numbers and the [mark](#marks) come before the "
-            "names. Each file has its source in brackets: a standard, libmacaroons, or ours. Lines are lines of code.",
+            "names. Each file has its lines of code in brackets, and its source, a standard or libmacaroons, unless it is ours alone.",
             "\n".join(self.summary()),
             "These functions have further clauses, such as why a request fails. Definitions and lines below all of them: "
             f"{', '.join(self.of_all_clauses())}.",
