@@ -218,12 +218,6 @@ class Audit:
         """The functions whose clauses carry promises."""
         return list(dict.fromkeys(function for promise in self.promises for function, _ in promise.carriers))
 
-    def of_all_clauses(self):
-        """The sizes of what is below all clauses of a function."""
-        for function in self.functions():
-            listed = [it for it in below_all(self.book, function) if it.kind in OF_SPECS]
-            yield f"`{function}` {len(listed)} and {sum(it.lines for it in listed)}"
-
     def beside(self):
         """The computing definitions below the other clauses of those functions, and below what stands for a ghost in any of them."""
         found = {id(it): it for function in self.functions() for it in below_all(self.book, function)}
@@ -274,7 +268,7 @@ class Audit:
         listed = [it for it in self.every.values() if it.crate == crate and it.kind in OF_SPECS and not it.is_computed]
         for file in in_reading_order(self.book, [self.book.specs[module] for module in {it.module for it in listed}]):
             own = sorted((it for it in listed if it.module == file.module), key=lambda it: it.line)
-            gist = re.sub(r" \([^)]*\)", "", re.match(r".*?[^A-Z0-9][.:](?= |$)|.*", file.head)[0]).rstrip(".:")
+            gist = re.sub(r" \([^)]*(\)|$)", "", re.match(r".*?[^A-Z0-9][.:](?= |$)|.*", file.head)[0]).rstrip(".:")
             source = source_of(" ".join([file.head, *(it.comment for it in own)]))
             source = "" if source == "ours" else f" [{source}]"
             yield f"**`{file.path.relative_to(ROOT)}`** ({sum(it.lines for it in own)}): {gist}{source}\n"
@@ -290,9 +284,7 @@ class Audit:
         order = {crate: at for at, crate in enumerate(self.book.crates)}
         for crate in sorted({path.relative_to(ROOT).parts[1] for path in by_file}, key=order.get):
             files = sorted(path for path in by_file if path.relative_to(ROOT).parts[1] == crate)
-            yield f"- **`crates/{crate}/`**: " + "; ".join(
-                ", ".join(f"`{it.name}`" for it in sorted(by_file[path], key=lambda it: it.line))
-                + f" in `{path.relative_to(ROOT / 'crates' / crate)}`" for path in files)
+            yield f"- **`crates/{crate}/src`**: " + ", ".join(f"`{it.name}`" for path in files for it in sorted(by_file[path], key=lambda it: it.line))
 
     def ghosts(self):
         yield "| Ghost | Promises | Its values |"
@@ -397,8 +389,7 @@ class Audit:
             "To check a promise, read its clause, then the definitions with its number, from the top. The numbers and the [mark](#marks) come before the "
             "names. Each file has its lines of code in brackets, and its source, a standard or libmacaroons, unless it is ours alone.",
             "\n".join(self.summary()),
-            "These functions have further clauses, such as why a request fails. Definitions and lines below all of them: "
-            f"{', '.join(self.of_all_clauses())}.",
+            "These functions have further clauses, such as why a request fails: `--below` prints what is below all of them.",
             "## Computing definitions",
             *self.section_of_faults(),
             "## Marks",
