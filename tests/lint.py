@@ -13,6 +13,7 @@ Prints each slip with its place; the status is 1 if there is one.
 - A module of specs or proofs is imported nowhere, a file of code has no `mod`, or no page names a script.
 - No proof uses a name that its crate's proofs/Common passes on.
 - The old text of an edit isn't in its file, or is in it twice; or a crate has two edits of one name.
+- The bytes that a planted fault changes are no longer in its file.
 - A word of the pages or of web/ is known neither to aspell nor to tests/words.txt.
 - A line that the change adds has a pattern of tests/prose.py, such as a sentence of more than 30 words.
 - The subject of one of its commits has no area, or more than 60 letters.
@@ -34,6 +35,7 @@ from collections import defaultdict
 from pathlib import Path
 
 import more_edits
+import planted
 import prose
 from definitions import spelled_out
 
@@ -171,6 +173,13 @@ def stale_edits(crate):
             yield f"edit doesn't apply: {crate} {edit.name}: {fault.args[-1]}"
 
 
+def stale_plants():
+    """Faults of tests/planted.py that can't be planted, since their file no longer has the bytes. Those of built programs aren't looked at."""
+    for name, (file, old, *_) in planted.PLANTS.items():
+        if file not in planted.PROGRAMS and old.encode() not in Path(file).read_bytes():
+            yield f"a planted fault doesn't apply: {name}: {file} has no {old}"
+
+
 def other_versions():
     version = subprocess.run(["bin/version"], capture_output=True, text=True, check=True).stdout.strip()
     found = re.search("^## ([^ ,]*), 20[0-9-]*$", Path("CHANGELOG.md").read_text(encoding="utf-8"), re.MULTILINE)
@@ -220,7 +229,7 @@ def main():
     for crate in crates:
         slips += [*too_long(crate), *too_large(crate), *without_unit(crate), *unused_modules(crate, "specs"), *unused_modules(crate, "proofs"),
                   *unused_names(crate), *unused_code(crate), *stale_edits(crate)]
-    slips += [] if named else [*other_versions(), *unnamed_scripts()]
+    slips += [] if named else [*other_versions(), *unnamed_scripts(), *stale_plants()]
     slips += worded(named, given.since)
     print(*slips, f"{len(slips)} slips", sep="\n")
     return 1 if slips else 0
