@@ -138,7 +138,8 @@ grep -q '^Day sheet' mailed || fail 'a sheet that could not be mailed is not tri
 
 # ---- Reports of failures.
 mkdir configured marks path
-printf '#!/bin/sh\necho "journal of $*"\n' >path/journalctl
+# The journal is behind at first.
+printf '#!/bin/sh\necho "journal of $*"\n[ ! -e %s/asked ] || echo "Failed with result"\ntouch %s/asked\n' "$work" "$work" >path/journalctl
 chmod +x path/journalctl
 report() { PATH=$work/path:$PATH CONFIGURATION=$work/configured MARKS=$work/marks "$deploy/report_failure" "$@"; }
 printf 'FILE=x\nMAIL=amy@example.org\n' >configured/club.conf
@@ -146,6 +147,7 @@ echo 'FILE=x' >configured/quiet.conf
 rm mailed
 for _ in 1 2; do ends 'a report' 0 report clubdesk-back-up@club.service; done
 same 'the report' '1 1' "$(grep -c '^Subject: club: clubdesk-back-up@club.service failed$' mailed) $(grep -c '^journal of .* -u clubdesk-back-up@club.service$' mailed)"
+grep -qx 'Failed with result' mailed || fail "a report before the journal has the failure: $(cat mailed)"
 ends 'a report to nobody' 0 report clubdesk-back-up@quiet.service
 ends 'a report of no unit' 2 report ssh.service
 touch -d '-13 hours' marks/*
