@@ -1,5 +1,7 @@
 -- A store over a file that may lose its name (ours).
-use Rattle.std.specs.Prelude.{◌≡◌, ◌⊎◌, Option}
+use Rattle.std.specs.Prelude.{◌≡◌, ◌⊎◌, List, Option, Result}
+use Rattle.club_core.specs.Club.{Club}
+use Rattle.club_core.specs.Store.{ReadsStore}
 use Rattle.club_core.specs.declared.change.Change.{Change}
 use Rattle.club_core.specs.declared.store.StoreFault.{StoreFault}
 use Rattle.club_core.specs.declared.store.StoreFault.TheVariants.{Storage}
@@ -9,3 +11,9 @@ use Rattle.clubdesk_files.specs.declared.named.NamedStore.{NamedStore}
 abbrev pub FailsOrIsLost : {S F : Type 0} → (Option Change → S → StoreFault → S → Type 0) → (F → Type 0)
     → Option Change → NamedStore S F → StoreFault → NamedStore S F → Type 0
 FailsOrIsLost Fails IsLost wish old fault new = Fails wish old.store fault new.store ⊎ ((fault ≡ Storage) × IsLost new.file)
+
+-- what a read of such a store promises
+abbrev pub ReadsNamed : {S F A : Type 0} → (S → Type 0) → (S → Club → List Club → Type 0) → (Option Change → S → StoreFault → S → Type 0) → (F → Type 0)
+    → NamedStore S F → NamedStore S F → Result A StoreFault → (Club → A → Type 0) → Type 0
+ReadsNamed IsClean Represents Fails IsLost old new result IsReturned =
+    ReadsStore (λ named. IsClean named.store) (λ named. Represents named.store) (FailsOrIsLost Fails IsLost) old new result IsReturned

@@ -40,7 +40,7 @@ impl<'a> Files<'a> {
 }
 
 impl<'a> Databases for Files<'a> {
-    type Store = FileClub<'a>;
+    type Store = FileClub;
 
     type Door = FileDoor<'a>;
 
@@ -55,7 +55,7 @@ impl<'a> Databases for Files<'a> {
     ghost closes = { λ old store new.
         CountsOn old.closed 1 new.closed × (new.tried ≡ old.tried) };
 
-    fn open(&mut self, name: &str) -> Result<FileClub<'a>, StoreFault> {
+    fn open(&mut self, name: &str) -> Result<FileClub, StoreFault> {
         self.tried = self.tried.saturating_add(1);
         let mut openings = ServerOpenings { rt: self.rt, name };
         // `unwrap_or`, at the type of a store, would take forty seconds to prove.
@@ -65,7 +65,7 @@ impl<'a> Databases for Files<'a> {
         }
     }
 
-    fn reach(&mut self, name: &str) -> Result<Reached<FileClub<'a>, FileVisit<'a>>, StoreFault> {
+    fn reach(&mut self, name: &str) -> Result<Reached<FileClub, FileVisit<'a>>, StoreFault> {
         self.tried = self.tried.saturating_add(1);
         let mut openings = OfficeOpenings { rt: self.rt, name };
         match gain(&mut openings, self.rt, MAX_OPENINGS) {
@@ -76,7 +76,7 @@ impl<'a> Databases for Files<'a> {
 
     // Committed changes are in the log beside the file until they are copied into the file, which
     // is done here. If that fails, the log keeps them for the next opening.
-    fn close(&mut self, named: FileClub<'a>) {
+    fn close(&mut self, named: FileClub) {
         self.closed = self.closed.saturating_add(1);
         let NamedStore { store, file: _ } = named;
         let _ = store.into_connection().close();

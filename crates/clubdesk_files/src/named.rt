@@ -1,8 +1,13 @@
 //! A store of a club in a file that another program may remove.
 
 ghost use Rattle.std.specs.Bool.{OnFalse};
-ghost use Rattle.std.specs.Prelude.{◌≡◌, IfErr};
+ghost use Rattle.std.specs.Prelude.{◌≡◌, IfErr, IfOk, IsTrue, option_map};
+ghost use Rattle.club_core.specs.Basis.{account_named};
+ghost use Rattle.club_core.specs.Club.{facility_named, key_named};
+ghost use Rattle.club_core.specs.Sheet.{AreRowsOf};
 ghost use Rattle.club_core.specs.declared.store.StoreFault.TheVariants.{Storage};
+ghost use Rattle.club_rows.specs.Key.{row_of_key};
+ghost use Rattle.clubdesk_files.specs.Named.{ReadsNamed};
 
 use club_core::{Change, ClubStore, MemberAccount, SlotUse, StoreFault};
 use club_rows::{Booking, BookingNumber, Facility, KeyRow, OlderRoot};
@@ -13,10 +18,14 @@ pub trait Removable {
     // the file was found without a name, or couldn't be looked at
     ghost is_lost: { Self → Type 0 };
 
+    // the file was found with a name
+    ghost is_found: { Self → Type 0 };
+
     /// Whether the file still has a name in its file system. What is written to a file without one
     /// is gone once it is closed.
     fn has_name(&self) -> bool
-        ensures { OnFalse result (is_lost self.now) };
+        ensures lost { OnFalse result (is_lost self.now) }
+        ensures found { IsTrue result → is_found self.now };
 }
 
 /// A store over a file. Once the file has no name any more, what begins a request or a command
@@ -30,7 +39,8 @@ pub struct NamedStore<S, F> {
 impl<S, F: Removable> NamedStore<S, F> {
     // Fails if the file has no name.
     fn look(&self) -> Result<(), StoreFault>
-        ensures { IfErr result (λ fault. (fault ≡ Storage) × F.is_lost self.now.file) }
+        ensures lost { IfErr result (λ fault. (fault ≡ Storage) × F.is_lost self.now.file) }
+        ensures found { IfOk result (λ _. F.is_found self.now.file) }
     {
         if self.file.has_name() {
             Ok(())
@@ -40,6 +50,8 @@ impl<S, F: Removable> NamedStore<S, F> {
     }
 }
 
+/// Each event begins with the row of a key, a facility, a member's account or a day's bookings.
+/// These are returned only if the file was found with a name.
 impl<S: ClubStore, F: Removable> ClubStore for NamedStore<S, F> {
     ghost use Rattle.clubdesk_files.specs.Named.{FailsOrIsLost};
 
@@ -51,7 +63,11 @@ impl<S: ClubStore, F: Removable> ClubStore for NamedStore<S, F> {
 
     ghost sound = { λ named club others represents. S.sound named.store club others represents };
 
-    fn key_row(&mut self, name: &Name) -> Result<Option<KeyRow>, StoreFault> {
+    fn key_row(&mut self, name: &Name) -> Result<Option<KeyRow>, StoreFault>
+        ensures reads { ReadsNamed S.disk_is_clean S.represents S.fails F.is_lost self.old self.new
+            result (λ club row. row ≡ option_map row_of_key (key_named name.now club)) }
+        ensures found { IfOk result (λ _. F.is_found self.old.file) }
+    {
         self.look()?;
         self.store.key_row(name)
     }
@@ -60,7 +76,11 @@ impl<S: ClubStore, F: Removable> ClubStore for NamedStore<S, F> {
         self.store.older_root(name)
     }
 
-    fn facility(&mut self, name: &Name) -> Result<Option<Facility>, StoreFault> {
+    fn facility(&mut self, name: &Name) -> Result<Option<Facility>, StoreFault>
+        ensures reads { ReadsNamed S.disk_is_clean S.represents S.fails F.is_lost self.old self.new
+            result (λ club facility. facility ≡ facility_named name.now club) }
+        ensures found { IfOk result (λ _. F.is_found self.old.file) }
+    {
         self.look()?;
         self.store.facility(name)
     }
@@ -77,7 +97,11 @@ impl<S: ClubStore, F: Removable> ClubStore for NamedStore<S, F> {
         self.store.booking(key, number)
     }
 
-    fn account(&mut self, member: &Name) -> Result<Option<MemberAccount>, StoreFault> {
+    fn account(&mut self, member: &Name) -> Result<Option<MemberAccount>, StoreFault>
+        ensures reads { ReadsNamed S.disk_is_clean S.represents S.fails F.is_lost self.old self.new
+            result (λ club account. account ≡ account_named member.now club) }
+        ensures found { IfOk result (λ _. F.is_found self.old.file) }
+    {
         self.look()?;
         self.store.account(member)
     }
@@ -90,7 +114,11 @@ impl<S: ClubStore, F: Removable> ClubStore for NamedStore<S, F> {
         self.store.spent(key)
     }
 
-    fn day(&mut self, day: Day) -> Result<Vec<Booking>, StoreFault> {
+    fn day(&mut self, day: Day) -> Result<Vec<Booking>, StoreFault>
+        ensures reads { ReadsNamed S.disk_is_clean S.represents S.fails F.is_lost self.old self.new
+            result (λ club rows. AreRowsOf club day rows.items) }
+        ensures found { IfOk result (λ _. F.is_found self.old.file) }
+    {
         self.look()?;
         self.store.day(day)
     }

@@ -2,6 +2,7 @@
 
 use crate::beside::IN_MEMORY;
 use crate::named::Removable;
+use std::fs::File;
 use std::io::ErrorKind;
 use std::os::unix::fs::MetadataExt;
 use std::{fs, io};
@@ -9,34 +10,32 @@ use std::{fs, io};
 /// The most descriptors among which the one of a store is looked for.
 const MAX_DESCRIPTORS: u32 = 1_024;
 
-/// The file that a store has open, by the link to its descriptor in `/proc`.
+/// The file that a store has open, with a descriptor of its own. The system answers a question by a
+/// descriptor in less than a fifth of the time that it needs for a path.
 #[derive(Drop)]
-pub struct OpenFile<'a> {
-    rt: &'a HostRuntime,
+pub struct OpenFile {
     // `None` if the file isn't looked at
-    link: Option<String>,
+    file: Option<File>,
 }
 
-impl<'a> OpenFile<'a> {
+impl OpenFile {
     /// The file of a database that a store of this program has open. A database in memory has none,
     /// and is not looked at.
     ///
     /// # Errors
     ///
     /// The path leads to no file that is open, or memory is refused.
-    pub(crate) fn at(rt: &'a HostRuntime, name: &str) -> io::Result<OpenFile<'a>> {
+    pub(crate) fn at(rt: &HostRuntime, name: &str) -> io::Result<OpenFile> {
         if name == IN_MEMORY {
-            return Ok(OpenFile::unwatched(rt));
+            return Ok(OpenFile::unwatched());
         }
         let found = fs::metadata(rt, name)?;
         for descriptor in 0..MAX_DESCRIPTORS {
             let link = format!(in rt.alloc(); "/proc/self/fd/{descriptor}")?;
             match fs::metadata(rt, link.as_str()) {
                 Ok(open) if open.ino() == found.ino() && open.dev() == found.dev() => {
-                    return Ok(OpenFile {
-                        rt,
-                        link: Some(link),
-                    });
+                    let file = File::open(rt, link.as_str())?;
+                    return Ok(OpenFile { file: Some(file) });
                 }
                 _ => {}
             }
@@ -45,18 +44,20 @@ impl<'a> OpenFile<'a> {
     }
 
     /// A file that isn't looked at, as for a command that has it open for a moment.
-    pub(crate) fn unwatched(rt: &'a HostRuntime) -> OpenFile<'a> {
-        OpenFile { rt, link: None }
+    pub(crate) fn unwatched() -> OpenFile {
+        OpenFile { file: None }
     }
 }
 
 /// No contract states what the system answers.
-impl Removable for OpenFile<'_> {
+impl Removable for OpenFile {
     ghost is_lost = { λ _. Unit {0} };
 
+    ghost is_found = { λ _. Unit {0} };
+
     fn has_name(&self) -> bool {
-        match &self.link {
-            Some(link) => match fs::metadata(self.rt, link.as_str()) {
+        match &self.file {
+            Some(file) => match file.metadata() {
                 Ok(found) => found.nlink() > 0,
                 Err(_) => false,
             },

@@ -15,7 +15,7 @@ use sqlite::{FileFrom, FileStore, Unknown};
 type FileStoreOfClub = Store<FileStore<FileFrom<Unknown>>>;
 
 /// The store of a club in a file that may lose its name.
-pub type FileClub<'a> = NamedStore<FileStoreOfClub, OpenFile<'a>>;
+pub type FileClub = NamedStore<FileStoreOfClub, OpenFile>;
 
 // Opens the database in a file; if it is missing, creates it for its owner alone. `None` while
 // another program has it open.
@@ -36,11 +36,11 @@ pub struct ServerOpenings<'a, 'n> {
 }
 
 impl<'a> Attempts for ServerOpenings<'a, '_> {
-    type Gain = Result<FileClub<'a>, StoreFault>;
+    type Gain = Result<FileClub, StoreFault>;
 
     ghost gains = { λ _ _ _. Unit {0} };
 
-    fn attempt(&mut self) -> Option<Result<FileClub<'a>, StoreFault>> {
+    fn attempt(&mut self) -> Option<Result<FileClub, StoreFault>> {
         match try_open(self.rt, self.name)? {
             Ok(store) => match OpenFile::at(self.rt, self.name) {
                 Ok(file) => Some(Ok(NamedStore { store, file })),
@@ -60,18 +60,18 @@ pub struct OfficeOpenings<'a, 'n> {
 }
 
 impl<'a> Attempts for OfficeOpenings<'a, '_> {
-    type Gain = Result<Reached<FileClub<'a>, FileVisit<'a>>, StoreFault>;
+    type Gain = Result<Reached<FileClub, FileVisit<'a>>, StoreFault>;
 
     ghost gains = { λ _ _ _. Unit {0} };
 
-    fn attempt(&mut self) -> Option<Result<Reached<FileClub<'a>, FileVisit<'a>>, StoreFault>> {
+    fn attempt(&mut self) -> Option<Result<Reached<FileClub, FileVisit<'a>>, StoreFault>> {
         match find_server(self.rt, self.name) {
             Ok(Found::Server(visit)) => Some(Ok(Reached::Served(visit))),
             Ok(Found::Ended) => None,
             Err(fault) => Some(Err(fault)),
             Ok(Found::Nobody) => match try_open(self.rt, self.name)? {
                 Ok(store) => {
-                    let file = OpenFile::unwatched(self.rt);
+                    let file = OpenFile::unwatched();
                     Some(Ok(Reached::Opened(NamedStore { store, file })))
                 }
                 Err(fault) => Some(Err(fault)),
