@@ -1,3 +1,4 @@
 pub mod Attempts
 pub mod Named
 pub mod Handover
+pub mod Retried

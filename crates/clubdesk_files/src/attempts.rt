@@ -6,7 +6,7 @@ use std::thread;
 use std::time::{Clock, Duration};
 
 /// How many milliseconds the program sleeps after a failed attempt.
-const SLEEP_MILLIS: u64 = 10;
+pub(crate) const SLEEP_MILLIS: u64 = 10;
 
 /// The number of attempts in a second.
 pub const ATTEMPTS_A_SECOND: u32 = 100;

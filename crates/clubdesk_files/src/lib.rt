@@ -21,6 +21,6 @@ pub use files::Files;
 pub use handover::{CommandWriter, answered, greeted};
 pub use named::{NamedStore, Removable};
 pub use open_file::OpenFile;
-pub use retried::{Servers, hand_over_until_done};
+pub use retried::{Servers, hand_over_to, hand_over_until_done};
 pub use user::{DatabasesUser, run_over_files};
 pub use visit::{FileVisit, connect};

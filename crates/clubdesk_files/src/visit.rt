@@ -2,7 +2,7 @@
 
 use crate::beside::{Place, fault_of};
 use crate::handover::greeted;
-use crate::retried::{Servers, hand_over_until_done};
+use crate::retried::{Servers, hand_over_to, hand_over_until_done};
 use club_core::StoreFault;
 use desk_server::Visit;
 use std::io;
@@ -91,7 +91,8 @@ pub fn connect(rt: &HostRuntime, file: &str) -> io::Result<UnixStream> {
     UnixStream::connect(rt, path.as_str())
 }
 
-impl Servers for FileVisit<'_> {
+impl FileVisit<'_> {
+    // The next server of the file, which has greeted; `None` if there is none now.
     fn next(&mut self) -> Option<UnixStream> {
         match self.greeted.take() {
             Some(stream) => Some(stream),
@@ -107,11 +108,21 @@ impl Servers for FileVisit<'_> {
 }
 
 /// No contract states what a server answers.
+impl Servers for FileVisit<'_> {
+    ghost hands = { λ _ _ _ _. Unit {0} };
+
+    fn hand_over(&mut self, command: &[u8]) -> Option<(u8, String)> {
+        let server = self.next();
+        hand_over_to(self.rt.alloc(), server, command)
+    }
+}
+
+/// No contract states what a server answers.
 impl Visit for FileVisit<'_> {
     ghost gives = { λ _ _ _. Unit {0} };
 
     fn give(mut self, command: &[u8]) -> Option<(u8, String)> {
         let rt = self.rt;
-        hand_over_until_done(rt.alloc(), rt, &mut self, command)
+        hand_over_until_done(rt, &mut self, command)
     }
 }

@@ -3,8 +3,9 @@
 
 use crate::beside::Sleeper;
 use crate::runs::{Row, expect_rows, new_path, remove};
-use clubdesk_files::{FileDoor, FileVisit, Servers, connect, hand_over_until_done};
+use clubdesk_files::{FileDoor, FileVisit, Servers, connect, hand_over_to, hand_over_until_done};
 use desk_server::{Door, Visit};
+use std::alloc::Global;
 use std::fs;
 use std::io::{Read, Write};
 use std::net::Shutdown;
@@ -82,11 +83,13 @@ fn hands_a_command_over(rt: HostRuntime) -> Result<(), Fail> {
 
 /// Servers that have greeted, the next one last.
 #[derive(Drop)]
-struct Greeted(Vec<UnixStream>);
+struct Greeted(Global, Vec<UnixStream>);
 
 impl Servers for Greeted {
-    fn next(&mut self) -> Option<UnixStream> {
-        self.0.pop()
+    ghost hands = { λ _ _ _ _. Unit {0} };
+
+    fn hand_over(&mut self, command: &[u8]) -> Option<(u8, String)> {
+        hand_over_to(self.0, self.1.pop(), command)
     }
 }
 
@@ -148,9 +151,9 @@ fn tries_again(rt: &HostRuntime, retried: &Retried) -> Result<(), Fail> {
     }
     clients.reverse();
     let clock = Sleeper::new();
-    let mut greeted = Greeted(clients);
-    let answer = hand_over_until_done(rt.alloc(), &clock, &mut greeted, COMMAND);
-    if replies.len().checked_sub(greeted.0.len()) != Some(*got) {
+    let mut greeted = Greeted(rt.alloc(), clients);
+    let answer = hand_over_until_done(&clock, &mut greeted, COMMAND);
+    if replies.len().checked_sub(greeted.1.len()) != Some(*got) {
         return Err("another number of servers was asked".into());
     }
     expect_got(rt, &mut servers, *got)?;
@@ -184,8 +187,8 @@ fn nothing_was_done_by_a_server_that_is_gone(rt: HostRuntime) -> Result<(), Fail
     let mut clients = Vec::new(rt.alloc());
     clients.push(client)?;
     clients.push(gone)?;
-    let mut greeted = Greeted(clients);
-    match hand_over_until_done(rt.alloc(), &Sleeper::new(), &mut greeted, COMMAND) {
+    let mut greeted = Greeted(rt.alloc(), clients);
+    match hand_over_until_done(&Sleeper::new(), &mut greeted, COMMAND) {
         Some((0, line)) if line.as_str() == "done\n" => Ok(()),
         _ => Err("something else was told".into()),
     }

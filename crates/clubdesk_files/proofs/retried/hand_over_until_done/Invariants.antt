@@ -1,0 +1,6 @@
+-- Each answer so far said that nothing was done.
+use Rattle.clubdesk_files.specs.Retried.{IsHandedInVain}
+use Rattle.clubdesk_files.proofs.retried.hand_over_until_done.Given as goal
+
+abbrev pub invariant-loop-tried : goal.invariant-loop-tried
+invariant-loop-tried g l = IsHandedInVain g.S.Servers.hands l.command l.initial.servers l.servers
