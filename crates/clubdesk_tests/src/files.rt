@@ -2,11 +2,11 @@
 
 use crate::expect::expect_eq;
 use crate::runs::{Row, expect_rows, log_of, new_path, remove};
-use crate::served::{reply_before_a_kill, reply_to};
+use crate::served::{reply_before_a_kill, reply_to, reply_without_a_file};
 use crate::servers::OFFICE;
 use std::test::Fail;
 use std::{env, fs};
-use test_kit::exchanges::{BOOK_7, BOOKED_7};
+use test_kit::exchanges::{BOOK_7, BOOKED_7, UNAVAILABLE};
 
 // Bob with as many points as amy, a room, and a key of bob's. Its pass was computed by a program of
 // another language.
@@ -119,6 +119,18 @@ fn a_booking_in_the_log_alone(rt: HostRuntime) -> Result<(), Fail> {
     expect_file(&rt, path.as_str(), before.as_slice())?;
     expect_rows(&rt, path.as_str(), &AMYS_SHEET)?;
     remove(&rt, path.as_str());
+    Ok(())
+}
+
+// Nobody would find a booking in a file that has no name any more: it is refused.
+#[test]
+fn a_file_that_was_removed(rt: HostRuntime) -> Result<(), Fail> {
+    let path = new_club(&rt, "gone")?;
+    let reply = reply_without_a_file(&rt, path.as_str(), BOOK_7)?;
+    remove(&rt, path.as_str());
+    if reply.as_slice() != UNAVAILABLE.as_bytes() {
+        return Err("a booking in a file that is gone".into());
+    }
     Ok(())
 }
 

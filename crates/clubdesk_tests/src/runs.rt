@@ -1,7 +1,7 @@
 //! Runs of the program, as texts.
 
 use crate::callers::Caller;
-use crate::served::serve_and_drop;
+use crate::served::{serve_and_drop, serve_removed};
 use crate::terminal::{Input, NO_INPUT};
 use club_core::StoreFault;
 use club_http::WriteOutlet;
@@ -179,6 +179,8 @@ pub enum Work<'a> {
     Run(Run<'a>),
     /// A server answers one request, over the database at a path, and drops that.
     Serve(&'a str, &'a TcpListener),
+    /// The same, but the file is removed once it is open.
+    ServeRemoved(&'a str, &'a TcpListener),
 }
 
 // A server that drops its database writes nothing of its own.
@@ -191,6 +193,10 @@ fn work_over<D: Databases>(
         Work::Run(asked) => Ok(run_over(rt, rt, databases, asked)?),
         Work::Serve(path, listener) => {
             serve_and_drop(rt, databases, path, listener)?;
+            Ok(Output::none(rt))
+        }
+        Work::ServeRemoved(path, listener) => {
+            serve_removed(rt, databases, path, listener)?;
             Ok(Output::none(rt))
         }
     }

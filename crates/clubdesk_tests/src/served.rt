@@ -7,6 +7,7 @@ use club_http::Face;
 use club_values::Moment;
 use clubdesk_commands::OfficeDesk;
 use desk_server::{Databases, Listening, serve_on};
+use std::fs;
 use std::io::{Read, Write};
 use std::net::{TcpListener, TcpStream};
 use std::test::Fail;
@@ -47,20 +48,42 @@ pub fn serve_and_drop<D: Databases>(
     serve_at(rt, listener, databases.open(path)?)
 }
 
-// Serves a client that waits, over the database in a file, and drops that.
-fn serve(rt: &HostRuntime, path: &str, listener: &TcpListener) -> Result<(), Fail> {
-    do_work(rt, Work::Serve(path, listener))?;
-    Ok(())
+/// The same, but the file is removed once it is open.
+pub fn serve_removed<D: Databases>(
+    rt: &HostRuntime,
+    databases: &mut D,
+    path: &str,
+    listener: &TcpListener,
+) -> Result<(), Fail> {
+    let store = databases.open(path)?;
+    fs::remove_file(rt, path)?;
+    serve_at(rt, listener, store)
+}
+
+// The bytes of the reply to a request that a client sends to the listener of a server.
+fn reply_by(
+    rt: &HostRuntime,
+    listener: &TcpListener,
+    server: Work<'_>,
+    request: &str,
+) -> Result<Vec<u8>, Fail> {
+    let mut client = client_of(rt, listener, request)?;
+    do_work(rt, server)?;
+    let mut reply = Vec::new(rt.alloc());
+    client.read_to_end(&mut reply)?;
+    Ok(reply)
 }
 
 /// The bytes of the reply to a request, by a server over the database in a file, which it drops.
 pub fn reply_before_a_kill(rt: &HostRuntime, path: &str, request: &str) -> Result<Vec<u8>, Fail> {
     let listener = TcpListener::bind(rt, "127.0.0.1:0")?;
-    let mut client = client_of(rt, &listener, request)?;
-    serve(rt, path, &listener)?;
-    let mut reply = Vec::new(rt.alloc());
-    client.read_to_end(&mut reply)?;
-    Ok(reply)
+    reply_by(rt, &listener, Work::Serve(path, &listener), request)
+}
+
+/// The same of a server whose file was removed before the request came.
+pub fn reply_without_a_file(rt: &HostRuntime, path: &str, request: &str) -> Result<Vec<u8>, Fail> {
+    let listener = TcpListener::bind(rt, "127.0.0.1:0")?;
+    reply_by(rt, &listener, Work::ServeRemoved(path, &listener), request)
 }
 
 /// The bytes of the reply to a request, by a run of the server at the same moment, which closes the
