@@ -4,6 +4,7 @@
 use crate::memory::{Scene, expect_openings, play};
 use crate::runs::{Output, Row};
 use std::test::Fail;
+use std::time::Clock;
 use test_kit::exchanges::{BOOK_7, BOOKED_7};
 
 /// Amy with quota 5 and 10,000 points, her key, and a court.
@@ -25,16 +26,18 @@ struct Outcome {
     sheet: &'static [Row<'static>],
 }
 
+const BOOKED: &[Row<'static>] = &[Row(
+    "sheet",
+    "2026-05-01",
+    "0 Day sheet 2026-05-01\n\
+    court-1                  18:00 amy-1                            7  3    600\n\
+    Total bookings 1, persons 3, charge 600\n",
+)];
+
 const SERVED: Outcome = Outcome {
     end: "0 ",
     reply: BOOKED_7,
-    sheet: &[Row(
-        "sheet",
-        "2026-05-01",
-        "0 Day sheet 2026-05-01\n\
-        court-1                  18:00 amy-1                            7  3    600\n\
-        Total bookings 1, persons 3, charge 600\n",
-    )],
+    sheet: BOOKED,
 };
 
 const NOTHING: &[Row<'static>] = &[Row(
@@ -184,6 +187,44 @@ static PATIENT: [Serving; 4] = [
 fn serves_within_its_patience(rt: HostRuntime) -> Result<(), Fail> {
     for serving in &PATIENT {
         serves(&rt, serving)?;
+    }
+    Ok(())
+}
+
+/// The beginning of the booking's request. Its client sends no more.
+const BEGINNING: &str = "PUT /slots/court-1/2026-05-01/18/bookings/7 HTTP/1.1\r\n";
+
+/// A server's patience in seconds, and the microseconds of it that have passed once the beginning
+/// was read. A second is left.
+static A_SECOND_LEFT: [(u32, u64); 3] = [(1, 0), (2, 1_000_000), (3_600, 3_599_000_000)];
+
+// A client that doesn't send the rest of its request is waited for as long as is left of the
+// patience, and no longer. Then the next client is served.
+fn waits(rt: &HostRuntime, patience: u32, later: u64) -> Result<(), Fail> {
+    let line = format!(in rt.alloc();
+        "clubdesk serve club --port 0 --count 2 --at 2026-04-20T12:00 --patience {patience}"
+    )?;
+    let scene = Scene {
+        later,
+        requests: &[BEGINNING, BOOK_7],
+        after: BOOKED,
+        ..Scene::after(&OFFICE)
+    };
+    let before = rt.monotonic()?;
+    let output = play(rt, &scene, line.as_str())?.output;
+    let waited = rt.monotonic()?.saturating_sub(before).as_secs();
+    if output.reply.as_slice() == BOOKED_7.as_bytes() && waited >= 1 && waited < 30 {
+        return Ok(());
+    }
+    Err(format!(in rt.alloc(); "patience {patience}: waited {waited} seconds")?.into())
+}
+
+// By sockets of the machine, and its time. A server that waits without end, or for an hour, is
+// stopped by the limit of a test.
+#[test]
+fn waits_as_long_as_its_patience(rt: HostRuntime) -> Result<(), Fail> {
+    for (patience, later) in &A_SECOND_LEFT {
+        waits(&rt, *patience, *later)?;
     }
     Ok(())
 }
