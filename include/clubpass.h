@@ -140,8 +140,10 @@ void clubpass_signature(const clubpass *pass, uint8_t *out);
  * bytes, and sets *len to its length. A text has at most CLUBPASS_MAX_TEXT bytes.
  *
  * CLUBPASS_OK, or CLUBPASS_SHORT_BUFFER, as above. CLUBPASS_TOO_LONG if the pass has no text of
- * CLUBPASS_MAX_TEXT bytes in this form, CLUBPASS_NO_FORM if it is no form, CLUBPASS_MEMORY if the
- * heap runs out: then *len is 0. After a fault the buffer is unchanged.
+ * CLUBPASS_MAX_TEXT bytes in this form, CLUBPASS_NO_FORM if it is no form: then *len is 0, as it is
+ * with CLUBPASS_MEMORY. That is returned if and only if the heap refuses one of the call's
+ * allocations. It may be for any pass, since the pass is copied before it is written. After a fault
+ * the buffer is unchanged.
  */
 CLUBPASS_CHECK
 clubpass_fault clubpass_write(const clubpass *pass, uint32_t form, uint8_t *out, size_t room,
@@ -161,8 +163,9 @@ clubpass_fault clubpass_mint(const uint8_t *root, size_t root_len, const uint8_t
 /*
  * Adds a caveat of any bytes to a pass, and signs it without the root.
  *
- * CLUBPASS_OK, CLUBPASS_TOO_MANY if the pass has CLUBPASS_MAX_CAVEATS already, or CLUBPASS_MEMORY
- * if the object has no room for it. After a fault the pass is unchanged.
+ * CLUBPASS_OK, CLUBPASS_TOO_MANY if the pass has CLUBPASS_MAX_CAVEATS already, else CLUBPASS_MEMORY
+ * if the location, the identifier and all caveats would have more than CLUBPASS_ROOM bytes together.
+ * After a fault the pass is unchanged.
  */
 CLUBPASS_CHECK
 clubpass_fault clubpass_narrow(clubpass *pass, const uint8_t *caveat, size_t caveat_len);

@@ -7,7 +7,7 @@ use Rattle.std.proofs.lemmas.Grind.{common_steps, take_at_read}
 use Rattle.std.proofs.lemmas.List.{length-drop, length-append, length-map, length-take}
 use Rattle.pass_forms.specs.Pass.{Plain}
 use Rattle.pass_c.specs.Object.{held, pieces_of, with_one_more}
-use Rattle.pass_c.specs.declared.object.Object.{Object}
+use Rattle.pass_c.specs.declared.object.PassObject.{PassObject}
 use Rattle.pass_c.proofs.PieceLemmas.{written, part_in, take_before, drop_before, one_more_piece}
 
 abbrev pub pass_of : List ℕ → List ℕ → List (List ℕ) → List ℕ → Plain
@@ -53,7 +53,7 @@ pushed ll il lens part bytes low =
     )
 
 -- an object of fewer than 64 caveats, after one more was written
-pub held_push : (o : Object) (part bytes : List ℕ) (count tot : ℕ) → count ≡ length (take o.caveat_count o.caveat_lens) → count < 64
+pub held_push : (o : PassObject) (part bytes : List ℕ) (count tot : ℕ) → count ≡ length (take o.caveat_count o.caveat_lens) → count < 64
     → length o.caveat_lens ≡ 64 → length o.bytes ≡ 8192 → tot ≡ sum (take o.caveat_count o.caveat_lens)
     → o.location_len + o.identifier_len + tot + length part ≤ 8192 → bytes ≡ written (o.location_len + o.identifier_len + tot) part o.bytes
     → held (record o { caveat_count = count + 1; caveat_lens = set o.caveat_lens count (length part); bytes = bytes })

@@ -1,5 +1,5 @@
 -- An ask as an object of plain numbers (ours).
-use Rattle.std.specs.Prelude.{◌≡◌, ℕ, ◌==◌, if◌then◌else◌, take, List, Option, None, Some, ◌≤◌, MatchOption}
+use Rattle.std.specs.Prelude.{◌≡◌, ℕ, ◌==◌, if◌then◌else◌, take, List, Option, None, Some, ◌≤◌, MatchOption, option_and_then, option_map}
 use Rattle.std.specs.Int.{is_in_range}
 use Rattle.club_values.specs.declared.action.Action.{Action}
 use Rattle.club_values.specs.declared.action.Action.TheVariants.{View, Book, Cancel, Account}
@@ -14,13 +14,8 @@ use Rattle.pass_caveats.specs.Fault.{IsFirstFault}
 use Rattle.pass_caveats.specs.declared.ask.Ask.{Ask}
 use Rattle.pass_caveats.specs.declared.fault.CaveatFault.{CaveatFault}
 use Rattle.pass_caveats.specs.declared.fault.CaveatFault.TheVariants.{NotUnderstood, Denied}
+use Rattle.pass_c.specs.Code.{ok_code, bad_ask_code, not_understood_code, denied_code}
 use Rattle.pass_c.specs.declared.ask.AskObject.{AskObject}
-
--- the second of two steps, which takes what the first gives
-infixl 10 ◌>>=◌
-abbrev pub ◌>>=◌ : {A B : Type 0} → Option A → (A → Option B) → Option B
-None >>= step = None
-(Some value) >>= step = step value
 
 -- the action of a number
 abbrev pub action_of : ℕ → Option Action
@@ -41,10 +36,12 @@ IsFacilityNamed object facility =
 
 abbrev pub slot_in_parts : AskObject → Option (List ℕ) → Option (Option Slot)
 slot_in_parts object facility =
-    facility >>= (λ name.
-    number_within first_day last_day object.day >>= (λ day.
-    number_within 0 23 object.hour >>= (λ hour.
-    Some (Some (record { facility = name; day = day; hour = hour })))))
+    option_and_then (λ name.
+    option_and_then (λ day.
+    option_map (λ hour. Some (record { facility = name; day = day; hour = hour }))
+    (number_within 0 23 object.hour))
+    (number_within first_day last_day object.day))
+    facility
 
 -- the slot of a facility; none where the object has no name
 abbrev pub slot_within : AskObject → Option (List ℕ) → Option (Option Slot)
@@ -53,11 +50,10 @@ slot_within object facility = if object.facility_len == 0 then Some None else sl
 -- the ask of an object whose facility this is, if each of its values is within its range
 abbrev pub ask_at : AskObject → Option (List ℕ) → Option Ask
 ask_at object facility =
-    action_of object.action >>= (λ action.
-    slot_within object facility >>= (λ slot.
-    kind_of object.kind >>= (λ kind.
-    number_within first_moment last_moment object.moment >>= (λ moment.
-    Some (record {
+    option_and_then (λ action.
+    option_and_then (λ slot.
+    option_and_then (λ kind.
+    option_map (λ moment. record {
       action = action;
       slot = slot;
       kind = kind;
@@ -65,7 +61,11 @@ ask_at object facility =
       moment = moment;
       owed = object.owed;
       spent = object.spent;
-    })))))
+    })
+    (number_within first_moment last_moment object.moment))
+    (kind_of object.kind))
+    (slot_within object facility))
+    (action_of object.action)
 
 -- the ask that an object holds, none where a value is out of its range
 pub record IsAskOf (object : AskObject) (ask : Option Ask) : Type 0 where
@@ -75,9 +75,9 @@ pub record IsAskOf (object : AskObject) (ask : Option Ask) : Type 0 where
 
 -- the code of the first fault, and the number of its caveat
 abbrev pub verdict_code : Option CaveatFault → ℕ
-verdict_code None = 0
-verdict_code (Some (NotUnderstood n)) = 10
-verdict_code (Some (Denied n)) = 11
+verdict_code None = ok_code
+verdict_code (Some (NotUnderstood n)) = not_understood_code
+verdict_code (Some (Denied n)) = denied_code
 
 abbrev pub verdict_number : Option CaveatFault → ℕ
 verdict_number None = 0
@@ -85,14 +85,14 @@ verdict_number (Some (NotUnderstood n)) = n
 verdict_number (Some (Denied n)) = n
 
 -- the first fault of a list of caveats, as a code and a number
-pub record Reports (caveats : List (List ℕ)) (ask : Ask) (code number : ℕ) : Type 0 where
+pub record IsVerdict (caveats : List (List ℕ)) (ask : Ask) (code number : ℕ) : Type 0 where
   pub fault : Option CaveatFault
   pub first : IsFirstFault caveats ask fault
-  pub says : code ≡ verdict_code fault
-  pub counts : number ≡ verdict_number fault
+  pub fault_code : code ≡ verdict_code fault
+  pub fault_number : number ≡ verdict_number fault
 
 -- The answer to an object: the first fault of the caveats for its ask, or that it holds no ask.
 pub record Answers (caveats : List (List ℕ)) (object : AskObject) (code number : ℕ) : Type 0 where
   pub ask : Option Ask
-  pub asked : IsAskOf object ask
-  pub told : MatchOption ask ((code ≡ 9) × (number ≡ 0)) (λ real. Reports caveats real code number)
+  pub is_ask : IsAskOf object ask
+  pub verdict : MatchOption ask ((code ≡ bad_ask_code) × (number ≡ 0)) (λ held. IsVerdict caveats held code number)

@@ -1,9 +1,13 @@
--- The numbers of forms and faults in C (ours).
-use Rattle.std.specs.Prelude.{ℕ, nat_le, if◌then◌else◌, ◌==◌, Result, Ok, Err}
+-- The numbers of forms and faults in C, as `include/clubpass.h` has them (ours).
+use Rattle.std.specs.Prelude.{ℕ, if◌then◌else◌, ◌==◌, Result, Ok, Err}
 use Rattle.pass_forms.specs.declared.fault.FormFault.{FormFault}
 use Rattle.pass_forms.specs.declared.fault.FormFault.TheVariants.{TooLong, Malformed, ThirdParty, TooMany, Memory}
 use Rattle.pass_forms.specs.declared.form.Form.{Form}
 use Rattle.pass_forms.specs.declared.form.Form.TheVariants.{V1, V2, Json}
+
+-- the number of an object's form where it holds no pass
+abbrev pub no_form_number : ℕ
+no_form_number = 0
 
 abbrev pub number_of_form : Form → ℕ
 number_of_form V1 = 1
@@ -14,25 +18,70 @@ number_of_form Json = 3
 abbrev pub form_with_number : ℕ → Form
 form_with_number n = if n == 1 then V1 else if n == 3 then Json else V2
 
+-- ---- what a call returns
+
+-- it did what it was asked for
+abbrev pub ok_code : ℕ
+ok_code = 0
+
+abbrev pub too_long_code : ℕ
+too_long_code = 1
+
+abbrev pub malformed_code : ℕ
+malformed_code = 2
+
+abbrev pub third_party_code : ℕ
+third_party_code = 3
+
+abbrev pub too_many_code : ℕ
+too_many_code = 4
+
+-- memory ran out, or the object has no room
+abbrev pub memory_code : ℕ
+memory_code = 5
+
+-- the caller's buffer is too short
+abbrev pub short_buffer_code : ℕ
+short_buffer_code = 6
+
+-- there is no caveat of this index
+abbrev pub no_caveat_code : ℕ
+no_caveat_code = 7
+
+-- there is no form of this number
+abbrev pub no_form_code : ℕ
+no_form_code = 8
+
+-- a value of an ask is out of its range
+abbrev pub bad_ask_code : ℕ
+bad_ask_code = 9
+
+abbrev pub not_understood_code : ℕ
+not_understood_code = 10
+
+abbrev pub denied_code : ℕ
+denied_code = 11
+
 abbrev pub fault_code : FormFault → ℕ
-fault_code TooLong = 1
-fault_code Malformed = 2
-fault_code ThirdParty = 3
-fault_code TooMany = 4
-fault_code Memory = 5
+fault_code TooLong = too_long_code
+fault_code Malformed = malformed_code
+fault_code ThirdParty = third_party_code
+fault_code TooMany = too_many_code
+fault_code Memory = memory_code
 
 -- the code of a call without a value
 abbrev pub code_of : {A : Type 0} → Result A FormFault → ℕ
-code_of (Ok done) = 0
+code_of (Ok done) = ok_code
 code_of (Err fault) = fault_code fault
 
 -- what a code says; `Memory` for a number that is no other fault's
 abbrev pub fault_with_code : ℕ → FormFault
-fault_with_code n = if n == 1 then TooLong else if n == 2 then Malformed else if n == 3 then ThirdParty else if n == 4 then TooMany else Memory
+fault_with_code n =
+    if n == too_long_code then TooLong
+    else if n == malformed_code then Malformed
+    else if n == third_party_code then ThirdParty
+    else if n == too_many_code then TooMany
+    else Memory
 
 abbrev pub result_of : ℕ → Result (Unit {0}) FormFault
-result_of n = if n == 0 then Ok tt else Err (fault_with_code n)
-
--- the code of a new pass whose fields have this length
-abbrev pub room_code : ℕ → ℕ
-room_code len = if nat_le len 8192 then 0 else 5
+result_of n = if n == ok_code then Ok tt else Err (fault_with_code n)

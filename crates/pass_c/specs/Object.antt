@@ -1,11 +1,11 @@
 -- A pass as an object of plain data holds it (ours).
-use Rattle.std.specs.Prelude.{◌≡◌, ℕ, List, [], ◌∷◌, ◌++◌, take, drop, Result, Ok, Err}
+use Rattle.std.specs.Prelude.{◌≡◌, ℕ, ◌+◌, nat_le, if◌then◌else◌, List, [], ◌∷◌, ◌++◌, take, drop, sum, Result, Ok, Err}
 use Rattle.pass_forms.specs.declared.fault.FormFault.{FormFault}
 use Rattle.pass_forms.specs.declared.form.Form.{Form}
 use Rattle.pass_forms.specs.FieldSource.{no_fields}
 use Rattle.pass_forms.specs.Pass.{Plain}
-use Rattle.pass_c.specs.Code.{form_with_number}
-use Rattle.pass_c.specs.declared.object.Object.{Object}
+use Rattle.pass_c.specs.Code.{form_with_number, memory_code, no_form_number, ok_code}
+use Rattle.pass_c.specs.declared.object.PassObject.{PassObject}
 
 -- the pieces of bytes with these lengths, one after the other
 abbrev pub pieces_of : List ℕ → List ℕ → List (List ℕ)
@@ -13,7 +13,7 @@ pieces_of [] bytes = []
 pieces_of (len ∷ lens) bytes = take len bytes ∷ pieces_of lens (drop len bytes)
 
 -- The pass of an object: its location, its identifier and its caveats follow one another in the bytes.
-abbrev pub held : Object → Plain
+abbrev pub held : PassObject → Plain
 held object = record {
   location = take object.location_len object.bytes;
   identifier = take object.identifier_len (drop object.location_len object.bytes);
@@ -22,11 +22,11 @@ held object = record {
 }
 
 -- the form of the text that an object was read from
-abbrev pub form_in : Object → Form
+abbrev pub form_in : PassObject → Form
 form_in object = form_with_number object.form
 
 -- what a call that fills an object answers: the form and the pass that the object then holds, or its fault
-abbrev pub filled : Result (Unit {0}) FormFault → Object → Result (Form × Plain) FormFault
+abbrev pub filled : Result (Unit {0}) FormFault → PassObject → Result (Form × Plain) FormFault
 filled (Ok done) object = Ok (form_in object, held object)
 filled (Err fault) object = Err fault
 
@@ -34,9 +34,17 @@ filled (Err fault) object = Err fault
 abbrev pub room : ℕ
 room = 8192
 
+-- the bytes of its room that an object has taken, by its lengths
+abbrev pub taken : PassObject → ℕ
+taken object = object.location_len + object.identifier_len + sum (take object.caveat_count object.caveat_lens)
+
+-- the code of a new pass whose fields have this length
+abbrev pub room_code : ℕ → ℕ
+room_code len = if nat_le len room then ok_code else memory_code
+
 -- the object holds no pass: no form, no fields and a signature of zeros
-pub record IsEmpty (object : Object) : Type 0 where
-  pub form : object.form ≡ 0
+pub record IsEmpty (object : PassObject) : Type 0 where
+  pub form : object.form ≡ no_form_number
   pub fields : held object ≡ no_fields
 
 -- a pass with one more caveat, not yet signed

@@ -6,23 +6,23 @@ use Rattle.pass_forms.specs.declared.form.Form.{Form}
 use Rattle.pass_forms.specs.Pass.{Plain}
 use Rattle.pass_forms.specs.Writing.{IsWritableText}
 use Rattle.pass_json.specs.AnyForm.{IsAnyReading, IsRefusedIn, IsTextIn}
-use Rattle.pass_c.specs.Code.{fault_code, number_of_form}
+use Rattle.pass_c.specs.Code.{fault_code, no_form_code, number_of_form, ok_code, short_buffer_code}
 
 -- A part that fits is written to the front of the buffer, and the rest of the buffer stays. A part that doesn't fit changes
 -- nothing. The length is the part's in both cases.
 pub record IsCopied (part old new : List ℕ) (len code : ℕ) : Type 0 where
-  pub whole : length part ≤ length old → (code ≡ 0) × (new ≡ part ++ drop (length part) old)
-  pub short : length old < length part → (code ≡ 6) × (new ≡ old)
-  pub counts : len ≡ length part
+  pub fits : length part ≤ length old → (code ≡ ok_code) × (new ≡ part ++ drop (length part) old)
+  pub too_short : length old < length part → (code ≡ short_buffer_code) × (new ≡ old)
+  pub part_len : len ≡ length part
 
--- the buffer stays, and the code says why
+-- the buffer stays, the length is 0, and the code says why
 pub record IsLeft (why : ℕ) (old new : List ℕ) (len code : ℕ) : Type 0 where
-  pub buffer : new ≡ old
-  pub counts : len ≡ 0
-  pub says : code ≡ why
+  pub unchanged : new ≡ old
+  pub no_len : len ≡ 0
+  pub reason : code ≡ why
 
--- The text of a pass in a form, or the fault of the library's writer. Memory may run out for any pass: the pass is copied before it
--- is written.
+-- The text of a pass in a form, or the fault of the library's writer. Memory may run out for any pass, also for one that has no
+-- text in the form: the pass is copied before it is written.
 abbrev pub IsWrittenAs : Form → Plain → Result (List ℕ) FormFault → Type 0
 IsWrittenAs form pass (Ok text) =
     IsWritableText (IsTextIn form) pass text × IsAnyReading text (Ok (form, pass))
@@ -30,11 +30,11 @@ IsWrittenAs form pass (Err fault) = fault ≢ Memory → IsRefusedIn form pass f
 
 -- the writing of a pass, put into a buffer
 pub record IsTextCopied (form : Form) (pass : Plain) (old new : List ℕ) (len code : ℕ) : Type 0 where
-  pub answer : Result (List ℕ) FormFault
-  pub written : IsWrittenAs form pass answer
-  pub put : MatchResult answer (λ text. IsCopied text old new len code) (λ fault. IsLeft (fault_code fault) old new len code)
+  pub writing : Result (List ℕ) FormFault
+  pub written : IsWrittenAs form pass writing
+  pub copied : MatchResult writing (λ text. IsCopied text old new len code) (λ fault. IsLeft (fault_code fault) old new len code)
 
 -- the same by the form's number; no other number is a form's
 pub record WritesForm (number : ℕ) (pass : Plain) (old new : List ℕ) (len code : ℕ) : Type 0 where
   pub known : (form : Form) → number ≡ number_of_form form → IsTextCopied form pass old new len code
-  pub unknown : ((form : Form) → number ≢ number_of_form form) → IsLeft 8 old new len code
+  pub unknown : ((form : Form) → number ≢ number_of_form form) → IsLeft no_form_code old new len code

@@ -11,6 +11,18 @@ use pass_forms::{Form, FormFault};
 /// A call did what it was asked for.
 pub const OK: u32 = 0;
 
+/// A text would have more than 8,192 bytes.
+pub const TOO_LONG: u32 = 1;
+
+/// The text is no pass.
+pub const MALFORMED: u32 = 2;
+
+/// A caveat is a third party's.
+pub const THIRD_PARTY: u32 = 3;
+
+/// There are more than 64 caveats.
+pub const TOO_MANY: u32 = 4;
+
 /// Memory ran out, or the object has no room for the pass.
 pub const MEMORY: u32 = 5;
 
@@ -32,14 +44,23 @@ pub const NOT_UNDERSTOOD: u32 = 10;
 /// A caveat denies the ask.
 pub const DENIED: u32 = 11;
 
+/// The number of the form of an object without a pass.
+pub const NO_TEXT: u32 = 0;
+
+const V1: u32 = 1;
+
+const V2: u32 = 2;
+
+const JSON: u32 = 3;
+
 /// The number of a form.
 pub fn form_number(form: Form) -> u32
     ensures { result ≡ spec.number_of_form form }
 {
     match form {
-        Form::V1 => 1,
-        Form::V2 => 2,
-        Form::Json => 3,
+        Form::V1 => V1,
+        Form::V2 => V2,
+        Form::Json => JSON,
     }
 }
 
@@ -48,9 +69,9 @@ pub fn form_of(number: u32) -> Option<Form>
     ensures { Reads (λ form. number ≡ spec.number_of_form form) result }
 {
     match number {
-        1 => Some(Form::V1),
-        2 => Some(Form::V2),
-        3 => Some(Form::Json),
+        V1 => Some(Form::V1),
+        V2 => Some(Form::V2),
+        JSON => Some(Form::Json),
         _ => None,
     }
 }
@@ -60,10 +81,10 @@ pub fn fault_code(fault: FormFault) -> u32
     ensures { result ≡ spec.fault_code fault }
 {
     match fault {
-        FormFault::TooLong => 1,
-        FormFault::Malformed => 2,
-        FormFault::ThirdParty => 3,
-        FormFault::TooMany => 4,
+        FormFault::TooLong => TOO_LONG,
+        FormFault::Malformed => MALFORMED,
+        FormFault::ThirdParty => THIRD_PARTY,
+        FormFault::TooMany => TOO_MANY,
         FormFault::Memory => MEMORY,
     }
 }

@@ -5,6 +5,7 @@ ghost use Rattle.std.specs.Prelude.{
   ◌≢◌,
   ◌↔◌,
   ◌+◌,
+  ◌<◌,
   ◌≤◌,
   ◌⊎◌,
   ℕ,
@@ -20,6 +21,7 @@ ghost use Rattle.pass_caveats.specs.Caveat.{Understood};
 ghost use Rattle.pass_caveats.specs.Fault.{IsFirstFault};
 ghost use Rattle.pass_caveats.specs.declared.caveat.Caveat.{Caveat};
 ghost use Rattle.pass_forms.specs.declared.fault.FormFault.TheVariants.{Memory, TooMany};
+ghost use Rattle.pass_forms.specs.declared.form.Form.TheVariants.{V2};
 ghost use Rattle.pass_forms.specs.Pass.{IsSigned, minted_pass};
 ghost use Rattle.pass_forms.specs.computed.Pass.{is_signed};
 ghost use Rattle.pass_forms.specs.Reading.{UnlessMemory, max_caveats};
@@ -27,15 +29,23 @@ ghost use Rattle.pass_forms.specs.Writing.{with_caveat};
 ghost use Rattle.pass_json.specs.AnyForm.{IsAnyReading, MayRunOut};
 ghost use Rattle.pass_json.specs.computed.AnyForm.{reading};
 ghost use Rattle.pass_c.specs.Ask.{Answers};
-ghost use Rattle.pass_c.specs.Code.{code_of, number_of_form, result_of, room_code};
-ghost use Rattle.pass_c.specs.Object.{IsEmpty, filled, form_in, held, room};
+ghost use Rattle.pass_c.specs.Code.{
+  code_of,
+  memory_code,
+  no_caveat_code,
+  number_of_form,
+  ok_code,
+  result_of,
+  too_many_code,
+};
+ghost use Rattle.pass_c.specs.Object.{IsEmpty, filled, form_in, held, room, room_code, taken};
 ghost use Rattle.pass_c.specs.Output.{IsCopied, IsLeft, IsTextCopied, WritesForm};
 
 use crate::ask::AskObject;
 use crate::code::{
     BAD_ASK, MEMORY, NO_CAVEAT, NO_FORM, OK, code_of, fault_code, form_of, verdict_of,
 };
-use crate::object::Object;
+use crate::object::PassObject;
 use crate::output::put;
 use pass_caveats::laws::reads_what_is_understood;
 use pass_forms::Form;
@@ -43,21 +53,21 @@ use std::alloc::Global;
 
 /// Reads a pass from a text in any form. After a fault the object is empty.
 #[unsafe(no_mangle)]
-pub extern "C" fn clubpass_read(alloc: Global, text: &[u8], pass: &mut Object) -> u32
+pub extern "C" fn clubpass_read(alloc: Global, text: &[u8], pass: &mut PassObject) -> u32
     ensures spelling { UnlessMemory (IsAnyReading text.now) (filled (result_of result) pass.new) }
     ensures computed { UnlessMemory (λ answer. reading text.now ≡ answer)
         (filled (result_of result) pass.new) }
     ensures memory { result_of result ≡ Err Memory → MayRunOut text.now }
     ensures code { result ≡ code_of (result_of result) }
-    ensures form { result ≡ 0 → pass.new.form ≡ number_of_form (form_in pass.new) }
-    ensures empty { result ≢ 0 → IsEmpty pass.new }
+    ensures form { result ≡ ok_code → pass.new.form ≡ number_of_form (form_in pass.new) }
+    ensures empty { result ≢ ok_code → IsEmpty pass.new }
 {
     code_of(pass.read(alloc, text))
 }
 
 /// The number of the form that the pass was read from: 1 for V1, 2 for V2, 3 for JSON.
 #[unsafe(no_mangle)]
-pub extern "C" fn clubpass_form(pass: &Object) -> u32
+pub extern "C" fn clubpass_form(pass: &PassObject) -> u32
     ensures { result ≡ pass.now.form }
 {
     pass.form
@@ -65,7 +75,7 @@ pub extern "C" fn clubpass_form(pass: &Object) -> u32
 
 /// The location.
 #[unsafe(no_mangle)]
-pub extern "C" fn clubpass_location(pass: &Object, out: &mut [u8], len: &mut usize) -> u32
+pub extern "C" fn clubpass_location(pass: &PassObject, out: &mut [u8], len: &mut usize) -> u32
     ensures { IsCopied (held pass.now).location out.old out.new len.new result }
 {
     put(pass.location(), out, len)
@@ -73,7 +83,7 @@ pub extern "C" fn clubpass_location(pass: &Object, out: &mut [u8], len: &mut usi
 
 /// The identifier.
 #[unsafe(no_mangle)]
-pub extern "C" fn clubpass_identifier(pass: &Object, out: &mut [u8], len: &mut usize) -> u32
+pub extern "C" fn clubpass_identifier(pass: &PassObject, out: &mut [u8], len: &mut usize) -> u32
     ensures { IsCopied (held pass.now).identifier out.old out.new len.new result }
 {
     put(pass.identifier(), out, len)
@@ -81,7 +91,7 @@ pub extern "C" fn clubpass_identifier(pass: &Object, out: &mut [u8], len: &mut u
 
 /// The number of caveats.
 #[unsafe(no_mangle)]
-pub extern "C" fn clubpass_caveat_count(pass: &Object) -> usize
+pub extern "C" fn clubpass_caveat_count(pass: &PassObject) -> usize
     ensures { result ≡ length (held pass.now).caveats }
 {
     pass.caveat_count()
@@ -90,13 +100,13 @@ pub extern "C" fn clubpass_caveat_count(pass: &Object) -> usize
 /// The caveat of this index, counted from 0.
 #[unsafe(no_mangle)]
 pub extern "C" fn clubpass_caveat(
-    pass: &Object,
+    pass: &PassObject,
     index: usize,
     out: &mut [u8],
     len: &mut usize,
 ) -> u32
     ensures { MatchOption (slice_get (held pass.now).caveats index)
-        (IsLeft 7 out.old out.new len.new result)
+        (IsLeft no_caveat_code out.old out.new len.new result)
         (λ caveat. IsCopied caveat out.old out.new len.new result) }
 {
     match pass.caveat(index) {
@@ -110,7 +120,7 @@ pub extern "C" fn clubpass_caveat(
 
 /// The signature.
 #[unsafe(no_mangle)]
-pub extern "C" fn clubpass_signature(pass: &Object, out: &mut [u8; 32])
+pub extern "C" fn clubpass_signature(pass: &PassObject, out: &mut [u8; 32])
     ensures { out.new ≡ (held pass.now).signature }
 {
     *out = pass.signature;
@@ -120,7 +130,7 @@ pub extern "C" fn clubpass_signature(pass: &Object, out: &mut [u8; 32])
 #[unsafe(no_mangle)]
 pub extern "C" fn clubpass_write(
     alloc: Global,
-    pass: &Object,
+    pass: &PassObject,
     form: u32,
     out: &mut [u8],
     len: &mut usize,
@@ -137,7 +147,7 @@ pub extern "C" fn clubpass_write(
 }
 
 // The same in a form that is known.
-fn write_in(alloc: Global, pass: &Object, form: Form, out: &mut [u8], len: &mut usize) -> u32
+fn write_in(alloc: Global, pass: &PassObject, form: Form, out: &mut [u8], len: &mut usize) -> u32
     ensures { IsTextCopied form (held pass.now) out.old out.new len.new result }
 {
     *len = 0;
@@ -153,13 +163,14 @@ pub extern "C" fn clubpass_mint(
     root: &[u8],
     location: &[u8],
     identifier: &[u8],
-    pass: &mut Object,
+    pass: &mut PassObject,
 ) -> u32
     ensures code { result ≡ room_code (length location.now + length identifier.now) }
-    ensures value { result ≡ 0 → held pass.new ≡ minted_pass root.now location.now identifier.now }
-    ensures signed { result ≡ 0 → IsSigned root.now (held pass.new) }
-    ensures form { result ≡ 0 → pass.new.form ≡ 2 }
-    ensures empty { result ≢ 0 → IsEmpty pass.new }
+    ensures value { result ≡ ok_code
+        → held pass.new ≡ minted_pass root.now location.now identifier.now }
+    ensures signed { result ≡ ok_code → IsSigned root.now (held pass.new) }
+    ensures form { result ≡ ok_code → pass.new.form ≡ number_of_form V2 }
+    ensures empty { result ≢ ok_code → IsEmpty pass.new }
 {
     if pass.mint(root, location, identifier) {
         OK
@@ -170,21 +181,23 @@ pub extern "C" fn clubpass_mint(
 
 /// Adds a caveat to a pass, and signs it without the root. After a fault the pass is unchanged.
 #[unsafe(no_mangle)]
-pub extern "C" fn clubpass_narrow(pass: &mut Object, caveat: &[u8]) -> u32
-    ensures value { result ≡ 0 → held pass.new ≡ with_caveat caveat.now (held pass.old) }
-    ensures signed { result ≡ 0
+pub extern "C" fn clubpass_narrow(pass: &mut PassObject, caveat: &[u8]) -> u32
+    ensures value { result ≡ ok_code → held pass.new ≡ with_caveat caveat.now (held pass.old) }
+    ensures signed { result ≡ ok_code
         → (root : List ℕ) → IsSigned root (held pass.old) → IsSigned root (held pass.new) }
-    ensures unchanged { result ≢ 0 → pass.new ≡ pass.old }
+    ensures unchanged { result ≢ ok_code → pass.new ≡ pass.old }
     ensures form { pass.new.form ≡ pass.old.form }
-    ensures too_many { (result ≡ 4) ↔ (max_caveats ≤ length (held pass.old).caveats) }
-    ensures code { (result ≡ 0) ⊎ ((result ≡ 4) ⊎ (result ≡ 5)) }
+    ensures too_many { (result ≡ too_many_code) ↔ (max_caveats ≤ length (held pass.old).caveats) }
+    ensures memory { (result ≡ memory_code) ↔ ((length (held pass.old).caveats < max_caveats)
+        × (room < taken pass.old + length caveat.now)) }
+    ensures code { (result ≡ ok_code) ⊎ ((result ≡ too_many_code) ⊎ (result ≡ memory_code)) }
 {
     code_of(pass.narrow(caveat))
 }
 
 /// Whether a pass is signed under a root.
 #[unsafe(no_mangle)]
-pub extern "C" fn clubpass_is_signed(pass: &Object, root: &[u8]) -> bool
+pub extern "C" fn clubpass_is_signed(pass: &PassObject, root: &[u8]) -> bool
     ensures signed { IsTrue result ↔ IsSigned root.now (held pass.now) }
     ensures computed { result ≡ is_signed root.now (held pass.now) }
 {
@@ -193,7 +206,11 @@ pub extern "C" fn clubpass_is_signed(pass: &Object, root: &[u8]) -> bool
 
 /// The first caveat that isn't understood or denies an ask.
 #[unsafe(no_mangle)]
-pub extern "C" fn clubpass_first_fault(pass: &Object, ask: &AskObject, number: &mut usize) -> u32
+pub extern "C" fn clubpass_first_fault(
+    pass: &PassObject,
+    ask: &AskObject,
+    number: &mut usize,
+) -> u32
     ensures { Answers (held pass.now).caveats ask.now result number.new }
 {
     *number = 0;

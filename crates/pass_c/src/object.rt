@@ -1,35 +1,7 @@
 //! A pass as an object of plain data.
 
-ghost use Rattle.std.specs.Prelude.{
-  ◌≡◌,
-  ◌≢◌,
-  ◌↔◌,
-  ◌+◌,
-  ◌≤◌,
-  ◌++◌,
-  ◌∷◌,
-  [],
-  ℕ,
-  List,
-  Err,
-  IfErr,
-  IfOk,
-  IfSome,
-  IsTrue,
-  IsFalse,
-  OnErr,
-  OnOk,
-  drop,
-  length,
-  map,
-  option_map,
-  slice_get,
-  sum,
-  take,
-};
-
-use crate::code::form_number;
-use crate::pieces::{copy_pieces, cut, extended, first_fault_in, piece, total};
+use crate::code::{NO_TEXT, form_number};
+use crate::pieces::{copy_pieces, cut, extended, first_fault_in, overwrite, piece, total};
 use pass_caveats::laws::{finds_the_first_fault, reads_what_is_understood};
 use pass_caveats::{Ask, CaveatFault};
 use pass_forms::{Form, FormFault, MAX_CAVEATS, Pass};
@@ -44,7 +16,7 @@ pub const ROOM: usize = 8192;
 /// `held`: whatever its bytes are, they hold a pass.
 #[repr(C)]
 #[derive(Drop)]
-pub struct Object {
+pub struct PassObject {
     /// The number of the form of its text; 0 without one.
     pub form: u32,
     pub location_len: u32,
@@ -56,12 +28,13 @@ pub struct Object {
     pub bytes: [u8; ROOM],
 }
 
-impl Object {
+impl PassObject {
     ghost use Rattle.std.specs.Prelude.{
       ◌≡◌,
       ◌≢◌,
       ◌↔◌,
       ◌+◌,
+      ◌<◌,
       ◌≤◌,
       ◌++◌,
       ◌∷◌,
@@ -97,7 +70,15 @@ impl Object {
     ghost use Rattle.pass_json.specs.AnyForm.{IsAnyReading, IsRefusedIn, IsTextIn, MayRunOut};
     ghost use Rattle.pass_json.specs.computed.AnyForm.{reading, writing};
     ghost use Rattle.pass_c.specs.Code as code;
-    ghost use Rattle.pass_c.specs.Object.{IsEmpty, filled, form_in, held, room, with_one_more};
+    ghost use Rattle.pass_c.specs.Object.{
+      IsEmpty,
+      filled,
+      form_in,
+      held,
+      room,
+      taken,
+      with_one_more,
+    };
 
     /// A hint at where the pass is valid.
     pub fn location(&self) -> &[u8]
@@ -155,7 +136,7 @@ impl Object {
         ensures count { self.new.caveat_count ≡ 0 }
         ensures bytes { self.new.bytes ≡ self.old.bytes }
     {
-        self.form = 0;
+        self.form = NO_TEXT;
         self.location_len = 0;
         self.identifier_len = 0;
         self.caveat_count = 0;
@@ -184,8 +165,8 @@ impl Object {
         if location.len() > ROOM || identifier.len() > ROOM - location.len() {
             return false;
         }
-        put(&mut self.bytes, 0, location);
-        put(&mut self.bytes, location.len(), identifier);
+        overwrite(&mut self.bytes, 0, location);
+        overwrite(&mut self.bytes, location.len(), identifier);
         self.form = form_number(form);
         self.location_len = location.len() as u32;
         self.identifier_len = identifier.len() as u32;
@@ -195,6 +176,8 @@ impl Object {
 
     // Adds a caveat without signing it, if there is room.
     fn push(&mut self, caveat: &[u8]) -> bool
+        ensures room { IsTrue result ↔ ((length (held self.old).caveats < max_caveats)
+            × (taken self.old + length caveat.now ≤ room)) }
         ensures more { IsTrue result → held self.new ≡ with_one_more caveat.now (held self.old) }
         ensures form { self.new.form ≡ self.old.form }
         ensures none { IsFalse result → self.new ≡ self.old }
@@ -207,7 +190,7 @@ impl Object {
         if start + caveat.len() > ROOM {
             return false;
         }
-        put(&mut self.bytes, start, caveat);
+        overwrite(&mut self.bytes, start, caveat);
         self.caveat_lens[count] = caveat.len() as u16;
         self.caveat_count = count as u32 + 1;
         true
@@ -267,6 +250,8 @@ impl Object {
         ensures form { self.new.form ≡ self.old.form }
         ensures err { OnErr result (self.new ≡ self.old) }
         ensures too_many { (result ≡ Err TooMany) ↔ (max_caveats ≤ length (held self.old).caveats) }
+        ensures memory { (result ≡ Err Memory) ↔ ((length (held self.old).caveats < max_caveats)
+            × (room < taken self.old + length caveat.now)) }
         ensures fault { IfErr result IsNarrowingFault }
     {
         if self.caveat_count() >= MAX_CAVEATS {
@@ -329,13 +314,4 @@ impl Object {
         let pass = self.to_pass(alloc)?;
         write_any(alloc, form, &pass)
     }
-}
-
-// Writes a part over the bytes from this place on.
-fn put(bytes: &mut [u8; ROOM], place: usize, part: &[u8])
-    requires { place + length part.now ≤ 8192 }
-    ensures { bytes.new
-        ≡ take place bytes.old ++ (part.now ++ drop (place + length part.now) bytes.old) }
-{
-    bytes[place..place + part.len()].copy_from_slice(part);
 }

@@ -1,4 +1,4 @@
-//! Bytes cut into pieces.
+//! Bytes cut into pieces, and written.
 
 ghost use Rattle.std.specs.Prelude.{
   ◌≡◌,
@@ -18,8 +18,9 @@ ghost use Rattle.std.specs.Prelude.{
 ghost use Rattle.pass_mac.specs.Chain.{extended_signature};
 ghost use Rattle.pass_caveats.specs.Fault.{first_fault_from};
 ghost use Rattle.pass_caveats.specs.computed.CaveatOf.{caveat_of};
-ghost use Rattle.pass_c.specs.Object.{pieces_of};
+ghost use Rattle.pass_c.specs.Object.{pieces_of, room};
 
+use crate::object::ROOM;
 use pass_caveats::{Ask, CaveatFault, fault_at};
 use pass_forms::MAX_CAVEATS;
 use pass_mac::Chain;
@@ -31,6 +32,15 @@ pub fn cut(bytes: &[u8], len: usize) -> (&[u8], &[u8])
     ensures others { result.1.now ≡ drop len bytes.now }
 {
     bytes.split_at(len.min(bytes.len()))
+}
+
+/// Writes a part over the bytes from this place on.
+pub fn overwrite(bytes: &mut [u8; ROOM], place: usize, part: &[u8])
+    requires { place + length part.now ≤ room }
+    ensures { bytes.new
+        ≡ take place bytes.old ++ (part.now ++ drop (place + length part.now) bytes.old) }
+{
+    bytes[place..place + part.len()].copy_from_slice(part);
 }
 
 /// The sum of at most 64 lengths.

@@ -5,14 +5,14 @@ use Rattle.pass_c.proofs.exports.write_in.Goals as goal
 
 pub returns-in-Ok : goal.returns-in-Ok
 returns-in-Ok c = record {
-  answer = Ok (string_bytes c.in-Ok.text);
+  writing = Ok (string_bytes c.in-Ok.text);
   written = (c.in-Ok.ensures.ok, c.in-Ok.ensures.read_back);
-  put = subst (λ (text : List ℕ). IsCopied text c.args.out.now c.put.new.out c.put.new.len c.put.result) c.as_bytes.ensures.value c.put.ensures;
+  copied = subst (λ (text : List ℕ). IsCopied text c.args.out.now c.put.new.out c.put.new.len c.put.result) c.as_bytes.ensures.value c.put.ensures;
 }
 
 pub returns-in-Err : goal.returns-in-Err
 returns-in-Err c = record {
-  answer = Err c.in-Err.fault;
+  writing = Err c.in-Err.fault;
   written = c.in-Err.ensures.err;
-  put = record { buffer = refl; counts = refl; says = c.fault_code.ensures };
+  copied = record { unchanged = refl; no_len = refl; reason = c.fault_code.ensures };
 }

@@ -2,7 +2,7 @@
 use Rattle.std.proofs.Common.{◌≡◌, take}
 use Rattle.pass_c.specs.Code.{number_of_form}
 use Rattle.pass_c.specs.Object.{held}
-use Rattle.pass_c.proofs.object.Object.fill.Given as goal
+use Rattle.pass_c.proofs.object.PassObject.fill.Given as goal
 
 abbrev pub invariant-loop-caveat : goal.invariant-loop-caveat
 invariant-loop-caveat l =

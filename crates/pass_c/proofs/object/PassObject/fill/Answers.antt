@@ -3,7 +3,7 @@ use Rattle.std.proofs.lemmas.List.{take_all, length-map}
 use Rattle.std.specs.Vec.{vec_items}
 use Rattle.pass_c.specs.Object.{with_one_more}
 use Rattle.pass_c.proofs.HeldLemmas.{next_caveat, pass_of}
-use Rattle.pass_c.proofs.object.Object.fill.Goals as goal
+use Rattle.pass_c.proofs.object.PassObject.fill.Goals as goal
 
 pub loop-caveat-preserved : goal.loop-caveat-preserved
 loop-caveat-preserved c =

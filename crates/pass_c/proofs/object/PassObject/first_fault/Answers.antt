@@ -3,7 +3,7 @@ use Rattle.pass_caveats.specs.Fault.{first_fault_of}
 use Rattle.pass_caveats.specs.computed.CaveatOf.{caveat_of}
 use Rattle.pass_c.specs.Object.{held, pieces_of}
 use Rattle.pass_c.proofs.VerdictLemmas.{understood_as}
-use Rattle.pass_c.proofs.object.Object.first_fault.Goals as goal
+use Rattle.pass_c.proofs.object.PassObject.first_fault.Goals as goal
 
 pub returns : goal.returns
 returns c =
