@@ -8,6 +8,7 @@ examples of bindings/ narrow the pass of README. Not part of the gate.
 # groups: programs
 # wants: python3-pytest python3-pymacaroons gcc libc6-dev pkg-config golang-go nodejs libmacaroons-dev
 
+import copy
 import ctypes
 import importlib
 import json
@@ -15,6 +16,7 @@ import os
 import random
 import subprocess
 import sys
+from concurrent.futures import ThreadPoolExecutor
 from datetime import date, datetime
 from pathlib import Path
 
@@ -199,6 +201,25 @@ def test_faults_from_python(clubpass):
         full.verify("root")
     assert clubpass.Pass.parse(THIRD["v1"]) == clubpass.Pass.parse(THIRD["json"]) and len({clubpass.Pass.parse(THIRD[it]) for it in FORMS}) == 1
     assert eval(repr(full), {"Pass": clubpass.Pass}) == full
+
+
+def test_objects_of_dropped_passes(clubpass):
+    """A pass that lives is untouched by those that are dropped and made beside it, also in eight threads."""
+    with pytest.raises(TypeError):
+        clubpass.Pass()
+
+    def busy(number):
+        minted = [clubpass.Pass.mint(b"root", f"key:{number}-{it}") for it in range(40)]
+        kept, texts = minted[::2], [str(it) for it in minted[::2]]
+        del minted
+        for it in range(300):
+            other = clubpass.Pass.parse(texts[it % 20]).narrow(f"guests <= {it % 50}")
+            assert other.verify(b"root") and other.caveats == [f"guests <= {it % 50}".encode()]
+        assert [str(it) for it in kept] == texts and all(it.verify(b"root") for it in kept)
+        assert copy.copy(kept[0]) is kept[0] is copy.deepcopy(kept[0])
+
+    with ThreadPoolExecutor(8) as pool:
+        list(pool.map(busy, range(8)))
 
 
 # ---- other libraries of macaroons

@@ -109,6 +109,11 @@ def _load() -> ctypes.CDLL:
 
 
 _library = _load()
+_read, _is_signed = _library.clubpass_read, _library.clubpass_is_signed
+
+# Objects of passes that are gone, by reference: a new one takes a third of the time of reading a pass.
+_MOST_SPARE = 16
+_spare: list = []
 
 
 def _bytes(value: Bytes) -> bytes:
@@ -173,29 +178,51 @@ class CaveatFault:
 class Pass:
     """A pass, with the form of the text that it was read from. `str` of it is its text in that form."""
 
-    __slots__ = ("_at", "_object")
+    __slots__ = ("_at",)
 
-    def __init__(self, of: _Object) -> None:
-        self._object = of
-        self._at = ctypes.byref(of)
+    def __new__(cls) -> Pass:
+        raise TypeError("Pass.parse reads a pass, and Pass.mint makes one")
+
+    @classmethod
+    def _made(cls) -> Pass:
+        """A pass whose object has any bytes, for a call that fills it."""
+        made = object.__new__(cls)
+        try:
+            made._at = _spare.pop()
+        except IndexError:
+            made._at = ctypes.byref(_Object())
+        return made
+
+    def __del__(self, spare: list = _spare, most: int = _MOST_SPARE) -> None:
+        if len(spare) < most:
+            spare.append(self._at)
+
+    def __copy__(self) -> Pass:
+        return self
+
+    def __deepcopy__(self, memo: object) -> Pass:
+        return self
 
     @classmethod
     def parse(cls, text: Bytes) -> Pass:
         """Reads a text in any form. Raises TooLong, Malformed, ThirdParty or TooMany."""
-        line, made = _bytes(text), cls(_Object())
-        _check(_library.clubpass_read(line, len(line), made._at))
+        line, made = text.encode() if isinstance(text, str) else _bytes(text), cls._made()
+        code = _read(line, len(line), made._at)
+        if code != _OK:
+            _check(code)
         return made
 
     @classmethod
     def mint(cls, root: bytes, identifier: Bytes, location: Bytes = b"") -> Pass:
         """Makes a new pass without caveats, signed under a root."""
-        place, name, made = _bytes(location), _bytes(identifier), cls(_Object())
+        place, name, made = _bytes(location), _bytes(identifier), cls._made()
         _check(_library.clubpass_mint(root, len(root), place, len(place), name, len(name), made._at))
         return made
 
     def narrow(self, *caveats: Bytes) -> Pass:
         """The pass with these caveats after its own. Raises TooMany for more than 64."""
-        made = Pass(_Object.from_buffer_copy(self._object))
+        made = Pass._made()
+        ctypes.memmove(made._at, self._at, _SIZE)
         for caveat in caveats:
             line = _bytes(caveat)
             _check(_library.clubpass_narrow(made._at, line, len(line)))
@@ -205,7 +232,7 @@ class Pass:
         """Whether the root signed the pass with its caveats. It tries no caveat."""
         if not isinstance(root, bytes):
             raise TypeError(f"a root is bytes, not {type(root).__name__}")
-        return _library.clubpass_is_signed(self._at, root, len(root))
+        return _is_signed(self._at, root, len(root))
 
     def first_fault(self, ask: Ask) -> CaveatFault | None:
         """The first caveat that isn't understood or denies the ask; None if each allows it. It doesn't look at the signature."""
