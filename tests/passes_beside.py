@@ -7,6 +7,8 @@ In C the library reads each form, and Debian's libmacaroons V1 alone. In Python 
 libraries are given the three caveats; the module tries them against an ask in a line of its own. Prints the medians of the processor's
 microseconds, over rounds in which each has its turn, and the ratios. Not part of the gate.
 
+The library is the one that the loader takes for this processor.
+
   tests/passes_beside.py [ROUNDS [COUNT]]      COUNT passes of each kind in a round; without: 11 2000
 """
 # groups: speed alone
@@ -46,27 +48,22 @@ def by_pymacaroons(text):
     return verifier.verify(read, ROOT)
 
 
-def main():
-    rounds, count = (int(it) for it in (sys.argv[1:] + ["11", "2000"][len(sys.argv) - 1:]))
-    with tempfile.TemporaryDirectory() as room:
-        subprocess.run([desk.ROOT / "bin" / "library", room], check=True, stdout=subprocess.DEVNULL)
-        os.environ["CLUBPASS_LIBRARY"] = f"{room}/lib/libclubpass.so.0"
-        sys.path.insert(0, f"{room}/lib/python3")
-        import clubpass
-        subprocess.run(["gcc", "-O2", "-D_GNU_SOURCE", "-std=c11", "-o", f"{room}/beside", desk.TESTS / "passes_beside.c", f"-I{desk.ROOT}/include",
-                        f"{room}/lib/libclubpass.a", "-lmacaroons"], check=True)
-        texts = {form: clubpass.Pass.mint(ROOT, "key:amy-1", "club-desk").narrow(*CAVEATS).to(form) for form in FORMS}
-        ask = clubpass.Ask("book", datetime(2026, 4, 20, 12), "court-1", date(2026, 5, 1), 18, "court", owed=200)
-        found = defaultdict(list)
-        for _ in range(rounds):
-            for line in subprocess.run([f"{room}/beside", str(count)], check=True, stdout=subprocess.PIPE, text=True).stdout.splitlines():
-                name, spent = line.split()
-                found["C", name].append(float(spent) / 1e3)
-            for form, text in texts.items():
-                found["Python", form].append(1e6 * seconds(lambda: clubpass.Pass.parse(text).verify(ROOT), count) / count)
-                found["Python", f"pymacaroons {form}"].append(1e6 * seconds(lambda: by_pymacaroons(text), count // 10) / (count // 10))
-            read = clubpass.Pass.parse(texts["v2"])
-            found["Python", "ask"].append(1e6 * seconds(lambda: read.first_fault(ask) is None, count) / count)
+def measure(room, rounds, count):
+    """Prints the times and the ratios, with the library that the loader finds in the room."""
+    sys.path.insert(0, f"{room}/lib/python3")
+    import clubpass
+    texts = {form: clubpass.Pass.mint(ROOT, "key:amy-1", "club-desk").narrow(*CAVEATS).to(form) for form in FORMS}
+    ask = clubpass.Ask("book", datetime(2026, 4, 20, 12), "court-1", date(2026, 5, 1), 18, "court", owed=200)
+    found = defaultdict(list)
+    for _ in range(rounds):
+        for line in subprocess.run([f"{room}/beside", str(count)], check=True, stdout=subprocess.PIPE, text=True).stdout.splitlines():
+            name, spent = line.split()
+            found["C", name].append(float(spent) / 1e3)
+        for form, text in texts.items():
+            found["Python", form].append(1e6 * seconds(lambda: clubpass.Pass.parse(text).verify(ROOT), count) / count)
+            found["Python", f"pymacaroons {form}"].append(1e6 * seconds(lambda: by_pymacaroons(text), count // 10) / (count // 10))
+        read = clubpass.Pass.parse(texts["v2"])
+        found["Python", "ask"].append(1e6 * seconds(lambda: read.first_fault(ask) is None, count) / count)
     middle = {name: statistics.median(spent) for name, spent in found.items()}
     for (language, name), spent in middle.items():
         print(f"{language:6} {name:17} {spent:8.1f} us")
@@ -76,5 +73,18 @@ def main():
         print(f"pymacaroons / ours, {form}: in C {theirs / middle['C', form]:.1f}, in Python {theirs / middle['Python', form]:.1f}")
 
 
+def main():
+    if len(sys.argv) == 4:
+        return measure(sys.argv[3], int(sys.argv[1]), int(sys.argv[2]))
+    rounds, count = sys.argv[1:] + ["11", "2000"][len(sys.argv) - 1:]
+    with tempfile.TemporaryDirectory() as room:
+        subprocess.run([desk.ROOT / "bin" / "library", room], check=True, stdout=subprocess.DEVNULL)
+        subprocess.run(["gcc", "-O2", "-D_GNU_SOURCE", "-std=c11", "-o", f"{room}/beside", desk.TESTS / "passes_beside.c", f"-I{room}/include",
+                        f"-L{room}/lib", "-lclubpass", "-lmacaroons"], check=True)
+        # The loader reads the variable as a program begins, and takes the library for this processor.
+        found = dict(os.environ, LD_LIBRARY_PATH=f"{room}/lib")
+        return subprocess.run([sys.executable, "-B", __file__, rounds, count, room], check=False, env=found).returncode
+
+
 if __name__ == "__main__":
-    main()
+    sys.exit(main())
