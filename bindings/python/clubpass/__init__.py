@@ -86,7 +86,8 @@ class _AskObject(ctypes.Structure):
 def _load() -> ctypes.CDLL:
     beside = Path(__file__).with_name("libclubpass.so.0")
     library = ctypes.CDLL(os.environ.get("CLUBPASS_LIBRARY") or (str(beside) if beside.exists() else "libclubpass.so.0"))
-    text, size, pass_at, length = ctypes.c_char_p, ctypes.c_size_t, ctypes.POINTER(_Object), ctypes.POINTER(ctypes.c_size_t)
+    # Each pass is `byref` of an _Object: a type that says so would be tested anew at each call.
+    text, size, pass_at, length = ctypes.c_char_p, ctypes.c_size_t, ctypes.c_void_p, ctypes.POINTER(ctypes.c_size_t)
     code = ctypes.c_uint32
     for name, result, arguments in [
         ("read", code, [text, size, pass_at]),
