@@ -38,7 +38,7 @@ fi
 mkdir "$root/root/wheel"
 cp first/*.deb "$root/root/"
 cp first/*.whl "$root/root/wheel/"
-text=$(grep -o '^AgEJ[A-Za-z0-9_-]*$' "$here/../README.md" | head -n 1)
+text=$(grep -o 'AgEJ[A-Za-z0-9_-]*' "$here/../README.md" | head -n 1)
 lent=$("${PASSTOOL:-$here/../bin/passtool}" narrow 'kind = court' <<PASS
 $text
 PASS
