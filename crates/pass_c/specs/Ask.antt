@@ -85,7 +85,7 @@ verdict_number (Some (NotUnderstood n)) = n
 verdict_number (Some (Denied n)) = n
 
 -- the first fault of a list of caveats, as a code and a number
-pub record IsVerdict (caveats : List (List ℕ)) (ask : Ask) (code number : ℕ) : Type 0 where
+pub record IsFaultReported (caveats : List (List ℕ)) (ask : Ask) (code number : ℕ) : Type 0 where
   pub fault : Option CaveatFault
   pub first : IsFirstFault caveats ask fault
   pub fault_code : code ≡ verdict_code fault
@@ -95,4 +95,4 @@ pub record IsVerdict (caveats : List (List ℕ)) (ask : Ask) (code number : ℕ)
 pub record Answers (caveats : List (List ℕ)) (object : AskObject) (code number : ℕ) : Type 0 where
   pub ask : Option Ask
   pub is_ask : IsAskOf object ask
-  pub verdict : MatchOption ask ((code ≡ bad_ask_code) × (number ≡ 0)) (λ held. IsVerdict caveats held code number)
+  pub verdict : MatchOption ask ((code ≡ bad_ask_code) × (number ≡ 0)) (λ held. IsFaultReported caveats held code number)

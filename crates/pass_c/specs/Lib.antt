@@ -1,4 +1,5 @@
 pub mod Ask
 pub mod Code
+pub mod Laws
 pub mod Object
 pub mod Output

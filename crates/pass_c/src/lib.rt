@@ -5,6 +5,7 @@
 mod ask;
 mod code;
 mod exports;
+pub mod laws;
 mod object;
 mod output;
 mod pieces;

@@ -1,0 +1,8 @@
+//! Laws of the definitions. Each law is the contract of a function with an empty body.
+
+ghost use Rattle.pass_c.specs.Laws.{ReadablePassesFit};
+
+/// A pass that a text spells, in any form, has room in an object.
+pub fn readable_passes_fit()
+    ensures { ReadablePassesFit }
+{}
