@@ -107,7 +107,7 @@ def in_use_of_persons(server, lines_of, day):
         same("a person", run_as("anna", *line, given=given.replace("=1", "+1").replace("Bob Ray", name))[:2], (0, "done\n"))
         same(f"the cell {name}", [it for it in lines("members", "--csv") if it.startswith("ray-bob")], [f"ray-bob,1000,5,0,1,{cell}"])
     kept = [BOOK.read_text(encoding="utf-8"), (ROOM / "club.log").read_text(encoding="utf-8", errors="replace")]
-    same("nothing of a person in the book or the log", [it for it in ("example.org", "Käthe", "171") for text in kept if it in text], [])
+    same("nothing of a person in the book or the log", [it for it in ("example.org", "Käthe", "171 22") for text in kept if it in text], [])
     same("nor in a copy", [it.name for it in (HOME / "club-before").iterdir() if b"example.org" in it.read_bytes()], [])
     copy = [it for it in lines("copies", "--csv") if "-close" in it][-1].split(",")[0]
     shown = done("restore", copy, "--yes").splitlines()
