@@ -65,12 +65,15 @@ by_page() {
 
 # ---- The first club, as the page makes it, with a member.
 by_page 'A club'
-member_of() {
+# In a folder for each club, since both have an amy whose spare passes are written there.
+member_of() (
+    mkdir "$1-clerk"
+    cd "$1-clerk"
     office "$1" add-member amy 99
     office "$1" credit amy 1000
     office "$1" add-facility "$2" court 4 1 0 24
     office "$1" add-key amy-1 amy --to "$work/$1-pass"
-}
+)
 member_of club court-1 >told
 cp club-pass "$room/page/amy-1"
 systemctl enable --now clubdesk@club

@@ -1,7 +1,7 @@
 #!/usr/bin/env -S /usr/bin/python3 -B
 """`office` makes spare keys for lending, as many as the configuration says, once each.
 
-An import and the menu's new member make them, under the configuration's names. A letter has their passes as a second half. A spare key
+An import, `add-member` and the menu's new member make them, under the configuration's names. A letter has their passes as a second half. A spare key
 pays with its member's points, counts for itself, and reaches no booking of its member's. Wants root, for a machine of its own
 (tests/office_room.sh). Not part of the gate.
 """
@@ -62,10 +62,23 @@ def by_the_menu():
     same("the menu's status", terminal.exitstatus, 0)
     member, = next(iter(rows("SELECT name FROM members WHERE credited = 3000")))
     keys = [f"{member}-1", f"{member}-lend-1", f"{member}-lend-2"]
-    same("the menu's new member", keys_of(member), keys)
+    same("the menu's new member", sorted(keys_of(member)), keys)
     page = run_as("anna", "cat", f"letter-{keys[0]}.html")[1]
     own, *spares = (pass_in("passes", it) for it in keys)
     same("the new member's letter", re.findall(rf'href="{SITE}/book.html#([^"]*)"', page), [own, "spare=" + ";".join(spares)])
+
+
+def by_the_command():
+    spares = ["lee-cy-lend-1", "lee-cy-lend-2"]
+    same("what add-member says", done("add-member", "lee-cy", "5").splitlines(), ["done", *(f"lee-cy: spare pass {it}" for it in spares)])
+    same("its keys", keys_of("lee-cy"), spares)
+    root = rows(f"SELECT hex(root) FROM keys WHERE name = '{spares[0]}'")[0][0]
+    same("its spare pass", run_as("anna", "passtool", "verify", "--root", root, given=pass_in("passes", spares[0]))[1], "signed\n")
+    same("given again", office("add-member", "lee-cy", "5")[0], 1)
+    (HOME / "passes" / "lee-dot-lend-2").write_text("another's\n", encoding="utf-8")
+    status, _, errors = office("add-member", "lee-dot", "5")
+    same("a file is there", (status, errors, rows("SELECT count(*) FROM members WHERE name = 'lee-dot'")), (1, "refused: there is a file passes/lee-dot-lend-2 already\n", [(0,)]))
+    whole("spare keys of a new member")
 
 
 def at_the_desk():
@@ -104,6 +117,7 @@ done("add-facility", "court-1", "court", "4", "200", "8", "22")
 imports()
 in_letters()
 by_the_menu()
+by_the_command()
 at_the_desk()
 in_the_configuration()
 leave()

@@ -18,7 +18,7 @@ from club_office.corrections import correct
 from club_office.counter import ask_person, desk_line, make_pass, read_book, show_book, write_report
 from club_office.faults import OUTPUT, STORAGE, USAGE, Fault, bad_value, fault, refusal
 from club_office.asking import is_terminal
-from club_office.importing import import_members, import_row, import_state
+from club_office.importing import import_members, import_row, import_state, make_spares, refuse_spare_files
 from club_office.letters import letters
 from club_office.menu import menu
 from club_office.restoring import list_copies, restore
@@ -89,7 +89,7 @@ SEVERAL = word("FACILITIES", type=names, nargs="+", help="as court-1 court-2, co
 FACILITY, MEMBER, DAY = word("FACILITY", type=name), word("MEMBER", type=name), word("DAY", type=day)
 
 COMMANDS = {
-    "add-member": Command(ORDER, [word("NAME"), word("QUOTA")], "add a member", None),
+    "add-member": Command(ORDER, [word("NAME"), word("QUOTA")], "add a member, with spare keys if the configuration has them", None),
     "credit": Command(ORDER, [word("MEMBER"), word("POINTS")], "credit a member with points", None),
     "add-facility": Command(
         ORDER,
@@ -411,6 +411,16 @@ def at_counter(given):
         raise refusal("old year", club=club.name)
     if COMMANDS[words.command].kind == COUNTER:
         return COMMANDS[words.command].does(club, words)
+    if words.command == "add-member":
+        refuse_spare_files(club, words.name)
+    status = carry_out(club, given)
+    if status == 0 and words.command == "add-member":
+        make_spares(club, words.name, words.quota)
+    return status
+
+
+def carry_out(club, given):
+    """Has the desk's side carry a command out."""
     if os.geteuid() == desk_user(club).pw_uid:
         return at_desk(given)
     line, how = desk_line(club, given[1:])

@@ -14,12 +14,13 @@ from club_office.clubs import clubdesk, show
 from club_office.copies import snapshot
 from club_office.asking import confirms, show_lines
 from club_office.counter import as_desk, write_again, write_new
-from club_office.faults import BAD_VALUE, bad_value, fault, refusal
+from club_office.faults import BAD_VALUE, OUTPUT, REFUSED, Fault, bad_value, fault, refusal
 from club_office.lists import table
-from club_office.member_list import rows_of
+from club_office.member_list import Row, rows_of
 from club_office.people import NOBODY, keep_person, person_of, read_people
-from club_office.spares import spare_keys
+from club_office.spares import PASSES, spare_keys
 from club_office.texts import say
+from club_office.values import NAME
 
 ROOT = re.compile("[0-9a-f]{64}")
 
@@ -126,6 +127,25 @@ def import_members(club, words):
     return 0
 
 
+def refuse_spare_files(club, member):
+    """Refuses a new member whose spare passes would meet files of their names."""
+    keys = spare_keys(club, member) if NAME.fullmatch(member) else []
+    for path in (os.path.join(PASSES, key) for key in keys):
+        if os.path.lexists(path):
+            raise refusal("file there", path=path)
+
+
+def make_spares(club, member, quota):
+    """Makes the spare keys of a new member, each with its pass in the folder of passes."""
+    for key in spare_keys(club, member):
+        try:
+            os.makedirs(PASSES, 0o700, exist_ok=True)
+            import_one(club, Row(None, member, member, quota, 0, key, NOBODY), PASSES)
+        except (Fault, OSError) as failure:
+            raise fault(OUTPUT, "spare undone", key=key, member=member, path=os.path.join(PASSES, key), fault=failure) from None
+        print(f"{member}: {say('spare pass', key=key)}", flush=True)
+
+
 def already(club):
     """The points credited to each member, and the member of each key."""
     status, text = as_desk(club, ["import-state"])
@@ -168,10 +188,17 @@ def write_mark(mark, roots, digest=None):
     write_again(mark, "\n".join([*roots, *([f"pass:{digest}"] if digest else [])]) + "\n")
 
 
+def row_fault(status, row, text, **values):
+    """A fault of a row, with its line if it is one of a list."""
+    if row.line is None:
+        return fault(status, text, **values)
+    return refusal("at line", line=row.line, why=say(text, **values)) if status == REFUSED else fault(status, "at line", line=row.line, why=say(text, **values))
+
+
 def import_one(club, row, folder):
     """A row: nothing is left of its mark once its pass has its name. A file that came to that name from elsewhere stays as it is."""
     place, mark = os.path.join(folder, row.key), mark_of(folder, row.key)
-    taken = refusal("at line", line=row.line, why=say("other's file", path=place))
+    taken = row_fault(REFUSED, row, "other's file", path=place)
     roots, digest = read_mark(mark)
     if os.path.lexists(place):
         with open(place, "rb") as file:
@@ -184,7 +211,7 @@ def import_one(club, row, folder):
     given = json.dumps({"roots": roots, "person": row.person._asdict()}).encode()
     status, text = as_desk(club, ["import-row", row.member, str(row.quota), str(row.points), row.key], given)
     if status:
-        raise fault(status, "at line", line=row.line, why=say("row undone", member=row.member))
+        raise row_fault(status, row, "row undone", member=row.member)
     if text:
         write_mark(mark, roots, hashlib.sha256(text).hexdigest())
         try:

@@ -18,12 +18,11 @@ from club_office.asking import Back, ask, ask_day, ask_facilities, ask_hours, as
 from club_office.clubs import SELF
 from club_office.counter import as_desk
 from club_office.reading import fitted, found as found_names, found_members, plain, read_hours
-from club_office.spares import spare_keys
+from club_office.spares import PASSES, spare_keys
 from club_office.texts import WEEKDAYS, day_text, language, means, say
 from club_office.values import NAME
 
 # Where new passes are written, for letters.
-PASSES = "passes"
 Task = collections.namedtuple("Task", "group called words is_asked")
 
 
@@ -102,20 +101,19 @@ def new_member_words(office):
     print(f"   -> {name}")
     quota = ask_number(say("ask quota"), 0, 99)
     points = office.points(1_000_000)
-    keys = [free_key(office, name), *spare_keys(office.club, name)]
-    return [["add-member", name, str(quota)], ["credit", name, points], *key_words(office, name, keys)]
+    return [["add-member", name, str(quota)], ["credit", name, points], *key_words(office, name, spare_keys(office.club, name))]
 
 
-def key_words(office, member, keys):
-    """New keys of a member, whose passes are where letters look for them; and their letter, if one can be made."""
-    words = [["add-key", key, member, "--to", f"{PASSES}/{key}"] for key in keys]
+def key_words(office, member, spares=()):
+    """A new key of a member, whose pass is where letters look for it; and its letter, with spare passes, if one can be made."""
+    key = free_key(office, member)
     has_letter = office.club.site and shutil.which("qrencode")
-    return [*words, *([["letters", *keys, "--to", f"letter-{keys[0]}.html"]] if has_letter else [])]
+    letter = ["letters", key, *spares, "--to", f"letter-{key}.html"]
+    return [["add-key", key, member, "--to", f"{PASSES}/{key}"], *([letter] if has_letter else [])]
 
 
 def new_key_words(office):
-    member = office.member()
-    return key_words(office, member, [free_key(office, member)])
+    return key_words(office, office.member())
 
 
 def lost_words(office):

@@ -167,6 +167,10 @@ REFUSALS = {
         "there is a file {path}, which isn't this row's pass: move it away, and run the import again",
         "es gibt eine Datei {path}, die nicht der Pass dieser Zeile ist: verschieb sie, und starte den Import noch einmal",
     ),
+    "spare undone": (
+        "{member} is added, but the spare key {key} isn't made: {fault}. `office CLUB add-key {key} {member} --to {path}` makes it",
+        "{member} ist eingetragen, aber der Ersatzschlüssel {key} fehlt: {fault}. `office CLUB add-key {key} {member} --to {path}` macht ihn",
+    ),
     "row undone": ("{member} isn't done; mend it and run the import again", "{member} ist nicht fertig: behebe den Fehler, und starte den Import noch einmal"),
     "roots": (
         "import-row reads the roots of a key from standard input, each of 64 hexadecimal digits",
