@@ -14,7 +14,7 @@ from club_office.lists import faults
 from club_office.people import forget_person, mail_concerned, show_concerned
 from club_office.plans import slot_text
 from club_office.texts import say
-from club_office.undoing import attach_before, write_undo
+from club_office.undoing import attach_before, forget_undo, write_undo
 
 
 WAITS_FOR_FILE = 20
@@ -66,6 +66,8 @@ def carry_out(club, words, planned, plans, shown):
             if plan.copy_to:
                 copy_file(club, db, plan.copy_to)
             change(db, plan, lambda: write_undo(club, db, words))
+            if words.command == "undo":
+                forget_undo(club)
             if words.command == "leave":
                 forget_person(club, words.member)
             if plan.copy_to:

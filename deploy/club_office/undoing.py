@@ -13,7 +13,7 @@ from club_office.texts import say
 TABLES = ("members", "facilities", "keys", "slots", "bookings", "old_roots")
 # More rows than these are no correction of a clerk's hand. A new year keeps a file of its own, and an undo is none.
 MOST_ROWS = 5_000
-NOT_UNDONE = ("new-year", "undo")
+NOT_UNDONE = "new-year"
 
 
 def undo_of(club):
@@ -57,10 +57,13 @@ def forget_undo(club):
 
 
 def write_undo(club, db, words):
-    """Keeps what a correction is about to commit. If it isn't committed, no row is as it is kept, and nothing can be undone by it."""
-    forget_undo(club)
+    """Keeps what a correction is about to commit. If it isn't committed, no row is as it is kept, and nothing can be undone by it. An undo
+    keeps what it undoes until it is committed."""
+    if words.command == "undo":
+        return
     rows = rows_changed(db)
-    if words.command in NOT_UNDONE or len(rows) > MOST_ROWS:
+    if words.command == NOT_UNDONE or len(rows) > MOST_ROWS:
+        forget_undo(club)
         return
     made = undo_of(club) + ".new"
     with open(made, "w", encoding="ascii") as file:
