@@ -22,7 +22,6 @@ from club_office.spares import PASSES, spare_keys
 from club_office.texts import WEEKDAYS, day_text, language, means, say
 from club_office.values import NAME
 
-# Where new passes are written, for letters.
 Task = collections.namedtuple("Task", "group called words is_asked")
 
 
