@@ -39,7 +39,7 @@ MINUTE, MANY = 29_611_440, '{"guests":49}'
 ROOT, BIG_ROWS, KEYS_ASKED = b"0123456789abcdef", 10_000, 50
 MOST_OPEN = 98  # of a member's bookings, whose quota is 99
 KINDS = ["booking", "repeat", "account", "slot", "refused", "forged"]
-STATEMENTS = "KEY OLDER_ROOT MEMBER FACILITY SLOT BOOKING COSTS_UNDER_KEY OPEN ADD_BOOKING ADD_USED ADD_TAKEN".split()
+STATEMENTS = "KEY OLDER_ROOT MEMBER FACILITY SLOT BOOKING COSTS_UNDER_KEY OPEN ADD_BOOKING ADD_TAKEN CHARGE".split()
 OURS, PLAIN = "clubdesk", "plain"
 PROCESSORS = sorted(os.sched_getaffinity(0))[-2:]
 CAVEATS = ["guests <= 4", "until < 2099-12-31T23:59", "spend <= 999999999"]

@@ -19,7 +19,7 @@ from reference.wire import STATUSES, TEXTS
 
 DAY, WINDOW = 1440, 86_400
 PRAGMAS = "PRAGMA locking_mode = EXCLUSIVE; PRAGMA journal_mode = WAL; PRAGMA synchronous = FULL; PRAGMA foreign_keys = ON; PRAGMA cache_size = 2000"
-KEY, OLDER_ROOT, MEMBER, FACILITY, SLOT, BOOKING, COSTS, OPEN, ADD_BOOKING, ADD_USED, ADD_TAKEN = sys.stdin.read().splitlines()
+KEY, OLDER_ROOT, MEMBER, FACILITY, SLOT, BOOKING, COSTS, OPEN, ADD_BOOKING, ADD_TAKEN, CHARGE = sys.stdin.read().splitlines()
 app = Flask(__name__)
 app.register_error_handler(404, lambda _fault: refusal(2))
 
@@ -159,8 +159,9 @@ def book_anew(facility, slot, key, member, number, guests, charge):
         refuse(20)
     with app.database:
         app.database.execute(ADD_BOOKING, (key, number, *slot, guests, charge, left, 0, 0))
-        app.database.execute(ADD_USED, (member, charge, key))
         app.database.execute(ADD_TAKEN, (*slot, guests + 1))
+        if app.database.execute(CHARGE, (member, charge, key, *slot)).rowcount != 1:
+            raise sqlite3.IntegrityError("not charged")
     return left
 
 

@@ -23,7 +23,7 @@ enum { MAX_REQUEST = 16640, MAX_TEXT = 8192, MAX_REPLY = 512, MAX_ROOT = 64, SIG
 // ---- SQLite ----
 
 enum statement {
-    KEY, OLDER_ROOT, MEMBER, FACILITY, SLOT, BOOKING, COSTS, OPEN, ADD_BOOKING, ADD_USED, ADD_TAKEN,
+    KEY, OLDER_ROOT, MEMBER, FACILITY, SLOT, BOOKING, COSTS, OPEN, ADD_BOOKING, ADD_TAKEN, CHARGE,
     BEGIN, COMMIT, STATEMENTS
 };
 
@@ -333,11 +333,11 @@ static void write_booking(const struct row *row, const struct request *it, int c
     run(BEGIN);
     set(ADD_BOOKING, "tntnnnnnnn", row->key, it->number, it->facility, it->day, it->hour, it->guests, charge, left, 0, 0);
     run(ADD_BOOKING);
-    set(ADD_USED, "tnt", row->member, charge, row->key);
-    run(ADD_USED);
-    if (sqlite3_changes(database) == 0) fail("used");
     set(ADD_TAKEN, "tnnn", it->facility, it->day, it->hour, it->guests + 1);
     run(ADD_TAKEN);
+    set(CHARGE, "tnttnn", row->member, charge, row->key, it->facility, it->day, it->hour);
+    run(CHARGE);
+    if (sqlite3_changes(database) == 0) fail("not charged");
     run(COMMIT);
 }
 

@@ -36,7 +36,7 @@ type desk struct {
 	moment   int
 	database *sql.DB
 
-	key, older, member, facility, slot, booking, costs, open, addBooking, addUsed, addTaken *sql.Stmt
+	key, older, member, facility, slot, booking, costs, open, addBooking, addTaken, charge *sql.Stmt
 }
 
 func check(err error) {
@@ -52,7 +52,7 @@ func newDesk(path string, moment int) *desk {
 	d := &desk{moment: moment, database: database}
 	texts := bufio.NewScanner(os.Stdin)
 	for _, it := range []**sql.Stmt{&d.key, &d.older, &d.member, &d.facility, &d.slot, &d.booking, &d.costs, &d.open,
-		&d.addBooking, &d.addUsed, &d.addTaken} {
+		&d.addBooking, &d.addTaken, &d.charge} {
 		texts.Scan()
 		*it, err = database.Prepare(texts.Text())
 		check(err)
@@ -334,8 +334,8 @@ func (d *desk) add(key key, it request, charge, left int) {
 		}
 	}
 	write(d.addBooking, key.name, it.number, it.slot.facility, it.slot.day, it.slot.hour, it.guests, charge, left, 0, 0)
-	write(d.addUsed, key.member, charge, key.name)
 	write(d.addTaken, it.slot.facility, it.slot.day, it.slot.hour, it.guests+1)
+	write(d.charge, key.member, charge, key.name, it.slot.facility, it.slot.day, it.slot.hour)
 	check(tx.Commit())
 }
 
