@@ -15,10 +15,11 @@ mod responder;
 mod send;
 
 pub use club_core::{
-    ClubStore, Command, OfficeAnswer, OfficeFault, Refusal, Reply, Request, StoreFault,
+    Change, ClubStore, Command, MemberAccount, OfficeAnswer, OfficeFault, Refusal, Reply, Request,
+    SlotUse, StoreFault,
 };
-pub use club_gate::{Desk, OfficeReply, key_signature, minted};
-pub use club_rows::Root;
+pub use club_gate::{Desk, Fault, OfficeReply, key_signature, minted};
+pub use club_rows::{Booking, BookingNumber, Facility, KeyRow, OlderRoot, Root};
 pub use club_values::{Day, Hour, Kind, Moment, Name, Slot};
 pub use ends::{Inlet, Outlet, ReadInlet, WriteOutlet};
 pub use exchange::answer;
@@ -26,5 +27,7 @@ pub use face::Face;
 pub use fault::AnswerFault;
 pub use http_request::{HeadScan, MAX_REQUEST_LEN, Routes, Words, words_of};
 pub use http_response::{Line, MAX_REPLY_LEN, reply_bytes, status_of};
+pub use pass_forms::Form;
+pub use pass_json::write_any;
 pub use responder::Responder;
 pub use send::{put_all, send_reply};
