@@ -2158,9 +2158,10 @@ def large_letters(passes, front):
                 page.cuts_nothing_off(360, name, language)
                 wide = page.run(TOO_WIDE)
                 check(not wide, "slots that are wider than their place", name, language, wide)
+                page.breaks_no_word(name, language)
                 page.is_audited(name, language)
                 keep(f"large-{name}-{language[:2]}.png", page.command("Page.captureScreenshot")["data"])
-    print("with twice the letters at 360 pixels nothing is cut off; an audit finds nothing")
+    print("with twice the letters at 360 pixels nothing is cut off and no word is broken; an audit finds nothing")
 
 
 TOO_WIDE = """

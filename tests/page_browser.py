@@ -117,6 +117,11 @@ class Browser:
         cut = self.run(CUT_OFF)
         check(not cut, "words that are cut off", *what, *cut)
 
+    def breaks_no_word(self, *what):
+        """No word goes on in the next line, as one does whose place is too narrow. Words of ten letters and more may."""
+        broken = self.run(BROKEN_WORDS)
+        check(not broken, "words that are broken", *what, *broken)
+
     def focus_is_seen(self, *what):
         """But for the focus in a date, of which the browser marks a part."""
         outline = self.run("""const style = getComputedStyle(document.activeElement);
@@ -227,6 +232,23 @@ return found;
 CUT_OFF = """
 return [...document.querySelectorAll("button, h1, h2, h3, label, legend, p, dd, code, .choice, td, th")].filter((each) => each.checkVisibility()
   && each.closest("#facility-choice, .table-room") === null && each.getBoundingClientRect().right > innerWidth + 1).map((each) => each.outerHTML.slice(0, 100));
+"""
+BROKEN_WORDS = """
+const found = [];
+for (const each of document.querySelectorAll("h1, h2, h3, h4, th, label, button, .slot span, .slot-time, .state, .notice span")) {
+  if (!each.checkVisibility() || each.getClientRects().length === 0) continue;
+  for (const node of [...each.childNodes].filter((child) => child.nodeType === 3)) {
+    for (const { 0: word, index } of node.data.matchAll(/[^\\s-]+/g)) {
+      if (word.length > 9) continue;
+      const range = document.createRange();
+      range.setStart(node, index);
+      range.setEnd(node, index + word.length);
+      const lines = new Set([...range.getClientRects()].map(({ top }) => Math.round(top)));
+      if (lines.size > 1) found.push(`${each.tagName} ${each.id} ${each.className}: ${word}`);
+    }
+  }
+}
+return found;
 """
 SMALL_TARGETS = """
 return [...document.querySelectorAll("button, select, textarea, input:not([type=radio]):not([type=checkbox]), .options label")]

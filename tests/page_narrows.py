@@ -891,6 +891,7 @@ def large_letters():
                                "faulty": lambda: (page.narrow(AMY, ("guests", "x"), ("facility", "É"), ("until", "1999-01-01T00:00")), page.run("enter('{')"))}.items():
                 show()
                 page.cuts_nothing_off(360, name, language)
+                page.breaks_no_word(name, language)
                 page.is_audited(name, language)
                 keep(f"pass-large-{name}-{language[:2]}.png", page.picture())
     print("with twice the letters at 360 pixels nothing is cut off; an audit finds nothing")
