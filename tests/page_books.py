@@ -2107,6 +2107,77 @@ def shows_the_club(page, passes):
     print("whom to ask, links, logo and sentences of the club are shown on each page; an ended pass says when it ended")
 
 
+# The spare pass of a loan, its key, its lines, and its sentence; how many loans are kept.
+MADE = """
+const { text } = splitGiven(byName("lend-address").value.split("#")[1]);
+const pass = readPass(text);
+return [keyName(pass), pass.caveats.map(characters), byName("lend-made-says").textContent, keptLoans().length];
+"""
+
+
+def lends_what_the_pass_opens(address):
+    """Lends at the club to try. A loan takes a spare pass that the desk takes and that is the member's, or the page says before that there is none.
+    A pass with limits offers no more than it opens. A second press makes no second loan. Without the club's list a booking offers what it can do."""
+    def made(page):
+        page.run("byName('lend-made').hidden = true; byName('lend-make').click(); byName('lend-make').click()")
+        page.driver.execute_async_script(HELPERS + "settled(() => !isMaking).then(arguments[0])")
+        return page.run(MADE) if page.run("return isShown('lend-made')") else page.run("return shownText('lend-news')")
+
+    def opens(page, end=""):
+        page.open(address + end)
+        page.driver.execute_async_script(HELPERS + "settled(() => state.account !== null && dayIsThere() || denial('account') > 0).then(arguments[0])")
+        page.run("byName('to-lend').click()")
+        time.sleep(0.5)
+
+    def text_of(page, script):
+        return page.driver.execute_async_script("const done = arguments[0]; (async () => { " + script + " })().then(done);")
+
+    with Browser() as page:
+        page.helpers = HELPERS
+        opens(page)
+        key, _, says, count = made(page)
+        check(key == "anna-lend-1" and "limits of your own pass" not in says and count == 1, "one loan of two presses", key, says, count)
+        # One that the office replaced, and another member's.
+        renewed = text_of(page, "return writePass({ ...readPass(await passToTry('anna-lend-1')), signature: new Uint8Array(32) })")
+        theirs = text_of(page, "return passToTry('others')")
+        for spares, wanted in [([renewed, theirs], None), ([renewed], None), ([renewed, theirs, text_of(page, "return passToTry('anna-lend-2')")], "anna-lend-2")]:
+            page.run("localStorage.removeItem('demo loans'); localStorage['demo spares'] = JSON.stringify(arguments[0])", spares)
+            opens(page)
+            which = page.run("return shownText('lend-which')")
+            check((wanted is None) == ("None of your spare passes can be taken." in which and "can cancel them" in which), "which spare pass is taken", wanted, which)
+            check(made(page)[0] == (wanted or "anna-1"), "the pass that is lent", wanted)
+        # The same where it turns out after the press alone.
+        page.run("localStorage.removeItem('demo loans'); localStorage['demo spares'] = JSON.stringify([arguments[0]])", renewed)
+        opens(page)
+        page.run("unfit.clear(); showChosen()")
+        check(page.run("return shownText('lend-which')") == "", "nothing is known yet")
+        check("Nothing was made yet" in made(page) and page.run("return keptLoans().length") == 0, "no loan of her own pass before she is told")
+        check("None of your spare passes" in page.run("return shownText('lend-which')") and made(page)[0] == "anna-1", "and one once she presses again")
+        # A pass with limits.
+        last = page.run("return daysLater(clubMoment().slice(0, 10), 1)")
+        for lines, how, points in [(["actions = view"], ["look"], None), (["kind = court", "actions = view,book,cancel", f"until < {last}T00:00", "spend <= 200"], ["book", "look"], ["200", "other", "none"])]:
+            given = text_of(page, f"return writePass(await narrowed(readPass(await passToTry('anna-1')), {json.dumps(lines)}))")
+            page.run("localStorage.removeItem('demo loans')")
+            opens(page, f"#{given}")
+            values = page.run("return ['lend-how', 'lend-until', 'lend-points'].map((id) => [...byName(id).querySelectorAll('input')].map((each) => each.value))")
+            check(values[0] == how and (points is None or len(values[1]) == 2 and values[2] == points), "what it offers", lines, values)
+            key, found, says, _ = made(page)
+            check(key == "anna-1" and found[:len(lines)] == lines and says.endswith("The limits of your own pass apply too."), "a part of that pass", key, found, says)
+        # Without the club's list.
+        opens(page)
+        page.run("byName('to-day').click(); showDay(daysLater(clubMoment().slice(0, 10), 20))")
+        time.sleep(1)
+        page.run("cellAt('court-1', 20).button.click(); byName('dialog').querySelector('.main').click()")
+        time.sleep(1)
+        page.run("pressIn(byName('dialog'), 'Close'); byName('to-bookings').click()")
+        buttons = "return [...byName('to-come').querySelectorAll('button')].map((each) => each.textContent)"
+        check(page.run(buttons) == ["Cancel", "Into the calendar", "Invite", "Book again next week", "Change"], "a booking", page.run(buttons))
+        page.run("state.club = null; byName('to-bookings').click()")
+        check(page.run(buttons) == ["Cancel", "Invite"], "a booking without the club's list", page.run(buttons))
+        check(not page.driver.get_log("browser"), "the console", page.driver.get_log("browser"))
+    print("a loan takes a spare pass that the desk takes, offers no more than the pass opens, and is made once")
+
+
 def club_to_try():
     """web/demo.html from a folder: books, cancels and lends over a desk in the page, and loads and sends nothing."""
     shutil.copy(f"{TOP}/web/demo.html", "demo.html")
@@ -2130,6 +2201,7 @@ def club_to_try():
         check(page.run("return byName('lend-address').value").startswith(f"{address}#"), "a link", page.run("return byName('lend-address').value"))
         check(page.run("return Object.keys(localStorage).every((name) => name.startsWith('demo ') || name === 'club to try')"), "names of its own")
         page.sent_nothing(address)
+    lends_what_the_pass_opens(address)
     # The page of a club that is opened from a folder says what it is, and leads there.
     shutil.copy(f"{TOP}/web/book.html", "book.html")
     with Browser() as page:

@@ -16,10 +16,12 @@ import { say } from "./words.mjs";
 
 // The buttons that a card has below "More".
 export function moreOf(entry, whenDone) {
-  const isOwn = entry.key === state.key && state.pass !== null && canSend();
+  const isKnown = state.club !== null; // the zone, and when a slot begins
+  const isOwn = isKnown && entry.key === state.key && state.pass !== null && canSend();
   const buttons = [];
   if (["booked", "listed"].includes(stateOf(entry))) {
-    buttons.push(button("", say("to-calendar"), () => saveForCalendar(entry)), button("", say("invite"), () => invite(entry)));
+    if (isKnown) buttons.push(button("", say("to-calendar"), () => saveForCalendar(entry)));
+    buttons.push(button("", say("invite"), () => invite(entry)));
   }
   if (isOwn) buttons.push(button("", say("next-week"), () => offerNextWeek(entry, whenDone)));
   if (isOwn && stateOf(entry) === "booked" && entry.guests !== null && denial("cancel", entry) === 0 && denial("book", entry) === 0) {

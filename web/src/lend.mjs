@@ -17,6 +17,14 @@ export function endOf(pass) {
   return ends[0] ?? null;
 }
 
+// The last day on which it opens something, or null.
+export function lastDayOf(pass) {
+  const end = endOf(pass);
+  if (end === null) return null;
+  const [day, time] = end.split("T");
+  return time === "00:00" ? daysLater(day, -1) : day;
+}
+
 // The points that all bookings of its key may cost, or null.
 export function limitOf(pass) {
   const limits = caveatsOf(pass, "spend").map(({ most }) => most);

@@ -6,21 +6,29 @@ import { ask } from "./desk.mjs";
 import { question, tell } from "./dialog.mjs";
 import { button, byName, element, put } from "./elements.mjs";
 import { dropLoan, keepLoan, keepSpares, keptLoans, keptSpares, plainName } from "./keeping.mjs";
-import { allowsFacility, endOf, freeSpares, limitOf, linesOf, passOrNull, sparesLent } from "./lend.mjs";
+import { allowsFacility, caveatsOf, endOf, freeSpares, lastDayOf, limitOf, linesOf, passOrNull, sparesLent } from "./lend.mjs";
 import { canSign, keyName, narrowed, withSpent, writePass } from "./pass.mjs";
 import { Fault } from "./pass_faults.mjs";
 import { faultText, sentenceOf } from "./pass_words.mjs";
 import { drawQr, qrWords } from "./qr_picture.mjs";
-import { noReplyText } from "./refusals.mjs";
+import { noReplyText, refusalText } from "./refusals.mjs";
 import { NoReply } from "./replies.mjs";
 import { clubMoment, denial, spentOfKey, state } from "./state.mjs";
-import { dayText, listed, say, shortDayText } from "./words.mjs";
+import { dateText, dayText, listed, say, shortDayText } from "./words.mjs";
 
 const DAYS_TO_CHOOSE = 7;
 const POINTS = [200, 600, 1000];
 const LONGEST_LOAN = 365; // days
 
 const spentBy = new Map(); // what the keys of spare passes spent, by their texts, as the desk last said
+const unfit = new Set(); // spare passes that the desk refuses, or that are another member's, by their texts
+let isMaking = false;
+
+// The spare passes that a loan may take. Under a pass that doesn't show the account none is known to be of the same member.
+function sparesToLend() {
+  if (denial("account") > 0) return [];
+  return freeSpares(keptSpares(), keptLoans(), clubMoment()).filter(({ text }) => !unfit.has(text));
+}
 
 // ---- The choices
 
@@ -42,14 +50,16 @@ function fillChoices() {
     ...(kinds.length > 1 ? [["all", say("lend-all")]] : []), ["one", say("lend-one")]], "");
   const field = byName("lend-facility");
   if (field.options.length !== facilities.length) field.replaceChildren(...facilities.map(({ name }) => new Option(titleOf(state.club, name), name)));
-  fill("lend-how", [["book", say("lend-book")], ["look", say("lend-look")]], "book");
+  const opens = (action) => caveatsOf(state.pass, "actions").every(({ words }) => words.includes(action));
+  fill("lend-how", [["book", say("lend-book")], ["look", say("lend-look")]].filter(([how]) => opens(how === "look" ? "view" : how)), "book");
   const today = clubMoment().slice(0, 10);
-  const days = Array.from({ length: DAYS_TO_CHOOSE }, (_, count) => daysLater(today, count));
+  const last = [lastDayOf(state.pass) ?? "9999", daysLater(today, LONGEST_LOAN)].sort()[0];
+  const days = Array.from({ length: DAYS_TO_CHOOSE }, (_, count) => daysLater(today, count)).filter((day) => day <= last);
   const names = (day, count) => count < 2 ? say(count === 0 ? "today" : "tomorrow") : shortDayText(day);
   fill("lend-until", [...days.map((day, count) => [day, names(day, count)]), ["other", say("lend-other-day")]], days[1]);
-  const date = byName("lend-day");
-  Object.assign(date, { min: today, max: daysLater(today, LONGEST_LOAN) });
-  fill("lend-points", [...POINTS.map((count) => [String(count), say("charged", { count })]), ["other", say("lend-other-points")], ["none", say("lend-no-limit")]], "600");
+  Object.assign(byName("lend-day"), { min: today, max: last });
+  const left = (limitOf(state.pass) ?? Infinity) - spentOfKey();
+  fill("lend-points", [...POINTS.filter((count) => count <= left).map((count) => [String(count), say("charged", { count })]), ["other", say("lend-other-points")], ["none", say("lend-no-limit")]], "600");
 }
 
 function valueOf(id) {
@@ -70,12 +80,13 @@ function chosenLoan() {
   };
 }
 
-// The whole loan in a sentence.
-function loanText({ name, kind, facility, isToLook, last, points }) {
+// The whole loan in a sentence, and that the limits of the pass that is narrowed apply, where it has some.
+function loanText({ name, kind, facility, isToLook, last, points }, isOfOwn) {
   const what = kind !== "" ? say(`kinds-${kind}`) : facility !== "" ? titleOf(state.club, facility) : say("lend-everything");
-  return say(isToLook ? "lend-says-look" : "lend-says-book", {
+  const loan = say(isToLook ? "lend-says-look" : "lend-says-book", {
     who: name || say("lend-somebody"), what, day: dayText(last), points: points === null ? "" : say("lend-says-points", { count: points }),
   });
+  return isOfOwn && state.pass.caveats.length > 0 ? `${loan} ${say("lend-within")}` : loan;
 }
 
 function showChosen() {
@@ -84,50 +95,83 @@ function showChosen() {
   byName("lend-count-part").hidden = valueOf("lend-points") !== "other";
   byName("lend-points-part").hidden = valueOf("lend-how") === "look";
   const loan = chosenLoan();
-  put("lend-says", loan.wrong === undefined ? loanText(loan) : say(loan.wrong));
-  put("lend-which", ...(loan.isToLook || freeSpares(keptSpares(), keptLoans(), clubMoment()).length > 0 ? [] : [whyOwn()]));
+  const isOfOwn = loan.isToLook || sparesToLend().length === 0;
+  put("lend-says", loan.wrong === undefined ? loanText(loan, isOfOwn) : wrongText(loan));
+  put("lend-which", ...(loan.isToLook || !isOfOwn ? [] : [whyOwn()]));
+}
+
+function wrongText({ wrong }) {
+  return say(wrong, wrong === "lend-wrong-day" ? { day: dateText(byName("lend-day").max) } : {});
 }
 
 function whyOwn() {
-  const words = keptSpares().length > 0 ? "lend-spares-lent" : "lend-no-spare";
+  const spares = keptSpares();
+  const isUnfit = spares.some((text) => unfit.has(text));
+  const words = spares.length === 0 ? "lend-no-spare" : denial("account") > 0 ? "lend-spares-other" : isUnfit ? "lend-spares-unfit" : "lend-spares-lent";
   return element("p", "note", element("strong", "", say(`${words}-title`)), " ", say("lend-own"), " ", say(words));
 }
 
 // ---- Making it
 
-// What is narrowed: a spare pass of the member's, of which nothing is lent, else the pass that is used; and what its key spent.
+// The account under a spare pass, or null where that is of no use: where the desk refuses it, or it is another member's.
+async function accountOfSpare(text, member) {
+  const reply = await ask(text, "account", {}, 2);
+  const isFit = reply.fault === undefined && reply.member === member;
+  if (!isFit) unfit.add(text);
+  return isFit ? reply : null;
+}
+
+// Returns the pass to narrow and what its key spent: a free spare pass of the member's, else the pass that is used. Or the desk's refusal
+// of that one.
 async function basisOf() {
-  for (const { text, pass } of freeSpares(keptSpares(), keptLoans(), clubMoment())) {
-    const reply = await ask(text, "account", {}, 2);
-    if (reply.fault === undefined && (state.account === null || reply.member === state.account.member)) return { pass, spent: reply.spent, spare: text };
+  const own = denial("account") > 0 ? null : await ask(state.text, "account", {}, 2);
+  if (own?.fault !== undefined) return { refusal: own };
+  for (const { text, pass } of sparesToLend()) {
+    const account = await accountOfSpare(text, own.member);
+    if (account !== null) return { pass, spent: account.spent, spare: text };
   }
-  const account = denial("account") > 0 ? null : await ask(state.text, "account", {}, 2);
-  return { pass: state.pass, spent: account?.spent ?? spentOfKey(), spare: "" };
+  return { pass: state.pass, spent: own?.spent ?? spentOfKey(), spare: "" };
 }
 
 async function lend(event) {
   event.preventDefault();
+  if (isMaking) return;
   const loan = chosenLoan();
   if (loan.wrong !== undefined) {
-    put("lend-news", element("span", "wrong", say(loan.wrong)));
+    put("lend-news", element("span", "wrong", wrongText(loan)));
     byName(loan.field).focus();
     return;
   }
+  isMaking = true;
   put("lend-news", say("lend-making"));
   try {
-    const { pass, spent, spare } = loan.isToLook ? { pass: state.pass, spent: 0, spare: "" } : await basisOf();
-    const narrower = await narrowed({ ...pass, form: "v2" }, linesOf({ ...loan, spent }));
-    const given = withSpent(writePass(narrower), loan.points === null ? 0 : spent);
-    const isKept = keepLoan({ given, says: loanText(loan), spare });
-    showMade(given, loanText(loan));
-    put("lend-news", ...(isKept ? [] : [say("lend-not-kept")]));
-    showChosen();
-    showLoans();
+    put("lend-news", ...await makeLoan(loan));
   } catch (fault) {
     if (fault instanceof NoReply) put("lend-news", element("span", "wrong", noReplyText(fault.status, "account-failed")));
     else if (fault instanceof Fault) put("lend-news", element("span", "wrong", faultText(fault)));
     else throw fault;
+  } finally {
+    isMaking = false;
   }
+}
+
+// Makes a loan, shows it, and returns the words for below. If no spare pass can be taken after all, it says so first and makes nothing.
+async function makeLoan(loan) {
+  const wasOfOwn = sparesToLend().length === 0;
+  const { pass, spent, spare, refusal } = loan.isToLook ? { pass: state.pass, spent: 0, spare: "" } : await basisOf();
+  if (refusal !== undefined) return [element("span", "wrong", refusalText(refusal))];
+  if (!loan.isToLook && spare === "" && !wasOfOwn) {
+    showChosen();
+    return [element("span", "wrong", say("lend-read-again"))];
+  }
+  const narrower = await narrowed({ ...pass, form: "v2" }, linesOf({ ...loan, spent }));
+  const given = withSpent(writePass(narrower), loan.points === null ? 0 : spent);
+  const says = loanText(loan, spare === "");
+  const isKept = keepLoan({ given, says, spare });
+  showMade(given, says);
+  showChosen();
+  showLoans();
+  return isKept ? [] : [say("lend-not-kept")];
 }
 
 function addressOf(given) {
@@ -192,7 +236,7 @@ function loanCard(loan) {
     element("div", "buttons", press));
 }
 
-// Asks under each lent spare pass what its key spent.
+// Asks under each lent spare pass what its key spent, and which of the others can be taken.
 async function lookAfterLoans() {
   const lent = sparesLent(keptLoans(), clubMoment());
   for (const text of lent) {
@@ -200,6 +244,9 @@ async function lookAfterLoans() {
     if (reply?.spent !== undefined) spentBy.set(text, reply.spent);
   }
   if (lent.size > 0) showLoans();
+  if (state.account === null) return;
+  for (const { text } of sparesToLend()) await accountOfSpare(text, state.account.member).catch(() => null);
+  showChosen();
 }
 
 // ---- Spare passes
@@ -221,9 +268,10 @@ export async function offerSpares(texts) {
 // ---- The view
 
 export function showLend() {
-  const isReady = canSign() && state.club !== null && state.pass !== null;
+  const isOver = state.pass !== null && state.club !== null && (endOf(state.pass) ?? "9999") <= clubMoment();
+  const isReady = canSign() && state.club !== null && state.pass !== null && !isOver;
   byName("lend-form").hidden = !isReady;
-  put("lend-trouble", ...(isReady ? [] : [say(canSign() ? "club-missing" : "unsigned")]));
+  put("lend-trouble", ...(isReady ? [] : [say(!canSign() ? "unsigned" : isOver ? "pass-ended" : "club-missing")]));
   if (!isReady) return;
   fillChoices();
   showChosen();

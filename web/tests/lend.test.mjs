@@ -1,7 +1,7 @@
 // A lent part of a pass: its lines, its end, and which spare pass is free.
 import assert from "node:assert/strict";
 import { test } from "node:test";
-import { allowsFacility, endOf, freeSpares, limitOf, linesOf, sparesLent } from "../src/lend.mjs";
+import { allowsFacility, endOf, freeSpares, lastDayOf, limitOf, linesOf, sparesLent } from "../src/lend.mjs";
 import { keyName, narrowed, readPass, splitGiven, withSpent, writePass } from "../src/pass.mjs";
 
 // A pass of key amy-1, under a root of sixteen zero bytes.
@@ -21,6 +21,7 @@ test("the end of a pass, its points, and the facilities that it leaves in", asyn
   assert.deepEqual([endOf(AMY), limitOf(AMY), allowsFacility(AMY, { name: "court-1", kind: "court" })], [null, null, true]);
   const lent = await part("until < 2026-12-05T00:00", "spend <= 600", "until < 2026-12-04T18:00", "spend <= 700", "kind = court", "facility = court-1,boat-1");
   assert.deepEqual([endOf(lent), limitOf(lent)], ["2026-12-04T18:00", 600]);
+  assert.deepEqual([AMY, lent, await part("until < 2026-12-05T00:00"), await part("until < 2027-01-01T00:00")].map(lastDayOf), [null, "2026-12-04", "2026-12-04", "2026-12-31"]);
   assert.deepEqual([["court-1", "court"], ["court-2", "court"], ["boat-1", "boat"]].map(([name, kind]) => allowsFacility(lent, { name, kind })), [true, false, false]);
 });
 
