@@ -2107,6 +2107,76 @@ def shows_the_club(page, passes):
     print("whom to ask, links, logo and sentences of the club are shown on each page; an ended pass says when it ended")
 
 
+def tries_the_club(address):
+    """Tries the club from a folder, in each browser. A booking is changed, booked again, handed on and marked in the day. The list is beside the
+    desk's count, one comes by a link, and a reminder is there. A loan has its code, and its holder reads what it opens."""
+    import page_engines
+    for engine_of in (page_engines.Chromium, page_engines.Firefox, page_engines.WebKit):
+        with engine_of() as engine:
+            engine.helpers = "const shown = (id) => document.getElementById(id).innerText.trim();"
+            engine.open(address)
+            engine.when(DAY_THERE, "the day")
+            engine.when("shown('club-contact').includes('Mondays') && !document.getElementById('club-logo').hidden", "the club")
+            today = engine.run("return document.getElementById('day-field').value")
+            ahead = [(datetime.strptime(today, "%Y-%m-%d") + timedelta(count)).strftime("%Y-%m-%d") for count in range(28)]
+
+            def books(hour, wanted=ahead[20]):
+                engine.tap("//button[@id='to-day']")
+                goes_to(engine, wanted)
+                engine.tap(slot_path("Court 1", hour))
+                engine.press("Book for 200 points", "dialog")
+                engine.when("shown('dialog').includes('Booked.')", "a booking", hour)
+                engine.press("Close", "dialog")
+
+            def of_the_card(words):
+                engine.tap("//button[@id='to-bookings']")
+                engine.run("document.querySelector('#to-come details.more').open = true")
+                engine.press_in_card(words)
+
+            books(9)
+            engine.when(f"document.evaluate(\"{slot_path('Court 1', 9)}\", document).iterateNext().className.includes('mine')", "her own place in the day")
+            of_the_card("Change")
+            engine.run("document.getElementById('change-hour').value = '10'")
+            engine.press("Look up", "dialog")
+            engine.when("shown('dialog').includes('If the old one')", "what happens if one of both fails")
+            engine.press("Book the new one for 200 points, cancel the old one", "dialog")
+            engine.when("shown('dialog').includes('Changed. 200 points came back')", "a change")
+            engine.press("Close", "dialog")
+            books(8, ahead[19])
+            of_the_card("Book again next week")
+            engine.when("shown('dialog').includes('4 places are free')", "a week later")
+            engine.press("Book for 200 points", "dialog")
+            engine.when("shown('dialog').includes('Booked.')", "the same a week later")
+            engine.press("Close", "dialog")
+            of_the_card("Invite")
+            engine.when("/(copied|sent|Will you come)/.test(shown('dialog'))", "an invitation")
+            engine.press("Close", "dialog")
+            of_the_card("Into the calendar")
+            engine.when("shown('list-remind').includes(\"3 bookings aren't saved\") && shown('list-says') === ''", "a reminder, and a list that is whole")
+            engine.open(f"{address}#record=anna-1;77+court-2+{ahead[21]}+09+guests+0+charge+200+left+3")
+            engine.when("shown('dialog').includes('1 booking of anna-1')", "a list by a link")
+            engine.press("Add to this browser", "dialog")
+            engine.tap("//button[@id='to-bookings']")
+            engine.when("shown('list-says').includes('The desk counts 200 points less') && shown('to-come').includes('may not be booked')", "what was cancelled elsewhere")
+            engine.tap("//button[@id='to-lend']")
+            engine.tap("//input[@name='lend-points'][@value='200']/..")
+            engine.tap("//button[@id='lend-make']")
+            engine.when("document.getElementById('lend-made').offsetParent !== null", "a link")
+            lent = engine.run("return document.getElementById('lend-address').value")
+            check(engine.code("lend-qr") == lent, engine.name, "its code", lent)
+            engine.open(lent)
+            engine.when(f"{DAY_THERE} && shown('pass-says').includes('0 of 200 points booked in this browser.')", "the holder's page")
+            goes_to(engine, ahead[20])
+            engine.tap(slot_path("Court 1", 12))
+            engine.when("shown('dialog').includes(\"Your pass ends before this slot, and from then on you can't cancel it.\")", "a slot after the pass's end")
+            engine.press("Book for 200 points", "dialog")
+            engine.when("shown('dialog').includes('Booked.')", "the holder's booking")
+            engine.press("Close", "dialog")
+            engine.when("[...document.querySelectorAll('#slots button:not(:disabled)')].every((each) => each.className.includes('mine'))", "no button that the pass refuses")
+            keep(f"{engine.name}-holder.png", base64.b64encode(engine.picture()))
+            print(f"{engine.name} {engine.version} tries the club from a folder: changes, books again, invites, compares and adds a list, lends, and books what was lent")
+
+
 # The spare pass of a loan, its key, its lines, and its sentence; how many loans are kept.
 MADE = """
 const { text } = splitGiven(byName("lend-address").value.split("#")[1]);
@@ -2202,6 +2272,7 @@ def club_to_try():
         check(page.run("return Object.keys(localStorage).every((name) => name.startsWith('demo ') || name === 'club to try')"), "names of its own")
         page.sent_nothing(address)
     lends_what_the_pass_opens(address)
+    tries_the_club(address)
     # The page of a club that is opened from a folder says what it is, and leads there.
     shutil.copy(f"{TOP}/web/book.html", "book.html")
     with Browser() as page:
