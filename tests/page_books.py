@@ -2233,6 +2233,21 @@ def lends_what_the_pass_opens(address):
             check(values[0] == how and (points is None or len(values[1]) == 2 and values[2] == points), "what it offers", lines, values)
             key, found, says, _ = made(page)
             check(key == "anna-1" and found[:len(lines)] == lines and says.endswith("The limits of your own pass apply too."), "a part of that pass", key, found, says)
+        # The week as a pass that only looks has it, and one that has too few points; the limit that leaves out a day.
+        for line, words, count in (("actions = view", "Free: Court", 0), ("spend <= 100", "Too many points for your pass", 0), ("spend <= 300", "Free: Court", 14)):
+            opens(page, "#" + text_of(page, f"return writePass(await narrowed(readPass(await passToTry('anna-1')), ['kind = court', '{line}']))"))
+            page.run("byName('to-day').click(); byName('to-find').click(); changeSearch({ kind: 'court', from: 19, to: 21 }); showFind(daysLater(clubMoment().slice(0, 10), 11))")
+            time.sleep(1)
+            found = page.run("return [...byName('find-grid').querySelectorAll('button')].map((each) => [each.textContent, each.disabled])")
+            seen = "Too many points for your pass" if count == 0 and "spend" in line else "3 free"
+            check({each for each, _ in found} == {seen} and sum(not away for _, away in found) == count, "the week of a pass", line, found)
+            page.click("find-next")
+            page.driver.execute_async_script(HELPERS + "settled(() => /^(Free|Nothing|Too)/.test(shownText('find-news')), 60000).then(arguments[0])")
+            check(page.run("return shownText('find-news')").startswith(words), "the next free time of a pass", line, page.run("return shownText('find-news')"))
+        weekday = page.run("return WEEKDAYS[(weekdayOf(clubMoment().slice(0, 10)) + 1) % 7]")
+        opens(page, "#" + text_of(page, f"return writePass(await narrowed(readPass(await passToTry('anna-1')), ['hours = 18-20', 'weekday = {weekday}']))"))
+        page.run("byName('to-day').click()")
+        check("Only on " in page.run("return shownText('day-fault')") and "Only slots" not in page.run("return shownText('day-fault')"), "why a day is left out", page.run("return shownText('day-fault')"))
         # Without the club's list.
         opens(page)
         page.run("byName('to-day').click(); showDay(daysLater(clubMoment().slice(0, 10), 20))")

@@ -2,6 +2,7 @@
 // slots are asked for first.
 import { facilityOf, hoursOf, titleOf, whyClosed } from "./club.mjs";
 import { offerBooking, offerClosed } from "./booking_dialog.mjs";
+import { firstDenial } from "./caveats.mjs";
 import { daysLater, hourText, isDate } from "./dates.mjs";
 import { ask, eachAtOnce } from "./desk.mjs";
 import { button, byName, element, put } from "./elements.mjs";
@@ -13,7 +14,7 @@ import { enterAnother } from "./passes_view.mjs";
 import { DAYS_AHEAD, hasBegun, isTooFarAhead, personsOf, stateOf } from "./record.mjs";
 import { limitText, refusalText } from "./refusals.mjs";
 import { CAVEAT_DENIES, NoReply } from "./replies.mjs";
-import { canSend, clubMoment, clubTime, denial, liveAt, state } from "./state.mjs";
+import { canSend, clubMoment, clubTime, denial, liveAt, state, withKind } from "./state.mjs";
 import { dateText, dayText, say } from "./words.mjs";
 
 const SWIPE = 50; // pixels
@@ -98,9 +99,15 @@ function dayFault(facilities) {
   if (end !== null && end <= clubMoment()) {
     return [element("strong", "", say("pass-ended")), " ", untilText(...end.split("T")), " ", say("pass-ended-ask"), " ", button("", say("enter-another"), enterAnother)];
   }
-  const slot = state.club.facilities.length > 0 ? { facility: state.club.facilities[0].name, day, hour: state.club.facilities[0].opens } : undefined;
-  const number = slot === undefined ? 0 : denial("view", slot);
+  const number = limitOfDay();
   return [say("no-facilities"), ...(number > 0 ? [" ", limitText(number)] : [])];
+}
+
+// The number of the first limit that alone denies each slot of the day, or 0.
+function limitOfDay() {
+  const slots = state.club.facilities.flatMap(slotsOf).map(withKind);
+  const denies = (caveat) => slots.every((slot) => firstDenial({ caveats: [caveat] }, { action: "view", moment: clubMoment(), slot }) > 0);
+  return slots.length === 0 ? 0 : state.pass.caveats.findIndex(denies) + 1;
 }
 
 function showDayBar() {

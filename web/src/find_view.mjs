@@ -45,9 +45,18 @@ function hoursToFind() {
   return Array.from({ length: search.to - search.from }, (_, place) => search.from + place);
 }
 
-function isFree(slot) {
+function hasRoom(slot) {
   const view = views.get(slotName(slot));
-  return typeof view === "object" && !view.closed && view.taken < view.places && !isDenied(slot, view, 0);
+  return typeof view === "object" && !view.closed && view.taken < view.places;
+}
+
+function isToBook(slot) {
+  return hasRoom(slot) && !isDenied(slot, views.get(slotName(slot)), 0);
+}
+
+// To a pass that only looks, a slot with room is free too.
+function isFree(slot) {
+  return isToBook(slot) || (hasRoom(slot) && denial("book", slot) > 0);
 }
 
 function hasOwn(slot) {
@@ -108,16 +117,16 @@ function cellFor(day, hour) {
   const isWaiting = slots.some((slot) => !views.has(slotName(slot)));
   const isFailed = slots.some((slot) => views.get(slotName(slot)) === "failed");
   const words = isWaiting ? "\u2026" : free.length > 0 ? say("find-free", { count: free.length }) : isFailed ? say("cell-failed")
-    : slots.length === 0 ? "\u2013" : say("cell-full");
+    : slots.length === 0 ? "\u2013" : say(slots.some(hasRoom) ? "cell-too-dear" : "cell-full");
   const made = button(`slot ${isMine ? "mine" : free.length > 0 ? "free" : "past"}`, words, () => offerFound(day, hour));
   if (isMine) made.replaceChildren(element("span", "", say("cell-mine-only")), element("small", "", words));
-  made.disabled = free.length === 0 || !canSend();
+  made.disabled = !free.some(isToBook) || !canSend();
   made.setAttribute("aria-label", `${dateText(day)}, ${hourText(hour)}:00: ${isMine ? `${say("cell-mine-only")}, ` : ""}${words}`);
   return made;
 }
 
 function offerFound(day, hour) {
-  const free = slotsAt(day, hour).filter(isFree);
+  const free = slotsAt(day, hour).filter(isToBook);
   const whenDone = () => lookAtSlots(free).then(showGrid);
   const offer = (slot) => offerBooking(slot, views.get(slotName(slot)), whenDone);
   if (free.length === 1) {
@@ -174,18 +183,20 @@ async function findNext() {
   findRound += 1;
   const mine = findRound;
   const last = daysLater(clubMoment().slice(0, 10), DAYS_AHEAD);
+  let isTooDear = false;
   for (let day = firstDay; day <= last; day = daysLater(day, 1)) {
     put("find-news", say("find-searching", { day: shortDayText(day) }));
     const slots = hoursToFind().flatMap((hour) => slotsAt(day, hour));
     await lookAtSlots(slots, () => mine === findRound);
     if (mine !== findRound) return;
     const found = slots.find(isFree);
+    isTooDear ||= slots.some(hasRoom);
     if (found === undefined) continue;
     showFind(day);
     put("find-news", say("find-found", { facility: titleOf(state.club, found.facility), day: dateText(day), time: `${hourText(found.hour)}:00` }));
     return;
   }
-  put("find-news", say("find-none"));
+  put("find-news", say(isTooDear ? "cell-too-dear" : "find-none"));
 }
 
 export function setUpFind() {
