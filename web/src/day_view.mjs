@@ -172,8 +172,7 @@ function slotButton(slot) {
 // What a list alone names isn't there where fewer persons are in the slot.
 function ownAt(slot, view) {
   const live = liveAt(slot);
-  const isListed = live.every((entry) => stateOf(entry) === "listed");
-  return isListed && view !== null && view.taken < personsOf(live) ? [] : live;
+  return view !== null && view.taken < personsOf(live) ? live.filter((entry) => stateOf(entry) !== "listed") : live;
 }
 
 // What a cell is: its class, its words, a line below them, and whether it can be pressed.

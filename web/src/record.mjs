@@ -91,21 +91,23 @@ function isWithin(value, least, most) {
   return Number.isInteger(value) && value >= least && value <= most;
 }
 
-// What the desk took for an entry and keeps: what only a list says counts as nothing.
+// The points that the desk took for an entry and keeps. A charge that only a list says counts as nothing, and so does what came back of it.
 export function costOf(entry) {
-  return entry.saidCancelled ? 0 : (entry.book?.charge ?? 0) - (entry.cancel?.refund ?? 0);
+  return entry.saidCancelled || entry.book?.charge === undefined ? 0 : entry.book.charge - (entry.cancel?.refund ?? 0);
 }
 
 // What a list and the desk's word on what the key spent say of one another: "same"; "less" where the desk counts less, so a booking was
 // cancelled elsewhere, with those that it may be; "more" where a booking isn't listed; and by how many points. Null where it can't be said.
+// Where the desk counts all that it said to this browser, the doubt is about what lists say alone, which can't take more back than was paid.
 export function compared(entries, spent, moment) {
   const counted = entries.filter((entry) => stateOf(entry) !== "refused");
   if (counted.some((entry) => unfinished(entry) !== null || amountsOf(entry).charge === undefined)) return null;
-  const costs = counted.map((entry) => amountsOf(entry).charge - ((entry.cancel ?? entry.listed)?.refund ?? 0));
-  const points = costs.reduce((sum, cost) => sum + cost, 0) - spent;
+  const costsOf = (list) => list.reduce((sum, entry) => sum + Math.max(0, amountsOf(entry).charge - ((entry.cancel ?? entry.listed)?.refund ?? 0)), 0);
+  const points = costsOf(counted) - spent;
+  const isOfLists = costsOf(counted.filter((entry) => entry.listed === undefined)) <= spent;
   if (points === 0) return { is: "same", points, entries: [] };
   if (points < 0) return { is: "more", points: -points, entries: [] };
-  const standing = counted.filter((entry) => isLive(entry) && stateOf(entry) !== "cancelling");
+  const standing = counted.filter((entry) => isLive(entry) && stateOf(entry) !== "cancelling" && (!isOfLists || entry.listed !== undefined));
   const mayGiveBack = (entry) => [amountsOf(entry).charge, Math.floor(amountsOf(entry).charge / 2)].includes(points);
   const found = standing.filter(mayGiveBack);
   return { is: "less", points, entries: found.length > 0 ? found : standing.filter((entry) => !hasBegun(entry, moment)) };
@@ -206,8 +208,8 @@ function detailsOf(text) {
   return details;
 }
 
-// The entry that is kept where a list has one of the same number. What the desk said to this browser stays; a list that says that it was
-// cancelled is noted. Of two lists it is what knows more.
+// The entry that is kept where a list has one of the same number. The desk's replies to this browser stay, and so do open requests; a list
+// that says that it was cancelled is noted. Of two lists the claims of the one that knows more are kept.
 export function merged(own, other) {
   if (own === undefined) return other;
   if (!isAt(own, other)) return own;
@@ -217,7 +219,7 @@ export function merged(own, other) {
   }
   const known = ({ listed, guests }) => [listed.refund !== undefined, listed.charge !== undefined, guests !== null];
   const place = known(other).findIndex((value, index) => value !== known(own)[index]);
-  return place >= 0 && known(other)[place] ? other : own;
+  return place >= 0 && known(other)[place] ? { ...own, guests: other.guests ?? own.guests, listed: other.listed } : own;
 }
 
 // A record in the part of an address after #: its lines with semicolons between them, and + for a space.

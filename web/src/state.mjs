@@ -53,10 +53,10 @@ export function spentOfKey() {
   return state.account?.spent ?? ownEntries().reduce((sum, entry) => sum + (isLost(entry) ? 0 : costOf(entry)), state.base);
 }
 
-// Whether its slot has fewer persons in it than it should: then it is gone, or never was.
+// Whether its slot has fewer persons in it than it should: then it is gone, or never was. A list's persons put no booking of the desk's in doubt.
 export function isLost(entry) {
   const found = state.taken.get(slotName(entry));
-  const isThere = (each) => ["booked", "listed"].includes(stateOf(each)) && isLive(each);
+  const isThere = (each) => isLive(each) && (stateOf(each) === "booked" || (stateOf(each) === "listed" && stateOf(entry) === "listed"));
   if (found === undefined || !isThere(entry)) return false;
   return found < personsOf(ownEntries().filter((each) => slotName(each) === slotName(entry) && isThere(each)));
 }

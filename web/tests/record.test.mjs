@@ -2,7 +2,7 @@
 import assert from "node:assert/strict";
 import { test } from "node:test";
 import {
-  answered, canBeAsked, compared, drawnNumber, fragmentOfRecord, hasBegun, isEntry, isLive, isTooFarAhead, merged, newBooking, readRecord, recordOfFragment, recordText,
+  answered, canBeAsked, compared, costOf, drawnNumber, fragmentOfRecord, hasBegun, isEntry, isLive, isTooFarAhead, merged, newBooking, readRecord, recordOfFragment, recordText,
   refundAt, stateOf, unfinished, wantsOtherNumber, withCancellation, withRequest,
 } from "../src/record.mjs";
 
@@ -96,11 +96,20 @@ test("what the desk said stays beside what a list says, and of two lists it is w
     .map((end) => `7 court-1 2026-05-01 18${end}`).join("\n")}\n`, 5).entries;
   for (const [own, other, kept] of [[undefined, asked, asked], [ASKED, booked, ASKED], [BOOKED, asked, BOOKED], [BOOKED, booked, BOOKED], [cancelled, booked, cancelled],
     [cancelled, gone, cancelled], [ASKED, gone, ASKED], [known, booked, booked], [booked, known, booked], [booked, gone, gone], [gone, booked, gone],
-    [BOOKED, { ...gone, hour: 19 }, BOOKED], [booked, { ...gone, hour: 19 }, booked]]) assert.equal(merged(own, other), kept);
+    [BOOKED, { ...gone, hour: 19 }, BOOKED], [booked, { ...gone, hour: 19 }, booked]]) assert.deepEqual(merged(own, other), kept);
   const noted = merged(BOOKED, gone);
   assert.deepEqual([stateOf(noted), isLive(noted), noted.saidCancelled], ["booked", true, true]);
   assert.equal(merged(noted, gone), noted);
   assert.equal(answered(withCancellation(noted), "cancel", { booking: "amy-1/7", refund: 0 }).saidCancelled, undefined);
+  // Also about a booking that another list brought: what was pressed is still asked for, and what the desk answered stays.
+  const pressed = withCancellation(known);
+  const rows = [[pressed, "cancelling"], [answered(pressed, "cancel", { booking: "amy-1/7", refund: 300 }), "cancelled"], [answered(pressed, "cancel", { fault: 21 }), "listed"]];
+  for (const [own, state] of rows) {
+    const { guests, listed, ...rest } = merged(own, booked);
+    assert.deepEqual([stateOf(own), stateOf({ ...rest, listed }), guests, listed], [state, state, 2, booked.listed], `a list after ${state}`);
+    assert.deepEqual(rest, (({ guests: before, listed: said, ...more }) => more)(own));
+  }
+  assert.equal(costOf(rows[1][0]), 0);
 });
 
 test("what the desk counts beside the list says what is missing, and what may be gone", () => {
@@ -113,4 +122,10 @@ test("what the desk counts beside the list says what is missing, and what may be
     assert.deepEqual([found.is, found.points, found.entries.map(({ number }) => number)], [is, points, numbers], spent);
   }
   for (const open of [ASKED, withCancellation(BOOKED), { ...BOOKED, book: {} }]) assert.equal(compared([...list, open], 901, moment), null);
+  // A list's made-up bookings put none of the desk's in doubt, and hide none.
+  const madeUp = (charge, refund) => ({ ...ASKED, number: 9, book: {}, listed: { charge, left: 0, ...(refund === undefined ? {} : { refund }) } });
+  for (const [extra, spent, is, numbers] of [[madeUp(200), 901, "less", [9]], [madeUp(400), 901, "less", [9]], [madeUp(0, 400), 901, "same", []], [madeUp(0, 400), 501, "less", [1]]]) {
+    const found = compared([...list, extra], spent, moment);
+    assert.deepEqual([found.is, found.entries.map(({ number }) => number)], [is, numbers], `made up, ${spent}`);
+  }
 });
