@@ -1,6 +1,7 @@
 """The book of orders, and the turn of a command among those that change a club."""
 
 import fcntl
+import io
 import os
 import pwd
 import re
@@ -95,18 +96,21 @@ class Turn:
     """The turn of a command among those of a club that change something: a lock on FILE-orders.
 
     While an order is under way the file has its line, with a question mark for its status. A line that is there when the lock is gained
-    is that of an order that was broken off, and goes into the book so.
+    is that of an order that was broken off, and goes into the book so. Lines for standard error wait until the lock is given back: a terminal
+    or a pipe that takes nothing, as after Ctrl-S, holds no turn.
     """
 
     def __init__(self, club):
         self.club = club
         self.file = None
         self.before = {}
+        self.said, self.errors = None, sys.stderr
 
     def __enter__(self):
         self.file = os.open(self.club.file + "-orders", os.O_RDWR | os.O_CREAT, 0o600)
         try:
             self.wait()
+            self.said = sys.stderr = io.StringIO()
             self.note_broken()
             clear_unnamed(self.club)
         except BaseException:
@@ -118,6 +122,9 @@ class Turn:
         os.close(self.file)
         for number, action in self.before.items():
             signal.signal(number, action)
+        if self.said is not None:
+            sys.stderr = self.errors
+            print(self.said.getvalue(), end="", file=sys.stderr, flush=True)
 
     def wait(self):
         for attempt in range(WAITS_FOR_TURN * 20):

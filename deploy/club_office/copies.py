@@ -8,6 +8,7 @@ import re
 import shutil
 import sqlite3
 import subprocess
+import sys
 import tempfile
 import time
 import urllib.parse
@@ -40,6 +41,12 @@ def clear_killed(home):
                 shutil.rmtree(stale)
 
 
+def clear_left(club):
+    """Removes what killed commands left of copies."""
+    for home in {MEMORY, os.path.dirname(club.file)}:
+        clear_killed(home)
+
+
 def homes(club, size=None):
     """Where copies of the club, or of a file of this size, are made: in memory if it has room for them, and beside the club's file."""
     beside = os.path.dirname(club.file)
@@ -57,8 +64,7 @@ def homes(club, size=None):
 @contextlib.contextmanager
 def scratch(club, home=None):
     """A folder that is removed at the end. Those that a killed command left go as well."""
-    for each in {MEMORY, os.path.dirname(club.file)}:
-        clear_killed(each)
+    clear_left(club)
     prefix = f".office-{os.getpid()}-{begun_at('self')}-"
     with tempfile.TemporaryDirectory(prefix=prefix, dir=home or homes(club)[0], ignore_cleanup_errors=True) as folder:
         yield folder
@@ -157,13 +163,20 @@ def synced(path):
         os.close(file)
 
 
+def is_run(words):
+    """Whether another program did its part. Its lines go to this program's standard error, which waits during a turn."""
+    done = subprocess.run(words, check=False, stdin=subprocess.DEVNULL, stdout=subprocess.DEVNULL, stderr=subprocess.PIPE, text=True, errors="replace")
+    print(done.stderr, end="", file=sys.stderr)
+    return done.returncode == 0
+
+
 def copy_file(club, db, to):
     """Copies the file with its log, byte for byte, by another program: with a descriptor of its own this one would lose its locks."""
     if db.execute("PRAGMA wal_checkpoint(TRUNCATE)").fetchone()[0]:
         raise storage_failed("log uncopied")
     place = next(path for path in [to, *(f"{to}-{more}" for more in range(2, 1000))] if not os.path.exists(path))
     for words in (["cp", "--", club.file, place + ".new"], ["sync", "--", place + ".new"], ["mv", "-nT", "--", place + ".new", place]):
-        if subprocess.run(words, check=False, stdin=subprocess.DEVNULL).returncode:
+        if not is_run(words):
             raise storage_failed("uncopied", path=club.file, to=place)
     synced(os.path.dirname(place))
 

@@ -14,7 +14,7 @@ import time
 from club_office.asking import confirms, show_lines
 from club_office.book import Turn, refuse
 from club_office.clubs import now_of, program, refuse_to_come
-from club_office.copies import address, homes, keep_before, lost_name, scratch, snapshot, synced
+from club_office.copies import address, homes, is_run, keep_before, lost_name, scratch, snapshot, synced
 from club_office.corrections import ended, file_taken
 from club_office.faults import REFUSED, Fault, refusal, storage_failed
 from club_office.lists import faults, table
@@ -238,8 +238,7 @@ def keep_or_put_away(club, db, words, copy, lines, shown):
         for ending in ("", "-wal"):
             if os.path.exists(club.file + ending):
                 # By another program: with a descriptor of its own this one would lose its locks.
-                done = subprocess.run(["cp", "--", club.file + ending, lost + ending], check=False, stdin=subprocess.DEVNULL)
-                if done.returncode:
+                if not is_run(["cp", "--", club.file + ending, lost + ending]):
                     raise storage_failed("unkept", path=club.file) from None
 
 
