@@ -97,7 +97,7 @@ def old_file(file, year):
 
 # Where the desk's side finds programs, and what else of the environment it takes.
 PATH = "/usr/local/sbin:/usr/local/bin:/usr/sbin:/usr/bin:/sbin:/bin"
-KEPT = ("HOME", "LANG", "LC_ALL", "LC_CTYPE", "LOGNAME", "OFFICE_CLERK", "SUDO_USER", "TERM", "COLUMNS", "USER")
+KEPT = ("LANG", "LC_ALL", "LC_CTYPE", "LOGNAME", "OFFICE_CLERK", "SUDO_USER", "TERM", "COLUMNS", "USER")
 
 
 def forget_environment():
@@ -105,6 +105,7 @@ def forget_environment():
     for each in set(os.environ) - set(KEPT):
         del os.environ[each]
     os.environ["PATH"] = PATH
+    os.environ["HOME"] = pwd.getpwuid(os.geteuid()).pw_dir  # programs take what they do from files there, as a mailer does
 
 
 def program(variable, called):

@@ -13,7 +13,7 @@ from club_office import lists, outputs, people, phoning, plans
 from club_office.book import Turn, give_order
 from club_office.closures import reason
 from club_office.clubs import club_named, clubdesk, desk_user, forget_environment, now_of, program, show, wants_file
-from club_office.copies import scratch, snapshot
+from club_office.copies import clear_left, scratch, snapshot
 from club_office.corrections import correct
 from club_office.counter import ask_person, desk_line, make_pass, read_book, show_book, write_report
 from club_office.faults import OUTPUT, STORAGE, USAGE, Fault, bad_value, fault, refusal
@@ -314,6 +314,7 @@ def at_desk(given):
     words = words_of(given, True)
     words.given = [w for w in words.given if w != "--yes"]
     club = club_named(words.club, True)
+    clear_left(club)
     command = COMMANDS[words.command]
     if club.is_old and command.kind not in (LIST, LOOK):
         raise refusal("old year", club=club.name)
