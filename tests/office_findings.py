@@ -149,12 +149,14 @@ def desk_side(command):
 
 @contextlib.contextmanager
 def slow_clubdesk():
-    """clubdesk, before whose credit and new key two seconds go by."""
-    program, whole_one = Path("/usr/bin/clubdesk"), ROOM / "clubdesk-whole"
+    """clubdesk, before whose credit and new key two seconds go by. It notes the folder of its user's own files, as other programs take it."""
+    program, whole_one, home = Path("/usr/bin/clubdesk"), ROOM / "clubdesk-whole", ROOM / "home-of-clubdesk"
     shutil.copy2(program, whole_one)
     program.unlink()
-    program.write_text(f'#!/bin/sh\ncase $1 in credit | add-key) sleep 2 ;; esac\nexec {whole_one} "$@"\n')
+    program.write_text(f'#!/bin/sh\necho "$HOME" >{home}\ncase $1 in credit | add-key) sleep 2 ;; esac\nexec {whole_one} "$@"\n')
     program.chmod(0o755)
+    home.write_text("")
+    home.chmod(0o666)
     ROOM.chmod(0o755)
     yield
     program.unlink()
@@ -176,6 +178,38 @@ def terminals_that_stop():
                 kill(command)
             same(f"an order at signal {number}", (sent != [], command.returncode), (True, 0))
         done("credit", "amy", "1")
+
+
+def terminals_that_take_nothing():
+    """A standard error that takes nothing, as a terminal after Ctrl-S or a pipe that is full, holds no turn."""
+    taken, full = os.pipe()
+    os.set_blocking(full, False)
+    with contextlib.suppress(BlockingIOError):
+        while True:
+            os.write(full, bytes(4096))
+    os.set_blocking(full, True)
+    line = "runuser -u clubdesk -- office --desk club credit nobody-2 1".split()
+    with subprocess.Popen(line, stdin=subprocess.DEVNULL, stdout=subprocess.DEVNULL, stderr=full, cwd="/") as command:
+        for _ in range(500):
+            if "credit nobody-2 1" in BOOK.read_text(encoding="utf-8") + TURN.read_text(encoding="utf-8"):
+                break
+            time.sleep(0.02)
+        same("an order beside a terminal that takes nothing", office("credit", "amy", "1")[::2], (0, ""))
+        kill(command)
+    os.close(taken)
+    os.close(full)
+    same("its line", [it.split(" ", 1)[1] for it in BOOK.read_text(encoding="utf-8").splitlines() if "nobody-2" in it], ["clubdesk 1 credit nobody-2 1"])
+
+
+def folder_of_a_clerk():
+    """The desk's side takes its own user's folder, even where sudo hands the clerk's on: a mailer does what a file there says."""
+    lax = Path("/etc/sudoers.d/zz-lax")
+    lax.write_text('Defaults env_keep += "HOME"\n')
+    lax.chmod(0o440)
+    with slow_clubdesk():
+        same("an order", run_as("anna", "env", "HOME=/home/anna", *"sudo -n -u clubdesk /usr/bin/office --desk club credit amy 1".split())[0], 0)
+        same("the folder of the desk's user", (ROOM / "home-of-clubdesk").read_text(encoding="utf-8"), f"{pwd.getpwnam('clubdesk').pw_dir}\n")
+    lax.unlink()
 
 
 def file_that_came_since():
@@ -223,7 +257,6 @@ def memory_that_is_full():
             (home / called / "copy").write_bytes(b"roots")
             os.chown(home / called, user.pw_uid, user.pw_gid)
     (HOME / "club-before" / ".2026-01-01T00-00-00-debit.new").write_bytes(b"roots")
-    done("members")
     done("credit", "amy", "1")
     same("what killed ones left", [it.name for home in (memory, HOME) for it in home.glob(".office-*")], [alive, alive])
     same("and unnamed copies", list((HOME / "club-before").glob(".*")), [])
@@ -278,6 +311,8 @@ def findings():
     programs_of_a_clerk()
     inner_words()
     terminals_that_stop()
+    terminals_that_take_nothing()
+    folder_of_a_clerk()
     file_that_came_since()
     memory_that_is_full()
     disk_that_is_full()
