@@ -247,7 +247,15 @@ def memory_that_is_full():
     same("a correction", office("debit", "amy", "1", *YES)[::2], (0, ""))
     same("its time", time.monotonic() - began < 8, True)
     (memory / "rest").unlink()
-    subprocess.run(["mount", "-o", "remount,size=50%", memory], check=True)
+    subprocess.run(["mount", "-o", "remount,size=50%,nr_inodes=20", memory], check=True)
+    for count in range(20):
+        with contextlib.suppress(OSError):
+            (memory / f"rest-{count}").touch()
+    same("a list without a file's place in memory", office("members")[::2], (0, ""))
+    same("a correction there", office("debit", "amy", "1", *YES)[::2], (0, ""))
+    for rest in memory.glob("rest-*"):
+        rest.unlink()
+    subprocess.run(["mount", "-o", "remount,nr_inodes=100k", memory], check=True)
     process = psutil.Process(os.getpid())
     started = Path(f"/proc/{process.pid}/stat").read_text(encoding="ascii").rpartition(")")[2].split()[19]
     gone, alive = (f".office-{process.pid}-{it}-x" for it in (int(started) - 1, started))

@@ -78,6 +78,7 @@ PLANTS = {
     "office_holds:came-since": ("deploy/club_office/counter.py", "named = name_new(written(words.to, text.decode()), words.to)",
                                 "named = os.rename(written(words.to, text.decode()), words.to) or words.to", "a file that came since: wanted", "findings"),
     "office_holds:memory": ("deploy/club_office/copies.py", "found = [beside]", "found = [MEMORY]", "a list without memory: wanted", "findings"),
+    "office_holds:memory-of-files": ("deploy/club_office/copies.py", "room.f_favail > FILES_FREE", "True", "a list without a file's place in memory: wanted", "findings"),
     "office_holds:left": ("deploy/club_office/copies.py", "not (owner and begun_at(owner[1]) == owner[2])", "not owner", "what killed ones left: wanted", "findings"),
     "office_holds:left-to-an-order": ("deploy/club_office/commands.py", "    clear_left(club)\n", "", "what killed ones left: wanted", "findings"),
     "office_holds:titles": ("deploy/club_office/page.py", "if name in found:", "if False:", "titles b'court-1 A", "findings"),

@@ -18,6 +18,8 @@ from club_office.faults import storage_failed
 
 BACK_UPS_KEPT = 30
 MEMORY = "/dev/shm"
+# The folder of a copy, the copy, its log, and a few for others.
+FILES_FREE = 20
 
 
 # ---- Folders for a copy that is removed at once.
@@ -55,8 +57,8 @@ def homes(club, size=None):
     found = [beside]
     if os.access(MEMORY, os.W_OK | os.X_OK):
         room = os.statvfs(MEMORY)
-        # A copy, its log, and what SQLite writes of the log into it.
-        if room.f_bavail * room.f_frsize > 3 * size + 1_000_000:
+        # A copy, its log, and what SQLite writes of the log into it. A disk that counts no files says that it has none at all.
+        if room.f_bavail * room.f_frsize > 3 * size + 1_000_000 and (room.f_files == 0 or room.f_favail > FILES_FREE):
             found.insert(0, MEMORY)
     return found
 
