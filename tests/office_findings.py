@@ -237,6 +237,28 @@ def file_that_came_since():
     same("and its pass", run_as("anna", "sh", "-c", f"passtool verify --root {root} <came/ida-1")[1], "signed\n")
 
 
+def clubs_beside():
+    """A club whose file has a name that the office gives to a file of its own stays as it is, and the other is refused."""
+    for ending in ("before", "book", "metrics", "new", "office", "offsite", "orders", "people.csv", "reasons", "seasons", "undo", "until-2026-12-31", "wal"):
+        file, configuration = HOME / f"other-{ending}", Path(f"/etc/clubdesk/other-{ending}.conf")
+        file.write_bytes(b"another club")
+        for path, of in ((configuration, file), (Path("/etc/clubdesk/other.conf"), HOME / "other")):
+            path.write_text(f"FILE={of}\n", encoding="utf-8")
+        for words in (["credit", "amy", "1"], ["members"], ["new"]):
+            status, _, errors = office(*words, club="other")
+            same(f"{words} beside a club other-{ending}", (status, f"{file} is the file of the club other-{ending}" in errors), (1, True))
+        same(f"the file of other-{ending}", file.read_bytes(), b"another club")
+        configuration.unlink()
+        file.unlink()
+    same("what is made", [it.name for it in HOME.glob("other*")], [])
+    names = ("other-newcomers", "other-bookings", "others")
+    for name in names:
+        Path(f"/etc/clubdesk/{name}.conf").write_text(f"FILE={HOME / name}\n", encoding="utf-8")
+    same("beside clubs whose names only begin so", office("new", club="other")[::2], (0, ""))
+    for it in [*HOME.glob("other*"), *(Path(f"/etc/clubdesk/{name}.conf") for name in ("other", *names))]:
+        it.unlink()
+
+
 def memory_that_is_full():
     """Copies are made beside the club where memory has no room, and those of killed commands go with the next one."""
     memory, user = Path("/dev/shm"), pwd.getpwnam("clubdesk")
@@ -322,6 +344,7 @@ def findings():
     terminals_that_take_nothing()
     folder_of_a_clerk()
     file_that_came_since()
+    clubs_beside()
     memory_that_is_full()
     disk_that_is_full()
     whole("what others did")

@@ -98,6 +98,11 @@ def again_and_again():
         stopped.communicate()
         same(f"stopped after {number} steps, again", set_up()[0], 0)
     made()
+    before = everything()
+    for name in (f"{CLUB}-orders", f"{CLUB}-wal"):
+        status, _, errors = set_up("--club", name)
+        same(f"a club {name} beside it", (status, f"the club {CLUB} has" in errors), (1, True))
+    same("nothing is made of it", everything(), before)
 
 
 def first_booking(port):

@@ -1,6 +1,7 @@
 """A club's configuration, the programs that the office runs, and the club's clock."""
 
 import collections
+import contextlib
 import glob
 import os
 import pwd
@@ -53,6 +54,30 @@ def settings(path):
     return found
 
 
+# The files beside a club's file that clubdesk or the office makes: its name and one of these, or `-until-` and a day.
+ENDINGS = ("-before", "-book", "-metrics", "-new", "-office", "-offsite", "-orders", "-people.csv", "-reasons", "-seasons", "-undo", "-wal")
+
+
+def is_beside(file, other):
+    """Whether a path is that of a file which is made beside a club's."""
+    ending = other.removeprefix(file) if other.startswith(file) else ""
+    return ending in ENDINGS or ending.startswith("-until-")
+
+
+def clubs_of(folder):
+    """Each club that is configured, and its file."""
+    for path in sorted(glob.glob(os.path.join(glob.escape(folder), "*.conf"))):
+        with contextlib.suppress(OSError, UnicodeDecodeError):
+            yield os.path.basename(path).removesuffix(".conf"), settings(path).get("file", "")
+
+
+def refuse_files_of_others(file, folder):
+    """Refuses a club beside whose file another club's is, in a place where one of its own files is made: it would be overwritten."""
+    for other, path in clubs_of(folder):
+        if is_beside(file, path):
+            raise refusal("file of another", path=path, club=other)
+
+
 def club_named(called, is_at_desk=False):
     """The club of this name, or of NAME@YEAR its file of an old year. Its zone is the zone of the command's clock from then on."""
     word, at, year = called.partition("@")
@@ -67,6 +92,7 @@ def club_named(called, is_at_desk=False):
         raise fault(STORAGE, "cannot be read", path=f"{folder}/{word}.conf", fault=failure) from None
     if not os.path.isabs(found.get("file", "")):
         raise fault(STORAGE, "no file line", path=f"{folder}/{word}.conf")
+    refuse_files_of_others(found["file"], folder)
     os.environ["TZ"] = found.get("zone") or "UTC0"
     time.tzset()
     stop = found.get("stop") or f"sudo -n /usr/bin/systemctl kill clubdesk@{word}.service"

@@ -38,6 +38,10 @@ REFUSALS = {
     "no old year": ("there is no file of {year}: it is made by `new-year`", "es gibt keine Datei von {year}: `new-year` legt sie an"),
     "no program": ("there is no program {path}", "das Programm {path} fehlt"),
     "at is to come": ("--at {at} is to come: it is {now}", "--at {at} liegt in der Zukunft: jetzt ist {now}"),
+    "file of another": (
+        "{path} is the file of the club {club}, and of a name that this club's own files have: give one of the two another name",
+        "{path} ist die Datei des Vereins {club} und heißt wie eine Datei, die zu diesem Verein gehört: einer der beiden braucht einen anderen Namen",
+    ),
     "no club file": ("there is no file {path}; `office {club} new` makes it", "es gibt keine Datei {path}; `office {club} new` legt sie an"),
     "exists": ("exists: {path}", "gibt es schon: {path}"),
     "old year": (
