@@ -237,6 +237,20 @@ def file_that_came_since():
     same("and its pass", run_as("anna", "sh", "-c", f"passtool verify --root {root} <came/ida-1")[1], "signed\n")
 
 
+def page_that_came_since():
+    """A file that came to the name of the board's page while a browser printed it stays, and isn't said to be the page."""
+    browser, kept = Path("/usr/bin/chromium"), Path("/usr/bin/chromium-kept")
+    if browser.exists():
+        browser.rename(kept)
+    browser.write_text('#!/bin/sh\nfor it; do case $it in --print-to-pdf=*) echo mine >board.pdf; echo printed >"${it#*=}" ;; esac; done\n', encoding="ascii")
+    browser.chmod(0o755)
+    same("the board's page alone", ".pdf" in done("report", "--to", "board.html"), False)
+    same("the page that came since", run_as("anna", "sh", "-c", "cat board.pdf; ls -d pdf-*")[1], "mine\n")
+    browser.unlink()
+    if kept.exists():
+        kept.rename(browser)
+
+
 def clubs_beside():
     """A club whose file has a name that the office gives to a file of its own stays as it is, and the other is refused."""
     for ending in ("before", "book", "metrics", "new", "office", "offsite", "orders", "people.csv", "reasons", "seasons", "undo", "until-2026-12-31", "wal"):
@@ -344,6 +358,7 @@ def findings():
     terminals_that_take_nothing()
     folder_of_a_clerk()
     file_that_came_since()
+    page_that_came_since()
     clubs_beside()
     memory_that_is_full()
     disk_that_is_full()

@@ -77,6 +77,8 @@ PLANTS = {
     "office_holds:folder": ("deploy/club_office/clubs.py", 'os.environ["HOME"] = pwd', "_ = pwd", "the folder of the desk's user: wanted", "findings"),
     "office_holds:came-since": ("deploy/club_office/counter.py", "named = name_new(written(words.to, text.decode()), words.to)",
                                 "named = os.rename(written(words.to, text.decode()), words.to) or words.to", "a file that came since: wanted", "findings"),
+    "office_holds:page-came-since": ("deploy/club_office/counter.py", "os.path.exists(printed) and is_named(printed, made)", "os.path.exists(printed) and not os.rename(printed, made)",
+                                     "the page that came since: wanted", "findings"),
     "office_holds:clubs-beside": ("deploy/club_office/clubs.py", "        if is_beside(file, path):", "        if False:", "the file of other-orders: wanted", "findings"),
     "office_holds:memory": ("deploy/club_office/copies.py", "found = [beside]", "found = [MEMORY]", "a list without memory: wanted", "findings"),
     "office_holds:memory-of-files": ("deploy/club_office/copies.py", "room.f_favail > FILES_FREE", "True", "a list without a file's place in memory: wanted", "findings"),

@@ -135,17 +135,18 @@ def write_report(club, words):
 
 
 def print_to_pdf(place):
-    """The page as PDF beside it, by the machine's browser; None if there is none, or it doesn't."""
+    """The page as PDF beside it, by the machine's browser; None if there is none, or it doesn't, or a file came to that name meanwhile."""
     browser = shutil.which("chromium") or shutil.which("chromium-browser")
     made = os.path.splitext(place)[0] + ".pdf"
     if not browser or os.path.lexists(made):
         return None
-    with tempfile.TemporaryDirectory() as folder:
-        line = [browser, "--headless", "--no-pdf-header-footer", f"--user-data-dir={folder}", f"--print-to-pdf={os.path.abspath(made)}"]
+    with tempfile.TemporaryDirectory() as folder, tempfile.TemporaryDirectory(prefix="pdf-", dir=os.path.dirname(made) or ".") as beside:
+        printed = os.path.join(os.path.abspath(beside), "printed.pdf")
+        line = [browser, "--headless", "--no-pdf-header-footer", f"--user-data-dir={folder}", f"--print-to-pdf={printed}"]
         line += ["--no-sandbox"] if os.geteuid() == 0 else []
         with contextlib.suppress(OSError, subprocess.TimeoutExpired):
             subprocess.run([*line, f"file://{urllib.parse.quote(os.path.abspath(place))}"], capture_output=True, check=False, timeout=90)
-    return made if os.path.exists(made) else None
+        return made if os.path.exists(printed) and is_named(printed, made) else None
 
 
 # ---- Files of the clerk.
