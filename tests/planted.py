@@ -95,6 +95,7 @@ PLANTS = {
                                   'return entry.cancel === null || entry.listed?.cancel ? "cancel" : null;', "what a list sent by itself", ".", "lists_send_nothing"),
     "page_books:lists-hide": ("web/src/record.mjs", "return isNews ? { ...own, saidCancelled: true } : own;",
                               "return isNews ? { ...own, cancel: { refund: other.listed.refund } } : own;", "a list can't show a standing booking as cancelled", ".", "lists_send_nothing"),
+    "page_books:lists-join": ("web/src/state.mjs", 'live.filter((entry) => stateOf(entry) !== "listed") : live', "live : live", "its slot is hers", ".", "lists_send_nothing"),
     "page_books:links-are-kept": ("web/src/passes_view.mjs", "      isAsked = !state.isKept;\n", "      keepThis();\n", "no button Keep it", ".", "nothing_by_itself"),
     "page_books:odd-entries-are-sent": ("web/src/record.mjs", "if (typeof value !== \"object\" || value === null) return false;", "return true;", "odd entries", ".", "nothing_by_itself"),
     "page_books:screen-takes-the-pass": ("web/src/screen_view.mjs", "if (state.pass !== null && state.text !== screenPass()) askToKeep();",

@@ -10,7 +10,7 @@ import { isDenied, owedFor } from "./points.mjs";
 import { MOST_GUESTS, personsOf, refundAt, stateOf, unfinished } from "./record.mjs";
 import { noReplyText, refusalText } from "./refusals.mjs";
 import { NotStored } from "./sender.mjs";
-import { clubMoment, denial, liveAt, state } from "./state.mjs";
+import { clubMoment, denial, liveAt, ownAt, state } from "./state.mjs";
 import { dateText, dayText, say } from "./words.mjs";
 
 const SEEN_AFTER = 1000; // milliseconds until a person hears that there is no answer yet
@@ -57,7 +57,8 @@ function mostGuests(slot, view) {
 
 // `view` is the desk's reply about the slot, or null where the pass doesn't show it.
 export function offerBooking(slot, view, whenDone) {
-  const mine = liveAt(slot);
+  const own = ownAt(slot, view);
+  const mine = own.length > 0 ? own : liveAt(slot);
   const title = say("book-this", { facility: titleOf(state.club, slot.facility) });
   if (mine.length > 0) offerSecond(slot, view, mine, title, whenDone);
   else offerFirst(slot, view, title, false, whenDone);

@@ -14,7 +14,7 @@ import { enterAnother } from "./passes_view.mjs";
 import { DAYS_AHEAD, hasBegun, isTooFarAhead, personsOf, stateOf } from "./record.mjs";
 import { limitText, refusalText } from "./refusals.mjs";
 import { CAVEAT_DENIES, NoReply } from "./replies.mjs";
-import { canSend, clubMoment, clubTime, denial, liveAt, state, withKind } from "./state.mjs";
+import { canSend, clubMoment, clubTime, denial, liveAt, ownAt, state, withKind } from "./state.mjs";
 import { dateText, dayText, say } from "./words.mjs";
 
 const SWIPE = 50; // pixels
@@ -168,12 +168,6 @@ function slotButton(slot) {
 }
 
 // ---- Cells
-
-// What a list alone names isn't there where fewer persons are in the slot.
-function ownAt(slot, view) {
-  const live = liveAt(slot);
-  return view !== null && view.taken < personsOf(live) ? live.filter((entry) => stateOf(entry) !== "listed") : live;
-}
 
 // What a cell is: its class, its words, a line below them, and whether it can be pressed.
 function looksOf({ slot, view, state: known }) {

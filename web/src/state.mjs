@@ -69,6 +69,12 @@ export function liveAt(slot) {
   return ownEntries().filter((entry) => isLive(entry) && isAt(entry, slot));
 }
 
+// The same, but for listed ones where the slot has fewer persons in it than all of them need.
+export function ownAt(slot, view) {
+  const live = liveAt(slot);
+  return view !== null && view.taken < personsOf(live) ? live.filter((entry) => stateOf(entry) !== "listed") : live;
+}
+
 // Whether something may be sent that has to be written down first.
 export function canSend() {
   return state.sender !== null && state.key !== null;

@@ -2,7 +2,7 @@
 import assert from "node:assert/strict";
 import { test } from "node:test";
 import { answered, newBooking, readRecord, slotName } from "../src/record.mjs";
-import { isLost, spentOfKey, state } from "../src/state.mjs";
+import { isLost, ownAt, spentOfKey, state } from "../src/state.mjs";
 
 const SLOT = { facility: "court-1", day: "2026-05-01", hour: 18 };
 const OWN = answered(newBooking("amy-1", 7, SLOT, 1, 1000), "book", { booking: "amy-1/7", charge: 400, left: 2 });
@@ -19,4 +19,13 @@ test("a list puts no booking of the desk's in doubt, and is itself where its per
   for (const [taken, entries, numbers] of rows) assert.deepEqual(lost(taken, ...entries), numbers, `${taken} of ${entries.length}`);
   lost(2, OWN, LISTED);
   assert.equal(spentOfKey(), 400);
+});
+
+test("the bookings at a slot are a list's, too, where there are as many persons", () => {
+  lost(2, OWN, LISTED, GONE);
+  for (const [view, numbers] of [[null, [7, 8]], [{ taken: 6 }, [7, 8]], [{ taken: 5 }, [7]], [{ taken: 1 }, [7]]]) {
+    assert.deepEqual(ownAt(SLOT, view).map(({ number }) => number), numbers, `${view?.taken} there`);
+  }
+  lost(3, LISTED);
+  assert.deepEqual([ownAt(SLOT, { taken: 3 }), ownAt(SLOT, { taken: 4 }).length], [[], 1]);
 });
