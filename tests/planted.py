@@ -70,6 +70,8 @@ PLANTS = {
                                  'raise refusal("not confirmed")', "a correction that isn't confirmed: wanted", "findings"),
     "office_holds:silent": ("deploy/club_office/book.py", "settimeout(WAITS_FOR_JOURNAL)", "settimeout(None)", "an order beside a silent journal: wanted", "findings"),
     "office_holds:programs": ("deploy/club_office/commands.py", "            forget_environment()", "            pass", "what ran as the desk: wanted", "findings"),
+    "office_holds:own-path": ("deploy/office.sudoers", ', secure_path="/usr/local/sbin:/usr/local/bin:/usr/sbin:/usr/bin:/sbin:/bin"', "",
+                              "sudo has a path of its own: wanted", "findings"),
     "office_holds:inner": ("deploy/club_office/importing.py", "or not roots or not all(", "or not all(", "the roots : wanted", "findings"),
     "office_holds:stopped": ("deploy/club_office/book.py", "signal.signal(number, signal.SIG_IGN) for", "signal.getsignal(number) for", "an order at signal", "findings"),
     "office_holds:takes-nothing": ("deploy/club_office/book.py", "self.said = sys.stderr = io.StringIO()", "self.said = io.StringIO()", "that takes nothing: wanted",
