@@ -40,6 +40,7 @@ PLANTS = {
     "modules_hold": ("web/src/dates.mjs", '"mon", "tue"', '"tue", "mon"', "not ok"),
     "modules_hold:lists-doubt": ("web/src/state.mjs", '(stateOf(each) === "listed" && stateOf(entry) === "listed")', 'stateOf(each) === "listed"', "2 of 2"),
     "modules_hold:lists-doubt-points": ("web/src/record.mjs", "(!isOfLists || entry.listed !== undefined)", "true", "made up, 901"),
+    "modules_hold:lists-book-twice": ("web/src/record.mjs", " && !entry.ofList", "", "another booking of that number"),
     "modules_hold:lists-erase": ("web/src/record.mjs", "{ ...own, guests: other.guests ?? own.guests, listed: other.listed }", "other", "a list after cancelling"),
     "machine_lives": ("deploy/Caddyfile", "respond @large 413", "respond @large 414", "a large body: wanted and found"),
     "narrowing_elsewhere": ("examples/narrow.mjs", "signature = await hmac(signature, data)", "await hmac(signature, data)", "'Node.js, v2'"),

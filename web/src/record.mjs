@@ -70,10 +70,10 @@ export function canBeAsked(entry) {
   return stateOf(entry) === "listed" && entry.guests !== null && entry.listed.charge === undefined;
 }
 
-// What a list names, as a request of this browser's own, under the same number.
+// A listed entry as a request of this browser's own, under the same number; `ofList` says that a list named it.
 export function withRequest(entry) {
   const { listed, notCancelled, stopped, ...rest } = entry;
-  return { ...rest, book: null, unsure: true };
+  return { ...rest, book: null, unsure: true, ofList: true };
 }
 
 // Whether a value that the browser kept is an entry: what isn't one is neither shown nor sent.
@@ -125,9 +125,9 @@ export function isAt(entry, slot) {
   return entry.facility === slot.facility && entry.day === slot.day && entry.hour === slot.hour;
 }
 
-// Whether a refused request is to be sent under another number.
+// Whether a refused request must be sent under another number. A list's number may be that of a booking with other guests: it isn't booked twice.
 export function wantsOtherNumber(entry) {
-  return entry.book?.fault === NUMBER_USED;
+  return entry.book?.fault === NUMBER_USED && !entry.ofList;
 }
 
 export function hasBegun(slot, moment) {

@@ -7,7 +7,7 @@ import { say } from "./words.mjs";
 
 // The slot, where it is known, is what was asked for.
 export function refusalText(reply, action = "book", slot = null) {
-  if (reply.fault === NUMBER_USED) return say(action === "cancel" ? "fault-13-cancel" : "fault-13-book");
+  if (reply.fault === NUMBER_USED) return say(action === "cancel" ? "fault-13-cancel" : slot?.ofList ? "fault-13-listed" : "fault-13-book");
   if (reply.fault === CAVEAT_DENIES) return say("fault-12", { limit: limitText(reply.caveat) });
   if (reply.fault === CAVEAT_NOT_UNDERSTOOD) return say("fault-11", { caveat: reply.caveat ?? "" });
   const reason = reply.fault === SLOT_CLOSED && slot !== null ? whyClosed(state.club, slot) : "";

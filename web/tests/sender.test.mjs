@@ -286,6 +286,12 @@ test("what a list names is never sent by itself, and once it is asked for only u
   assert.deepEqual(desk.log, ["book 7", "cancel 8"]);
   assert.equal((await store.get("amy-1", 8)).notCancelled.fault, 15);
   assert.equal(stateOf(await store.get("amy-1", 8)), "listed");
+  // A list that has other guests than the booking of its number books nothing besides.
+  desk.bookings.set("amy-1/9", { guests: 2, cancelled: false });
+  await sender.askFor("amy-1", 9);
+  await sender.run();
+  assert.deepEqual(desk.log.slice(2), ["book 9"], "another booking of that number");
+  assert.deepEqual([stateOf(await store.get("amy-1", 9)), (await sender.entries()).length], ["refused", 3]);
 });
 
 test("what no page wrote is neither listed nor sent", async () => {
