@@ -37,8 +37,8 @@ let doubtful = new Set(); // bookings that may have been cancelled elsewhere
 
 function showComparison(own, moment) {
   const found = state.account === null || moment === null ? null : compared(own, state.account.spent, moment);
-  doubtful = new Set(found?.is === "less" ? found.entries.map((entry) => entry.number) : []);
-  const words = { less: "list-less", more: "list-more" }[found?.is];
+  doubtful = new Set(["less", "claims"].includes(found?.is) ? found.entries.map((entry) => entry.number) : []);
+  const words = { less: "list-less", claims: "list-claims", more: "list-more" }[found?.is];
   put("list-says", ...(words === undefined ? [] : [say(words, { count: found.points })]));
 }
 

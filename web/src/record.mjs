@@ -98,7 +98,7 @@ export function costOf(entry) {
 
 // What a list and the desk's word on what the key spent say of one another: "same"; "less" where the desk counts less, so a booking was
 // cancelled elsewhere, with those that it may be; "more" where a booking isn't listed; and by how many points. Null where it can't be said.
-// Where the desk counts all that it said to this browser, the doubt is about what lists say alone, which can't take more back than was paid.
+// Where the desk counts all that it said to this browser it is "claims": the doubt is about lists alone. None takes more back than was paid.
 export function compared(entries, spent, moment) {
   const counted = entries.filter((entry) => stateOf(entry) !== "refused");
   if (counted.some((entry) => unfinished(entry) !== null || amountsOf(entry).charge === undefined)) return null;
@@ -110,7 +110,7 @@ export function compared(entries, spent, moment) {
   const standing = counted.filter((entry) => isLive(entry) && stateOf(entry) !== "cancelling" && (!isOfLists || entry.listed !== undefined));
   const mayGiveBack = (entry) => [amountsOf(entry).charge, Math.floor(amountsOf(entry).charge / 2)].includes(points);
   const found = standing.filter(mayGiveBack);
-  return { is: "less", points, entries: found.length > 0 ? found : standing.filter((entry) => !hasBegun(entry, moment)) };
+  return { is: isOfLists ? "claims" : "less", points, entries: found.length > 0 ? found : standing.filter((entry) => !hasBegun(entry, moment)) };
 }
 
 export function personsOf(entries) {

@@ -124,7 +124,7 @@ test("what the desk counts beside the list says what is missing, and what may be
   for (const open of [ASKED, withCancellation(BOOKED), { ...BOOKED, book: {} }]) assert.equal(compared([...list, open], 901, moment), null);
   // A list's made-up bookings put none of the desk's in doubt, and hide none.
   const madeUp = (charge, refund) => ({ ...ASKED, number: 9, book: {}, listed: { charge, left: 0, ...(refund === undefined ? {} : { refund }) } });
-  for (const [extra, spent, is, numbers] of [[madeUp(200), 901, "less", [9]], [madeUp(400), 901, "less", [9]], [madeUp(0, 400), 901, "same", []], [madeUp(0, 400), 501, "less", [1]]]) {
+  for (const [extra, spent, is, numbers] of [[madeUp(200), 901, "claims", [9]], [madeUp(400), 901, "claims", [9]], [madeUp(0, 400), 901, "same", []], [madeUp(0, 400), 501, "less", [1]]]) {
     const found = compared([...list, extra], spent, moment);
     assert.deepEqual([found.is, found.entries.map(({ number }) => number)], [is, numbers], `made up, ${spent}`);
   }
