@@ -15,6 +15,7 @@ import ctypes
 import os
 from dataclasses import dataclass
 from datetime import date, datetime
+from functools import lru_cache
 from pathlib import Path
 from typing import Union
 
@@ -83,14 +84,15 @@ class _AskObject(ctypes.Structure):
     ]
 
 
-def _load() -> ctypes.CDLL:
+def _load() -> ctypes.PyDLL:
     beside = Path(__file__).with_name("libclubpass.so.0")
-    library = ctypes.CDLL(os.environ.get("CLUBPASS_LIBRARY") or (str(beside) if beside.exists() else "libclubpass.so.0"))
+    # A call keeps the interpreter's lock. It takes microseconds: to give the lock up for it costs more, also with several threads.
+    library = ctypes.PyDLL(os.environ.get("CLUBPASS_LIBRARY") or (str(beside) if beside.exists() else "libclubpass.so.0"))
     # Each pass is `byref` of an _Object: a type that says so would be tested anew at each call.
     text, size, pass_at, length = ctypes.c_char_p, ctypes.c_size_t, ctypes.c_void_p, ctypes.POINTER(ctypes.c_size_t)
     code = ctypes.c_uint32
     for name, result, arguments in [
-        ("read", code, [text, size, pass_at]),
+        ("read", code, None),
         ("form", code, [pass_at]),
         ("location", code, [pass_at, text, size, length]),
         ("identifier", code, [pass_at, text, size, length]),
@@ -100,7 +102,7 @@ def _load() -> ctypes.CDLL:
         ("write", code, [pass_at, code, text, size, length]),
         ("mint", code, [text, size, text, size, text, size, pass_at]),
         ("narrow", code, [pass_at, text, size]),
-        ("is_signed", ctypes.c_bool, [pass_at, text, size]),
+        ("is_signed", ctypes.c_bool, None),
         ("first_fault", code, [pass_at, ctypes.POINTER(_AskObject), length]),
         ("is_caveat", ctypes.c_bool, [text, size]),
     ]:
@@ -110,11 +112,14 @@ def _load() -> ctypes.CDLL:
 
 
 _library = _load()
+# These two have no types of arguments, which ctypes would test at each call. They are given bytes, their `_length` and a `byref`.
 _read, _is_signed = _library.clubpass_read, _library.clubpass_is_signed
+_length = lru_cache(1024)(ctypes.c_size_t.from_param)
 
 # Objects of passes that are gone, by reference: a new one takes a third of the time of reading a pass.
 _MOST_SPARE = 16
 _spare: list = []
+_new = object.__new__
 
 
 def _bytes(value: Bytes) -> bytes:
@@ -184,16 +189,6 @@ class Pass:
     def __new__(cls) -> Pass:
         raise TypeError("Pass.parse reads a pass, and Pass.mint makes one")
 
-    @classmethod
-    def _made(cls) -> Pass:
-        """A pass whose object has any bytes, for a call that fills it."""
-        made = object.__new__(cls)
-        try:
-            made._at = _spare.pop()
-        except IndexError:
-            made._at = ctypes.byref(_Object())
-        return made
-
     def __del__(self, spare: list = _spare, most: int = _MOST_SPARE) -> None:
         if len(spare) < most:
             spare.append(self._at)
@@ -207,8 +202,8 @@ class Pass:
     @classmethod
     def parse(cls, text: Bytes) -> Pass:
         """Reads a text in any form. Raises TooLong, Malformed, ThirdParty or TooMany."""
-        line, made = text.encode() if isinstance(text, str) else _bytes(text), cls._made()
-        code = _read(line, len(line), made._at)
+        line, made = text.encode() if isinstance(text, str) else _bytes(text), _made(cls)
+        code = _read(line, _length(len(line)), made._at)
         if code != _OK:
             _check(code)
         return made
@@ -216,13 +211,13 @@ class Pass:
     @classmethod
     def mint(cls, root: bytes, identifier: Bytes, location: Bytes = b"") -> Pass:
         """Makes a new pass without caveats, signed under a root."""
-        place, name, made = _bytes(location), _bytes(identifier), cls._made()
+        place, name, made = _bytes(location), _bytes(identifier), _made(cls)
         _check(_library.clubpass_mint(root, len(root), place, len(place), name, len(name), made._at))
         return made
 
     def narrow(self, *caveats: Bytes) -> Pass:
         """The pass with these caveats after its own. Raises TooMany for more than 64."""
-        made = Pass._made()
+        made = _made(Pass)
         ctypes.memmove(made._at, self._at, _SIZE)
         for caveat in caveats:
             line = _bytes(caveat)
@@ -233,7 +228,7 @@ class Pass:
         """Whether the root signed the pass with its caveats. It tries no caveat."""
         if not isinstance(root, bytes):
             raise TypeError(f"a root is bytes, not {type(root).__name__}")
-        return _is_signed(self._at, root, len(root))
+        return _is_signed(self._at, root, _length(len(root)))
 
     def first_fault(self, ask: Ask) -> CaveatFault | None:
         """The first caveat that isn't understood or denies the ask; None if each allows it. It doesn't look at the signature."""
@@ -303,3 +298,13 @@ class Pass:
 
     def _parts(self) -> tuple[bytes, bytes, tuple[bytes, ...], bytes]:
         return self.location, self.identifier, tuple(self.caveats), self.signature
+
+
+def _made(kind: type[Pass]) -> Pass:
+    """A pass whose object has any bytes, for a call that fills it."""
+    made = _new(kind)
+    try:
+        made._at = _spare.pop()
+    except IndexError:
+        made._at = ctypes.byref(_Object())
+    return made
