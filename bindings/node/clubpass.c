@@ -3,6 +3,7 @@
 #include <clubpass.h>
 #include <node_api.h>
 #include <stdlib.h>
+#include <string.h>
 
 typedef struct {
     uint8_t *at;
@@ -157,12 +158,50 @@ static napi_value caveat_count(napi_env env, napi_callback_info info) {
     return number(env, (uint32_t)clubpass_caveat_count(pass));
 }
 
+/* A number of an argument, if it is whole and at most this. */
+static bool whole_at(napi_env env, napi_value value, uint64_t most, uint64_t *into) {
+    double found = -1;
+    if (napi_get_value_double(env, value, &found) != napi_ok || !(found >= 0 && found < 9007199254740992.0))
+        return false;
+    *into = (uint64_t)found;
+    return (double)*into == found && *into <= most;
+}
+
+/* An object, the name of a facility, and the numbers of an ask in the order below. The fault's number and that of the caveat. */
+static napi_value first_fault(napi_env env, napi_callback_info info) {
+    enum { ACTION = 2, KIND, MOMENT, DAY, HOUR, GUESTS, OWED, SPENT, COUNT };
+    static const uint64_t most[COUNT] = {0, 0, UINT32_MAX, UINT32_MAX, UINT32_MAX, UINT16_MAX, UINT8_MAX, UINT8_MAX, UINT64_MAX, UINT64_MAX};
+    napi_value values[COUNT] = {NULL}, made = NULL;
+    uint64_t found[COUNT] = {0};
+    bytes given[2];
+    size_t at = 0;
+    clubpass *pass;
+    if (!buffers(env, info, 2, values, given) || !(pass = object_of(env, given[0])))
+        return NULL;
+    napi_get_cb_info(env, info, &(size_t){COUNT}, values, NULL, NULL);
+    bool fine = given[1].len <= CLUBPASS_MAX_NAME;
+    for (size_t i = ACTION; i < COUNT; i++)
+        fine = fine && whole_at(env, values[i], most[i], &found[i]);
+    clubpass_fault fault = CLUBPASS_BAD_ASK;
+    if (fine) {
+        clubpass_ask ask = {.owed = found[OWED], .spent = found[SPENT], .action = (uint32_t)found[ACTION], .kind = (uint32_t)found[KIND],
+                            .moment = (uint32_t)found[MOMENT], .day = (uint16_t)found[DAY], .hour = (uint8_t)found[HOUR],
+                            .guests = (uint8_t)found[GUESTS], .facility_len = (uint8_t)given[1].len};
+        memcpy(ask.facility, given[1].at, given[1].len);
+        fault = clubpass_first_fault(pass, &ask, &at);
+    }
+    napi_create_array_with_length(env, 2, &made);
+    napi_set_element(env, made, 0, number(env, fault));
+    napi_set_element(env, made, 1, number(env, (uint32_t)at));
+    return made;
+}
+
 NAPI_MODULE_INIT() {
     static const struct {
         const char *name;
         napi_callback call;
     } calls[] = {{"read", read_text}, {"mint", mint}, {"narrow", narrow}, {"isSigned", is_signed}, {"isCaveat", is_caveat},
-                 {"part", part}, {"write", write_text}, {"form", form}, {"caveatCount", caveat_count}};
+                 {"part", part}, {"write", write_text}, {"form", form}, {"caveatCount", caveat_count}, {"firstFault", first_fault}};
     for (size_t i = 0; i < sizeof calls / sizeof *calls; i++) {
         napi_value made = NULL;
         napi_create_function(env, calls[i].name, NAPI_AUTO_LENGTH, calls[i].call, NULL, &made);

@@ -7,6 +7,16 @@ const library = require(process.env.CLUBPASS_NODE || "./clubpass.node");
 const FORMS = { v1: 1, v2: 2, json: 3 };
 const FAULTS = {
   1: "too long", 2: "malformed", 3: "third-party caveat", 4: "too many caveats", 5: "out of memory", 7: "no such caveat", 8: "no such form",
+  9: "no such ask",
+};
+const ACTIONS = { view: 1, book: 2, cancel: 3, account: 4 };
+const KINDS = { court: 1, boat: 2, room: 3 };
+const DENIED = 11;
+const MINUTE = 60_000, DAY = 86_400_000;
+// Whole units since 1970 of a civil date or moment, such as "2026-05-01" and "2026-05-01T18:00"; NaN for another text.
+const since1970 = (text, unit) => {
+  const at = new Date(text.includes("T") ? `${text}Z` : `${text}T00:00Z`);
+  return !Number.isNaN(at.getTime()) && at.toISOString().startsWith(text) ? Math.floor(at / unit) : NaN;
 };
 
 class PassError extends Error {
@@ -56,6 +66,18 @@ class Pass {
 
   to(form) {
     return told(library.write(this.#object, FORMS[form] || 0)).toString();
+  }
+
+  // The first caveat that isn't understood or denies an ask, as { number, understood }; null if each allows it. An ask is
+  // { action, moment }, with { facility, day, hour } if it has a slot, and { kind, guests, owed, spent } if they aren't 0.
+  // Its moment and its day are the club's civil time, as "2026-05-01T18:00" and "2026-05-01". The signature isn't looked at.
+  firstFault({ action, moment, facility = "", day, hour = 0, kind, guests = 0, owed = 0, spent = 0 }) {
+    const [fault, number] = library.firstFault(
+      this.#object, Buffer.from(facility), ACTIONS[action] ?? 0, kind === undefined ? 0 : KINDS[kind] ?? -1, since1970(moment, MINUTE),
+      day === undefined ? 0 : since1970(day, DAY), hour, guests, owed, spent);
+    if (fault === 0) return null;
+    if (number === 0) throw new PassError(fault);
+    return { number, understood: fault === DENIED };
   }
 
   get form() {

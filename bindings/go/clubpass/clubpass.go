@@ -11,6 +11,7 @@ import "C"
 
 import (
 	"fmt"
+	"time"
 	"unsafe"
 )
 
@@ -157,4 +158,81 @@ func (pass *Pass) Signature() (signature [32]byte) {
 func IsCaveat(text string) bool {
 	data := []byte(text)
 	return bool(C.clubpass_is_caveat(at(data), C.size_t(len(data))))
+}
+
+// An Action is what an Ask asks for.
+type Action uint32
+
+const (
+	View    Action = C.CLUBPASS_VIEW
+	Book    Action = C.CLUBPASS_BOOK
+	Cancel  Action = C.CLUBPASS_CANCEL
+	Account Action = C.CLUBPASS_ACCOUNT
+)
+
+// A Kind is that of a facility.
+type Kind uint32
+
+const (
+	NoKind Kind = C.CLUBPASS_NO_KIND
+	Court  Kind = C.CLUBPASS_COURT
+	Boat   Kind = C.CLUBPASS_BOAT
+	Room   Kind = C.CLUBPASS_ROOM_KIND
+)
+
+// An Ask is a request, as caveats see it. Without a facility there is no slot, and Day and Hour aren't looked at.
+// Moment and Day are the club's civil time: what they show in their own zones.
+type Ask struct {
+	Action      Action
+	Kind        Kind
+	Moment      time.Time
+	Facility    string
+	Day         time.Time
+	Hour        int
+	Guests      int
+	Owed, Spent uint64
+}
+
+// civil is the seconds from 1970-01-01T00:00 to what a moment shows in its own zone.
+func civil(moment time.Time) int64 {
+	_, offset := moment.Zone()
+	return moment.Unix() + int64(offset)
+}
+
+// object is the ask in C; false if a value is out of its range there.
+func (ask *Ask) object() (C.clubpass_ask, bool) {
+	made := C.clubpass_ask{
+		owed: C.uint64_t(ask.Owed), spent: C.uint64_t(ask.Spent), action: C.uint32_t(ask.Action), kind: C.uint32_t(ask.Kind),
+		guests: C.uint8_t(ask.Guests),
+	}
+	seconds := civil(ask.Moment)
+	if ask.Guests < 0 || ask.Guests > 255 || seconds < 0 || seconds/60 > 1<<32-1 || len(ask.Facility) > C.CLUBPASS_MAX_NAME {
+		return made, false
+	}
+	made.moment = C.uint32_t(seconds / 60)
+	if ask.Facility == "" {
+		return made, true
+	}
+	seconds = civil(ask.Day)
+	if ask.Hour < 0 || ask.Hour > 255 || seconds < 0 || seconds/86400 > 1<<16-1 {
+		return made, false
+	}
+	made.day, made.hour, made.facility_len = C.uint16_t(seconds/86400), C.uint8_t(ask.Hour), C.uint8_t(len(ask.Facility))
+	for place, letter := range []byte(ask.Facility) {
+		made.facility[place] = C.uint8_t(letter)
+	}
+	return made, true
+}
+
+// FirstFault tries the caveats one after the other. It returns 0 and nil if each allows the ask, else the number of the
+// first that doesn't, from 1, with NotUnderstood or Denied. It returns 0 and BadAsk if a value of the ask is out of its
+// range. It doesn't look at the signature.
+func (pass *Pass) FirstFault(ask Ask) (int, error) {
+	made, ok := ask.object()
+	if !ok {
+		return 0, BadAsk
+	}
+	var number C.size_t
+	err := check(C.clubpass_first_fault(&pass.object, &made, &number))
+	return int(number), err
 }
