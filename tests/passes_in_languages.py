@@ -197,8 +197,10 @@ def test_faults_from_python(clubpass):
         full.first_fault(clubpass.Ask("book", datetime(2026, 1, 1), "court-1", date(2026, 1, 1), 24))
     with pytest.raises(TypeError):
         clubpass.Pass.parse(None)
-    with pytest.raises(TypeError):
-        full.verify("root")
+    for call in (full.verify, lambda root: clubpass.Pass.mint(root, "key:a-1")):
+        for root in ("root", bytearray(b"root"), None):
+            with pytest.raises(TypeError):
+                call(root)
     assert clubpass.Pass.parse(THIRD["v1"]) == clubpass.Pass.parse(THIRD["json"]) and len({clubpass.Pass.parse(THIRD[it]) for it in FORMS}) == 1
     assert eval(repr(full), {"Pass": clubpass.Pass}) == full
 

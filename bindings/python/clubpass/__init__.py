@@ -130,6 +130,10 @@ def _bytes(value: Bytes) -> bytes:
     raise TypeError(f"bytes or str, not {type(value).__name__}")
 
 
+def _not_a_root(value: object) -> TypeError:
+    return TypeError(f"a root is bytes, not {type(value).__name__}")
+
+
 def _check(code: int) -> None:
     if code != _OK:
         error = _ERRORS[code]
@@ -144,7 +148,10 @@ def is_caveat(text: Bytes) -> bool:
 
 @dataclass(frozen=True)
 class Ask:
-    """A request, as caveats see it: `action` is view, book, cancel or account. Without a facility there is no slot."""
+    """A request, as caveats see it: `action` is view, book, cancel or account. Without a facility there is no slot.
+
+    `moment` is the club's civil time. A time zone that it names isn't looked at.
+    """
 
     action: str
     moment: datetime
@@ -211,6 +218,8 @@ class Pass:
     @classmethod
     def mint(cls, root: bytes, identifier: Bytes, location: Bytes = b"") -> Pass:
         """Makes a new pass without caveats, signed under a root."""
+        if not isinstance(root, bytes):
+            raise _not_a_root(root)
         place, name, made = _bytes(location), _bytes(identifier), _made(cls)
         _check(_library.clubpass_mint(root, len(root), place, len(place), name, len(name), made._at))
         return made
@@ -227,7 +236,7 @@ class Pass:
     def verify(self, root: bytes) -> bool:
         """Whether the root signed the pass with its caveats. It tries no caveat."""
         if not isinstance(root, bytes):
-            raise TypeError(f"a root is bytes, not {type(root).__name__}")
+            raise _not_a_root(root)
         return _is_signed(self._at, root, _length(len(root)))
 
     def first_fault(self, ask: Ask) -> CaveatFault | None:
