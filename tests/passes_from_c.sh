@@ -58,8 +58,8 @@ same 'names of the static library' "$(nm -D --defined-only library/lib/libclubpa
 holds 'tell is built' gcc -g -O1 -o tell "$here/passes_from_c/tell.c" -I "$here/../include" library/lib/libclubpass.a
 holds 'what refuses is built' gcc -shared -fPIC -O1 -o refused_memory "$here/refused_memory.c" -ldl
 cat >lines <<'LINES'
-00112233445566778899aabbccddeeff 41674545
-00112233445566778899aabbccddeeff 7b2263223a5b7b2269223a226b696e64203d20636f757274227d5d2c2269223a226b65793a616d792d31222c226c223a22636c75622d6465736b222c22733634223a224a42414930385158564d5f73444d4d73363944725962374e6d2d4567545674516667304b4d5a6a5176764d222c2276223a327d
+pass 00112233445566778899aabbccddeeff 41674545
+pass 00112233445566778899aabbccddeeff 7b2263223a5b7b2269223a226b696e64203d20636f757274227d5d2c2269223a226b65793a616d792d31222c226c223a22636c75622d6465736b222c22733634223a224a42414930385158564d5f73444d4d73363944725962374e6d2d4567545674516667304b4d5a6a5176764d222c2276223a327d
 LINES
 ALLOCATIONS_COUNTED=$work/counted LD_PRELOAD=$work/refused_memory ./tell <lines >whole
 same 'two lines' 2 "$(wc -l <whole)"

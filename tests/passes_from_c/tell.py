@@ -1,6 +1,7 @@
 """As tell.c, by the Python module."""
 
 import sys
+from datetime import date, datetime
 
 import clubpass
 
@@ -14,13 +15,40 @@ def written(found, form):
         return f"fault-{NUMBERS[type(error)]}"
 
 
-for line in sys.stdin:
-    root, text = (bytes.fromhex(it.replace("-", "")) for it in line.split())
+def data(word):
+    return bytes.fromhex(word.replace("-", ""))
+
+
+def spelled(found):
+    return found.hex() or "-"
+
+
+def tell_pass(root, text):
     try:
-        found = clubpass.Pass.parse(text)
+        found = clubpass.Pass.parse(data(text))
     except clubpass.PassError as error:
-        print("fault", NUMBERS[type(error)])
-        continue
-    parts = [found.location, found.identifier]
-    print(found.form, *(it.hex() or "-" for it in parts), ",".join(it.hex() or "-" for it in found.caveats) or "-", found.signature.hex(),
-          *(written(found, form) for form in ("v1", "v2", "json")), "signed" if found.verify(root) else "not signed")
+        return f"fault {NUMBERS[type(error)]}"
+    again = clubpass.Pass.mint(data(root), found.identifier, found.location).narrow(*found.caveats)
+    return " ".join([
+        found.form, spelled(found.location), spelled(found.identifier), ",".join(map(spelled, found.caveats)) or "-", found.signature.hex(),
+        *(written(found, form) for form in ("v1", "v2", "json")), again.signature.hex(), "signed" if found.verify(data(root)) else "not signed"])
+
+
+def tell_caveat(text):
+    return "yes" if clubpass.is_caveat(data(text)) else "no"
+
+
+def tell_verdict(text, action, kind, moment, facility, day, hour, guests, owed):
+    slot = {} if facility == "-" else {"facility": facility, "day": date.fromisoformat(day), "hour": int(hour)}
+    ask = clubpass.Ask(action, datetime.fromisoformat(moment), kind=None if kind == "-" else kind, guests=int(guests), owed=int(owed), **slot)
+    try:
+        fault = clubpass.Pass.parse(data(text)).first_fault(ask)
+    except clubpass.NotAnAsk:
+        return "no ask"
+    return "allows" if fault is None else f"{'denies' if fault.understood else 'not understood'} {fault.number}"
+
+
+TELL = {"pass": tell_pass, "caveat": tell_caveat, "ask": tell_verdict}
+for line in sys.stdin:
+    what, *words = line.split()
+    print(TELL[what](*words))
