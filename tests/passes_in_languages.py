@@ -70,17 +70,17 @@ def lines():
 
 
 def words_of(request):
-    """Action, kind, moment, facility, day, hour, guests and points owed, as an ask has them."""
+    """Action, kind, moment, facility, day, hour, guests, and points owed and spent, as an ask has them."""
     commands = (it.split() for it in VECTORS["club"]["commands"])
     facilities = {name: (kind, int(price)) for _, command, _, name, kind, _, price, *_ in (it for it in commands if it[1] == "add-facility")}
     words = request["path"].strip("/").split("/")
     if words == ["account"]:
-        return f"account - {request['at']} - - 0 0 0"
+        return f"account - {request['at']} - - 0 0 0 0"
     kind, price = facilities.get(words[1], ("-", 0))
     action = {"PUT": "book", "DELETE": "cancel", "GET": "view"}[request["method"]]
     guests = request.get("guests", 0)
     owed = price * (guests + 1) if action == "book" else 0
-    return f"{action} {kind} {request['at']} {' '.join(words[1:4])} {guests} {owed}"
+    return f"{action} {kind} {request['at']} {' '.join(words[1:4])} {guests} {owed} 0"
 
 
 def narrowed(*caveats):
@@ -101,6 +101,8 @@ def verdicts():
     for line in VECTORS["not understood"]:
         yield f"caveat {spelled(line.encode())}", "no"
         yield f"ask {narrowed('guests <= 49', 'kind = court', line)} {book}", "not understood 3"
+    for points, wanted in [("600 0", "allows"), ("600 1", "denies 1"), ("601 0", "denies 1"), ("1 600", "denies 1"), ("0 601", "allows")]:
+        yield f"ask {narrowed('spend <= 600')} {book.removesuffix('600 0')}{points}", wanted
     for old, new in [("2026-04-20T12:00", "1999-12-31T23:59"), ("2026-04-20T12:00", "2100-01-01T00:00"), ("2026-05-01", "1999-12-31"),
                      (" 18 ", " 24 "), ("court-1", "Court-1"), ("court-1", "a" * 25)]:
         yield f"ask {narrowed()} {book.replace(old, new)}", "no ask"

@@ -4,7 +4,7 @@
  *     pass ROOT TEXT         fault N, or form, location, identifier, caveats with commas, signature, its three texts, the signature of a
  *                            pass that is minted under the root and narrowed by the same caveats, and `signed` or `not signed`
  *     caveat TEXT            yes, or no
- *     ask TEXT ACTION KIND MOMENT FACILITY DAY HOUR GUESTS OWED
+ *     ask TEXT ACTION KIND MOMENT FACILITY DAY HOUR GUESTS OWED SPENT
  *                            `allows`, `denies N`, `not understood N`, or `no ask`. These words are plain.
  */
 #define _GNU_SOURCE
@@ -14,6 +14,8 @@
 #include <stdlib.h>
 #include <string.h>
 #include <time.h>
+
+#define COUNT(a) (sizeof(a) / sizeof *(a))
 
 static uint8_t out[CLUBPASS_MAX_TEXT];
 
@@ -123,6 +125,7 @@ static void tell_verdict(char **words) {
     ask.hour = (uint8_t)atoi(words[7]);
     ask.guests = (uint8_t)atoi(words[8]);
     ask.owed = strtoull(words[9], NULL, 10);
+    ask.spent = strtoull(words[10], NULL, 10);
     clubpass_fault fault = clubpass_read(out, len, &pass);
     if (fault == CLUBPASS_OK)
         fault = clubpass_first_fault(&pass, &ask, &number);
@@ -136,9 +139,9 @@ int main(void) {
     char *line = NULL;
     size_t room = 0;
     while (getline(&line, &room, stdin) > 0) {
-        char *words[10] = {NULL};
+        char *words[11] = {NULL};
         size_t count = 0;
-        for (char *word = strtok(line, " \n"); word && count < 10; word = strtok(NULL, " \n"))
+        for (char *word = strtok(line, " \n"); word && count < COUNT(words); word = strtok(NULL, " \n"))
             words[count++] = word;
         if (count == 3)
             tell_pass(words);

@@ -90,6 +90,7 @@ func tellVerdict(words []string) string {
 		Moment: must(time.Parse("2006-01-02T15:04", words[3])),
 		Guests: must(strconv.Atoi(words[7])),
 		Owed:   must(strconv.ParseUint(words[8], 10, 64)),
+		Spent:  must(strconv.ParseUint(words[9], 10, 64)),
 	}
 	if words[4] != "-" {
 		ask.Facility, ask.Day, ask.Hour = words[4], must(time.Parse("2006-01-02", words[5])), must(strconv.Atoi(words[6]))

@@ -27,8 +27,8 @@ const tellPass = (root, text) => {
   }
 };
 const tellCaveat = (text) => (isCaveat(data(text)) ? "yes" : "no");
-const tellVerdict = (text, action, kind, moment, facility, day, hour, guests, owed) => {
-  const ask = { action, moment, guests: Number(guests), owed: Number(owed) };
+const tellVerdict = (text, action, kind, moment, facility, day, hour, guests, owed, spent) => {
+  const ask = { action, moment, guests: Number(guests), owed: Number(owed), spent: Number(spent) };
   if (kind !== "-") ask.kind = kind;
   if (facility !== "-") Object.assign(ask, { facility, day, hour: Number(hour) });
   try {

@@ -38,9 +38,10 @@ def tell_caveat(text):
     return "yes" if clubpass.is_caveat(data(text)) else "no"
 
 
-def tell_verdict(text, action, kind, moment, facility, day, hour, guests, owed):
+def tell_verdict(text, action, kind, moment, facility, day, hour, guests, owed, spent):
     slot = {} if facility == "-" else {"facility": facility, "day": date.fromisoformat(day), "hour": int(hour)}
-    ask = clubpass.Ask(action, datetime.fromisoformat(moment), kind=None if kind == "-" else kind, guests=int(guests), owed=int(owed), **slot)
+    ask = clubpass.Ask(
+        action, datetime.fromisoformat(moment), kind=None if kind == "-" else kind, guests=int(guests), owed=int(owed), spent=int(spent), **slot)
     try:
         fault = clubpass.Pass.parse(data(text)).first_fault(ask)
     except clubpass.NotAnAsk:
