@@ -6,7 +6,7 @@ Each pass is also minted and narrowed once more. libmacaroons and pymacaroons na
 examples of bindings/ narrow the pass of README. Not part of the gate.
 """
 # groups: programs
-# wants: python3-pytest python3-pymacaroons gcc libc6-dev pkg-config golang-go nodejs libmacaroons-dev
+# wants: python3-pytest python3-pymacaroons mypy gcc libc6-dev pkg-config golang-go nodejs libmacaroons-dev
 
 import copy
 import ctypes
@@ -216,6 +216,12 @@ def test_faults_from_python(clubpass):
                 call(root)
     assert clubpass.Pass.parse(THIRD["v1"]) == clubpass.Pass.parse(THIRD["json"]) and len({clubpass.Pass.parse(THIRD[it]) for it in FORMS}) == 1
     assert eval(repr(full), {"Pass": clubpass.Pass}) == full
+
+
+def test_types_of_the_module():
+    """The module has types for whoever checks a program against it."""
+    checked = subprocess.run(["/usr/bin/mypy", "--strict", "--cache-dir=/dev/null", BINDINGS / "python" / "clubpass"], capture_output=True, text=True)
+    assert checked.returncode == 0, checked.stdout
 
 
 def test_objects_of_dropped_passes(clubpass):

@@ -17,7 +17,7 @@ from dataclasses import dataclass
 from datetime import date, datetime
 from functools import lru_cache
 from pathlib import Path
-from typing import Union
+from typing import Any, Callable, Union
 
 __all__ = [
     "Ask", "CaveatFault", "Malformed", "NotAnAsk", "NoRoom", "Pass", "PassError", "ThirdParty", "TooLong", "TooMany", "is_caveat",
@@ -113,12 +113,13 @@ def _load() -> ctypes.PyDLL:
 
 _library = _load()
 # These two have no types of arguments, which ctypes would test at each call. They are given bytes, their `_length` and a `byref`.
-_read, _is_signed = _library.clubpass_read, _library.clubpass_is_signed
+_read: Callable[..., int] = _library.clubpass_read
+_is_signed: Callable[..., bool] = _library.clubpass_is_signed
 _length = lru_cache(1024)(ctypes.c_size_t.from_param)
 
 # Objects of passes that are gone, by reference: a new one takes a third of the time of reading a pass.
 _MOST_SPARE = 16
-_spare: list = []
+_spare: list[Any] = []
 _new = object.__new__
 
 
@@ -143,7 +144,7 @@ def _check(code: int) -> None:
 def is_caveat(text: Bytes) -> bool:
     """Whether a text is a caveat of the club's language, such as `kind = court`."""
     line = _bytes(text)
-    return _library.clubpass_is_caveat(line, len(line))
+    return bool(_library.clubpass_is_caveat(line, len(line)))
 
 
 @dataclass(frozen=True)
@@ -192,11 +193,12 @@ class Pass:
     """A pass, with the form of the text that it was read from. `str` of it is its text in that form."""
 
     __slots__ = ("_at",)
+    _at: Any  # its object, by reference
 
     def __new__(cls) -> Pass:
         raise TypeError("Pass.parse reads a pass, and Pass.mint makes one")
 
-    def __del__(self, spare: list = _spare, most: int = _MOST_SPARE) -> None:
+    def __del__(self, spare: list[Any] = _spare, most: int = _MOST_SPARE) -> None:
         if len(spare) < most:
             spare.append(self._at)
 
@@ -282,7 +284,7 @@ class Pass:
         _library.clubpass_signature(self._at, out)
         return out.raw
 
-    def _told(self, call) -> bytes:
+    def _told(self, call: Callable[..., int]) -> bytes:
         """Returns the bytes that a call writes. The buffer has 1,024 bytes; if that is too short, a second one has the length that it tells."""
         room, length = 1024, ctypes.c_size_t()
         while True:
