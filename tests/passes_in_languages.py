@@ -194,6 +194,10 @@ def test_faults_from_python(clubpass):
         clubpass.Pass.parse("A" * 8193)
     with pytest.raises(clubpass.Malformed):
         clubpass.Pass.parse(text[:-1])
+    for spoiled in ("\ud800", text + "\udfff", THIRD["json"].replace("l", "\ud800", 1), "\ud800" + THIRD["json"]):  # as json.loads reads them
+        with pytest.raises(clubpass.Malformed):
+            clubpass.Pass.parse(spoiled)
+        assert not clubpass.is_caveat(spoiled)
     full = clubpass.Pass.parse(text).narrow(*["a = b"] * 64)
     with pytest.raises(clubpass.TooMany):
         full.narrow("a = b")

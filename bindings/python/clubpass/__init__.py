@@ -131,6 +131,11 @@ def _bytes(value: Bytes) -> bytes:
     raise TypeError(f"bytes or str, not {type(value).__name__}")
 
 
+def _text(value: Bytes) -> bytes:
+    """The bytes of a text that is read. A str that has no UTF-8 becomes bytes that aren't UTF-8: they are no pass, and no caveat."""
+    return value.encode("utf-8", "surrogatepass") if isinstance(value, str) else _bytes(value)
+
+
 def _not_a_root(value: object) -> TypeError:
     return TypeError(f"a root is bytes, not {type(value).__name__}")
 
@@ -143,7 +148,7 @@ def _check(code: int) -> None:
 
 def is_caveat(text: Bytes) -> bool:
     """Whether a text is a caveat of the club's language, such as `kind = court`."""
-    line = _bytes(text)
+    line = _text(text)
     return bool(_library.clubpass_is_caveat(line, len(line)))
 
 
@@ -165,7 +170,7 @@ class Ask:
     spent: int = 0
 
     def _object(self) -> _AskObject:
-        name = b"" if self.facility is None else self.facility.encode()
+        name = b"" if self.facility is None else _text(self.facility)
         minutes = (self.moment.replace(tzinfo=None) - datetime(1970, 1, 1)).total_seconds() // 60
         day = 0 if self.day is None else (self.day - date(1970, 1, 1)).days
         if self.action not in _ACTIONS or self.kind not in _KINDS:
@@ -210,8 +215,12 @@ class Pass:
 
     @classmethod
     def parse(cls, text: Bytes) -> Pass:
-        """Reads a text in any form. Raises TooLong, Malformed, ThirdParty or TooMany."""
-        line, made = text.encode() if isinstance(text, str) else _bytes(text), _made(cls)
+        """Reads a text in any form. Raises TooLong, Malformed, ThirdParty or TooMany, and NoRoom without memory."""
+        try:
+            line = text.encode() if isinstance(text, str) else _bytes(text)
+        except UnicodeEncodeError:
+            line = _text(text)
+        made = _made(cls)
         code = _read(line, _length(len(line)), made._at)
         if code != _OK:
             _check(code)
@@ -219,7 +228,7 @@ class Pass:
 
     @classmethod
     def mint(cls, root: bytes, identifier: Bytes, location: Bytes = b"") -> Pass:
-        """Makes a new pass without caveats, signed under a root."""
+        """Makes a new pass without caveats, signed under a root. Raises NoRoom if its parts have more than 8,192 bytes."""
         if not isinstance(root, bytes):
             raise _not_a_root(root)
         place, name, made = _bytes(location), _bytes(identifier), _made(cls)
@@ -227,7 +236,7 @@ class Pass:
         return made
 
     def narrow(self, *caveats: Bytes) -> Pass:
-        """The pass with these caveats after its own. Raises TooMany for more than 64."""
+        """The pass with these caveats after its own. Raises TooMany for more than 64, else NoRoom for more than 8,192 bytes of parts."""
         made = _made(Pass)
         ctypes.memmove(made._at, self._at, _SIZE)
         for caveat in caveats:
@@ -251,7 +260,7 @@ class Pass:
         return None
 
     def to(self, form: str) -> str:
-        """The text in a form: v1, v2 or json. Raises TooLong if it would have more than 8,192 bytes."""
+        """The text in a form: v1, v2 or json. Raises TooLong if it would have more than 8,192 bytes, and NoRoom without memory."""
         if form not in _FORMS:
             raise ValueError(f"no such form: {form}")
         return self._told(lambda *out: _library.clubpass_write(self._at, _FORMS[form], *out)).decode()
