@@ -15,8 +15,9 @@
  * Rules of every call:
  *
  * - A `clubpass` is an object of plain data, about 8 KiB. It lies where its owner puts it: on the
- *   stack, in another struct, on the heap. There is no call that frees it, and an assignment copies
- *   it. Set it to CLUBPASS_INIT, or to zeros, before its first use, and don't look into it.
+ *   stack, in another struct, on the heap, aligned as its type. There is no call that frees it, and
+ *   an assignment copies it. Set it to CLUBPASS_INIT, or to zeros, before its first use, and don't
+ *   look into it.
  * - Bytes cross as a pointer and a length. The pointer must not be NULL, even for a length of 0.
  *   A length must be below 2^63, and the memory of the whole length must be the caller's.
  * - Memory that a call writes must not overlap memory that the same call reads or writes by

@@ -33,6 +33,16 @@ static size_t from_hex(const char *text, uint8_t *bytes) {
     return len;
 }
 
+/* A call that fails to fill an object leaves no pass in it. */
+static bool is_empty(const clubpass *pass) {
+    static const uint8_t zeros[CLUBPASS_SIGNATURE];
+    uint8_t signature[CLUBPASS_SIGNATURE], byte[1];
+    size_t len = 1;
+    clubpass_signature(pass, signature);
+    return clubpass_form(pass) == CLUBPASS_NO_TEXT && clubpass_caveat_count(pass) == 0 && memcmp(signature, zeros, sizeof zeros) == 0 &&
+           clubpass_location(pass, byte, 0, &len) == CLUBPASS_OK && clubpass_identifier(pass, byte, 0, &len) == CLUBPASS_OK && len == 0;
+}
+
 /* The same pass, minted and narrowed under a root. */
 static clubpass minted_again(const clubpass *pass, const uint8_t *root, size_t root_len) {
     static uint8_t identifier[CLUBPASS_ROOM];
@@ -74,7 +84,7 @@ static void tell(const clubpass *pass, const uint8_t *root, size_t root_len) {
         if (fault == CLUBPASS_OK)
             putchar(' '), put_hex(out, len);
         else
-            printf(" fault-%d", fault);
+            printf(len == 0 ? " fault-%d" : " fault-%d-with-a-length", fault);
     }
     clubpass again = minted_again(pass, root, root_len);
     clubpass_signature(&again, out);
@@ -86,12 +96,13 @@ static void tell(const clubpass *pass, const uint8_t *root, size_t root_len) {
 static void tell_pass(char **words) {
     uint8_t root[64], text[CLUBPASS_MAX_TEXT + 64];
     size_t root_len = from_hex(words[1], root), len = from_hex(words[2], text);
-    clubpass pass = CLUBPASS_INIT;
+    clubpass pass;
+    memset(&pass, 0x5a, sizeof pass);
     clubpass_fault fault = clubpass_read(text, len, &pass);
     if (fault == CLUBPASS_OK)
         tell(&pass, root, root_len);
     else
-        printf("fault %d\n", fault);
+        printf(is_empty(&pass) ? "fault %d\n" : "fault %d, and a pass is left\n", fault);
 }
 
 static void tell_caveat(char **words) {
