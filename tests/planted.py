@@ -122,6 +122,7 @@ PLANTS = {
     "passes_from_python": ("bindings/python/clubpass/__init__.py", "3: ThirdParty, 4: TooMany", "3: TooMany, 4: TooMany", "'fault 4:')", "--count", "3000"),
     "passes_fuzzed": ("include/clubpass.h", "CLUBPASS_TOO_LONG = 1", "CLUBPASS_TOO_LONG = 9", "not so, line", "60"),
     "passes_in_languages": ("bindings/node/clubpass.js", "place + 3", "place + 4", "test_vectors[node]"),
+    "passes_in_languages:nothing-was-spent": ("bindings/go/clubpass/clubpass.go", "spent: C.uint64_t(ask.Spent), ", "", "test_vectors[go]"),
     "passes_by_pymacaroons": ("clubdesk", "caveat denies", "caveat deniex", "caveat deniex"),
     "proxy_holds": ("deploy/nginx.conf", "limit_req_status 429;", "limit_req_status 503;", "were limited"),
     "refused_memory": ("tests/refused_memory.c", "errno = ENOMEM;", "abort();", "(-6, "),
