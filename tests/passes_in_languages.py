@@ -104,7 +104,7 @@ def verdicts():
     for points, wanted in [("600 0", "allows"), ("600 1", "denies 1"), ("601 0", "denies 1"), ("1 600", "denies 1"), ("0 601", "allows")]:
         yield f"ask {narrowed('spend <= 600')} {book.removesuffix('600 0')}{points}", wanted
     for old, new in [("2026-04-20T12:00", "1999-12-31T23:59"), ("2026-04-20T12:00", "2100-01-01T00:00"), ("2026-05-01", "1999-12-31"),
-                     (" 18 ", " 24 "), ("court-1", "Court-1"), ("court-1", "a" * 25)]:
+                     (" 18 ", " 24 "), (" 18 ", " 274 "), ("court-1", "Court-1"), ("court-1", "a" * 25)]:
         yield f"ask {narrowed()} {book.replace(old, new)}", "no ask"
 
 

@@ -12,11 +12,11 @@ const FAULTS = {
 const ACTIONS = { view: 1, book: 2, cancel: 3, account: 4 };
 const KINDS = { court: 1, boat: 2, room: 3 };
 const DENIED = 11;
-const MINUTE = 60_000, DAY = 86_400_000;
-// Whole units since 1970 of a civil date or moment, such as "2026-05-01" and "2026-05-01T18:00"; NaN for another text.
-const since1970 = (text, unit) => {
-  const at = new Date(text.includes("T") ? `${text}Z` : `${text}T00:00Z`);
-  return !Number.isNaN(at.getTime()) && at.toISOString().startsWith(text) ? Math.floor(at / unit) : NaN;
+const MOMENT = { unit: 60_000, length: 16, rest: "Z" }, DAY = { unit: 86_400_000, length: 10, rest: "T00:00Z" };
+// Minutes since 1970 of a civil moment such as "2026-05-01T18:00", and days of a date such as "2026-05-01"; NaN for another text.
+const since1970 = (text, { unit, length, rest }) => {
+  const at = new Date(`${text}${rest}`);
+  return !Number.isNaN(at.getTime()) && at.toISOString().slice(0, length) === text ? at / unit : NaN;
 };
 
 class PassError extends Error {
@@ -73,7 +73,7 @@ class Pass {
   // Its moment and its day are the club's civil time, as "2026-05-01T18:00" and "2026-05-01". The signature isn't looked at.
   firstFault({ action, moment, facility = "", day, hour = 0, kind, guests = 0, owed = 0, spent = 0 }) {
     const [fault, number] = library.firstFault(
-      this.#object, Buffer.from(facility), ACTIONS[action] ?? 0, kind === undefined ? 0 : KINDS[kind] ?? -1, since1970(moment, MINUTE),
+      this.#object, Buffer.from(facility), ACTIONS[action] ?? 0, kind === undefined ? 0 : KINDS[kind] ?? -1, since1970(moment, MOMENT),
       day === undefined ? 0 : since1970(day, DAY), hour, guests, owed, spent);
     if (fault === 0) return null;
     if (number === 0) throw new PassError(fault);

@@ -133,7 +133,7 @@ static void tell_verdict(char **words) {
         memcpy(ask.facility, words[5], ask.facility_len < CLUBPASS_MAX_NAME ? ask.facility_len : CLUBPASS_MAX_NAME);
     }
     ask.day = (uint16_t)(minutes_of(words[6], "%Y-%m-%d") / 1440);
-    ask.hour = (uint8_t)atoi(words[7]);
+    ask.hour = (uint8_t)(atoi(words[7]) < 24 ? atoi(words[7]) : 24);
     ask.guests = (uint8_t)atoi(words[8]);
     ask.owed = strtoull(words[9], NULL, 10);
     ask.spent = strtoull(words[10], NULL, 10);
