@@ -2,8 +2,8 @@
 """The library of passes agrees with docs/vectors.json from C, Python, Go and Node.js, and with libmacaroons and pymacaroons both ways.
 
 The vectors are each pass in each form, texts that are read as the same pass, texts that are none, and the verdict of each caveat on each request.
-Each pass is also minted and narrowed once more. libmacaroons and pymacaroons narrow and verify passes that the library mints, and the library passes that they make. The
-examples of bindings/ narrow the pass of README. Not part of the gate.
+Each pass is also minted and narrowed once more. libmacaroons and pymacaroons narrow and verify passes that the library mints, and the library
+passes that they make. The examples of bindings/ narrow the pass of README. Not part of the gate.
 """
 # groups: programs
 # wants: python3-pytest python3-pymacaroons mypy gcc libc6-dev pkg-config golang-go nodejs libmacaroons-dev
