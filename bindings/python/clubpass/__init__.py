@@ -13,6 +13,7 @@ from __future__ import annotations
 
 import ctypes
 import os
+from collections import deque
 from dataclasses import dataclass
 from datetime import date, datetime
 from functools import lru_cache
@@ -118,8 +119,7 @@ _is_signed: Callable[..., bool] = _library.clubpass_is_signed
 _length = lru_cache(1024)(ctypes.c_size_t.from_param)
 
 # Objects of passes that are gone, by reference: a new one takes a third of the time of reading a pass.
-_MOST_SPARE = 16
-_spare: list[Any] = []
+_spare: deque[Any] = deque(maxlen=16)
 _new = object.__new__
 
 
@@ -203,9 +203,8 @@ class Pass:
     def __new__(cls) -> Pass:
         raise TypeError("Pass.parse reads a pass, and Pass.mint makes one")
 
-    def __del__(self, spare: list[Any] = _spare, most: int = _MOST_SPARE) -> None:
-        if len(spare) < most:
-            spare.append(self._at)
+    def __del__(self, keep: Callable[[Any], None] = _spare.append) -> None:
+        keep(self._at)
 
     def __copy__(self) -> Pass:
         return self
