@@ -286,10 +286,10 @@ def test_commands(page, tmp_path):
         (room / folder).symlink_to(desk.ROOT / folder)
     # Bodies of replies end without a line feed, which a terminal shows as a prompt after them.
     (tmp_path / ".curlrc").write_text('silent\nshow-error\nnoproxy = "*"\nwrite-out = "\\n"\n')
-    for program in ("passtool", "clubdesk"):
-        # It is built first, so that what its build prints isn't taken for what it prints.
-        if program in text:
-            subprocess.run([f"bin/{program}", "--help"], check=True, stdout=subprocess.DEVNULL)
+    for name, words in {"passtool": ["passtool", "--help"], "clubdesk": ["clubdesk", "--help"], "bin/library": ["library", tmp_path / "library"]}.items():
+        # It is built first, so that what its build prints isn't taken for what it prints, and its proof takes none of the page's time.
+        if name in text:
+            subprocess.run([f"bin/{words[0]}", *words[1:]], check=True, stdout=subprocess.DEVNULL)
     with open(out, "wb") as printed:
         subprocess.run(["sh", "-c", script_of(text)], cwd=room, stdin=subprocess.DEVNULL, stdout=printed, stderr=printed, timeout=600, check=False,
                        env={**os.environ, "PATH": f"{desk.ROOT}/bin:{os.environ['PATH']}", "CURL_HOME": str(tmp_path), "OUT": str(out)})
