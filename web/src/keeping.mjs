@@ -9,6 +9,8 @@ const MOST_PASSES = 20;
 const MOST_LOANS = 50;
 const MOST_NOTED = 2000;
 
+let loansOfPage = []; // loans that the browser didn't keep: they are known until the page is left
+
 function storageOf(forGood) {
   return forGood ? globalThis.localStorage : globalThis.sessionStorage;
 }
@@ -119,14 +121,20 @@ function isLoan(each) {
 
 // Each with its pass as it was handed on, its sentence, and the spare pass that it is a part of, "" where it is of none.
 export function keptLoans() {
-  return keptList("loans", isLoan).map(({ given, says, spare }) => ({ given, says, spare, ...splitGiven(given) }));
+  return [...loansOfPage, ...keptList("loans", isLoan)].map(({ given, says, spare }) => ({ given, says, spare, ...splitGiven(given) }));
 }
 
+// Adds a loan. One that the browser doesn't keep, or that is one too many, is known until the page is left.
 export function keepLoan({ given, says, spare }) {
-  return keep(true, "loans", JSON.stringify([{ given, says, spare }, ...keptList("loans", isLoan)].slice(0, MOST_LOANS)));
+  const loan = { given, says, spare };
+  const others = keptList("loans", isLoan);
+  const isKept = others.length < MOST_LOANS && keep(true, "loans", JSON.stringify([loan, ...others]));
+  if (!isKept) loansOfPage = [loan, ...loansOfPage];
+  return isKept;
 }
 
 export function dropLoan({ given }) {
+  loansOfPage = loansOfPage.filter((each) => each.given !== given);
   return keep(true, "loans", JSON.stringify(keptList("loans", isLoan).filter((each) => each.given !== given)));
 }
 

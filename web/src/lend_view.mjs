@@ -171,7 +171,7 @@ async function makeLoan(loan) {
   showMade(given, says);
   showChosen();
   showLoans();
-  return isKept ? [] : [say("lend-not-kept")];
+  return isKept ? [] : [say("lend-not-kept"), " ", ...(spare === "" ? [] : [say("lend-not-kept-spare")])];
 }
 
 function addressOf(given) {

@@ -1,0 +1,59 @@
+// Passes and loans that a browser keeps, and those that the page knows where the browser keeps no more.
+import assert from "node:assert/strict";
+import { beforeEach, test } from "node:test";
+import { dropLoan, keepLoan, keptLoans } from "../src/keeping.mjs";
+import { freeSpares } from "../src/lend.mjs";
+import { narrowed, readPass, writePass } from "../src/pass.mjs";
+
+// A pass of key amy-1, under a root of sixteen zero bytes, and the same one renewed.
+const AMY = readPass("AgIJa2V5OmFteS0xAAAGIN6DUCO_GPEfuM-1MV-MxNrJgiVxMmDgBrq42Kle8bor");
+const SPARES = [writePass(AMY), writePass({ ...AMY, signature: AMY.signature.map((byte) => byte ^ 1) })];
+
+// A store of a browser, which takes nothing more once it is full.
+class Room {
+  isFull = false;
+  values = new Map();
+
+  getItem(name) {
+    return this.values.get(name) ?? null;
+  }
+
+  setItem(name, value) {
+    if (this.isFull) throw new DOMException("no room", "QuotaExceededError");
+    this.values.set(name, value);
+  }
+
+  removeItem(name) {
+    this.values.delete(name);
+  }
+}
+
+beforeEach(() => {
+  Object.defineProperty(globalThis, "localStorage", { value: new Room(), configurable: true });
+});
+
+const free = () => freeSpares(SPARES, keptLoans(), "2026-12-01T00:00").map(({ text }) => text);
+const loanOf = async (spare, number) => ({ given: writePass(await narrowed(AMY, ["until < 2026-12-05T00:00", `spend <= ${number}`])), says: `loan ${number}`, spare });
+
+test("a spare pass is lent once while the page is open, though the store is full", async () => {
+  localStorage.isFull = true;
+  const first = await loanOf(SPARES[0], 1);
+  assert.equal(keepLoan(first), false);
+  assert.deepEqual(free(), [SPARES[1]]);
+  const second = await loanOf(SPARES[1], 2);
+  assert.equal(keepLoan(second), false);
+  assert.deepEqual([free(), keptLoans().map(({ says }) => says)], [[], ["loan 2", "loan 1"]]);
+  dropLoan(first);
+  dropLoan(second);
+  assert.deepEqual([free(), keptLoans()], [SPARES, []]);
+});
+
+test("no loan of before is dropped for a new one", async () => {
+  const first = await loanOf(SPARES[0], 1);
+  assert.equal(keepLoan(first), true);
+  for (let number = 2; number <= 50; number += 1) assert.equal(keepLoan(await loanOf("", number)), true);
+  const last = await loanOf(SPARES[1], 51);
+  assert.equal(keepLoan(last), false);
+  assert.deepEqual([free(), keptLoans().length, JSON.parse(localStorage.getItem("loans")).length], [[], 51, 50]);
+  dropLoan(last);
+});
