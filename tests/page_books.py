@@ -2186,22 +2186,29 @@ return [keyName(pass), pass.caveats.map(characters), byName("lend-made-says").te
 """
 
 
+def made(page):
+    """Presses twice to lend: what was made, or what the page says."""
+    page.run("byName('lend-made').hidden = true; byName('lend-make').click(); byName('lend-make').click()")
+    page.driver.execute_async_script(HELPERS + "settled(() => !isMaking).then(arguments[0])")
+    return page.run(MADE) if page.run("return isShown('lend-made')") else page.run("return shownText('lend-news')")
+
+
+def opens_lend(page, address):
+    page.open(address)
+    page.driver.execute_async_script(HELPERS + "settled(() => state.account !== null && dayIsThere() || denial('account') > 0).then(arguments[0])")
+    page.run("byName('to-lend').click()")
+    time.sleep(0.5)
+
+
+def text_of(page, script):
+    return page.driver.execute_async_script("const done = arguments[0]; (async () => { " + script + " })().then(done);")
+
+
 def lends_what_the_pass_opens(address):
     """Lends at the club to try. A loan takes a spare pass that the desk takes and that is the member's, or the page says before that there is none.
     A pass with limits offers no more than it opens. A second press makes no second loan. Without the club's list a booking offers what it can do."""
-    def made(page):
-        page.run("byName('lend-made').hidden = true; byName('lend-make').click(); byName('lend-make').click()")
-        page.driver.execute_async_script(HELPERS + "settled(() => !isMaking).then(arguments[0])")
-        return page.run(MADE) if page.run("return isShown('lend-made')") else page.run("return shownText('lend-news')")
-
     def opens(page, end=""):
-        page.open(address + end)
-        page.driver.execute_async_script(HELPERS + "settled(() => state.account !== null && dayIsThere() || denial('account') > 0).then(arguments[0])")
-        page.run("byName('to-lend').click()")
-        time.sleep(0.5)
-
-    def text_of(page, script):
-        return page.driver.execute_async_script("const done = arguments[0]; (async () => { " + script + " })().then(done);")
+        opens_lend(page, address + end)
 
     with Browser() as page:
         page.helpers = HELPERS
@@ -2264,6 +2271,36 @@ def lends_what_the_pass_opens(address):
     print("a loan takes a spare pass that the desk takes, offers no more than the pass opens, and is made once")
 
 
+# A store of the browser that takes nothing more.
+FULL = "Storage.prototype.setItem = () => { throw new DOMException('full', 'QuotaExceededError'); };"
+
+
+def says_what_it_keeps(address):
+    """A loan in a full store is known until the page is left. A holder's points are the desk's number where the pass shows it."""
+    with Browser() as page:
+        page.helpers = HELPERS
+        opens_lend(page, address)
+        page.run(FULL)
+        for key, words in [("anna-lend-1", "may lend it again"), ("anna-lend-2", "may lend it again"), ("anna-1", "until you reload or close this page.")]:
+            found = made(page)
+            check(found[0] == key and page.run("return shownText('lend-news')").endswith(words) == (key == "anna-1"), "no spare pass twice", key, found)
+            check(words in page.run("return shownText('lend-news')"), "what isn't kept", key, page.run("return shownText('lend-news')"))
+        check(page.run("return byName('loans').children.length") == 3, "three loans are listed", page.run("return shownText('loans')"))
+        opens_lend(page, address)
+        check(made(page)[0] == "anna-lend-1" and page.run("return byName('loans').children.length") == 1, "after a reload, as it said")
+        # The points that the desk counted, and those of this browser.
+        page.run("byName('to-day').click(); showDay(daysLater(clubMoment().slice(0, 10), 20))")
+        time.sleep(1)
+        page.run("cellAt('court-1', 20).button.click(); byName('dialog').querySelector('.main').click()")
+        time.sleep(1)
+        page.driver.execute_async_script("const [done] = arguments; Promise.all(state.entries.map((each) => state.store.remove(each.key, each.number))).then(() => done())")
+        for lines, words in [(["spend <= 600"], "200 of 600 points booked, as the desk counts."), (["actions = view,book,cancel", "spend <= 600"], "0 of 600 points booked in this browser.")]:
+            opens_lend(page, f"{address}#" + text_of(page, f"return writePass(await narrowed(readPass(await passToTry('anna-1')), {json.dumps(lines)}))"))
+            check(page.run("return shownText('pass-says')") == words, "whose number it is", lines, page.run("return shownText('pass-says')"))
+        check(not page.driver.get_log("browser"), "the console", page.driver.get_log("browser"))
+    print("a full store, and whose number the holder's points are: the page says it")
+
+
 def club_to_try():
     """web/demo.html from a folder: books, cancels and lends over a desk in the page, and loads and sends nothing."""
     shutil.copy(f"{TOP}/web/demo.html", "demo.html")
@@ -2288,6 +2325,7 @@ def club_to_try():
         check(page.run("return Object.keys(localStorage).every((name) => name.startsWith('demo ') || name === 'club to try')"), "names of its own")
         page.sent_nothing(address)
     lends_what_the_pass_opens(address)
+    says_what_it_keeps(address)
     tries_the_club(address)
     # The page of a club that is opened from a folder says what it is, and leads there.
     shutil.copy(f"{TOP}/web/book.html", "book.html")

@@ -37,7 +37,7 @@ function show() {
   const isIn = isPassShown();
   byName("welcome").hidden = isIn;
   byName("views").hidden = !isIn;
-  put("pass-says", ...(isIn ? [passSays(state.pass).join(" ")] : []));
+  showPassSays();
   for (const each of VIEWS) byName(each).hidden = !isIn || view !== each;
   for (const each of VIEWS) byName(`to-${each}`).setAttribute("aria-current", view === each ? "page" : "false");
   put("club-name", state.club?.name || say("book-title"));
@@ -52,6 +52,10 @@ function show() {
   showAccount();
   showExport();
   showLost();
+}
+
+function showPassSays() {
+  put("pass-says", ...(isPassShown() ? [passSays(state.pass).join(" ")] : []));
 }
 
 function showNotices() {
@@ -79,11 +83,11 @@ function go(wanted) {
   show();
   window.scrollTo(0, 0);
   if (view === "day") lookWhenBack();
-  if (view === "account") lookAtAccount();
+  if (view === "account") lookAtAccount().then(showPassSays);
   if (view === "lend") goToLend();
   if (view === "bookings") {
     lookAfterBookings(() => showBookings(refresh));
-    lookAtAccount().then(() => showBookings(refresh));
+    lookAtAccount().then(() => { showPassSays(); showBookings(refresh); });
   }
 }
 
@@ -97,7 +101,7 @@ async function refresh() {
     state.taken.clear(); // the slots have other persons in them now
     state.closed.clear();
     if (view === "bookings") lookAfterBookings(() => showBookings(refresh));
-    lookAtAccount().then(() => showBookings(refresh));
+    lookAtAccount().then(() => { showPassSays(); showBookings(refresh); });
     askToPersist();
   }
 }
@@ -119,7 +123,7 @@ function begin() {
 // The account, and what is still to be sent.
 function goOn() {
   showCells();
-  lookAtAccount().then(showCells);
+  lookAtAccount().then(() => { showPassSays(); showCells(); });
   state.sender?.usePass(state.text, state.key).catch(reportTrouble);
 }
 

@@ -295,7 +295,8 @@ export function setUpLend() {
 export function passSays(pass) {
   const parts = pass.caveats.map(shortText).filter((part) => part !== "");
   const limit = limitOf(pass);
-  if (limit !== null) parts.push(say("holder-points", { spent: Math.max(0, spentOfKey() - state.base), most: Math.max(0, limit - state.base) }));
+  const words = state.account === null ? "holder-points" : "holder-points-desk";
+  if (limit !== null) parts.push(say(words, { spent: Math.max(0, spentOfKey() - state.base), most: Math.max(0, limit - state.base) }));
   return parts;
 }
 
