@@ -2276,7 +2276,8 @@ FULL = "Storage.prototype.setItem = () => { throw new DOMException('full', 'Quot
 
 
 def says_what_it_keeps(address):
-    """A loan in a full store is known until the page is left. A holder's points are the desk's number where the pass shows it."""
+    """A loan in a full store is known until the page is left. A holder's points are the desk's number where the pass shows it.
+    A time that is looked for under a pass that has ended says so."""
     with Browser() as page:
         page.helpers = HELPERS
         opens_lend(page, address)
@@ -2297,6 +2298,14 @@ def says_what_it_keeps(address):
         for lines, words in [(["spend <= 600"], "200 of 600 points booked, as the desk counts."), (["actions = view,book,cancel", "spend <= 600"], "0 of 600 points booked in this browser.")]:
             opens_lend(page, f"{address}#" + text_of(page, f"return writePass(await narrowed(readPass(await passToTry('anna-1')), {json.dumps(lines)}))"))
             check(page.run("return shownText('pass-says')") == words, "whose number it is", lines, page.run("return shownText('pass-says')"))
+        # A pass that has ended.
+        opens_lend(page, f"{address}#" + text_of(page, "return writePass(await narrowed(readPass(await passToTry('anna-1')), ['until < 2026-01-02T18:00']))"))
+        page.run("byName('to-day').click(); byName('to-find').click()")
+        for place in ("find-looked", "lend-trouble"):
+            has(page.run(f"return byName('{place}').textContent"), f"a pass that has ended: {place}", "This pass has ended.", "January 2", "Ask whoever gave it to you", "Enter another pass")
+        check(page.run("return byName('find-grid').rows.length") == 0, "no grid without a word", page.run("return shownText('find-part')"))
+        page.click("find-next")
+        check(page.run("return shownText('find-news')") == "This pass has ended.", "the next free time of it", page.run("return shownText('find-news')"))
         check(not page.driver.get_log("browser"), "the console", page.driver.get_log("browser"))
     print("a full store, and whose number the holder's points are: the page says it")
 

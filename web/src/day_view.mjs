@@ -8,9 +8,7 @@ import { ask, eachAtOnce } from "./desk.mjs";
 import { button, byName, element, put } from "./elements.mjs";
 import { showFind, setUpFind } from "./find_view.mjs";
 import { lastBooked } from "./keeping.mjs";
-import { endOf } from "./lend.mjs";
-import { untilText } from "./pass_words.mjs";
-import { enterAnother } from "./passes_view.mjs";
+import { endedContent, enterAnother } from "./passes_view.mjs";
 import { DAYS_AHEAD, hasBegun, isTooFarAhead, personsOf, stateOf } from "./record.mjs";
 import { limitText, refusalText } from "./refusals.mjs";
 import { CAVEAT_DENIES, NoReply } from "./replies.mjs";
@@ -95,10 +93,8 @@ function dayFault(facilities) {
   if (day < today()) return [say("past-day")];
   if (day > lastDay()) return [say("outside-days", { day: dateText(lastDay()) })];
   if (facilities.length > 0) return [];
-  const end = endOf(state.pass);
-  if (end !== null && end <= clubMoment()) {
-    return [element("strong", "", say("pass-ended")), " ", untilText(...end.split("T")), " ", say("pass-ended-ask"), " ", button("", say("enter-another"), enterAnother)];
-  }
+  const ended = endedContent();
+  if (ended.length > 0) return ended;
   const number = limitOfDay();
   return [say("no-facilities"), ...(number > 0 ? [" ", limitText(number)] : [])];
 }

@@ -7,6 +7,7 @@ import { ask, eachAtOnce } from "./desk.mjs";
 import { closeDialog, openDialog } from "./dialog.mjs";
 import { button, byName, element, put } from "./elements.mjs";
 import { keepSearch, keptSearch, lastBooked } from "./keeping.mjs";
+import { endedContent } from "./passes_view.mjs";
 import { isDenied } from "./points.mjs";
 import { DAYS_AHEAD, hasBegun, isTooFarAhead, slotName, stateOf } from "./record.mjs";
 import { refusalText } from "./refusals.mjs";
@@ -165,6 +166,12 @@ async function lookWeek() {
   findRound += 1;
   const mine = findRound;
   views = new Map();
+  const ended = endedContent();
+  if (ended.length > 0) {
+    put("find-grid");
+    put("find-looked", ...ended);
+    return;
+  }
   showGrid();
   if (!navigator.onLine) {
     put("find-looked", say("looked-offline"));
@@ -180,6 +187,10 @@ async function lookWeek() {
 
 // Goes day by day until one has something free, and shows the days from there.
 async function findNext() {
+  if (endedContent().length > 0) {
+    put("find-news", say("pass-ended"));
+    return;
+  }
   findRound += 1;
   const mine = findRound;
   const last = daysLater(clubMoment().slice(0, 10), DAYS_AHEAD);

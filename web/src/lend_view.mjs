@@ -10,6 +10,7 @@ import { allowsFacility, caveatsOf, endOf, freeSpares, lastDayOf, limitOf, lines
 import { canSign, keyName, narrowed, withSpent, writePass } from "./pass.mjs";
 import { Fault } from "./pass_faults.mjs";
 import { faultText, sentenceOf } from "./pass_words.mjs";
+import { endedContent } from "./passes_view.mjs";
 import { drawQr, qrWords } from "./qr_picture.mjs";
 import { noReplyText, refusalText } from "./refusals.mjs";
 import { NoReply } from "./replies.mjs";
@@ -268,10 +269,10 @@ export async function offerSpares(texts) {
 // ---- The view
 
 export function showLend() {
-  const isOver = state.pass !== null && state.club !== null && (endOf(state.pass) ?? "9999") <= clubMoment();
-  const isReady = canSign() && state.club !== null && state.pass !== null && !isOver;
+  const ended = endedContent();
+  const isReady = canSign() && state.club !== null && state.pass !== null && ended.length === 0;
   byName("lend-form").hidden = !isReady;
-  put("lend-trouble", ...(isReady ? [] : [say(!canSign() ? "unsigned" : isOver ? "pass-ended" : "club-missing")]));
+  put("lend-trouble", ...(isReady ? [] : canSign() && ended.length > 0 ? ended : [say(canSign() ? "club-missing" : "unsigned")]));
   if (!isReady) return;
   fillChoices();
   showChosen();

@@ -3,10 +3,11 @@ import { button, byName, element, put } from "./elements.mjs";
 import { readFragment } from "./fragment.mjs";
 import { dropPass, holdPass, keepForTab, keepPass, keptPasses, passOfPage, passOfTab, plainName } from "./keeping.mjs";
 import { shown } from "./bytes.mjs";
+import { endOf } from "./lend.mjs";
 import { keyName, pastedText, readPass, sentText, splitGiven, withSpent } from "./pass.mjs";
 import { Fault } from "./pass_faults.mjs";
-import { faultContent } from "./pass_words.mjs";
-import { state } from "./state.mjs";
+import { faultContent, untilText } from "./pass_words.mjs";
+import { clubMoment, state } from "./state.mjs";
 import { say } from "./words.mjs";
 
 let isAsked = false; // whether the pass came in a link and nobody said yet if it is to be kept
@@ -186,6 +187,13 @@ export function passNotices() {
     notices.push([say("keep-question"), button("", say("keep-yes"), answer(true)), button("", say("keep-no"), answer(false))]);
   }
   return notices;
+}
+
+// The words for a pass that has ended: when, and what to do. None where it hasn't.
+export function endedContent() {
+  const end = state.pass === null || state.club === null ? null : endOf(state.pass);
+  if (end === null || end > clubMoment()) return [];
+  return [element("strong", "", say("pass-ended")), " ", untilText(...end.split("T")), " ", say("pass-ended-ask"), " ", button("", say("enter-another"), enterAnother)];
 }
 
 // The passes to choose from, where there are several.
