@@ -2307,7 +2307,57 @@ def says_what_it_keeps(address):
         page.click("find-next")
         check(page.run("return shownText('find-news')") == "This pass has ended.", "the next free time of it", page.run("return shownText('find-news')"))
         check(not page.driver.get_log("browser"), "the console", page.driver.get_log("browser"))
-    print("a full store, and whose number the holder's points are: the page says it")
+    keeps_so_many(address)
+    print("a full store, so many passes, and whose number the holder's points are: the page says it")
+
+
+# Passes of the club to try that differ in a limit.
+MANY = "return Promise.all(Array.from({ length: 22 }, async (_, count) => writePass(await narrowed(readPass(await passToTry('anna-1')), [`spend <= ${9000 + count}`]))))"
+
+
+def keeps_so_many(address):
+    """The 21st pass and the 21st spare pass aren't kept: the page says the limit, and one takes the place of one that is removed by a press."""
+    with Browser() as page:
+        page.helpers = HELPERS
+        opens_lend(page, address)
+        *passes, first, last = text_of(page, MANY)
+        page.run("localStorage['demo passes'] = JSON.stringify(arguments[0].map((text, count) => ({ text, name: `pass ${count + 1}` })))", passes)
+        opens_lend(page, f"{address}#{last}")
+        page.run("pressIn(byName('notices'), 'Keep it')")
+        has(page.run("return shownText('notices')"), "a 21st pass", "20 passes are kept in this browser, and it keeps no more.", "“Forget the pass” under “Account”")
+        check("keeps nothing" not in page.run("return shownText('notices')"), "a 21st pass", page.run("return shownText('notices')"))
+        page.run("byName('to-account').click(); pressIn(byName('pass-buttons'), 'Keep the pass in this browser')")
+        has(page.run("return shownText('pass-news')"), "once more", "20 passes are kept")
+        page.run("byName('who').value = arguments[0]; byName('who').dispatchEvent(new Event('change')); byName('to-account').click(); pressIn(byName('pass-buttons'), 'Forget the pass')", passes[7])
+        page.run("pressIn(byName('dialog'), 'Forget the pass')")
+        time.sleep(0.5)
+        check(page.run("return state.given") == last and page.run("return keptPasses().length") == 19, "the one that is to be kept", page.run("return state.name"))
+        page.run("byName('to-account').click(); pressIn(byName('pass-buttons'), 'Keep the pass in this browser')")
+        check(page.run("return shownText('pass-news')") == "The pass is kept in this browser.", "there is room", page.run("return shownText('pass-news')"))
+        check(page.run("return keptPasses().map((each) => each.text)") == [last, *passes[:7], *passes[8:]], "the others are as before")
+        # Spare passes. The first is lent.
+        page.run("localStorage.removeItem('demo passes'); localStorage['demo spares'] = JSON.stringify(arguments[0])", passes)
+        page.run("localStorage['demo loans'] = JSON.stringify([{ given: arguments[0], says: 'lent', spare: arguments[0] }])", passes[0])
+        opens_lend(page, f"{address}#spare={first};{last}")
+        has(page.run("return dialogText()"), "a 21st spare pass", "These aren't kept yet: a browser keeps 20 spare passes. Remove 2 that you no longer need.")
+        check(page.run("return byName('dialog').querySelectorAll('li').length") == 19, "one that is lent isn't removed", page.run("return dialogText()"))
+        keep("spares-full.png", page.driver.get_screenshot_as_base64())
+        for count in (0, 1):
+            check("There is room now." not in page.run("return dialogText()") and page.run("return keptSpares()") == passes[:1] + passes[1 + count:], "removed", count)
+            page.run("byName('dialog').querySelector('li button').click()")
+        has(page.run("return dialogText()"), "two are removed", "anna-1 is removed.", "There is room now.")
+        page.run("pressIn(byName('dialog'), 'Go on')")
+        time.sleep(0.5)
+        page.run("pressIn(byName('dialog'), 'Keep it')")
+        time.sleep(0.5)
+        check("They are kept." in page.run("return dialogText()") and page.run("return keptSpares()") == [passes[0], *passes[3:], first, last], "kept", page.run("return dialogText()"))
+        page.run("pressIn(byName('dialog'), 'Close')")
+        page.run(FULL)
+        page.run("offerSpares([arguments[0]]); pressIn(byName('dialog'), 'Remove anna-1')", passes[1])
+        check("anna-1 is removed" not in page.run("return dialogText()"), "nothing is removed from a store that takes nothing", page.run("return dialogText()"))
+        page.run("byName('dialog').querySelector('.main').click()")
+        check(page.run("return keptSpares().length") == 20 and not page.run("return dialogText()"), "its spare passes stay", page.run("return dialogText()"))
+        check(not page.driver.get_log("browser"), "the console", page.driver.get_log("browser"))
 
 
 def club_to_try():

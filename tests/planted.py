@@ -112,6 +112,7 @@ PLANTS = {
     "page_books:worker-keeps-old-pages": ("web/src/worker.js", "names.filter((name) => name !== CACHE)", "names.filter((name) => name === null)", "the new worker's pages alone", ".", "at_hand"),
     "page_books:counts-nothing": ("web/src/record.mjs", "if (points < 0) return", "if (points !== 0) return", "a booking that was cancelled elsewhere", ".", "tells_what_is_missing"),
     "page_books:lends-any-spare": ("web/src/lend_view.mjs", "reply.fault === undefined && reply.member === member", "true", "which spare pass is taken", ".", "club_to_try"),
+    "page_books:forgets-a-loan": ("web/src/keeping.mjs", "  if (!isKept) loansOfPage = [loan, ...loansOfPage];\n", "", "no spare pass twice", ".", "club_to_try"),
     "page_books:forgets-the-end": ("web/src/booking_dialog.mjs", "end === null || end > startOf(slot)", "end === null || end < startOf(slot)", "a slot after the pass's end", ".", "club_to_try"),
     "page_books:breaks-words": ("web/src/book.css", "  .day-bar h2 { order: -1; flex-basis: 100%; }\n", "", "words that are broken", ".", "large_letters"),
     "page_narrows": ("web/src/caveats.mjs", '[1-4][0-9])", (most)', '[1-5][0-9])", (most)', "understood otherwise"),

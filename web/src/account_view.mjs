@@ -5,7 +5,7 @@ import { ask } from "./desk.mjs";
 import { question, tell } from "./dialog.mjs";
 import { button, byName, element, put } from "./elements.mjs";
 import { noteTaken } from "./list_keeping.mjs";
-import { enterAnother, forgetPass, keepThis, nameField } from "./passes_view.mjs";
+import { enterAnother, forgetPass, keepThis, keptText, nameField } from "./passes_view.mjs";
 import { fact, keyWarning, limitList } from "./pass_words.mjs";
 import { drawQr } from "./qr_picture.mjs";
 import { fragmentOfRecord, hasBegun, isLive, merged, readRecord, recordText } from "./record.mjs";
@@ -61,7 +61,7 @@ export function showPass() {
   const keep = button("", say("keep-pass"), () => {
     keepThis();
     showPass();
-    put("pass-news", say(state.isKept ? "pass-kept" : "keep-failed"));
+    put("pass-news", keptText());
   });
   const copy = button("", say("copy-pass"), () => copyText(state.text, "pass-news", "copied-pass", "selected-pass"));
   const drop = button("danger", say("forget-pass"), async () => {

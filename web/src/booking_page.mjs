@@ -190,7 +190,7 @@ function setUp() {
   setUpDay();
   setUpAccount(refresh);
   setUpLend();
-  setUpPasses({ begin, show, keepFailed: () => { storageTrouble = "keep-failed"; } });
+  setUpPasses({ begin, show });
   for (const each of VIEWS) byName(`to-${each}`).addEventListener("click", () => go(each));
   byName("list-take").addEventListener("click", () => {
     go("account");

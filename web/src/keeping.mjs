@@ -5,7 +5,7 @@ import { splitGiven } from "./pass.mjs";
 import { placeName } from "./place.mjs";
 
 const LONGEST_NAME = 40;
-const MOST_PASSES = 20;
+export const MOST_PASSES = 20; // and as many spare ones
 const MOST_LOANS = 50;
 const MOST_NOTED = 2000;
 
@@ -66,11 +66,15 @@ export function keptPasses() {
   return keptList("passes", isKeptPass);
 }
 
+// Whether as many others are kept as can be.
+export function isPassTooMany(text) {
+  return keptPasses().filter((each) => each.text !== text).length >= MOST_PASSES;
+}
+
 // Adds a pass in front of the others, or gives it another name. No other one is taken away.
 export function keepPass(text, name) {
   const others = keptPasses().filter((each) => each.text !== text);
-  if (others.length >= MOST_PASSES) return false;
-  return keep(true, "passes", JSON.stringify([{ text, name }, ...others]));
+  return !isPassTooMany(text) && keep(true, "passes", JSON.stringify([{ text, name }, ...others]));
 }
 
 export function dropPass(text) {
@@ -111,8 +115,22 @@ export function keptSpares() {
   return keptList("spares", (each) => typeof each === "string");
 }
 
+function sparesWith(texts) {
+  return [...new Set([...keptSpares(), ...texts])];
+}
+
+// Returns the number of spare passes to remove before these fit.
+export function sparesTooMany(texts) {
+  return Math.max(0, sparesWith(texts).length - MOST_PASSES);
+}
+
+// Keeps all of them or none.
 export function keepSpares(texts) {
-  return keep(true, "spares", JSON.stringify([...new Set([...keptSpares(), ...texts])].slice(0, MOST_PASSES)));
+  return sparesTooMany(texts) === 0 && keep(true, "spares", JSON.stringify(sparesWith(texts)));
+}
+
+export function dropSpare(text) {
+  return keep(true, "spares", JSON.stringify(keptSpares().filter((each) => each !== text)));
 }
 
 function isLoan(each) {

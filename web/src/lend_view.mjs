@@ -5,7 +5,7 @@ import { daysLater, isDate } from "./dates.mjs";
 import { ask } from "./desk.mjs";
 import { question, tell } from "./dialog.mjs";
 import { button, byName, element, put } from "./elements.mjs";
-import { dropLoan, keepLoan, keepSpares, keptLoans, keptSpares, plainName } from "./keeping.mjs";
+import { dropLoan, dropSpare, keepLoan, keepSpares, keptLoans, keptSpares, MOST_PASSES, plainName, sparesTooMany } from "./keeping.mjs";
 import { allowsFacility, caveatsOf, endOf, freeSpares, lastDayOf, limitOf, linesOf, passOrNull, sparesLent } from "./lend.mjs";
 import { canSign, keyName, narrowed, withSpent, writePass } from "./pass.mjs";
 import { Fault } from "./pass_faults.mjs";
@@ -260,10 +260,33 @@ export async function offerSpares(texts) {
     return;
   }
   const names = element("p", "key", passes.map(keyName).join(", "));
+  if (sparesTooMany(texts) > 0) await makeRoom(texts, names);
+  if (sparesTooMany(texts) > 0) return;
   if (!await question(say("spares-question"), [names, say("spares-hint")], say("keep-yes"), say("keep-no"))) return;
   const isKept = keepSpares(texts);
-  await tell(say("spares-title"), say(isKept ? "spares-kept" : "keep-failed"));
+  await tell(say("spares-title"), say(isKept ? "spares-kept" : "spares-not-kept"));
   showLend();
+}
+
+// Shows the spare passes that may be removed, where more came than can be kept. A lent one stays.
+function makeRoom(texts, names) {
+  const free = freeSpares(keptSpares(), keptLoans(), clubMoment() ?? "").filter(({ text }) => !texts.includes(text));
+  const items = free.map(({ text, pass }) => {
+    const item = Object.assign(element("li", "card"), { tabIndex: -1 });
+    const remove = button("", say("spares-remove", { key: keyName(pass) }), () => {
+      if (!dropSpare(text)) {
+        put("spares-news", say("spares-not-kept"));
+        return;
+      }
+      put("spares-news", sparesTooMany(texts) > 0 ? "" : say("spares-room"));
+      item.replaceChildren(element("p", "", say("spares-removed", { key: keyName(pass) })));
+      item.focus();
+    });
+    item.append(element("div", "buttons", remove));
+    return item;
+  });
+  const news = Object.assign(element("p", "note", items.length > 0 ? "" : say("lend-spares-lent-title")), { id: "spares-news", role: "status" });
+  return question(say("spares-title"), [names, say("spares-full", { count: sparesTooMany(texts), most: MOST_PASSES }), element("ul", "cards", ...items), news], say("go-on"), null);
 }
 
 // ---- The view

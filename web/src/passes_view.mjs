@@ -1,7 +1,7 @@
 // The passes of this browser: which one is used, which are kept, and how another one comes in.
 import { button, byName, element, put } from "./elements.mjs";
 import { readFragment } from "./fragment.mjs";
-import { dropPass, holdPass, keepForTab, keepPass, keptPasses, passOfPage, passOfTab, plainName } from "./keeping.mjs";
+import { dropPass, holdPass, isPassTooMany, keepForTab, keepPass, keptPasses, MOST_PASSES, passOfPage, passOfTab, plainName } from "./keeping.mjs";
 import { shown } from "./bytes.mjs";
 import { endOf } from "./lend.mjs";
 import { keyName, pastedText, readPass, sentText, splitGiven, withSpent } from "./pass.mjs";
@@ -13,7 +13,8 @@ import { say } from "./words.mjs";
 let isAsked = false; // whether the pass came in a link and nobody said yet if it is to be kept
 let isEntering = false; // whether another pass is to be entered
 const used = new Map(); // the names of passes that this page used, by their texts
-let page = {}; // what the page does: begin(), show(), and keepFailed()
+let keepTrouble = ""; // the key of the words that say why the pass that is used couldn't be kept
+let page = {}; // what the page does: begin() and show()
 
 export function isPassShown() {
   return state.pass !== null && !isEntering;
@@ -31,6 +32,7 @@ function takePass(whole) {
   used.set(given, name);
   Object.assign(state, { pass, text: sent, given, base: spent, key, name, isKept: kept !== undefined, account: null });
   isEntering = false;
+  keepTrouble = "";
 }
 
 // A name that no other pass has.
@@ -137,9 +139,15 @@ export function keepThis(name = state.name) {
     used.set(state.given, name);
     holdPass(null);
   }
-  if (!state.isKept) page.keepFailed();
+  keepTrouble = state.isKept ? "" : isPassTooMany(state.given) ? "keep-full" : "keep-failed";
+  if (!state.isKept) keepForTab(state.given);
   isAsked = false;
   return state.isKept;
+}
+
+// Where the pass is, or why it couldn't be kept.
+export function keptText() {
+  return say(state.isKept ? "pass-kept" : keepTrouble || "pass-not-kept", { count: MOST_PASSES });
 }
 
 // Forgets the pass that is used. Another one of this browser comes in its place.
@@ -177,6 +185,7 @@ export function passNotices() {
   if (!isPassShown()) return [];
   const notices = [];
   if (!state.isKept && keptPasses().length > 0) notices.push([say("other-pass-kept", { name: state.name })]);
+  if (keepTrouble !== "" && !state.isKept) notices.push([keptText()]);
   if (isAsked) {
     const answer = (isWanted) => () => {
       if (isWanted) keepThis();

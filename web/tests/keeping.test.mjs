@@ -1,7 +1,7 @@
 // Passes and loans that a browser keeps, and those that the page knows where the browser keeps no more.
 import assert from "node:assert/strict";
 import { beforeEach, test } from "node:test";
-import { dropLoan, keepLoan, keptLoans } from "../src/keeping.mjs";
+import { dropLoan, dropSpare, isPassTooMany, keepLoan, keepPass, keepSpares, keptLoans, keptPasses, keptSpares, sparesTooMany } from "../src/keeping.mjs";
 import { freeSpares } from "../src/lend.mjs";
 import { narrowed, readPass, writePass } from "../src/pass.mjs";
 
@@ -56,4 +56,21 @@ test("no loan of before is dropped for a new one", async () => {
   assert.equal(keepLoan(last), false);
   assert.deepEqual([free(), keptLoans().length, JSON.parse(localStorage.getItem("loans")).length], [[], 51, 50]);
   dropLoan(last);
+});
+
+const TWENTY = Array.from({ length: 20 }, (_, count) => `pass ${count + 1}`);
+
+test("twenty passes are kept, and no more", () => {
+  for (const text of TWENTY) assert.deepEqual([isPassTooMany(text), keepPass(text, text)], [false, true]);
+  assert.deepEqual([isPassTooMany("another"), keepPass("another", "another"), keptPasses().length], [true, false, 20]);
+  assert.deepEqual([isPassTooMany("pass 1"), keepPass("pass 1", "Anna"), keptPasses()[0]], [false, true, { text: "pass 1", name: "Anna" }]);
+});
+
+test("twenty spare passes are kept, all that came or none", () => {
+  assert.deepEqual([sparesTooMany(TWENTY), keepSpares(TWENTY.slice(0, 19)), keptSpares()], [0, true, TWENTY.slice(0, 19)]);
+  assert.deepEqual([sparesTooMany(["pass 1", "a"]), sparesTooMany(["a", "b"]), keepSpares(["a", "b"]), keptSpares().length], [0, 1, false, 19]);
+  dropSpare("pass 1");
+  assert.deepEqual([sparesTooMany(["a", "b"]), keepSpares(["a", "b"]), keptSpares()], [0, true, [...TWENTY.slice(1, 19), "a", "b"]]);
+  localStorage.isFull = true;
+  assert.deepEqual([sparesTooMany(["pass 2"]), keepSpares(["pass 2"])], [0, false]);
 });
