@@ -88,7 +88,13 @@ def week():
     shown.has("a credit", "bäck kar may be", " 1 baecker-karin", " 2 baecker-karl", "office club credit baecker-karl 1000", "done")
     same("a credit", rows("SELECT credited FROM members WHERE name = 'baecker-karl'"), [(6000,)])
     shown = task("a lost pass", ("Member", "muller"), ("Do it", ENTER))
-    shown.has("a lost pass", f"the pass is in the file mueller-bob-1-{TODAY}")
+    shown.has("a lost pass", "office club lost-pass mueller-bob-1 --to passes/mueller-bob-1", "the pass is in the file passes/mueller-bob-1")
+    lost = run_as("anna", "cat", "passes/mueller-bob-1")[1]
+    task("a lost pass", ("Member", "muller"), ("Do it", ENTER)).has("a pass that is lost again", f"are in letter-mueller-bob-1-{TODAY}-2.html")
+    root, text = rows("SELECT hex(root) FROM keys WHERE name = 'mueller-bob-1'")[0][0], run_as("anna", "cat", "passes/mueller-bob-1")[1]
+    same("its pass, and the lost one", [run_as("anna", "passtool", "verify", "--root", root, given=it)[1] for it in (text, lost)], ["signed\n", "not signed\n"])
+    letter = run_as("anna", "cat", f"letter-mueller-bob-1-{TODAY}-2.html")[1]
+    same("the letter has the new pass alone", [f"book.html#{it.strip()}" in letter for it in (text, lost)], [True, False])
     task("take points back", ("Member", "karin"), ("Points", "250"), ("Shall", "y"))
     same("points taken back", rows("SELECT credited FROM members WHERE name = 'baecker-karin'"), [(4750,)])
     day = TODAY + datetime.timedelta(3)
@@ -147,7 +153,8 @@ def calls():
     """Wishes of members who call, by the menu."""
     day = TODAY + datetime.timedelta(2)
     shown = task("book for", ("Member", "bob"), ("Court", "court 2"), ("Day", "+2"), ("Hours", "15-17"), ("How many", "1"), ("Do it", ENTER))
-    shown.has("a booking for a caller", f"office club book mueller-bob court-2 {day} 15 1", f"booked court-2 {day} 16:00 for mueller-bob, 2 persons")
+    shown.has("a booking for a caller", f"office club book mueller-bob court-2 {day} 15-17 1", f"booked court-2 {day} 16:00 for mueller-bob, 2 persons",
+              "in all: 2 booked, 1000 points")
     task("cancel for", ("Member", "bob"), ("Number", "1"), ("Do it", ENTER)).has("a cancellation for a caller", f"cancelled court-2 {day} 15:00 of mueller-bob")
     task("cancel, all", ("Member", "bob"), ("Number", "1"), ("Shall", "y")).has("all points back", "office club cancel mueller-bob-office 2", "done")
     same("nothing is booked", rows("SELECT count(*) FROM bookings WHERE cancelled = 0"), [(0,)])
@@ -218,6 +225,7 @@ def words_of_commands():
     for word in ("+3", f"{day:%A}", f"{day:%a}".lower(), f"{day.day}.{day.month}.", f"{day.day} {day:%B}", str(day)):
         same(f"the day {word!r}", office("sheet", word), (0, done("sheet", str(day)), ""))
     same("an hour", office("show-slot", "court-1", "+3", "10:00")[1].splitlines()[2], "hour 10")
+    same("each of several hours", office("show-slot", "court-1", "+3", "10-12"), (0, "".join(done("show-slot", "court-1", str(day), it) for it in ("10", "11")), ""))
     terminal = Terminal("club", "bookings", "karl")
     same("a list of a part of a name", terminal.ends(), 0)
     terminal.has("a list of a part of a name", "karl: baecker-karl")

@@ -27,6 +27,7 @@ from office_room import Service, leave
 def of_a_season():
     server, pages, lines_of, tomorrow = season.make_season_club()
     season.for_callers(server, tomorrow)
+    season.for_hours(tomorrow)
     season.in_use_of_persons(server, lines_of, tomorrow)
     season.undone(server, tomorrow)
     season.season(pages, tomorrow)

@@ -81,6 +81,42 @@ def for_callers(server, day):
     whole("bookings for callers")
 
 
+def for_hours(day):
+    """Of several hours each is an order, a look or a booking. Orders are listed first; the sum is said, and what isn't done."""
+    def closed():
+        return [hour for hour, in rows("SELECT hour FROM slots WHERE facility = 'boat-1' AND closed = 1 ORDER BY hour")]
+
+    line = f"office club close-slot boat-1 {day}"
+    same("closed slots", done("close-slot", "boat-1", str(day), "8-10"), f"{line} 08\n{line} 09\ndone\ndone\n")
+    same("they are closed", closed(), [8, 9])
+    same("a look at both", done("show-slot", "boat-1", str(day), "8-10"), "".join(done("show-slot", "boat-1", str(day), it) for it in ("08", "09")))
+    done("book", "oez-ali", "boat-1", str(day), "12")
+    status, out, errors = office("close-slot", "boat-1", str(day), "11 bis 14")
+    same("one of them is booked", (status, out), (1, f"{line} 11\n{line} 12\n{line} 13\ndone\n"))
+    same("what isn't done is said", errors.splitlines()[-1], f"not done: {line} 12; {line} 13")
+    same("up to it they are closed", closed(), [8, 9, 11])
+    for words in (["close-slot", "boat-1", str(day), "14-12"], ["show-slot", "boat-1", str(day), "8-25"], ["book", "oez-ali", "boat-1", str(day), "9-9"]):
+        same(f"no hours: {words}", office(*words)[0], 3)
+    done("cancel-for", "oez-ali", "boat-1", str(day), "12")
+    done("reopen-slot", "boat-1", str(day), "8-14", "--yes")
+    slots, key = [f"court-1 {day} {hour:02d}:00" for hour in range(24)], "oez-ali-office"
+    shown = lines("book", "oez-ali", "court-1", str(day), "9-11")
+    same("two bookings", [it.rsplit(" ", 1)[0] for it in shown[:2]], [f"booked {slots[hour]} for oez-ali, 1 person, 200 points: {key}" for hour in (9, 10)])
+    same("their sum", shown[2:], ["in all: 2 booked, 400 points"])
+    same("their lines in the book", book_lines("book")[-2:], [f"anna 0 book oez-ali court-1 {day} {hour}" for hour in (9, 10)])
+    refused(["book", "oez-ali", "court-1", str(day), "9-11"], 1, f"refused: {slots[9]} is booked for oez-ali already: {key}")
+    shown = lines("book", "oez-ali", "court-1", str(day), "9-12")
+    same("those that are booked aren't booked again", [it.rpartition(": ")[0] for it in shown[:2]], [f"{slots[hour]} is booked for oez-ali already" for hour in (9, 10)])
+    same("the others are", (shown[2].split(",")[0], shown[3:]), (f"booked {slots[11]} for oez-ali", ["in all: 1 booked, 200 points"]))
+    status, out, errors = office("book", "oez-ali", "court-1", str(day), "12-16")
+    same("as far as the points go", (status, out.splitlines()[-1]), (1, "in all: 2 booked, 400 points"))
+    same("and no further", ("refused: the desk says: " in errors, f"not done: {slots[14]}, {slots[15]}" in errors), (True, True))
+    shown = lines("cancel-for", "oez-ali", "court-1", str(day), "9-14")
+    same("all cancelled", (len(shown), shown[-1]), (6, "in all: 5 cancelled, 1000 points back"))
+    refused(["cancel-for", "oez-ali", "court-1", str(day), "9-11"], 1, f"not done: {slots[9]}, {slots[10]}")
+    whole("several hours")
+
+
 def in_use_of_persons(server, lines_of, day):
     """Names as they are written are in lists, and whom to tell after a correction; none is in the book, the log or a copy."""
     same("members", lines("members", "--csv")[1:], [
@@ -165,6 +201,18 @@ def season(pages, day):
     root = rows("SELECT hex(root) FROM keys WHERE name = 'oez-ali-1'")[0][0]
     same("the new pass", run_as("anna", "sh", "-c", f"passtool verify --root {root} <ali-new")[1], "signed\n")
     same("the lost one", run_as("anna", "passtool", "verify", "--root", root, given=text)[1], "not signed\n")
+    same("no letter has a lost one", office("letters", "oez-ali-1", "--passes", "season", "--to", "lost.html"), (
+        1, "", "refused: season/oez-ali-1 holds a pass of before oez-ali-1 got another one; `lost-pass oez-ali-1 --to season/oez-ali-1` makes a new one\n"))
+    same("nor is it made", run_as("anna", "ls", "lost.html")[0], 2)
+    refused(["lost-pass", "oez-ali-1", "--to", "season/moeller-kaethe-1"], 1, "refused: there is a file season/moeller-kaethe-1 already")
+    run_as("anna", "sh", "-c", "mkdir -p passes; cp ali-new passes/oez-ali-1")
+    refused(["lost-pass", "nobody-1", "--to", "ali-nobody"], 1, "refused: unknown")
+    same("where letters look", office("lost-pass", "oez-ali-1", "--to", "season/oez-ali-1")[::2], (0, "passes/oez-ali-1 had the lost pass, and is removed\n"))
+    same("it is gone", run_as("anna", "ls", "passes/oez-ali-1")[0], 2)
+    run_as("anna", "cp", "season/moeller-kaethe-1", "passes/oez-ali-1")
+    same("another's pass stays", office("lost-pass", "oez-ali-1", "--form", "v1")[::2], (0, ""))
+    run_as("anna", "rm", "passes/oez-ali-1")
+    done("lost-pass", "oez-ali-1", "--form", "v1", "--to", "season/oez-ali-1")
 
 
 def letters_and_records(day):

@@ -4,6 +4,7 @@ import argparse
 import collections
 import contextlib
 import os
+import shlex
 import shutil
 import sqlite3
 import subprocess
@@ -21,6 +22,8 @@ from club_office.asking import is_terminal
 from club_office.importing import import_members, import_row, import_state, make_spares, refuse_spare_files
 from club_office.letters import letters
 from club_office.menu import menu
+from club_office.passes import list_old_passes
+from club_office.reading import read_hours
 from club_office.restoring import list_copies, restore
 from club_office.season import credit_all
 from club_office.texts import say, usage
@@ -87,6 +90,7 @@ def word(called, **how):
 
 SEVERAL = word("FACILITIES", type=names, nargs="+", help="as court-1 court-2, courts, or all")
 FACILITY, MEMBER, DAY = word("FACILITY", type=name), word("MEMBER", type=name), word("DAY", type=day)
+HOUR = word("HOUR", help="as 15, or 15-17 for each of them")
 
 COMMANDS = {
     "add-member": Command(ORDER, [word("NAME"), word("QUOTA")], "add a member, with spare keys if the configuration has them", None),
@@ -107,12 +111,12 @@ COMMANDS = {
         None,
     ),
     "revoke-key": Command(ORDER, [word("KEY")], "revoke a key", None),
-    "close-slot": Command(ORDER, [word("FACILITY"), word("DAY"), word("HOUR")], "close a slot that nobody booked", None),
+    "close-slot": Command(ORDER, [word("FACILITY"), word("DAY"), HOUR], "close a slot that nobody booked, or those of several hours", None),
     "sheet": Command(LOOK, [word("DAY")], "print the day sheet", None),
     "show-account": Command(
         LOOK, [word("KEY"), ("--zone", {"metavar": "RULE"}), ("--at", {"metavar": "MOMENT"})], "print what the desk answers a key", None
     ),
-    "show-slot": Command(LOOK, [word("FACILITY"), word("DAY"), word("HOUR")], "print a slot as the desk shows it", None),
+    "show-slot": Command(LOOK, [word("FACILITY"), word("DAY"), HOUR], "print a slot as the desk shows it, or those of several hours", None),
     "members": Command(LIST, [CSV, AT], "list the members: balance, quota, open bookings, keys", lists.list_members),
     "facilities": Command(LIST, [CSV], "list the facilities", lists.list_facilities),
     "keys": Command(LIST, [MEMBER, CSV], "list the keys of a member", lists.list_keys),
@@ -203,11 +207,11 @@ COMMANDS = {
             MEMBER,
             FACILITY,
             DAY,
-            word("HOUR", type=number(0, 23)),
+            word("HOUR", type=hour_or_hours, help="as 15, or 15-17 for each of them"),
             word("GUESTS", nargs="?", type=number(0, 49), help="how many come along; nobody without it"),
             ("--again", {"action": "store_true", "help": "also if the office has booked this slot for the member"}),
         ],
-        "book for a member who calls, under a key of the office",
+        "book for a member who calls, under a key of the office; of several hours each",
         phoning.book,
     ),
     "cancel-for": Command(
@@ -216,10 +220,10 @@ COMMANDS = {
             MEMBER,
             FACILITY,
             DAY,
-            word("HOUR", type=number(0, 23)),
+            word("HOUR", type=hour_or_hours, help="as 15, or 15-17 for each of them"),
             ("--number", {"metavar": "NUMBER", "type": number(1, MOST_NUMBER), "help": "which, if the member has several there"}),
         ],
-        "cancel for a member who calls, with the refund of the rules",
+        "cancel for a member who calls, with the refund of the rules; of several hours each",
         phoning.cancel_for,
     ),
     "page": Command(DESK, [], "make the page's list of the club anew", outputs.make_page),
@@ -268,6 +272,7 @@ COMMANDS = {
     # What the clerk's side asks of the desk's.
     "names": Command(LIST, [], "", print_names),
     "import-state": Command(LIST, [], "", import_state),
+    "old-passes": Command(DESK, [], "", list_old_passes),
     "print-report": Command(
         DESK,
         [word("YEAR", nargs="?", type=number(2000, 2099)), ("--no-names", {"action": "store_true"})],
@@ -414,10 +419,36 @@ def at_counter(given):
         return COMMANDS[words.command].does(club, words)
     if words.command == "add-member":
         refuse_spare_files(club, words.name)
+    each = each_hour(given, words)
+    if len(each) > 1:
+        return carry_out_each(club, each)
     status = carry_out(club, given)
     if status == 0 and words.command == "add-member":
         make_spares(club, words.name, words.quota)
     return status
+
+
+def each_hour(given, words):
+    """The commands that a command stands for: of clubdesk's that take one hour, one for each of several hours."""
+    read = read_hours(words.hour) if words.command in ("close-slot", "show-slot") and not words.hour.isdigit() else None
+    return [[*given[:2], words.facility, words.day, f"{hour:02d}"] for hour in range(*read)] if read else [given]
+
+
+def carry_out_each(club, commands):
+    """Carries several commands out, up to the first that isn't done. Orders are listed first; what isn't done is said."""
+    lines, count = [shlex.join(["office", *it]) for it in commands], 0
+    if COMMANDS[commands[0][1]].kind == ORDER:
+        print(*lines, sep="\n", flush=True)
+    try:
+        for it in commands:
+            status = carry_out(club, it)
+            if status:
+                return status
+            count += 1
+    finally:
+        if count < len(lines):
+            print(say("not done", lines="; ".join(lines[count:])), file=sys.stderr)
+    return 0
 
 
 def carry_out(club, given):

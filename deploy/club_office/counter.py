@@ -17,6 +17,8 @@ from club_office.book import book_of, clerk, is_in_journal, printable
 from club_office.clubs import SELF, desk_user, program, show
 from club_office.copies import is_named, name_new, synced
 from club_office.faults import OUTPUT, USAGE, fault, refusal
+from club_office.passes import key_of
+from club_office.spares import PASSES
 from club_office.texts import say
 
 
@@ -51,7 +53,8 @@ def make_pass(club, words):
         words.root, words.root_stdin, words.moment = None, False, LONG_AGO
     if words.root and words.root_stdin:
         raise fault(USAGE, "root or input", command=words.command)
-    if words.to and os.path.lexists(words.to):
+    lost = lost_files(words)
+    if words.to and os.path.lexists(words.to) and words.to not in lost:
         raise refusal("file there", path=words.to)
     if words.to and not os.access(os.path.dirname(words.to) or ".", os.W_OK):
         raise fault(OUTPUT, "no leave", path=os.path.dirname(words.to) or ".")
@@ -59,6 +62,8 @@ def make_pass(club, words):
     line = [words.command.replace("lost-pass", "rotate-key"), *([f"--form={words.form}"] if words.form is not None else []), "--root-stdin", "--"]
     line += [words.key, words.member if words.command == "add-key" else words.moment]
     status, text = as_desk(club, line, root)
+    if status == 0:
+        remove_lost(words, lost)
     if status or not words.to:
         show(text)
         return status
@@ -70,6 +75,24 @@ def make_pass(club, words):
     if named != words.to:
         raise fault(OUTPUT, "pass elsewhere", key=words.key, path=words.to, named=named)
     return 0
+
+
+def lost_files(words):
+    """The files of the lost pass: that of `--to`, and the one where letters look for it. Other commands lose none."""
+    found = []
+    for path in (words.to, os.path.join(PASSES, words.key)) if words.command == "lost-pass" else ():
+        with contextlib.suppress(OSError, ValueError, TypeError), open(path, encoding="ascii") as file:
+            found += [path] if key_of(file.read(9_000).strip()) == words.key else []
+    return found
+
+
+def remove_lost(words, paths):
+    """Removes the files of a lost pass, so that no letter has it. The new pass may get such a file's name."""
+    for path in paths:
+        with contextlib.suppress(FileNotFoundError):
+            os.unlink(path)
+        if os.path.abspath(path) != os.path.abspath(words.to or ""):
+            print(say("lost removed", path=path), file=sys.stderr)
 
 
 def read_book(club, words):

@@ -1,14 +1,15 @@
 """Letters: one file to print, a sheet for each pass, with the link that opens the club's page, its code, and what to do."""
 
-import base64
 import html
+import json
 import os
 import re
 import subprocess
 
 from club_office.clubs import program
-from club_office.counter import write_new
+from club_office.counter import as_desk, write_new
 from club_office.faults import OUTPUT, fault, refusal
+from club_office.passes import key_of
 from club_office.spares import spare_keys
 from club_office.texts import language, say
 from club_office.values import NAME
@@ -23,17 +24,6 @@ svg { display: block; width: 60mm; height: 60mm; margin: 1rem 0; }
 .half { margin-top: 1.5rem; padding-top: 1rem; border-top: 2px dashed #111; break-inside: avoid; }
 .link { overflow-wrap: anywhere; font-size: .8rem; } .care { padding: .75rem 1rem; border: 2px solid #111; border-radius: .5rem; }
 """
-
-
-def key_of(text):
-    """The key that a pass in V1 or V2 names."""
-    if not re.fullmatch(r"[A-Za-z0-9_+/=-]{1,8192}", text) or re.fullmatch("[0-9a-f]+", text):
-        raise ValueError(say("no one-line pass"))
-    data = base64.urlsafe_b64decode(text.rstrip("=").replace("+", "-").replace("/", "_") + "=" * (-len(text.rstrip("=")) % 4))
-    named = re.search(rb"key:([a-z0-9-]+)", data)
-    if not named:
-        raise ValueError(say("no key's pass"))
-    return named[1].decode()
 
 
 def code_of(link):
@@ -92,6 +82,15 @@ def passes_of(folder, keys):
     return texts
 
 
+def refuse_old(club, folder, texts):
+    """Refuses passes whose keys have got another one since: the desk takes them no more, or not for long."""
+    status, text = as_desk(club, ["old-passes"], json.dumps(texts).encode())
+    if status:
+        raise fault(status, "club unread")
+    for key in json.loads(text):
+        raise refusal("old pass", path=os.path.join(folder, key), key=key)
+
+
 def spares_of(club, names, texts):
     """The spare passes of members, which are taken out of the passes: they are the second half of their member's first sheet."""
     found = {}
@@ -114,6 +113,7 @@ def letters(club, words, names_of):
     gone = [it for it in texts if it not in names.keys or names.keys[it].revoked]
     if gone:
         raise refusal("no such key", key=gone[0])
+    refuse_old(club, words.passes, texts)
     sheets, members, lent = [], {}, spares_of(club, names, texts)
     for key, text in texts.items():
         member = names.keys[key].member

@@ -7,6 +7,7 @@ import csv
 import datetime
 import importlib
 import io
+import itertools
 import os
 import re
 import shlex
@@ -106,9 +107,15 @@ def new_member_words(office):
 def key_words(office, member, spares=()):
     """A new key of a member, whose pass is where letters look for it; and its letter, with spare passes, if one can be made."""
     key = free_key(office, member)
-    has_letter = office.club.site and shutil.which("qrencode")
-    letter = ["letters", key, *spares, "--to", f"letter-{key}.html"]
-    return [["add-key", key, member, "--to", f"{PASSES}/{key}"], *([letter] if has_letter else [])]
+    return [["add-key", key, member, "--to", f"{PASSES}/{key}"], *letter_words(office, [key, *spares], f"letter-{key}")]
+
+
+def letter_words(office, keys, stem):
+    """The letter of keys, in a file that isn't there yet; none without what it needs."""
+    if not office.club.site or not shutil.which("qrencode"):
+        return []
+    names = itertools.chain([f"{stem}.html"], (f"{stem}-{number}.html" for number in itertools.count(2)))
+    return [["letters", *keys, "--to", next(it for it in names if not os.path.lexists(it))]]
 
 
 def new_key_words(office):
@@ -116,8 +123,9 @@ def new_key_words(office):
 
 
 def lost_words(office):
+    """Another pass, where letters look for it, and its letter."""
     key = key_of(office)
-    return [["lost-pass", key, "--to", f"{key}-{datetime.date.today()}"]]
+    return [["lost-pass", key, "--to", f"{PASSES}/{key}"], *letter_words(office, [key], f"letter-{key}-{office.today}")]
 
 
 def letters_words(_office):
@@ -128,7 +136,7 @@ def book_words(office):
     member, facility, day = office.member(), office.facility(), office.day()
     begin, end = until_read(say("ask hour"), read_hours, say("no hours"))
     guests = str(ask_number(say("ask guests"), 0, 49))
-    return [["book", member, facility, day, str(hour), guests] for hour in range(begin, end)]
+    return [["book", member, facility, day, str(begin) if end == begin + 1 else f"{begin}-{end}", guests]]
 
 
 def booking_of(office, member):

@@ -1,11 +1,11 @@
 """Bookings and cancellations for a member who telephones: requests to the desk, as the member's own page sends them, under passes that the
 desk's side makes of a key's root and that nobody else sees. The desk decides, and its rules of refunds count."""
 
-import base64
-import hmac
+import contextlib
 import http.client
 import json
 import secrets
+import sys
 import time
 
 from club_office.book import Turn
@@ -13,6 +13,7 @@ from club_office.clubs import clubdesk, wants_file
 from club_office.copies import snapshot
 from club_office.faults import fault, refusal, storage_failed
 from club_office.lists import wants_row
+from club_office.passes import pass_of
 from club_office.plans import slot_text
 from club_office.texts import in_language, say
 from club_office.values import date_of
@@ -21,26 +22,6 @@ from club_office.values import date_of
 PATIENCE = 15
 TRIES = 5
 OFFICE_KEY = "-office"
-
-
-def pass_of(name, root, *caveats):
-    """The pass of a key, in V2, as docs/PASSES.md has it."""
-    identifier = f"key:{name}".encode()
-    signature = hmac.digest(hmac.digest(b"macaroons-key-generator".ljust(32, b"\0"), root, "sha256"), identifier, "sha256")
-    packets = bytes([2]) + packet(2, identifier) + b"\0"
-    for caveat in map(str.encode, caveats):
-        signature = hmac.digest(signature, caveat, "sha256")
-        packets += packet(2, caveat) + b"\0"
-    packets += b"\0" + packet(6, signature)
-    return base64.urlsafe_b64encode(packets).decode().rstrip("=")
-
-
-def packet(kind, data):
-    """A field: its kind, its length in groups of seven bits, the data."""
-    length, size = b"", len(data)
-    while size > 127:
-        length, size = length + bytes([size & 127 | 128]), size >> 7
-    return bytes([kind]) + length + bytes([size]) + data
 
 
 def asked(club, method, path, text, body=None):
@@ -95,58 +76,108 @@ def make_key(club, turn, member, facility):
     return name
 
 
-def path_of(words, number=None):
-    path = f"/slots/{words.facility}/{date_of(words.day)}/{words.hour:02d}"
+def path_of(words, hour, number=None):
+    path = f"/slots/{words.facility}/{date_of(words.day)}/{hour:02d}"
     return path if number is None else f"{path}/bookings/{number}"
 
 
 def book(club, words):
-    """Books a slot for a member. One that the office has booked for the member already isn't booked twice."""
+    """Books the slot of each hour for a member. One that the office has booked for the member already isn't booked twice."""
     wants_file(club)
-    with Turn(club) as turn:
+    with said_at_the_end() as lines, Turn(club) as turn:
         key = make_key(club, turn, words.member, words.facility)
-        lines = []
-        status = turn.order(words.given, lambda: put(club, words, key, lines))
-    print(*lines, sep="\n")
-    return status
+        there = [] if words.again else booked_by(club, words, key)
+        if len(there) == len(range(*words.hour)):
+            refuse_booked(turn, words, key, there)
+        for hour, number in there:
+            lines.append(say("booked before", slot=slot_text(words.facility, words.day, hour), member=words.member, booking=f"{key} {number}"))
+        left = [hour for hour in range(*words.hour) if hour not in dict(there)]
+        return each_hour(turn, words, left, lines, lambda hour: put(club, words, hour, key, lines), "booked in all")
 
 
-def put(club, words, key, lines):
+def booked_by(club, words, key):
+    """Which of these hours are booked under a key: each with a booking's number."""
     with snapshot(club) as db:
-        slot = slot_text(words.facility, words.day, words.hour)
-        (root,) = db.execute("SELECT root FROM keys WHERE name = ?", [key]).fetchone()
-        (number,) = db.execute("SELECT coalesce(max(number), 0) + 1 FROM bookings WHERE pass_key = ? AND number < 900000000", [key]).fetchone()
-        there = db.execute(
-            "SELECT number FROM bookings WHERE pass_key = ? AND facility = ? AND day = ? AND hour = ? AND cancelled = 0",
-            [key, words.facility, words.day, words.hour],
-        ).fetchone()
-    if there and not words.again:
-        raise refusal("booked already", slot=slot, member=words.member, booking=f"{key} {there[0]}")
-    reply = answer(asked(club, "PUT", path_of(words, number), pass_of(key, root, "actions = book"), json.dumps({"guests": words.guests or 0})))
-    persons = say("persons", count=words.guests + 1) if words.guests else say("person")
-    lines.append(say("booked", slot=slot, member=words.member, persons=persons, points=reply["charge"], booking=f"{key} {number}"))
+        return db.execute(
+            """SELECT hour, min(number) FROM bookings
+               WHERE pass_key = ? AND facility = ? AND day = ? AND hour >= ? AND hour < ? AND cancelled = 0 GROUP BY hour ORDER BY hour""",
+            [key, words.facility, words.day, *words.hour],
+        ).fetchall()
+
+
+def refuse_booked(turn, words, key, there):
+    hour, number = there[0]
+
+    def act():
+        raise refusal("booked already", slot=slot_text(words.facility, words.day, hour), member=words.member, booking=f"{key} {number}")
+
+    turn.order(words.given, act)
+
+
+@contextlib.contextmanager
+def said_at_the_end():
+    """Lines that are printed once the turn is over, also after a refusal: a reader that is gone breaks no order off."""
+    lines = []
+    try:
+        yield lines
+    finally:
+        print(*lines, sep="\n", end="\n" if lines else "", flush=True)
+
+
+def each_hour(turn, words, hours, lines, act, total):
+    """An order for each of the hours, up to the first that is refused: `act` gives its points. Of several the sum is said, and which aren't done."""
+    points = []
+    try:
+        for hour in hours:
+            turn.order(order_of(words, hour), lambda hour=hour: points.append(act(hour)) or 0)
+    finally:
+        if len(range(*words.hour)) > 1:
+            lines += [say(total, count=len(points), points=sum(points))] if points else []
+            if len(points) < len(hours):
+                left = ", ".join(slot_text(words.facility, words.day, hour) for hour in hours[len(points):])
+                print(say("not done", lines=left), file=sys.stderr)
     return 0
 
 
+def order_of(words, hour):
+    """The words of an order of one hour, for the book."""
+    if len(range(*words.hour)) == 1:
+        return words.given
+    line = [words.command, words.member, words.facility, date_of(words.day), str(hour)]
+    if words.command == "book":
+        return [*line, *([str(words.guests)] if words.guests is not None else []), *(["--again"] if words.again else [])]
+    return [*line, *([f"--number={words.number}"] if words.number else [])]
+
+
+def put(club, words, hour, key, lines):
+    """Books an hour; its charge."""
+    with snapshot(club) as db:
+        (root,) = db.execute("SELECT root FROM keys WHERE name = ?", [key]).fetchone()
+        (number,) = db.execute("SELECT coalesce(max(number), 0) + 1 FROM bookings WHERE pass_key = ? AND number < 900000000", [key]).fetchone()
+    reply = answer(asked(club, "PUT", path_of(words, hour, number), pass_of(key, root, "actions = book"), json.dumps({"guests": words.guests or 0})))
+    slot = slot_text(words.facility, words.day, hour)
+    persons = say("persons", count=words.guests + 1) if words.guests else say("person")
+    lines.append(say("booked", slot=slot, member=words.member, persons=persons, points=reply["charge"], booking=f"{key} {number}"))
+    return reply["charge"]
+
+
 def cancel_for(club, words):
-    """Cancels a member's booking of a slot as the member would, with the refund of the desk's rules, under the key that booked it."""
+    """Cancels a member's booking of each hour as the member would, with the refund of the desk's rules, under the key that booked it."""
     wants_file(club)
-    lines = []
-    with Turn(club) as turn:
-        status = turn.order(words.given, lambda: delete(club, words, lines))
-    print(*lines, sep="\n")
-    return status
+    with said_at_the_end() as lines, Turn(club) as turn:
+        return each_hour(turn, words, list(range(*words.hour)), lines, lambda hour: delete(club, words, hour, lines), "called off in all")
 
 
-def delete(club, words, lines):
-    slot = slot_text(words.facility, words.day, words.hour)
+def delete(club, words, hour, lines):
+    """Cancels an hour; its refund."""
+    slot = slot_text(words.facility, words.day, hour)
     with snapshot(club) as db:
         wants_row(db, "members", words.member)
         wants_row(db, "facilities", words.facility)
         found = db.execute(
             """SELECT pass_key, number, root, revoked FROM bookings JOIN keys ON keys.name = pass_key
                WHERE member = ? AND facility = ? AND day = ? AND hour = ? AND cancelled = 0 ORDER BY pass_key, number""",
-            [words.member, words.facility, words.day, words.hour],
+            [words.member, words.facility, words.day, hour],
         ).fetchall()
     if words.number:
         found = [it for it in found if it[1] == words.number]
@@ -157,6 +188,6 @@ def delete(club, words, lines):
     key, number, root, revoked = found[0]
     if revoked:
         raise refusal("key revoked", key=key, club=club.name, number=number)
-    reply = answer(asked(club, "DELETE", path_of(words, number), pass_of(key, root, "actions = cancel")))
+    reply = answer(asked(club, "DELETE", path_of(words, hour, number), pass_of(key, root, "actions = cancel")))
     lines.append(say("called off", slot=slot, member=words.member, points=reply["refund"], booking=f"{key} {number}"))
-    return 0
+    return reply["refund"]

@@ -234,6 +234,11 @@ REFUSALS = {
     "no code": ("no code of the link: {said}", "kein Code für den Link: {said}"),
     "no passes": ("there are no passes in {path}", "in {path} sind keine Pässe"),
     "no pass file": ("there is no pass {path}; `lost-pass {key}` makes another", "es gibt keinen Pass {path}; `lost-pass {key}` macht einen anderen"),
+    "old pass": (
+        "{path} holds a pass of before {key} got another one; `lost-pass {key} --to {path}` makes a new one",
+        "in {path} ist ein Pass von {key} aus der Zeit vor dem Wechsel; `lost-pass {key} --to {path}` macht einen neuen",
+    ),
+    "no passes given": ("standard input has no passes", "in der Standardeingabe sind keine Pässe"),
     "no one-line pass": ("it holds no pass in one line", "darin ist kein Pass in einer Zeile"),
     "no key's pass": ("it holds no pass of a key", "darin ist kein Pass eines Schlüssels"),
     "pass of another": ("it holds a pass of {key}", "darin ist ein Pass von {key}"),

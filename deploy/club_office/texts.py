@@ -133,6 +133,7 @@ TEXTS = {
     "ask new places": ("New number of places, or Enter for {now}", "Neue Anzahl der Plätze, oder Enter für {now}"),
     "ask new opening": ("New opening hours, or Enter for {now}", "Neue Öffnungszeiten, oder Enter für {now}"),
     "member has": ("{balance} points, {quota} bookings at a time", "{balance} Punkte, {quota} Buchungen zugleich"),
+    "lost removed": ("{path} had the lost pass, and is removed", "in {path} war der verlorene Pass; die Datei ist gelöscht"),
     "pass is in": ("the pass is in the file {file} of this folder", "der Pass ist in der Datei {file} in diesem Ordner"),
     # What corrections and a restore do.
     "person": ("1 person", "1 Person"),
@@ -188,6 +189,10 @@ TEXTS = {
     # Bookings for a member who calls.
     "booked": ("booked {slot} for {member}, {persons}, {points} points: {booking}", "{slot} gebucht für {member}, {persons}, {points} Punkte: {booking}"),
     "called off": ("cancelled {slot} of {member}, {points} points back: {booking}", "{slot} von {member} abgesagt, {points} Punkte zurück: {booking}"),
+    "booked before": ("{slot} is booked for {member} already: {booking}", "{slot} ist für {member} schon gebucht: {booking}"),
+    "booked in all": ("in all: {count} booked, {points} points", "zusammen: {count} gebucht, {points} Punkte"),
+    "called off in all": ("in all: {count} cancelled, {points} points back", "zusammen: {count} abgesagt, {points} Punkte zurück"),
+    "not done": ("not done: {lines}", "nicht erledigt: {lines}"),
     # Persons.
     "to tell": ("To tell:", "Zu benachrichtigen:"),
     "no mail": ("{name}: no mail address is known", "{name}: keine E-Mail bekannt"),

@@ -68,9 +68,11 @@ class Reader:
         return f"{read[0]}-{read[1]}" if read and not re.fullmatch("[0-9]{1,2}", word) else word
 
     def hour(self, word):
-        """One hour alone, as clubdesk takes it."""
+        """One hour, as clubdesk takes it, or several."""
         read = None if word.isdigit() else read_hours(word)
-        return f"{read[0]:02d}" if read and read[1] == read[0] + 1 else word
+        if not read:
+            return word
+        return f"{read[0]:02d}" if read[1] == read[0] + 1 else f"{read[0]}-{read[1]}"
 
     def member(self, word):
         return self.one_of(word, lambda: found_members(word, self.names))
