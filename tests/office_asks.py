@@ -11,12 +11,13 @@ Not part of the gate.
 # wants: sudo sqlite3 openssl util-linux bsdutils iproute2 systemd qrencode python3-psutil python3-pexpect
 
 import datetime
+import fcntl
 import subprocess
 import time
 
 import pexpect
 
-from office_room import ROOM, Service, configure, done, everything, leave, office, rows, run_as, same, whole
+from office_room import HOME, ROOM, Service, configure, done, everything, leave, office, rows, run_as, same, whole
 
 TODAY = datetime.date.today()
 LINES = {"SITE": "https://desk.example.org", "PAGES": ROOM / "pages", "ZONE_NAME": "Etc/UTC", "TITLE": '"Our club"'}
@@ -176,6 +177,9 @@ def season_start():
     """The season's start, by the menu: members from a list, letters, points for all, training, a new court, a new year, the board's page."""
     run_as("anna", "sh", "-c", "printf 'Name;Buchungen;Punkte\\nIda Lund;3;500\\nÖzil, Can;3;500\\n' >members.csv")
     task("members from a list", ("File", "members.csv"), ("Shall", "y")).has("a list", "read as UTF-8 with ;", "ida-lund: done", "2 of 2 rows done")
+    run_as("anna", "sh", "-c", "printf 'Vorname;Nachname\nBea;Noll\n' >names.csv")
+    task("members from a list", ("File", "nothing.csv"), ("no such file", "names.csv"), ("Open bookings", "3"), ("Points", "500"), ("Shall", "n")).has(
+        "a list of names", "office club import names.csv --quota=3 --points=500", "noll-bea")
     task("letters with").has("letters", f"office club letters --to letters-{TODAY}.html", "sheets for 4 members")
     task("the season's points", ("Points", "300"), ("A name", "season 2027"), ("Shall", "y")).has("points for all", "office club credit-all 300 --as season-2027", "members credited with 300 points")
     same("they have them", rows("SELECT credited FROM members WHERE name = 'ida-lund'"), [(800,)])
@@ -197,7 +201,8 @@ def what_is_odd():
     """A day that is over or far, and points above ten times the usual, are asked about, in the menu and in words."""
     before = everything()
     for words, text in ((["close", "-1", "10", "court-1"], "is past"), (["close", "+100", "10", "court-1"], "100 days ahead"),
-                        (["credit", "mueller-bob", "90000"], "more than ten times the usual")):
+                        (["close", f"{TODAY - datetime.timedelta(7)}..{TODAY}", "10", "court-1", "--why", "x"], "is past"),
+                        (["credit-all", "--as", "7", "90000"], "more than ten times the usual"), (["credit", "mueller-bob", "90000"], "more than ten times the usual")):
         terminal = Terminal("club", *words)
         terminal.answers(("Go on", "n"))
         same(f"{words}: the status", terminal.ends(), 1)
@@ -226,6 +231,13 @@ def words_of_commands():
         same(f"the day {word!r}", office("sheet", word), (0, done("sheet", str(day)), ""))
     same("an hour", office("show-slot", "court-1", "+3", "10:00")[1].splitlines()[2], "hour 10")
     same("each of several hours", office("show-slot", "court-1", "+3", "10-12"), (0, "".join(done("show-slot", "court-1", str(day), it) for it in ("10", "11")), ""))
+    shown = office("close", str(day), "16", "all", "courts", given="n\n")[1].splitlines()
+    same("all courts in two words", shown[:3], [*(f"closes {court} {day} 16:00" for court in ("court-1", "court-2")), "in all: 2 slots closed"])
+    done("add-member", "muller-eva", "1")
+    terminal = Terminal("club", "credit", "muller", "10")
+    terminal.answers(("Number", None))
+    same("a name with an umlaut, and one without", terminal.ends(), 1)
+    terminal.has("both fit", "muller may be", " 1 muller-eva", " 2 mueller-bob")
     terminal = Terminal("club", "bookings", "karl")
     same("a list of a part of a name", terminal.ends(), 0)
     terminal.has("a list of a part of a name", "karl: baecker-karl")
@@ -239,6 +251,14 @@ def interrupted():
     for called, pairs in questions.items():
         for at in range(len(pairs)):
             task(called, *pairs[:at], (pairs[at][0], None))
+    with open(HOME / "club-orders", "r+", encoding="ascii") as turn:
+        fcntl.flock(turn, fcntl.LOCK_EX)
+        shown = task("a new member", ("Name", "Zoë"), ("Open", "5"), ("Points", "100"), ("Do it", ENTER), ("waiting for another order", None))
+        shown.has("Ctrl-C at a command", "broken off: `office club log` has what was done by then",
+                  "not done: office club credit zoe 100; office club add-key zoe-1 zoe --to passes/zoe-1; office club letters zoe-1")
+        terminal = Terminal("club", "debit", "mueller-bob", "1")
+        terminal.answers(("Shall", "y"), ("waiting for another order", None))
+        same("Ctrl-C at a correction", (terminal.ends(), "storage failed" in terminal.shown), (130, False))
     terminal = Terminal("club")
     terminal.answers(("Task: ", None))
     same("Ctrl-C at the menu ends it", terminal.ends(), 0)

@@ -43,6 +43,7 @@ def lists_as_they_are_written():
     for called, data, words, read in (
         ("tabs.csv", "name\tquota\tpoints\nTab Ulator\t1\t5\n".encode(), [], "read as UTF-8 with tab between the columns: name = name, quota = quota, points = points"),
         ("mark.csv", "\ufeffname,quota,points\nBörte Mark,1,5\n".encode(), [], "read as UTF-8 with , between the columns: name = name, quota = quota, points = points"),
+        ("dotless.csv", "name;quota;points\nYıldız, Çağrı;1;5\n".encode("utf-8-sig"), [], "read as UTF-8 with ; between the columns: name = name, quota = quota, points = points"),
         ("wide.csv", "name;quota;points\nWíde Ünit;1;5\n".encode("utf-16"), [], "read as UTF-16 with ; between the columns: name = name, quota = quota, points = points"),
         ("map.csv", "Player,Balance,Team\nMap Ola,5,A\n".encode(), ["--columns", "name=Player,points=Balance", "--quota", "1"],
          "read as UTF-8 with , between the columns: name = Player, points = Balance; passed over: Team"),
@@ -50,8 +51,8 @@ def lists_as_they_are_written():
         Path(f"/home/anna/{called}").write_bytes(data)
         out = done("import", called, *words, "--passes", "written", "--yes")
         same(f"how {called} was read", " ".join(out.partition("\nline")[0].split()), read)
-    same("the members", rows("SELECT name, quota, credited FROM members WHERE name IN ('tab-ulator', 'boerte-mark', 'wide-uenit', 'map-ola') ORDER BY name"),
-         [("boerte-mark", 1, 5), ("map-ola", 1, 5), ("tab-ulator", 1, 5), ("wide-uenit", 1, 5)])
+    same("the members", rows("SELECT name, quota, credited FROM members WHERE name IN ('tab-ulator', 'boerte-mark', 'wide-uenit', 'map-ola', 'yildiz-cagri') ORDER BY name"),
+         [("boerte-mark", 1, 5), ("map-ola", 1, 5), ("tab-ulator", 1, 5), ("wide-uenit", 1, 5), ("yildiz-cagri", 1, 5)])
     same("their names as they are written", [it.split(",", 5)[5] for it in lines("members", "--csv") if it.startswith(("boerte", "wide"))], ["Börte Mark", "Wíde Ünit"])
     same("a map that is none", office("import", "map.csv", "--columns", "name=Nobody")[0], 3)
 
@@ -193,6 +194,9 @@ def season(pages, day):
         {"facility": "boat-1", "day": str(first + datetime.timedelta(7 * it)), "from": 18, "until": 20, "why": "Training der Jugend"} for it in range(3)])
     done("reopen-slot", "boat-1", str(first), "18-20", "--yes")
     same("one that is open again has none", len(json.loads((pages / "club.json").read_text(encoding="utf-8"))["closures"]), 2)
+    copy = [it for it in lines("copies", "--csv") if "-reopen-slot" in it][-1].split(",")[0]
+    done("restore", copy, "--yes")
+    same("a restore makes the page's list anew", json.loads((pages / "club.json").read_text(encoding="utf-8"))["closures"], closures)
     refused(["close", f"{first}..{first}", "9", "boat-1", "--weekday", "wed", "--yes"], 1, "no day of these is of that weekday")
     for wrong in ("2026-12-09..2026-12-01", "2026-01-01..2028-01-01", "2026-12-01.."):
         refused(["close", wrong, "9", "boat-1", "--yes"], 3, "bad value")

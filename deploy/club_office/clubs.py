@@ -174,6 +174,25 @@ def clubdesk(club, command, words, options=(), root=None):
     return done.returncode, f"{say('done')}\n".encode() if done.stdout == b"done\n" else done.stdout
 
 
+def ended_by_itself(line, given=None, **how):
+    """Waits for the end of a command; its status, and what it printed into a pipe. Ctrl-C is the command's own, since a clerk's process can't end
+    sudo's. A reading is interrupted after it; an order's status says what became of it."""
+    command = subprocess.Popen(line, **how)
+    text, is_interrupted = given, False
+    while True:
+        try:
+            printed = command.communicate(text)[0]
+            break
+        except KeyboardInterrupt:
+            text, is_interrupted = None, True
+            if command.stdin:  # the rest isn't sent any more
+                with contextlib.suppress(OSError):
+                    command.stdin.close()
+    if is_interrupted and command.stdout and (given is None or command.returncode):
+        raise KeyboardInterrupt
+    return command.returncode, printed
+
+
 def show(printed):
     sys.stdout.buffer.write(printed)
     sys.stdout.buffer.flush()

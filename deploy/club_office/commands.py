@@ -13,7 +13,7 @@ import sys
 from club_office import lists, outputs, people, phoning, plans
 from club_office.book import Turn, give_order
 from club_office.closures import reason
-from club_office.clubs import club_named, clubdesk, desk_user, forget_environment, now_of, program, show, wants_file
+from club_office.clubs import club_named, clubdesk, desk_user, ended_by_itself, forget_environment, now_of, program, show, wants_file
 from club_office.copies import clear_left, scratch, snapshot
 from club_office.corrections import correct
 from club_office.counter import ask_person, desk_line, make_pass, read_book, show_book, write_report
@@ -347,7 +347,10 @@ def at_desk(given):
             outputs.page_again(club)
         return status
     if command.kind == DESK:
-        return command.does(club, words)
+        status = command.does(club, words)
+        if status == 0 and words.command == "restore":
+            outputs.page_again(club)
+        return status
     raise fault(USAGE, "clerk's side", command=words.command)
 
 
@@ -456,7 +459,7 @@ def carry_out(club, given):
     if os.geteuid() == desk_user(club).pw_uid:
         return at_desk(given)
     line, how = desk_line(club, given[1:])
-    return subprocess.run(line, check=False, **how).returncode
+    return ended_by_itself(line, **how)[0]
 
 
 def read_at_counter(given):
@@ -465,7 +468,7 @@ def read_at_counter(given):
     reader = Reader(club, called)
     made = [*given[:2], *read_words(reader, command, given[2:])]
     if is_terminal() and "--yes" not in made:
-        confirms_odd(reader, called, made[2:], command.kind in (ORDER, PASS))
+        confirms_odd(reader, command, made[2:], command.kind in (ORDER, PASS))
     return made
 
 

@@ -14,7 +14,7 @@ import urllib.parse
 
 from club_office.asking import Back, ask
 from club_office.book import book_of, clerk, is_in_journal, printable
-from club_office.clubs import SELF, desk_user, program, show
+from club_office.clubs import SELF, desk_user, ended_by_itself, program, show
 from club_office.copies import is_named, name_new, synced
 from club_office.faults import OUTPUT, USAGE, fault, refusal
 from club_office.passes import key_of
@@ -42,8 +42,7 @@ def desk_line(club, words):
 def as_desk(club, words, given=None):
     """Carries out a command as the desk's user; its status and what it prints."""
     line, how = desk_line(club, words)
-    done = subprocess.run(line, input=given, stdin=None if given is not None else subprocess.DEVNULL, stdout=subprocess.PIPE, check=False, **how)
-    return done.returncode, done.stdout
+    return ended_by_itself(line, given, stdin=subprocess.DEVNULL if given is None else subprocess.PIPE, stdout=subprocess.PIPE, **how)
 
 
 def make_pass(club, words):

@@ -2,6 +2,7 @@
 
 import codecs
 import collections
+import contextlib
 import csv
 import io
 import re
@@ -70,13 +71,26 @@ def columns_of(path, heads, given):
     return found
 
 
+def cells_of(text):
+    """The delimiter of a list, and a reader of its rows."""
+    first = re.sub('"[^"]*"', "", text.lstrip("\n").split("\n", 1)[0])
+    delimiter = max(",;\t", key=first.count)
+    return delimiter, csv.reader(io.StringIO(text, newline=""), delimiter=delimiter, strict=True)
+
+
+def lacking(path):
+    """Which of quota and points no column of a list is. `import` says what else is wrong with it."""
+    with contextlib.suppress(Fault, csv.Error):
+        columns = columns_of(path, next(cells_of(text_of(path)[0])[1], []), None)
+        return [it for it in ("quota", "points") if it not in columns]
+    return []
+
+
 def rows_of(words):
     """The rows of a list, all of them fit, and a sentence that says how it was read; or a fault that names the first line that isn't."""
     path = words.file
     text, letters = text_of(path)
-    first = re.sub('"[^"]*"', "", text.lstrip("\n").split("\n", 1)[0])
-    delimiter = max(",;\t", key=first.count)
-    reader = csv.reader(io.StringIO(text, newline=""), delimiter=delimiter, strict=True)
+    delimiter, reader = cells_of(text)
     rows, columns, heads = [], None, []
     try:
         for cells in reader:

@@ -12,12 +12,13 @@ import os
 import re
 import shlex
 import shutil
-import subprocess
+import signal
 import sys
 
 from club_office.asking import Back, ask, ask_day, ask_facilities, ask_hours, ask_name, ask_number, chosen, until_read
-from club_office.clubs import SELF
+from club_office.clubs import SELF, ended_by_itself
 from club_office.counter import as_desk
+from club_office.member_list import lacking
 from club_office.reading import fitted, found as found_names, found_members, plain, read_hours
 from club_office.spares import PASSES, spare_keys
 from club_office.texts import WEEKDAYS, day_text, language, means, say
@@ -186,6 +187,13 @@ def new_facility_words(office):
     return [["add-facility", name, kind, str(places), str(price), str(begin), str(end)]]
 
 
+def import_words(_office):
+    """A list, and for all members what no column of it is."""
+    file = until_read(say("ask file"), lambda typed: typed if os.path.isfile(typed) else None, say("no such file"))
+    most = {"quota": 99, "points": 1_000_000}
+    return [["import", file, *(f"--{it}={ask_number(say(f'ask {it}'), 0, most[it])}" for it in lacking(file))]]
+
+
 def set_facility_words(office):
     name = office.facility()
     it = office.names.facilities[name]
@@ -253,6 +261,8 @@ def with_points(command, most):
     return lambda office: [[command, office.member(), office.points(most)]]
 
 
+# The statuses of a command that Ctrl-C breaks off.
+BROKEN_OFF = (130, -signal.SIGINT)
 # In a clerk's order. The last part says whether the command is asked about here: it changes something, and doesn't ask itself.
 TASKS = [
     Task("group today", "task today", lambda office: [["bookings", str(office.today)]], False),
@@ -285,7 +295,7 @@ TASKS = [
     Task("group tournament", "task reopen", reopen_words, False),
     Task("group season", "task credit all", credit_all_words, False),
     Task("group season", "task training", training_words, False),
-    Task("group season", "task import", lambda _office: [["import", until_read(say("ask file"), lambda typed: typed, "")]], False),
+    Task("group season", "task import", import_words, False),
     Task("group season", "task new year", one("new-year"), False),
     Task("group season", "task report", one("report"), False),
     Task("group season", "task page", one("page"), False),
@@ -344,16 +354,19 @@ def carry_out(office, task):
         print("\n   " + shlex.join(["office", office.club.name, *words]))
     if task.is_asked and means("no", ask(say("do it"))):
         raise Back
-    for words in commands:
+    for place, words in enumerate(commands, 1):
         makes_pass = "--to" in words and words[0] != "letters"
-        place = words[words.index("--to") + 1] if makes_pass else ""
-        if os.path.dirname(place):
-            os.makedirs(os.path.dirname(place), 0o700, exist_ok=True)
-        done = subprocess.run([sys.executable, "-I", SELF, office.club.name, *words], check=False)
-        if done.returncode:
+        file = words[words.index("--to") + 1] if makes_pass else ""
+        if os.path.dirname(file):
+            os.makedirs(os.path.dirname(file), 0o700, exist_ok=True)
+        status, _ = ended_by_itself([sys.executable, "-I", SELF, office.club.name, *words])
+        if status:
+            left = [shlex.join(["office", office.club.name, *it]) for it in commands[place:]]
+            lines = [say("broken off", club=office.club.name)] if status in BROKEN_OFF else []
+            print(*lines, *([say("not done", lines="; ".join(left))] if left else []), sep="\n")
             return
         if makes_pass:
-            print("   " + say("pass is in", file=place))
+            print("   " + say("pass is in", file=file))
 
 
 def menu(club, names):

@@ -7,7 +7,7 @@ import unicodedata
 
 from club_office.texts import MONTHS, WEEKDAYS
 
-LETTERS = {"ä": "ae", "ö": "oe", "ü": "ue", "ß": "ss", "æ": "ae", "ø": "oe", "å": "aa", "œ": "oe", "đ": "d", "ł": "l", "þ": "th", "ð": "d"}
+LETTERS = {"ä": "ae", "ö": "oe", "ü": "ue", "ß": "ss", "æ": "ae", "ø": "oe", "å": "aa", "œ": "oe", "đ": "d", "ł": "l", "þ": "th", "ð": "d", "ı": "i", "ə": "e", "ħ": "h", "ŧ": "t", "ŋ": "n"}
 # What the readers know of a club: of each member what it was credited, its balance and quota; of each key its member and whether it is
 # revoked; of each facility its kind, hours, places and price; the members' names as they are written, as far as they are known.
 Names = collections.namedtuple("Names", "members keys facilities written")
@@ -42,8 +42,9 @@ def found(typed, names):
     whole = "-".join(parts)
     if whole in names:
         return [whole]
+    # As it is typed, or with an umlaut that is typed as its vowel; else also with one that is typed and isn't in the name.
     for made in (lambda text: text, loose):
-        fits = [it for it in names if all(made(part) in made(it) for part in parts)]
+        fits = [it for it in names if all(made(part) in made(it) or part in loose(it) for part in parts)]
         if fits:
             return sorted(fits, key=lambda it: (not any(word.startswith(made(parts[0])) for word in made(it).split("-")), it))
     return []
@@ -132,6 +133,11 @@ KINDS = {
     "boat": ("boat", "boats", "boot", "boote"),
     "room": ("room", "rooms", "raum", "raeume", "raume"),
 }
+
+
+def is_all_of_a_kind(word, following):
+    """Whether two words are one, as `all courts`."""
+    return plain(word) in ALL and any(plain(following) in called for called in KINDS.values())
 
 
 def is_group(word):

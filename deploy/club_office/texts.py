@@ -51,6 +51,8 @@ TEXTS = {
     "task": ("Task: ", "Aufgabe: "),
     "back": ("back; nothing changed", "zurück; nichts geändert"),
     "enter": ("Enter for the menu ", "Enter für das Menü "),
+    "broken off": ("broken off: `office {club} log` has what was done by then", "abgebrochen: `office {club} log` zeigt, was bis dahin gemacht wurde"),
+    "no such file": ("there is no such file", "diese Datei gibt es nicht"),
     "no task": ("no task is called so", "so heißt keine Aufgabe"),
     "do it": ("Do it? [Y/n] ", "Ausführen? [J/n] "),
     "no": ("n no", "n nein no"),

@@ -11,7 +11,7 @@ import sys
 from club_office.asking import Back, chosen, confirms, doubts, is_terminal
 from club_office.counter import as_desk
 from club_office.faults import fault, refusal
-from club_office.reading import Facility, Key, Member, Names, found, found_members, is_group, read_day, read_facilities, read_hours
+from club_office.reading import Facility, Key, Member, Names, found, found_members, is_all_of_a_kind, is_group, read_day, read_facilities, read_hours
 from club_office.texts import day_text, say
 
 
@@ -148,7 +148,7 @@ def read_words(reader, command, words):
     """The words of a command, each as the desk's side takes it; options stay as they are, but for a day."""
     called, is_repeated, takes_value = places_of(command)
     made, place, option, is_over = [], 0, None, False
-    for word in words:
+    for word, following in zip(words, [*words[1:], ""]):
         if option:
             made.append(reader.day(word) if option == "--before" else word)
             option = None
@@ -158,6 +158,8 @@ def read_words(reader, command, words):
             made.append(word)
         else:
             what = called[min(place, len(called) - 1) if is_repeated else place] if is_repeated or place < len(called) else ""
+            if what == "FACILITIES" and is_all_of_a_kind(word, following):
+                continue
             is_new = what == "KEY" and reader.called in MAKES_A_KEY
             made.append(word if is_new or what not in READS else READS[what](reader, word))
             place += 1
@@ -174,16 +176,23 @@ def usual_points(names):
 DAY_AT = {"close": 0, "close-slot": 1}
 
 
-def confirms_odd(reader, called, words, is_order):
-    """Asks about what is odd: a day that is over or far, many points, and an order whose names were guessed, since it doesn't ask itself."""
-    odd = []
-    plain = [it for it in words if not it.startswith("--")]
+def without_options(command, words):
+    """The words that are no options, nor their values."""
+    _, _, takes_value = places_of(command)
+    return [it for before, it in zip(["", *words], words) if not it.startswith("--") and before not in takes_value]
+
+
+def confirms_odd(reader, command, words, is_order):
+    """Asks about what is odd: a day that is over or far, many points, and an order whose names were guessed, since it doesn't ask itself. Of
+    several days the first counts."""
+    odd, called = [], reader.called
+    plain = without_options(command, words)
     with contextlib.suppress(KeyError, IndexError, ValueError):
-        odd.append(doubts(datetime.date.fromisoformat(plain[DAY_AT[called]]), reader.today))
-    if called == "credit" and len(plain) == 2 and plain[1].isdigit():
+        odd.append(doubts(datetime.date.fromisoformat(plain[DAY_AT[called]].partition("..")[0]), reader.today))
+    if called in ("credit", "credit-all") and plain and plain[-1].isdigit():
         usual = usual_points(reader.names)
-        if usual and int(plain[1]) > 10 * usual:
-            odd.append(say("is much", points=plain[1], usual=usual))
+        if usual and int(plain[-1]) > 10 * usual:
+            odd.append(say("is much", points=plain[-1], usual=usual))
     odd = [it for it in odd if it]
     is_guessed = is_order and reader.is_guessed
     if is_guessed:
