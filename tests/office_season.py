@@ -176,6 +176,8 @@ def undone(server, day):
 def season(pages, day):
     """Points for all are given once under a name, each week's hours are closed with a reason, a lost pass is replaced."""
     count = len(rows("SELECT name FROM members WHERE quota > 0"))
+    done("set-quota", "oez-ali", "9", "--yes")
+    copy = [it for it in lines("copies", "--csv") if "-set-quota" in it][-1].split(",")[0]
     before = dict(rows("SELECT name, credited FROM members"))
     same("it asks", office("credit-all", "500", "--as", "season-2027", given="n\n")[0], 1)
     same("nobody has any", dict(rows("SELECT name, credited FROM members")), before)
@@ -185,6 +187,14 @@ def season(pages, day):
          dict.fromkeys((it for it, in rows("SELECT name FROM members WHERE quota > 0")), 500))
     refused(["credit-all", "500", "--as", "season-2027", "--yes"], 1, f"refused: season-2027 was given already: 500 points to each of {count} members")
     refused(["credit-all", "7", "--as", "season-2027", "--yes"], 1, "refused: season-2027 was given already")
+    same("a restore of before them", done("restore", copy, "--yes").splitlines()[-1], "season-2027 isn't given any more: credit-all gives it again")
+    same("nobody has them", dict(rows("SELECT name, credited FROM members")), before)
+    same("points for all, again", done("credit-all", "500", "--as", "season-2027", "--yes"), out)
+    refused(["credit-all", "500", "--as", "season-2027", "--yes"], 1, "refused: season-2027 was given already")
+    done("debit", "oez-ali", "600", "--yes")
+    copy = [it for it in lines("copies", "--csv") if "-debit" in it][-1].split(",")[0]
+    done("restore", copy, "--yes")
+    refused(["credit-all", "500", "--as", "season-2027", "--yes"], 1, "refused: season-2027 was given already")
     first = day + datetime.timedelta((1 - day.weekday()) % 7)
     last = first + datetime.timedelta(20)
     shown = done("close", f"{first}..{last}", "18-20", "boat-1", "--weekday", "tue", "--why", "Training der Jugend", "--yes").splitlines()

@@ -21,6 +21,7 @@ from club_office.lists import faults, table
 from club_office.people import show_concerned
 from club_office.places import given_by, kept_in, place_of, refuse_own_disk
 from club_office.plans import bookings_of, persons_text, slot_text
+from club_office.season import forget_points, points_lost
 from club_office.texts import say
 from club_office.undoing import forget_undo
 from club_office.values import COPY
@@ -169,13 +170,13 @@ def restore(club, words):
         show_lines(shown)
         if not confirms():
             refuse(club, words, refusal("not confirmed"))
-    lines = []
+    lines, lost = [], set()
     with Turn(club) as turn:
         forget_undo(club)
-        status = turn.order(words.given, lambda: put_in_place(club, words, lines, None if words.yes else shown))
+        status = turn.order(words.given, lambda: put_in_place(club, words, lines, None if words.yes else shown, lost))
     if words.yes:
         show_lines(lines)
-    print(say("done"))
+    print(say("done"), *(say("points lost", label=it) for it in sorted({label for label, _ in lost})), sep="\n")
     show_concerned(club, of_whom(lines))
     return status
 
@@ -196,11 +197,13 @@ def preview_of_copy(club, words):
     return None
 
 
-def put_in_place(club, words, lines, shown):
-    """Puts a copy in the club's place, unless something else was shown. What it changes is added to the lines."""
+def put_in_place(club, words, lines, shown, lost):
+    """Puts a copy in the club's place, unless something else was shown. Adds its changes to `lines`, and the points that it takes away to `lost`."""
     try:
         with copy_opened(club, words.copy) as copy:
+            lost |= points_lost(club, copy)
             write_over(club, words, copy, lines, shown)
+            forget_points(club, lost)
     except OSError as failure:
         raise storage_failed("said", said=failure) from None
     return 0

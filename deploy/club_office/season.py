@@ -3,12 +3,13 @@
 A line of FILE-seasons is written before and after each member's credit, so a run that was broken off goes on where it was."""
 
 import collections
+import contextlib
 import os
 
 from club_office.asking import confirms, show_lines
 from club_office.book import Turn, add_line, refuse
 from club_office.clubs import clubdesk, wants_file
-from club_office.copies import snapshot
+from club_office.copies import snapshot, synced
 from club_office.faults import STORAGE, Fault, fault, refusal
 from club_office.texts import say
 
@@ -91,5 +92,40 @@ def give(club, turn, words, member, credited):
     note(club, words.label, member, words.points, credited, "done")
 
 
-def is_given(club, label):
-    return os.path.exists(ledger_of(club)) and WHOLE in steps_of(club, label)
+def points_lost(club, copy):
+    """The points that a restore of a copy takes away again: pairs of a name and a member who had them since."""
+    credited = dict(copy.execute("SELECT name, credited FROM members"))
+    try:
+        with snapshot(club) as db:
+            before = dict(db.execute("SELECT name, credited FROM members"))
+    except Fault:  # a file that can't be read
+        before = {}
+    found = set()
+    for label in labels_of(club):
+        for member, step in steps_of(club, label).items():
+            then = credited.get(member, 0)
+            if member != WHOLE and step.is_done and then <= step.before and before.get(member, then + 1) > then:
+                found.add((label, member))
+    return found
+
+
+def labels_of(club):
+    with contextlib.suppress(FileNotFoundError), open(ledger_of(club), encoding="ascii") as lines:
+        return sorted({line.split()[0] for line in lines if line.split()})
+    return []
+
+
+def forget_points(club, lost):
+    """Takes points that a restore took away out of the ledger, so that they can be given again. Wants the turn."""
+    if not lost:
+        return
+    labels, made = {label for label, _ in lost}, ledger_of(club) + ".new"
+    with open(ledger_of(club), encoding="ascii") as lines, open(made, "w", encoding="ascii") as file:
+        for line in lines:
+            label, member = (line.split() + ["", ""])[:2]
+            if (label, member) not in lost and not (member == WHOLE and label in labels):
+                file.write(line)
+        file.flush()
+        os.fsync(file.fileno())
+    os.rename(made, ledger_of(club))
+    synced(os.path.dirname(club.file))

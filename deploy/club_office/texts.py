@@ -236,6 +236,7 @@ TEXTS = {
         "credits {members} members with {points} points each, {total} in all, as {label}; members with quota 0 get none",
         "schreibt {members} Mitgliedern je {points} Punkte gut, zusammen {total}, als {label}; wer nichts buchen darf, bekommt nichts",
     ),
+    "points lost": ("{label} isn't given any more: credit-all gives it again", "{label} ist nicht mehr gutgeschrieben: credit-all schreibt es wieder gut"),
     "credited before": ("{count} have them already", "{count} haben sie schon"),
     "credited": ("{count} members credited with {points} points, as {label}", "{count} Mitgliedern {points} Punkte gutgeschrieben, als {label}"),
     # Undo.
