@@ -179,7 +179,11 @@ def season_start():
     task("members from a list", ("File", "members.csv"), ("Shall", "y")).has("a list", "read as UTF-8 with ;", "ida-lund: done", "2 of 2 rows done")
     run_as("anna", "sh", "-c", "printf 'Vorname;Nachname\nBea;Noll\n' >names.csv")
     task("members from a list", ("File", "nothing.csv"), ("no such file", "names.csv"), ("Open bookings", "3"), ("Points", "500"), ("Shall", "n")).has(
-        "a list of names", "office club import names.csv --quota=3 --points=500", "noll-bea")
+        "a list of names", "office club import names.csv --quota=3 --points=500", "noll-bea", "in all: 1 of 1 rows to do, 500 points")
+    wide = "Zu Guttenberg und Tannenberg, Karl-Theodor Maria Nikolaus"
+    run_as("anna", "sh", "-c", f"printf 'name;quota;points\n{wide};3;500\n' >wide.csv")
+    shown = task("members from a list", ("File", "wide.csv"), ("Shall", "n")).shown.replace("\r", "").split("\n")
+    same("a preview that is too wide", [it for it in shown if len(it) > 80], [])
     task("letters with").has("letters", f"office club letters --to letters-{TODAY}.html", "sheets for 4 members")
     task("the season's points", ("Points", "300"), ("A name", "season 2027"), ("Shall", "y")).has("points for all", "office club credit-all 300 --as season-2027", "members credited with 300 points")
     same("they have them", rows("SELECT credited FROM members WHERE name = 'ida-lund'"), [(800,)])

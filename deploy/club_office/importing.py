@@ -15,7 +15,7 @@ from club_office.copies import snapshot
 from club_office.asking import confirms, show_lines
 from club_office.counter import as_desk, write_again, write_new
 from club_office.faults import BAD_VALUE, OUTPUT, REFUSED, Fault, bad_value, fault, refusal
-from club_office.lists import table
+from club_office.lists import aligned
 from club_office.member_list import Row, rows_of
 from club_office.people import NOBODY, keep_person, person_of, read_people
 from club_office.spares import PASSES, spare_keys
@@ -108,7 +108,7 @@ def import_members(club, words):
     spares = spare_rows(club, words.file, rows)
     members, keys = already(club)
     shown = [[row.line, row.written, row.member, row.quota, row.points, row.key, state(row, members, keys, words.passes)] for row in rows]
-    table(["line", "as written", "member", "quota", "points", "key", "is"], shown, False)
+    show_lines(aligned(["line", "as written", "member", "quota", "points", "key", "is"], shown))
     done = [row for row, line in zip(rows, shown) if line[-1] == say("there")]
     wanted = [row for row in [*rows, *spares] if row not in done and state(row, members, keys, words.passes) != say("there")]
     if not wanted:
@@ -117,6 +117,9 @@ def import_members(club, words):
     for row in wanted:
         if os.path.lexists(os.path.join(words.passes, row.key)) and not os.path.exists(mark_of(words.passes, row.key)):
             raise refusal("at line", line=row.line, why=say("file there", path=os.path.join(words.passes, row.key)))
+    asked = [row for row in wanted if row not in spares]
+    points = sum(row.points for row in asked if row.key not in keys and not members.get(row.member) and row.member not in keys.values())
+    print(say("import in all", count=len(asked), rows=len(rows), points=points))
     if not words.yes and not confirms():
         raise refusal("not confirmed")
     os.makedirs(words.passes, 0o700, exist_ok=True)

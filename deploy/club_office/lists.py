@@ -10,17 +10,20 @@ from club_office.values import date_of, day, name
 
 
 def table(heads, rows, as_csv):
-    """Prints rows under their heads: aligned, numbers to the right, or as CSV."""
+    """Prints rows under their heads, aligned or as CSV."""
     if as_csv:
         csv.writer(sys.stdout, lineterminator="\n").writerows([heads, *(map(unformed, row) for row in rows)])
-        return
+    else:
+        print(*aligned(heads, rows), sep="\n")
+
+
+def aligned(heads, rows):
+    """Rows below their heads as lines, with numbers to the right."""
     words = {"no", "yes", "none", "court", "boat", "room"}
     cells = [[head(it) for it in heads], *([head(cell) if cell in words else str(cell) for cell in row] for row in rows)]
     widths = [max(len(row[column]) for row in cells) for column in range(len(heads))]
     right = [bool(rows) and all(isinstance(row[column], int) for row in rows) for column in range(len(heads))]
-    for row in cells:
-        line = "  ".join(c.rjust(w) if r else c.ljust(w) for c, w, r in zip(row, widths, right))
-        print(line.rstrip())
+    return ["  ".join(c.rjust(w) if r else c.ljust(w) for c, w, r in zip(row, widths, right)).rstrip() for row in cells]
 
 
 def unformed(cell):

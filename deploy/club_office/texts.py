@@ -209,6 +209,7 @@ TEXTS = {
     "list read": ("read as {letters} with {sign} between the columns: {columns}", "gelesen als {letters} mit {sign} zwischen den Spalten: {columns}"),
     "list over": ("; passed over: {columns}", "; übergangen: {columns}"),
     "nothing to do": ("nothing to do", "nichts zu tun"),
+    "import in all": ("in all: {count} of {rows} rows to do, {points} points", "zusammen: {count} von {rows} Zeilen zu erledigen, {points} Punkte"),
     "spare pass": ("spare pass {key}", "Ersatzpass {key}"),
     "imported": (
         "{done} of {rows} rows done, {there} were there; passes are in {folder}",
