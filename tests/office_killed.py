@@ -178,17 +178,19 @@ def season_points():
 
 
 def bookings_for_callers():
-    """A booking for a member who calls, killed and given again, is one."""
+    """A booking for a member who calls, killed and given again, is one; of two hours each is."""
     done("add-member", "caller", "99")
     done("credit", "caller", "10000")
     server = Service()
     configure(PORT=server.port)
-    for hour in range(min(given.kills, 10)):
-        words = ["book", "caller", "room-1", "2026-05-20", str(hour), "1"]
-        killed_after(chance.uniform(0.2, 2.5), words)
+    for attempt in range(min(given.kills, 10)):
+        first, count = 2 * attempt, 1 + attempt % 2
+        words = ["book", "caller", "room-1", "2026-05-20", f"{first}-{first + count}", "1"]
+        killed_after(chance.uniform(0.2, 2.5 * count), words)
         status, _, errors = office(*words)
-        same(f"a booking, again at {hour}", (status == 0, "already" in errors) in ((True, False), (False, True)), True)
-        same(f"it is one at {hour}", rows(f"SELECT count(*), sum(taken) FROM slots WHERE facility = 'room-1' AND day = 20593 AND hour = {hour}"), [(1, 2)])
+        same(f"a booking, again at {first}", (status == 0, "already" in errors) in ((True, False), (False, True)), True)
+        for hour in range(first, first + count):
+            same(f"it is one at {hour}", rows(f"SELECT count(*), sum(taken) FROM slots WHERE facility = 'room-1' AND day = 20593 AND hour = {hour}"), [(1, 2)])
     whole("killed bookings")
     server.stop()
 
