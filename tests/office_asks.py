@@ -78,10 +78,12 @@ def make_club():
 def week():
     """The tasks of a week."""
     shown = task("a new member", ("Name", "Özdemir, Ayşe"), ("Open bookings", "5"), ("Points", "3000"), ("Do it", ENTER))
-    shown.has("a new member", "-> oezdemir-ayse", "office club add-member oezdemir-ayse 5", "office club credit oezdemir-ayse 3000",
+    shown.has("a new member", "-> oezdemir-ayse", "office club add-member oezdemir-ayse 5", "office club person oezdemir-ayse", "office club credit oezdemir-ayse 3000",
               "the pass is in the file passes/oezdemir-ayse-1",
               "office club letters oezdemir-ayse-1 --to letter-oezdemir-ayse-1.html", "1 sheets for 1 members are in letter-oezdemir-ayse-1.html")
     same("her letter", run_as("anna", "sh", "-c", 'grep -c "book.html#$(cat passes/oezdemir-ayse-1)" letter-oezdemir-ayse-1.html')[1], "1\n")
+    same("her name as it is written", (run_as("anna", "grep", "-c", '<p class="to">Özdemir, Ayşe</p>', "letter-oezdemir-ayse-1.html")[1],
+                                       done("members", "--csv").splitlines()[-1]), ("1\n", 'oezdemir-ayse,3000,5,0,1,"Özdemir, Ayşe"'))
     same("a new member", rows("SELECT name, credited, quota FROM members WHERE name = 'oezdemir-ayse'"), [("oezdemir-ayse", 3000, 5)])
     root = rows("SELECT hex(root) FROM keys WHERE name = 'oezdemir-ayse-1'")[0][0]
     same("her pass", run_as("anna", "sh", "-c", f"passtool verify --root {root} <passes/oezdemir-ayse-1")[1], "signed\n")
@@ -259,7 +261,7 @@ def interrupted():
         fcntl.flock(turn, fcntl.LOCK_EX)
         shown = task("a new member", ("Name", "Zoë"), ("Open", "5"), ("Points", "100"), ("Do it", ENTER), ("waiting for another order", None))
         shown.has("Ctrl-C at a command", "broken off: `office club log` has what was done by then",
-                  "not done: office club credit zoe 100; office club add-key zoe-1 zoe --to passes/zoe-1; office club letters zoe-1")
+                  "not done: office club person zoe; office club credit zoe 100; office club add-key zoe-1 zoe --to passes/zoe-1; office club letters zoe-1")
         terminal = Terminal("club", "debit", "mueller-bob", "1")
         terminal.answers(("Shall", "y"), ("waiting for another order", None))
         same("Ctrl-C at a correction", (terminal.ends(), "storage failed" in terminal.shown), (130, False))

@@ -8,6 +8,7 @@ import datetime
 import importlib
 import io
 import itertools
+import json
 import os
 import re
 import shlex
@@ -35,9 +36,11 @@ class Office:
         self.read = names
         self.names = None
         self.today = datetime.date.today()
+        # The name of a new member, as it is written.
+        self.written = {}
 
     def begin(self):
-        self.today = datetime.date.today()
+        self.today, self.written = datetime.date.today(), {}
         self.names = self.read(self.club)
 
     def rows(self, *words):
@@ -96,13 +99,15 @@ def new_member_words(office):
         name = fitted(typed, 22)
         if name in office.names.members:
             print("   " + say("taken name", name=name))
-        return name if NAME.fullmatch(name) and name not in office.names.members else None
+        return (name, typed) if NAME.fullmatch(name) and name not in office.names.members else None
 
-    name = until_read(say("ask new name"), read, say("no name"))
+    name, written = until_read(say("ask new name"), read, say("no name"))
     print(f"   -> {name}")
+    office.written = {name: written} if written != name else {}
     quota = ask_number(say("ask quota"), 0, 99)
     points = office.points(1_000_000)
-    return [["add-member", name, str(quota)], ["credit", name, points], *key_words(office, name, spare_keys(office.club, name))]
+    person = [["person", name]] if office.written else []
+    return [["add-member", name, str(quota)], *person, ["credit", name, points], *key_words(office, name, spare_keys(office.club, name))]
 
 
 def key_words(office, member, spares=()):
@@ -359,7 +364,10 @@ def carry_out(office, task):
         file = words[words.index("--to") + 1] if makes_pass else ""
         if os.path.dirname(file):
             os.makedirs(os.path.dirname(file), 0o700, exist_ok=True)
-        status, _ = ended_by_itself([sys.executable, "-I", SELF, office.club.name, *words])
+        if words[0] == "person" and words[1] in office.written:  # the name is in no argument
+            status, _ = as_desk(office.club, ["set-person", words[1]], json.dumps({"name": office.written[words[1]]}).encode())
+        else:
+            status, _ = ended_by_itself([sys.executable, "-I", SELF, office.club.name, *words])
         if status:
             left = [shlex.join(["office", office.club.name, *it]) for it in commands[place:]]
             lines = [say("broken off", club=office.club.name)] if status in BROKEN_OFF else []
