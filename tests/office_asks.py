@@ -163,7 +163,7 @@ def calls():
     same("nothing is booked", rows("SELECT count(*) FROM bookings WHERE cancelled = 0"), [(0,)])
     task("book for", ("Member", "bob"), ("Court", "court 2"), ("Day", "+2"), ("Hours", "15"), ("How many", "0"), ("Do it", ENTER))
     task("rain", ("Day", "+2"), ("Which", "courts"), ("Hours", "15"), ("Shall", "y")).has("rain", "1 person", "done")
-    task("undo the last", ("Shall", "y")).has("undone", "undoes what was done on", "puts back the booking")
+    task("undo the last", ("Shall", "y")).has("undone", "undoes what was done on", "puts back the booking", "in all: 3 changes")
     same("the booking again", rows("SELECT count(*) FROM bookings WHERE cancelled = 0"), [(1,)])
     task("name, mail", ("Member", "bob"), ("Name", "Bob Müller"), ("Mail", "bob@example.org"), ("Telephone", "+49 1")).has("a person", "done")
     task("what a member has", ("Member", "müller bob")).has("a member by the name as it is written", "Bob Müller")

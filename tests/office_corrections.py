@@ -177,7 +177,7 @@ def restores(server):
         "forgets the member dora", f"balance of amy: {balance + 250}, then {balance}", "forgets the key dora-1: its passes are refused",
         "takes passes of amy-3 of before it was rotated, and refuses those of after", "takes passes of amy-5, which is revoked now",
         "the facility boat-1 is as it was", f"opens court-2 {DAY} 11:00 again", f"loses court-2 {DAY} 09:00, 1 person, 200 points: amy-6 63, amy",
-        f"books again court-2 {DAY} 19:00, 2 persons, 400 points: amy-6 61, amy",
+        f"books again court-2 {DAY} 19:00, 2 persons, 400 points: amy-6 61, amy", "in all: 9 changes",
     ]
     same("a restore that isn't confirmed", refused(["restore", night, *AT], 1, "refused: not confirmed", given="n\n").splitlines()[:-1], shown)
     starts = server.starts
@@ -193,7 +193,7 @@ def restores(server):
         "has the member dora again", f"balance of amy: {balance}, then {balance + 250}", "has the key dora-1 again, and its passes",
         "takes passes of amy-3 of before it was rotated, and refuses those of after", "refuses passes of amy-5, which is revoked again",
         "the facility boat-1 is as it was", f"closes court-2 {DAY} 11:00", f"loses court-2 {DAY} 19:00, 2 persons, 400 points: amy-6 61, amy",
-        f"books again court-2 {DAY} 09:00, 1 person, 200 points: amy-6 63, amy", "done",
+        f"books again court-2 {DAY} 09:00, 1 person, 200 points: amy-6 63, amy", "in all: 9 changes", "done",
     ])
     same("it is undone", everything(), after)
     refused(["restore", "2001-01-01T000000Z", *YES], 1, "refused: there is no copy 2001-01-01T000000Z")

@@ -24,16 +24,16 @@ class Plan:
         # Where the file is copied before the change, or None.
         self.copy_to = None
         # What the summary counts.
-        self.cancelled, self.closed, self.opened = [], 0, 0
+        self.cancelled, self.closed, self.opened, self.undone = [], 0, 0, 0
 
     def tell(self, text, /, **values):
         self.lines.append(say(text, **values))
 
     def all_lines(self):
-        """The lines, and a summary at their end if there are several of bookings or slots."""
-        if len(self.cancelled) + self.closed + self.opened < 2:
+        """The lines, and a summary at their end if there are several of bookings or slots, or of what is undone."""
+        if len(self.cancelled) + self.closed + self.opened + self.undone < 2:
             return self.lines
-        parts = []
+        parts = [say("changes", count=self.undone)] if self.undone else []
         if self.cancelled:
             names = sorted({it.member for it in self.cancelled})
             members = names[0] if len(names) == 1 else say("members", count=len(names))

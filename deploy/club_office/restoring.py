@@ -142,6 +142,8 @@ def what_changes(copy, db, now):
         for it in bookings:
             slot = slot_text(it.facility, it.day, it.hour)
             lines.append(say(what, slot=slot, persons=persons_text(it), points=it.charge, key=it.key, number=it.number, member=it.member))
+    if len(lines) > 1:
+        lines.append(say("in all", what=say("changes", count=len(lines))))
     return lines or [say("nothing to come")]
 
 

@@ -315,6 +315,7 @@ TEXTS = {
     # Summaries of corrections.
     "in all": ("in all: {what}", "zusammen: {what}"),
     "cancelled": ("{count} bookings cancelled, {points} points back to {members}", "{count} Buchungen abgesagt, {points} Punkte zurück an {members}"),
+    "changes": ("{count} changes", "{count} Änderungen"),
     "cancelled one": ("1 booking cancelled, {points} points back to {members}", "1 Buchung abgesagt, {points} Punkte zurück an {members}"),
     "members": ("{count} members", "{count} Mitglieder"),
     "slots closed": ("{count} slots closed", "{count} Zeiten gesperrt"),

@@ -100,6 +100,7 @@ def plan_undo(db, club):
             plan.change(1, f"INSERT INTO {table} (rowid, {', '.join(columns)}) VALUES ({marks})", rowid, *map(value_of, was))
         else:
             plan.change(1, f"UPDATE {table} SET {', '.join(f'{name} = ?' for name in columns)} WHERE rowid = ?", *map(value_of, was), rowid)
+        plan.undone += 1
         plan.tell("puts back" if was is not None else "takes away", row=row_text(table, was or is_now))
     return plan
 
