@@ -131,6 +131,8 @@ def what_changes(copy, db, now):
     lines = [say("forgets member", name=it) for it in members if it not in then]
     lines += [say("has member", name=it) for it in then if it not in members]
     lines += [say("balance of", member=it, before=members[it], then=then[it]) for it in members if then.get(it, members[it]) != members[it]]
+    quotas, then = (dict(it.execute("SELECT name, quota FROM members ORDER BY name")) for it in (db, copy))
+    lines += [say("quota of", member=it, before=quotas[it], then=then[it]) for it in quotas if then.get(it, quotas[it]) != quotas[it]]
     lines += keys_changed(*({row[0]: row[1:] for row in it.execute("SELECT name, root, revoked FROM keys ORDER BY name")} for it in (db, copy)))
     facilities, then = ({row[0]: row[1:] for row in it.execute("SELECT * FROM facilities ORDER BY name")} for it in (db, copy))
     lines += [say("facility as was", facility=it) for it in sorted({*facilities, *then}) if facilities.get(it) != then.get(it)]
