@@ -54,6 +54,30 @@ def settings(path):
     return found
 
 
+# The files beside a club's file that clubdesk or the office makes: its name and one of these, or `-until-` and a day.
+ENDINGS = ("-before", "-book", "-metrics", "-new", "-office", "-offsite", "-orders", "-people.csv", "-reasons", "-seasons", "-undo", "-wal")
+
+
+def is_beside(file, other):
+    """Whether a path is that of a file which is made beside a club's."""
+    ending = other.removeprefix(file) if other.startswith(file) else ""
+    return ending in ENDINGS or ending.startswith("-until-")
+
+
+def clubs_of(folder):
+    """Each club that is configured, and its file."""
+    for path in sorted(glob.glob(os.path.join(glob.escape(folder), "*.conf"))):
+        with contextlib.suppress(OSError, UnicodeDecodeError):
+            yield os.path.basename(path).removesuffix(".conf"), settings(path).get("file", "")
+
+
+def refuse_files_of_others(file, folder):
+    """Refuses a club beside whose file another club's is, in a place where one of its own files is made: it would be overwritten."""
+    for other, path in clubs_of(folder):
+        if is_beside(file, path):
+            raise refusal("file of another", path=path, club=other)
+
+
 def club_named(called, is_at_desk=False):
     """The club of this name, or of NAME@YEAR its file of an old year. Its zone is the zone of the command's clock from then on."""
     word, at, year = called.partition("@")
@@ -68,6 +92,7 @@ def club_named(called, is_at_desk=False):
         raise fault(STORAGE, "cannot be read", path=f"{folder}/{word}.conf", fault=failure) from None
     if not os.path.isabs(found.get("file", "")):
         raise fault(STORAGE, "no file line", path=f"{folder}/{word}.conf")
+    refuse_files_of_others(found["file"], folder)
     os.environ["TZ"] = found.get("zone") or "UTC0"
     time.tzset()
     stop = found.get("stop") or f"sudo -n /usr/bin/systemctl kill clubdesk@{word}.service"
@@ -98,7 +123,7 @@ def old_file(file, year):
 
 # Where the desk's side finds programs, and what else of the environment it takes.
 PATH = "/usr/local/sbin:/usr/local/bin:/usr/sbin:/usr/bin:/sbin:/bin"
-KEPT = ("HOME", "LANG", "LC_ALL", "LC_CTYPE", "LOGNAME", "OFFICE_CLERK", "SUDO_USER", "TERM", "COLUMNS", "USER")
+KEPT = ("LANG", "LC_ALL", "LC_CTYPE", "LOGNAME", "OFFICE_CLERK", "SUDO_USER", "TERM", "COLUMNS", "USER")
 
 
 def forget_environment():
@@ -106,6 +131,7 @@ def forget_environment():
     for each in set(os.environ) - set(KEPT):
         del os.environ[each]
     os.environ["PATH"] = PATH
+    os.environ["HOME"] = pwd.getpwuid(os.geteuid()).pw_dir  # programs take what they do from files there, as a mailer does
 
 
 def program(variable, called):
@@ -150,7 +176,7 @@ def clubdesk(club, command, words, options=(), root=None):
 
 def ended_by_itself(line, given=None, **how):
     """Waits for the end of a command; its status, and what it printed into a pipe. Ctrl-C is the command's own, since a clerk's process can't end
-    sudo's. A reader is interrupted after it; of an order the status says what became of it."""
+    sudo's. A reading command is interrupted after it; an order's status says what became of it."""
     command = subprocess.Popen(line, **how)
     text, is_interrupted = given, False
     while True:
