@@ -272,7 +272,7 @@ export async function offerSpares(texts) {
 function makeRoom(texts, names) {
   const free = freeSpares(keptSpares(), keptLoans(), clubMoment() ?? "").filter(({ text }) => !texts.includes(text));
   const items = free.map(({ text, pass }) => {
-    const item = Object.assign(element("li", "card"), { tabIndex: -1 });
+    const item = Object.assign(element("li", ""), { tabIndex: -1 });
     const remove = button("", say("spares-remove", { key: keyName(pass) }), () => {
       if (!dropSpare(text)) {
         put("spares-news", say("spares-not-kept"));
