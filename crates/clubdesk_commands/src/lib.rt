@@ -12,6 +12,6 @@ mod server;
 
 pub use handed_command::{HandedCommand, command_bytes, read_command};
 pub use office_desk::OfficeDesk;
-pub use process::{ProcessRef, finish, run_process};
+pub use process::{finish, run_process};
 pub use program::run;
 pub use server::{serve, serve_file};

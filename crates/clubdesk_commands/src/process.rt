@@ -10,33 +10,7 @@ use club_clock::Instants;
 use clubdesk_arguments::{CommandName, Fault};
 use command_line::{FaultLines, GivenArguments, given_arguments, report};
 use desk_server::{Databases, Log, MonotonicClock};
-use std::alloc::Global;
-use std::fmt::Display;
-use std::io::{self, Read, Write};
-
-/// A process behind a reference: its arguments and its lines are those of the process. `main`
-/// passes it, since a call gets no proof that takes the runtime, and again the runtime as a
-/// process.
-#[derive(Drop)]
-pub struct ProcessRef<'a, P> {
-    pub process: &'a P,
-}
-
-impl<P: GivenArguments> GivenArguments for ProcessRef<'_, P> {
-    ghost given = { λ it arguments. P.given it.process.now arguments };
-
-    fn arguments(&self, alloc: Global) -> io::Result<Vec<String>> {
-        self.process.arguments(alloc)
-    }
-}
-
-impl<P: FaultLines> FaultLines for ProcessRef<'_, P> {
-    ghost asked = { λ it text. P.asked it.process.now text };
-
-    fn print_text<F: Display>(&self, text: &F) {
-        self.process.print_text(text)
-    }
-}
+use std::io::{Read, Write};
 
 /// Runs the program on the arguments of a process, prints the line of a fault, and returns the exit
 /// status.
