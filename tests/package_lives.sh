@@ -328,6 +328,7 @@ same 'a restore' 'forgets the member 1
 has the member mueller-bob again
 forgets the key 1-1: its passes are refused
 has the key mueller-bob-1 again, and its passes
+in all: 4 changes
 done' "$(cat told)"
 same 'a pass of before' '{"member":"mueller-bob","balance":3000,"quota":2,"open":0,"spent":0}' "$(asks passes/mueller-bob-1 GET account)"
 same 'the totals of her club' 'the totals are the sums of the bookings' "$(office anna check)"
