@@ -26,10 +26,11 @@ FILES_FREE = 20
 
 
 def begun_at(process):
-    """When a process began, in the system's ticks; None if there is none of this number."""
+    """When a process began, in the system's ticks; None if there is none of this number, or it has ended and nobody has asked for its status."""
     try:
         with open(f"/proc/{process}/stat", encoding="utf-8", errors="replace") as stat:
-            return stat.read().rpartition(")")[2].split()[19]
+            state, *rest = stat.read().rpartition(")")[2].split()
+            return None if state in "ZX" else rest[18]
     except OSError:
         return None
 
