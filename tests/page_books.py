@@ -2420,10 +2420,11 @@ def large_letters(passes, front):
     print("with twice the letters at 360 pixels nothing is cut off and no word is broken; an audit finds nothing")
 
 
+# The week that is found may scroll sideways in its own place.
 TOO_WIDE = """
 return [...document.querySelectorAll("button.slot, .slot span, .slot small")].filter((each) => each.offsetParent !== null
   && (each.scrollWidth > each.clientWidth + 1 && each.tagName === "BUTTON" || each.getBoundingClientRect().right > each.closest(".slot").getBoundingClientRect().right + 1
-    || each.getBoundingClientRect().right > innerWidth)).map((each) => each.outerHTML.slice(0, 100));
+    || each.getBoundingClientRect().right > innerWidth && each.closest("#find-grid") === null)).map((each) => each.outerHTML.slice(0, 100));
 """
 
 DAY_THERE = "document.getElementById('progress').hidden && shown('looked').includes(':')"
