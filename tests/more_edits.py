@@ -17,6 +17,8 @@ from typing import NamedTuple
 ROOT = Path(__file__).resolve().parent.parent
 FOLDER, FILE = "must-fail", "more-edits.txt"
 WORDS = ("false", "goal", "names", "test", "proved", "limit", "bad")
+# The program whose tests are the files of its data folder.
+SCENARIOS = "scenarios"
 # The crate and the name of the test that an edit fails, if no contract refuses it.
 TEST = re.compile(r"^test: (\w+) ([\w:]+)$", re.MULTILINE)
 # What rattle says of a goal for which it found values, in the line of the goal or in that of the answer that is missing.
@@ -219,12 +221,15 @@ class Trial:
         """Whether a test fails on an edit that no contract refuses, and its line. The tests run before any proof of theirs."""
         self.restore()
         self.put(edited_texts(self.crate, edit))
-        ran = subprocess.run(["rt", "try", "--test", "--", test], cwd=self.crate.parent / crate, stdin=subprocess.DEVNULL,
+        front, words = f"test {test} ...", ["--test", "--", test]
+        if crate == SCENARIOS:
+            front, words = f"{test}.txt:", ["--data", f"{test}.txt=data/{test}.txt"]
+        ran = subprocess.run(["rt", "try", *words], cwd=self.crate.parent / crate, stdin=subprocess.DEVNULL,
                              stdout=subprocess.PIPE, stderr=subprocess.STDOUT, text=True, errors="replace", check=False)
-        line = next((line for line in ran.stdout.split("\n") if line.startswith(f"test {test} ...")), None)
+        line = next((line for line in ran.stdout.split("\n") if line.startswith(front)), None)
         if line is None:
             raise NoVerdict("bad", f"no test {crate} {test}: {ran.stdout.strip()[-100:]}")
-        return ("proved" if line.endswith(" ok") else "test"), line
+        return ("proved" if line.endswith((" ok", " lines")) else "test"), line
 
     def told_together(self, group):
         """What one check with all edits of a group tells of each function: a goal that is false or open, and no name that is missing."""

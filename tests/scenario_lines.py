@@ -7,8 +7,9 @@ from pathlib import Path
 
 from reference import caveats, club as rules, passes, wire
 
-FOLDER = Path(__file__).resolve().parent / "scenarios"
-PAGE = FOLDER.parent.parent / "docs" / "SCENARIOS.md"  # whose example is played too
+ROOT = Path(__file__).resolve().parent.parent
+FOLDER = ROOT / "crates" / "scenarios" / "data"
+PAGE = ROOT / "docs" / "SCENARIOS.md"  # whose example is played too
 FIRST_ROOT = "00112233445566778899aabbccddeeff"
 NAME = caveats.NAME
 MOST_CREDIT = 1_000_000  # points of one command

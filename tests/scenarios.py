@@ -10,6 +10,7 @@ The self-test has odd files for all of these.
     tests/scenarios.py [--player rules|programs] [FILE ..]     plays all files, or those of these names
     tests/scenarios.py --self-test                             plays odd files, and plants each fault of the rules
     tests/scenarios.py --fill FILE                             prints the file, and fills in missing answers by the rules in Python
+    tests/scenarios.py --counts                                writes how many clubs and lines each file has into crates/scenarios/stdout
 """
 # groups: programs quick
 # groups: programs: --self-test
@@ -31,6 +32,7 @@ from scenario_players import Difference, Programs, Rules
 
 
 COLUMN = 64  # where a filled-in reply begins in its line
+STDOUT = lines.FOLDER.parent / "stdout"
 
 
 def expectations(scenarios):
@@ -47,6 +49,16 @@ def whole(path):
     return found
 
 
+def counts(path, scenarios):
+    return f"{path.name}: {len(scenarios)} clubs, {expectations(scenarios)} lines"
+
+
+def write_counts():
+    """Writes the output that the program `scenarios` must have."""
+    told = ["odd texts: refused", *(counts(path, whole(path)) for path in lines.files() if path != lines.PAGE)]
+    STDOUT.write_text("".join(f"{it}\n" for it in told), encoding="utf-8")
+
+
 def play_file(path, player, prints):
     """Plays a file, and prints its counts."""
     scenarios = whole(path)
@@ -54,7 +66,7 @@ def play_file(path, player, prints):
         for form in scenario.forms:
             player().play(scenario, form)
     if prints:
-        print(f"{path.name}: {len(scenarios)} clubs, {expectations(scenarios)} lines", flush=True)
+        print(counts(path, scenarios), flush=True)
     return expectations(scenarios)
 
 
@@ -164,7 +176,11 @@ def main():
     parser.add_argument("--player", choices=("rules", "programs"), help="plays the files alone; without this option both play")
     parser.add_argument("--fill", action="store_true", help="prints files, and fills in missing answers")
     parser.add_argument("--self-test", action="store_true", help="plants each fault of the rules in turn")
+    parser.add_argument("--counts", action="store_true", help="writes the counts of each file into crates/scenarios/stdout")
     given = parser.parse_args()
+    if given.counts:
+        write_counts()
+        return 0
     paths = lines.files([it.rpartition("/")[2].removesuffix(".txt") for it in given.files])
     if given.fill:
         print(*map(filled, paths), sep="\n", end="")

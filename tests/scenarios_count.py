@@ -19,7 +19,6 @@ import rust_tables
 import scenario_facts as facts
 import scenario_lines as lines
 import scenario_rows as rows
-from reference import caveats, club as rules
 from rust_tables import CRATES
 from scenario_rows import Differs
 
@@ -28,41 +27,7 @@ TESTS = ("club_core_tests", "club_gate_tests", "club_http_tests", "end_to_end_te
 # ---- the reader of each table
 
 READERS = {
-    "test_kit/lists": {"REPEATS": rows.of_steps, "REFUNDS": rows.of_lists, "WINDOW": rows.each_alone, "SPENDS": rows.of_steps,
-        "CAVEATS": rows.of_steps, "NO_PASSES": rows.of_no_passes},
-    "club_core_tests/answers": {"SPENDS": rows.of_answers, "VERIFIES": rows.of_answers, "CAVEATS": rows.of_answers},
-    "club_core_tests/bookings": dict.fromkeys(("REPEATS", "BOOKINGS", "ORDER", "WINDOW", "LARGEST"), rows.of_views),
-    "club_core_tests/decisions": {"CANCELLATIONS": rows.of_views, "SHOWN": rows.of_views},
-    "club_core_tests/rotation": {"PASSES": rows.of_roots},
-    "club_core_tests/commands": dict.fromkeys(("MEMBERS", "CREDITS", "FACILITIES", "KEYS", "ROTATIONS", "CLOSINGS"), rows.of_known),
-    "club_core_tests/caveats/understood": dict.fromkeys(("BOUNDS", "LISTS", "LONGEST", "WEEKDAYS"), rows.of_understood),
-    "club_core_tests/caveats/allowed": {
-        "OF_THE_BOOKING": rows.of_caveats(lambda ask: ask), "FACILITIES": rows.of_caveats(rows.changed(slot=lambda ask, it: (it, *ask.slot[1:]))),
-        "KINDS": rows.of_caveats(rows.changed(kind=lambda _, it: rows.KIND[it.name])),
-        "ACTIONS": rows.of_caveats(rows.changed(action=lambda _, it: rows.last(it.name).lower())),
-        "HOURS": rows.of_caveats(rows.changed(slot=lambda ask, it: (*ask.slot[:2], it))),
-        "DAYS": rows.of_caveats(rows.changed(slot=lambda ask, it: (ask.slot[0], it, ask.slot[2]))),
-        "BEFORE_18": rows.of_caveats(rows.changed(moment=caveats.moment_of("2026-05-01T17:59"))),
-        "AT_18": rows.of_caveats(rows.changed(moment=caveats.moment_of("2026-05-01T18:00"))),
-        "OF_THE_ACCOUNT": rows.of_caveats(rows.ACCOUNT), "OF_A_SPENT_ACCOUNT": rows.of_caveats(rows.ACCOUNT),
-        "OF_NO_KIND": rows.of_caveats(rows.changed(kind=None)), "AFTER_1": rows.spent(1),
-        "AFTER_ALL": rows.spent(2**64 - 1), "UP_TO_ALL": rows.spent(999_999_399), "FOR_49_GUESTS": rows.of_caveats(rows.changed(guests=49)),
-        "AT_THE_FIRST_MOMENT": rows.of_caveats(rows.changed(moment=caveats.moment_of("2000-01-01T00:00"))),
-        "AT_THE_LAST_MOMENT": rows.of_caveats(rows.changed(moment=caveats.moment_of("2099-12-31T23:59"))), "FIRST_FAULTS": rows.of_first_faults},
-    "club_core_tests/reference/lists": dict.fromkeys(("VERIFIES", "LIMITS", "CLOSES"), rows.of_steps),
-    "club_core_tests/reference/rotation": dict.fromkeys(("ROTATES", "ROTATES_AT_ONCE", "ROTATES_TWICE", "NO_ROTATIONS",
-        "ROTATES_REVOKED"), rows.of_steps),
-    "club_gate_tests/rows": {"VERIFIES": rows.of_steps, "ALONE": rows.of_steps, "BESIDE_BOB": rows.of_steps, "BEFORE_CY": rows.of_steps,
-        "BEHIND_CY": rows.after("BEFORE_CY"),
-                             "LIMITS": rows.of_steps, "CLOSES": rows.of_steps, "FILLED": rows.of_steps, "SHEETS": rows.of_sheets},
-    "club_gate_tests/caveats": {"WEEKDAYS": rows.of_steps},
-    "club_gate_tests/rotation": dict.fromkeys(("FOR_A_WHILE", "PAST", "TWICE"), rows.of_steps),
-    "club_gate_tests/ledger": {"TOTALS": rows.of_steps, "REFUSED": rows.of_steps},
-    "club_gate_tests/limits": {"LIMITS": rows.plain, "ROWS": rows.of_limits},
-    "club_gate_tests/shown": {"ROWS": rows.of_shown, "UNKNOWN": lambda value: [rows.shown_fact(rows.fixture(), it) for it in value]},
-    "club_gate_tests/texts": {"ADDS_A_KEY": lambda value: rows.of_steps(value, rules.Club()), "FAULTS": rows.of_pieces, "HEADS": rows.of_heads},
     "club_gate_tests/long_json": {"TEXTS": lambda value: [rows.of_spaced(rows.join(it).decode()) for it in value]},
-    "club_gate_tests/many": {"CREDITS": rows.of_credits},
     "club_http_tests/heads": {
         "LIMITS": lambda value: [rows.decodes(rows.join(pieces), rows.want_of(want)) for pieces, want in value],
         "LINE_ENDS": rows.of_bytes(lambda it: it.encode()),
@@ -79,24 +44,6 @@ READERS = {
         "LONGEST": lambda value: [rows.decodes(rows.join(value), ("book", ("court-1", 20574, 18), 7, 2))]},
     "club_http_tests/replies": {"SERVED": rows.of_replies(), "REFUSED": rows.of_replies(), "NO_PASS": rows.of_replies("WWW-Authenticate: Bearer\r\n"),
                                 "BY_GET": rows.of_replies("Allow: GET\r\n"), "BY_PUT_OR_DELETE": rows.of_replies("Allow: PUT, DELETE\r\n")},
-    "end_to_end_tests/bookings": {"REPEATS": rows.of_steps, "REFUNDS": rows.of_lists, "TOTALS": rows.of_steps, "WINDOW": rows.of_lists,
-        "LIMITS": rows.of_steps, "CLOSES": rows.of_steps},
-    "end_to_end_tests/entitlement": dict.fromkeys(("VERIFIES", "SPENDS", "CAVEATS", "WEEKDAYS", "ROTATES", "ROTATES_AT_ONCE",
-        "ROTATES_TWICE"), rows.of_steps),
-    "end_to_end_tests/others": {"ALONE": rows.of_steps, "BESIDE_BOB": rows.of_steps, "BEFORE_CY": rows.of_steps, "BEHIND_CY": rows.after("BEFORE_CY")},
-    "end_to_end_tests/messages": {"NOT_YET": rows.of_steps},
-    "end_to_end_tests/refused_memory": {"FAULTS": rows.of_steps},
-    "end_to_end_tests/limits": {"LIMITS": rows.of_long},
-    "end_to_end_tests/bad_requests": {
-        "ODD_HEADS": rows.of_requests("BAD_REQUEST"), "NO_HEADS": rows.of_requests("BAD_REQUEST", False),
-        "READ_HEADS": rows.of_requests("ACCOUNT_BEFORE"),
-        "ODD_LENGTHS": rows.of_requests("BAD_REQUEST"), "READ_LENGTHS": rows.of_requests("BOOKED_7"), "ODD_BODIES": rows.of_requests("BAD_REQUEST"),
-        "READ_BODIES": rows.of_requests("BOOKED_7"), "ODD_PATHS": rows.of_requests("NO_SUCH_PATH"),
-        "UNKNOWN_FACILITY": rows.of_requests("NO_SUCH_FACILITY"),
-        "NO_GET": rows.of_requests("GET_ALLOWED", False), "NO_PUT": rows.of_requests("PUT_AND_DELETE_ALLOWED", False),
-        "WITHOUT_PASS": rows.of_requests("NO_PASS", False),
-        "TWO_FIELDS": rows.of_requests("NO_PASS"), "IN_OTHER_CASE": rows.of_requests("ACCOUNT_BEFORE", False),
-        "SPACED": rows.of_requests("PASS_MALFORMED", False)},
     "end_to_end_tests/tasks": dict.fromkeys(("BOOKS", "EXCHANGES", "CANCELS", "BOOKS_AND_CANCELS", "ADDS_A_KEY", "CLOSES", "ROTATES",
         "MAKES_TABLES", "MIGRATES",
                                              "ADDS_THE_INDEX"), rows.of_crash),
@@ -106,27 +53,27 @@ READERS = {
 # Why the rows of a module stay where they are; what isn't read of a module above has a reason here, too.
 STAYS = {
     "club_core_tests/caveats/values": "readers of values: names, days, moments, numbers",
-    "club_core_tests/caveats/allowed": "the words and the number of a fault, by calls of their own",
+    "club_core_tests/caveats/allowed": "more points than requests can spend, and calls of their own",
     "club_core_tests/rows": "readers of a row's columns", "club_core_tests/texts": "what values print",
-    "club_core_tests/decisions": "calls of their own: what a request is to caveats",
-        "club_core_tests/commands": "the answer of a command that is done, by a call of its own",
+    "club_core_tests/decisions": "calls of their own: what a request is to caveats, and a slot that no club has",
+    "club_core_tests/commands": "the answer of a command that is done, by a call of its own",
     "club_core_tests/reference/parts": "a member's part of a club, which only the plain machine has",
     "club_gate_tests/store": "tables and statements, by their own calls; odd and older databases",
-        "club_gate_tests/readings": "counted calls of the store",
+    "club_gate_tests/readings": "counted calls of the store",
     "club_gate_tests/commands": "counted calls of the store", "club_gate_tests/at_once": "events that are run at once",
-        "club_gate_tests/law": "runs from nothing, by the theorem's calls",
-    "club_gate_tests/limits": "events that are run at once", "club_gate_tests/many": "names and roots of each length, and events at once, in loops",
+    "club_gate_tests/law": "runs from nothing, by the theorem's calls",
+    "club_gate_tests/long_runs": "events that are run at once", "club_gate_tests/long_sheet": "many bookings, in loops",
     "club_gate_tests/refusals": "a store that fails", "club_gate_tests/refused_memory": "refused memory",
-        "club_gate_tests/rotation": "moments as numbers",
-    "club_gate_tests/passes": "the names of the forms", "club_gate_tests/texts": "pieces of texts, read with FAULTS",
+    "club_gate_tests/passes": "the names of the forms", "club_gate_tests/values": "moments as numbers",
     "club_http_tests/heads": "whether what has come is whole", "club_http_tests/bodies": "bytes after a request, in loops",
     "club_http_tests/counted": "counted calls of readers and writers", "club_http_tests/server": "sockets, clocks, logs and the door",
-        "club_http_tests/replies": "room after a reply",
-    "end_to_end_tests/failing_ends": "readers and writers that fail, and cut input", "end_to_end_tests/front": "the names of the forms",
+    "club_http_tests/replies": "room after a reply",
+    "end_to_end_tests/failing_ends": "readers and writers that fail, and cut input", "end_to_end_tests/refused_memory": "refused memory",
+    "end_to_end_tests/messages": "requests after a failure",
     "end_to_end_tests/events": "the club that the crashes begin with", "end_to_end_tests/tables": "the statements that read the tables",
     "end_to_end_tests/torn": "ways in which a write is torn", "end_to_end_tests/texts": "the answers of a disk that fails",
     "clubdesk_tests": "runs of the program: the door, logs, clocks, odd files, input and refused output",
-        "clubdesk_tests/commands": "shapes of arguments",
+    "clubdesk_tests/commands": "shapes of arguments",
     "command_line_tests": "arguments of the programs, and passtool's reports", "pass_forms_tests": "readers and writers of passes",
 }
 
@@ -141,7 +88,6 @@ def reason(module, name):
 
 def modules():
     """Yields each file of the test crates, with its tables."""
-    yield "test_kit/lists", rust_tables.file_at(CRATES / "test_kit" / "src" / "lists.rt")
     for crate in TESTS:
         top = CRATES / crate / "src"
         for path in sorted(top.rglob("*.rt")):

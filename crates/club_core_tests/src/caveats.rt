@@ -3,5 +3,4 @@
 mod allowed;
 mod calls;
 mod rows;
-mod understood;
 mod values;

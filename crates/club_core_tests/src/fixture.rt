@@ -2,7 +2,7 @@
 //! and `court-1`.
 
 use crate::values::{name, root};
-use club_core::{KeyView, View};
+use club_core::View;
 use club_rows::{Booking, Facility, Key};
 use std::process::Abort;
 use test_kit::roots::ROOT;
@@ -81,13 +81,6 @@ impl Seen {
             taken: self.taken,
             closed: self.closed,
             booking: booking(rt, &self.booking),
-        }
-    }
-
-    pub fn with_key(&self, rt: &impl Abort) -> KeyView {
-        KeyView {
-            key: key(rt, self.revoked),
-            view: self.view(rt),
         }
     }
 }

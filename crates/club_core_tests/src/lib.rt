@@ -1,11 +1,7 @@
-//! Tests of the caveat language and its values, of a club's rows, of the answers to requests and
-//! commands by their views, and of the reference machine.
+//! Tests of the caveat language's values, of a club's rows, of what requests are to caveats, and of
+//! a member's part of the reference machine. The rows of answers are scenarios.
 #![tactic(auto)]
 
-#[cfg(test)]
-mod answers;
-#[cfg(test)]
-mod bookings;
 #[cfg(test)]
 mod caveats;
 #[cfg(test)]
@@ -13,13 +9,9 @@ mod commands;
 #[cfg(test)]
 mod decisions;
 #[cfg(test)]
-mod exchange;
-#[cfg(test)]
 mod expect;
 #[cfg(test)]
 mod fixture;
-#[cfg(test)]
-mod office;
 #[cfg(test)]
 mod reference;
 #[cfg(test)]

@@ -5,4 +5,3 @@ mod lists;
 mod messages;
 mod parts;
 mod play;
-mod rotation;

@@ -8,7 +8,6 @@ use crate::scene::{Scene, play};
 use club_core::{ClubStore, OfficeFault};
 use club_gate::{Desk, Fault, OfficeReply};
 use club_values::Kind;
-use pass_forms::Form;
 use std::alloc::Global;
 use std::process::Abort;
 use std::test::*;
@@ -109,7 +108,7 @@ fn answer_and_order<S: ClubStore + Drop>(
     desk: Desk<S>,
     plain: &PlainCommand,
 ) -> (OfficeReply, Order, u32) {
-    let store = furnish(rt, desk, Form::V2).desk.into_store();
+    let store = furnish(rt, desk).into_store();
     let mut desk = Desk::new(rt.alloc(), Refusing::never(store));
     let answer = desk.office(&plain.command().expect(rt, "a command"));
     let store = desk.into_store();

@@ -1,13 +1,12 @@
-//! Tests of the tables and of the store over them; and of the desk over tables in memory: worked
-//! rows, and random lists of events that are compared with the reference machine.
+//! Tests of the tables, of the store over them, and of the desk over tables in memory. The desk's
+//! are about the calls of its store, about memory, and about random lists of events, which the
+//! reference machine answers too. The rows of replies are scenarios.
 #![tactic(auto)]
 
 #[cfg(test)]
 mod ample;
 #[cfg(test)]
 mod at_once;
-#[cfg(test)]
-mod caveats;
 #[cfg(test)]
 mod commands;
 #[cfg(test)]
@@ -21,15 +20,13 @@ mod known;
 #[cfg(test)]
 mod law;
 #[cfg(test)]
-mod ledger;
-#[cfg(test)]
-mod limits;
-#[cfg(test)]
 mod lists;
 #[cfg(test)]
 mod long_json;
 #[cfg(test)]
-mod many;
+mod long_runs;
+#[cfg(test)]
+mod long_sheet;
 #[cfg(test)]
 mod passes;
 #[cfg(test)]
@@ -43,15 +40,9 @@ mod refused_memory;
 #[cfg(test)]
 mod refusing;
 #[cfg(test)]
-mod rotation;
-#[cfg(test)]
-mod rows;
-#[cfg(test)]
 mod scene;
 #[cfg(test)]
 mod sent;
-#[cfg(test)]
-mod shown;
 #[cfg(test)]
 mod store;
 #[cfg(test)]

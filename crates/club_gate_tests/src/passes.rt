@@ -88,5 +88,3 @@ pub(crate) fn text_of_asking(rt: &(impl Abort + Alloc<A = Global>), asking: &Ask
 pub(crate) const AMY: Shown = Shown::Of("amy-1", ROOT, &[]);
 
 pub(crate) const BOB: Shown = Shown::Of("bob-1", ROOT, &[]);
-
-pub(crate) const CY: Shown = Shown::Of("cy-1", ROOT, &[]);

@@ -116,7 +116,7 @@ fn counted_fixture<S: ClubStore>(
     desk: Desk<S>,
     is_booked: bool,
 ) -> Desk<Refusing<S>> {
-    let mut desk = furnish(rt, desk, Form::V2).desk;
+    let mut desk = furnish(rt, desk);
     prepare(rt, &mut desk, is_booked);
     Desk::new(rt.alloc(), Refusing::never(desk.into_store()))
 }
@@ -358,7 +358,7 @@ struct Rotated<'a> {
 
 impl Scene for Rotated<'_> {
     fn play<S: ClubStore + Drop>(&self, rt: &(impl Abort + Alloc<A = Global>), desk: Desk<S>) {
-        let mut desk = furnish(rt, desk, Form::V2).desk;
+        let mut desk = furnish(rt, desk);
         carry_out(
             rt,
             &mut desk,

@@ -36,7 +36,7 @@ fn failing_desk<S: ClubStore>(
     desk: Desk<S>,
     failure: &Failure,
 ) -> Desk<Refusing<S>> {
-    let store = furnish(rt, desk, Form::V2).desk.into_store();
+    let store = furnish(rt, desk).into_store();
     let failing = Refusing::from_call(failure.first, failure.fault, store);
     Desk::new(rt.alloc(), failing)
 }

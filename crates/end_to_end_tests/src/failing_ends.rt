@@ -20,9 +20,9 @@ const _: () = prove!(exchanges::BOOKED_7.len() == REPLY_LEN);
 
 /// The booking is kept: the same request gets the whole reply and charges nothing.
 static KEPT_BOOKING: [Step; 3] = [
-    Step::Asks(NOON, &AMY, &ACCOUNT, &ACCOUNT_AFTER),
-    Step::Asks(NOON, &AMY, &BOOK_7, &BOOKED_7),
-    Step::Asks(NOON, &AMY, &ACCOUNT, &ACCOUNT_AFTER),
+    Step(&AMY, &ACCOUNT, &ACCOUNT_AFTER),
+    Step(&AMY, &BOOK_7, &BOOKED_7),
+    Step(&AMY, &ACCOUNT, &ACCOUNT_AFTER),
 ];
 
 /// The booking is exchanged whole.

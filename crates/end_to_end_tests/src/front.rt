@@ -2,7 +2,7 @@
 
 use crate::ends::{Giver, Taker};
 use crate::expect::{expect_case, expect_eq};
-use crate::messages::{Asked, HttpReply, Step};
+use crate::messages::Step;
 use crate::passes::text_in;
 use club_core::{ClubStore, Command};
 use club_gate::{Fault, OfficeReply};
@@ -14,13 +14,14 @@ use club_values::Moment;
 use pass_forms::Form;
 use std::alloc::Global;
 use std::process::Abort;
+use test_kit::moments::NOON;
 use test_kit::{FIXTURE, PlainCommand};
 
 /// A desk behind its face.
 #[derive(Drop)]
 pub(crate) struct Front<S: ClubStore> {
     face: Face,
-    pub desk: Desk<S>,
+    desk: Desk<S>,
 }
 
 pub(crate) fn moment(rt: &impl Abort, text: &str) -> Moment {
@@ -67,14 +68,9 @@ impl<S: ClubStore> Front<S> {
     /// Ends the test unless these commands are done.
     fn carries_out(&mut self, rt: &impl Abort, commands: &[PlainCommand]) {
         for plain in commands {
-            self.refuses(rt, plain, &None);
+            let command = plain.command().expect(rt, "a command");
+            expect_eq(rt, &refusal(&mut self.desk, &command), &None);
         }
-    }
-
-    /// Ends the test unless the office's command is refused so; if it is `None`, done.
-    fn refuses(&mut self, rt: &impl Abort, plain: &PlainCommand, fault: &Option<Fault>) {
-        let command = plain.command().expect(rt, "a command");
-        expect_eq(rt, &refusal(&mut self.desk, &command), fault);
     }
 
     /// One exchange at a moment, and why it fails; `None` where it doesn't.
@@ -106,39 +102,13 @@ impl<S: ClubStore> Front<S> {
         taker
     }
 
-    /// Fails the test unless these bytes get this reply at a moment.
-    pub fn expect_reply(
-        &mut self,
-        rt: &(impl Abort + Alloc<A = Global>),
-        at: &str,
-        bytes: &str,
-        returned: &HttpReply<'_>,
-    ) {
-        let want = returned.text(rt);
-        let taker = self.written_to(rt, at, bytes.as_bytes());
-        expect_case(rt, bytes, &taker.written_bytes(), &want.as_bytes());
-    }
-
-    /// Fails the test unless the request gets this reply under a pass at a moment.
-    pub fn answers(
-        &mut self,
-        rt: &(impl Abort + Alloc<A = Global>),
-        at: &str,
-        pass: &str,
-        asked: &Asked<'_>,
-        returned: &HttpReply<'_>,
-    ) {
-        let bytes = asked.text(rt, pass);
-        self.expect_reply(rt, at, bytes.as_str(), returned);
-    }
-
+    /// Fails the test unless the request gets this reply under a pass.
     fn step(&mut self, rt: &(impl Abort + Alloc<A = Global>), form: Form, step: &Step) {
-        match step {
-            Step::Asks(at, texts, asked, returned) => {
-                self.answers(rt, at, text_in(texts, form), asked, returned);
-            }
-            Step::Gives(plain, fault) => self.refuses(rt, plain, fault),
-        }
+        let Step(texts, asked, returned) = step;
+        let bytes = asked.text(rt, text_in(texts, form));
+        let want = returned.text(rt);
+        let taker = self.written_to(rt, NOON, bytes.as_bytes());
+        expect_case(rt, bytes.as_str(), &taker.written_bytes(), &want.as_bytes());
     }
 
     /// Plays these steps, with passes in this form; fails the test at the first that differs.
@@ -146,15 +116,6 @@ impl<S: ClubStore> Front<S> {
         for step in steps {
             self.step(rt, form, step);
         }
-    }
-}
-
-pub(crate) static FORMS: [Form; 3] = [Form::V1, Form::V2, Form::Json];
-
-/// Plays these steps over a new fixture, once with passes in each form.
-pub(crate) fn plays_in_all_forms(rt: &(impl Abort + Alloc<A = Global>), steps: &[Step]) {
-    for form in &FORMS {
-        plays_in_form(rt, *form, steps);
     }
 }
 

@@ -4,10 +4,6 @@
 #![tactic(auto)]
 
 #[cfg(test)]
-mod bad_requests;
-#[cfg(test)]
-mod bookings;
-#[cfg(test)]
 mod crash;
 #[cfg(test)]
 mod desk;
@@ -15,8 +11,6 @@ mod desk;
 mod disk;
 #[cfg(test)]
 mod ends;
-#[cfg(test)]
-mod entitlement;
 #[cfg(test)]
 mod events;
 #[cfg(test)]
@@ -28,11 +22,7 @@ mod front;
 #[cfg(test)]
 mod laws;
 #[cfg(test)]
-mod limits;
-#[cfg(test)]
 mod messages;
-#[cfg(test)]
-mod others;
 #[cfg(test)]
 mod passes;
 #[cfg(test)]

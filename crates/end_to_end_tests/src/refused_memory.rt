@@ -107,8 +107,8 @@ fn exchange_in_json(rt: HostRuntime) {
 
 /// A text that is no pass gets its fault whichever allocation is refused, unless it is JSON.
 static FAULTS: [Step; 2] = [
-    Step::Asks(NOON, &MALFORMED, &ACCOUNT, &PASS_MALFORMED),
-    Step::Asks(NOON, &THIRD_PARTY, &ACCOUNT, &THIRD_PARTY_CAVEAT),
+    Step(&MALFORMED, &ACCOUNT, &PASS_MALFORMED),
+    Step(&THIRD_PARTY, &ACCOUNT, &THIRD_PARTY_CAVEAT),
 ];
 
 #[test]

@@ -9,7 +9,5 @@ pub const UNTIL: u32 = 29_617_920;
 /// 2026-05-01T18:00, when the slots of that hour begin.
 pub const START: u32 = 29_627_640;
 
-/// 2000-01-01T00:00 and 2099-12-31T23:59, the first moment and the last one.
+/// 2000-01-01T00:00, the first moment.
 pub const FIRST: u32 = 15_778_080;
-
-pub const LAST: u32 = 68_374_079;

@@ -8,14 +8,10 @@ pub const UNTIL: &str = "2026-04-25T00:00";
 
 pub const BEFORE_UNTIL: &str = "2026-04-24T23:59";
 
-/// A day before the slots at 18 begin, and a minute later.
-pub const DAY_AHEAD: &str = "2026-04-30T18:00";
-
+/// A minute less than a day before the slots at 18 begin.
 pub const LATER: &str = "2026-04-30T18:01";
 
-/// When the slots at 18 begin, the minute before it, and half an hour later.
+/// When the slots at 18 begin, and half an hour later.
 pub const START: &str = "2026-05-01T18:00";
-
-pub const BEFORE_START: &str = "2026-05-01T17:59";
 
 pub const BEGUN: &str = "2026-05-01T18:30";

@@ -26,20 +26,10 @@ pub const CANCELLED_7: PlainReply = PlainReply::Cancelled("amy-1", 7, 600);
 /// Amy's booking of `court-1` for herself alone, under number 8.
 pub const BOOKED_8: PlainReply = PlainReply::Booked("amy-1", 8, 200, 3);
 
-/// Bob's booking for himself alone: the first one of the slot, and after number 7. And number 7
-/// after his first one.
+/// Bob's booking for himself alone, the first one of the slot; and number 7 after it.
 pub const BOOKED_2: PlainReply = PlainReply::Booked("bob-1", 2, 200, 3);
 
-pub const FILLED_BY_2: PlainReply = PlainReply::Booked("bob-1", 2, 200, 0);
-
 pub const FILLED_BY_7: PlainReply = PlainReply::Booked("amy-1", 7, 600, 0);
-
-/// The room's booking, cancelled for its whole price and for half of it.
-pub const ROOM_BOOKED: PlainReply = PlainReply::Booked("amy-1", 8, 601, 0);
-
-pub const ALL_BACK: PlainReply = PlainReply::Cancelled("amy-1", 8, 601);
-
-pub const HALF_BACK: PlainReply = PlainReply::Cancelled("amy-1", 8, 300);
 
 /// Amy's account before any booking, and with number 7.
 pub const ACCOUNT_BEFORE: PlainReply = PlainReply::AccountShown(10_000, 0, 0);
@@ -53,27 +43,11 @@ pub const KEY_REVOKED: PlainReply = PlainReply::Refused(Refusal::KeyRevoked);
 
 pub const DENIED_1: PlainReply = PlainReply::Refused(Refusal::CaveatDenies(1));
 
-pub const NOT_UNDERSTOOD_1: PlainReply = PlainReply::Refused(Refusal::CaveatNotUnderstood(1));
-
-pub const NOT_UNDERSTOOD_2: PlainReply = PlainReply::Refused(Refusal::CaveatNotUnderstood(2));
-
-pub const NUMBER_USED: PlainReply = PlainReply::Refused(Refusal::NumberUsed);
-
 pub const NO_SUCH_FACILITY: PlainReply = PlainReply::Refused(Refusal::NoSuchFacility);
 
 pub const NO_SUCH_BOOKING: PlainReply = PlainReply::Refused(Refusal::NoSuchBooking);
 
 pub const NOT_BOOKABLE: PlainReply = PlainReply::Refused(Refusal::NotBookable);
-
-pub const SLOT_CLOSED: PlainReply = PlainReply::Refused(Refusal::SlotClosed);
-
-pub const NO_PLACES: PlainReply = PlainReply::Refused(Refusal::NoPlaces);
-
-pub const QUOTA_REACHED: PlainReply = PlainReply::Refused(Refusal::QuotaReached);
-
-pub const BALANCE_TOO_LOW: PlainReply = PlainReply::Refused(Refusal::BalanceTooLow);
-
-pub const SLOT_HAS_BEGUN: PlainReply = PlainReply::Refused(Refusal::SlotHasBegun);
 
 fn slot_shown(taken: u64, closed: bool) -> Option<Reply> {
     Some(Reply::SlotShown {

@@ -1,6 +1,6 @@
 //! Requests, as plain values.
 
-use crate::slots::{COURT_AT_18, COURT_AT_19, COURT_AT_21, COURT_AT_22, PlainSlot, ROOM_AT_18};
+use crate::slots::{COURT_AT_18, PlainSlot};
 use club_core::Request;
 use club_rows::{BookingNumber, Guests};
 
@@ -25,37 +25,13 @@ pub const BOOK_7: PlainRequest = PlainRequest::Book(COURT_AT_18, 7, 2);
 
 pub const CANCEL_7: PlainRequest = PlainRequest::Cancel(COURT_AT_18, 7);
 
-/// The same number without guests, and with one.
+/// The same number without guests.
 pub const BOOK_7_ALONE: PlainRequest = PlainRequest::Book(COURT_AT_18, 7, 0);
 
-pub const BOOK_7_FOR_TWO: PlainRequest = PlainRequest::Book(COURT_AT_18, 7, 1);
-
-/// The same number in the last hour that is open, and in the first that isn't.
-pub const BOOK_7_AT_21: PlainRequest = PlainRequest::Book(COURT_AT_21, 7, 2);
-
-pub const BOOK_7_AT_22: PlainRequest = PlainRequest::Book(COURT_AT_22, 7, 2);
-
-/// Its cancellation in another hour.
-pub const CANCEL_7_AT_19: PlainRequest = PlainRequest::Cancel(COURT_AT_19, 7);
-
 /// Bookings of `court-1` under other numbers.
-pub const BOOK_1: PlainRequest = PlainRequest::Book(COURT_AT_18, 1, 0);
-
 pub const BOOK_2: PlainRequest = PlainRequest::Book(COURT_AT_18, 2, 0);
 
-pub const BOOK_2_FOR_TWO: PlainRequest = PlainRequest::Book(COURT_AT_18, 2, 1);
-
 pub const BOOK_8: PlainRequest = PlainRequest::Book(COURT_AT_18, 8, 0);
-
-pub const BOOK_8_AT_19: PlainRequest = PlainRequest::Book(COURT_AT_19, 8, 0);
-
-/// Amy's booking of `room-1` under number 8, its cancellation, and that of a number without a
-/// booking.
-pub const BOOK_ROOM: PlainRequest = PlainRequest::Book(ROOM_AT_18, 8, 0);
-
-pub const CANCEL_ROOM: PlainRequest = PlainRequest::Cancel(ROOM_AT_18, 8);
-
-pub const CANCEL_OTHER: PlainRequest = PlainRequest::Cancel(ROOM_AT_18, 9);
 
 fn view(slot: &PlainSlot) -> Option<Request> {
     let slot = slot.slot()?;

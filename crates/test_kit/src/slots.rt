@@ -31,25 +31,15 @@ const COURT: PlainSlot = COURT_AT_18;
 const ROOM: PlainSlot = ROOM_AT_18;
 
 /// Both at other hours of that day. They are open from 8 to 22.
-pub const COURT_AT_7: PlainSlot = PlainSlot { hour: 7, ..COURT };
-
-pub const COURT_AT_8: PlainSlot = PlainSlot { hour: 8, ..COURT };
-
 pub const COURT_AT_9: PlainSlot = PlainSlot { hour: 9, ..COURT };
 
 pub const COURT_AT_10: PlainSlot = PlainSlot { hour: 10, ..COURT };
 
 pub const COURT_AT_19: PlainSlot = PlainSlot { hour: 19, ..COURT };
 
-pub const COURT_AT_21: PlainSlot = PlainSlot { hour: 21, ..COURT };
-
-pub const COURT_AT_22: PlainSlot = PlainSlot { hour: 22, ..COURT };
-
 pub const ROOM_AT_9: PlainSlot = PlainSlot { hour: 9, ..ROOM };
 
 pub const ROOM_AT_10: PlainSlot = PlainSlot { hour: 10, ..ROOM };
-
-pub const ROOM_AT_23: PlainSlot = PlainSlot { hour: 23, ..ROOM };
 
 impl PlainSlot {
     /// The slot; `None` if a part is out of its limits.

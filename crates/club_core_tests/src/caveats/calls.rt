@@ -48,19 +48,10 @@ pub(crate) fn read_action(text: &[u8]) -> Option<Action> {
     Action::read(text)
 }
 
-// Whether a text is understood as a caveat.
-pub(crate) fn is_understood(text: &str) -> bool {
-    pass_caveats::read(text.as_bytes()).is_some()
-}
-
 // Whether the caveat of a text allows a request; `None` if it isn't understood.
 pub(crate) fn answer(text: &str, ask: &Ask) -> Option<bool> {
     let caveat = pass_caveats::read(text.as_bytes())?;
     Some(pass_caveats::allows(&caveat, ask))
-}
-
-pub(crate) fn first_fault(caveats: &[Vec<u8>], ask: &Ask) -> Option<CaveatFault> {
-    pass_caveats::first_fault(caveats, ask)
 }
 
 pub(crate) fn fault_at(text: &[u8], number: usize, ask: &Ask) -> Option<CaveatFault> {

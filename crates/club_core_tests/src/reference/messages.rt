@@ -1,13 +1,13 @@
 //! Passes as plain values, and the steps of worked lists.
 
 use crate::reference::answers::Answer;
-use club_core::{Command, OfficeAnswer, PassFault, Reply, Request};
+use club_core::{Command, OfficeAnswer, Reply, Request};
 use club_reference::{Pass, Words};
 use club_values::{Moment, Name};
 use std::alloc::Global;
 use std::process::Abort;
 use test_kit::roots::{ROOT, SECOND_ROOT};
-use test_kit::{PlainCommand, PlainPass, PlainReply, PlainRequest, PlainStep, signed_pass};
+use test_kit::{PlainCommand, PlainReply, PlainRequest, signed_pass};
 
 /// What comes to the club: a request at a moment, or a command of the office.
 #[derive(Drop)]
@@ -23,14 +23,9 @@ pub(crate) enum EventReply {
     Answered(OfficeAnswer),
 }
 
-/// The pass of a request.
+/// A pass of this key, signed under this root.
 #[derive(Clone, Copy)]
-pub(crate) enum Shown {
-    /// A pass of this key, signed under this root, with these caveats.
-    Pass(&'static str, &'static [u8], &'static [&'static str]),
-    /// A text that is no pass, for this fault.
-    NoPass(PassFault),
-}
+pub(crate) struct Shown(&'static str, &'static [u8]);
 
 /// A step of a worked list.
 #[derive(Clone, Copy)]
@@ -41,43 +36,30 @@ pub(crate) enum Step {
     Gives(PlainCommand, Answer),
 }
 
-/// Amy's pass without caveats, and the same signed under another root than her key's.
-pub(crate) const AMY: Shown = Shown::Pass("amy-1", ROOT, &[]);
+/// Amy's pass, and the same signed under another root than her key's.
+pub(crate) const AMY: Shown = Shown("amy-1", ROOT);
 
-pub(crate) const AMY_CHANGED: Shown = Shown::Pass("amy-1", SECOND_ROOT, &[]);
+pub(crate) const AMY_CHANGED: Shown = Shown("amy-1", SECOND_ROOT);
 
 /// Bob's pass.
-pub(crate) const BOB: Shown = Shown::Pass("bob-1", ROOT, &[]);
-
-fn pass(rt: &(impl Abort + Alloc<A = Global>), key: &str, root: &[u8], caveats: &[&str]) -> Pass {
-    let key = Name::read(key.as_bytes()).expect(rt, "a name");
-    signed_pass(rt.alloc(), Some(key), root, caveats).expect(rt, "a pass")
-}
+pub(crate) const BOB: Shown = Shown("bob-1", ROOT);
 
 impl Shown {
-    fn pass(&self, rt: &(impl Abort + Alloc<A = Global>)) -> Result<Pass, PassFault> {
-        match self {
-            Shown::Pass(key, root, caveats) => Ok(pass(rt, key, root, caveats)),
-            Shown::NoPass(fault) => Err(*fault),
-        }
+    fn pass(&self, rt: &(impl Abort + Alloc<A = Global>)) -> Pass {
+        let key = Name::read(self.0.as_bytes()).expect(rt, "a name");
+        signed_pass(rt.alloc(), Some(key), self.1, &[]).expect(rt, "a pass")
     }
 
     /// The words of a request with this pass.
     fn words(&self, rt: &(impl Abort + Alloc<A = Global>), request: Request) -> Words {
         Words {
-            pass: self.pass(rt),
+            pass: Ok(self.pass(rt)),
             request,
         }
     }
 }
 
 impl Step {
-    /// The step of a worked list.
-    pub fn of(step: &PlainStep) -> Step {
-        let PlainStep(at, PlainPass(key, caveats), asked, reply) = *step;
-        Step::Asks(at, Shown::Pass(key, ROOT, caveats), asked, reply)
-    }
-
     /// The moment of a request; `the office` for a command.
     pub fn at(&self) -> &'static str {
         match self {

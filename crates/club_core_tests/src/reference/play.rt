@@ -6,7 +6,7 @@ use club_core::OfficeAnswer;
 use club_reference::Club;
 use std::alloc::Global;
 use std::process::Abort;
-use test_kit::{FIXTURE, PlainCommand, PlainStep};
+use test_kit::{FIXTURE, PlainCommand};
 
 /// The reply to an event by `ask` or `office`.
 fn reply_by_kind(rt: &impl Abort, club: &mut Club, event: &Event) -> EventReply {
@@ -42,18 +42,4 @@ pub(crate) fn fixture_club(rt: &(impl Abort + Alloc<A = Global>)) -> Club {
         carry_out(rt, &mut club, plain);
     }
     club
-}
-
-/// Ends the test unless a club of the fixture gives the replies of these steps.
-pub(crate) fn plays_anew(rt: &(impl Abort + Alloc<A = Global>), steps: &[Step]) {
-    plays(rt, &mut fixture_club(rt), steps);
-}
-
-/// The same of a worked list.
-pub(crate) fn plays_list(rt: &(impl Abort + Alloc<A = Global>), list: &[PlainStep]) {
-    let mut steps = Vec::new(rt.alloc());
-    for step in list {
-        steps.push(Step::of(step)).expect(rt, "memory");
-    }
-    plays_anew(rt, &steps);
 }

@@ -1,0 +1,57 @@
+//! Why a file isn't played to its end.
+
+use pass_forms::FormFault;
+use std::alloc::{AllocError, AllocFailed};
+use std::fmt;
+
+/// Why a file isn't played beyond a line.
+#[derive(Debug, Drop)]
+pub(crate) enum Fault {
+    /// The line breaks this rule of the language.
+    Rule(&'static str),
+    /// The player gave another answer than the line states.
+    Differs { wanted: String, found: String },
+    /// The player failed.
+    Player(&'static str),
+    Memory,
+}
+
+impl fmt::Display for Fault {
+    fn fmt<W: fmt::Write>(&self, f: &mut fmt::Formatter<W>) -> fmt::Result {
+        match self {
+            Fault::Rule(rule) => write!(f, "{rule}"),
+            Fault::Differs { wanted, found } => write!(f, "wanted {wanted}\n  found  {found}"),
+            Fault::Player(why) => write!(f, "{why}"),
+            Fault::Memory => write!(f, "out of memory"),
+        }
+    }
+}
+
+impl From<AllocError> for Fault {
+    fn from(_error: AllocError) -> Fault {
+        Fault::Memory
+    }
+}
+
+impl<T: Drop> From<AllocFailed<T>> for Fault {
+    fn from(_error: AllocFailed<T>) -> Fault {
+        Fault::Memory
+    }
+}
+
+impl From<FormFault> for Fault {
+    fn from(fault: FormFault) -> Fault {
+        match fault {
+            FormFault::Memory => Fault::Memory,
+            _ => Fault::Rule("no such pass can be made"),
+        }
+    }
+}
+
+/// The value that a line needs by this rule.
+pub(crate) fn needed<T: Drop>(value: Option<T>, rule: &'static str) -> Result<T, Fault> {
+    match value {
+        Some(value) => Ok(value),
+        None => Err(Fault::Rule(rule)),
+    }
+}

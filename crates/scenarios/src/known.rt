@@ -1,0 +1,138 @@
+//! The names that the lines of a file have given so far.
+
+use crate::fault::{Fault, needed};
+use club_http::{Moment, Name, Root};
+use std::alloc::Global;
+
+/// The name of the root that a key has unless its line names another one, and its bytes.
+const FIRST: &[u8] = b"first";
+
+const FIRST_ROOT: &[u8] = b"\x00\x11\x22\x33\x44\x55\x66\x77\x88\x99\xaa\xbb\xcc\xdd\xee\xff";
+
+/// A root with a name: its own, or that of a key.
+#[derive(Clone, Copy)]
+struct Named {
+    name: Name,
+    root: Root,
+}
+
+/// A text with a name, which takes the place of a pass.
+#[derive(Drop)]
+struct NamedText {
+    name: Name,
+    text: Vec<u8>,
+}
+
+/// The names that the lines of a file have given so far, and the state of their reader.
+#[derive(Drop)]
+pub(crate) struct Known {
+    roots: Vec<Named>,
+    keys: Vec<Named>,
+    texts: Vec<NamedText>,
+    /// The line of the last club.
+    pub(crate) club: String,
+    pub(crate) moment: Option<Moment>,
+    /// Whether the next line is stopped, and comes again.
+    pub(crate) crashes: bool,
+}
+
+/// A name, which a line needs.
+pub(crate) fn name(text: &str) -> Result<Name, Fault> {
+    needed(Name::read(text.as_bytes()), "no name")
+}
+
+/// The bytes of a root in hexadecimal.
+fn root_in_hex(text: &str) -> Option<Root> {
+    let mut bytes = [0; 64];
+    let len = text.len() / 2;
+    if len > bytes.len() || hex::decode_to_slice(text, &mut bytes[..len]).is_err() {
+        return None;
+    }
+    Root::new(&bytes[..len])
+}
+
+/// The last root of this name.
+fn last_named(named: &[Named], name: &Name) -> Option<Root> {
+    let mut found = None;
+    for it in named {
+        if it.name == *name {
+            found = Some(it.root);
+        }
+    }
+    found
+}
+
+impl Known {
+    /// The state before the first line.
+    pub(crate) fn new(alloc: Global) -> Result<Known, Fault> {
+        let mut known = Known {
+            roots: Vec::new(alloc),
+            keys: Vec::new(alloc),
+            texts: Vec::new(alloc),
+            club: String::new(alloc),
+            moment: None,
+            crashes: false,
+        };
+        let first = Named {
+            name: needed(Name::read(FIRST), "no name")?,
+            root: needed(Root::new(FIRST_ROOT), "no root")?,
+        };
+        known.roots.push(first)?;
+        Ok(known)
+    }
+
+    /// A root by its name or in hexadecimal.
+    pub(crate) fn root(&self, text: &str) -> Result<Root, Fault> {
+        let named = match Name::read(text.as_bytes()) {
+            Some(name) => last_named(&self.roots, &name),
+            None => None,
+        };
+        match named {
+            Some(root) => Ok(root),
+            None => needed(root_in_hex(text), "a root has a name, or 16 to 64 bytes"),
+        }
+    }
+
+    /// Names a root.
+    pub(crate) fn add_root(&mut self, name: Name, root: Root) -> Result<(), Fault> {
+        Ok(self.roots.push(Named { name, root })?)
+    }
+
+    /// The root that a key of the club began with; `None` if there is no such key.
+    pub(crate) fn root_of_key(&self, key: &Name) -> Option<Root> {
+        last_named(&self.keys, key)
+    }
+
+    /// Adds a key, unless there is one of this name.
+    pub(crate) fn add_key(&mut self, name: Name, root: Root) -> Result<(), Fault> {
+        if last_named(&self.keys, &name).is_none() {
+            self.keys.push(Named { name, root })?;
+        }
+        Ok(())
+    }
+
+    /// Forgets the keys, since another club begins.
+    pub(crate) fn forget_keys(&mut self) {
+        self.keys.clear();
+    }
+
+    /// The text of a name.
+    pub(crate) fn text(&self, name: &Name) -> Result<&[u8], Fault> {
+        for it in &self.texts {
+            if it.name == *name {
+                return Ok(&it.text);
+            }
+        }
+        Err(Fault::Rule("no text of this name"))
+    }
+
+    /// Names a text.
+    pub(crate) fn add_text(&mut self, name: Name, text: Vec<u8>) -> Result<(), Fault> {
+        Ok(self.texts.push(NamedText { name, text })?)
+    }
+
+    /// The moment of a line.
+    pub(crate) fn moment(&self) -> Result<Moment, Fault> {
+        needed(self.moment, "no moment before it")
+    }
+}

@@ -1,0 +1,127 @@
+//! Plays the scenarios of its data folder: what a club's desk answers, line by line. Each file is
+//! played by the pure machine, by the desk over tables in memory, and by exchanges from bytes to
+//! bytes with each pass in three forms.
+//!
+//! It prints each file with its count, or the first line that has another answer.
+#![tactic(auto)]
+
+mod command;
+mod fault;
+mod known;
+mod machine;
+mod odd;
+mod page;
+mod passes;
+mod play;
+mod player;
+mod reply;
+mod request;
+mod tables;
+mod text;
+
+use anyhow::{Result, anyhow};
+use machine::Machines;
+use pass_forms::Form;
+use play::{Count, FaultAt, Way, play};
+use std::alloc::{AllocError, Global};
+use std::fs;
+use tables::{AskedBy, InMemory};
+
+/// The ending of the names of files.
+const ENDING: &str = ".txt";
+
+static FORMS: [Form; 3] = [Form::V1, Form::V2, Form::Json];
+
+/// A fault at a line, and the player that found it.
+#[derive(Drop)]
+struct Found {
+    player: &'static str,
+    at: FaultAt,
+}
+
+/// The names of the files, in their order.
+fn names(rt: &HostRuntime) -> Result<Vec<String>> {
+    let mut names = Vec::new(rt.alloc());
+    for entry in fs::read_dir(rt, ".")? {
+        let entry = entry?;
+        if entry.file_name().ends_with(ENDING) {
+            names.push(String::from_str(rt.alloc(), entry.file_name())?)?;
+        }
+    }
+    names.sort()?;
+    Ok(names)
+}
+
+/// Plays lines by each player, where the first try of a line that is stopped is kept or lost.
+fn play_each(alloc: Global, lines: &[&str], keeps: bool) -> Result<Count, Found> {
+    let form = Form::V2;
+    let way = Way { form, keeps };
+    let player = "the machine";
+    let count = play(alloc, &Machines, way, lines).map_err(|at| Found { player, at })?;
+    let player = "the desk";
+    let asked_by = AskedBy::Words;
+    play(alloc, &InMemory { asked_by }, way, lines).map_err(|at| Found { player, at })?;
+    let player = "an exchange";
+    let asked_by = AskedBy::Bytes;
+    for form in &FORMS {
+        let way = Way { form: *form, keeps };
+        play(alloc, &InMemory { asked_by }, way, lines).map_err(|at| Found { player, at })?;
+    }
+    Ok(count)
+}
+
+fn lines_of<'a>(alloc: Global, text: &'a str) -> Result<Vec<&'a str>, AllocError> {
+    text.lines().collect(alloc)
+}
+
+/// Plays a text. With a line that is stopped it is played twice.
+fn play_text(alloc: Global, lines: &[&str]) -> Result<Count, Found> {
+    let count = play_each(alloc, lines, false)?;
+    if lines.iter().any(|line| line.starts_with("crash")) {
+        play_each(alloc, lines, true)?;
+    }
+    Ok(count)
+}
+
+/// Plays a file, and prints its count or its fault. Returns whether it has none.
+fn play_file(rt: &HostRuntime, name: &str) -> Result<bool> {
+    let text = fs::read_to_string(rt, name)?;
+    let lines = lines_of(rt.alloc(), text.as_str())?;
+    match play_text(rt.alloc(), &lines) {
+        Ok(Count { clubs, lines }) => {
+            println!(rt; "{name}: {clubs} clubs, {lines} lines")?;
+            Ok(true)
+        }
+        Err(Found { player, at }) => {
+            println!(rt; "{name}:{}: by {player}: {}", at.line, at.fault)?;
+            Ok(false)
+        }
+    }
+}
+
+/// Prints whether each odd text is refused. Returns whether it is so.
+fn refuse_odd_texts(rt: &HostRuntime) -> Result<bool> {
+    match odd::first_played_of_all(rt.alloc())? {
+        None => {
+            println!(rt; "odd texts: refused")?;
+            Ok(true)
+        }
+        Some(text) => {
+            println!(rt; "odd texts: not refused at its line: {text:?}")?;
+            Ok(false)
+        }
+    }
+}
+
+fn main(rt: HostRuntime) -> Result<()> {
+    let mut faults = u32::from(!refuse_odd_texts(&rt)?);
+    for name in &names(&rt)? {
+        if !play_file(&rt, name.as_str())? {
+            faults = faults.saturating_add(1);
+        }
+    }
+    if faults > 0 {
+        return Err(anyhow!("{faults} faults"));
+    }
+    Ok(())
+}

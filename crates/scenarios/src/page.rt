@@ -1,0 +1,50 @@
+//! The lines of a file, and their columns.
+
+use std::alloc::{AllocError, Global};
+
+/// The spaces between two columns, at least.
+const GAP: &str = "  ";
+
+/// Words that begin a line, and that one space may separate from the next column.
+static WORDS: [&str; 11] = [
+    "club", "root", "text", "at", "bytes", "office", "sheet", "account", "slot", "crash", "reopen",
+];
+
+/// The lines that belong to the one above them, which are those that begin with spaces.
+pub(crate) fn below<'a>(lines: &'a [&'a str]) -> &'a [&'a str] {
+    let next = lines.iter().position(|line| !line.starts_with(' '));
+    &lines[..next.unwrap_or(lines.len())]
+}
+
+/// The word that a line begins with, if it is one of the language, and the rest.
+fn first_word(line: &str) -> Option<(&str, &str)> {
+    let (word, rest) = line.split_once(' ').unwrap_or((line, ""));
+    if WORDS.contains(&word) {
+        Some((word, rest))
+    } else {
+        None
+    }
+}
+
+fn push_columns<'a>(columns: &mut Vec<&'a str>, line: &'a str) -> Result<(), AllocError> {
+    for column in line.split(GAP) {
+        let column = column.trim_matches(' ');
+        if !column.is_empty() {
+            columns.push(column)?;
+        }
+    }
+    Ok(())
+}
+
+/// The columns of a line.
+pub(crate) fn columns_of<'a>(alloc: Global, line: &'a str) -> Result<Vec<&'a str>, AllocError> {
+    let mut columns = Vec::new(alloc);
+    match first_word(line) {
+        Some((word, rest)) => {
+            columns.push(word)?;
+            push_columns(&mut columns, rest)?;
+        }
+        None => push_columns(&mut columns, line)?,
+    }
+    Ok(columns)
+}

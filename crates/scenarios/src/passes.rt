@@ -1,0 +1,165 @@
+//! The passes that lines name.
+
+use crate::fault::Fault;
+use crate::known::{Known, name};
+use crate::text::{push_unescaped, repeated, unquoted};
+use club_gate::LOCATION;
+use club_http::{Name, Root};
+use pass_forms::{Form, Pass, PassParts, narrow};
+use pass_json::write_any;
+use std::alloc::Global;
+
+/// The part of a pass whose key the club doesn't have.
+const UNKNOWN: &str = "unknown";
+
+/// A pass to be made.
+#[derive(Drop)]
+struct Draft {
+    root: Root,
+    form: Form,
+    is_forged: bool,
+    identifier: Vec<u8>,
+    location: Vec<u8>,
+    caveats: Vec<Vec<u8>>,
+}
+
+/// A form by its name.
+pub(crate) fn form_named(text: &str) -> Option<Form> {
+    match text {
+        "v1" => Some(Form::V1),
+        "v2" => Some(Form::V2),
+        "json" => Some(Form::Json),
+        _ => None,
+    }
+}
+
+/// A text in place of another one.
+fn replace(text: &mut Vec<u8>, part: &str) -> Result<(), Fault> {
+    text.clear();
+    push_unescaped(text, unquoted(part))
+}
+
+/// Changes one bit of the last byte of a signature.
+fn forged(pass: Pass) -> Pass {
+    let PassParts {
+        location,
+        identifier,
+        caveats,
+        mut signature,
+    } = pass.into_parts();
+    signature[31] ^= 1;
+    Pass::new(location, identifier, caveats, signature)
+}
+
+impl Draft {
+    /// The pass of a key as the office makes it.
+    fn of_key(alloc: Global, key: &Name, root: &Root, form: Form) -> Result<Draft, Fault> {
+        let mut identifier = Vec::from_slice(alloc, b"key:")?;
+        identifier.extend_from_slice(key.as_bytes())?;
+        Ok(Draft {
+            root: *root,
+            form,
+            is_forged: false,
+            identifier,
+            location: Vec::from_slice(alloc, LOCATION)?,
+            caveats: Vec::new(alloc),
+        })
+    }
+
+    /// Adds a caveat as often as its text says.
+    fn add_caveats(&mut self, alloc: Global, part: &str) -> Result<(), Fault> {
+        let (count, text) = repeated(part);
+        for _ in 0..count {
+            let mut caveat = Vec::new(alloc);
+            push_unescaped(&mut caveat, unquoted(text))?;
+            self.caveats.push(caveat)?;
+        }
+        Ok(())
+    }
+
+    /// Changes the pass by a part of its bracket.
+    fn change(&mut self, alloc: Global, known: &Known, part: &str) -> Result<(), Fault> {
+        let (word, rest) = part.split_once(' ').unwrap_or((part, ""));
+        if let Some(form) = form_named(part) {
+            self.form = form;
+            return Ok(());
+        }
+        match word {
+            "forged" if rest.is_empty() => self.is_forged = true,
+            "under" => self.root = known.root(rest)?,
+            "identifier" => replace(&mut self.identifier, rest)?,
+            "location" => replace(&mut self.location, rest)?,
+            _ if part == UNKNOWN => {}
+            _ => self.add_caveats(alloc, part)?,
+        }
+        Ok(())
+    }
+
+    /// The pass.
+    fn pass(&self, alloc: Global) -> Result<Pass, Fault> {
+        let root = self.root.as_bytes();
+        let mut pass = Pass::mint(alloc, root, &self.location, &self.identifier)?;
+        for caveat in &self.caveats {
+            narrow(alloc, &mut pass, caveat)?;
+        }
+        Ok(if self.is_forged { forged(pass) } else { pass })
+    }
+}
+
+/// The text of the key that a holder names, and the parts of its bracket.
+fn key_and_parts(holder: &str) -> Result<(&str, &str), Fault> {
+    match holder.split_once(" [") {
+        None => Ok((holder, "")),
+        Some((key, rest)) => match rest.strip_suffix(']') {
+            Some(parts) => Ok((key, parts)),
+            None => Err(Fault::Rule("a bracket has an end")),
+        },
+    }
+}
+
+/// The root of a key. A key that the club hasn't has the first root, and a part that says so.
+fn root_of(known: &Known, key: &Name, parts: &str) -> Result<Root, Fault> {
+    let is_unknown = parts.split("; ").any(|part| part == UNKNOWN);
+    match known.root_of_key(key) {
+        Some(root) if !is_unknown => Ok(root),
+        None if is_unknown => known.root("first"),
+        Some(_) => Err(Fault::Rule("the key is known")),
+        None => Err(Fault::Rule("the key is unknown")),
+    }
+}
+
+/// Adds the text of a holder's pass to bytes: `KEY [PART; PART]`, in this form if no part names
+/// one, or `text NAME`.
+pub(crate) fn push_pass(
+    bytes: &mut Vec<u8>,
+    known: &Known,
+    holder: &str,
+    form: Form,
+) -> Result<(), Fault> {
+    if let Some(text) = holder.strip_prefix("text ") {
+        return Ok(bytes.extend_from_slice(known.text(&name(text)?)?)?);
+    }
+    let alloc = *bytes.allocator();
+    let (key, parts) = key_and_parts(holder)?;
+    let key = name(key)?;
+    let root = root_of(known, &key, parts)?;
+    let mut draft = Draft::of_key(alloc, &key, &root, form)?;
+    for part in parts.split("; ") {
+        if !parts.is_empty() {
+            draft.change(alloc, known, part)?;
+        }
+    }
+    let text = write_any(alloc, draft.form, &draft.pass(alloc)?)?;
+    Ok(bytes.extend_from_slice(text.as_bytes())?)
+}
+
+/// The text of a key's pass as the office makes it.
+pub(crate) fn office_pass(
+    alloc: Global,
+    key: &Name,
+    root: &Root,
+    form: Form,
+) -> Result<String, Fault> {
+    let draft = Draft::of_key(alloc, key, root, form)?;
+    Ok(write_any(alloc, form, &draft.pass(alloc)?)?)
+}

@@ -1,0 +1,36 @@
+//! What plays a scenario.
+
+use crate::fault::Fault;
+use club_gate::OfficeReply;
+use club_http::{Command, Day, Moment, Name, Slot};
+use std::alloc::Global;
+
+/// A club, and what answers for it.
+pub(crate) trait Player {
+    /// The bytes of the reply to the bytes of a request.
+    fn reply(&mut self, moment: Moment, request: &[u8]) -> Result<String, Fault>;
+
+    fn command(&mut self, command: &Command) -> Result<OfficeReply, Fault>;
+
+    /// The sheet of a day.
+    fn sheet(&mut self, day: Day) -> Result<String, Fault>;
+
+    /// The lines of a key's account; `None` if there is no such key.
+    fn account(&mut self, key: &Name, moment: Moment) -> Result<Option<String>, Fault>;
+
+    /// The lines of a slot; `None` if there is no such facility.
+    fn slot(&mut self, slot: &Slot) -> Result<Option<String>, Fault>;
+
+    /// The player after its tables were closed and opened again, maybe as those of an older
+    /// program.
+    fn reopened(self, as_version_1: bool) -> Result<Self, Fault>;
+}
+
+/// Makes players, each with an empty club.
+pub(crate) trait Maker {
+    /// What it makes. Users state that this is a `Player + Drop`: with the bound here, Rattle
+    /// fails to check the impl for `InMemory`, whose player is generic.
+    type Made;
+
+    fn make(&self, alloc: Global) -> Result<Self::Made, Fault>;
+}

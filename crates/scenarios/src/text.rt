@@ -1,0 +1,117 @@
+//! Texts with escapes, and numbers.
+
+use crate::fault::Fault;
+
+const NO_ESCAPE: &str = "no escape";
+
+/// The part of an escape that was read.
+#[derive(Clone, Copy)]
+enum Escape {
+    /// No escape has begun.
+    None,
+    /// A backslash came.
+    Begun,
+    /// `\x` came.
+    Hex,
+    /// `\x` and the first digit came.
+    Digit(u8),
+}
+
+fn digit(byte: u8) -> Result<u8, Fault> {
+    match byte {
+        b'0'..=b'9' => Ok(byte - b'0'),
+        b'a'..=b'f' => Ok(byte - b'a' + 10),
+        _ => Err(Fault::Rule(NO_ESCAPE)),
+    }
+}
+
+/// The byte that a letter after a backslash stands for.
+fn simple(letter: u8) -> Result<u8, Fault> {
+    match letter {
+        b'r' => Ok(b'\r'),
+        b'n' => Ok(b'\n'),
+        b't' => Ok(b'\t'),
+        b'\\' => Ok(b'\\'),
+        _ => Err(Fault::Rule(NO_ESCAPE)),
+    }
+}
+
+/// Reads a byte. Returns the part of an escape that was read, and the byte that is complete.
+fn step(state: Escape, byte: u8) -> Result<(Escape, Option<u8>), Fault> {
+    match state {
+        Escape::None if byte == b'\\' => Ok((Escape::Begun, None)),
+        Escape::None => Ok((Escape::None, Some(byte))),
+        Escape::Begun if byte == b'x' => Ok((Escape::Hex, None)),
+        Escape::Begun => Ok((Escape::None, Some(simple(byte)?))),
+        Escape::Hex => Ok((Escape::Digit(digit(byte)?), None)),
+        Escape::Digit(first) => {
+            let byte = first.wrapping_mul(16).wrapping_add(digit(byte)?);
+            Ok((Escape::None, Some(byte)))
+        }
+    }
+}
+
+/// Adds a text to bytes, with its escapes replaced.
+pub(crate) fn push_unescaped(bytes: &mut Vec<u8>, text: &str) -> Result<(), Fault> {
+    let mut state = Escape::None;
+    for byte in text.as_bytes() {
+        let (next, meant) = step(state, *byte)?;
+        state = next;
+        if let Some(meant) = meant {
+            bytes.push(meant)?;
+        }
+    }
+    match state {
+        Escape::None => Ok(()),
+        _ => Err(Fault::Rule(NO_ESCAPE)),
+    }
+}
+
+/// A number of at most nine digits.
+pub(crate) fn number(text: &str) -> Result<u32, Fault> {
+    let is_number = text.len() < 10 && text.as_bytes().iter().all(|byte| byte.is_ascii_digit());
+    match text.parse::<u32>() {
+        Ok(number) if is_number => Ok(number),
+        _ => Err(Fault::Rule("no number")),
+    }
+}
+
+/// Returns a count and a text: `64 times TEXT`, or `TEXT` once.
+pub(crate) fn repeated(text: &str) -> (u32, &str) {
+    let Some((count, what)) = text.split_once(" times ") else {
+        return (1, text);
+    };
+    match number(count) {
+        Ok(count) if !what.is_empty() => (count, what),
+        _ => (1, text),
+    }
+}
+
+/// Adds a text to bytes as often as it says, with its escapes replaced.
+pub(crate) fn push_repeated(bytes: &mut Vec<u8>, text: &str) -> Result<(), Fault> {
+    let (count, what) = repeated(text);
+    for _ in 0..count {
+        push_unescaped(bytes, what)?;
+    }
+    Ok(())
+}
+
+/// A text without the double quotes round it, if it has them.
+pub(crate) fn unquoted(text: &str) -> &str {
+    match text.strip_prefix('"') {
+        Some(rest) => rest.strip_suffix('"').unwrap_or(text),
+        None => text,
+    }
+}
+
+/// The part of a text before a delimiter, and the part after it.
+pub(crate) fn halves<'a>(
+    text: &'a str,
+    delimiter: char,
+    rule: &'static str,
+) -> Result<(&'a str, &'a str), Fault> {
+    match text.split_once(delimiter) {
+        Some(halves) => Ok(halves),
+        None => Err(Fault::Rule(rule)),
+    }
+}
