@@ -26,11 +26,13 @@ FOLDER = "."
 WORDS = {
     "add-member": ([FOLDER, "amy", "5"], ["", "Amy", "5x"]),
     "credit": ([FOLDER, "amy", "10000"], ["", "amy!", "1.0"]),
+    "set-quota": ([FOLDER, "amy", "5"], ["", "amy!", "5x"]),
     "add-facility": ([FOLDER, "court-1", "court", "4", "200", "8", "22"], ["", "court 1", "Court", "x", "+1", "", "1000000000"]),
     "add-key": ([FOLDER, "amy-1", "amy", KEY_ROOT], ["", "K", "BOB", "0g"]),
     "revoke-key": ([FOLDER, "amy-1"], ["", "amy_1"]),
     "rotate-key": ([FOLDER, "amy-1", KEY_ROOT, "2026-05-01T00:00"], ["", "K", "00", "never"]),
     "close-slot": ([FOLDER, "court-1", "2026-05-01", "18"], ["", "Court", "2026-02-29", "24"]),
+    "open-slot": ([FOLDER, "court-1", "2026-05-01", "18"], ["", "Court", "2026-02-29", "24"]),
     "sheet": ([FOLDER, "2026-05-01"], ["", "1999-12-31"]),
     "serve": ([FOLDER], [""]),
     "show-account": ([FOLDER, "amy-1"], ["", "Amy-1"]),

@@ -66,11 +66,14 @@ class World(Both):
 
     def words_of_command(self):
         draw = self.draw
-        kind = draw.choice(("add-member", "credit", "credit", "add-facility", "add-key", "add-key", "revoke-key", "rotate-key", "close-slot"))
+        kind = draw.choice(("add-member", "credit", "credit", "add-facility", "add-key", "add-key", "revoke-key", "rotate-key", "close-slot",
+                            "open-slot", "set-quota"))
         if kind == "add-member":
             return kind, draw.choice(MEMBERS), draw.choice((0, 1, 3, 99, 99, 100))
         if kind == "credit":
             return kind, draw.choice(MEMBERS), draw.choice((0, 1, 600, 49_999, 1_000_000, 1_000_001))
+        if kind == "set-quota":
+            return kind, draw.choice(MEMBERS), draw.choice((0, 1, 3, 99, 100))
         if kind == "add-facility":
             opens, shuts = draw.choice(((8, 22), (0, 24), (18, 19), (9, 9), (0, 25)))
             return (kind, draw.choice(FACILITIES), draw.choice(caveats.KINDS), draw.choice((0, 1, 4, 50, 51)),

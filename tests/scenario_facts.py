@@ -195,6 +195,10 @@ def command_state(club, words):
         return values[0] in club.members, values[1]
     if name == "credit":
         return values[0] in club.members and club.members[values[0]].credited, values[1]
+    if name == "set-quota":
+        return values[0] in club.members, values[1]
+    if name == "open-slot":
+        return values[0] in club.facilities, tuple(values) in club.closed
     if name == "add-facility":
         return values[0] in club.facilities, *values[2:6]
     if name == "add-key":

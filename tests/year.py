@@ -109,6 +109,10 @@ class Year(Both):
             self.give(("revoke-key", draw.choice(list(self.passes))))
         if draw.random() < 0.2:
             self.give(("close-slot", draw.choice(FACILITIES)[0], moment // 1440 + draw.randrange(20), draw.randrange(24)))
+        if draw.random() < 0.1 and self.club.closed:
+            self.give(("open-slot", *draw.choice(sorted(self.club.closed))))
+        if draw.random() < 0.05:
+            self.give(("set-quota", draw.choice(MEMBERS), draw.choice((0, 3, 5, 99, 100))))
         if draw.random() < 0.1:
             self.give_and_kill(("add-key", f"k{self.next_key}", draw.choice(MEMBERS), draw.randbytes(16)))
 

@@ -225,6 +225,11 @@ class Club:
         refuse_if("out of range", self.members[member].credited + points > MOST_POINTS)
         self.members[member].credited += points
 
+    def command_set_quota(self, member, quota):
+        refuse_if("out of range", quota > 99)
+        refuse_if("unknown", member not in self.members)
+        self.members[member].quota = quota
+
     def command_add_facility(self, name, kind, places, price, opens, shuts):
         refuse_if("out of range", not (1 <= places <= 50 and price <= 9999 and opens < shuts <= 24))
         refuse_if("exists", name in self.facilities)
@@ -253,6 +258,10 @@ class Club:
         refuse_if("exists", slot in self.closed)
         refuse_if("slot in use", self.taken(slot) > 0)
         self.closed.add(slot)
+
+    def command_open_slot(self, *slot):
+        refuse_if("unknown", slot[0] not in self.facilities)
+        self.closed.discard(slot)
 
     def sheet(self, day):
         """The rows of a day sheet: facility, hour, key, number, persons and charge."""

@@ -1,13 +1,15 @@
 -- The club after a change (ours).
-use Rattle.std.specs.Prelude.{ℕ, ◌+◌, ◌==◌, ◌&&◌, ◌||◌, not, Bool, List, [], ◌∷◌, ◌++◌, map, Some, if◌then◌else◌}
+use Rattle.std.specs.Prelude.{ℕ, ◌+◌, ◌==◌, ◌&&◌, ◌||◌, not, Bool, List, [], ◌∷◌, ◌++◌, map, filter, Some, if◌then◌else◌}
 use Rattle.std.specs.Str.{bytes_eq}
+use Rattle.club_values.specs.declared.slot.Slot.{Slot}
 use Rattle.club_rows.specs.declared.member.Member.{Member}
 use Rattle.club_rows.specs.declared.key.Key.{Key}
 use Rattle.club_rows.specs.declared.key.OlderRoot.{OlderRoot}
 use Rattle.club_rows.specs.declared.booking.Booking.{Booking}
+use Rattle.club_rows.specs.Booking.{same_slot}
 use Rattle.club_core.specs.declared.change.Change.{Change}
 use Rattle.club_core.specs.declared.change.Change.TheVariants.{InsertMember, AddCredit, InsertFacility, InsertKey, MarkRevoked, ReplaceRoot, MarkClosed}
-use Rattle.club_core.specs.declared.change.Change.TheVariants.{InsertBooking, MarkCancelled}
+use Rattle.club_core.specs.declared.change.Change.TheVariants.{MarkOpen, ReplaceQuota, InsertBooking, MarkCancelled}
 use Rattle.club_core.specs.Club.{Club}
 use Rattle.club_core.specs.Sums.{is_under}
 
@@ -15,6 +17,10 @@ use Rattle.club_core.specs.Sums.{is_under}
 abbrev pub credited_member : List ℕ → ℕ → Member → Member
 credited_member name points member =
     record member { credited = if bytes_eq member.name name then member.credited + points else member.credited }
+
+-- a member's row after another quota for a member of this name
+abbrev pub member_with_quota : List ℕ → ℕ → Member → Member
+member_with_quota name quota member = record member { quota = if bytes_eq member.name name then quota else member.quota }
 
 -- a key's row after the key of this name was revoked
 abbrev pub revoked_key : List ℕ → Key → Key
@@ -41,14 +47,20 @@ cancelled_booking key number refund booking = record booking {
   refund = if is_marked key number booking then refund else booking.refund;
 }
 
--- one row more, the last; or the rows that the change names are changed
+-- the closed slots without this one
+abbrev pub closed_but : Slot → List Slot → List Slot
+closed_but slot closed = filter (λ (other : Slot). not (same_slot other slot)) closed
+
+-- one row more, the last; one row fewer; or the rows that the change names are changed
 abbrev pub after : Change → Club → Club
 after (InsertMember member) club = record club { members = club.members ++ member ∷ [] }
 after (AddCredit name points) club = record club { members = map (credited_member name points) club.members }
+after (ReplaceQuota name quota) club = record club { members = map (member_with_quota name quota) club.members }
 after (InsertFacility facility) club = record club { facilities = club.facilities ++ facility ∷ [] }
 after (InsertKey key) club = record club { keys = club.keys ++ key ∷ [] }
 after (MarkRevoked name) club = record club { keys = map (revoked_key name) club.keys }
 after (ReplaceRoot name former root until) club = record club { keys = map (rotated_key name root until) club.keys }
 after (MarkClosed slot) club = record club { closed = club.closed ++ slot ∷ [] }
+after (MarkOpen slot) club = record club { closed = closed_but slot club.closed }
 after (InsertBooking booking member) club = record club { bookings = club.bookings ++ booking ∷ [] }
 after (MarkCancelled booking member refund) club = record club { bookings = map (cancelled_booking booking.key booking.number refund) club.bookings }

@@ -6,7 +6,7 @@ use Rattle.club_rows.specs.Rows.{IsSlot}
 use Rattle.club_core.specs.declared.request.Request.{Request}
 use Rattle.club_core.specs.declared.request.Request.TheVariants as asked
 use Rattle.club_core.specs.declared.command.Command.{Command}
-use Rattle.club_core.specs.declared.command.Command.TheVariants.{AddMember, Credit, AddFacility, AddKey, RevokeKey, RotateKey, CloseSlot}
+use Rattle.club_core.specs.declared.command.Command.TheVariants.{AddMember, Credit, AddFacility, AddKey, RevokeKey, RotateKey, CloseSlot, OpenSlot, SetQuota}
 use Rattle.club_core.specs.Run.{Event, Asked, Commanded}
 
 abbrev pub IsRequest : Request → Type 0
@@ -19,11 +19,13 @@ IsRequest asked.Account = Unit {0}
 abbrev pub IsCommand : Command → Type 0
 IsCommand (AddMember name quota) = IsName name
 IsCommand (Credit member points) = IsName member
+IsCommand (SetQuota member quota) = IsName member
 IsCommand (AddFacility name kind places price opens shuts) = IsName name
 IsCommand (AddKey name member root) = IsName name × IsName member × IsRoot root
 IsCommand (RevokeKey name) = IsName name
 IsCommand (RotateKey name root until) = IsName name × IsRoot root × IsMoment until
 IsCommand (CloseSlot slot) = IsSlot slot
+IsCommand (OpenSlot slot) = IsSlot slot
 
 -- each value of the event is within its limits; the moment of a request may be any
 abbrev pub IsEvent : Event → Type 0

@@ -4,8 +4,8 @@ use Rattle.club_values.specs.declared.kind.Kind.TheVariants.{Court}
 use Rattle.club_values.specs.declared.slot.Slot.{Slot}
 use Rattle.pass_caveats.specs.declared.caveat.Caveat.{Caveat}
 use Rattle.pass_caveats.specs.declared.caveat.Caveat.TheVariants.{Spend}
-use Rattle.club_core.specs.declared.command.Command.TheVariants.{AddMember, Credit, AddFacility, AddKey, CloseSlot}
-use Rattle.club_core.specs.declared.command.OfficeFault.TheVariants.{Exists, SlotInUse}
+use Rattle.club_core.specs.declared.command.Command.TheVariants.{AddMember, Credit, AddFacility, AddKey, CloseSlot, OpenSlot, SetQuota}
+use Rattle.club_core.specs.declared.command.OfficeFault.TheVariants.{Exists, Unknown, OutOfRange, SlotInUse}
 use Rattle.club_core.specs.declared.refusal.Refusal.TheVariants as refusals
 use Rattle.club_core.specs.declared.reply.Reply.TheVariants.{Booked, Cancelled, AccountShown, Refused}
 use Rattle.club_core.specs.declared.request.Request.{Request}
@@ -93,6 +93,54 @@ ClosesASlot =
     ∷ ToOffice Done
     ∷ ToOffice (NotDone Exists)
     ∷ ToMember (Refused refusals.SlotClosed)
+    ∷ []
+
+-- a closed slot can be opened, and booked again; opening an open one changes nothing, and a slot of an unknown facility can't be opened
+abbrev pub OpensASlot : Type 0
+OpensASlot =
+    replies_of opened_club
+    (Commanded (CloseSlot (slot_at 18))
+    ∷ Commanded (CloseSlot (slot_at 19))
+    ∷ Commanded (OpenSlot (slot_at 18))
+    ∷ ask (asked.Book (slot_at 18) 7 2) noon
+    ∷ Commanded (OpenSlot (slot_at 18))
+    ∷ ask (asked.Book (slot_at 18) 8 0) noon
+    ∷ ask (asked.Book (slot_at 19) 9 0) noon
+    ∷ Commanded (OpenSlot (record (slot_at 18) { facility = codes "court-2" }))
+    ∷ [])
+    ≡ ToOffice Done
+    ∷ ToOffice Done
+    ∷ ToOffice Done
+    ∷ served_booking 7 600 1
+    ∷ ToOffice Done
+    ∷ served_booking 8 200 0
+    ∷ ToMember (Refused refusals.SlotClosed)
+    ∷ ToOffice (NotDone Unknown)
+    ∷ []
+
+-- another quota holds for the next booking, and bookings above it stay
+abbrev pub SetsAQuota : Type 0
+SetsAQuota =
+    replies_of opened_club
+    (ask (asked.Book (slot_at 18) 7 0) noon
+    ∷ ask (asked.Book (slot_at 19) 8 0) noon
+    ∷ Commanded (SetQuota (codes "amy") 1)
+    ∷ ask asked.Account noon
+    ∷ ask (asked.Book (slot_at 20) 9 0) noon
+    ∷ Commanded (SetQuota (codes "amy") 3)
+    ∷ ask (asked.Book (slot_at 20) 9 0) noon
+    ∷ Commanded (SetQuota (codes "amy") 100)
+    ∷ Commanded (SetQuota (codes "bob") 1)
+    ∷ [])
+    ≡ served_booking 7 200 3
+    ∷ served_booking 8 200 3
+    ∷ ToOffice Done
+    ∷ ToMember (AccountShown (codes "amy") 9_600 1 2 400)
+    ∷ ToMember (Refused refusals.QuotaReached)
+    ∷ ToOffice Done
+    ∷ served_booking 9 200 3
+    ∷ ToOffice (NotDone OutOfRange)
+    ∷ ToOffice (NotDone Unknown)
     ∷ []
 
 -- a pass that may spend 600 points may spend them again after a refund

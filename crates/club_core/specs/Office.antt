@@ -9,8 +9,9 @@ use Rattle.club_rows.specs.Facility.{is_open_at}
 use Rattle.club_rows.specs.Limits.{credited_limit, quota_limit, places_limit, price_limit, shutting_limit}
 use Rattle.club_core.specs.declared.change.Change.{Change}
 use Rattle.club_core.specs.declared.change.Change.TheVariants.{InsertMember, AddCredit, InsertFacility, InsertKey, MarkRevoked, ReplaceRoot, MarkClosed}
+use Rattle.club_core.specs.declared.change.Change.TheVariants.{MarkOpen, ReplaceQuota}
 use Rattle.club_core.specs.declared.command.Command.{Command}
-use Rattle.club_core.specs.declared.command.Command.TheVariants.{AddMember, Credit, AddFacility, AddKey, RevokeKey, RotateKey, CloseSlot}
+use Rattle.club_core.specs.declared.command.Command.TheVariants.{AddMember, Credit, AddFacility, AddKey, RevokeKey, RotateKey, CloseSlot, OpenSlot, SetQuota}
 use Rattle.club_core.specs.declared.command.OfficeFault.{OfficeFault}
 use Rattle.club_core.specs.declared.command.OfficeFault.TheVariants.{Exists, Unknown, OutOfRange, SlotInUse}
 use Rattle.club_core.specs.declared.command_view.CommandView.{CommandView}
@@ -28,12 +29,14 @@ rows_seen member key facility =
 abbrev pub command_view : Club → Command → CommandView
 command_view club (AddMember name quota) = rows_seen (member_named name club) None None
 command_view club (Credit name points) = rows_seen (member_named name club) None None
+command_view club (SetQuota name quota) = rows_seen (member_named name club) None None
 command_view club (AddFacility name kind places price opens shuts) = rows_seen None None (facility_named name club)
 command_view club (AddKey name member root) = rows_seen (member_named member club) (key_named name club) None
 command_view club (RevokeKey name) = rows_seen None (key_named name club) None
 command_view club (RotateKey name root until) = rows_seen None (key_named name club) None
 command_view club (CloseSlot slot) =
     record { member = None; key = None; facility = facility_named slot.facility club; slot = slot_use club slot }
+command_view club (OpenSlot slot) = rows_seen None None (facility_named slot.facility club)
 
 -- the most points of one credit
 abbrev pub points_limit : ℕ
@@ -74,6 +77,10 @@ command_verdict view (Credit name points) =
     first_of
     (line_if (points == 0 || nat_lt points_limit points) (Err OutOfRange) ∷ [])
     (credit_verdict name points view.member)
+command_verdict view (SetQuota name quota) =
+    first_of
+    (line_if (nat_lt quota_limit quota) (Err OutOfRange) ∷ line_if (not (is_some view.member)) (Err Unknown) ∷ [])
+    (Ok (ReplaceQuota name quota))
 command_verdict view (AddFacility name kind places price opens shuts) =
     first_of
     (line_if (not (are_limits places price opens shuts)) (Err OutOfRange) ∷ line_if (is_some view.facility) (Err Exists) ∷ [])
@@ -85,6 +92,7 @@ command_verdict view (AddKey name member root) =
 command_verdict view (RevokeKey name) = first_of (line_if (not (is_some view.key)) (Err Unknown) ∷ []) (Ok (MarkRevoked name))
 command_verdict view (RotateKey name root until) = rotate_verdict name root until view.key
 command_verdict view (CloseSlot slot) = close_verdict view.slot slot view.facility
+command_verdict view (OpenSlot slot) = first_of (line_if (not (is_some view.facility)) (Err Unknown) ∷ []) (Ok (MarkOpen slot))
 
 -- the same in a club
 abbrev pub office_verdict : Club → Command → Result Change OfficeFault

@@ -3,7 +3,7 @@ use Rattle.std.specs.Prelude.{ℕ, List, [], ◌∷◌, Option, Some, None, Resu
 use Rattle.club_core.specs.declared.verdict.Verdict.{Verdict}
 use Rattle.club_core.specs.declared.change.Change.{Change}
 use Rattle.club_core.specs.declared.command.Command.{Command}
-use Rattle.club_core.specs.declared.command.Command.TheVariants.{AddMember, Credit, AddFacility, AddKey, RevokeKey, RotateKey, CloseSlot}
+use Rattle.club_core.specs.declared.command.Command.TheVariants.{AddMember, Credit, AddFacility, AddKey, RevokeKey, RotateKey, CloseSlot, OpenSlot, SetQuota}
 use Rattle.club_core.specs.declared.command.OfficeFault.{OfficeFault}
 use Rattle.club_core.specs.declared.command.OfficeAnswer.{OfficeAnswer}
 use Rattle.club_core.specs.declared.command.OfficeAnswer.TheVariants.{Done, NewKey, NotDone}
@@ -42,11 +42,13 @@ after_change (Some change) club = after change club
 abbrev pub done_answer : Command → OfficeAnswer
 done_answer (AddMember name quota) = Done
 done_answer (Credit member points) = Done
+done_answer (SetQuota member quota) = Done
 done_answer (AddFacility name kind places price opens shuts) = Done
 done_answer (AddKey name member root) = NewKey name root
 done_answer (RevokeKey name) = Done
 done_answer (RotateKey name root until) = NewKey name root
 done_answer (CloseSlot slot) = Done
+done_answer (OpenSlot slot) = Done
 
 -- a refused command leaves the club unchanged
 abbrev pub command_outcome : Club → Command → Result Change OfficeFault → Outcome

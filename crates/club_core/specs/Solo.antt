@@ -8,7 +8,7 @@ use Rattle.club_core.specs.declared.reply.Reply.{Reply}
 use Rattle.club_core.specs.declared.verdict.Verdict.{Verdict}
 use Rattle.club_core.specs.declared.change.Change.{Change}
 use Rattle.club_core.specs.declared.change.Change.TheVariants.{InsertMember, AddCredit, InsertFacility, InsertKey, MarkRevoked, ReplaceRoot, MarkClosed}
-use Rattle.club_core.specs.declared.change.Change.TheVariants.{InsertBooking, MarkCancelled}
+use Rattle.club_core.specs.declared.change.Change.TheVariants.{MarkOpen, ReplaceQuota, InsertBooking, MarkCancelled}
 use Rattle.club_core.specs.declared.command.OfficeFault.{OfficeFault}
 use Rattle.club_core.specs.declared.slot_use.SlotUse.{SlotUse}
 use Rattle.club_core.specs.Pass.{Words}
@@ -32,15 +32,17 @@ pub data OwnEvent : Type 0 where
   OwnAsk : (words : Words) (moment : ℕ) (others : SlotUse) → OwnEvent
   OwnChange : (change : Change) → OwnEvent
 
--- whether a command changes the member's part: the member, its credit and keys, and each new facility
+-- whether a command changes the member's part: the member, its credit, quota and keys, and each new facility
 abbrev pub is_own : List ℕ → Club → Change → Bool
 is_own name club (InsertMember member) = bytes_eq member.name name
 is_own name club (AddCredit member points) = bytes_eq member name
+is_own name club (ReplaceQuota member quota) = bytes_eq member name
 is_own name club (InsertFacility facility) = true
 is_own name club (InsertKey key) = bytes_eq key.member name
 is_own name club (MarkRevoked key) = is_key_of name club key
 is_own name club (ReplaceRoot key former root until) = is_key_of name club key
 is_own name club (MarkClosed slot) = false
+is_own name club (MarkOpen slot) = false
 is_own name club (InsertBooking booking member) = false
 is_own name club (MarkCancelled booking member refund) = false
 

@@ -2,17 +2,23 @@
 use Rattle.std.specs.Prelude.{◌≡◌, ℕ, false, List, [], ◌∷◌, Option, Some, None, Result, IfOk, MatchResult}
 use Rattle.club_rows.specs.declared.key.Key.{Key}
 use Rattle.club_rows.specs.declared.member.Member.{Member}
+use Rattle.club_rows.specs.declared.facility.Facility.{Facility}
 use Rattle.club_rows.specs.declared.booking.Booking.{Booking}
 use Rattle.club_core.specs.declared.change.Change.{Change}
-use Rattle.club_core.specs.declared.change.Change.TheVariants.{AddCredit, InsertKey, MarkRevoked, ReplaceRoot, InsertBooking, MarkCancelled}
+use Rattle.club_core.specs.declared.change.Change.TheVariants.{AddCredit, InsertKey, MarkRevoked, ReplaceRoot, MarkOpen, ReplaceQuota}
+use Rattle.club_core.specs.declared.change.Change.TheVariants.{InsertBooking, MarkCancelled}
 use Rattle.club_core.specs.declared.store.StoreFault.{StoreFault}
 use Rattle.club_core.specs.After.{after}
-use Rattle.club_core.specs.Club.{Club, IsSound, key_named, member_named}
+use Rattle.club_core.specs.Club.{Club, IsSound, key_named, member_named, facility_named}
 use Rattle.club_core.specs.Sums.{booking_under}
 
 -- there is a member of this name
 abbrev pub HasMember : List ℕ → Club → Type 0
 HasMember name club = (row : Member) × (member_named name club ≡ Some row)
+
+-- there is a facility of this name
+abbrev pub HasFacility : List ℕ → Club → Type 0
+HasFacility name club = (row : Facility) × (facility_named name club ≡ Some row)
 
 -- there is a key of this name
 abbrev pub HasKey : List ℕ → Club → Type 0
@@ -30,13 +36,16 @@ HasRoot key root club = (row : Key) × (key_named key club ≡ Some row) × (row
 abbrev pub IsToCancel : Booking → Club → Type 0
 IsToCancel booking club = (booking_under booking.key booking.number club.bookings ≡ Some booking) × (booking.cancelled ≡ false)
 
--- what a change says of the club's rows is true: the member or the key that it names is there, a new key has no older root, the former root is the
--- key's, the member is that of the booking's key, and the booking to be cancelled is on record as it is given
+-- what a change says of the club's rows is true: the member or the key that it names is there, the facility of a slot that is opened is there,
+-- a new key has no older root, the former root is the key's, the member is that of the booking's key, and the booking to be cancelled is on record as it is
+-- given
 abbrev pub IsTrueOf : Change → Club → Type 0
 IsTrueOf (AddCredit name points) club = HasMember name club
+IsTrueOf (ReplaceQuota name quota) club = HasMember name club
 IsTrueOf (InsertKey key) club = key.older ≡ None
 IsTrueOf (MarkRevoked name) club = HasKey name club
 IsTrueOf (ReplaceRoot key former root until) club = HasRoot key former club
+IsTrueOf (MarkOpen slot) club = HasFacility slot.facility club
 IsTrueOf (InsertBooking booking member) club = IsOwnedBy member booking.key club
 IsTrueOf (MarkCancelled booking member refund) club = IsToCancel booking club × IsOwnedBy member booking.key club
 IsTrueOf change club = Unit {0}

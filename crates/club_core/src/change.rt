@@ -12,6 +12,11 @@ pub enum Change {
         member: Name,
         points: u32,
     },
+    /// Gives a member another quota.
+    ReplaceQuota {
+        member: Name,
+        quota: u8,
+    },
     InsertFacility(Facility),
     InsertKey(Key),
     MarkRevoked {
@@ -26,6 +31,8 @@ pub enum Change {
         until: Moment,
     },
     MarkClosed(Slot),
+    /// Marks a slot of a facility that is there open, if it is closed.
+    MarkOpen(Slot),
     /// Inserts a booking under a key of the member.
     InsertBooking {
         booking: Booking,

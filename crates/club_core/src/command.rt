@@ -22,6 +22,11 @@ pub enum Command {
         member: Name,
         points: u32,
     },
+    /// Another quota for a member. Its open bookings stay, also those above the quota.
+    SetQuota {
+        member: Name,
+        quota: u32,
+    },
     AddFacility {
         name: Name,
         kind: Kind,
@@ -46,6 +51,8 @@ pub enum Command {
         until: Moment,
     },
     CloseSlot(Slot),
+    /// Opens a slot that was closed. An open one stays as it is.
+    OpenSlot(Slot),
 }
 
 /// Why a command of the office is refused.
@@ -89,6 +96,7 @@ impl Command {
         match self {
             Command::AddMember { name, .. }
             | Command::Credit { member: name, .. }
+            | Command::SetQuota { member: name, .. }
             | Command::AddFacility { name, .. }
             | Command::RevokeKey { name } => {
                 let _name = name.as_bytes();
@@ -103,7 +111,7 @@ impl Command {
                 let _root = root.as_bytes();
                 let _until = until.number();
             }
-            Command::CloseSlot(slot) => slot_within(slot),
+            Command::CloseSlot(slot) | Command::OpenSlot(slot) => slot_within(slot),
         }
     }
 }

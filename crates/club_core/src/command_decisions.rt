@@ -1,6 +1,7 @@
 //! Decides the commands of the office by their views. The first line that fits refuses the command.
 
-ghost use Rattle.std.specs.Prelude.{◌≡◌};
+ghost use Rattle.std.specs.Prelude.{◌≡◌, not, nat_lt};
+ghost use Rattle.club_rows.specs.Limits.{quota_limit};
 ghost use Rattle.club_core.specs.declared.command.Command.TheVariants as commands;
 ghost use Rattle.club_core.specs.Office.{are_limits, command_verdict};
 
@@ -12,10 +13,17 @@ use club_rows::{
 };
 use club_values::{Kind, Moment, Name, Slot};
 
+/// Whether the number is within the limit of a quota.
+fn is_quota(quota: u32) -> bool
+    ensures { result ≡ not (nat_lt quota_limit quota) }
+{
+    quota <= MAX_QUOTA
+}
+
 fn add_member(view: &CommandView, name: &Name, quota: u32) -> Result<Change, OfficeFault>
     ensures { result ≡ command_verdict view.now (commands.AddMember name.now quota) }
 {
-    if quota > MAX_QUOTA {
+    if !is_quota(quota) {
         return Err(OfficeFault::OutOfRange);
     }
     if view.member.is_some() {
@@ -43,6 +51,21 @@ fn credit(view: &CommandView, name: &Name, points: u32) -> Result<Change, Office
     Ok(Change::AddCredit {
         member: *name,
         points,
+    })
+}
+
+fn set_quota(view: &CommandView, name: &Name, quota: u32) -> Result<Change, OfficeFault>
+    ensures { result ≡ command_verdict view.now (commands.SetQuota name.now quota) }
+{
+    if !is_quota(quota) {
+        return Err(OfficeFault::OutOfRange);
+    }
+    if view.member.is_none() {
+        return Err(OfficeFault::Unknown);
+    }
+    Ok(Change::ReplaceQuota {
+        member: *name,
+        quota: quota as u8,
     })
 }
 
@@ -153,6 +176,15 @@ fn close_slot(view: &CommandView, slot: &Slot) -> Result<Change, OfficeFault>
     Ok(Change::MarkClosed(*slot))
 }
 
+fn open_slot(view: &CommandView, slot: &Slot) -> Result<Change, OfficeFault>
+    ensures { result ≡ command_verdict view.now (commands.OpenSlot slot.now) }
+{
+    if view.facility.is_none() {
+        return Err(OfficeFault::Unknown);
+    }
+    Ok(Change::MarkOpen(*slot))
+}
+
 /// The change that a command makes, by its view.
 ///
 /// # Errors
@@ -167,6 +199,7 @@ pub fn decide_command(view: &CommandView, command: &Command) -> Result<Change, O
     match command {
         Command::AddMember { name, quota } => add_member(view, name, *quota),
         Command::Credit { member, points } => credit(view, member, *points),
+        Command::SetQuota { member, quota } => set_quota(view, member, *quota),
         Command::AddFacility {
             name,
             kind,
@@ -179,5 +212,6 @@ pub fn decide_command(view: &CommandView, command: &Command) -> Result<Change, O
         Command::RevokeKey { name } => revoke_key(view, name),
         Command::RotateKey { name, root, until } => rotate_key(view, name, root, *until),
         Command::CloseSlot(slot) => close_slot(view, slot),
+        Command::OpenSlot(slot) => open_slot(view, slot),
     }
 }

@@ -13,6 +13,8 @@ ghost use Rattle.club_core.specs.Examples.{
   BooksAndCancels,
   RepeatsAfterACancellation,
   ClosesASlot,
+  OpensASlot,
+  SetsAQuota,
   KeepsASpendLimit,
 };
 
@@ -29,6 +31,16 @@ pub fn repeats_after_a_cancellation()
 /// A slot can be closed only while nobody has booked it; a closed slot can't be booked.
 pub fn closes_a_slot()
     ensures { ClosesASlot }
+{}
+
+/// A closed slot can be opened and booked again; an open one stays as it is.
+pub fn opens_a_slot()
+    ensures { OpensASlot }
+{}
+
+/// Another quota holds for the next booking, and bookings above it stay.
+pub fn sets_a_quota()
+    ensures { SetsAQuota }
 {}
 
 /// Under a spend limit, refunded points can be spent again.

@@ -195,7 +195,9 @@ impl<S: ClubStore> Desk<S> {
             },
         };
         match command {
-            Command::AddMember { name, .. } | Command::Credit { member: name, .. } => {
+            Command::AddMember { name, .. }
+            | Command::Credit { member: name, .. }
+            | Command::SetQuota { member: name, .. } => {
                 view.member = self.member(name)?;
             }
             Command::AddFacility { name, .. } => view.facility = self.store.facility(name)?,
@@ -206,6 +208,7 @@ impl<S: ClubStore> Desk<S> {
             Command::RevokeKey { name } | Command::RotateKey { name, .. } => {
                 view.key = self.key(name)?;
             }
+            Command::OpenSlot(slot) => view.facility = self.store.facility(&slot.facility)?,
             Command::CloseSlot(slot) => {
                 view.facility = self.store.facility(&slot.facility)?;
                 view.slot = self.store.slot(slot)?;

@@ -24,7 +24,7 @@ const NOWHERE: PlainSlot = PlainSlot {
 };
 
 // The fixture has amy with the key `amy-1`, and `court-1`.
-static DONE: [Row; 7] = [
+static DONE: [Row; 9] = [
     (
         PlainCommand::AddMember("cy", 1),
         None,
@@ -32,6 +32,11 @@ static DONE: [Row; 7] = [
     ),
     (
         PlainCommand::Credit("amy", 1),
+        None,
+        &[Call::Account, Call::Change],
+    ),
+    (
+        PlainCommand::SetQuota("amy", 1),
         None,
         &[Call::Account, Call::Change],
     ),
@@ -60,10 +65,15 @@ static DONE: [Row; 7] = [
         None,
         &[Call::Facility, Call::Slot, Call::Change],
     ),
+    (
+        PlainCommand::OpenSlot(COURT_AT_18),
+        None,
+        &[Call::Facility, Call::Change],
+    ),
 ];
 
 // A command that is refused changes nothing.
-static REFUSED: [Row; 7] = [
+static REFUSED: [Row; 9] = [
     (
         PlainCommand::AddMember("amy", 1),
         Some(OfficeFault::Exists),
@@ -71,6 +81,11 @@ static REFUSED: [Row; 7] = [
     ),
     (
         PlainCommand::Credit("cy", 1),
+        Some(OfficeFault::Unknown),
+        &[Call::Account],
+    ),
+    (
+        PlainCommand::SetQuota("cy", 1),
         Some(OfficeFault::Unknown),
         &[Call::Account],
     ),
@@ -98,6 +113,11 @@ static REFUSED: [Row; 7] = [
         PlainCommand::CloseSlot(NOWHERE),
         Some(OfficeFault::Unknown),
         &[Call::Facility, Call::Slot],
+    ),
+    (
+        PlainCommand::OpenSlot(NOWHERE),
+        Some(OfficeFault::Unknown),
+        &[Call::Facility],
     ),
 ];
 

@@ -99,7 +99,9 @@ static FIXTURE: [(PlainCommand, OfficeReply); 4] = [
 ];
 
 /// The older root is good for long, so amy's pass still shows what the key sees.
-static COMMANDS: [(PlainCommand, OfficeReply); 3] = [
+static COMMANDS: [(PlainCommand, OfficeReply); 5] = [
+    (PlainCommand::CloseSlot(AT_19), DONE),
+    (PlainCommand::OpenSlot(AT_19), DONE),
     (PlainCommand::CloseSlot(AT_19), DONE),
     (
         PlainCommand::RotateKey("amy-1", SECOND_ROOT, START),

@@ -193,12 +193,13 @@ impl<S: ClubStore> Trial<S> {
         match *plain {
             PlainCommand::AddMember(member, _)
             | PlainCommand::Credit(member, _)
+            | PlainCommand::SetQuota(member, _)
             | PlainCommand::AddKey(_, member, _) => member == AMY,
             PlainCommand::AddFacility(..) => true,
             PlainCommand::RevokeKey(key) | PlainCommand::RotateKey(key, _, _) => self.is_own_key(
                 key,
             ),
-            PlainCommand::CloseSlot(_) => false,
+            PlainCommand::CloseSlot(_) | PlainCommand::OpenSlot(_) => false,
         }
     }
 

@@ -3,8 +3,9 @@ use Rattle.club_laws.proofs.Common.{◌≡◌, ℕ, ◌+◌, ◌-◌, true, fals
 use Rattle.club_laws.proofs.Common.{◌==◌, nat_lt, bytes_eq, Slot, Member, Facility, Key, Booking, Verdict, Reply, Booked, Cancelled, Refused, Request}
 use Rattle.club_laws.proofs.Common.{same_slot, refund_at, Pass, Words, Club, facility_named, is_key_of, bookings_of, is_closed, key_named, member_named}
 use Rattle.club_laws.proofs.Common.{taken_in, balance_of, booking_under, Basis, basis_of, view_of, state_of, key_of, answer_to, verdict_in, request_slot}
-use Rattle.club_laws.proofs.Common.{Change, InsertMember, AddCredit, InsertFacility, InsertKey, MarkRevoked, ReplaceRoot, MarkClosed, Command, AddMember}
-use Rattle.club_laws.proofs.Common.{Credit, AddFacility, AddKey, RevokeKey, RotateKey, CloseSlot, OfficeFault, office_verdict, are_limits}
+use Rattle.club_laws.proofs.Common.{Change, InsertMember, AddCredit, InsertFacility, InsertKey, MarkRevoked, ReplaceRoot, MarkClosed, MarkOpen, ReplaceQuota}
+use Rattle.club_laws.proofs.Common.{Command, AddMember}
+use Rattle.club_laws.proofs.Common.{Credit, AddFacility, AddKey, RevokeKey, RotateKey, CloseSlot, OpenSlot, SetQuota, OfficeFault, office_verdict, are_limits}
 use Rattle.club_laws.proofs.FoundRows.{is_numbered, numbered, found_passes, found_is_there, find-filter, any_passes, any-filter, named}
 use Rattle.club_rows.specs.Facility.{charge_of}
 use Rattle.club_core.specs.declared.pass_fault.PassFault.{PassFault}
@@ -126,22 +127,26 @@ module _ (P : Verdict → Type 0) (club : Club) (words : Words) (moment : ℕ) (
 abbrev pub CommandRestsOn : Club → Command → Type 0
 CommandRestsOn club (AddMember name quota) = (quota ≤ 99) × (member_named name club ≡ None)
 CommandRestsOn club (Credit name points) = (member : Member) × (member_named name club ≡ Some member) × (member.credited + points ≤ 999_999_999)
+CommandRestsOn club (SetQuota name quota) = (quota ≤ 99) × (member : Member) × (member_named name club ≡ Some member)
 CommandRestsOn club (AddFacility name kind places price opens shuts) = (are_limits places price opens shuts ≡ true) × (facility_named name club ≡ None)
 CommandRestsOn club (AddKey name member root) = (owner : Member) × (member_named member club ≡ Some owner) × (key_named name club ≡ None)
 CommandRestsOn club (RevokeKey name) = (key : Key) × (key_named name club ≡ Some key)
 CommandRestsOn club (RotateKey name root until) = (key : Key) × (key_named name club ≡ Some key)
 CommandRestsOn club (CloseSlot slot) = (facility : Facility) × (facility_named slot.facility club ≡ Some facility) × (is_closed slot club ≡ false)
+CommandRestsOn club (OpenSlot slot) = (facility : Facility) × (facility_named slot.facility club ≡ Some facility)
 
 -- the change that such a command makes
 abbrev pub change_of : (club : Club) (command : Command) → CommandRestsOn club command → Change
 change_of club (AddMember name quota) r = InsertMember (record { name = name; credited = 0; quota = quota })
 change_of club (Credit name points) r = AddCredit name points
+change_of club (SetQuota name quota) r = ReplaceQuota name quota
 change_of club (AddFacility name kind places price opens shuts) r =
     InsertFacility (record { name = name; kind = kind; places = places; price = price; opens = opens; shuts = shuts })
 change_of club (AddKey name member root) r = InsertKey (record { name = name; member = member; root = root; older = None; revoked = false })
 change_of club (RevokeKey name) r = MarkRevoked name
 change_of club (RotateKey name root until) r = ReplaceRoot name r.0.root root until
 change_of club (CloseSlot slot) r = MarkClosed slot
+change_of club (OpenSlot slot) r = MarkOpen slot
 
 module _ (P : Result Change OfficeFault → Type 0) (club : Club) (fails : (fault : OfficeFault) → P (Err fault)) where
   pub command_cases : (command : Command) → ((r : CommandRestsOn club command) → P (Ok (change_of club command r))) → P (office_verdict club command)
@@ -150,6 +155,8 @@ module _ (P : Result Change OfficeFault → Type 0) (club : Club) (fails : (faul
   command_cases (Credit name points) done =
       let ok = λ (m : Member) (found : member_named name club ≡ Some m) (few : m.credited + points ≤ 999_999_999). done (m, found, few) in
       grind (arith, nat_tests, fails)
+  command_cases (SetQuota name quota) done =
+      let ok = λ (few : quota ≤ 99) (m : Member) (found : member_named name club ≡ Some m). done (few, m, found) in grind (arith, nat_tests, fails)
   command_cases (AddFacility name kind places price opens shuts) done =
       let ok = λ (fit : are_limits places price opens shuts ≡ true) (new : facility_named name club ≡ None). done (fit, new) in grind (arith, fails)
   command_cases (AddKey name member root) done =
@@ -159,3 +166,5 @@ module _ (P : Result Change OfficeFault → Type 0) (club : Club) (fails : (faul
   command_cases (CloseSlot slot) done =
       let ok = λ (f : Facility) (found : facility_named slot.facility club ≡ Some f) (new : is_closed slot club ≡ false). done (f, found, new) in
       grind (arith, fails)
+  command_cases (OpenSlot slot) done =
+      let ok = λ (f : Facility) (found : facility_named slot.facility club ≡ Some f). done (f, found) in grind (arith, fails)

@@ -11,7 +11,7 @@ pub use Rattle.std.proofs.lemmas.Slice.Eq.{bytes_eq-Decides}
 pub use Rattle.std.specs.List.{list_any}
 pub use Rattle.std.specs.Str.{bytes_eq}
 pub use Rattle.club_core.specs.Acceptance.{IsAllowedBy, IsAcceptedIn, IsServed, IsAcceptedPass, IsEntitled}
-pub use Rattle.club_core.specs.After.{after, revoked_key, rotated_key, cancelled_booking, credited_member, good_until, is_marked}
+pub use Rattle.club_core.specs.After.{after, revoked_key, rotated_key, cancelled_booking, credited_member, member_with_quota, good_until, is_marked}
 pub use Rattle.club_core.specs.Answer.{verdict_in, answer_to, ask_of, form_refusal, answer_by_basis}
 pub use Rattle.club_core.specs.Basis.{Basis, basis_of, view_of, key_of, state_of, club_account, SlotState}
 pub use Rattle.club_core.specs.Club.{Club, is_key_of, bookings_of, key_named, member_named, keys_of, IsSound, facility_named, empty_club, is_closed}
@@ -26,9 +26,10 @@ pub use Rattle.club_core.specs.Run.{done_answer, Outcome, Response, verdict_outc
 pub use Rattle.club_core.specs.Sums.{taken_in, booking_under, is_under, cost_of, is_in, balance_of}
 pub use Rattle.club_core.specs.declared.change.Change.{Change}
 pub use Rattle.club_core.specs.declared.change.Change.TheVariants.{InsertKey, MarkRevoked, ReplaceRoot, InsertBooking, MarkCancelled, InsertMember, AddCredit}
-pub use Rattle.club_core.specs.declared.change.Change.TheVariants.{InsertFacility, MarkClosed}
+pub use Rattle.club_core.specs.declared.change.Change.TheVariants.{InsertFacility, MarkClosed, MarkOpen, ReplaceQuota}
 pub use Rattle.club_core.specs.declared.command.Command.{Command}
-pub use Rattle.club_core.specs.declared.command.Command.TheVariants.{RevokeKey, AddKey, RotateKey, AddMember, Credit, AddFacility, CloseSlot}
+pub use Rattle.club_core.specs.declared.command.Command.TheVariants.{RevokeKey, AddKey, RotateKey, AddMember, Credit, AddFacility, CloseSlot, OpenSlot}
+pub use Rattle.club_core.specs.declared.command.Command.TheVariants.{SetQuota}
 pub use Rattle.club_core.specs.declared.command.OfficeFault.{OfficeFault}
 pub use Rattle.club_core.specs.declared.reply.Reply.{Reply}
 pub use Rattle.club_core.specs.declared.reply.Reply.TheVariants.{Booked, Cancelled, Refused}

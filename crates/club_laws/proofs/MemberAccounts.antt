@@ -1,9 +1,9 @@
 -- A member's keys and credit, computed from a run's events and replies.
 use Rattle.club_laws.proofs.Common.{◌≡◌, ℕ, ◌+◌, Bool, true, false, cond, List, [], ◌∷◌, map, Option, Some, None, arith, bytes_eq-Decides, Result, ◌||◌, find}
 use Rattle.club_laws.proofs.Common.{is_some, bytes_eq, list_any, list_any-append, find-append, Member, after, ToOffice, done_answer, Verdict, Change, Command}
-use Rattle.club_laws.proofs.Common.{AddMember, Credit, AddKey, RevokeKey, RotateKey, OfficeFault, Words, Club, member_named, is_key_of, verdict_in}
+use Rattle.club_laws.proofs.Common.{AddMember, Credit, SetQuota, AddKey, RevokeKey, RotateKey, OfficeFault, Words, Club, member_named, is_key_of, verdict_in}
 use Rattle.club_laws.proofs.Common.{credited_member, revoked_key, rotated_key, Event, Asked, Commanded, step, after_change, command_outcome, replies_of}
-use Rattle.club_laws.proofs.Common.{club_after}
+use Rattle.club_laws.proofs.Common.{club_after, member_with_quota}
 use Rattle.club_laws.specs.Points.{key_given, keys_given, credit_accepted, credits_accepted}
 use Rattle.club_laws.proofs.MemberParts.{is_key_of-added, is_key_of-edited}
 use Rattle.club_laws.proofs.AnswerCases.{answer_cases, command_cases, CommandRestsOn, change_of}
@@ -64,6 +64,13 @@ credit_grown name other points (m ∷ members) known =
     let both = bytes_eq-Decides other name in
     grind (arith, credit_grown name other points members)
 
+-- another quota credits nobody
+credit_kept : (name other : List ℕ) (quota : ℕ) (members : List Member)
+    → credit_of (find (λ (m : Member). bytes_eq m.name name) (map (member_with_quota other quota) members))
+    ≡ credit_of (find (λ (m : Member). bytes_eq m.name name) members)
+credit_kept name other quota [] = grind arith
+credit_kept name other quota (m ∷ members) = grind (arith, credit_kept name other quota members)
+
 module _ (name : List ℕ) where
   credit_of_step : (club : Club) (event : Event) → credit_of (member_named name (step club event).club)
       ≡ credit_of (member_named name club) + credit_accepted name event (step club event).reply
@@ -80,6 +87,7 @@ module _ (name : List ℕ) where
           grind (arith, find-append (λ (m : Member). bytes_eq m.name name) club.members (new ∷ []))
       credited (Credit other points) r =
           credit_grown name other points club.members (λ e. let known = r.1 in grind (arith, bytes_eq-Decides other name))
+      credited (SetQuota other quota) r = grind (arith, credit_kept name other quota club.members)
       credited c r = grind arith
 
   -- a member's credit after a run is that before and what the run credited

@@ -3,9 +3,10 @@ use Rattle.club_laws.proofs.Common.{◌≡◌, ◌≢◌, ℕ, Bool, true, List,
 use Rattle.club_laws.proofs.Common.{Contains, append-nil, refl, find, AllPairs, Result, bytes_eq-Decides, ◌&&◌, ◌||◌, bytes_eq, list_any, list_any-append}
 use Rattle.club_laws.proofs.Common.{Any-from_list_any, Key, Booking, Club, key_named, is_key_of, bookings_of, keys_of, IsSound, Contains-push, All-contains}
 use Rattle.club_laws.proofs.Common.{filter-append, All-push, All-map, Member, Change, InsertMember, AddCredit, InsertFacility, InsertKey, MarkRevoked}
-use Rattle.club_laws.proofs.Common.{ReplaceRoot, MarkClosed, InsertBooking, MarkCancelled, after, credited_member, revoked_key, rotated_key, cancelled_booking}
+use Rattle.club_laws.proofs.Common.{ReplaceRoot, MarkClosed, MarkOpen, ReplaceQuota, InsertBooking, MarkCancelled, after, credited_member, revoked_key}
+use Rattle.club_laws.proofs.Common.{rotated_key, cancelled_booking}
 use Rattle.club_laws.proofs.Common.{map-map, Verdict, Command, AddKey, RevokeKey, RotateKey, OfficeFault, Event, Asked, Commanded, step, after_change}
-use Rattle.club_laws.proofs.Common.{command_outcome}
+use Rattle.club_laws.proofs.Common.{command_outcome, member_with_quota}
 use Rattle.std.proofs.Common.{bytes_eq}
 use Rattle.club_rows.specs.declared.key.OlderRoot.{OlderRoot}
 use Rattle.club_laws.proofs.FoundRows.{AllPairs-head, AllPairs-tail, any-filter, any-map, fresh_differs, only_named, none_named, other_bytes, AllPairs-map}
@@ -116,6 +117,12 @@ part_changed name club (AddCredit other points) known fresh =
     let fixed : bytes_eq other name ≡ false → map edit members ≡ members =
     λ e. filter_fixed (is_named name) edit (λ member f. grind (arith, bytes_eq-Decides member.name name, bytes_eq-Decides member.name other)) club.members in
     grind (arith, filter-map edit (is_named name) club.members)
+part_changed name club (ReplaceQuota other quota) known fresh =
+    let edit = member_with_quota other quota in
+    let members = filter (is_named name) club.members in
+    let fixed : bytes_eq other name ≡ false → map edit members ≡ members =
+    λ e. filter_fixed (is_named name) edit (λ member f. grind (arith, bytes_eq-Decides member.name name, bytes_eq-Decides member.name other)) club.members in
+    grind (arith, filter-map edit (is_named name) club.members)
 part_changed name club (InsertFacility facility) known fresh = refl
 part_changed name club (InsertKey key) known fresh =
     let bookings = bookings_of-added name club key (none_named (λ (k : Key). k.name) key.name club.keys fresh) known in
@@ -126,6 +133,7 @@ part_changed name club (ReplaceRoot other former root until) known fresh =
     let edit = rotated_key other root until in
     key_edited (λ key. (edit key).root) (λ key. (edit key).older) (λ key. key.revoked) name club other (λ key e. grind arith)
 part_changed name club (MarkClosed slot) known fresh = refl
+part_changed name club (MarkOpen slot) known fresh = refl
 part_changed name club (InsertBooking booking member) known fresh =
     grind (arith, filter-append (is_under_one (keys_of name club)) club.bookings (booking ∷ []), append-nil (bookings_of name club))
 part_changed name club (MarkCancelled booking member refund) known fresh =

@@ -2,7 +2,8 @@
 use Rattle.club_laws.proofs.Common.{◌≡◌, ◌≢◌, ℕ, ◌≤◌, false, true, List, [], ◌∷◌, ◌++◌, get_or, map, arith, All, Contains, sum_by, All-push}
 use Rattle.club_laws.proofs.Common.{All-map, map-map, both_ways, Slot, Member, Facility, Key, Booking, persons_of, same_slot, cost_of, is_in, taken_in}
 use Rattle.club_laws.proofs.Common.{credited_member, revoked_key, rotated_key, after, is_marked, cancelled_booking, Club, is_key_of, bookings_of, IsSound}
-use Rattle.club_laws.proofs.Common.{bytes_eq-Decides, InsertMember, AddCredit, InsertFacility, InsertKey, MarkRevoked, ReplaceRoot, MarkClosed}
+use Rattle.club_laws.proofs.Common.{bytes_eq-Decides, InsertMember, AddCredit, InsertFacility, InsertKey, MarkRevoked, ReplaceRoot, MarkClosed, MarkOpen}
+use Rattle.club_laws.proofs.Common.{ReplaceQuota}
 use Rattle.club_laws.proofs.Common.{InsertBooking, MarkCancelled, Some, subst, sym, key_named}
 use Rattle.std.proofs.lemmas.List.Quantifiers.{all_pairs_push}
 use Rattle.std.proofs.lemmas.Bool.Decides.{nat_tests}
@@ -11,7 +12,7 @@ use Rattle.club_laws.proofs.FoundRows.{AllPairs-map, All-each, still_there, stil
 use Rattle.club_laws.proofs.FoundRows.{slots_same, AreApart}
 use Rattle.club_laws.proofs.FilteredRows.{sum_one_more, sum_no_more}
 use Rattle.club_laws.proofs.MemberParts.{bookings_of-added, owner}
-use Rattle.club_laws.proofs.SoundSteps.{nothing_booked, nobody_in, sound_edited, rotated_row, cancelled_row, costs_no_more}
+use Rattle.club_laws.proofs.SoundSteps.{nothing_booked, nobody_in, sound_edited, sound_opened, sound_quota, rotated_row, cancelled_row, costs_no_more}
 use Rattle.club_laws.specs.SoundRuns.{Suits, SuitingChangesKeepSound}
 
 -- a booking under a key of a member, which that member pays and the slot has room for
@@ -104,6 +105,7 @@ sound_after club (AddCredit name points) s h =
     let balances = All-map (λ (m : Member). sum_by cost_of (bookings_of m.name club) ≤ m.credited) edit club.members
     (λ k d short. let before = s.balances k d short in grind arith) in
     assumption
+sound_after club (ReplaceQuota name quota) s h = sound_quota club name quota h s
 sound_after club (InsertFacility facility) s h =
     let fresh = h.1 in
     let more = club.facilities ++ facility ∷ [] in
@@ -141,5 +143,6 @@ sound_after club (MarkClosed slot) s h =
     let known = All-push (λ (other : Slot). Contains (map (λ (g : Facility). g.name) club.facilities) other.facility) club.closed slot s.references.closed
     h.2 in
     assumption
+sound_after club (MarkOpen slot) s h = sound_opened club slot s
 sound_after club (InsertBooking booking member) s h = booked_sound club s booking member h
 sound_after club (MarkCancelled booking member refund) s h = cancelled_sound club s booking member refund h

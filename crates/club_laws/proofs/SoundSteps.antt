@@ -4,8 +4,10 @@ use Rattle.club_laws.proofs.Common.{Ok, Err, Contains, IfSome, sum_by, ◌||◌,
 use Rattle.club_laws.proofs.Common.{both_ways, Slot, Member, Facility, Key, Booking, persons_of, same_slot, refund_at, cost_of, is_in, taken_in}
 use Rattle.club_laws.proofs.Common.{credited_member, revoked_key, good_until, rotated_key, after, is_marked, cancelled_booking, Club, keys_of, is_key_of}
 use Rattle.club_laws.proofs.Common.{bookings_of, IsSound, HasReferences, Command, AddMember, Credit, AddFacility, AddKey, RevokeKey, RotateKey, CloseSlot}
+use Rattle.club_laws.proofs.Common.{OpenSlot, SetQuota}
 use Rattle.club_laws.proofs.Common.{IsCommand, IsRequest, IsEvent, bytes_eq-Decides, Verdict, Words, verdict_in, after_change, Asked, Commanded, step}
-use Rattle.club_laws.proofs.Common.{command_outcome, Change, OfficeFault, office_verdict}
+use Rattle.club_laws.proofs.Common.{command_outcome, Change, OfficeFault, office_verdict, MarkOpen, ReplaceQuota, member_with_quota, All-filter, not}
+use Rattle.std.proofs.lemmas.List.Kept.{AllPairs-filter}
 use Rattle.std.proofs.lemmas.List.Quantifiers.{all_pairs_push}
 use Rattle.club_rows.specs.declared.key.OlderRoot.{OlderRoot}
 use Rattle.club_rows.specs.Limits.{IsRoot}
@@ -64,6 +66,31 @@ rotated_row name root until key new moment row =
     (λ _. record { root = row.root; until = moment }) (λ _. row.older) in
     assumption
 
+-- another quota of a member
+pub sound_quota : (club : Club) (name : List ℕ) (quota : ℕ) → quota ≤ 99 → IsSound club → IsSound (after (ReplaceQuota name quota) club)
+sound_quota club name quota few s =
+    let edit = member_with_quota name quota in
+    let limits = All-map IsMember edit club.members (λ k d short.
+    let row = s.rows.members k d short in
+    let kept = row.quota in
+    record { name = row.name; credited = row.credited; quota = grind arith }) in
+    let names = AllPairs-map edit (λ (a : Member) (b : Member). a.name ≢ b.name) (λ (a : Member) (b : Member). a.name ≢ b.name) (λ a b h. h) club.members
+    s.unique.members in
+    let known = still_all (λ (m : Member). m.name) club.members (map edit club.members) (λ (k : Key). k.member) club.keys
+    (λ n h. rw (map-map (λ (m : Member). m.name) edit club.members) h) s.references.keys in
+    let balances = All-map (λ (m : Member). sum_by cost_of (bookings_of m.name club) ≤ m.credited) edit club.members (λ k d short. s.balances k d short) in
+    assumption
+
+-- a slot that is open again
+pub sound_opened : (club : Club) (slot : Slot) → IsSound club → IsSound (after (MarkOpen slot) club)
+sound_opened club slot s =
+    let stays : Slot → Bool = λ other. not (same_slot other slot) in
+    let limits = All-filter stays IsSlot club.closed s.rows.closed in
+    let names = AllPairs-filter (λ (a : Slot) (b : Slot). a ≢ b) stays club.closed s.unique.closed in
+    let known = All-filter stays (λ (other : Slot). Contains (map (λ (g : Facility). g.name) club.facilities) other.facility) club.closed
+    s.references.closed in
+    assumption
+
 -- what a command makes of a sound club
 pub sound_command : (club : Club) → IsSound club → (c : Command) → IsCommand c → (r : CommandRestsOn club c) → IsSound (after (change_of club c r) club)
 sound_command club s (AddMember name quota) c r =
@@ -91,6 +118,7 @@ sound_command club s (Credit name points) c r =
     let balances = All-map (λ (m : Member). sum_by cost_of (bookings_of m.name club) ≤ m.credited) edit club.members
     (λ k d short. let before = s.balances k d short in grind arith) in
     assumption
+sound_command club s (SetQuota name quota) c r = sound_quota club name quota r.0 s
 sound_command club s (AddFacility name kind places price opens shuts) c r =
     let facility : Facility = record { name = name; kind = kind; places = places; price = price; opens = opens; shuts = shuts } in
     let fits = r.0 in
@@ -133,6 +161,7 @@ sound_command club s (CloseSlot slot) c r =
     let known = All-push (λ (other : Slot). Contains (map (λ (g : Facility). g.name) club.facilities) other.facility) club.closed slot s.references.closed
     (named_there (λ (f : Facility). f.name) slot.facility club.facilities r.0 r.1) in
     assumption
+sound_command club s (OpenSlot slot) c r = sound_opened club slot s
 
 -- ---- a club stays sound under bookings and cancellations
 

@@ -1,6 +1,6 @@
 -- Example runs from the empty club, which compute: one member's requests, alone and among those of another (ours).
 use Rattle.std.specs.Prelude.{◌≡◌, true, List, [], ◌∷◌, ◌++◌, Some, Ok, codes}
-use Rattle.club_core.specs.declared.command.Command.TheVariants.{AddMember, Credit, AddKey, RevokeKey, CloseSlot}
+use Rattle.club_core.specs.declared.command.Command.TheVariants.{AddMember, Credit, AddKey, RevokeKey, CloseSlot, OpenSlot, SetQuota}
 use Rattle.club_core.specs.declared.request.Request.{Request}
 use Rattle.club_core.specs.declared.request.Request.TheVariants as asked
 use Rattle.club_core.specs.Club.{empty_club}
@@ -27,8 +27,8 @@ amy_alone =
 abbrev pub AnswersAmyAlone : Type 0
 AnswersAmyAlone = replies_to_amy amy_alone ≡ served_booking 7 600 1 ∷ account 9_400 1 600 ∷ served_cancellation 7 600 ∷ []
 
--- the same if bob books other slots and hers, under her number too, leaves hers, is credited, gets a key, and has one revoked, and the office closes
--- another slot
+-- the same if bob books other slots and hers, under her number too, leaves hers, is credited, gets a quota and a key, and has one revoked, and the office
+-- closes another slot and opens it again
 abbrev pub amy_among_others : List Event
 amy_among_others =
     opening
@@ -41,9 +41,11 @@ amy_among_others =
     ∷ ask_of_bob (asked.Book (slot_at 19) 8 0)
     ∷ ask_of_bob (asked.Cancel (slot_at 17) 7)
     ∷ Commanded (Credit (codes "bob") 5)
+    ∷ Commanded (SetQuota (codes "bob") 4)
     ∷ ask asked.Account noon
     ∷ Commanded (AddKey (codes "bob-2") (codes "bob") root)
     ∷ Commanded (RevokeKey (codes "bob-1"))
+    ∷ Commanded (OpenSlot (slot_at 8))
     ∷ ask_of_bob asked.Account
     ∷ ask (asked.Cancel (slot_at 18) 7) noon
     ∷ []

@@ -5,11 +5,11 @@ use Rattle.club_rows.specs.declared.member.Member.{Member}
 use Rattle.club_rows.specs.declared.facility.Facility.{Facility}
 use Rattle.club_rows.specs.declared.key.Key.{Key}
 use Rattle.club_rows.specs.declared.booking.Booking.{Booking}
-use Rattle.club_rows.specs.Limits.{credited_limit, IsRoot}
+use Rattle.club_rows.specs.Limits.{credited_limit, quota_limit, IsRoot}
 use Rattle.club_rows.specs.Rows.{IsMember, IsFacility, IsKey, IsSlot, IsBooking}
 use Rattle.club_core.specs.declared.change.Change.{Change}
 use Rattle.club_core.specs.declared.change.Change.TheVariants.{InsertMember, AddCredit, InsertFacility, InsertKey, MarkRevoked, ReplaceRoot, MarkClosed}
-use Rattle.club_core.specs.declared.change.Change.TheVariants.{InsertBooking, MarkCancelled}
+use Rattle.club_core.specs.declared.change.Change.TheVariants.{MarkOpen, ReplaceQuota, InsertBooking, MarkCancelled}
 use Rattle.club_core.specs.After.{after}
 use Rattle.club_core.specs.Answer.{verdict_in}
 use Rattle.club_core.specs.Club.{Club, empty_club, IsSound, bookings_of, is_closed, member_named, facility_named, key_named}
@@ -59,6 +59,7 @@ pub record SuitsBooking (booking : Booking) (club : Club) : Type 0 where
 abbrev pub Suits : Change → Club → Type 0
 Suits (InsertMember member) club = IsMember member × All (λ (other : Member). other.name ≢ member.name) club.members
 Suits (AddCredit name points) club = (member : Member) × (member_named name club ≡ Some member) × (member.credited + points ≤ credited_limit)
+Suits (ReplaceQuota name quota) club = quota ≤ quota_limit
 Suits (InsertFacility facility) club = IsFacility facility × All (λ (other : Facility). other.name ≢ facility.name) club.facilities
 Suits (InsertKey key) club =
     IsKey key × All (λ (other : Key). other.name ≢ key.name) club.keys × Contains (map (λ (m : Member). m.name) club.members) key.member
@@ -66,6 +67,7 @@ Suits (MarkRevoked name) club = Unit {0}
 Suits (ReplaceRoot name former root until) club = IsRoot root × IsMoment until
 Suits (MarkClosed slot) club =
     IsSlot slot × (is_closed slot club ≡ false) × Contains (map (λ (f : Facility). f.name) club.facilities) slot.facility
+Suits (MarkOpen slot) club = Unit {0}
 Suits (InsertBooking booking member) club = SuitsBooking booking club
 Suits (MarkCancelled booking member refund) club =
     (booking_under booking.key booking.number club.bookings ≡ Some booking) × (refund ≤ booking.charge)

@@ -15,11 +15,11 @@ use Rattle.club_rows.specs.declared.member.Member.{Member}
 use Rattle.club_rows.specs.declared.facility.Facility.{Facility}
 use Rattle.club_rows.specs.declared.booking.Booking.{Booking}
 use Rattle.club_core.specs.declared.change.Change.TheVariants.{InsertMember, AddCredit, InsertFacility, InsertBooking, MarkCancelled, InsertKey, MarkRevoked}
-use Rattle.club_core.specs.declared.change.Change.TheVariants.{ReplaceRoot, MarkClosed}
+use Rattle.club_core.specs.declared.change.Change.TheVariants.{ReplaceRoot, MarkClosed, MarkOpen, ReplaceQuota}
 use Rattle.club_rows.specs.Booking.{same_slot, persons_of}
 use Rattle.club_core.specs.Club.{Club, member_named, is_key_of, facility_named, key_named, bookings_of}
 use Rattle.club_core.specs.Sums.{is_in, taken_in, cost_of, is_under, spent_under, balance_of}
-use Rattle.club_core.specs.After.{after, credited_member, cancelled_booking}
+use Rattle.club_core.specs.After.{after, credited_member, member_with_quota, cancelled_booking}
 use Rattle.club_reference.specs.Widths.{FitsWidths}
 use Rattle.club_core.specs.Solo.{part_of, with_others, solo_verdict}
 use Rattle.club_rows.specs.declared.key.Key.{Key}
@@ -147,6 +147,14 @@ fits_add_credit club name points member h found fits =
     let is : named name row ≡ true → member ≡ row =
     λ e. same_Some member row (sym found ∙ subst (λ n. find (named n) club.members ≡ Some row) (bytes_eq_true row.name name e) (h.unique k d lt)) in
     grind arith) in
+    let unique = all_map (IsNamed (map edit club.members)) edit club.members (λ k d lt.
+    find-map (named (get_or club.members k d).name) edit club.members (λ m. refl) ∙ ap (option_map edit) (h.unique k d lt)) in
+    assumption
+
+pub fits_replace_quota : (club : Club) (name : List ℕ) (quota : ℕ) → FitsWidths club → FitsWidths (after (ReplaceQuota name quota) club)
+fits_replace_quota club name quota h =
+    let edit = member_with_quota name quota in
+    let credited = all_map (λ (m : Member). m.credited ≤ 999_999_999) edit club.members (λ k d lt. h.credited k d lt) in
     let unique = all_map (IsNamed (map edit club.members)) edit club.members (λ k d lt.
     find-map (named (get_or club.members k d).name) edit club.members (λ m. refl) ∙ ap (option_map edit) (h.unique k d lt)) in
     assumption
@@ -353,15 +361,17 @@ module _ (P : Result Change OfficeFault → Type 0) (club : Club) (fails : (faul
     (credits : (name : List ℕ) (points : ℕ) (member : Member) → member_named name club ≡ Some member → member.credited + points ≤ 999_999_999
     → P (Ok (AddCredit name points))) (builds : (facility : Facility) → facility.places ≤ 50 → P (Ok (InsertFacility facility)))
     (keys : (key : Key) → P (Ok (InsertKey key))) (revokes : (name : List ℕ) → P (Ok (MarkRevoked name)))
-    (rotates : (name former root : List ℕ) (until : ℕ) → P (Ok (ReplaceRoot name former root until))) (closes : (slot : Slot) → P (Ok (MarkClosed slot))) where
+    (rotates : (name former root : List ℕ) (until : ℕ) → P (Ok (ReplaceRoot name former root until))) (closes : (slot : Slot) → P (Ok (MarkClosed slot)))
+    (opens : (slot : Slot) → P (Ok (MarkOpen slot))) (quotas : (name : List ℕ) (quota : ℕ) → P (Ok (ReplaceQuota name quota))) where
   command_cases : (command : Command) → P (office_verdict club command)
   command_cases (commands.AddMember name quota) = grind (arith, fails, joins)
   command_cases (commands.Credit name points) = grind (arith, nat_tests, fails, credits)
   command_cases (commands.AddFacility name kind places price opens shuts) = grind (arith, nat_tests, fails, builds)
-  command_cases command = grind (arith, fails, keys, revokes, rotates, closes)
+  command_cases command = grind (arith, fails, keys, revokes, rotates, closes, opens, quotas)
 
 pub keeps_command : (club : Club) (command : Command) → FitsWidths club → KeepsIfOk club (office_verdict club command)
 keeps_command club command h =
     command_cases (KeepsIfOk club) club (λ fault. tt) (λ name quota none. fits_insert_member club _ h (omega arith) none)
     (λ name points member. fits_add_credit club name points member h) (λ facility. fits_insert_facility club facility h)
-    (λ key. assumption) (λ name. assumption) (λ name former root until. assumption) (λ slot. assumption) command
+    (λ key. assumption) (λ name. assumption) (λ name former root until. assumption) (λ slot. assumption) (λ slot. assumption)
+    (λ name quota. fits_replace_quota club name quota h) command

@@ -2,18 +2,20 @@
 use Rattle.std.specs.Prelude.{ℕ, ◌+◌, ◌<◌, Bool, true, false, length}
 use Rattle.club_core.specs.declared.change.Change.{Change}
 use Rattle.club_core.specs.declared.change.Change.TheVariants.{InsertMember, AddCredit, InsertFacility, InsertKey, MarkRevoked, ReplaceRoot, MarkClosed}
-use Rattle.club_core.specs.declared.change.Change.TheVariants.{InsertBooking, MarkCancelled}
+use Rattle.club_core.specs.declared.change.Change.TheVariants.{MarkOpen, ReplaceQuota, InsertBooking, MarkCancelled}
 use Rattle.club_core.specs.Club.{Club}
 use Rattle.club_core.specs.Run.{Event, step}
 
 abbrev pub is_growth : Change → Bool
 is_growth (InsertMember member) = true
 is_growth (AddCredit member points) = false
+is_growth (ReplaceQuota member quota) = false
 is_growth (InsertFacility facility) = true
 is_growth (InsertKey key) = true
 is_growth (MarkRevoked key) = false
 is_growth (ReplaceRoot key former root until) = false
 is_growth (MarkClosed slot) = true
+is_growth (MarkOpen slot) = false
 is_growth (InsertBooking booking member) = true
 is_growth (MarkCancelled booking member refund) = false
 

@@ -3,7 +3,7 @@
 ghost use Rattle.std.specs.Prelude.{◌≡◌, OnOk, OnErr, IsTrue};
 
 use crate::club::Club;
-use crate::edits::{cancel, credit, revoke, rotate};
+use crate::edits::{cancel, credit, open, revoke, rotate, set_quota};
 use club_core::Change;
 use std::alloc::AllocError;
 
@@ -22,6 +22,7 @@ impl Club {
         match change {
             Change::InsertMember(member) => self.members.push(member)?,
             Change::AddCredit { member, points } => credit(&mut self.members, &member, points),
+            Change::ReplaceQuota { member, quota } => set_quota(&mut self.members, &member, quota),
             Change::InsertFacility(facility) => self.facilities.push(facility)?,
             Change::InsertKey(key) => self.keys.push(key)?,
             Change::MarkRevoked { key } => revoke(&mut self.keys, &key),
@@ -32,6 +33,7 @@ impl Club {
                 ..
             } => rotate(&mut self.keys, &key, &root, until),
             Change::MarkClosed(slot) => self.closed.push(slot)?,
+            Change::MarkOpen(slot) => open(&mut self.closed, &slot),
             Change::InsertBooking { booking, .. } => self.bookings.push(booking)?,
             Change::MarkCancelled {
                 booking,

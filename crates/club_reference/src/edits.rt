@@ -6,7 +6,7 @@ ghost use Rattle.club_rows.specs.Limits.{credited_limit};
 ghost use Rattle.club_core.specs.After as after;
 
 use club_rows::{Booking, BookingNumber, Key, Member, OlderRoot, Root};
-use club_values::{Moment, Name};
+use club_values::{Moment, Name, Slot};
 
 fn credit_row(member: &Member, name: &Name, points: u32) -> Member
     requires { (after.credited_member name.now points member.now).credited ≤ credited_limit }
@@ -28,6 +28,26 @@ pub(crate) fn credit(members: &mut [Member], name: &Name, points: u32)
 {
     for member in members.iter_mut() {
         *member = credit_row(member, name, points);
+    }
+}
+
+fn quota_row(member: &Member, name: &Name, quota: u8) -> Member
+    ensures { result ≡ after.member_with_quota name.now quota member.now }
+{
+    let mut member = *member;
+    if member.name == *name {
+        member.quota = quota;
+    }
+    member
+}
+
+/// Gives the member of the name another quota.
+#[tactic(auto, using(crate::proofs::EditLemmas::edited_more))]
+pub(crate) fn set_quota(members: &mut [Member], name: &Name, quota: u8)
+    ensures { members.new ≡ map (after.member_with_quota name.now quota) members.old }
+{
+    for member in members.iter_mut() {
+        *member = quota_row(member, name, quota);
     }
 }
 
@@ -73,6 +93,13 @@ pub(crate) fn rotate(keys: &mut [Key], name: &Name, root: &Root, until: Moment)
     for key in keys.iter_mut() {
         *key = rotate_row(key, name, root, until);
     }
+}
+
+/// Takes the slot from the closed ones.
+pub(crate) fn open(closed: &mut Vec<Slot>, slot: &Slot)
+    ensures { closed.new.items ≡ after.closed_but slot.now closed.old.items }
+{
+    closed.retain(|other| other != slot);
 }
 
 fn cancel_row(booking: &Booking, key: &Name, number: BookingNumber, refund: u32) -> Booking

@@ -97,7 +97,9 @@ impl Club {
         ensures { result ≡ command_view self.now command.now }
     {
         match command {
-            Command::AddMember { name, .. } | Command::Credit { member: name, .. } => rows_seen(
+            Command::AddMember { name, .. }
+            | Command::Credit { member: name, .. }
+            | Command::SetQuota { member: name, .. } => rows_seen(
                 self.member_named(name),
                 None,
                 None,
@@ -111,6 +113,7 @@ impl Club {
             Command::RevokeKey { name } | Command::RotateKey { name, .. } => {
                 rows_seen(None, self.key_named(name), None)
             }
+            Command::OpenSlot(slot) => rows_seen(None, None, self.facility_named(&slot.facility)),
             Command::CloseSlot(slot) => CommandView {
                 member: None,
                 key: None,

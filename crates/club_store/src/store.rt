@@ -33,6 +33,8 @@ ghost use Rattle.club_core.specs.declared.change.Change.TheVariants.{
   MarkRevoked,
   ReplaceRoot,
   MarkClosed,
+  MarkOpen,
+  ReplaceQuota,
 };
 ghost use Rattle.sqlite.specs.Steps.{over_memory, IsFresh, IsEmpty};
 ghost use Rattle.sqlite.specs.View.{IsClean};
@@ -381,6 +383,7 @@ impl<S: Alter> Store<S> {
         match change {
             Change::InsertMember(member) => self.insert_member(member),
             Change::AddCredit { member, points } => self.add_credit(member, *points),
+            Change::ReplaceQuota { member, quota } => self.replace_quota(member, *quota),
             Change::InsertFacility(facility) => self.insert_facility(facility),
             Change::InsertKey(key) => self.insert_key(key),
             Change::MarkRevoked { key } => self.revoke_key(key),
@@ -391,6 +394,7 @@ impl<S: Alter> Store<S> {
                 until,
             } => self.replace_root(key, former, root, *until),
             Change::MarkClosed(slot) => self.close_slot(slot),
+            Change::MarkOpen(slot) => self.open_slot(slot),
             Change::InsertBooking { booking, member } => self
                 .tables
                 .insert_booking(booking, member),
@@ -430,6 +434,14 @@ impl<S: Alter> Store<S> {
         ensures makes { ChangesClub S.Store (AddCredit member.now points) self.old self.new result }
     {
         self.tables.add_credit(member, points)
+    }
+
+    /// Gives a member another quota, in one transaction. Fails as `apply`.
+    pub fn replace_quota(&mut self, member: &Name, quota: u8) -> Result<(), StoreFault>
+        ensures makes { ChangesClub S.Store (ReplaceQuota member.now quota)
+            self.old self.new result }
+    {
+        self.tables.replace_quota(member, quota)
     }
 
     /// Inserts a facility, in one transaction. Fails as `apply`.
@@ -482,5 +494,12 @@ impl<S: Alter> Store<S> {
         ensures makes { ChangesClub S.Store (MarkClosed slot.now) self.old self.new result }
     {
         self.tables.close_slot(slot)
+    }
+
+    /// Marks a slot open, in one transaction. Fails as `apply`.
+    pub fn open_slot(&mut self, slot: &Slot) -> Result<(), StoreFault>
+        ensures makes { ChangesClub S.Store (MarkOpen slot.now) self.old self.new result }
+    {
+        self.tables.open_slot(slot)
     }
 }

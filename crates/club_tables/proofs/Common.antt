@@ -31,6 +31,7 @@ pub use Rattle.club_core.specs.KeyParts.{older_root_of}
 pub use Rattle.club_core.specs.Store.{IsOwnedBy, IsTrueOf, IsToCancel, FitsClub, HasRoot}
 pub use Rattle.club_core.specs.Sums.{booking_under, cost_of, taken_in, is_in, is_under, is_to_come, count_to_come}
 pub use Rattle.club_core.specs.declared.change.Change.TheVariants.{InsertMember, AddCredit, InsertFacility, InsertKey, MarkRevoked, ReplaceRoot, MarkClosed}
+pub use Rattle.club_core.specs.declared.change.Change.TheVariants.{MarkOpen, ReplaceQuota}
 pub use Rattle.club_core.specs.declared.change.Change.TheVariants.{InsertBooking, MarkCancelled}
 pub use Rattle.club_core.specs.declared.slot_use.SlotUse.{SlotUse}
 pub use Rattle.club_core.specs.declared.store.StoreFault.{StoreFault}
@@ -114,7 +115,8 @@ pub use Rattle.club_tables.specs.Transaction.{BoundStatement, transaction_start,
 pub use Rattle.club_tables.specs.Transaction.{IsIdle, MayCommit, fault_by}
 pub use Rattle.club_tables.specs.declared.row.MemberRow.{MemberRow}
 pub use Rattle.club_tables.specs.declared.texts.TheConstants.{VERSION, ADD_USED, MAKE_DESK, DROP_BOOKINGS_BY_KEY, OLDER_ROOT, ADD_MEMBER, ADD_FACILITY, ADD_KEY}
-pub use Rattle.club_tables.specs.declared.texts.TheConstants.{ADD_BOOKING, CLOSE_SLOT, ADD_TAKEN, PUT_OLDER_ROOT, CANCEL_BOOKING, ADD_CREDIT, REVOKE_KEY}
+pub use Rattle.club_tables.specs.declared.texts.TheConstants.{ADD_BOOKING, CLOSE_SLOT, OPEN_SLOT, SET_QUOTA, ADD_TAKEN, PUT_OLDER_ROOT, CANCEL_BOOKING}
+pub use Rattle.club_tables.specs.declared.texts.TheConstants.{ADD_CREDIT, REVOKE_KEY}
 pub use Rattle.club_tables.specs.declared.texts.TheConstants.{SET_ROOT, MAKE_MEMBERS, MAKE_FACILITIES, MAKE_KEYS, MAKE_SLOTS, MAKE_BOOKINGS}
 pub use Rattle.club_tables.specs.declared.texts.TheConstants.{MAKE_KEYS_BY_MEMBER, MAKE_OLD_ROOTS, MAKE_BOOKINGS_BY_KEY, ADD_VERSION, SET_VERSION, DAY, KEY}
 pub use Rattle.club_tables.specs.declared.texts.TheConstants.{MEMBER, FACILITY, SLOT, BOOKING, COSTS_UNDER_KEY, OPEN}

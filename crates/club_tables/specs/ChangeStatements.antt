@@ -11,9 +11,10 @@ use Rattle.club_rows.specs.declared.booking.Booking.{Booking}
 use Rattle.club_rows.specs.Booking.{persons_of}
 use Rattle.club_core.specs.declared.change.Change.{Change}
 use Rattle.club_core.specs.declared.change.Change.TheVariants.{InsertMember, AddCredit, InsertFacility, InsertKey, MarkRevoked, ReplaceRoot, MarkClosed}
-use Rattle.club_core.specs.declared.change.Change.TheVariants.{InsertBooking, MarkCancelled}
+use Rattle.club_core.specs.declared.change.Change.TheVariants.{MarkOpen, ReplaceQuota, InsertBooking, MarkCancelled}
 use Rattle.club_core.specs.Sums.{cost_of}
 use Rattle.club_tables.specs.declared.texts.TheConstants.{ADD_MEMBER, ADD_CREDIT, ADD_FACILITY, ADD_KEY, REVOKE_KEY, PUT_OLDER_ROOT, SET_ROOT, CLOSE_SLOT}
+use Rattle.club_tables.specs.declared.texts.TheConstants.{OPEN_SLOT, SET_QUOTA}
 use Rattle.club_tables.specs.declared.texts.TheConstants.{ADD_BOOKING, CANCEL_BOOKING, CHARGE, ADD_USED, ADD_TAKEN}
 use Rattle.club_tables.specs.Columns.{whole, facility_values, key_values, older_root_values, booking_values, name_values}
 use Rattle.club_tables.specs.Stored.{persons_taken}
@@ -26,6 +27,9 @@ adding_member member = (ADD_MEMBER.now, Text member.name ∷ whole member.credit
 abbrev pub adding_credit : List ℕ → ℕ → List BoundStatement
 adding_credit member points = (ADD_CREDIT.now, Text member ∷ whole points ∷ []) ∷ []
 
+abbrev pub giving_quota : List ℕ → ℕ → List BoundStatement
+giving_quota member quota = (SET_QUOTA.now, Text member ∷ whole quota ∷ []) ∷ []
+
 abbrev pub adding_facility : Facility → List BoundStatement
 adding_facility facility = (ADD_FACILITY.now, facility_values facility) ∷ []
 
@@ -37,6 +41,10 @@ revoking key = (REVOKE_KEY.now, Text key ∷ []) ∷ []
 
 abbrev pub closing : Slot → List BoundStatement
 closing slot = (CLOSE_SLOT.now, name_values slot) ∷ []
+
+-- a slot that is open again, closed or not before
+abbrev pub reopening : Slot → List BoundStatement
+reopening slot = (OPEN_SLOT.now, name_values slot) ∷ []
 
 -- the older root is stored, and the key's root set, which was the older one
 abbrev pub rotating : Row → Row → List BoundStatement
@@ -76,11 +84,13 @@ cancelling booking member refund =
 abbrev pub statements_of : Change → List BoundStatement
 statements_of (InsertMember member) = adding_member member
 statements_of (AddCredit member points) = adding_credit member points
+statements_of (ReplaceQuota member quota) = giving_quota member quota
 statements_of (InsertFacility facility) = adding_facility facility
 statements_of (InsertKey key) = adding_key key
 statements_of (MarkRevoked key) = revoking key
 statements_of (ReplaceRoot key former root until) = replacing_root key root (record { root = former; until = until })
 statements_of (MarkClosed slot) = closing slot
+statements_of (MarkOpen slot) = reopening slot
 statements_of (InsertBooking booking member) = adding_booking booking member
 statements_of (MarkCancelled booking member refund) = cancelling booking member refund
 

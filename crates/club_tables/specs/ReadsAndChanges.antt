@@ -5,10 +5,10 @@ use Rattle.sqlite.specs.State.{HasCleanDisk, Survives}
 use Rattle.sqlite.specs.Held.{Held, state}
 use Rattle.club_core.specs.declared.change.Change.{Change}
 use Rattle.club_values.specs.Moment.{IsMoment}
-use Rattle.club_rows.specs.Limits.{IsRoot}
+use Rattle.club_rows.specs.Limits.{IsRoot, quota_limit}
 use Rattle.club_rows.specs.Rows.{IsMember, IsFacility, IsKey, IsSlot, IsBooking}
 use Rattle.club_core.specs.declared.change.Change.TheVariants.{InsertMember, AddCredit, InsertFacility, InsertKey, MarkRevoked, ReplaceRoot, MarkClosed}
-use Rattle.club_core.specs.declared.change.Change.TheVariants.{InsertBooking, MarkCancelled}
+use Rattle.club_core.specs.declared.change.Change.TheVariants.{MarkOpen, ReplaceQuota, InsertBooking, MarkCancelled}
 use Rattle.club_core.specs.declared.store.StoreFault.{StoreFault}
 use Rattle.club_core.specs.declared.store.StoreFault.TheVariants.{Storage}
 use Rattle.club_core.specs.Store.{Changes, FitsClub, KeepsClub, Returns}
@@ -54,11 +54,13 @@ pub record IsRunFault {S : Type 0} (g : Ghosts S) (fewest : ℕ) (statements : L
 abbrev pub InLimits : Change → Type 0
 InLimits (InsertMember member) = IsMember member
 InLimits (AddCredit name points) = points < 2 ^ 32
+InLimits (ReplaceQuota name quota) = quota ≤ quota_limit
 InLimits (InsertFacility facility) = IsFacility facility
 InLimits (InsertKey key) = IsKey key × (key.older ≡ None)
 InLimits (MarkRevoked name) = Unit {0}
 InLimits (ReplaceRoot key former root until) = IsRoot root × IsMoment until
 InLimits (MarkClosed slot) = IsSlot slot
+InLimits (MarkOpen slot) = IsSlot slot
 InLimits (InsertBooking booking member) = IsBooking booking
 InLimits (MarkCancelled booking member refund) = refund ≤ booking.charge
 

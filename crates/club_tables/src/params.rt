@@ -130,6 +130,16 @@ pub(crate) fn of_credit(member: &Name, points: u32) -> [ValueRef<'_>; 2]
     ]
 }
 
+/// A member, and the member's quota.
+pub(crate) fn of_quota(member: &Name, quota: u8) -> [ValueRef<'_>; 2]
+    ensures { bound result ≡ TextValue member.now ∷ whole quota ∷ [] }
+{
+    [
+        ValueRef::Text(member.as_bytes()),
+        ValueRef::Int(i64::from(quota)),
+    ]
+}
+
 /// A slot.
 pub(crate) fn of_slot(slot: &Slot) -> [ValueRef<'_>; 3]
     ensures { bound result ≡ name_values slot.now }

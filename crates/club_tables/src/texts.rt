@@ -112,6 +112,9 @@ pub(crate) const ADD_CREDIT: &str = "\
     SET credited = credited + ?2 \
     WHERE name = ?1 AND credited + ?2 <= 999999999";
 
+/// Sets the most bookings that a member may have open.
+pub(crate) const SET_QUOTA: &str = "UPDATE members SET quota = ?2 WHERE name = ?1";
+
 /// Adds to what the bookings of a member have cost, once a booking was written and its persons were
 /// added to its slot: if the key of the booking is the member's, the member has the points, and the
 /// slot has no more persons than its facility has places.
@@ -157,6 +160,13 @@ pub(crate) const CLOSE_SLOT: &str = "\
     VALUES (?1, ?2, ?3, 1, 0) \
     ON CONFLICT (facility, day, hour) \
     DO UPDATE SET closed = 1 WHERE closed = 0";
+
+/// Opens a slot, which may be open already. The row refers to the slot's facility.
+pub(crate) const OPEN_SLOT: &str = "\
+    INSERT INTO slots (facility, day, hour, closed, taken) \
+    VALUES (?1, ?2, ?3, 0, 0) \
+    ON CONFLICT (facility, day, hour) \
+    DO UPDATE SET closed = 0";
 
 /// Adds to the persons of a slot, which is open if it had no row; a negative number for a cancelled
 /// booking.

@@ -1,6 +1,7 @@
 //! Writes the changes of a club, each in a transaction of its own.
 
 ghost use Rattle.std.specs.Prelude.{◌≡◌, ◌≤◌, [], ◌∷◌, None, Err};
+ghost use Rattle.club_rows.specs.Limits.{quota_limit};
 ghost use Rattle.club_rows.specs.Rows.{IsMember, IsFacility, IsBooking};
 ghost use Rattle.sqlite.specs.Values.{bound};
 ghost use Rattle.club_core.specs.declared.change.Change.TheVariants.{
@@ -9,9 +10,11 @@ ghost use Rattle.club_core.specs.declared.change.Change.TheVariants.{
   InsertKey,
   InsertBooking,
   AddCredit,
+  ReplaceQuota,
   MarkRevoked,
   ReplaceRoot,
   MarkClosed,
+  MarkOpen,
   MarkCancelled,
 };
 ghost use Rattle.club_tables.specs.Fault.{Commits};
@@ -20,8 +23,10 @@ ghost use Rattle.club_tables.specs.ChangeStatements.{
   adding_facility,
   adding_key,
   adding_credit,
+  giving_quota,
   revoking,
   closing,
+  reopening,
   rotating,
   replacing_root,
   booking_with,
@@ -38,7 +43,7 @@ use crate::transaction::Statement;
 use crate::{params, texts};
 use club_core::StoreFault;
 use club_laws::sound::suiting_changes_keep_sound;
-use club_rows::{Booking, Facility, Key, Member};
+use club_rows::{Booking, Facility, Key, MAX_QUOTA, Member};
 use club_values::{Name, Slot};
 use sqlite::Alter;
 use sqlite::types::ValueRef;
@@ -110,6 +115,23 @@ impl<S: Alter> Tables<S> {
         self.write_one(texts::ADD_CREDIT, &params::of_credit(member, points))
     }
 
+    /// Gives a member another quota. Fails, and changes nothing, if the quota is out of its limits,
+    /// or the member isn't there.
+    pub fn replace_quota(&mut self, member: &Name, quota: u8) -> Result<(), StoreFault>
+        ensures commits { quota ≤ quota_limit
+            → Commits S.Store 1 (giving_quota member.now quota) self.old self.new result }
+        ensures out { ¬ (quota ≤ quota_limit)
+            → (result ≡ Err StoreFault.Storage) × (self.new ≡ self.old) }
+        ensures makes { ChangesClub S.Store (ReplaceQuota member.now quota)
+            self.old self.new result }
+    {
+        suiting_changes_keep_sound();
+        if u32::from(quota) > MAX_QUOTA {
+            return Err(StoreFault::Storage);
+        }
+        self.write_one(texts::SET_QUOTA, &params::of_quota(member, quota))
+    }
+
     /// Marks a key revoked.
     pub fn revoke_key(&mut self, key: &Name) -> Result<(), StoreFault>
         ensures commits { Commits S.Store 1 (revoking key.now) self.old self.new result }
@@ -162,6 +184,17 @@ impl<S: Alter> Tables<S> {
         suiting_changes_keep_sound();
         slot_within(slot);
         self.write_one(texts::CLOSE_SLOT, &params::of_slot(slot))
+    }
+
+    /// Marks a slot open, which may be open already. Fails, and changes nothing, if its facility
+    /// isn't there.
+    pub fn open_slot(&mut self, slot: &Slot) -> Result<(), StoreFault>
+        ensures commits { Commits S.Store 1 (reopening slot.now) self.old self.new result }
+        ensures makes { ChangesClub S.Store (MarkOpen slot.now) self.old self.new result }
+    {
+        suiting_changes_keep_sound();
+        slot_within(slot);
+        self.write_one(texts::OPEN_SLOT, &params::of_slot(slot))
     }
 
     /// Inserts a booking, adds its persons to those of its slot, and charges its member.

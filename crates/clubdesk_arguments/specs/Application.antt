@@ -4,8 +4,8 @@ use Rattle.clap.specs.Words.{Rule, Text}
 use Rattle.command_line.specs.Application.{as_required, flag_named, form_or_v2, option_named, positional_named, with_default}
 use Rattle.command_line.specs.Table.{Table}
 use Rattle.clubdesk_arguments.specs.declared.table.CommandName.{CommandName}
-use Rattle.clubdesk_arguments.specs.declared.table.CommandName.TheVariants.{AddMember, Credit, AddFacility, AddKey, RevokeKey, RotateKey}
-use Rattle.clubdesk_arguments.specs.declared.table.CommandName.TheVariants.{CloseSlot, Sheet, Serve, ShowAccount, ShowSlot}
+use Rattle.clubdesk_arguments.specs.declared.table.CommandName.TheVariants.{AddMember, Credit, SetQuota, AddFacility, AddKey, RevokeKey, RotateKey}
+use Rattle.clubdesk_arguments.specs.declared.table.CommandName.TheVariants.{CloseSlot, OpenSlot, Sheet, Serve, ShowAccount, ShowSlot}
 
 -- positional arguments that must be given, of which the first is the file
 abbrev pub positionals_over_file : List Text → List Rule
@@ -48,6 +48,7 @@ clubdesk = record {
   entries =
       record { command = AddMember; name = codes "add-member"; rules = positionals_over_file (codes "NAME" ∷ codes "QUOTA" ∷ []) }
       ∷ record { command = Credit; name = codes "credit"; rules = positionals_over_file (codes "MEMBER" ∷ codes "POINTS" ∷ []) }
+      ∷ record { command = SetQuota; name = codes "set-quota"; rules = positionals_over_file (codes "MEMBER" ∷ codes "QUOTA" ∷ []) }
       ∷ record {
         command = AddFacility;
         name = codes "add-facility";
@@ -65,6 +66,7 @@ clubdesk = record {
         rules = positionals_over_file (codes "KEY" ∷ codes "ROOT-OR-MOMENT" ∷ []) ++ (positional_named (codes "MOMENT") ∷ root_flag ∷ form_or_v2 ∷ []);
       }
       ∷ record { command = CloseSlot; name = codes "close-slot"; rules = slot_positionals }
+      ∷ record { command = OpenSlot; name = codes "open-slot"; rules = slot_positionals }
       ∷ record { command = Sheet; name = codes "sheet"; rules = positionals_over_file (codes "DAY" ∷ []) }
       ∷ record {
         command = Serve;

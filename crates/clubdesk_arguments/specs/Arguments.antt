@@ -95,6 +95,12 @@ module _ (read : Readers) where
     points ← number_value (codes "POINTS") rows
     Some (Office (Give (office.Credit member points)))
 
+  abbrev pub set_quota_of : List Row → Option Work
+  set_quota_of rows = do
+    member ← name_value (codes "MEMBER") rows
+    quota ← number_value (codes "QUOTA") rows
+    Some (Office (Give (office.SetQuota member quota)))
+
   abbrev pub add_facility_of : List Row → Option Work
   add_facility_of rows = do
     name ← name_value (codes "NAME") rows
@@ -134,6 +140,11 @@ module _ (read : Readers) where
     slot ← slot_in rows
     Some (Office (Give (office.CloseSlot slot)))
 
+  abbrev pub open_slot_of : List Row → Option Work
+  open_slot_of rows = do
+    slot ← slot_in rows
+    Some (Office (Give (office.OpenSlot slot)))
+
   abbrev pub sheet_of : List Row → Option Work
   sheet_of rows = do
     day ← read.day (value_in (codes "DAY") rows)
@@ -171,11 +182,13 @@ module _ (read : Readers) where
   abbrev pub work_named : CommandName → List Row → Result Work (Refusal Unit)
   work_named command.AddMember rows = unless_bad (add_member_of rows)
   work_named command.Credit rows = unless_bad (credit_of rows)
+  work_named command.SetQuota rows = unless_bad (set_quota_of rows)
   work_named command.AddFacility rows = unless_bad (add_facility_of rows)
   work_named command.AddKey rows = of_root_and_form rows add_key_of (root_and_form_in (first_of (codes "ROOT") rows) rows)
   work_named command.RevokeKey rows = unless_bad (revoke_key_of rows)
   work_named command.RotateKey rows = of_root_and_form rows rotate_key_of (root_and_form_in (rotation_root_in rows) rows)
   work_named command.CloseSlot rows = unless_bad (close_slot_of rows)
+  work_named command.OpenSlot rows = unless_bad (open_slot_of rows)
   work_named command.Sheet rows = unless_bad (sheet_of rows)
   work_named command.Serve rows = unless_bad (serve_of rows)
   work_named command.ShowAccount rows = unless_bad (show_account_of rows)

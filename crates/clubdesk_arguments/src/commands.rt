@@ -34,6 +34,7 @@ pub fn work_of<'a>(
     match name {
         CommandName::AddMember => or_bad_value(add_member(arguments)),
         CommandName::Credit => or_bad_value(credit(arguments)),
+        CommandName::SetQuota => or_bad_value(set_quota(arguments)),
         CommandName::AddFacility => or_bad_value(add_facility(arguments)),
         CommandName::AddKey => match root_and_form(alloc, arguments, given(arguments, "ROOT")) {
             Ok((root, form)) => or_bad_value(add_key(arguments, root, form)),
@@ -45,6 +46,7 @@ pub fn work_of<'a>(
             Err(fault) => Err(fault),
         },
         CommandName::CloseSlot => or_bad_value(close_slot(arguments)),
+        CommandName::OpenSlot => or_bad_value(open_slot(arguments)),
         CommandName::Sheet => or_bad_value(sheet(arguments)),
         CommandName::Serve => or_bad_value(serve(arguments)),
         CommandName::ShowAccount => or_bad_value(show_account(arguments)),
@@ -68,6 +70,15 @@ fn credit<'a>(arguments: &ArgMatches<'a>) -> Option<Work<'a>>
     let member = name_of(arguments, "MEMBER")?;
     let points = number_at(arguments, "POINTS")?;
     Some(Work::Office(Task::Give(Command::Credit { member, points })))
+}
+
+// `set-quota FILE MEMBER QUOTA`
+fn set_quota<'a>(arguments: &ArgMatches<'a>) -> Option<Work<'a>>
+    ensures { result ≡ spec.set_quota_of text_readers (rows_of (found_of arguments.now)) }
+{
+    let member = name_of(arguments, "MEMBER")?;
+    let quota = number_at(arguments, "QUOTA")?;
+    Some(Work::Office(Task::Give(Command::SetQuota { member, quota })))
 }
 
 // `add-facility FILE NAME KIND PLACES PRICE OPENS SHUTS`
@@ -141,6 +152,14 @@ fn close_slot<'a>(arguments: &ArgMatches<'a>) -> Option<Work<'a>>
 {
     let slot = slot_of(arguments)?;
     Some(Work::Office(Task::Give(Command::CloseSlot(slot))))
+}
+
+// `open-slot FILE FACILITY DAY HOUR`
+fn open_slot<'a>(arguments: &ArgMatches<'a>) -> Option<Work<'a>>
+    ensures { result ≡ spec.open_slot_of text_readers (rows_of (found_of arguments.now)) }
+{
+    let slot = slot_of(arguments)?;
+    Some(Work::Office(Task::Give(Command::OpenSlot(slot))))
 }
 
 // `sheet FILE DAY`

@@ -11,11 +11,13 @@ use std::alloc::{AllocError, Global};
 pub enum CommandName {
     AddMember,
     Credit,
+    SetQuota,
     AddFacility,
     AddKey,
     RevokeKey,
     RotateKey,
     CloseSlot,
+    OpenSlot,
     Sheet,
     Serve,
     ShowAccount,
@@ -44,6 +46,13 @@ const CREDIT_HELP: &str = "POINTS are 1 to 1000000; a member is credited at most
 
 Example:
   clubdesk credit club.db amy 10000";
+
+const SET_QUOTA_HELP: &str =
+    "QUOTA is the most bookings that the member has open at once, 0 to 99. Bookings
+above it stay.
+
+Example:
+  clubdesk set-quota club.db amy 8";
 
 const ADD_FACILITY_HELP: &str = "KIND is court, boat or room; PLACES 1 to 50; PRICE the points of
 one place for an hour, 0 to 9999; it OPENS and SHUTS at full hours, 0 to 24.
@@ -76,6 +85,12 @@ const CLOSE_SLOT_HELP: &str = "HOUR has two digits, 00 to 23.
 
 Example:
   clubdesk close-slot club.db court-1 2026-05-01 18";
+
+const OPEN_SLOT_HELP: &str = "The slot can be booked again. A slot that is open stays as it is.
+HOUR has two digits, 00 to 23.
+
+Example:
+  clubdesk open-slot club.db court-1 2026-05-01 18";
 
 const SHEET_HELP: &str = "Example:
   clubdesk sheet club.db 2026-05-01";
@@ -197,6 +212,17 @@ static CLUBDESK: Program<CommandName> = Program {
             ],
         },
         Row {
+            command: CommandName::SetQuota,
+            name: "set-quota",
+            about: "Gives a member another quota",
+            help: SET_QUOTA_HELP,
+            arguments: &[
+                FILE,
+                Argument::NeededPositional("MEMBER"),
+                Argument::NeededPositional("QUOTA"),
+            ],
+        },
+        Row {
             command: CommandName::AddFacility,
             name: "add-facility",
             about: "Adds a facility",
@@ -229,6 +255,13 @@ static CLUBDESK: Program<CommandName> = Program {
             name: "close-slot",
             about: "Closes a slot of a facility",
             help: CLOSE_SLOT_HELP,
+            arguments: SLOT,
+        },
+        Row {
+            command: CommandName::OpenSlot,
+            name: "open-slot",
+            about: "Opens a slot that was closed",
+            help: OPEN_SLOT_HELP,
             arguments: SLOT,
         },
         Row {

@@ -60,7 +60,7 @@ fn facilities(rt: HostRuntime) -> Result<(), Fail> {
     expect_over_clubs(&rt, 1, &FACILITIES)
 }
 
-static SLOTS_AND_SHEETS: [Row; 8] = [
+static SLOTS_AND_SHEETS: [Row; 13] = [
     Row("close-slot", "court-1 2026-05-01 18", "0 done\n"),
     Row("close-slot", "court-2 2026-05-01 07", "1 refused: unknown"),
     Row(
@@ -79,6 +79,11 @@ static SLOTS_AND_SHEETS: [Row; 8] = [
         "court-1 2026-05-01 20",
         "1 refused: slot in use",
     ),
+    Row("open-slot", "court-1 2026-05-01 18", "0 done\n"),
+    Row("open-slot", "court-1 2026-05-01 18", "0 done\n"),
+    Row("open-slot", "court-2 2026-05-01 18", "1 refused: unknown"),
+    Row("close-slot", "court-1 2026-05-01 18", "0 done\n"),
+    Row("close-slot", "court-1 2026-05-01 19", "1 refused: exists"),
     Row(
         "sheet",
         "2026-05-02",

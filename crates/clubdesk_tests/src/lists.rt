@@ -137,6 +137,9 @@ fn command_line(
         (PlainCommand::Credit(member, points), _) => {
             format!(in alloc; "clubdesk credit club {member} {points}")
         }
+        (PlainCommand::SetQuota(member, quota), _) => {
+            format!(in alloc; "clubdesk set-quota club {member} {quota}")
+        }
         (PlainCommand::AddFacility(facility, kind, places, price, opens, shuts), _) =>
             format!(in alloc;
                 "clubdesk add-facility club {facility} {kind} {places} {price} {opens} {shuts}"
@@ -152,6 +155,10 @@ fn command_line(
         (_, Command::CloseSlot(slot)) => {
             let (facility, day, hour) = (slot.facility, slot.day, slot.hour);
             format!(in alloc; "clubdesk close-slot club {facility} {day} {hour}")
+        }
+        (_, Command::OpenSlot(slot)) => {
+            let (facility, day, hour) = (slot.facility, slot.day, slot.hour);
+            format!(in alloc; "clubdesk open-slot club {facility} {day} {hour}")
         }
         _ => Ok(String::new(alloc)),
     }

@@ -10,7 +10,7 @@ use test_kit::exchanges::{
 };
 use test_kit::moments::{LATER, NOON};
 use test_kit::roots::{ROOT, SECOND_ROOT};
-use test_kit::{COURT_AT_19, PlainCommand, minutes};
+use test_kit::{COURT_AT_18, COURT_AT_19, PlainCommand, minutes};
 
 /// By `Desk::ask`.
 static BOOKS: Trial = Trial {
@@ -114,6 +114,42 @@ static CLOSES: Trial = Trial {
 #[test]
 fn closes_a_slot_or_not(rt: HostRuntime) {
     CLOSES.holds(&rt);
+}
+
+const CLOSE_THAT: Event = Event::Gives(PlainCommand::CloseSlot(COURT_AT_18));
+
+const OPEN_AT_19: Event = Event::Gives(PlainCommand::OpenSlot(COURT_AT_19));
+
+/// While the slot before it stays closed.
+static OPENS: Trial = Trial {
+    beginning: Beginning::Made(&[CLOSE_THAT, CLOSE_AT_19]),
+    task: &[OPEN_AT_19],
+    again: &[OPEN_AT_19, CLOSE_THAT],
+    first: &[DONE, EXISTS],
+    repeated: &[DONE, EXISTS],
+    calls: [46, 62],
+};
+
+#[test]
+fn opens_a_slot_or_not(rt: HostRuntime) {
+    OPENS.holds(&rt);
+}
+
+const SET_QUOTA: Event = Event::Gives(PlainCommand::SetQuota("amy", 1));
+
+/// Below the open bookings, which stay.
+static SETS_A_QUOTA: Trial = Trial {
+    beginning: Beginning::Made(&[Event::Asks(NOON, BOOK_7), Event::Asks(NOON, BOOK_8)]),
+    task: &[SET_QUOTA],
+    again: &[SET_QUOTA, Event::Asks(NOON, BOOK_7)],
+    first: &[DONE, BOOKED_7],
+    repeated: &[DONE, BOOKED_7],
+    calls: [46, 62],
+};
+
+#[test]
+fn sets_a_quota_or_not(rt: HostRuntime) {
+    SETS_A_QUOTA.holds(&rt);
 }
 
 const ROTATE: Event = Event::Gives(PlainCommand::RotateKey("amy-1", SECOND_ROOT, minutes::UNTIL));

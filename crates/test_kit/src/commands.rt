@@ -13,6 +13,8 @@ pub enum PlainCommand {
     AddMember(&'static str, u32),
     /// So many points for a member.
     Credit(&'static str, u32),
+    /// Another quota for a member.
+    SetQuota(&'static str, u32),
     /// A facility with so many places, each for so many points, from one hour to another.
     AddFacility(&'static str, Kind, u32, u32, u32, u32),
     /// A key of a member with this root.
@@ -22,6 +24,7 @@ pub enum PlainCommand {
     /// 1970-01-01T00:00.
     RotateKey(&'static str, &'static [u8], u32),
     CloseSlot(PlainSlot),
+    OpenSlot(PlainSlot),
 }
 
 /// Members `amy` and `bob`, each with quota 5, 10,000 points and a key; `court-1` with 4 places for
@@ -45,6 +48,11 @@ fn add_member(member: &str, quota: u32) -> Option<Command> {
 fn credit(member: &str, points: u32) -> Option<Command> {
     let member = Name::read(member.as_bytes())?;
     Some(Command::Credit { member, points })
+}
+
+fn set_quota(member: &str, quota: u32) -> Option<Command> {
+    let member = Name::read(member.as_bytes())?;
+    Some(Command::SetQuota { member, quota })
 }
 
 fn add_facility(
@@ -87,12 +95,17 @@ fn close_slot(slot: &PlainSlot) -> Option<Command> {
     Some(Command::CloseSlot(slot.slot()?))
 }
 
+fn open_slot(slot: &PlainSlot) -> Option<Command> {
+    Some(Command::OpenSlot(slot.slot()?))
+}
+
 impl PlainCommand {
     /// The command; `None` if a name, a root, a moment or a slot is out of its limits.
     pub fn command(&self) -> Option<Command> {
         match self {
             PlainCommand::AddMember(member, quota) => add_member(member, *quota),
             PlainCommand::Credit(member, points) => credit(member, *points),
+            PlainCommand::SetQuota(member, quota) => set_quota(member, *quota),
             PlainCommand::AddFacility(facility, kind, places, price, opens, shuts) => {
                 add_facility(facility, *kind, (*places, *price), (*opens, *shuts))
             }
@@ -100,6 +113,7 @@ impl PlainCommand {
             PlainCommand::RevokeKey(key) => revoke_key(key),
             PlainCommand::RotateKey(key, root, until) => rotate_key(key, root, *until),
             PlainCommand::CloseSlot(slot) => close_slot(slot),
+            PlainCommand::OpenSlot(slot) => open_slot(slot),
         }
     }
 }

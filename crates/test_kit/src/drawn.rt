@@ -190,9 +190,11 @@ impl Numbers {
         let member = MEMBERS[self.below(3) as usize];
         let key = KEYS[self.below(4) as usize];
         match self.below(24) {
-            0..=7 => PlainCommand::Credit(member, self.below(400)),
+            0..=5 => PlainCommand::Credit(member, self.below(400)),
+            6 | 7 => PlainCommand::SetQuota(member, self.below(110)),
             8 => PlainCommand::RevokeKey(key),
-            9 | 10 => PlainCommand::CloseSlot(self.slot()),
+            9 => PlainCommand::CloseSlot(self.slot()),
+            10 => PlainCommand::OpenSlot(self.slot()),
             11..=14 => self.rotation(key),
             15..=17 => PlainCommand::AddKey(SPARE, member, ROOT),
             18 => PlainCommand::AddKey(key, member, SECOND_ROOT),

@@ -209,6 +209,7 @@ fn make<S: Alter>(store: &mut Store<S>, change: &Change) -> Result<(), StoreFaul
     match change {
         Change::InsertMember(member) => store.insert_member(member),
         Change::AddCredit { member, points } => store.add_credit(member, *points),
+        Change::ReplaceQuota { member, quota } => store.replace_quota(member, *quota),
         Change::InsertFacility(facility) => store.insert_facility(facility),
         Change::InsertKey(key) => store.insert_key(key),
         Change::MarkRevoked { key } => store.revoke_key(key),
@@ -219,6 +220,7 @@ fn make<S: Alter>(store: &mut Store<S>, change: &Change) -> Result<(), StoreFaul
             until,
         } => store.replace_root(key, former, root, *until),
         Change::MarkClosed(slot) => store.close_slot(slot),
+        Change::MarkOpen(slot) => store.open_slot(slot),
         Change::InsertBooking { .. } | Change::MarkCancelled { .. } => store.apply(change),
     }
 }

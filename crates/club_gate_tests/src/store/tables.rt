@@ -36,6 +36,7 @@ pub(crate) enum Step {
 pub(crate) enum Expected {
     /// Of a name the member's points, and what the bookings cost.
     Member(&'static str, Option<(u32, u32)>),
+    Quota(&'static str, u8),
     Facility(&'static str, Option<PlainFacility>),
     Key(&'static str, Option<Kept>),
     OlderRoot(&'static str, Option<Older>),
@@ -97,6 +98,7 @@ impl<S: Alter> Played<S> {
         match change {
             Change::InsertMember(member) => tables.insert_member(member),
             Change::AddCredit { member, points } => tables.add_credit(member, *points),
+            Change::ReplaceQuota { member, quota } => tables.replace_quota(member, *quota),
             Change::InsertFacility(facility) => tables.insert_facility(facility),
             Change::InsertKey(key) => tables.insert_key(key),
             Change::MarkRevoked { key } => tables.revoke_key(key),
@@ -107,6 +109,7 @@ impl<S: Alter> Played<S> {
                 until,
             } => tables.replace_root(&rotation(key, former, root, *until)),
             Change::MarkClosed(slot) => tables.close_slot(slot),
+            Change::MarkOpen(slot) => tables.open_slot(slot),
             Change::InsertBooking { booking, member } => { tables.insert_booking(booking, member) }
             Change::MarkCancelled {
                 booking,
@@ -123,6 +126,7 @@ impl<S: Alter> Played<S> {
     fn expects(&mut self, rt: &(impl Abort + Alloc<A = Global>), expected: &Expected) {
         match expected {
             Expected::Member(member, points) => self.expects_member(rt, member, points),
+            Expected::Quota(member, quota) => self.expects_quota(rt, member, *quota),
             Expected::Facility(facility, place) => self.expects_facility(rt, facility, place),
             Expected::Key(key, kept) => self.expects_key(rt, key, kept),
             Expected::OlderRoot(key, older) => self.expects_older_root(rt, key, older),
@@ -143,6 +147,12 @@ impl<S: Alter> Played<S> {
             }
             (found, points) => expect_eq(rt, &found.is_some(), &points.is_some()),
         }
+    }
+
+    fn expects_quota(&mut self, rt: &impl Abort, text: &str, quota: u8) {
+        let found = self.tables.member(&name(rt, text)).expect(rt, "an answer");
+        let found = found.expect(rt, "a member");
+        expect_eq(rt, &found.member.quota, &quota);
     }
 
     fn expects_facility(&mut self, rt: &impl Abort, facility: &str, place: &Option<PlainFacility>) {

@@ -8,7 +8,8 @@ use super::write::Write;
 use std::test::*;
 use test_kit::roots::{SECOND_ROOT, THIRD_ROOT};
 use test_kit::{
-    BOOKING_7, BOOKING_8, COURT, COURT_AT_18, COURT_AT_19, PlainBooking, PlainSlot, ROOM_AT_18,
+    BOOKING_7, BOOKING_8, COURT, COURT_AT_18, COURT_AT_19, COURT_AT_22, PlainBooking, PlainSlot,
+    ROOM_AT_18,
 };
 
 /// As it was on record, and as it is.
@@ -231,8 +232,26 @@ fn a_booking_beyond_the_places_or_the_balance(rt: HostRuntime) {
     plays_filled(&rt, &BEYOND);
 }
 
+/// A quota beyond its limit, and one of an unknown member; then those of the limits.
+static QUOTAS: [Step; 9] = [
+    Step::Writes(Write::Ben(0)),
+    Step::Refuses(Write::Quota("amy", 100)),
+    Step::Refuses(Write::Quota("cy", 5)),
+    Step::Expects(Expected::Quota("amy", 5)),
+    Step::Writes(Write::Quota("amy", 99)),
+    Step::Expects(Expected::Quota("amy", 99)),
+    Step::Writes(Write::Quota("amy", 0)),
+    Step::Expects(Expected::Quota("amy", 0)),
+    Step::Expects(Expected::Quota("ben", 5)),
+];
+
+#[test]
+fn a_quota_of_no_member(rt: HostRuntime) {
+    plays_filled(&rt, &QUOTAS);
+}
+
 /// A slot with a row, and one without.
-static CLOSES_TWICE: [Step; 7] = [
+static CLOSES_TWICE: [Step; 14] = [
     Step::Writes(Write::Close(COURT_AT_18)),
     Step::Refuses(Write::Close(COURT_AT_18)),
     Step::Writes(Write::Close(COURT_AT_19)),
@@ -240,6 +259,14 @@ static CLOSES_TWICE: [Step; 7] = [
     Step::Refuses(Write::Close(NOWHERE)),
     Step::Expects(Expected::Slot(COURT_AT_18, 3, true)),
     Step::Expects(Expected::Slot(COURT_AT_19, 0, true)),
+    // An open slot can be opened, and its persons stay; one of an unknown facility can't.
+    Step::Writes(Write::Open(COURT_AT_18)),
+    Step::Expects(Expected::Slot(COURT_AT_18, 3, false)),
+    Step::Expects(Expected::Slot(COURT_AT_19, 0, true)),
+    Step::Writes(Write::Open(COURT_AT_18)),
+    Step::Writes(Write::Open(COURT_AT_22)),
+    Step::Refuses(Write::Open(NOWHERE)),
+    Step::Expects(Expected::Slot(COURT_AT_22, 0, false)),
 ];
 
 #[test]

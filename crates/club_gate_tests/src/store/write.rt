@@ -21,7 +21,10 @@ pub(crate) enum Write {
     Revoke,
     /// Gives a key a new root, in place of the former one, which is good until the moment.
     Rotate(&'static str, Older, &'static [u8]),
+    /// A quota for a member.
+    Quota(&'static str, u8),
     Close(PlainSlot),
+    Open(PlainSlot),
     Book(PlainBooking),
     /// A booking that is charged to ben.
     BookForBen(PlainBooking),
@@ -77,7 +80,12 @@ pub(crate) fn change(rt: &impl Abort, write: &Write) -> Change {
         Write::Key(kept) => Change::InsertKey(key(rt, kept)),
         Write::Revoke => revoke_change(rt),
         Write::Rotate(key, former, to) => rotate_change(rt, key, former, to),
+        Write::Quota(member, quota) => Change::ReplaceQuota {
+            member: name(rt, member),
+            quota: *quota,
+        },
         Write::Close(at) => Change::MarkClosed(slot(rt, at)),
+        Write::Open(at) => Change::MarkOpen(slot(rt, at)),
         Write::Book(row) => booking_change(rt, row, "amy"),
         Write::BookForBen(row) => booking_change(rt, row, "ben"),
         Write::Cancel(row, refund) => cancel_change(rt, row, "amy", *refund),

@@ -5,6 +5,7 @@ use Rattle.club_tables.proofs.Common.{bytes_eq-Decides, and-true, or-false, ever
 use Rattle.club_tables.proofs.Common.{understood, Value, Arith, Add, binary, Row, column, rowid, cast, cast_row, next_rowid, shown, value_rows, command_of}
 use Rattle.club_tables.proofs.Common.{first_key, conflicts, Database, works, Enforced, All-contains_itself, recursion_from_All, arith, truth, Member, Facility}
 use Rattle.club_tables.proofs.Common.{Key, Booking, Slot, same_slot, SlotUse, OlderRoot, MemberRow, ADD_MEMBER, ADD_FACILITY, ADD_KEY, ADD_BOOKING, CLOSE_SLOT}
+use Rattle.club_tables.proofs.Common.{OPEN_SLOT}
 use Rattle.club_tables.proofs.Common.{ADD_TAKEN, PUT_OLDER_ROOT, members_table, facilities_table, keys_table, bookings_table, club_schema, slots_table}
 use Rattle.club_tables.proofs.Common.{old_roots_table, whole, member_values, facility_values, key_values, booking_values, flag, name_values, use_values}
 use Rattle.club_tables.proofs.Common.{slot_values, older_root_values, older_values, Rows, SlotRow, no_slot_use, OlderRow, older_by, stored_slot_use, row_of}
@@ -234,6 +235,22 @@ slot_was_open rows once slot old new count holds_rows executed some = go (row_of
         (cast_int (pos 0)) close_use (λ there next. refl) (λ row. not row.held.closed) (λ id next there row. open_is row.held) old new count holds_rows
         executed some x is in
         false_of x.held.closed was_open
+
+-- ---- a slot is opened, closed or not
+
+open_puts : PutsSlot OPEN_SLOT.now (lit Null ∷ col 0 0 ∷ col 0 1 ∷ col 0 2 ∷ lit (Int (pos 0)) ∷ lit (Int (pos 0)) ∷ []) []
+    (col 1 0 ∷ col 1 0 ∷ col 1 1 ∷ col 1 2 ∷ col 1 3 ∷ lit (Int (pos 0)) ∷ col 1 5 ∷ []) 3
+unfolding understood everything
+open_puts = record { is = refl; plain = (refl, refl); aims = refl; by = refl }
+
+abbrev pub open_use : SlotUse → SlotUse
+open_use held = record held { closed = false }
+
+pub slot_opened : (rows : Rows) → AllPairs (λ (a : SlotRow) (b : SlotRow). a.slot ≢ b.slot) rows.slots → (slot : Slot)
+    → Steps (OPEN_SLOT.now, name_values slot) rows (record rows { slots = put_slot slot open_use rows.slots })
+slot_opened rows once slot =
+    slot_put open_puts rows once slot (name_values slot) (whole 0) (whole 0) refl (cast_int (pos 0)) (cast_int (pos 0)) open_use (λ _. refl)
+    (λ there next. refl) (λ x is id next there. (refl, refl))
 
 -- ---- persons are added to a slot
 

@@ -5,7 +5,8 @@ use Rattle.club_tables.proofs.Common.{or-false, everything, Int, Text, Blob, Bin
 use Rattle.club_tables.proofs.Common.{holds, lit, Query, inner, end, counted, Update, understood, State, Executes, Key, credited_member, revoked_key}
 use Rattle.club_tables.proofs.Common.{rotated_key, truth, MemberRow, ADD_CREDIT, ADD_USED, REVOKE_KEY, SET_ROOT, club_schema, used_values, whole, member_values}
 use Rattle.club_tables.proofs.Common.{key_values, select, is_given, Rows, BoundStatement, Holds, HoldsRows, members_tree, keys_tree}
-use Rattle.club_tables.proofs.Common.{is_true, int_cmp, nat_le, nat_tests, arith, value_cmp-Int}
+use Rattle.club_tables.proofs.Common.{is_true, int_cmp, nat_le, nat_tests, arith, value_cmp-Int, SET_QUOTA}
+use Rattle.club_core.specs.After.{member_with_quota}
 use Rattle.std.specs.Ordering.{is_le}
 use Rattle.sqlite_sql.specs.declared.ops.CompareOp.TheVariants.{Le}
 use Rattle.club_tables.proofs.statements.MeansLemmas.{Wrote}
@@ -90,6 +91,10 @@ credited_row name points row = record row { member = credited_member name points
 abbrev pub used_row : List ℕ → (ℕ → ℕ) → MemberRow → MemberRow
 used_row name next row = record row { used = if bytes_eq row.member.name name then next row.used else row.used }
 
+-- a member of this name gets another quota
+abbrev pub quota_row : List ℕ → ℕ → MemberRow → MemberRow
+quota_row name quota row = record row { member = member_with_quota name quota row.member }
+
 -- `<=` of two whole numbers
 pub whole_to : (m n : ℕ) → is_true (binary (Compare Le Binary) (Int (pos m)) (Int (pos n))) ≡ nat_le m n
 unfolding binary
@@ -105,6 +110,13 @@ credit_tests = is_given 1 0 ∷ op2 (Compare Le Binary) (op2 (Arith Add) (col 1 
 credit_means : Means club_schema ADD_CREDIT.now (Update 1 (record { lets = []; body = select (inner members_tree end) credit_tests credit_terms }))
 unfolding understood everything
 credit_means = record { is = refl; plain = (refl, refl) }
+
+abbrev quota_terms : List Term
+quota_terms = col 1 0 ∷ col 1 0 ∷ col 1 1 ∷ col 1 2 ∷ col 0 1 ∷ col 1 4 ∷ []
+
+quota_means : Means club_schema SET_QUOTA.now (Update 1 (record { lets = []; body = select (inner members_tree end) (is_given 1 0 ∷ []) quota_terms }))
+unfolding understood everything
+quota_means = record { is = refl; plain = (refl, refl) }
 
 abbrev pub owner_tests : List Term
 owner_tests = op2 (Compare Eq Binary) (col 2 1) (col 0 2) ∷ op2 (Compare Eq Binary) (col 2 2) (col 0 0) ∷ []
@@ -164,6 +176,29 @@ module _ (rows : Rows) (once : AreNamedOnce rows.members) (name : List ℕ) wher
         (rw (text_equal (name_of row) name, sum, whole_to (row.member.credited + points) 999_999_999, low, (found is_named rows.members row is).1) refl)
         (credited_row name points) (λ row fails. rw fails refl) (λ id passes. rw (passes, sum) refl) casts_member
         (λ wrote held. on_members holds_rows wrote held)
+
+  module _ (quota : ℕ) where
+    abbrev quota_params : Row
+    quota_params = Text name ∷ whole quota ∷ []
+
+    quota_finds : WhenRan (SET_QUOTA.now, quota_params) rows (λ old new count.
+        FindsOne member_values is_named is_named rows.members (shows quota_params (is_given 1 0 ∷ []) quota_terms) old new member_table count)
+    quota_finds old new count holds_rows ran =
+        let hit = finds member_values is_named rows.members (updates quota_means member_table refl holds_rows.schema ran) holds_rows.held.members
+        (λ id row. and-true _ ∙ text_equal (name_of row) name) in
+        search (rules, low_named)
+
+    -- the member is there, if a row is written
+    pub quota_found : WhenRan (SET_QUOTA.now, quota_params) rows (λ old new count. 1 ≤ count → (row : MemberRow) × StoresMember name rows.members row)
+    quota_found old new count holds_rows ran some =
+        let one = one_found (quota_finds old new count holds_rows ran) some in
+        (one.0, one.1)
+
+    pub member_given : (row : MemberRow) → StoresMember name rows.members row
+        → Steps (SET_QUOTA.now, quota_params) rows (record rows { members = map (quota_row name quota) rows.members })
+    member_given row is old new count holds_rows ran =
+        one_changed (quota_finds old new count holds_rows ran) row is (found is_named rows.members row is).1 (quota_row name quota)
+        (λ row fails. rw fails refl) (λ id passes. rw passes refl) casts_member (λ wrote held. on_members holds_rows wrote held)
 
   module _ (points : ℤ) (key : List ℕ) where
     abbrev used_params : Row

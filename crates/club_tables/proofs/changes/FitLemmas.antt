@@ -5,7 +5,8 @@ use Rattle.club_tables.proofs.Common.{nat_le}
 use Rattle.club_tables.proofs.Common.{nat_tests, AllByRecursion, All-from_recursion, All-contains, all_from_map, all_has, has_found, has_kept, Has}
 use Rattle.club_tables.proofs.Common.{map-map, Ghosts}
 use Rattle.club_tables.proofs.Common.{Held, state, Database, HoldsClub, Ran, Club, Member, Facility, Key, Booking, Slot, SlotRow, SlotUse, MemberRow}
-use Rattle.club_tables.proofs.Common.{IsMember, InLimits, InsertMember, AddCredit, InsertFacility, InsertKey, MarkRevoked, ReplaceRoot, MarkClosed}
+use Rattle.club_tables.proofs.Common.{IsMember, InLimits, InsertMember, AddCredit, InsertFacility, InsertKey, MarkRevoked, ReplaceRoot, MarkClosed, MarkOpen}
+use Rattle.club_tables.proofs.Common.{ReplaceQuota}
 use Rattle.club_tables.proofs.Common.{InsertBooking}
 use Rattle.club_tables.proofs.Common.{MarkCancelled, member_row, member_named, facility_named, same_slot, cost_of, taken_in, used_by, statements_of}
 use Rattle.club_tables.proofs.Common.{FitsClub, row_of}
@@ -15,7 +16,7 @@ use Rattle.club_laws.specs.SoundRuns.{Suits, SuitsBooking, SuitingChangesKeepSou
 use Rattle.club_tables.proofs.changes.AddLemmas.{new_row, close_use, take_use, member_put, facility_put, key_put, slot_closed, slot_was_open}
 use Rattle.club_tables.proofs.changes.ChangeLemmas.{credit_found, whole_to}
 use Rattle.club_tables.proofs.changes.ObeyLemmas.{members_apart, facilities_apart, keys_apart, key_members, slot_facilities}
-use Rattle.club_tables.proofs.changes.FoundLemmas.{put_there, the_named}
+use Rattle.club_tables.proofs.changes.FoundLemmas.{slot_placed, the_named}
 use Rattle.club_tables.proofs.changes.PlanLemmas.{start, is_true, booked_by, adds, filled_use, member_of}
 use Rattle.club_tables.proofs.changes.PlanLemmas.{members_once}
 use Rattle.club_tables.proofs.lists.KeyedRows.{put_slot, slot_once, same_itself}
@@ -138,6 +139,7 @@ module _ {S : Type 0} (g : Ghosts S) (old : Held S) (club : Club) (tables : Hold
       let few = credited name row.0 m.0 m.1 m.2 in
       let low = rw (total row.0.member.credited points (omega (arith, few, within)), whole_to (row.0.member.credited + points) 999_999_999) at row.2 in
       (m.0, m.1, subst (λ (r : MemberRow). r.member.credited + points ≤ credited_limit) m.2 (at_most (row.0.member.credited + points) 999_999_999 low))
+  suits db (ReplaceQuota name quota) within ran = within
   suits db (InsertFacility facility) within ran =
       let t = ran.turns in
       let put = facility_put tables.rows facility (start g old club tables) (state g t.0) t.1 tables.holds_rows t.2 in
@@ -163,16 +165,12 @@ module _ {S : Type 0} (g : Ghosts S) (old : Held S) (club : Club) (tables : Hold
   suits db (MarkClosed slot) within ran =
       let t = ran.turns in
       let opened = slot_was_open tables.rows tables.storage.once slot (start g old club tables) (state g t.0) t.1 tables.holds_rows t.2 t.4 in
-      let put = slot_closed tables.rows tables.storage.once slot opened (start g old club tables) (state g t.0) t.1 tables.holds_rows t.2 in
-      let at = put_there slot close_use tables.rows.slots in
-      let at_is = has_found (λ (row : SlotRow). same_slot row.slot slot) (put_slot slot close_use tables.rows.slots) at.0 at.1 in
-      let known = all_has _ (put_slot slot close_use tables.rows.slots) at.0 (slot_facilities put.0) at_is.0 in
-      let same = same_slots at.0.slot slot at_is.1 in (
+      let put = slot_closed tables.rows tables.storage.once slot opened (start g old club tables) (state g t.0) t.1 tables.holds_rows t.2 in (
         within,
         sym (ap (λ (u : SlotUse). u.closed) (tables.storage.slots slot)) ∙ opened,
-        subst (λ (s : Slot). Contains (map (λ (f : Facility). f.name) club.facilities) s.facility) same
-            (subst (λ (fs : List Facility). Contains (map (λ (f : Facility). f.name) fs) at.0.slot.facility) tables.storage.facilities known),
+        slot_placed club.facilities tables.rows tables.storage.facilities slot close_use put.0,
       )
+  suits db (MarkOpen slot) within ran = tt
   suits db (InsertBooking booking member) within ran = booking_suits db booking member within ran
   suits db (MarkCancelled booking member refund) within ran =
       let it = is_true g old club tables db (MarkCancelled booking member refund) within ran in (it.0.0, within)

@@ -7,11 +7,17 @@ use Rattle.club_tables.proofs.Common.{IsSound, taken_in}
 use Rattle.club_tables.proofs.Common.{same_slot, IsBooking, Booking, Facility, Slot}
 use Rattle.club_tables.proofs.Common.{whole}
 use Rattle.club_tables.proofs.Common.{persons_taken}
-use Rattle.club_tables.proofs.Common.{SlotRow, AllPairs, Has, has_kept, slice_get, filter}
+use Rattle.club_tables.proofs.Common.{SlotRow, AllPairs, Has, has_kept, slice_get, filter, all_has, has_found, Database, HoldsRows, Rows, subst}
+use Rattle.club_tables.proofs.Common.{FitsClub, MarkClosed, is_closed, AllByRecursion}
+use Rattle.club_tables.proofs.lists.OwnerLemmas.{apart_last}
+use Rattle.club_tables.proofs.lists.KeyedRows.{not_same}
+use Rattle.club_tables.proofs.statements.SelectLemmas.{apart_from_pairs}
+use Rattle.club_core.specs.Store.{HasFacility}
+use Rattle.club_tables.proofs.changes.ObeyLemmas.{slot_facilities}
 use Rattle.club_tables.proofs.Common.{false, list_any, find-append, option_or, row_of}
 use Rattle.club_tables.proofs.lists.KeyedRows.{put_slot, changed, new_row, absent}
-use Rattle.club_tables.proofs.queries.KeyLemmas.{one_named}
-use Rattle.club_tables.proofs.statements.PassLemmas.{any_counts}
+use Rattle.club_tables.proofs.queries.KeyLemmas.{one_named, same_slots}
+use Rattle.club_tables.proofs.statements.PassLemmas.{any_counts, contains_counts}
 use Rattle.club_tables.proofs.statements.SelectLemmas.{find_first, only}
 use Rattle.club_rows.specs.Limits.{places_limit}
 use Rattle.club_tables.proofs.changes.CancelLemmas.{there}
@@ -58,6 +64,34 @@ put_there slot change rows = go (list_any is_of rows) refl
           ∙ ap (λ o. option_or o (cond (is_of (new_row slot change)) (Some (new_row slot change)) None)) (absent is_of rows none)
           ∙ ap (λ b. cond b (Some (new_row slot change)) None) (same_itself slot),
     )
+
+-- the facility of a slot whose row was put is there
+pub slot_placed : {db : Database} (facilities : List Facility) (rows : Rows) → rows.facilities ≡ facilities → (slot : Slot) (change : SlotUse → SlotUse)
+    → HoldsRows db (record rows { slots = put_slot slot change rows.slots }) → Contains (map (λ (f : Facility). f.name) facilities) slot.facility
+slot_placed facilities rows same slot change holds =
+    let at = put_there slot change rows.slots in
+    let at_is = has_found (λ (row : SlotRow). same_slot row.slot slot) (put_slot slot change rows.slots) at.0 at.1 in
+    let known = all_has _ (put_slot slot change rows.slots) at.0 (slot_facilities holds) at_is.0 in
+    subst (λ (s : Slot). Contains (map (λ (f : Facility). f.name) facilities) s.facility) (same_slots at.0.slot slot at_is.1)
+    (subst (λ (fs : List Facility). Contains (map (λ (f : Facility). f.name) fs) at.0.slot.facility) same known)
+
+-- the row of a facility whose name is among those
+pub facility_there : (club : Club) (name : List ℕ) → Contains (map (λ (f : Facility). f.name) club.facilities) name → HasFacility name club
+facility_there club name named =
+    let is_of : Facility → Bool = λ f. bytes_eq f.name name in
+    let there = contains_mapped (λ (f : Facility). f.name) club.facilities name named in
+    find_some is_of club.facilities (contains_counts is_of club.facilities there.0 there.1 ((bytes_eq-Decides there.0.name name).1 there.2))
+
+-- a slot that may be closed is open
+pub still_open : (club : Club) (slot : Slot) → FitsClub (MarkClosed slot) club → is_closed slot club ≡ false
+still_open club slot fits =
+    let apart = apart_last (λ (a : Slot) (b : Slot). a ≢ b) club.closed slot
+    (apart_from_pairs (λ (a : Slot) (b : Slot). a ≢ b) (club.closed ++ slot ∷ []) fits.sound.unique.closed) in
+    go club.closed apart
+  where
+    go : (slots : List Slot) → AllByRecursion (λ (other : Slot). other ≢ slot) slots → list_any (λ other. same_slot other slot) slots ≡ false
+    go [] apart = refl
+    go (other ∷ slots) apart = rw (not_same other slot apart.0) (go slots apart.1)
 
 -- the one element of a name among others of unique names
 pub the_named : {X : Type 0} (name : X → List ℕ) (xs : List X) (x : X) → AllPairs (λ a b. name a ≢ name b) xs → Has xs x

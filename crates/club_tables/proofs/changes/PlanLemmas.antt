@@ -4,7 +4,8 @@ use Rattle.club_tables.proofs.Common.{if◌then◌else◌, [], ◌∷◌, ◌++�
 use Rattle.club_tables.proofs.Common.{bytes_eq-Decides, find, option_map, bytes_eq, Database, Held, state, Row, binary, Arith, Add, cond}
 use Rattle.club_tables.proofs.Common.{SlotUse, IsMember, Executes, State, Ghosts, Int, good_until, after, cancelled_booking, credited_member, Club}
 use Rattle.club_tables.proofs.Common.{member_named, key_named, IsOwnedBy, IsTrueOf, FitsClub, booking_under, cost_of, taken_in, InsertMember}
-use Rattle.club_tables.proofs.Common.{AddCredit, InsertFacility, InsertKey, MarkRevoked, ReplaceRoot, MarkClosed, InsertBooking, MarkCancelled, StoreFault}
+use Rattle.club_tables.proofs.Common.{AddCredit, InsertFacility, InsertKey, MarkRevoked, ReplaceRoot, MarkClosed, MarkOpen, ReplaceQuota, InsertBooking}
+use Rattle.club_tables.proofs.Common.{MarkCancelled, StoreFault}
 use Rattle.club_tables.proofs.Common.{same_slot, persons_of, IsBooking, Booking, Facility, Key, Member, Slot, used_values, statements_of}
 use Rattle.club_tables.proofs.Common.{adding_booking, cancelling, whole, name_values, FailsInTurn, Rows, member_row, used_by}
 use Rattle.club_tables.proofs.Common.{persons_taken, IsStoredAs, HoldsClub, HoldsRows, Ran, transaction_start, BoundStatement, RanInTurn, MemberRow, ADD_USED}
@@ -20,12 +21,14 @@ use Rattle.club_tables.proofs.queries.KeyLemmas.{same_slots}
 use Rattle.club_tables.proofs.statements.SelectLemmas.{apart_from_pairs}
 use Rattle.club_core.specs.declared.change.Change.{Change}
 use Rattle.club_rows.specs.Limits.{credited_limit}
-use Rattle.club_tables.proofs.changes.AddLemmas.{booking_put, member_put, facility_put, key_put, slot_taken, slot_closed, older_represents, put_older}
+use Rattle.club_tables.proofs.changes.AddLemmas.{booking_put, member_put, facility_put, key_put, slot_taken, slot_closed, slot_opened, open_use}
+use Rattle.club_tables.proofs.changes.AddLemmas.{older_represents}
+use Rattle.club_tables.proofs.changes.AddLemmas.{put_older}
 use Rattle.club_tables.proofs.changes.CancelLemmas.{booking_cancelled, cancel_found, there, used_back, taken_back, mapped_holds, used_less, taken_less}
 use Rattle.club_tables.proofs.changes.ChangeLemmas.{owner_found, AreKeysOnce, StoresKey, name_of, member_used, AreNamedOnce, used_row, StoresMember, one_found}
-use Rattle.club_tables.proofs.changes.ChangeLemmas.{member_credited, root_found, key_revoked, revoke_finds}
+use Rattle.club_tables.proofs.changes.ChangeLemmas.{member_credited, member_given, quota_found, root_found, key_revoked, revoke_finds}
 use Rattle.club_tables.proofs.changes.StoredLemmas.{taken_more, member_stored, credit_stored, facility_stored, key_stored, revoke_stored, rotate_stored}
-use Rattle.club_tables.proofs.changes.StoredLemmas.{close_stored, used_more, bookings_stored}
+use Rattle.club_tables.proofs.changes.StoredLemmas.{close_stored, open_stored, quota_stored, used_more, bookings_stored}
 use Rattle.club_tables.proofs.lists.OwnerLemmas.{all_last, owner_is}
 use Rattle.club_tables.proofs.queries.KeyLemmas.{find_mapped, AreBookingsOnce}
 use Rattle.club_tables.proofs.queries.MemberLemmas.{total}
@@ -35,7 +38,7 @@ use Rattle.club_tables.proofs.changes.ChangeLemmas.{root_set}
 use Rattle.club_tables.proofs.lists.KeyedRows.{same_itself}
 use Rattle.club_tables.proofs.statements.MeansLemmas.{Steps}
 use Rattle.club_tables.proofs.changes.ChargeLemmas.{Charged, charge_found, member_charged}
-use Rattle.club_tables.proofs.changes.FoundLemmas.{contains_mapped, minus, few_taken, put_there, few_persons}
+use Rattle.club_tables.proofs.changes.FoundLemmas.{contains_mapped, minus, few_taken, put_there, few_persons, facility_there, slot_placed, still_open}
 
 -- ---- statements in turn
 
@@ -159,6 +162,10 @@ module _ {S : Type 0} (g : Ghosts S) (old : Held S) (club : Club) (tables : Hold
       let t = ran.turns in
       let row = credit_found tables.rows members_once name points start (state g t.0) t.1 tables.holds_rows t.2 t.4 in
       let m = member_of name row.0 row.1 in (m.0, m.1)
+  is_true db (ReplaceQuota name quota) within ran =
+      let t = ran.turns in
+      let row = quota_found tables.rows members_once name quota start (state g t.0) t.1 tables.holds_rows t.2 t.4 in
+      let m = member_of name row.0 row.1 in (m.0, m.1)
   is_true db (MarkRevoked name) within ran =
       let t = ran.turns in
       let one = one_found (revoke_finds tables.rows keys_once name start (state g t.0) t.1 tables.holds_rows t.2) t.4 in
@@ -170,6 +177,10 @@ module _ {S : Type 0} (g : Ghosts S) (old : Held S) (club : Club) (tables : Hold
       let one = root_found _ keys_once name root was (state g t1.0) (state g t2.0) t2.1 put.0 t2.2 t2.4 in
       (one.0, subst (λ keys. StoresKey name keys one.0) tables.storage.keys one.1, one.2)
   is_true db (MarkClosed slot) within ran = tt
+  is_true db (MarkOpen slot) within ran =
+      let t = ran.turns in
+      let put = slot_opened tables.rows tables.storage.once slot start (state g t.0) t.1 tables.holds_rows t.2 in
+      facility_there club slot.facility (slot_placed club.facilities tables.rows tables.storage.facilities slot open_use put.0)
   is_true db (InsertBooking booking member) within ran =
       let it = (booked_by db booking member within ran).charged in
       (it.owner, subst (λ keys. StoresKey booking.key keys it.owner) tables.storage.keys it.known, it.own)
@@ -341,17 +352,6 @@ module _ {S : Type 0} (g : Ghosts S) (old : Held S) (club : Club) (tables : Hold
       (λ none. absurd (omega (arith, none, there_are))) (minus (taken_in booking.slot club.bookings) persons there_are (omega (arith, few)))
       (used_less club tables.sound booking cancels refund fits.sound member fits.carries.1) (taken_less club tables.sound booking cancels refund fits.sound)
 
-  -- a slot that may be closed is open
-  still_open : (slot : Slot) → FitsClub (MarkClosed slot) club → is_closed slot club ≡ false
-  still_open slot fits =
-      let apart = apart_last (λ (a : Slot) (b : Slot). a ≢ b) club.closed slot
-      (apart_from_pairs (λ (a : Slot) (b : Slot). a ≢ b) (club.closed ++ slot ∷ []) fits.sound.unique.closed) in
-      go club.closed apart
-    where
-      go : (slots : List Slot) → AllByRecursion (λ (other : Slot). other ≢ slot) slots → list_any (λ other. same_slot other slot) slots ≡ false
-      go [] apart = refl
-      go (other ∷ slots) apart = rw (not_same other slot apart.0) (go slots apart.1)
-
   pub plan : (change : Change) → FitsClub change club → LeaveRows (statements_of change) (after change club)
   plan (InsertMember member) fits = one_step _ (member_put tables.rows member) (member_stored club tables.rows tables.storage tables.sound member fits.sound)
   plan (InsertFacility facility) fits = one_step _ (facility_put tables.rows facility) (facility_stored club tables.rows tables.storage facility)
@@ -366,6 +366,9 @@ module _ {S : Type 0} (g : Ghosts S) (old : Held S) (club : Club) (tables : Hold
       one_step _ (member_credited tables.rows members_once name points (member_row club m) (stored_member name m fits.carries.1)
       (total m.credited points (omega (arith, low))) (let small : nat_le (m.credited + points) 999_999_999 ≡ true = grind (arith, nat_tests) in small))
       (credit_stored club tables.rows tables.storage name points)
+  plan (ReplaceQuota name quota) fits =
+      one_step _ (member_given tables.rows members_once name quota (member_row club fits.carries.0) (stored_member name fits.carries.0 fits.carries.1))
+      (quota_stored club tables.rows tables.storage name quota)
   plan (MarkRevoked name) fits =
       one_step _ (key_revoked tables.rows keys_once name fits.carries.0 (stored_key name fits.carries.0 fits.carries.1))
       (revoke_stored club tables.rows tables.storage name)
@@ -378,8 +381,10 @@ module _ {S : Type 0} (g : Ghosts S) (old : Held S) (club : Club) (tables : Hold
         rotate_stored club tables.rows tables.storage name root was until fits.carries,
       )
   plan (MarkClosed slot) fits =
-      one_step _ (slot_closed tables.rows tables.storage.once slot (ap (λ (u : SlotUse). u.closed) (tables.storage.slots slot) ∙ still_open slot fits))
+      one_step _ (slot_closed tables.rows tables.storage.once slot (ap (λ (u : SlotUse). u.closed) (tables.storage.slots slot) ∙ still_open club slot fits))
       (close_stored club tables.rows tables.storage slot)
+  plan (MarkOpen slot) fits =
+      one_step _ (slot_opened tables.rows tables.storage.once slot) (open_stored club tables.rows tables.storage slot)
   plan (InsertBooking booking member) fits = booking_through booking member fits
   plan (MarkCancelled booking member refund) fits = cancel_through booking member refund fits
 

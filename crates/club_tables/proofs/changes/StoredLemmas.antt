@@ -6,16 +6,17 @@ use Rattle.club_tables.proofs.Common.{bytes_eq-Decides, or-true, or-false, recur
 use Rattle.club_tables.proofs.Common.{InsertMember, AddCredit, InsertFacility, InsertKey, MarkRevoked, ReplaceRoot, MarkClosed, InsertBooking, after}
 use Rattle.club_tables.proofs.Common.{credited_member, revoked_key, good_until, rotated_key, same_slot, persons_of, Club, IsSound, key_named, is_key_of}
 use Rattle.club_tables.proofs.Common.{is_closed, slot_use, older_root_of, IsOwnedBy, HasRoot, is_in, taken_in, cost_of, MemberRow, Rows, OlderRow, IsStoredAs}
-use Rattle.club_tables.proofs.Common.{older_by, member_row, used_by, persons_taken, map-map}
+use Rattle.club_tables.proofs.Common.{older_by, member_row, used_by, persons_taken, map-map, MarkOpen, ReplaceQuota}
+use Rattle.club_core.specs.After.{closed_but, member_with_quota}
 use Rattle.club_tables.proofs.queries.MemberLemmas.{any_filtered}
-use Rattle.club_tables.proofs.changes.AddLemmas.{new_row, close_use, take_use, put_older, older_put, put_once as olders_once}
-use Rattle.club_tables.proofs.changes.ChangeLemmas.{credited_row, used_row}
+use Rattle.club_tables.proofs.changes.AddLemmas.{new_row, close_use, open_use, take_use, put_older, older_put, put_once as olders_once}
+use Rattle.club_tables.proofs.changes.ChangeLemmas.{credited_row, quota_row, used_row}
 use Rattle.club_tables.proofs.statements.SelectLemmas.{apart_from_pairs, none_pass, filter_same, none_of}
 use Rattle.club_tables.proofs.statements.UpdateLemmas.{each_of}
 use Rattle.club_tables.proofs.lists.OwnerLemmas.{map_agree, apart_last, not_among, unequal, sum_more, owner_is}
-use Rattle.club_tables.proofs.lists.KeyedRows.{put_slot, use_put, slot_once}
+use Rattle.club_tables.proofs.lists.KeyedRows.{put_slot, use_put, slot_once, not_same}
 use Rattle.club_tables.proofs.statements.PassLemmas.{found}
-use Rattle.club_tables.proofs.queries.KeyLemmas.{find_mapped}
+use Rattle.club_tables.proofs.queries.KeyLemmas.{find_mapped, same_slots}
 
 -- ---- members
 
@@ -47,6 +48,13 @@ pub credit_stored : (club : Club) (rows : Rows) → IsStoredAs club rows → (na
 credit_stored club rows stored name points =
     let members = ap (map (credited_row name points)) stored.members ∙ map-map (credited_row name points) (member_row club) club.members
     ∙ sym (map-map (member_row (after (AddCredit name points) club)) (credited_member name points) club.members) in
+    search rules
+
+pub quota_stored : (club : Club) (rows : Rows) → IsStoredAs club rows → (name : List ℕ) (quota : ℕ)
+    → IsStoredAs (after (ReplaceQuota name quota) club) (record rows { members = map (quota_row name quota) rows.members })
+quota_stored club rows stored name quota =
+    let members = ap (map (quota_row name quota)) stored.members ∙ map-map (quota_row name quota) (member_row club) club.members
+    ∙ sym (map-map (member_row (after (ReplaceQuota name quota) club)) (member_with_quota name quota) club.members) in
     search rules
 
 pub facility_stored : (club : Club) (rows : Rows) → IsStoredAs club rows → (facility : Facility)
@@ -170,6 +178,41 @@ close_stored club rows stored slot =
     ∙ ap (λ c. let u : SlotUse = record { taken = taken_in s club.bookings; closed = c } in u)
     (sym (list_any-append (λ other. same_slot other s) club.closed (slot ∷ []))) in
     let once = slot_once slot close_use rows.slots stored.once in
+    search rules
+
+-- no slot is left that is the one to be opened, and each other one is
+none_left : {X : Type 0} (p : X → Bool) (xs : List X) → list_any p (filter (λ x. not (p x)) xs) ≡ false
+none_left p [] = refl
+none_left p (x ∷ xs) = grind (arith, none_left p xs)
+
+any_left : {X : Type 0} (p q : X → Bool) → ((x : X) → p x ≡ true → q x ≡ true) → (xs : List X) → list_any p (filter q xs) ≡ list_any p xs
+any_left p q wide [] = refl
+any_left p q wide (x ∷ xs) = grind (arith, wide x, any_left p q wide xs)
+
+still_closed : (slot s : Slot) (closed : List Slot) → list_any (λ other. same_slot other s) (closed_but slot closed)
+    ≡ (if same_slot slot s then false else list_any (λ other. same_slot other s) closed)
+still_closed slot s closed = by (same_slot slot s) refl
+  where
+    by : (b : Bool) → same_slot slot s ≡ b → list_any (λ other. same_slot other s) (closed_but slot closed)
+        ≡ (if b then false else list_any (λ other. same_slot other s) closed)
+    by true same =
+        subst (λ (t : Slot). list_any (λ other. same_slot other t) (closed_but slot closed) ≡ false) (same_slots slot s same)
+        (none_left (λ other. same_slot other slot) closed)
+    by false apart =
+        any_left (λ other. same_slot other s) (λ other. not (same_slot other slot)) (λ other is. ap not (not_same other slot (λ e.
+        true≢false (sym is ∙ ap (λ (t : Slot). same_slot t s) e ∙ apart)))) closed
+
+opened_use : (club : Club) (s : Slot) (b : Bool) → (if b then open_use (slot_use club s) else slot_use club s)
+    ≡ record { taken = taken_in s club.bookings; closed = if b then false else is_closed s club }
+opened_use club s b = grind arith
+
+pub open_stored : (club : Club) (rows : Rows) → IsStoredAs club rows → (slot : Slot)
+    → IsStoredAs (after (MarkOpen slot) club) (record rows { slots = put_slot slot open_use rows.slots })
+open_stored club rows stored slot =
+    let slots = λ (s : Slot). use_put slot open_use s rows.slots
+    ∙ ap (λ u. let v : SlotUse = if same_slot slot s then open_use u else u in v) (stored.slots s) ∙ opened_use club s (same_slot slot s)
+    ∙ ap (λ c. let u : SlotUse = record { taken = taken_in s club.bookings; closed = c } in u) (sym (still_closed slot s club.closed)) in
+    let once = slot_once slot open_use rows.slots stored.once in
     search rules
 
 -- ---- bookings

@@ -7,6 +7,9 @@ use Rattle.club_tables.proofs.Common.{Ran, IsKept, transaction_start, Commits, F
 use Rattle.club_tables.proofs.Common.{ℕ, ◌≤◌, ◌++◌, true, if◌then◌else◌, recursion_from_All, Member, Facility, Key, Booking, IsMember, IsFacility, IsBooking}
 use Rattle.club_tables.proofs.Common.{InsertMember, InsertFacility, InsertKey, InsertBooking, MarkCancelled, cancelled_booking, is_marked}
 use Rattle.club_rows.specs.Rows.{IsKey}
+use Rattle.club_rows.specs.Limits.{quota_limit}
+use Rattle.club_core.specs.After.{member_with_quota}
+use Rattle.club_tables.proofs.Common.{ReplaceQuota, bytes_eq}
 use Rattle.club_tables.proofs.changes.CancelLemmas.{mapped_holds}
 use Rattle.club_tables.proofs.lists.OwnerLemmas.{all_last}
 use Rattle.club_tables.proofs.queries.KeyLemmas.{is_numbered}
@@ -130,6 +133,13 @@ new_key_if_fits key club fits = (all_last IsKey club.keys key (recursion_from_Al
 pub booking_if_fits : (booking : Booking) (member : List ℕ) (club : Club) → FitsClub (InsertBooking booking member) club → IsBooking booking
 booking_if_fits booking member club fits =
     all_last IsBooking club.bookings booking (recursion_from_All IsBooking (club.bookings ++ booking ∷ []) fits.sound.rows.bookings)
+
+pub quota_if_fits : (name : List ℕ) (quota : ℕ) (club : Club) → FitsClub (ReplaceQuota name quota) club → quota ≤ quota_limit
+quota_if_fits name quota club fits =
+    let m = fits.carries.0 in
+    let there = found (λ (m : Member). bytes_eq m.name name) club.members m fits.carries.1 in
+    let row = mapped_holds IsMember (member_with_quota name quota) club.members m fits.sound.rows.members there.0 in
+    subst (λ b. (if b then quota else m.quota) ≤ quota_limit) there.1 row.quota
 
 pub refund_if_fits : (booking : Booking) (member : List ℕ) (refund : ℕ) (club : Club) → FitsClub (MarkCancelled booking member refund) club
     → refund ≤ booking.charge

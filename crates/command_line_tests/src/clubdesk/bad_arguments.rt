@@ -33,7 +33,7 @@ fn expect_refused(rt: &(impl Abort + AllocGlobal), lines: &[&str], end: &End) {
     }
 }
 
-static BAD_VALUES: [&str; 49] = [
+static BAD_VALUES: [&str; 53] = [
     "add-member|F|Amy|5",
     "add-member|F||5",
     "add-member|F|amybobcydideeveflogushalfi|5",
@@ -44,6 +44,8 @@ static BAD_VALUES: [&str; 49] = [
     "add-member|F|amy|1000000000",
     "add-member|F|amy|0000000005",
     "credit|F|amy!|1",
+    "set-quota|F|amy!|1",
+    "set-quota|F|amy|-",
     "credit|F|amy|1.0",
     "add-facility|F|court-1|Court|4|200|8|22",
     "add-facility|F|court 1|court|4|200|8|22",
@@ -56,6 +58,8 @@ static BAD_VALUES: [&str; 49] = [
     "close-slot|F|court-1|2026-05-01|24",
     "close-slot|F|court-1|2026-05-01|8",
     "close-slot|F|Court-1|2026-05-01|18",
+    "open-slot|F|court-1|2026-05-01|24",
+    "open-slot|F|court-1|2026-02-29|18",
     "sheet|F|1999-12-31",
     "sheet|F|2100-01-01",
     "sheet|F|2026-5-1",
@@ -149,7 +153,7 @@ fn bad_forms(rt: HostRuntime) {
     }
 }
 
-static BAD_ARGUMENTS: [&str; 34] = [
+static BAD_ARGUMENTS: [&str; 36] = [
     "frob",
     "help|frob",
     "add-member|--version",
@@ -160,6 +164,7 @@ static BAD_ARGUMENTS: [&str; 34] = [
     "add-member|F|amy|-5",
     "add-member|F|amy|5|--form|v1",
     "credit|F",
+    "set-quota|F|amy",
     "add-facility|F|court-1|court|4|200|8",
     "add-key|F|k|bob",
     "add-key|F|k|bob|000102030405060708090a0b0c0d0e0f|--form",
@@ -167,6 +172,7 @@ static BAD_ARGUMENTS: [&str; 34] = [
     "revoke-key|F",
     "rotate-key|F|k|000102030405060708090a0b0c0d0e0f",
     "close-slot|F|court-1|2026-05-01",
+    "open-slot|F|court-1|2026-05-01",
     "sheet|F",
     "sheet",
     "serve|F",

@@ -104,7 +104,7 @@ pub(super) fn expect_asked(rt: &(impl Abort + AllocGlobal), line: &str, file: &s
 }
 
 /// Lines, and what they ask for over the file `F`.
-static TASKS: [(&str, &str); 32] = [
+static TASKS: [(&str, &str); 35] = [
     (
         "add-member|F|amy|5",
         "AddMember { name: \"amy\", quota: 5 }",
@@ -126,7 +126,19 @@ static TASKS: [(&str, &str); 32] = [
         "close-slot|F|court-1|2026-05-01|18",
         "CloseSlot(Slot { facility: \"court-1\", day: Day { number: 20574 }, hour: Hour { number: 18 } })",
     ),
+    (
+        "open-slot|F|court-1|2026-05-01|18",
+        "OpenSlot(Slot { facility: \"court-1\", day: Day { number: 20574 }, hour: Hour { number: 18 } })",
+    ),
+    (
+        "set-quota|F|amy|8",
+        "SetQuota { member: \"amy\", quota: 8 }",
+    ),
     // What the club refuses is a value all the same.
+    (
+        "set-quota|F|amy|100",
+        "SetQuota { member: \"amy\", quota: 100 }",
+    ),
     ("credit|F|amy|0", "Credit { member: \"amy\", points: 0 }"),
     (
         "credit|F|amy|000000000",
