@@ -1,19 +1,11 @@
 -- Lemmas on zones and what their clocks show.
-use Rattle.std.proofs.Common.{◌≡◌, ◌↔◌, ℕ, ◌+◌, ◌*◌, ◌<◌, ◌≤◌, Bool, cond, true, false, List, Option, Some, None, inl, inr, refl, arith}
+use Rattle.std.proofs.{Common.{◌≡◌, ◌↔◌, ℕ, ◌+◌, ◌*◌, ◌<◌, ◌≤◌, Bool, cond, true, false, List, Option, Some, None, inl, inr, refl, arith}, lemmas.Bool.cases_lt}
 use Rattle.std.specs.Prelude.{IsSome, IfSome, is_some, ℤ, pos, negsuc, ◌+ℤ◌, ◌*ℤ◌}
-use Rattle.std.proofs.lemmas.Bool.{cases_lt}
 use borrow.Author.Differences.{ints}
-use Rattle.jiff_core.specs.Date.{epoch_day}
-use Rattle.jiff_core.specs.DateTime.{civil_nanos}
-use Rattle.jiff_core.specs.Time.{time_nanos}
-use Rattle.jiff_core.specs.Timestamp.{nanos_of_seconds}
-use Rattle.jiff_core.specs.declared.civil.datetime.DateTime.{DateTime}
+use Rattle.jiff_core.specs.{Date.epoch_day, DateTime.civil_nanos, Time.time_nanos, Timestamp.nanos_of_seconds, declared.civil.datetime.DateTime.DateTime}
 use Rattle.jiff_core.specs.declared.civil.time.Time.{Time}
-use Rattle.jiff_tz.specs.PosixReader.{read_whole}
-use Rattle.jiff_tz.specs.PosixRule.{offset_at}
-use Rattle.jiff_tz.specs.declared.posix.TimeZone.{TimeZone}
-use Rattle.club_values.specs.Day.{IsDay}
-use Rattle.club_values.specs.Moment.{IsMoment}
+use Rattle.jiff_tz.specs.{PosixReader.read_whole, PosixRule.offset_at, declared.posix.TimeZone.TimeZone}
+use Rattle.club_values.specs.{Day.IsDay, Moment.IsMoment}
 use Rattle.club_clock.specs.Zone.{IsInMinute, IsShown, IsZoneOf, zone_of}
 
 pub zone_read : (text : List ℕ) → IsSome (read_whole text) → Some text ≡ zone_of text

@@ -1,9 +1,7 @@
 -- Sources of moments (ours).
 use Rattle.std.specs.Prelude.{◌≡◌, ℕ, Option, Some}
 use Rattle.jiff_core.specs.declared.timestamp.Timestamp.{Timestamp}
-use Rattle.club_clock.specs.Zone.{ShowsIn}
-use Rattle.club_clock.specs.declared.clock.Clock.{Clock}
-use Rattle.club_clock.specs.declared.clock.Clock.TheVariants.{Fixed, InZone}
+use Rattle.club_clock.specs.{Zone.ShowsIn, declared.clock.Clock.{Clock, TheVariants.{Fixed, InZone}}}
 
 -- the moment that a clock gives, with the clock before and after
 abbrev pub GivesMoment : Type 0 → Type 1

@@ -1,13 +1,8 @@
 -- The club's civil time in a zone (ours).
 use Rattle.std.specs.Prelude.{◌≡◌, ℕ, ◌+◌, ◌*◌, ℤ, pos, ◌+ℤ◌, ◌≤ℤ◌, ◌<ℤ◌, List, is_some, if◌then◌else◌, Option, Some, None, MatchOption}
-use Rattle.jiff_core.specs.Timestamp.{nanos_of_seconds}
-use Rattle.jiff_core.specs.declared.timestamp.Timestamp.{Timestamp}
-use Rattle.jiff_tz.specs.PosixReader.{read_whole}
-use Rattle.jiff_tz.specs.PosixRule.{offset_at}
-use Rattle.jiff_tz.specs.PosixText.{tz_view}
-use Rattle.jiff_tz.specs.declared.posix.TimeZone.{TimeZone}
-use Rattle.club_values.specs.Moment.{IsMoment}
-use Rattle.club_values.specs.Reading.{Reads}
+use Rattle.jiff_core.specs.{Timestamp.nanos_of_seconds, declared.timestamp.Timestamp.Timestamp}
+use Rattle.jiff_tz.specs.{PosixReader.read_whole, PosixRule.offset_at, PosixText.tz_view, declared.posix.TimeZone.TimeZone}
+use Rattle.club_values.specs.{Moment.IsMoment, Reading.Reads}
 
 -- the rule of a zone, as POSIX writes it (IEEE Std 1003.1, 8.3)
 unfoldable pub zone_of : List ℕ → Option (List ℕ)

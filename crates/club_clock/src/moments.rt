@@ -1,7 +1,6 @@
 //! Sources of moments.
 
-ghost use Rattle.std.specs.Prelude.{◌≡◌, pos, MatchOption};
-ghost use Rattle.std.specs.Time.{system_time_nanos};
+ghost use Rattle.std.specs.{Prelude.{◌≡◌, pos, MatchOption}, Time.system_time_nanos};
 ghost use Rattle.jiff_core.specs.Timestamp.{IsTimestampNanos};
 
 use crate::clock::Clock;

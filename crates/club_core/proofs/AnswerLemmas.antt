@@ -1,14 +1,8 @@
 -- A refusal changes nothing: no line of a decision that refuses has a change.
 use Rattle.std.proofs.Common.{ℕ, Option, Some, Ok, arith}
 use Rattle.std.specs.Prelude.{Result}
-use Rattle.club_core.specs.declared.view.View.{View}
-use Rattle.club_core.specs.declared.request.Request.{Request}
-use Rattle.club_core.specs.declared.pass_fault.PassFault.{PassFault}
-use Rattle.club_core.specs.Pass.{Pass}
-use Rattle.club_core.specs.Verdict.{verdict_of}
-use Rattle.club_core.specs.Answer.{answer_to}
-use Rattle.club_core.specs.Basis.{Basis, view_of}
-use Rattle.club_core.specs.Laws.{KeepsWhereRefused, RefusalsChangeNothing}
+use Rattle.club_core.specs.{Answer.answer_to, Basis.{Basis, view_of}, Laws.{KeepsWhereRefused, RefusalsChangeNothing}, Pass.Pass, Verdict.verdict_of}
+use Rattle.club_core.specs.declared.{pass_fault.PassFault.PassFault, request.Request.Request, view.View.View}
 
 keeps_verdict : (view : View) (request : Request) (moment : ℕ) → KeepsWhereRefused (verdict_of view request moment)
 keeps_verdict view request moment = record { kept = λ r e. grind arith }

@@ -1,18 +1,12 @@
 -- The rows of a sheet: lists in a strict order, and that order of bookings.
 use Rattle.std.proofs.Common.{◌≡◌, ℕ, zero, suc, ◌<◌, List, [], ◌∷◌, length, get_or, refl, sym, ap, ◌∙◌, ◌⊎◌, inl, inr, arith}
-use Rattle.std.specs.Prelude.{All, AllPairs, Contains, IsPermutation, filter}
-use Rattle.std.proofs.lemmas.List.Elements.{All-cons, All-contains, All-tail, All-weaker}
-use Rattle.std.proofs.lemmas.List.Kept.{AllPairs-cons, AllPairs-filter}
-use Rattle.std.proofs.lemmas.List.Sorted.{All-permutation, IsPermutation-cons, IsPermutation-middle, IsPermutation-refl, IsPermutation-trans}
-use Rattle.std.proofs.lemmas.List.Sorted.{Contains-permutation, IsPermutation-sym}
-use Rattle.std.specs.Cmp.Lexicographic.{nat_list_cmp_total, slice_cmp}
-use Rattle.std.specs.Ordering.{nat_cmp, ordering_reverse}
-use Rattle.std.specs.declared.cmp.Ordering.{Ordering}
-use Rattle.std.specs.declared.cmp.Ordering.TheVariants.{Equal, Greater, Less}
-use Rattle.std.proofs.lemmas.Map.Lookups.{exact_bytes}
+use Rattle.std.proofs.lemmas.List.{Elements.{All-cons, All-contains, All-tail, All-weaker}, Kept.{AllPairs-cons, AllPairs-filter}, Sorted.All-permutation}
+use Rattle.std.proofs.lemmas.List.Sorted.{IsPermutation-cons, IsPermutation-middle, IsPermutation-refl, IsPermutation-trans, Contains-permutation}
+use Rattle.std.proofs.lemmas.{List.Sorted.IsPermutation-sym, Map.Lookups.exact_bytes}
+use Rattle.std.specs.{Cmp.Lexicographic.{nat_list_cmp_total, slice_cmp}, Ordering.{nat_cmp, ordering_reverse}}
+use Rattle.std.specs.{Prelude.{All, AllPairs, Contains, IsPermutation, filter}, declared.cmp.Ordering.{Ordering, TheVariants.{Equal, Greater, Less}}}
 use Rattle.club_rows.specs.declared.booking.Booking.{Booking}
-use Rattle.club_core.specs.Club.{Club, IsSound}
-use Rattle.club_core.specs.Sheet.{AreRowsOf, IsBefore, Precedes, is_on}
+use Rattle.club_core.specs.{Club.{Club, IsSound}, Sheet.{AreRowsOf, IsBefore, Precedes, is_on}}
 
 cases_at : {X : Type 0} (y : X) (xs : List X) (x : X) (k : ℕ) → k < length (y ∷ xs) → get_or (y ∷ xs) k x ≡ x → (y ≡ x) ⊎ Contains xs x
 cases_at y xs x zero lt e = inl e

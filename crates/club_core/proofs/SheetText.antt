@@ -1,16 +1,11 @@
 -- Texts in so many places, as `{:<24}` and `{:>9}` write them.
 use Rattle.std.proofs.Common.{◌≡◌, ℕ, ◌+◌, ◌-◌, ◌<◌, ◌≤◌, ◌==◌, ◌^◌, true, false, List, [], ◌∷◌, ◌++◌, length, zero, suc, refl, ap, ◌∙◌, arith, append_assoc}
-use Rattle.std.specs.Prelude.{replicate, codes, sum_by}
-use Rattle.std.specs.List.{AllPass, repeat}
-use Rattle.std.proofs.lemmas.Bool.Decides.{nat_tests}
-use Rattle.std.proofs.lemmas.List.{append-nil}
-use Rattle.std.proofs.lemmas.List.Elements.{All-tail}
+use Rattle.std.proofs.lemmas.{Bool.Decides.nat_tests, List.{append-nil, Elements.All-tail}}
 use Rattle.std.specs.Fmt.{char_count, take_chars, padded, padded_integral, format_spec, styled_text, styled_decimal, decimal, is_char_start}
+use Rattle.std.specs.{List.{AllPass, repeat}, Prelude.{replicate, codes, sum_by}}
 use lib.Utf8.{encode}
-use Rattle.club_values.specs.Digits.{two_digits}
-use Rattle.club_values.specs.Name.{is_name_byte, IsName}
-use Rattle.club_rows.specs.declared.booking.Booking.{Booking}
-use Rattle.club_rows.specs.Booking.{persons_of}
+use Rattle.club_values.specs.{Digits.two_digits, Name.{is_name_byte, IsName}}
+use Rattle.club_rows.specs.{Booking.persons_of, declared.booking.Booking.Booking}
 use Rattle.club_core.specs.Sheet.{left_in, right_in, row_text, totals_text}
 
 is_char_start-name : (b : ℕ) → is_name_byte b ≡ true → is_char_start b ≡ true

@@ -1,16 +1,9 @@
 -- Where the sums of a key's view come from.
-use Rattle.std.proofs.Common.{◌≡◌, ℕ, zero, suc, ◌<◌, Bool, true, List, [], ◌∷◌, length, get_or, refl, ap}
-use Rattle.std.proofs.Common.{arith}
-use Rattle.std.specs.Prelude.{◌&&◌, ◌==◌, filter, find, sum_by, Contains}
-use Rattle.std.specs.List.{list_any}
-use Rattle.std.specs.Str.{bytes_eq}
-use Rattle.std.proofs.lemmas.Bool.{and_parts}
+use Rattle.std.proofs.{Common.{◌≡◌, ℕ, zero, suc, ◌<◌, Bool, true, List, [], ◌∷◌, length, get_or, refl, ap, arith}, lemmas.Bool.and_parts}
 use Rattle.std.proofs.lemmas.Slice.Eq.{bytes_eq-Decides}
-use Rattle.club_rows.specs.declared.booking.Booking.{Booking}
-use Rattle.club_rows.specs.declared.key.Key.{Key}
-use Rattle.club_core.specs.Club.{Club, is_key_of}
-use Rattle.club_core.specs.Laws.{OwnBookings}
-use Rattle.club_core.specs.Sums.{cost_of, is_under}
+use Rattle.std.specs.{List.list_any, Prelude.{◌&&◌, ◌==◌, filter, find, sum_by, Contains}, Str.bytes_eq}
+use Rattle.club_rows.specs.declared.{booking.Booking.Booking, key.Key.Key}
+use Rattle.club_core.specs.{Club.{Club, is_key_of}, Laws.OwnBookings, Sums.{cost_of, is_under}}
 
 -- a test that keeps all that a stricter one finds may come first
 filter_twice : (strict wide : Booking → Bool) (bookings : List Booking) → ((b : Booking) → strict b ≡ true → wide b ≡ true) →

@@ -1,16 +1,8 @@
 -- Which passes are accepted, and which requests an accepted pass allows (ours).
 use Rattle.std.specs.Prelude.{◌≡◌, ◌≢◌, ℕ, All, false, Option, Some, None, Ok}
-use Rattle.pass_caveats.specs.declared.ask.Ask.{Ask}
-use Rattle.pass_caveats.specs.declared.caveat.Caveat.{Caveat}
-use Rattle.pass_caveats.specs.Caveat.{Permits}
-use Rattle.club_core.specs.declared.refusal.Refusal.{Refusal}
-use Rattle.club_core.specs.declared.reply.Reply.{Reply}
-use Rattle.club_core.specs.declared.reply.Reply.TheVariants.{Refused}
-use Rattle.club_core.specs.declared.request.Request.{Request}
-use Rattle.club_core.specs.Answer.{ask_of}
-use Rattle.club_core.specs.Basis.{Basis, basis_of, view_of}
-use Rattle.club_core.specs.Club.{Club, key_named}
-use Rattle.club_core.specs.Pass.{Pass, IsSignedUnder, Words}
+use Rattle.pass_caveats.specs.{Caveat.Permits, declared.{ask.Ask.Ask, caveat.Caveat.Caveat}}
+use Rattle.club_core.specs.{Answer.ask_of, Basis.{Basis, basis_of, view_of}, Club.{Club, key_named}, Pass.{Pass, IsSignedUnder, Words}}
+use Rattle.club_core.specs.declared.{refusal.Refusal.Refusal, reply.Reply.{Reply, TheVariants.Refused}, request.Request.Request}
 
 -- any reply but a refusal
 abbrev pub IsServed : Reply → Type 0

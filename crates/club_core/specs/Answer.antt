@@ -1,27 +1,15 @@
 -- The answer to a request (ours): first the pass is accepted or refused, then the request is decided. The answer depends only on the
 -- words, the moment and the view, and so on the basis of the view.
 use Rattle.std.specs.Prelude.{ℕ, not, Bool, false, [], ◌∷◌, Option, Some, None, Result, Ok, Err, is_some, option_map}
-use Rattle.pass_caveats.specs.declared.ask.Ask.{Ask}
-use Rattle.pass_caveats.specs.declared.fault.CaveatFault.{CaveatFault}
-use Rattle.pass_caveats.specs.declared.fault.CaveatFault.TheVariants.{NotUnderstood, Denied}
-use Rattle.pass_caveats.specs.Fault.{first_fault_of}
-use Rattle.club_rows.specs.declared.facility.Facility.{Facility}
-use Rattle.club_rows.specs.Facility.{charge_of}
-use Rattle.club_core.specs.declared.pass_fault.PassFault.{PassFault}
-use Rattle.club_core.specs.declared.pass_fault.PassFault.TheVariants.{TooLong, Malformed, ThirdParty, TooMany}
-use Rattle.club_core.specs.declared.view.View.{View}
-use Rattle.club_core.specs.declared.verdict.Verdict.{Verdict}
-use Rattle.club_core.specs.declared.refusal.Refusal.{Refusal}
+use Rattle.pass_caveats.specs.{Fault.first_fault_of, declared.{ask.Ask.Ask, fault.CaveatFault.{CaveatFault, TheVariants.{NotUnderstood, Denied}}}}
+use Rattle.club_rows.specs.{Facility.charge_of, declared.facility.Facility.Facility}
+use Rattle.club_core.specs.{Basis.{Basis, basis_of, view_of}, Club.Club, Lines.{line_if, first_of}, Pass.{Pass, Words, is_signed_under}}
+use Rattle.club_core.specs.{Request.{request_action, request_slot, request_guests}, Verdict.{refusal_verdict, verdict_of}}
+use Rattle.club_core.specs.declared.{pass_fault.PassFault.{PassFault, TheVariants.{TooLong, Malformed, ThirdParty, TooMany}}, refusal.Refusal.Refusal}
 use Rattle.club_core.specs.declared.refusal.Refusal.TheVariants.{PassTooLong, PassMalformed, ThirdPartyCaveat, TooManyCaveats, NotVerified, KeyRevoked}
-use Rattle.club_core.specs.declared.refusal.Refusal.TheVariants.{CaveatNotUnderstood, CaveatDenies}
-use Rattle.club_core.specs.declared.request.Request.{Request}
+use Rattle.club_core.specs.declared.{refusal.Refusal.TheVariants.{CaveatNotUnderstood, CaveatDenies}, request.Request.Request, verdict.Verdict.Verdict}
+use Rattle.club_core.specs.declared.view.View.{View}
 use Rattle.club_core.specs.declared.request.Request.TheVariants as asked
-use Rattle.club_core.specs.Lines.{line_if, first_of}
-use Rattle.club_core.specs.Club.{Club}
-use Rattle.club_core.specs.Pass.{Pass, Words, is_signed_under}
-use Rattle.club_core.specs.Verdict.{refusal_verdict, verdict_of}
-use Rattle.club_core.specs.Basis.{Basis, basis_of, view_of}
-use Rattle.club_core.specs.Request.{request_action, request_slot, request_guests}
 
 -- the points that the request would charge: those of a booking under a new number at a known facility, else 0
 abbrev pub owed_at : Request → Bool → Option Facility → ℕ

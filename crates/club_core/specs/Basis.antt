@@ -1,21 +1,11 @@
 -- The rows that the answer to a request may depend on (the basis), and the figures of them that decide it (the view) (ours).
 use Rattle.std.specs.Prelude.{ℕ, false, List, Option, Some, None, Result, Ok, Err, option_map, option_and_then}
 use Rattle.club_values.specs.declared.slot.Slot.{Slot}
-use Rattle.club_rows.specs.declared.member.Member.{Member}
-use Rattle.club_rows.specs.declared.facility.Facility.{Facility}
-use Rattle.club_rows.specs.declared.key.Key.{Key}
-use Rattle.club_rows.specs.declared.booking.Booking.{Booking}
-use Rattle.club_rows.specs.Key.{row_of_key}
-use Rattle.club_core.specs.declared.account.MemberAccount.{MemberAccount}
-use Rattle.club_core.specs.declared.pass_fault.PassFault.{PassFault}
-use Rattle.club_core.specs.declared.request.Request.{Request}
-use Rattle.club_core.specs.declared.slot_use.SlotUse.{SlotUse}
-use Rattle.club_core.specs.declared.view.KeyView.{KeyView}
-use Rattle.club_core.specs.declared.view.View.{View}
-use Rattle.club_core.specs.Club.{Club, member_named, facility_named, key_named, bookings_of, is_closed}
-use Rattle.club_core.specs.Request.{request_slot, request_number}
-use Rattle.club_core.specs.Pass.{Pass, Words}
-use Rattle.club_core.specs.Sums.{taken_in, spent_under, balance_of, count_to_come, booking_under}
+use Rattle.club_rows.specs.{Key.row_of_key, declared.{booking.Booking.Booking, facility.Facility.Facility, key.Key.Key, member.Member.Member}}
+use Rattle.club_core.specs.{Club.{Club, member_named, facility_named, key_named, bookings_of, is_closed}, Pass.{Pass, Words}}
+use Rattle.club_core.specs.{Request.{request_slot, request_number}, Sums.{taken_in, spent_under, balance_of, count_to_come, booking_under}}
+use Rattle.club_core.specs.declared.{account.MemberAccount.MemberAccount, pass_fault.PassFault.PassFault, request.Request.Request, slot_use.SlotUse.SlotUse}
+use Rattle.club_core.specs.declared.view.{KeyView.KeyView, View.View}
 
 -- how much of a slot these bookings take, and whether the club closed it; without a slot nothing is taken
 abbrev pub slot_use_by : List Booking → Club → Option Slot → SlotUse

@@ -1,14 +1,8 @@
 -- The club: its rows and their invariants (ours). It holds no totals.
-use Rattle.std.specs.Prelude.{◌≡◌, ◌≢◌, ℕ, ◌≤◌, Bool, List, [], map, filter, find, sum_by, Option, All, AllPairs, Contains}
-use Rattle.std.specs.List.{list_any}
-use Rattle.std.specs.Str.{bytes_eq}
+use Rattle.std.specs.{List.list_any, Prelude.{◌≡◌, ◌≢◌, ℕ, ◌≤◌, Bool, List, [], map, filter, find, sum_by, Option, All, AllPairs, Contains}, Str.bytes_eq}
 use Rattle.club_values.specs.declared.slot.Slot.{Slot}
-use Rattle.club_rows.specs.declared.member.Member.{Member}
-use Rattle.club_rows.specs.declared.facility.Facility.{Facility}
-use Rattle.club_rows.specs.declared.key.Key.{Key}
-use Rattle.club_rows.specs.declared.booking.Booking.{Booking}
-use Rattle.club_rows.specs.Rows.{IsMember, IsFacility, IsKey, IsSlot, IsBooking}
-use Rattle.club_rows.specs.Booking.{same_slot}
+use Rattle.club_rows.specs.{Booking.same_slot, Rows.{IsMember, IsFacility, IsKey, IsSlot, IsBooking}, declared.booking.Booking.Booking}
+use Rattle.club_rows.specs.declared.{facility.Facility.Facility, key.Key.Key, member.Member.Member}
 use Rattle.club_core.specs.Sums.{cost_of, taken_in}
 
 -- the rows, oldest first, and the slots that are closed

@@ -1,13 +1,10 @@
 -- The limits of an event's values (ours).
-use Rattle.club_values.specs.Moment.{IsMoment}
-use Rattle.club_values.specs.Name.{IsName}
-use Rattle.club_rows.specs.Limits.{IsBookingNumber, IsGuests, IsRoot}
-use Rattle.club_rows.specs.Rows.{IsSlot}
+use Rattle.club_values.specs.{Moment.IsMoment, Name.IsName}
+use Rattle.club_rows.specs.{Limits.{IsBookingNumber, IsGuests, IsRoot}, Rows.IsSlot}
+use Rattle.club_core.specs.{Run.{Event, Asked, Commanded}, declared.command.Command.Command}
+use Rattle.club_core.specs.declared.command.Command.TheVariants.{AddMember, Credit, AddFacility, AddKey, RevokeKey, RotateKey, CloseSlot, OpenSlot, SetQuota}
 use Rattle.club_core.specs.declared.request.Request.{Request}
 use Rattle.club_core.specs.declared.request.Request.TheVariants as asked
-use Rattle.club_core.specs.declared.command.Command.{Command}
-use Rattle.club_core.specs.declared.command.Command.TheVariants.{AddMember, Credit, AddFacility, AddKey, RevokeKey, RotateKey, CloseSlot, OpenSlot, SetQuota}
-use Rattle.club_core.specs.Run.{Event, Asked, Commanded}
 
 abbrev pub IsRequest : Request → Type 0
 IsRequest (asked.View slot) = IsSlot slot

@@ -1,18 +1,13 @@
 -- Worked runs from the empty club (ours).
 use Rattle.std.specs.Prelude.{◌≡◌, ℕ, true, List, [], ◌∷◌, Option, Some, Ok, replicate, codes}
-use Rattle.club_values.specs.declared.kind.Kind.TheVariants.{Court}
-use Rattle.club_values.specs.declared.slot.Slot.{Slot}
-use Rattle.pass_caveats.specs.declared.caveat.Caveat.{Caveat}
-use Rattle.pass_caveats.specs.declared.caveat.Caveat.TheVariants.{Spend}
+use Rattle.club_values.specs.declared.{kind.Kind.TheVariants.Court, slot.Slot.Slot}
+use Rattle.pass_caveats.specs.declared.caveat.Caveat.{Caveat, TheVariants.Spend}
+use Rattle.club_core.specs.{Club.{Club, empty_club}, Run.{Event, Asked, Commanded, replies_of, club_after, EventReply, ToMember, ToOffice}}
 use Rattle.club_core.specs.declared.command.Command.TheVariants.{AddMember, Credit, AddFacility, AddKey, CloseSlot, OpenSlot, SetQuota}
-use Rattle.club_core.specs.declared.command.OfficeFault.TheVariants.{Exists, Unknown, OutOfRange, SlotInUse}
+use Rattle.club_core.specs.declared.command.{OfficeAnswer.TheVariants.{Done, NotDone}, OfficeFault.TheVariants.{Exists, Unknown, OutOfRange, SlotInUse}}
+use Rattle.club_core.specs.declared.{reply.Reply.TheVariants.{Booked, Cancelled, AccountShown, Refused}, request.Request.Request}
 use Rattle.club_core.specs.declared.refusal.Refusal.TheVariants as refusals
-use Rattle.club_core.specs.declared.reply.Reply.TheVariants.{Booked, Cancelled, AccountShown, Refused}
-use Rattle.club_core.specs.declared.request.Request.{Request}
 use Rattle.club_core.specs.declared.request.Request.TheVariants as asked
-use Rattle.club_core.specs.Club.{Club, empty_club}
-use Rattle.club_core.specs.declared.command.OfficeAnswer.TheVariants.{Done, NotDone}
-use Rattle.club_core.specs.Run.{Event, Asked, Commanded, replies_of, club_after, EventReply, ToMember, ToOffice}
 
 abbrev pub root : List ℕ
 root = replicate 16 7

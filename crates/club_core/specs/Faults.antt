@@ -1,8 +1,6 @@
 -- The texts of the office's and a store's faults (ours).
 use Rattle.std.specs.Prelude.{ℕ, List, codes}
-use Rattle.club_core.specs.declared.command.OfficeFault.{OfficeFault}
-use Rattle.club_core.specs.declared.command.OfficeFault.TheVariants.{Exists, Unknown, OutOfRange, SlotInUse}
-use Rattle.club_core.specs.declared.store.StoreFault.{StoreFault}
+use Rattle.club_core.specs.declared.{command.OfficeFault.{OfficeFault, TheVariants.{Exists, Unknown, OutOfRange, SlotInUse}}, store.StoreFault.StoreFault}
 use Rattle.club_core.specs.declared.store.StoreFault.TheVariants.{Memory, Storage}
 
 abbrev pub office_fault_text : OfficeFault → List ℕ

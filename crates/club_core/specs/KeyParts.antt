@@ -1,7 +1,6 @@
 -- The part of a key that a store keeps and reads apart from its row (ours).
 use Rattle.std.specs.Prelude.{ℕ, List, Option, option_and_then}
-use Rattle.club_rows.specs.declared.key.Key.{Key}
-use Rattle.club_rows.specs.declared.key.OlderRoot.{OlderRoot}
+use Rattle.club_rows.specs.declared.key.{Key.Key, OlderRoot.OlderRoot}
 use Rattle.club_core.specs.Club.{Club, key_named}
 
 -- the older root of the key of this name; none if it was never rotated

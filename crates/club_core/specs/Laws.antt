@@ -1,15 +1,9 @@
 -- Laws of the definitions.
 use Rattle.std.specs.Prelude.{◌≡◌, ◌↔◌, ℕ, IsTrue, List, Contains, Option, Some, None, option_map}
 use Rattle.club_rows.specs.declared.key.Key.{Key}
-use Rattle.club_core.specs.declared.refusal.Refusal.{Refusal}
-use Rattle.club_core.specs.declared.reply.Reply.TheVariants.{Refused}
-use Rattle.club_core.specs.declared.verdict.Verdict.{Verdict}
-use Rattle.club_core.specs.Answer.{answer_by_basis}
-use Rattle.club_core.specs.Basis.{Basis, basis_of, key_of, view_in, view_of}
-use Rattle.club_core.specs.Club.{Club, IsSound, bookings_of}
-use Rattle.club_core.specs.Pass.{Pass, IsSignedUnder, Words, is_signed_under}
-use Rattle.club_core.specs.Sheet.{IsSheet}
-use Rattle.club_core.specs.Sums.{booking_under, spent_under}
+use Rattle.club_core.specs.{Answer.answer_by_basis, Basis.{Basis, basis_of, key_of, view_in, view_of}, Club.{Club, IsSound, bookings_of}}
+use Rattle.club_core.specs.{Pass.{Pass, IsSignedUnder, Words, is_signed_under}, Sheet.IsSheet, Sums.{booking_under, spent_under}}
+use Rattle.club_core.specs.declared.{refusal.Refusal.Refusal, reply.Reply.TheVariants.Refused, verdict.Verdict.Verdict}
 
 -- a refusal changes nothing
 pub record KeepsWhereRefused (verdict : Verdict) : Type 0 where

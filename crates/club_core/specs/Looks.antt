@@ -3,11 +3,8 @@
 use Rattle.std.specs.Prelude.{◌≡◌, ℕ, ◌&&◌, not, Bool, false, None, is_some, if◌then◌else◌}
 use Rattle.pass_caveats.specs.Spending.{after_spending}
 use Rattle.club_rows.specs.declared.key.KeyRow.{KeyRow}
-use Rattle.club_core.specs.declared.request.Request.{Request}
+use Rattle.club_core.specs.{Answer.ask_of, Verdict.verdict_of, declared.{request.Request.Request, view.View.View}}
 use Rattle.club_core.specs.declared.request.Request.TheVariants as asked
-use Rattle.club_core.specs.declared.view.View.{View}
-use Rattle.club_core.specs.Answer.{ask_of}
-use Rattle.club_core.specs.Verdict.{verdict_of}
 
 -- a view with the key's row alone: no record, no facility, all sums 0
 abbrev pub bare_view : KeyRow → View

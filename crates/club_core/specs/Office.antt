@@ -2,23 +2,14 @@
 use Rattle.std.specs.Prelude.{ℕ, ◌+◌, ◌==◌, ◌&&◌, ◌||◌, not, Bool, false, List, [], ◌∷◌, nat_lt, nat_le, is_some, Option, Some, None, Result, Ok, Err}
 use Rattle.std.specs.Str.{bytes_eq}
 use Rattle.club_values.specs.declared.slot.Slot.{Slot}
-use Rattle.club_rows.specs.declared.member.Member.{Member}
-use Rattle.club_rows.specs.declared.facility.Facility.{Facility}
-use Rattle.club_rows.specs.declared.key.Key.{Key}
-use Rattle.club_rows.specs.Facility.{is_open_at}
-use Rattle.club_rows.specs.Limits.{credited_limit, quota_limit, places_limit, price_limit, shutting_limit}
-use Rattle.club_core.specs.declared.change.Change.{Change}
+use Rattle.club_rows.specs.{Facility.is_open_at, Limits.{credited_limit, quota_limit, places_limit, price_limit, shutting_limit}}
+use Rattle.club_rows.specs.declared.{facility.Facility.Facility, key.Key.Key, member.Member.Member}
+use Rattle.club_core.specs.{Basis.slot_use, Club.{Club, member_named, facility_named, key_named}, Lines.{line_if, first_of}, declared.change.Change.Change}
 use Rattle.club_core.specs.declared.change.Change.TheVariants.{InsertMember, AddCredit, InsertFacility, InsertKey, MarkRevoked, ReplaceRoot, MarkClosed}
-use Rattle.club_core.specs.declared.change.Change.TheVariants.{MarkOpen, ReplaceQuota}
-use Rattle.club_core.specs.declared.command.Command.{Command}
+use Rattle.club_core.specs.declared.{change.Change.TheVariants.{MarkOpen, ReplaceQuota}, command.Command.Command}
 use Rattle.club_core.specs.declared.command.Command.TheVariants.{AddMember, Credit, AddFacility, AddKey, RevokeKey, RotateKey, CloseSlot, OpenSlot, SetQuota}
-use Rattle.club_core.specs.declared.command.OfficeFault.{OfficeFault}
-use Rattle.club_core.specs.declared.command.OfficeFault.TheVariants.{Exists, Unknown, OutOfRange, SlotInUse}
-use Rattle.club_core.specs.declared.command_view.CommandView.{CommandView}
-use Rattle.club_core.specs.declared.slot_use.SlotUse.{SlotUse}
-use Rattle.club_core.specs.Lines.{line_if, first_of}
-use Rattle.club_core.specs.Club.{Club, member_named, facility_named, key_named}
-use Rattle.club_core.specs.Basis.{slot_use}
+use Rattle.club_core.specs.declared.command.OfficeFault.{OfficeFault, TheVariants.{Exists, Unknown, OutOfRange, SlotInUse}}
+use Rattle.club_core.specs.declared.{command_view.CommandView.CommandView, slot_use.SlotUse.SlotUse}
 
 -- a view with these rows and no slot
 abbrev pub rows_seen : Option Member → Option Key → Option Facility → CommandView

@@ -1,11 +1,8 @@
 -- The model of a pass in the club's rules (ours).
-use Rattle.std.specs.Prelude.{◌≡◌, ◌⊎◌, ◌||◌, ℕ, Bool, false, IsTrue, List, Option, Some, Result}
-use Rattle.std.specs.Option.{option_map_or}
+use Rattle.std.specs.{Option.option_map_or, Prelude.{◌≡◌, ◌⊎◌, ◌||◌, ℕ, Bool, false, IsTrue, List, Option, Some, Result}}
 use Rattle.pass_caveats.specs.declared.caveat.Caveat.{Caveat}
-use Rattle.club_rows.specs.declared.key.Key.{Key}
-use Rattle.club_rows.specs.Key.{older_root_at}
-use Rattle.club_core.specs.declared.pass_fault.PassFault.{PassFault}
-use Rattle.club_core.specs.declared.request.Request.{Request}
+use Rattle.club_rows.specs.{Key.older_root_at, declared.key.Key.Key}
+use Rattle.club_core.specs.declared.{pass_fault.PassFault.PassFault, request.Request.Request}
 
 -- a parsed pass: the key that its identifier names, if any; each caveat, if it is understood; and the roots under which it is signed
 pub record Pass : Type 0 where

@@ -1,10 +1,9 @@
 -- A refusal's number and its text (ours).
 use Rattle.std.specs.Prelude.{ℕ, List, codes, Option, Some, None}
-use Rattle.club_core.specs.declared.refusal.Refusal.{Refusal}
-use Rattle.club_core.specs.declared.refusal.Refusal.TheVariants.{BadRequest, NoSuchPath, MethodNotAllowed, NoPass, PassTooLong, PassMalformed, ThirdPartyCaveat}
-use Rattle.club_core.specs.declared.refusal.Refusal.TheVariants.{TooManyCaveats, NotVerified, KeyRevoked, CaveatNotUnderstood, CaveatDenies, NumberUsed}
-use Rattle.club_core.specs.declared.refusal.Refusal.TheVariants.{NoSuchFacility, NoSuchBooking, NotBookable, SlotClosed, NoPlaces, QuotaReached, BalanceTooLow}
-use Rattle.club_core.specs.declared.refusal.Refusal.TheVariants.{SlotHasBegun, Unavailable}
+use Rattle.club_core.specs.declared.refusal.Refusal.{Refusal, TheVariants.{BadRequest, NoSuchPath, MethodNotAllowed, NoPass, PassTooLong, PassMalformed}}
+use Rattle.club_core.specs.declared.refusal.Refusal.TheVariants.{ThirdPartyCaveat, TooManyCaveats, NotVerified, KeyRevoked, CaveatNotUnderstood, CaveatDenies}
+use Rattle.club_core.specs.declared.refusal.Refusal.TheVariants.{NumberUsed, NoSuchFacility, NoSuchBooking, NotBookable, SlotClosed, NoPlaces, QuotaReached}
+use Rattle.club_core.specs.declared.refusal.Refusal.TheVariants.{BalanceTooLow, SlotHasBegun, Unavailable}
 
 -- the fault's number and the text
 pub record RefusalDetails : Type 0 where

@@ -1,8 +1,7 @@
 -- The parts of a request (ours).
 use Rattle.std.specs.Prelude.{ℕ, Option, Some, None}
-use Rattle.club_values.specs.declared.action.Action.{Action}
+use Rattle.club_values.specs.declared.{action.Action.Action, slot.Slot.Slot}
 use Rattle.club_values.specs.declared.action.Action.TheVariants as actions
-use Rattle.club_values.specs.declared.slot.Slot.{Slot}
 use Rattle.club_core.specs.declared.request.Request.{Request}
 use Rattle.club_core.specs.declared.request.Request.TheVariants as asked
 

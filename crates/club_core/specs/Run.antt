@@ -1,18 +1,10 @@
 -- The club as a state machine: its steps, and its runs over lists of events (ours).
 use Rattle.std.specs.Prelude.{ℕ, List, [], ◌∷◌, Option, Some, None, Result, Ok, Err}
-use Rattle.club_core.specs.declared.verdict.Verdict.{Verdict}
-use Rattle.club_core.specs.declared.change.Change.{Change}
+use Rattle.club_core.specs.{After.after, Answer.verdict_in, Club.Club, Office.office_verdict, Pass.Words, declared.change.Change.Change}
 use Rattle.club_core.specs.declared.command.Command.{Command}
 use Rattle.club_core.specs.declared.command.Command.TheVariants.{AddMember, Credit, AddFacility, AddKey, RevokeKey, RotateKey, CloseSlot, OpenSlot, SetQuota}
-use Rattle.club_core.specs.declared.command.OfficeFault.{OfficeFault}
-use Rattle.club_core.specs.declared.command.OfficeAnswer.{OfficeAnswer}
-use Rattle.club_core.specs.declared.command.OfficeAnswer.TheVariants.{Done, NewKey, NotDone}
-use Rattle.club_core.specs.declared.reply.Reply.{Reply}
-use Rattle.club_core.specs.Pass.{Words}
-use Rattle.club_core.specs.Club.{Club}
-use Rattle.club_core.specs.Answer.{verdict_in}
-use Rattle.club_core.specs.After.{after}
-use Rattle.club_core.specs.Office.{office_verdict}
+use Rattle.club_core.specs.declared.{command.{OfficeAnswer.{OfficeAnswer, TheVariants.{Done, NewKey, NotDone}}, OfficeFault.OfficeFault}, reply.Reply.Reply}
+use Rattle.club_core.specs.declared.verdict.Verdict.{Verdict}
 
 -- a request at a moment, or a command of the office
 pub data Event : Type 0 where

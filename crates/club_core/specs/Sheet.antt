@@ -1,14 +1,8 @@
 -- The day sheet (ours).
-use Rattle.std.specs.Prelude.{◌≡◌, ◌⊎◌, ℕ, ◌-◌, ◌<◌, ◌==◌, ◌&&◌, not, Bool, List, [], ◌∷◌, ◌++◌, length, replicate, filter, sum_by, flat_map, AllPairs}
-use Rattle.std.specs.Prelude.{IsPermutation, codes}
-use Rattle.std.specs.Ordering.{nat_cmp}
-use Rattle.std.specs.declared.cmp.Ordering.TheVariants.{Less}
-use Rattle.std.specs.Cmp.Lexicographic.{slice_cmp}
-use Rattle.std.specs.Fmt.{decimal}
-use Rattle.club_values.specs.Digits.{two_digits}
-use Rattle.club_values.specs.Day.{day_text}
-use Rattle.club_rows.specs.declared.booking.Booking.{Booking}
-use Rattle.club_rows.specs.Booking.{persons_of}
+use Rattle.std.specs.{Cmp.Lexicographic.slice_cmp, Fmt.decimal, Ordering.nat_cmp, Prelude.{◌≡◌, ◌⊎◌, ℕ, ◌-◌, ◌<◌, ◌==◌, ◌&&◌, not, Bool, List, [], ◌∷◌, ◌++◌}}
+use Rattle.std.specs.{Prelude.{length, replicate, filter, sum_by, flat_map, AllPairs, IsPermutation, codes}, declared.cmp.Ordering.TheVariants.Less}
+use Rattle.club_values.specs.{Day.day_text, Digits.two_digits}
+use Rattle.club_rows.specs.{Booking.persons_of, declared.booking.Booking.Booking}
 use Rattle.club_core.specs.Club.{Club}
 
 -- the bookings of the day that aren't cancelled

@@ -2,23 +2,12 @@
 use Rattle.std.specs.Prelude.{ℕ, ◌+◌, not, Bool, true, false, List, [], ◌∷◌, ◌++◌, filter, Option, Some, None, Result, Ok, Err, option_map, if◌then◌else◌}
 use Rattle.std.specs.Str.{bytes_eq}
 use Rattle.club_values.specs.declared.slot.Slot.{Slot}
-use Rattle.club_rows.specs.declared.member.Member.{Member}
-use Rattle.club_rows.specs.declared.booking.Booking.{Booking}
-use Rattle.club_core.specs.declared.reply.Reply.{Reply}
-use Rattle.club_core.specs.declared.verdict.Verdict.{Verdict}
-use Rattle.club_core.specs.declared.change.Change.{Change}
-use Rattle.club_core.specs.declared.change.Change.TheVariants.{InsertMember, AddCredit, InsertFacility, InsertKey, MarkRevoked, ReplaceRoot, MarkClosed}
-use Rattle.club_core.specs.declared.change.Change.TheVariants.{MarkOpen, ReplaceQuota, InsertBooking, MarkCancelled}
-use Rattle.club_core.specs.declared.command.OfficeFault.{OfficeFault}
-use Rattle.club_core.specs.declared.slot_use.SlotUse.{SlotUse}
-use Rattle.club_core.specs.Pass.{Words}
-use Rattle.club_core.specs.Club.{Club, keys_of, is_key_of, bookings_of}
-use Rattle.club_core.specs.Basis.{Basis, basis_of, slot_use_by}
-use Rattle.club_core.specs.Request.{request_slot}
-use Rattle.club_core.specs.Answer.{answer_by_basis}
-use Rattle.club_core.specs.After.{after}
-use Rattle.club_core.specs.Office.{office_verdict}
-use Rattle.club_core.specs.Run.{Event, Asked, Commanded, step, after_change}
+use Rattle.club_rows.specs.declared.{booking.Booking.Booking, member.Member.Member}
+use Rattle.club_core.specs.{After.after, Answer.answer_by_basis, Basis.{Basis, basis_of, slot_use_by}, Club.{Club, keys_of, is_key_of, bookings_of}}
+use Rattle.club_core.specs.{Office.office_verdict, Pass.Words, Request.request_slot, Run.{Event, Asked, Commanded, step, after_change}}
+use Rattle.club_core.specs.declared.change.Change.{Change, TheVariants.{InsertMember, AddCredit, InsertFacility, InsertKey, MarkRevoked, ReplaceRoot}}
+use Rattle.club_core.specs.declared.change.Change.TheVariants.{MarkClosed, MarkOpen, ReplaceQuota, InsertBooking, MarkCancelled}
+use Rattle.club_core.specs.declared.{command.OfficeFault.OfficeFault, reply.Reply.Reply, slot_use.SlotUse.SlotUse, verdict.Verdict.Verdict}
 
 abbrev pub bookings_of_others : List ℕ → Club → List Booking
 bookings_of_others member club = filter (λ (booking : Booking). not (is_key_of member club booking.key)) club.bookings

@@ -1,16 +1,9 @@
 -- What a store of the club's rows returns, keeps and may recover to (ours).
 use Rattle.std.specs.Prelude.{◌≡◌, ℕ, false, List, [], ◌∷◌, Option, Some, None, Result, IfOk, MatchResult}
-use Rattle.club_rows.specs.declared.key.Key.{Key}
-use Rattle.club_rows.specs.declared.member.Member.{Member}
-use Rattle.club_rows.specs.declared.facility.Facility.{Facility}
-use Rattle.club_rows.specs.declared.booking.Booking.{Booking}
-use Rattle.club_core.specs.declared.change.Change.{Change}
-use Rattle.club_core.specs.declared.change.Change.TheVariants.{AddCredit, InsertKey, MarkRevoked, ReplaceRoot, MarkOpen, ReplaceQuota}
-use Rattle.club_core.specs.declared.change.Change.TheVariants.{InsertBooking, MarkCancelled}
-use Rattle.club_core.specs.declared.store.StoreFault.{StoreFault}
-use Rattle.club_core.specs.After.{after}
-use Rattle.club_core.specs.Club.{Club, IsSound, key_named, member_named, facility_named}
-use Rattle.club_core.specs.Sums.{booking_under}
+use Rattle.club_rows.specs.declared.{booking.Booking.Booking, facility.Facility.Facility, key.Key.Key, member.Member.Member}
+use Rattle.club_core.specs.{After.after, Club.{Club, IsSound, key_named, member_named, facility_named}, Sums.booking_under, declared.change.Change.Change}
+use Rattle.club_core.specs.declared.change.Change.TheVariants.{AddCredit, InsertKey, MarkRevoked, ReplaceRoot, MarkOpen, ReplaceQuota, InsertBooking}
+use Rattle.club_core.specs.declared.{change.Change.TheVariants.MarkCancelled, store.StoreFault.StoreFault}
 
 -- there is a member of this name
 abbrev pub HasMember : List ℕ → Club → Type 0

@@ -1,11 +1,7 @@
 -- Sums over bookings (ours).
-use Rattle.std.specs.Prelude.{ℕ, ◌-◌, ◌==◌, ◌&&◌, not, Bool, List, length, nat_lt, filter, find, sum_by, Option}
-use Rattle.std.specs.Str.{bytes_eq}
-use Rattle.club_values.specs.declared.slot.Slot.{Slot}
-use Rattle.club_values.specs.Slot.{start_of}
-use Rattle.club_rows.specs.declared.booking.Booking.{Booking}
-use Rattle.club_rows.specs.declared.member.Member.{Member}
-use Rattle.club_rows.specs.Booking.{same_slot, persons_of}
+use Rattle.std.specs.{Prelude.{ℕ, ◌-◌, ◌==◌, ◌&&◌, not, Bool, List, length, nat_lt, filter, find, sum_by, Option}, Str.bytes_eq}
+use Rattle.club_values.specs.{Slot.start_of, declared.slot.Slot.Slot}
+use Rattle.club_rows.specs.{Booking.{same_slot, persons_of}, declared.{booking.Booking.Booking, member.Member.Member}}
 
 -- whether a booking takes places of the slot
 abbrev pub is_in : Slot → Booking → Bool

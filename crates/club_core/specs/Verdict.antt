@@ -1,22 +1,13 @@
 -- The answer to an accepted request, by its view (ours). The first line that fits decides.
 use Rattle.std.specs.Prelude.{ℕ, ◌+◌, ◌-◌, ◌==◌, ◌&&◌, not, false, List, [], ◌∷◌, nat_lt, nat_le, if◌then◌else◌, Option, Some, None}
-use Rattle.club_values.specs.declared.slot.Slot.{Slot}
-use Rattle.club_values.specs.Slot.{start_of}
-use Rattle.club_core.specs.declared.view.View.{View}
-use Rattle.club_core.specs.declared.verdict.Verdict.{Verdict}
-use Rattle.club_rows.specs.declared.facility.Facility.{Facility}
-use Rattle.club_rows.specs.declared.booking.Booking.{Booking}
-use Rattle.club_core.specs.declared.refusal.Refusal.{Refusal}
+use Rattle.club_values.specs.{Slot.start_of, declared.slot.Slot.Slot}
+use Rattle.club_core.specs.{Lines.{Line, line_if, first_of}, declared.{change.Change.TheVariants.{InsertBooking, MarkCancelled}, refusal.Refusal.Refusal}}
 use Rattle.club_core.specs.declared.refusal.Refusal.TheVariants.{NumberUsed, NoSuchFacility, NoSuchBooking, NotBookable, SlotClosed, NoPlaces, QuotaReached}
-use Rattle.club_core.specs.declared.refusal.Refusal.TheVariants.{BalanceTooLow, SlotHasBegun}
-use Rattle.club_core.specs.declared.reply.Reply.{Reply}
-use Rattle.club_core.specs.declared.reply.Reply.TheVariants.{SlotShown, Booked, Cancelled, AccountShown, Refused}
-use Rattle.club_core.specs.declared.change.Change.TheVariants.{InsertBooking, MarkCancelled}
-use Rattle.club_core.specs.declared.request.Request.{Request}
+use Rattle.club_core.specs.declared.{refusal.Refusal.TheVariants.{BalanceTooLow, SlotHasBegun}, reply.Reply.Reply}
+use Rattle.club_core.specs.declared.{reply.Reply.TheVariants.{SlotShown, Booked, Cancelled, AccountShown, Refused}, request.Request.Request}
+use Rattle.club_core.specs.declared.{verdict.Verdict.Verdict, view.View.View}
+use Rattle.club_rows.specs.{Booking.{same_slot, refund_at}, Facility.{charge_of, is_bookable}, declared.{booking.Booking.Booking, facility.Facility.Facility}}
 use Rattle.club_core.specs.declared.request.Request.TheVariants as asked
-use Rattle.club_core.specs.Lines.{Line, line_if, first_of}
-use Rattle.club_rows.specs.Facility.{charge_of, is_bookable}
-use Rattle.club_rows.specs.Booking.{same_slot, refund_at}
 
 -- a reply that changes nothing
 abbrev pub reply_only : Reply → Verdict

@@ -1,8 +1,7 @@
 //! The answer to a request by its key's view: the pass is accepted or refused, then the request is
 //! decided.
 
-ghost use Rattle.std.specs.Prelude.{◌≡◌};
-ghost use Rattle.std.specs.Option.{option_copied};
+ghost use Rattle.std.specs.{Option.option_copied, Prelude.{◌≡◌}};
 ghost use Rattle.club_core.specs.Answer.{answer_by_view};
 
 use crate::decisions::decide;

@@ -1,22 +1,9 @@
 //! Laws of the definitions, each the contract of a function that does nothing.
 
-ghost use Rattle.club_core.specs.Laws.{
-  RefusalsChangeNothing,
-  ViewsDecide,
-  TestsTheSignature,
-  OwnBookings,
-  OneSheet,
-  SomeSheet,
-};
-ghost use Rattle.club_core.specs.Looks.{LooksNoFurther};
-ghost use Rattle.club_core.specs.Examples.{
-  BooksAndCancels,
-  RepeatsAfterACancellation,
-  ClosesASlot,
-  OpensASlot,
-  SetsAQuota,
-  KeepsASpendLimit,
-};
+ghost use Rattle.club_core.specs.Examples.{BooksAndCancels, RepeatsAfterACancellation, ClosesASlot};
+ghost use Rattle.club_core.specs.Examples.{OpensASlot, SetsAQuota, KeepsASpendLimit};
+ghost use Rattle.club_core.specs.Laws.{RefusalsChangeNothing, ViewsDecide, TestsTheSignature};
+ghost use Rattle.club_core.specs.{Laws.{OwnBookings, OneSheet, SomeSheet}, Looks.LooksNoFurther};
 
 /// A member books, sees the account, and cancels.
 pub fn books_and_cancels()

@@ -38,8 +38,8 @@ pub(crate) fn slot_within(slot: &Slot)
 }
 
 impl Request {
-    ghost use Rattle.club_core.specs.Events.{IsRequest};
-    ghost use Rattle.club_core.specs.Request.{request_action, request_slot, request_number, request_guests};
+    ghost use Rattle.club_core.specs.{Events.IsRequest, Request.{request_action, request_slot}};
+    ghost use Rattle.club_core.specs.Request.{request_number, request_guests};
 
     /// The slot, number and guests of a request are within their limits.
     pub fn within(&self)

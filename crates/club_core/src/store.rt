@@ -37,16 +37,13 @@ impl Error for StoreFault {}
 /// what was written, and nobody else writes to it.
 pub trait ClubStore {
     ghost use Rattle.std.specs.Prelude.{◌≡◌, ◌∷◌, All, IfErr, List, Option, Some, option_map};
-    ghost use Rattle.club_core.specs.declared.change.Change.{Change};
-    ghost use Rattle.club_core.specs.declared.store.StoreFault.{StoreFault};
-    ghost use Rattle.club_core.specs.Club.{Club, IsSound, bookings_of};
-    ghost use Rattle.club_core.specs.Club.{facility_named, key_named};
-    ghost use Rattle.club_core.specs.Sheet.{AreRowsOf};
     ghost use Rattle.club_core.specs.Basis.{account_named, slot_use};
-    ghost use Rattle.club_core.specs.Sums.{booking_under, count_to_come, spent_under};
-    ghost use Rattle.club_core.specs.KeyParts.{older_root_of};
-    ghost use Rattle.club_rows.specs.Key.{row_of_key};
+    ghost use Rattle.club_core.specs.Club.{Club, IsSound, bookings_of, facility_named, key_named};
+    ghost use Rattle.club_core.specs.{KeyParts.older_root_of, Sheet.AreRowsOf};
     ghost use Rattle.club_core.specs.Store.{Changes, ReadsStore};
+    ghost use Rattle.club_core.specs.Sums.{booking_under, count_to_come, spent_under};
+    ghost use Rattle.club_core.specs.declared.{change.Change.Change, store.StoreFault.StoreFault};
+    ghost use Rattle.club_rows.specs.Key.{row_of_key};
 
     // the current club, and the other possible crash states: the clubs that the store may recover
     // to after a crash

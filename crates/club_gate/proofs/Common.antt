@@ -10,52 +10,29 @@ pub use Rattle.std.specs.Str.{bytes_eq}
 pub use Rattle.base64.specs.GeneralPurpose.{IsBytes}
 pub use Rattle.club_core.specs.Answer.{verdict_in, ask_of, answer_by_view, owed_at, answer_to}
 pub use Rattle.club_core.specs.Basis.{basis_under, view_of, account_named, Basis, slot_use, view_in, basis_of, key_of, state_of}
-pub use Rattle.club_core.specs.Club.{Club, IsSound, key_named, bookings_of, member_named, empty_club, facility_named}
-pub use Rattle.club_core.specs.Events.{IsEvent}
-pub use Rattle.club_core.specs.Office.{office_verdict}
+pub use Rattle.club_core.specs.{Club.{Club, IsSound, key_named, bookings_of, member_named, empty_club, facility_named}, Events.IsEvent, Office.office_verdict}
 pub use Rattle.club_core.specs.Pass.{Words, Pass, is_signed_under, IsSignedUnder}
 pub use Rattle.club_core.specs.Run.{Commanded, Asked, after_change, Event, command_outcome, step, replies_of, done_answer, ToMember, ToOffice}
-pub use Rattle.club_core.specs.Store.{IsRead, KeepsClub, ReadsStore, FitsClub}
-pub use Rattle.club_core.specs.Sums.{spent_under, booking_under, count_to_come, cost_of}
-pub use Rattle.club_core.specs.declared.change.Change.{Change}
-pub use Rattle.club_core.specs.declared.refusal.Refusal.TheVariants.{Unavailable, KeyRevoked, NotVerified}
-pub use Rattle.club_core.specs.declared.reply.Reply.{Reply}
-pub use Rattle.club_core.specs.declared.request.Request.{Request}
-pub use Rattle.club_core.specs.declared.store.StoreFault.{StoreFault}
-pub use Rattle.club_core.specs.declared.verdict.Verdict.{Verdict}
-pub use Rattle.club_core.specs.declared.view.View.{View}
+pub use Rattle.club_core.specs.{Store.{IsRead, KeepsClub, ReadsStore, FitsClub}, Sums.{spent_under, booking_under, count_to_come, cost_of}}
+pub use Rattle.club_core.specs.declared.{change.Change.Change, refusal.Refusal.TheVariants.{Unavailable, KeyRevoked, NotVerified}, reply.Reply.Reply}
+pub use Rattle.club_core.specs.declared.{request.Request.Request, store.StoreFault.StoreFault, verdict.Verdict.Verdict, view.View.View}
 pub use Rattle.club_laws.specs.Failed.{IsRun, has_failed, IsStep, LeavesOutFailed, is_unavailable, NeverUnavailable}
 pub use Rattle.club_laws.specs.SingleRequest.{words_with, DependsOnTheBasisAlone, MoreCaveatsNeverOpenMore, RefusesWithoutABasis, ServesOnlyTheEntitled}
-pub use Rattle.club_rows.specs.Key.{row_of_key, key_of_row, older_root_at}
-pub use Rattle.club_rows.specs.declared.key.Key.{Key}
-pub use Rattle.club_rows.specs.declared.key.KeyRow.{KeyRow}
-pub use Rattle.pass_caveats.specs.Fault.{first_fault_from, Allowed, Allows, first_fault_of, IsFaultAt}
-pub use Rattle.pass_caveats.specs.Laws.{ReadsWhatIsUnderstood, FindsTheFaultAt}
-pub use Rattle.pass_caveats.specs.Spending.{after_spending, IsWithin}
-pub use Rattle.pass_caveats.specs.computed.CaveatOf.{caveat_of}
-pub use Rattle.pass_caveats.specs.declared.ask.Ask.{Ask}
-pub use Rattle.pass_caveats.specs.declared.caveat.Caveat.{Caveat}
-pub use Rattle.pass_forms.specs.FieldSource.{pass_fields, PassField, caveat_field, signature_field, as_field}
-pub use Rattle.pass_forms.specs.Laws.{DecidesSigned, ReadsExactly}
-pub use Rattle.pass_forms.specs.Pass.{Plain, IsSigned}
+pub use Rattle.club_rows.specs.{Key.{row_of_key, key_of_row, older_root_at}, declared.key.{Key.Key, KeyRow.KeyRow}}
+pub use Rattle.pass_caveats.specs.{Fault.{first_fault_from, Allowed, Allows, first_fault_of, IsFaultAt}, Laws.{ReadsWhatIsUnderstood, FindsTheFaultAt}}
+pub use Rattle.pass_caveats.specs.{Spending.{after_spending, IsWithin}, computed.CaveatOf.caveat_of, declared.{ask.Ask.Ask, caveat.Caveat.Caveat}}
+pub use Rattle.pass_forms.specs.{FieldSource.{pass_fields, PassField, caveat_field, signature_field, as_field}, Laws.{DecidesSigned, ReadsExactly}}
+pub use Rattle.pass_forms.specs.{Pass.{Plain, IsSigned}, declared.{fault.FormFault.FormFault, form.Form.Form}}
 unfoldable pub use Rattle.pass_forms.specs.computed.Pass.{is_signed}
-pub use Rattle.pass_forms.specs.declared.fault.FormFault.{FormFault}
-pub use Rattle.pass_forms.specs.declared.form.Form.{Form}
-pub use Rattle.pass_json.specs.AnyForm.{IsAnyReading, IsReadingInForm, SpellsForm}
-pub use Rattle.pass_json.specs.Laws.{ReadsAnyFormExactly, ReadsWhatIsWrapped}
+pub use Rattle.pass_json.specs.{AnyForm.{IsAnyReading, IsReadingInForm, SpellsForm}, Laws.{ReadsAnyFormExactly, ReadsWhatIsWrapped}}
 pub use Rattle.pass_json.specs.computed.AnyForm.{reading, reading_in_form}
-pub use Rattle.club_gate.specs.DecodedPass.{AreWordsOf, IsDecoded, IsSeenAs}
-pub use Rattle.club_gate.specs.Desk.{Steps, HasFailed, IsDecidedBy, IsAnsweredBy, IsRefusedBy, others_after, FitsIfAny, change_by, change_of, DecidesOrFails}
-pub use Rattle.club_gate.specs.Desk.{FailsAt}
-pub use Rattle.club_gate.specs.Events.{IsEventOfBytes, AreEventsOf, IsEventOf}
-pub use Rattle.club_gate.specs.Identifier.{key_in, FindsNames}
-unfoldable pub use Rattle.club_gate.specs.Identifier.{key_name_in}
-pub use Rattle.club_gate.specs.Laws.{Decodes, SeesEvents, SeenAlike, NamesItsRows}
-pub use Rattle.club_gate.specs.Minted.{identifier_of}
+pub use Rattle.club_gate.specs.{DecodedPass.{AreWordsOf, IsDecoded, IsSeenAs}, Desk.{Steps, HasFailed, IsDecidedBy, IsAnsweredBy, IsRefusedBy, others_after}}
+pub use Rattle.club_gate.specs.{Desk.{FitsIfAny, change_by, change_of, DecidesOrFails, FailsAt}, Events.{IsEventOfBytes, AreEventsOf, IsEventOf}}
+pub use Rattle.club_gate.specs.{Identifier.{key_in, FindsNames}, Laws.{Decodes, SeesEvents, SeenAlike, NamesItsRows}, Minted.identifier_of}
 pub use Rattle.club_gate.specs.Reading.{IsOnRecord, IsBlindPass, AgreesOnRecord}
 pub use Rattle.club_gate.specs.Response.{unavailable, desk_presentation, reply_or_unavailable, answer_or_fault, is_failure, office_reply_of, response_of}
 pub use Rattle.club_gate.specs.Runs.{IsFollowed, responses_of, MayBeLeft, DeskResponse, events_answered, IsLawfulRun, LeavesClub, FailedLast, MakesNoChange}
-pub use Rattle.club_gate.specs.Runs.{Conserves, IsAnsweredRun, IsOnce, club_left, AreHandled}
-pub use Rattle.club_gate.specs.Verify.{signer_of, OfItsPass, ReadsOrLacksMemory}
+pub use Rattle.club_gate.specs.{Runs.{Conserves, IsAnsweredRun, IsOnce, club_left, AreHandled}, Verify.{signer_of, OfItsPass, ReadsOrLacksMemory}}
 pub use Rattle.club_gate.specs.computed.DecodedPass.{decoded_words, machine_events, machine_pass, without_form, decoded_or_fault, decoded_pass, machine_event}
 pub use Rattle.club_gate.specs.computed.DecodedPass.{words_in_form}
+unfoldable pub use Rattle.club_gate.specs.Identifier.{key_name_in}

@@ -5,11 +5,9 @@ use Rattle.club_gate.proofs.Common.{FormFault, Form, Plain, DecidesSigned, IsAny
 use Rattle.club_gate.proofs.Common.{Verdict, ask_of, verdict_in, basis_of, basis_under, key_of, view_of, Club, key_named, Pass, Words, IsSignedUnder}
 use Rattle.club_gate.proofs.Common.{DependsOnTheBasisAlone, MoreCaveatsNeverOpenMore, RefusesWithoutABasis, ServesOnlyTheEntitled, words_with, HasFailed}
 use Rattle.club_gate.proofs.Common.{IsDecidedBy, FindsNames, key_name_in, identifier_of, machine_pass, decoded_pass, decoded_or_fault, without_form}
-use Rattle.club_gate.proofs.Common.{decoded_words, AreWordsOf, Decodes, NamesItsRows, unavailable}
-use Rattle.club_core.specs.declared.pass_fault.PassFault.{PassFault}
-use Rattle.club_core.specs.Acceptance.{IsAllowedBy, IsServed}
+use Rattle.club_gate.proofs.{Common.{decoded_words, AreWordsOf, Decodes, NamesItsRows, unavailable}, Decoding.{decoded_text, decodes_as, words_are}}
+use Rattle.club_core.specs.{Acceptance.{IsAllowedBy, IsServed}, declared.pass_fault.PassFault.PassFault}
 use Rattle.club_gate.specs.Served.{EntitlesTo, IsLawful, IsNarrowedText}
-use Rattle.club_gate.proofs.Decoding.{decoded_text, decodes_as, words_are}
 
 -- the reply is the verdict's, or it says that the request failed
 pub reply_or_failure : {S : Type 0} (Represents : S → Club → List Club → Type 0) (new : S) (club : Club) (others : List Club) (verdict : Verdict)

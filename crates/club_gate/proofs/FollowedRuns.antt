@@ -3,12 +3,9 @@ use Rattle.club_gate.proofs.Common.{◌≡◌, inl, inr, List, All, Some, Result
 use Rattle.club_gate.proofs.Common.{Event, replies_of, IsRun, LeavesOutFailed, AreEventsOf, IsEventOfBytes, SeesEvents, machine_events, Conserves}
 use Rattle.club_gate.proofs.Common.{IsAnsweredRun, IsFollowed, IsLawfulRun, IsOnce, LeavesClub, MayBeLeft, DeskResponse, events_answered, club_left}
 use Rattle.club_gate.proofs.Common.{desk_presentation}
-use Rattle.club_laws.specs.RunsWithFailures.{ConservesWithFailures, SoloLawWithFailures, SoloLawOfTwoWithFailures, SoundWithFailures, RepeatsServedReplies}
-use Rattle.club_laws.specs.RunsWithFailures.{RepeatsAfterOneMore}
-use Rattle.club_laws.specs.RunsWithFailures.{RepeatsWithFailures}
-use Rattle.club_laws.specs.Conservation.{IsConserved, SoundClubsHavePlaces}
-use Rattle.club_gate.specs.declared.event.Event.{Event as DeskEvent}
-use Rattle.club_gate.specs.declared.event.OfficeReply.{OfficeReply}
+use Rattle.club_laws.specs.{Conservation.{IsConserved, SoundClubsHavePlaces}, RunsWithFailures.{ConservesWithFailures, SoloLawWithFailures}}
+use Rattle.club_laws.specs.RunsWithFailures.{SoloLawOfTwoWithFailures, SoundWithFailures, RepeatsServedReplies, RepeatsAfterOneMore, RepeatsWithFailures}
+use Rattle.club_gate.specs.declared.event.{Event.Event as DeskEvent, OfficeReply.OfficeReply}
 
 -- What holds of the computed events of a followed list, and of the responses to it, holds of all events as which the machine sees that list, and
 -- of the responses that the desk returns.

@@ -2,9 +2,7 @@
 use Rattle.club_gate.proofs.Common.{◌≡◌, ℕ, Bool, true, false, cond, List, take, drop, Option, Some, None, refl, sym, ap, ◌∙◌, codes, bytes_eq}
 use Rattle.club_gate.proofs.Common.{take-append-drop, key_name_in, identifier_of}
 use Rattle.std.proofs.lemmas.Slice.Eq.{bytes_eq-Decides}
-use Rattle.club_values.specs.Laws.{ReadsNames}
-use Rattle.club_values.specs.Name.{IsName}
-use Rattle.club_values.specs.computed.TextOf.{name_of_text}
+use Rattle.club_values.specs.{Laws.ReadsNames, Name.IsName, computed.TextOf.name_of_text}
 
 found : (b : Bool) (o : Option (List ℕ)) (name : List ℕ) → cond b o None ≡ Some name → (b ≡ true) × (o ≡ Some name)
 found true o name e = (refl, e)

@@ -1,9 +1,9 @@
 -- What a scan for caveats on the kind of a facility tells.
 use Rattle.club_gate.proofs.Common.{◌≡◌, ℕ, ◌+◌, List, [], ◌∷◌, ◌++◌, map, Option, refl, sym, subst, Ask, caveat_of, first_fault_from, FindsTheFaultAt}
 use Rattle.club_gate.proofs.Common.{ReadsWhatIsUnderstood, PassField, caveat_field, signature_field, pass_fields, Plain, IsBlindPass}
+use Rattle.club_gate.proofs.Walking.{fault_is, fault_on}
 use Rattle.pass_caveats.specs.Kinds.{IsBlindToKind, at_kind}
 use Rattle.club_values.specs.declared.kind.Kind.{Kind}
-use Rattle.club_gate.proofs.Walking.{fault_is, fault_on}
 
 -- each caveat among these fields has one fault for all kinds
 abbrev pub AreBlind : List PassField → Type 0

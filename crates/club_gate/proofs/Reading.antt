@@ -3,18 +3,13 @@ use Rattle.club_gate.proofs.Common.{◌≡◌, inl, inr, ℕ, true, List, Ok, ma
 use Rattle.club_gate.proofs.Common.{if◌then◌else◌, same_Some, caveat_of, first_fault_of, after_spending, Plain, Key, KeyRow, row_of_key, Request, View}
 use Rattle.club_gate.proofs.Common.{answer_by_view, ask_of, owed_at, verdict_in, Basis, account_named, slot_use, state_of, view_in, view_of, Club, IsSound}
 use Rattle.club_gate.proofs.Common.{bookings_of, key_named, is_signed_under, booking_under, count_to_come, spent_under, words_with, key_in, AgreesOnRecord}
-use Rattle.club_gate.proofs.Common.{IsOnRecord, signer_of, machine_pass}
-use Rattle.pass_caveats.specs.declared.fault.CaveatFault.{CaveatFault}
-use Rattle.pass_caveats.specs.declared.fault.CaveatFault.TheVariants.{Denied, NotUnderstood}
+use Rattle.club_gate.proofs.{Common.{IsOnRecord, signer_of, machine_pass}, Signers.{IsOwned, is_signer, key_there, owner}}
+use Rattle.pass_caveats.specs.declared.fault.CaveatFault.{CaveatFault, TheVariants.{Denied, NotUnderstood}}
 use Rattle.club_values.specs.declared.slot.Slot.{Slot}
-use Rattle.club_rows.specs.declared.booking.Booking.{Booking}
-use Rattle.club_rows.specs.declared.facility.Facility.{Facility}
+use Rattle.club_rows.specs.declared.{booking.Booking.Booking, facility.Facility.Facility}
+use Rattle.club_core.specs.{Laws.OwnBookings, Looks.{bare_view, books_anew}, Request.{request_number, request_slot}}
 use Rattle.club_core.specs.declared.account.MemberAccount.{MemberAccount}
 use Rattle.club_core.specs.declared.request.Request.TheVariants as asked
-use Rattle.club_core.specs.Laws.{OwnBookings}
-use Rattle.club_core.specs.Looks.{bare_view, books_anew}
-use Rattle.club_core.specs.Request.{request_number, request_slot}
-use Rattle.club_gate.proofs.Signers.{IsOwned, is_signer, key_there, owner}
 
 -- ---- what is read for a signed pass
 

@@ -6,10 +6,7 @@ use Rattle.club_gate.proofs.Common.{key_named, member_named, is_signed_under, bo
 use Rattle.club_gate.proofs.Common.{signer_of}
 use Rattle.std.proofs.lemmas.Slice.Eq.{bytes_eq-Decides}
 use Rattle.club_rows.specs.declared.member.Member.{Member}
-use Rattle.club_core.specs.declared.refusal.Refusal.{Refusal}
-use Rattle.club_core.specs.Laws.{OwnBookings}
-use Rattle.club_core.specs.Lines.{line_if, first_of}
-use Rattle.club_core.specs.Verdict.{refusal_verdict}
+use Rattle.club_core.specs.{Laws.OwnBookings, Lines.{line_if, first_of}, Verdict.refusal_verdict, declared.refusal.Refusal.Refusal}
 
 -- ---- rows that are found
 

@@ -3,14 +3,9 @@ use Rattle.club_gate.proofs.Common.{◌≡◌, ◌≢◌, inl, inr, ℕ, true, f
 use Rattle.club_gate.proofs.Common.{Change, Unavailable, Reply, Request, StoreFault, Verdict, verdict_in, Club, IsSound, IsEvent, office_verdict, Words, Asked}
 use Rattle.club_gate.proofs.Common.{Commanded, after_change, done_answer, ToMember, ToOffice, is_unavailable, NeverUnavailable, IsRead, decoded_words}
 use Rattle.club_gate.proofs.Common.{AreWordsOf, Decodes, DecidesOrFails, FailsAt, FitsIfAny, HasFailed, IsAnsweredBy, IsDecidedBy, IsRefusedBy, Steps}
-use Rattle.club_gate.proofs.Common.{others_after, answer_or_fault, is_failure, reply_or_unavailable, office_reply_of, unavailable}
-use Rattle.club_core.specs.declared.command.Command.{Command}
-use Rattle.club_core.specs.declared.command.Command.TheVariants.{AddKey}
-use Rattle.club_core.specs.declared.command.OfficeAnswer.{OfficeAnswer}
-use Rattle.club_core.specs.declared.reply.Reply.TheVariants.{Refused}
-use Rattle.club_core.specs.After.{after}
+use Rattle.club_gate.proofs.{Common.{others_after, answer_or_fault, is_failure, reply_or_unavailable, office_reply_of, unavailable}, Decoding.words_are}
+use Rattle.club_core.specs.{After.after, declared.{command.{Command.{Command, TheVariants.AddKey}, OfficeAnswer.OfficeAnswer}, reply.Reply.TheVariants.Refused}}
 use Rattle.club_laws.specs.SoundRuns.{ChangesFit}
-use Rattle.club_gate.proofs.Decoding.{words_are}
 
 -- a command that is done is no failure
 done_is_no_failure : (command : Command) → is_failure (office_reply_of (done_answer command)) ≡ false

@@ -3,16 +3,9 @@ use Rattle.club_gate.proofs.Common.{◌≡◌, ◌≢◌, inl, inr, ℕ, ◌≤�
 use Rattle.club_gate.proofs.Common.{PassField, pass_fields, ReadsExactly, Plain, IsReadingInForm, SpellsForm, ReadsAnyFormExactly, ReadsWhatIsWrapped, reading}
 use Rattle.club_gate.proofs.Common.{reading_in_form, Change, Request, StoreFault, Verdict, verdict_in, Club, words_with, machine_pass, without_form}
 use Rattle.club_gate.proofs.Common.{decoded_words, words_in_form, OfItsPass, ReadsOrLacksMemory}
-use Rattle.pass_forms.specs.declared.form.Form.TheVariants.{V1, V2, Json}
-use Rattle.pass_forms.specs.Envelope.{IsUnwrapped}
-use Rattle.pass_forms.specs.Reading.{IsReadAs, max_caveats, max_text_len}
-use Rattle.pass_forms.specs.V1.{SpellsV1}
-use Rattle.pass_forms.specs.V2.{SpellsV2}
-use Rattle.pass_forms.specs.computed.Text.{in_form}
-use Rattle.pass_forms.specs.computed.V1Reading.{reading_v1}
-use Rattle.pass_forms.specs.computed.V2Reading.{reading_v2}
-use Rattle.pass_json.specs.Json.{SpellsJson}
-use Rattle.pass_json.specs.computed.JsonReading.{reading_json}
+use Rattle.pass_forms.specs.{Envelope.IsUnwrapped, Reading.{IsReadAs, max_caveats, max_text_len}, V1.SpellsV1, V2.SpellsV2, computed.Text.in_form}
+use Rattle.pass_forms.specs.{computed.{V1Reading.reading_v1, V2Reading.reading_v2}, declared.form.Form.TheVariants.{V1, V2, Json}}
+use Rattle.pass_json.specs.{Json.SpellsJson, computed.JsonReading.reading_json}
 use Rattle.club_gate.specs.Served.{IsJson}
 
 abbrev IsVerdict : Result Verdict StoreFault → Verdict → Type 0

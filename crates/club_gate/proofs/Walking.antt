@@ -3,10 +3,7 @@ use Rattle.club_gate.proofs.Common.{Bor, ◌≡◌, ℕ, ◌+◌, ◌-◌, ◌^�
 use Rattle.club_gate.proofs.Common.{◌↔◌, is_some, refl, sym, ◌∙◌, arith, Ask, Caveat, caveat_of, IsFaultAt, first_fault_from, FindsTheFaultAt}
 use Rattle.club_gate.proofs.Common.{ReadsWhatIsUnderstood, PassField, caveat_field, signature_field, pass_fields, as_field, Plain}
 use Rattle.std.specs.Option.{option_or}
-use Rattle.pass_caveats.specs.declared.fault.CaveatFault.{CaveatFault}
-use Rattle.pass_caveats.specs.declared.fault.CaveatFault.TheVariants.{Denied}
-use Rattle.pass_caveats.specs.Caveat.{Understood}
-use Rattle.pass_caveats.specs.Tests.{permits}
+use Rattle.pass_caveats.specs.{Caveat.Understood, Tests.permits, declared.fault.CaveatFault.{CaveatFault, TheVariants.Denied}}
 use Rattle.pass_forms.specs.declared.field_source.Field.{Field}
 use Rattle.pass_forms.specs.declared.field_source.Field.TheVariants as fields
 use Rattle.club_values.specs.Reading.{Reads}

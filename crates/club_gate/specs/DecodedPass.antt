@@ -1,18 +1,12 @@
 -- A text, decoded for the rules of the club (ours). The decoded pass doesn't depend on the form in which it was written.
-use Rattle.std.specs.Prelude.{◌≡◌, ◌↔◌, ℕ, IsTrue, List, Option, Some, Result, Ok, Err}
-use Rattle.std.specs.List.{AllZip}
-use Rattle.pass_caveats.specs.declared.caveat.Caveat.{Caveat}
-use Rattle.pass_caveats.specs.Caveat.{Understood}
-use Rattle.pass_forms.specs.declared.fault.FormFault.{FormFault}
+use Rattle.std.specs.{List.AllZip, Prelude.{◌≡◌, ◌↔◌, ℕ, IsTrue, List, Option, Some, Result, Ok, Err}}
+use Rattle.pass_caveats.specs.{Caveat.Understood, declared.caveat.Caveat.Caveat}
+use Rattle.pass_forms.specs.{Pass.{Plain, IsSigned}, declared.{fault.FormFault.FormFault, form.Form.Form}}
 use Rattle.pass_forms.specs.declared.fault.FormFault.TheVariants as faults
-use Rattle.pass_forms.specs.declared.form.Form.{Form}
-use Rattle.pass_forms.specs.Pass.{Plain, IsSigned}
 use Rattle.pass_json.specs.AnyForm.{IsAnyReading}
 use Rattle.club_values.specs.Name.{IsName}
-use Rattle.club_core.specs.declared.pass_fault.PassFault.{PassFault}
-use Rattle.club_core.specs.declared.pass_fault.PassFault.TheVariants.{TooLong, Malformed, ThirdParty, TooMany}
+use Rattle.club_core.specs.{Pass.{Pass, Words}, declared.pass_fault.PassFault.{PassFault, TheVariants.{TooLong, Malformed, ThirdParty, TooMany}}}
 use Rattle.club_core.specs.declared.request.Request.{Request}
-use Rattle.club_core.specs.Pass.{Pass, Words}
 use Rattle.club_gate.specs.Minted.{identifier_of}
 
 -- A pass, as the rules see it: the key that its identifier names, if it names one; each caveat as it is understood, if it is; and the roots

@@ -1,28 +1,13 @@
 -- What an event leaves of the store below a desk (ours).
 use Rattle.std.specs.Prelude.{◌≡◌, ◌≢◌, ◌⊎◌, ℕ, IsTrue, IsFalse, List, [], ◌∷◌, MatchResult, Option, Some, None, Result, Ok, Err}
-use Rattle.club_core.specs.declared.change.Change.{Change}
-use Rattle.club_core.specs.declared.command.OfficeFault.{OfficeFault}
-use Rattle.club_core.specs.declared.refusal.Refusal.TheVariants.{Unavailable}
-use Rattle.club_core.specs.declared.reply.Reply.{Reply}
+use Rattle.club_core.specs.{Answer.verdict_in, Club.Club, Office.office_verdict, Pass.Words, Run.{Event, Asked, Commanded, after_change, step, Response}}
+use Rattle.club_core.specs.{Store.{FitsClub, IsRead}, declared.{change.Change.Change, command.OfficeFault.OfficeFault, refusal.Refusal.TheVariants.Unavailable}}
+use Rattle.club_core.specs.declared.{reply.Reply.Reply, request.Request.Request, store.StoreFault.{StoreFault, TheVariants.Memory}, verdict.Verdict.Verdict}
 use Rattle.club_core.specs.declared.reply.Reply.TheVariants as member_replies
-use Rattle.club_core.specs.declared.request.Request.{Request}
-use Rattle.club_core.specs.declared.store.StoreFault.{StoreFault}
-use Rattle.club_core.specs.declared.store.StoreFault.TheVariants.{Memory}
-use Rattle.club_core.specs.declared.verdict.Verdict.{Verdict}
-use Rattle.club_core.specs.Answer.{verdict_in}
-use Rattle.club_core.specs.Club.{Club}
-use Rattle.club_core.specs.Office.{office_verdict}
-use Rattle.club_core.specs.Pass.{Words}
-use Rattle.club_core.specs.Run.{Event, Asked, Commanded, after_change, step, Response}
-use Rattle.club_core.specs.Store.{FitsClub, IsRead}
 use Rattle.club_laws.specs.Failed.{present_reply, has_failed}
-use Rattle.club_gate.specs.declared.event.OfficeReply.{OfficeReply}
-use Rattle.club_gate.specs.declared.event.OfficeReply.TheVariants.{Refused}
+use Rattle.club_gate.specs.{DecodedPass.AreWordsOf, Response.desk_presentation, Served.IsJson, declared.event.OfficeReply.{OfficeReply, TheVariants.Refused}}
 use Rattle.club_gate.specs.declared.fault.Fault.{Fault}
 use Rattle.club_gate.specs.declared.fault.Fault.TheVariants as faults
-use Rattle.club_gate.specs.DecodedPass.{AreWordsOf}
-use Rattle.club_gate.specs.Response.{desk_presentation}
-use Rattle.club_gate.specs.Served.{IsJson}
 
 -- true of whichever club the store represented before a call, if its disk is clean after the call
 abbrev pub OfItsClub : {S : Type 0} → (S → Type 0) → (S → Club → List Club → Type 0) → S → S → (Club → Type 0) → Type 0

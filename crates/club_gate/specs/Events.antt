@@ -1,12 +1,10 @@
 -- Events at the desk, as the machine sees them (ours).
-use Rattle.std.specs.Prelude.{◌≡◌, List}
-use Rattle.std.specs.List.{AllZip}
+use Rattle.std.specs.{List.AllZip, Prelude.{◌≡◌, List}}
 use Rattle.base64.specs.GeneralPurpose.{IsBytes}
 use Rattle.club_core.specs.Pass.{Words}
 use Rattle.club_core.specs.Run as machine
-use Rattle.club_gate.specs.declared.event.Event.{Event}
+use Rattle.club_gate.specs.{DecodedPass.AreWordsOf, declared.event.Event.Event}
 use Rattle.club_gate.specs.declared.event.Event.TheVariants as events
-use Rattle.club_gate.specs.DecodedPass.{AreWordsOf}
 
 -- an event, as the machine sees it: a request with the words of its text, or the command
 abbrev pub IsEventOf : Event → machine.Event → Type 0

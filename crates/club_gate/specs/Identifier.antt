@@ -1,8 +1,6 @@
 -- The key that a pass names, by the identifier `key:` and the name (ours).
-use Rattle.std.specs.Prelude.{◌≡◌, ◌↔◌, ℕ, List, take, drop, codes, Option, Some, None, option_and_then, if◌then◌else◌}
-use Rattle.std.specs.Str.{bytes_eq}
-use Rattle.club_values.specs.Name.{IsName}
-use Rattle.club_values.specs.computed.TextOf.{name_of_text}
+use Rattle.std.specs.{Prelude.{◌≡◌, ◌↔◌, ℕ, List, take, drop, codes, Option, Some, None, option_and_then, if◌then◌else◌}, Str.bytes_eq}
+use Rattle.club_values.specs.{Name.IsName, computed.TextOf.name_of_text}
 use Rattle.club_rows.specs.declared.key.Key.{Key}
 use Rattle.club_core.specs.Club.{Club, key_named}
 use Rattle.club_gate.specs.Minted.{identifier_of}

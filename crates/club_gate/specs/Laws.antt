@@ -1,22 +1,14 @@
 -- Laws of the definitions.
 use Rattle.std.specs.Prelude.{◌≡◌, ◌↔◌, ℕ, List, All, Result, Ok, Err, Some}
 use Rattle.base64.specs.GeneralPurpose.{IsBytes}
-use Rattle.pass_forms.specs.declared.fault.FormFault.TheVariants.{Memory}
-use Rattle.pass_forms.specs.declared.form.Form.{Form}
-use Rattle.pass_forms.specs.Pass.{Plain}
+use Rattle.pass_forms.specs.{Pass.Plain, declared.{fault.FormFault.TheVariants.Memory, form.Form.Form}}
 use Rattle.pass_json.specs.AnyForm.{IsAnyReading}
 use Rattle.club_values.specs.Name.{IsName}
 use Rattle.club_rows.specs.declared.key.Key.{Key}
-use Rattle.club_core.specs.declared.pass_fault.PassFault.{PassFault}
-use Rattle.club_core.specs.Basis.{basis_of, basis_under}
-use Rattle.club_core.specs.Club.{Club, key_named}
-use Rattle.club_core.specs.Pass.{Pass, Words}
+use Rattle.club_core.specs.{Basis.{basis_of, basis_under}, Club.{Club, key_named}, Pass.{Pass, Words}, declared.pass_fault.PassFault.PassFault}
 use Rattle.club_core.specs.Run as machine
-use Rattle.club_gate.specs.declared.event.Event.{Event}
-use Rattle.club_gate.specs.Minted.{identifier_of}
-use Rattle.club_gate.specs.DecodedPass.{IsDecoded, IsSeenAs}
-use Rattle.club_gate.specs.Events.{AreEventsOf, IsEventOfBytes}
-use Rattle.club_gate.specs.computed.DecodedPass.{decoded_pass, machine_events, machine_pass}
+use Rattle.club_gate.specs.{DecodedPass.{IsDecoded, IsSeenAs}, Events.{AreEventsOf, IsEventOfBytes}, Minted.identifier_of}
+use Rattle.club_gate.specs.{computed.DecodedPass.{decoded_pass, machine_events, machine_pass}, declared.event.Event.Event}
 
 -- `machine_pass` is the one pass as which the rules see a pass
 abbrev pub SeenAlike : Type 0

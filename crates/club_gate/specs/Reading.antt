@@ -1,21 +1,11 @@
 -- What the desk reads of the club to answer a signed pass (ours).
 use Rattle.std.specs.Prelude.{◌≡◌, ◌⊎◌, ℕ, IsTrue, map, Option, Some, None, is_some, option_and_then}
-use Rattle.pass_caveats.specs.declared.ask.Ask.{Ask}
-use Rattle.pass_caveats.specs.computed.CaveatOf.{caveat_of}
-use Rattle.pass_caveats.specs.Fault.{first_fault_of}
-use Rattle.pass_caveats.specs.Kinds.{at_kind}
+use Rattle.pass_caveats.specs.{Fault.first_fault_of, Kinds.at_kind, computed.CaveatOf.caveat_of, declared.ask.Ask.Ask}
 use Rattle.pass_forms.specs.Pass.{Plain}
 use Rattle.club_values.specs.declared.kind.Kind.{Kind}
-use Rattle.club_rows.specs.declared.key.Key.{Key}
-use Rattle.club_rows.specs.declared.key.KeyRow.{KeyRow}
-use Rattle.club_rows.specs.Key.{row_of_key}
-use Rattle.club_core.specs.declared.request.Request.{Request}
-use Rattle.club_core.specs.declared.view.View.{View}
-use Rattle.club_core.specs.Basis.{state_of}
-use Rattle.club_core.specs.Club.{Club, key_named}
-use Rattle.club_core.specs.Looks.{seen_by_caveats}
-use Rattle.club_core.specs.Request.{request_number, request_slot}
-use Rattle.club_core.specs.Sums.{booking_under}
+use Rattle.club_rows.specs.{Key.row_of_key, declared.key.{Key.Key, KeyRow.KeyRow}}
+use Rattle.club_core.specs.{Basis.state_of, Club.{Club, key_named}, Looks.seen_by_caveats, Request.{request_number, request_slot}, Sums.booking_under}
+use Rattle.club_core.specs.declared.{request.Request.Request, view.View.View}
 
 -- no caveat of the pass depends on the kind of the slot's facility
 abbrev pub IsBlindPass : Plain → Type 0

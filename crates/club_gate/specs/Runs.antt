@@ -3,28 +3,15 @@
 use Rattle.std.specs.Prelude.{◌≡◌, ◌⊎◌, ℕ, ◌≤◌, IsTrue, IsFalse, List, [], ◌∷◌, ◌++◌, length, map, sum_by, All, Contains, Option, Some, None}
 use Rattle.club_values.specs.declared.slot.Slot.{Slot}
 use Rattle.club_rows.specs.declared.member.Member.{Member}
-use Rattle.club_core.specs.declared.change.Change.{Change}
-use Rattle.club_core.specs.declared.reply.Reply.{Reply}
-use Rattle.club_core.specs.declared.store.StoreFault.{StoreFault}
-use Rattle.club_core.specs.Acceptance.{IsAcceptedIn}
-use Rattle.club_core.specs.Club.{Club, empty_club, bookings_of, member_named, IsSound}
-use Rattle.club_core.specs.Pass.{Words}
-use Rattle.club_core.specs.Run.{Asked, step, replies_of, club_after, Response, ToMember}
+use Rattle.club_core.specs.{Acceptance.IsAcceptedIn, Club.{Club, empty_club, bookings_of, member_named, IsSound}, Pass.Words}
+use Rattle.club_core.specs.{Run.{Asked, step, replies_of, club_after, Response, ToMember}, Solo.{own_events, part_of, solo_replies}, Sums.cost_of}
+use Rattle.club_core.specs.declared.{change.Change.Change, reply.Reply.Reply, store.StoreFault.StoreFault}
 use Rattle.club_core.specs.Run as machine
-use Rattle.club_core.specs.Solo.{own_events, part_of, solo_replies}
-use Rattle.club_core.specs.Sums.{cost_of}
-use Rattle.club_laws.specs.RunsWithFailures.{RepeatsServedReplies, WasReturned}
-use Rattle.club_laws.specs.Conservation.{IsConserved, HasPlaces}
-use Rattle.club_laws.specs.Failed.{has_failed, IsRun, answered_events, answers}
-use Rattle.club_laws.specs.SoloLaw.{replies_to}
-use Rattle.club_gate.specs.Desk.{FailsForCause, NamesItsFault, OfItsClub, Steps, change_of}
-use Rattle.club_gate.specs.declared.event.Event.{Event}
+use Rattle.club_laws.specs.{Conservation.{IsConserved, HasPlaces}, Failed.{has_failed, IsRun, answered_events, answers}}
+use Rattle.club_laws.specs.{RunsWithFailures.{RepeatsServedReplies, WasReturned}, SoloLaw.replies_to}
+use Rattle.club_gate.specs.{Desk.{FailsForCause, NamesItsFault, OfItsClub, Steps, change_of}, Events.IsEventOf, Response.{desk_presentation, response_of}}
+use Rattle.club_gate.specs.declared.event.{Event.Event, EventReply.{EventReply, TheVariants.{Replied, Answered}}, OfficeReply.OfficeReply}
 use Rattle.club_gate.specs.declared.event.Event.TheVariants as events
-use Rattle.club_gate.specs.declared.event.EventReply.{EventReply}
-use Rattle.club_gate.specs.declared.event.EventReply.TheVariants.{Replied, Answered}
-use Rattle.club_gate.specs.declared.event.OfficeReply.{OfficeReply}
-use Rattle.club_gate.specs.Events.{IsEventOf}
-use Rattle.club_gate.specs.Response.{desk_presentation, response_of}
 
 -- the response to an event
 abbrev pub DeskResponse : Type 0

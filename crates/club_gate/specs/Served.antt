@@ -2,26 +2,15 @@
 use Rattle.std.specs.Prelude.{◌≡◌, ◌≢◌, ℕ, false, List, ◌++◌, Some, None, Ok, Err}
 use Rattle.base64.specs.GeneralPurpose.{IsBytes}
 use Rattle.pass_caveats.specs.Fault.{Allowed}
-use Rattle.pass_forms.specs.declared.fault.FormFault.{FormFault}
-use Rattle.pass_forms.specs.declared.form.Form.{Form}
-use Rattle.pass_forms.specs.declared.form.Form.TheVariants.{Json}
-use Rattle.pass_forms.specs.Envelope.{IsUnwrapped}
-use Rattle.pass_forms.specs.Pass.{Plain, IsSigned}
+use Rattle.pass_forms.specs.{Envelope.IsUnwrapped, Pass.{Plain, IsSigned}, declared.{fault.FormFault.FormFault, form.Form.{Form, TheVariants.Json}}}
 use Rattle.pass_json.specs.AnyForm.{IsAnyReading}
 use Rattle.club_values.specs.Name.{IsName}
 use Rattle.club_rows.specs.declared.key.Key.{Key}
-use Rattle.club_core.specs.declared.refusal.Refusal.TheVariants.{Unavailable}
-use Rattle.club_core.specs.declared.reply.Reply.{Reply}
-use Rattle.club_core.specs.declared.reply.Reply.TheVariants.{Refused}
-use Rattle.club_core.specs.declared.request.Request.{Request}
-use Rattle.club_core.specs.Acceptance.{IsServed}
-use Rattle.club_core.specs.Answer.{ask_of, form_refusal, verdict_in}
-use Rattle.club_core.specs.Basis.{Basis, basis_of, basis_under, view_of}
-use Rattle.club_core.specs.Club.{Club, key_named}
-use Rattle.club_core.specs.Pass.{IsGoodRoot, Words}
+use Rattle.club_core.specs.{Acceptance.IsServed, Answer.{ask_of, form_refusal, verdict_in}, Basis.{Basis, basis_of, basis_under, view_of}}
+use Rattle.club_core.specs.{Club.{Club, key_named}, Pass.{IsGoodRoot, Words}, declared.{refusal.Refusal.TheVariants.Unavailable, reply.Reply.Reply}}
+use Rattle.club_core.specs.declared.{reply.Reply.TheVariants.Refused, request.Request.Request}
 use Rattle.club_laws.specs.SingleRequest.{blind_refusal}
-use Rattle.club_gate.specs.Minted.{identifier_of}
-use Rattle.club_gate.specs.DecodedPass.{AreWordsOf, fault_of}
+use Rattle.club_gate.specs.{DecodedPass.{AreWordsOf, fault_of}, Minted.identifier_of}
 
 -- the pass is signed under a root of the key's row that is good at the moment
 pub record IsSignedFor (pass : Plain) (key : Key) (moment : ℕ) : Type 0 where

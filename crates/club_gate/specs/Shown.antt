@@ -1,31 +1,14 @@
 -- What the office is shown of an account or of a slot (ours): a line for each value, its name before it.
-use Rattle.std.specs.Prelude.{◌≡◌, ◌⊎◌, ℕ, Bool, true, false, List, [], ◌∷◌, ◌++◌, codes, IfErr, Option, Some, None, option_and_then, option_map}
-use Rattle.std.specs.Prelude.{Result, Ok, Err, String}
-use Rattle.std.specs.Fmt.{decimal}
-use Rattle.std.specs.String.{string_bytes}
-use Rattle.club_values.specs.Day.{day_text}
-use Rattle.club_values.specs.Kind.{kind_text}
-use Rattle.club_values.specs.Moment.{moment_text}
-use Rattle.club_values.specs.declared.kind.Kind.{Kind}
-use Rattle.club_values.specs.declared.slot.Slot.{Slot}
-use Rattle.club_rows.specs.declared.key.Key.{Key}
-use Rattle.club_rows.specs.declared.key.OlderRoot.{OlderRoot}
-use Rattle.club_core.specs.declared.change.Change.{Change}
-use Rattle.club_core.specs.declared.command.OfficeFault.TheVariants.{Unknown}
-use Rattle.club_core.specs.declared.reply.Reply.{Reply}
-use Rattle.club_core.specs.declared.reply.Reply.TheVariants.{AccountShown, SlotShown}
+use Rattle.std.specs.{Fmt.decimal, Prelude.{◌≡◌, ◌⊎◌, ℕ, Bool, true, false, List, [], ◌∷◌, ◌++◌, codes, IfErr, Option, Some, None, option_and_then, option_map}}
+use Rattle.std.specs.{Prelude.{Result, Ok, Err, String}, String.string_bytes}
+use Rattle.club_values.specs.{Day.day_text, Kind.kind_text, Moment.moment_text, declared.{kind.Kind.Kind, slot.Slot.Slot}}
+use Rattle.club_rows.specs.declared.key.{Key.Key, OlderRoot.OlderRoot}
+use Rattle.club_core.specs.{Basis.{slot_use, view_in}, Club.{Club, facility_named, key_named}, Store.{IsRead, KeepsClub}, Verdict.{account_verdict, verdict_of}}
+use Rattle.club_core.specs.declared.{change.Change.Change, command.OfficeFault.TheVariants.Unknown, reply.Reply.{Reply, TheVariants.{AccountShown, SlotShown}}}
+use Rattle.club_core.specs.declared.{store.StoreFault.{StoreFault, TheVariants.Memory}, view.View.View}
 use Rattle.club_core.specs.declared.reply.Reply.TheVariants as replies
 use Rattle.club_core.specs.declared.request.Request.TheVariants as asked
-use Rattle.club_core.specs.declared.store.StoreFault.{StoreFault}
-use Rattle.club_core.specs.declared.store.StoreFault.TheVariants.{Memory}
-use Rattle.club_core.specs.declared.view.View.{View}
-use Rattle.club_core.specs.Basis.{slot_use, view_in}
-use Rattle.club_core.specs.Club.{Club, facility_named, key_named}
-use Rattle.club_core.specs.Store.{IsRead, KeepsClub}
-use Rattle.club_core.specs.Verdict.{account_verdict, verdict_of}
-use Rattle.club_gate.specs.Desk.{OfItsClub}
-use Rattle.club_gate.specs.declared.fault.Fault.{Fault}
-use Rattle.club_gate.specs.declared.fault.Fault.TheVariants.{Refused, Store}
+use Rattle.club_gate.specs.{Desk.OfItsClub, declared.fault.Fault.{Fault, TheVariants.{Refused, Store}}}
 
 -- each name with its value, in a line
 abbrev pub lines : List (List ℕ × List ℕ) → List ℕ

@@ -1,24 +1,11 @@
 -- What the row of its key says of a pass, and what a call of the verifier leaves of the store (ours).
 use Rattle.std.specs.Prelude.{◌≡◌, ◌⊎◌, ℕ, ◌≤◌, not, List, [], ◌∷◌, length, IfOk, Option, Some, None, Result, Ok, Err}
-use Rattle.pass_forms.specs.declared.fault.FormFault.{FormFault}
-use Rattle.pass_forms.specs.FieldSource.{PassField, pass_fields}
-use Rattle.pass_forms.specs.Pass.{Plain}
-use Rattle.pass_forms.specs.Reading.{max_caveats}
-use Rattle.club_rows.specs.declared.key.Key.{Key}
-use Rattle.club_rows.specs.declared.key.KeyRow.{KeyRow}
-use Rattle.club_rows.specs.Key.{row_of_key}
-use Rattle.club_core.specs.declared.change.Change.{Change}
-use Rattle.club_core.specs.declared.refusal.Refusal.{Refusal}
-use Rattle.club_core.specs.declared.refusal.Refusal.TheVariants.{KeyRevoked, NotVerified}
-use Rattle.club_core.specs.declared.store.StoreFault.{StoreFault}
+use Rattle.pass_forms.specs.{FieldSource.{PassField, pass_fields}, Pass.Plain, Reading.max_caveats, declared.fault.FormFault.FormFault}
+use Rattle.club_rows.specs.{Key.row_of_key, declared.key.{Key.Key, KeyRow.KeyRow}}
+use Rattle.club_core.specs.{Answer.form_refusal, Lines.{line_if, first_of}, Pass.is_signed_under, Store.IsRead, Verdict.refusal_verdict}
+use Rattle.club_core.specs.declared.{change.Change.Change, refusal.Refusal.{Refusal, TheVariants.{KeyRevoked, NotVerified}}, store.StoreFault.StoreFault}
 use Rattle.club_core.specs.declared.verdict.Verdict.{Verdict}
-use Rattle.club_core.specs.Answer.{form_refusal}
-use Rattle.club_core.specs.Lines.{line_if, first_of}
-use Rattle.club_core.specs.Pass.{is_signed_under}
-use Rattle.club_core.specs.Store.{IsRead}
-use Rattle.club_core.specs.Verdict.{refusal_verdict}
-use Rattle.club_gate.specs.DecodedPass.{fault_of}
-use Rattle.club_gate.specs.computed.DecodedPass.{machine_pass}
+use Rattle.club_gate.specs.{DecodedPass.fault_of, computed.DecodedPass.machine_pass}
 
 -- true of the pass that has these fields, if it has at most 64 caveats
 abbrev pub OfItsPass : List PassField → (Plain → Type 0) → Type 0

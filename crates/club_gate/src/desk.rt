@@ -1,45 +1,20 @@
 //! The desk over a store: requests of members, commands of the office, and the sheet of a day.
 
-ghost use Rattle.std.specs.Prelude.{
-  ◌≡◌,
-  List,
-  Err,
-  IfErr,
-  None,
-  Ok,
-};
-ghost use Rattle.std.specs.String.{string_bytes};
+ghost use Rattle.std.specs.{Prelude.{◌≡◌, List, Err, IfErr, None, Ok}, String.string_bytes};
 ghost use Rattle.base64.specs.GeneralPurpose.{IsBytes};
 ghost use Rattle.pass_forms.specs.declared.fault.FormFault.{FormFault};
-ghost use Rattle.pass_json.specs.AnyForm.{IsAnyReading};
-ghost use Rattle.pass_json.specs.computed.AnyForm.{reading};
-ghost use Rattle.club_core.specs.declared.reply.Reply.TheVariants.{Refused};
-ghost use Rattle.club_core.specs.Answer.{form_refusal};
-ghost use Rattle.club_core.specs.Club.{Club, key_named, member_named};
-ghost use Rattle.club_core.specs.Office.{command_view};
-ghost use Rattle.club_core.specs.Pass.{Words};
-ghost use Rattle.club_core.specs.Run as machine;
-ghost use Rattle.club_core.specs.Sheet.{IsSheet};
+ghost use Rattle.pass_json.specs.{AnyForm.IsAnyReading, computed.AnyForm.reading};
+ghost use Rattle.club_core.specs.{Answer.form_refusal, Club.{Club, key_named, member_named}};
+ghost use Rattle.club_core.specs.{Office.command_view, Pass.Words, Run.ToOffice, Sheet.IsSheet};
 ghost use Rattle.club_core.specs.Store.{KeepsClub, ReadsStore, Returns};
-ghost use Rattle.club_core.specs.Run.{ToOffice};
-ghost use Rattle.club_gate.specs.Desk.{
-  DecidesOrFails,
-  FailsAt,
-  FailsForCause,
-  FitsIfAny,
-  IsSheetFault,
-  IsStoreFault,
-  NamesItsFault,
-  OfItsClub,
-  Settles,
-  Steps,
-  change_of,
-};
-ghost use Rattle.club_gate.specs.DecodedPass.{AreWordsOf, fault_of};
+ghost use Rattle.club_core.specs.declared.reply.Reply.TheVariants.{Refused};
+ghost use Rattle.club_core.specs.Run as machine;
+ghost use Rattle.club_gate.specs.{DecodedPass.{AreWordsOf, fault_of}, Desk.DecidesOrFails};
+ghost use Rattle.club_gate.specs.Desk.{FailsAt, FailsForCause, FitsIfAny, IsSheetFault};
+ghost use Rattle.club_gate.specs.Desk.{IsStoreFault, NamesItsFault, OfItsClub, Settles, Steps};
+ghost use Rattle.club_gate.specs.{Desk.change_of, Response.{answer_or_fault, reply_or_unavailable}};
+ghost use Rattle.club_gate.specs.{Runs.IsHandled, Served.{IsJson, IsLawful, RefusesByFormFault}};
 ghost use Rattle.club_gate.specs.computed.DecodedPass.{decoded_words};
-ghost use Rattle.club_gate.specs.Served.{IsJson, IsLawful, RefusesByFormFault};
-ghost use Rattle.club_gate.specs.Response.{answer_or_fault, reply_or_unavailable};
-ghost use Rattle.club_gate.specs.Runs.{IsHandled};
 
 use crate::event::{Event, EventReply, OfficeReply};
 use crate::fault::Fault;

@@ -51,9 +51,9 @@ pub enum EventReply {
 
 impl OfficeReply {
     ghost use Rattle.std.specs.Prelude.{◌≡◌};
+    ghost use Rattle.club_gate.specs.Response.{office_reply_of};
     ghost use Rattle.club_gate.specs.declared.event.OfficeReply.TheVariants.{Refused};
     ghost use Rattle.club_gate.specs.declared.fault.Fault.TheVariants.{Store};
-    ghost use Rattle.club_gate.specs.Response.{office_reply_of};
 
     /// Converts an answer of the rules.
     pub(crate) fn from_answer(answer: OfficeAnswer) -> OfficeReply

@@ -1,13 +1,7 @@
 //! Laws of the definitions. Each is the contract of a function that does nothing.
 
-ghost use Rattle.club_gate.specs.Identifier.{FindsNames};
-ghost use Rattle.club_gate.specs.Laws.{
-  Decodes,
-  NamesItsRows,
-  ReadsNoLackOfMemory,
-  SeenAlike,
-  SeesEvents,
-};
+ghost use Rattle.club_gate.specs.{Identifier.FindsNames, Laws.{Decodes, NamesItsRows}};
+ghost use Rattle.club_gate.specs.Laws.{ReadsNoLackOfMemory, SeenAlike, SeesEvents};
 ghost use Rattle.club_gate.specs.Shown.{ShowsSlotsToKeys};
 
 use club_values::laws::reads_names;

@@ -2,18 +2,14 @@
 //! depend on.
 
 ghost use Rattle.std.specs.Prelude.{◌≡◌, ◌≤◌, None, true, map, option_map};
+ghost use Rattle.pass_caveats.specs.{Fault.first_fault_of, Spending.after_spending};
 ghost use Rattle.pass_caveats.specs.computed.CaveatOf.{caveat_of};
-ghost use Rattle.pass_caveats.specs.Fault.{first_fault_of};
-ghost use Rattle.pass_caveats.specs.Spending.{after_spending};
 ghost use Rattle.pass_forms.specs.Pass.{Plain};
 ghost use Rattle.club_rows.specs.declared.key.KeyRow.{KeyRow as RowOfKey};
-ghost use Rattle.club_core.specs.Answer.{answer_by_view};
-ghost use Rattle.club_core.specs.Basis.{account_named, slot_use, view_in};
-ghost use Rattle.club_core.specs.Club.{bookings_of};
-ghost use Rattle.club_core.specs.Store.{ReadsStore};
+ghost use Rattle.club_core.specs.{Answer.answer_by_view, Basis.{account_named, slot_use, view_in}};
+ghost use Rattle.club_core.specs.{Club.bookings_of, Store.ReadsStore};
 ghost use Rattle.club_core.specs.Sums.{count_to_come, spent_under};
-ghost use Rattle.club_gate.specs.Reading.{AgreesOnRecord, IsOnRecord};
-ghost use Rattle.club_gate.specs.Verify.{OfItsPass};
+ghost use Rattle.club_gate.specs.{Reading.{AgreesOnRecord, IsOnRecord}, Verify.OfItsPass};
 
 use crate::desk::Desk;
 use crate::walk::{fault_after, has_kind, unspent_fault};

@@ -1,18 +1,10 @@
 //! Runs: lists of events that the desk answers in their order.
 
 ghost use Rattle.std.specs.Prelude.{◌≡◌, All, List, IfOk, OnOk, OnErr};
-ghost use Rattle.club_core.specs.Club.{Club};
-ghost use Rattle.club_core.specs.Events.{IsEvent};
+ghost use Rattle.club_core.specs.{Club.Club, Events.IsEvent, Store.Returns};
 ghost use Rattle.club_core.specs.Run as machine;
-ghost use Rattle.club_core.specs.Store.{Returns};
-ghost use Rattle.club_gate.specs.Events.{AreEventsOf, IsEventOfBytes};
-ghost use Rattle.club_gate.specs.Runs.{
-  AreHandled,
-  IsFollowed,
-  IsLawfulRun,
-  LeavesClub,
-  responses_of,
-};
+ghost use Rattle.club_gate.specs.{Events.{AreEventsOf, IsEventOfBytes}, Runs.AreHandled};
+ghost use Rattle.club_gate.specs.Runs.{IsFollowed, IsLawfulRun, LeavesClub, responses_of};
 ghost use Rattle.club_gate.specs.computed.DecodedPass.{machine_events, machine_event};
 
 use crate::desk::{Desk, are_bytes};

@@ -1,7 +1,6 @@
 //! What the desk shows of a key's account and of a slot to whoever keeps its file.
 
-ghost use Rattle.std.specs.Prelude.{◌≡◌, ◌++◌, IfOk, OnOk};
-ghost use Rattle.std.specs.String.{string_bytes};
+ghost use Rattle.std.specs.{Prelude.{◌≡◌, ◌++◌, IfOk, OnOk}, String.string_bytes};
 ghost use Rattle.club_core.specs.Store.{ReadsStore};
 ghost use Rattle.club_gate.specs.Shown as spec;
 

@@ -1,13 +1,9 @@
 //! Whether a pass is signed under a root of its key that is good at the moment.
 
 ghost use Rattle.std.specs.Prelude.{◌≡◌, Some, drop};
-ghost use Rattle.pass_forms.specs.FieldSource.{pass_fields};
-ghost use Rattle.pass_forms.specs.Pass.{Plain};
-ghost use Rattle.club_rows.specs.declared.key.Key.{Key as KeyOfClub};
-ghost use Rattle.club_rows.specs.Key.{row_of_key};
-ghost use Rattle.club_core.specs.Club.{key_named};
-ghost use Rattle.club_core.specs.Pass.{is_signed_under};
-ghost use Rattle.club_core.specs.Store.{ReadsStore};
+ghost use Rattle.pass_forms.specs.{FieldSource.pass_fields, Pass.Plain};
+ghost use Rattle.club_rows.specs.{Key.row_of_key, declared.key.Key.Key as KeyOfClub};
+ghost use Rattle.club_core.specs.{Club.key_named, Pass.is_signed_under, Store.ReadsStore};
 ghost use Rattle.club_gate.specs.computed.DecodedPass.{machine_pass};
 
 use crate::desk::Desk;

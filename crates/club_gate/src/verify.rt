@@ -2,48 +2,22 @@
 //! the row of the key that the pass names, and its older root if the current one doesn't sign the
 //! pass. Next it reads what the caveats depend on, and last what the decision depends on.
 
-ghost use Rattle.std.specs.Prelude.{
-  ◌≡◌,
-  ◌≢◌,
-  ◌≤◌,
-  ℕ,
-  List,
-  length,
-  IfOk,
-  IsSomeAnd,
-  None,
-  Some,
-  Ok,
-  Err,
-  drop,
-  option_map,
-};
+ghost use Rattle.std.specs.Prelude.{◌≡◌, ◌≢◌, ◌≤◌, ℕ, List, length, IfOk, IsSomeAnd, None, Some};
+ghost use Rattle.std.specs.Prelude.{Ok, Err, drop, option_map};
+ghost use Rattle.pass_forms.specs.{Envelope.IsUnwrapped, FieldSource.pass_fields, Pass.Plain};
+ghost use Rattle.pass_forms.specs.{Reading.max_text_len, computed.Text.in_form};
 ghost use Rattle.pass_forms.specs.declared.fault.FormFault.{FormFault as FaultOfForm};
 ghost use Rattle.pass_forms.specs.declared.fault.FormFault.TheVariants.{Memory};
-ghost use Rattle.pass_forms.specs.declared.form.Form.{Form as FormOfBytes};
-ghost use Rattle.pass_forms.specs.declared.form.Form.TheVariants.{Json};
-ghost use Rattle.pass_forms.specs.Envelope.{IsUnwrapped};
-ghost use Rattle.pass_forms.specs.FieldSource.{pass_fields};
-ghost use Rattle.pass_forms.specs.Pass.{Plain};
-ghost use Rattle.pass_forms.specs.Reading.{max_text_len};
-ghost use Rattle.pass_forms.specs.computed.Text.{in_form};
+ghost use Rattle.pass_forms.specs.declared.form.Form.{Form as FormOfBytes, TheVariants.Json};
 ghost use Rattle.pass_json.specs.computed.AnyForm.{reading, reading_in_form};
 ghost use Rattle.club_rows.specs.Key.{row_of_key};
 ghost use Rattle.club_core.specs.declared.store.StoreFault.TheVariants as store;
 ghost use Rattle.club_core.specs.Answer.{form_refusal, verdict_in};
-ghost use Rattle.club_core.specs.Store.{KeepsClub, ReadsStore, Returns};
-ghost use Rattle.club_core.specs.Verdict.{refusal_verdict};
+ghost use Rattle.club_core.specs.{Store.{KeepsClub, ReadsStore, Returns}, Verdict.refusal_verdict};
 ghost use Rattle.club_laws.specs.SingleRequest.{words_with};
-ghost use Rattle.club_gate.specs.DecodedPass.{fault_of};
-ghost use Rattle.club_gate.specs.Identifier.{key_in};
+ghost use Rattle.club_gate.specs.{DecodedPass.fault_of, Identifier.key_in, Served.IsJson};
+ghost use Rattle.club_gate.specs.Verify.{OfItsPass, ReadsOrLacksMemory, RefusesText, signer_of};
 ghost use Rattle.club_gate.specs.computed.DecodedPass.{machine_pass, decoded_words, words_in_form};
-ghost use Rattle.club_gate.specs.Served.{IsJson};
-ghost use Rattle.club_gate.specs.Verify.{
-  OfItsPass,
-  ReadsOrLacksMemory,
-  RefusesText,
-  signer_of,
-};
 
 use crate::desk::{Desk, are_bytes};
 use crate::identifier::key_name_in;

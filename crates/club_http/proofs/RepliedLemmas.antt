@@ -1,13 +1,9 @@
 -- The reply to what was received is also the reply to all that the reader would give.
 use Rattle.std.proofs.Common.{ℕ, inl, inr, List, ◌++◌, Option, Some, None, Result, Ok, Err, append-nil, IfSome}
 use Rattle.club_core.specs.declared.reply.Reply.{Reply}
-use Rattle.http_request.specs.Frame.{IsWhole}
-use Rattle.http_request.specs.Laws.{WholeKeepsItsReading, BodyStays}
-use Rattle.club_http.specs.declared.fault.AnswerFault.{AnswerFault}
-use Rattle.club_http.specs.declared.fault.AnswerFault.TheVariants.{Read, Write}
-use Rattle.club_http.specs.Exchange.{Exchanges, Replies}
-use Rattle.club_http.specs.Received.{Receives}
-use Rattle.club_http.specs.Replied.{AnswerRelation, IsReplied, parser_refusal, desk_reply, out_of_memory}
+use Rattle.http_request.specs.{Frame.IsWhole, Laws.{WholeKeepsItsReading, BodyStays}}
+use Rattle.club_http.specs.{Exchange.{Exchanges, Replies}, Received.Receives, Replied.{AnswerRelation, IsReplied, parser_refusal, desk_reply, out_of_memory}}
+use Rattle.club_http.specs.declared.fault.AnswerFault.{AnswerFault, TheVariants.{Read, Write}}
 
 replied_more : {Desk : Type 0} (Answers : AnswerRelation Desk) (bytes more : List ℕ) (old : Desk) (reply : Reply) (new : Desk)
     → WholeKeepsItsReading → BodyStays → IsWhole bytes

@@ -1,7 +1,6 @@
 -- The calls by which a reader gives a request, and by which a writer takes a reply (ours).
 use Rattle.std.specs.Prelude.{◌⊎◌, ℕ, ◌<◌, ◌≤◌, List, [], ◌++◌, length, take, Option, Some, None}
-use Rattle.http_request.specs.Frame.{IsWhole}
-use Rattle.http_request.specs.Limits.{max_request_len}
+use Rattle.http_request.specs.{Frame.IsWhole, Limits.max_request_len}
 
 -- What a call does: the reader or writer before, how many bytes it returns, what the buffer of a read holds or what a write was given, and the
 -- reader or writer after.

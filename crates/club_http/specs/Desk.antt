@@ -2,15 +2,8 @@
 use Rattle.std.specs.Prelude.{◌≡◌, ℕ, List, Option, Err}
 use Rattle.pass_forms.specs.declared.fault.FormFault.{FormFault}
 use Rattle.pass_json.specs.AnyForm.{IsAnyReading}
-use Rattle.club_core.specs.declared.change.Change.{Change}
-use Rattle.club_core.specs.declared.reply.Reply.{Reply}
-use Rattle.club_core.specs.declared.request.Request.{Request}
-use Rattle.club_core.specs.declared.store.StoreFault.{StoreFault}
-use Rattle.club_core.specs.Club.{Club}
-use Rattle.club_core.specs.Pass.{Words}
-use Rattle.club_gate.specs.Desk.{DecidesOrFails, FailsForCause, OfItsClub}
-use Rattle.club_gate.specs.DecodedPass.{AreWordsOf}
-use Rattle.club_gate.specs.Served.{IsLawful, RefusesByFormFault}
+use Rattle.club_core.specs.{Club.Club, Pass.Words, declared.{change.Change.Change, reply.Reply.Reply, request.Request.Request, store.StoreFault.StoreFault}}
+use Rattle.club_gate.specs.{DecodedPass.AreWordsOf, Desk.{DecidesOrFails, FailsForCause, OfItsClub}, Served.{IsLawful, RefusesByFormFault}}
 
 -- the store below the desk did what the rules say, as long as its disk was clean
 pub record AnswersBy {S : Type 0} (IsClean : S → Type 0)

@@ -1,9 +1,7 @@
 -- The effect of the calls of a reader and a writer: on the bytes to come or taken, if they are known,
 -- and on a count of failures (ours).
-use Rattle.std.specs.Prelude.{ℕ, ◌==◌, ◌+◌, ◌-◌, ◌^◌, ◌<◌, ◌&&◌, min, List}
-use Rattle.std.specs.Prelude.{length, take, nat_lt, if◌then◌else◌, Option, Some, None, ◌≡◌}
-use Rattle.std.specs.Prelude.{MatchOption, MatchResult, Result}
-use Rattle.std.specs.Io.KnownBytes.{Keeps, Appends, Consumes, IsAtEnd}
+use Rattle.std.specs.{Io.KnownBytes.{Keeps, Appends, Consumes, IsAtEnd}, Prelude.{ℕ, ◌==◌, ◌+◌, ◌-◌, ◌^◌, ◌<◌, ◌&&◌, min, List, length, take, nat_lt}}
+use Rattle.std.specs.Prelude.{if◌then◌else◌, Option, Some, None, ◌≡◌, MatchOption, MatchResult, Result}
 
 -- one failure more; the count is a u64 that saturates
 abbrev pub one_more : ℕ → ℕ

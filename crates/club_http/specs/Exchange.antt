@@ -1,11 +1,8 @@
 -- An exchange (ours): it reads bytes, gets the desk's reply, and writes the text of the reply.
 use Rattle.std.specs.Prelude.{ℕ, ◌<◌, List, length, take, Option, IfSome, Result, Ok, Err}
 use Rattle.club_core.specs.declared.reply.Reply.{Reply}
-use Rattle.club_http.specs.declared.fault.AnswerFault.{AnswerFault}
+use Rattle.club_http.specs.{Ends.one_more, Received.Receives, Replied.{AnswerRelation, IsReplied}, declared.fault.AnswerFault.AnswerFault}
 use Rattle.club_http.specs.declared.fault.AnswerFault.TheVariants.{Read, Write}
-use Rattle.club_http.specs.Ends.{one_more}
-use Rattle.club_http.specs.Received.{Receives}
-use Rattle.club_http.specs.Replied.{AnswerRelation, IsReplied}
 use Rattle.http_response.specs.Text.{reply_text}
 
 -- the desk replied to the bytes that were received

@@ -1,8 +1,6 @@
 -- The texts of an exchange's faults (ours).
-use Rattle.std.specs.Prelude.{ℕ, List, ◌++◌, codes}
-use Rattle.std.specs.Fmt.{decimal}
-use Rattle.club_http.specs.declared.fault.AnswerFault.{AnswerFault}
-use Rattle.club_http.specs.declared.fault.AnswerFault.TheVariants.{Read, Write}
+use Rattle.std.specs.{Fmt.decimal, Prelude.{ℕ, List, ◌++◌, codes}}
+use Rattle.club_http.specs.declared.fault.AnswerFault.{AnswerFault, TheVariants.{Read, Write}}
 
 abbrev pub answer_fault_text : AnswerFault → List ℕ
 answer_fault_text Read = codes "input failed"

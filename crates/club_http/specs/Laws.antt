@@ -1,8 +1,7 @@
 -- Laws of the reply to a request's bytes (ours).
 use Rattle.std.specs.Prelude.{ℕ, List, Option, IfSome}
 use Rattle.club_core.specs.declared.reply.Reply.{Reply}
-use Rattle.club_http.specs.Received.{Receives}
-use Rattle.club_http.specs.Replied.{AnswerRelation, IsReplied}
+use Rattle.club_http.specs.{Received.Receives, Replied.{AnswerRelation, IsReplied}}
 
 -- at each moment the reply to the bytes that were received is also the reply to all that the reader would give until its end
 abbrev pub RepliesToAll : {Desk : Type 0} → (ℕ → AnswerRelation Desk) → Type 0

@@ -1,8 +1,6 @@
 -- The bytes that were received of a request (ours).
-use Rattle.std.specs.Prelude.{ℕ, ◌≤◌, ◌⊎◌, List, length, Option}
-use Rattle.std.specs.Io.KnownBytes.{Consumes, IsAtEnd}
-use Rattle.http_request.specs.Frame.{IsWhole}
-use Rattle.http_request.specs.Limits.{max_request_len}
+use Rattle.std.specs.{Io.KnownBytes.{Consumes, IsAtEnd}, Prelude.{ℕ, ◌≤◌, ◌⊎◌, List, length, Option}}
+use Rattle.http_request.specs.{Frame.IsWhole, Limits.max_request_len}
 
 -- the bytes arrived, at most as many as a request may have; they begin with a whole request, or are the whole input
 pub record Receives (old new : Option (List ℕ)) (bytes : List ℕ) : Type 0 where

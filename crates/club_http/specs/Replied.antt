@@ -1,10 +1,6 @@
 -- The reply to the bytes of a request (ours).
 use Rattle.std.specs.Prelude.{◌≡◌, ℕ, List, Ok, Err}
-use Rattle.club_core.specs.declared.refusal.Refusal.{Refusal}
-use Rattle.club_core.specs.declared.refusal.Refusal.TheVariants.{Unavailable}
-use Rattle.club_core.specs.declared.reply.Reply.{Reply}
-use Rattle.club_core.specs.declared.reply.Reply.TheVariants.{Refused}
-use Rattle.club_core.specs.declared.request.Request.{Request}
+use Rattle.club_core.specs.declared.{refusal.Refusal.{Refusal, TheVariants.Unavailable}, reply.Reply.{Reply, TheVariants.Refused}, request.Request.Request}
 use Rattle.http_request.specs.Words.{DecodedRequest, IsRequestReading, HoldsBody}
 
 -- what a desk may reply to the text of a pass and a request, with the desk before and after

@@ -5,8 +5,7 @@ use std::io::{Read, Write};
 /// What a request is read from.
 pub trait Inlet {
     ghost use Rattle.std.specs.Prelude.{◌≡◌, ◌≤◌, ℕ, List, length, Option, IfSome};
-    ghost use Rattle.club_http.specs.Calls.{Call};
-    ghost use Rattle.club_http.specs.Ends.{Fills, read_failures};
+    ghost use Rattle.club_http.specs.{Calls.Call, Ends.{Fills, read_failures}};
 
     // the bytes that are still to come, if they are known
     ghost to_come: { Self → Option (List ℕ) };
@@ -29,8 +28,7 @@ pub trait Inlet {
 /// What a reply is written to.
 pub trait Outlet {
     ghost use Rattle.std.specs.Prelude.{◌≡◌, ◌≤◌, ℕ, List, length, Option, IfSome};
-    ghost use Rattle.club_http.specs.Calls.{Call};
-    ghost use Rattle.club_http.specs.Ends.{Takes, put_failures};
+    ghost use Rattle.club_http.specs.{Calls.Call, Ends.{Takes, put_failures}};
 
     // the bytes that it took, if they are known
     ghost taken: { Self → Option (List ℕ) };

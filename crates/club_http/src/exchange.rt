@@ -1,10 +1,9 @@
 //! One exchange: a request in, a reply out.
 
-ghost use Rattle.std.specs.Prelude.{◌≡◌, Err};
-ghost use Rattle.std.specs.Io.KnownBytes.{Appends};
+ghost use Rattle.std.specs.{Io.KnownBytes.Appends, Prelude.{◌≡◌, Err}};
 ghost use Rattle.club_http.specs.Calls.{ReadsNoFurther};
-ghost use Rattle.club_http.specs.Received.{IsCutOff};
 ghost use Rattle.club_http.specs.Exchange.{Replies, Exchanges, reader_failures, writer_failures};
+ghost use Rattle.club_http.specs.Received.{IsCutOff};
 
 use crate::ends::{Inlet, Outlet};
 use crate::face::Face;

@@ -1,14 +1,11 @@
 //! The face of the desk: the routes and the buffer that its exchanges share.
 
-ghost use Rattle.std.specs.Prelude.{◌≡◌, ◌↔◌, [], IfNone, IfOk, IfSome, IsTrue};
 ghost use Rattle.std.specs.Io.KnownBytes.{Appends};
-ghost use Rattle.http_request.specs.Frame.{IsOneRequest};
-ghost use Rattle.http_request.specs.Front.{Covers};
-ghost use Rattle.club_http.specs.Calls.{ArePut, ReadsNoFurther};
-ghost use Rattle.club_http.specs.Ends.{read_failures};
+ghost use Rattle.std.specs.Prelude.{◌≡◌, ◌↔◌, [], IfNone, IfOk, IfSome, IsTrue};
+ghost use Rattle.http_request.specs.{Frame.IsOneRequest, Front.Covers};
+ghost use Rattle.club_http.specs.{Calls.{ArePut, ReadsNoFurther}, Ends.read_failures};
 ghost use Rattle.club_http.specs.Exchange.{Exchanges, writer_failures};
-ghost use Rattle.club_http.specs.Received.{IsCutOff, Receives};
-ghost use Rattle.club_http.specs.Replied.{IsReplied};
+ghost use Rattle.club_http.specs.{Received.{IsCutOff, Receives}, Replied.IsReplied};
 
 use crate::ends::{Inlet, Outlet};
 use crate::fault::AnswerFault;

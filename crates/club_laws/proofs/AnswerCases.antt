@@ -4,8 +4,8 @@ use Rattle.club_laws.proofs.Common.{◌==◌, nat_lt, bytes_eq, Slot, Member, Fa
 use Rattle.club_laws.proofs.Common.{same_slot, refund_at, Pass, Words, Club, facility_named, is_key_of, bookings_of, is_closed, key_named, member_named}
 use Rattle.club_laws.proofs.Common.{taken_in, balance_of, booking_under, Basis, basis_of, view_of, state_of, key_of, answer_to, verdict_in, request_slot}
 use Rattle.club_laws.proofs.Common.{Change, InsertMember, AddCredit, InsertFacility, InsertKey, MarkRevoked, ReplaceRoot, MarkClosed, MarkOpen, ReplaceQuota}
-use Rattle.club_laws.proofs.Common.{Command, AddMember}
-use Rattle.club_laws.proofs.Common.{Credit, AddFacility, AddKey, RevokeKey, RotateKey, CloseSlot, OpenSlot, SetQuota, OfficeFault, office_verdict, are_limits}
+use Rattle.club_laws.proofs.Common.{Command, AddMember, Credit, AddFacility, AddKey, RevokeKey, RotateKey, CloseSlot, OpenSlot, SetQuota, OfficeFault}
+use Rattle.club_laws.proofs.Common.{office_verdict, are_limits}
 use Rattle.club_laws.proofs.FoundRows.{is_numbered, numbered, found_passes, found_is_there, find-filter, any_passes, any-filter, named}
 use Rattle.club_rows.specs.Facility.{charge_of}
 use Rattle.club_core.specs.declared.pass_fault.PassFault.{PassFault}

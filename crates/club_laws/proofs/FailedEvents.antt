@@ -1,19 +1,13 @@
 -- Runs in which events failed: these are left out, one by one, so the laws hold of them too. The machine itself never fails.
-use Rattle.club_laws.proofs.Common.{◌≡◌, ◌≢◌, ℕ, false, arith, inl, [], ◌∷◌, refl, List, ◌++◌, length, append_assoc, Refused, Verdict, verdict_in, Club}
-use Rattle.club_laws.proofs.Common.{empty_club, Words, Event, Asked, Commanded, step, ToMember, Response, All-nil, All-cons, All-head, All-tail, IsEvent}
-use Rattle.club_laws.proofs.Common.{TestsTheSet, Reply, TestsTheSignature}
-use Rattle.club_core.specs.declared.refusal.Refusal.TheVariants.{Unavailable}
+use Rattle.club_laws.proofs.{AnswerCases.answer_cases, Common.{◌≡◌, ◌≢◌, ℕ, false, arith, inl, [], ◌∷◌, refl, List, ◌++◌, length, append_assoc, Refused}}
+use Rattle.club_laws.proofs.Common.{Verdict, verdict_in, Club, empty_club, Words, Event, Asked, Commanded, step, ToMember, Response, All-nil, All-cons}
+use Rattle.club_laws.proofs.{Common.{All-head, All-tail, IsEvent, TestsTheSet, Reply, TestsTheSignature}, KeptByRuns.club_after-append}
+use Rattle.club_laws.proofs.{PointRuns.{conserved, has_room}, RepeatAnswers.step_of_repeat, SoundSteps.sound_run}
+use Rattle.club_core.specs.declared.{command.OfficeAnswer.OfficeAnswer, refusal.Refusal.TheVariants.Unavailable}
 use Rattle.club_laws.specs.Failed.{is_unavailable, CutsRuns, JoinsRuns, LeavesEvents, LeavesOutFailed, RunsWithoutFailures, Presentation, present_reply}
-use Rattle.club_laws.specs.Failed.{has_failed, answered_events, IsStep, IsRun}
-use Rattle.club_laws.proofs.AnswerCases.{answer_cases}
-use Rattle.club_core.specs.declared.command.OfficeAnswer.{OfficeAnswer}
+use Rattle.club_laws.specs.{Failed.{has_failed, answered_events, IsStep, IsRun}, Repeats.{IsBookedOrCancelled, WasServed}}
 use Rattle.club_laws.specs.RunsWithFailures.{ConservesWithFailures, PlacesWithFailures, SoundWithFailures, RepeatsWithFailures, RepeatsAfterOneMore}
 use Rattle.club_laws.specs.RunsWithFailures.{WasReturned}
-use Rattle.club_laws.specs.Repeats.{IsBookedOrCancelled, WasServed}
-use Rattle.club_laws.proofs.PointRuns.{conserved, has_room}
-use Rattle.club_laws.proofs.KeptByRuns.{club_after-append}
-use Rattle.club_laws.proofs.RepeatAnswers.{step_of_repeat}
-use Rattle.club_laws.proofs.SoundSteps.{sound_run}
 
 pub answers_requests : (club : Club) (words : Words) (moment : ℕ) → is_unavailable (verdict_in club words moment).reply ≡ false
 answers_requests club words moment = answer_cases (λ (v : Verdict). is_unavailable v.reply ≡ false) club words moment (grind arith)

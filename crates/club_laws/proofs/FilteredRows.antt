@@ -1,8 +1,7 @@
 -- Filters of lists that grow, are mapped, or were filtered before.
 use Rattle.club_laws.proofs.Common.{◌≡◌, Bool, true, false, ◌&&◌, List, [], ◌∷◌, map, filter, All, refl, sym, ◌∙◌, arith, ℕ, ◌+◌, ◌≤◌, cond, ◌++◌, ap, list_any}
 use Rattle.club_laws.proofs.Common.{filter_agree, All-head, All-tail, filter-append, not, sum_by}
-use Rattle.std.proofs.lemmas.List.Filters.{sum_by-filter_both}
-use Rattle.std.proofs.lemmas.List.Sums.{sum_by-cons, sum_by-append}
+use Rattle.std.proofs.lemmas.List.{Filters.sum_by-filter_both, Sums.{sum_by-cons, sum_by-append}}
 
 -- a map that changes nothing that passes
 pub filter_fixed : {X : Type 0} (p : X → Bool) (f : X → X) → ((x : X) → p x ≡ true → f x ≡ x) → (xs : List X) → map f (filter p xs) ≡ filter p xs

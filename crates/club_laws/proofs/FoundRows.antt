@@ -3,8 +3,7 @@ use Rattle.club_laws.proofs.Common.{◌≡◌, ℕ, suc, Bool, true, false, ◌&
 use Rattle.club_laws.proofs.Common.{◌≢◌, sym, subst, All, AllPairs, Contains, find, filter, ◌==◌, list_any, All-cons, All-nil, All-contains}
 use Rattle.club_laws.proofs.Common.{Contains-append_left, Contains-append_right, Contains-push, All-map, All-weaker, bytes_eq, list_any_at, find-append}
 use Rattle.club_laws.proofs.Common.{bytes_eq-Decides, false_from_ne_true, both_ways, Slot, Booking, same_slot, is_under}
-use Rattle.std.proofs.lemmas.List.{length-map, get_or-map, map-append}
-use Rattle.std.proofs.lemmas.List.Kept.{AllPairs-cons}
+use Rattle.std.proofs.lemmas.List.{length-map, get_or-map, map-append, Kept.AllPairs-cons}
 
 pub found_passes : {X : Type 0} (p : X → Bool) (xs : List X) (x : X) → find p xs ≡ Some x → p x ≡ true
 found_passes p [] x e = absurd (cc)

@@ -1,12 +1,11 @@
 -- A member's keys and credit, computed from a run's events and replies.
-use Rattle.club_laws.proofs.Common.{◌≡◌, ℕ, ◌+◌, Bool, true, false, cond, List, [], ◌∷◌, map, Option, Some, None, arith, bytes_eq-Decides, Result, ◌||◌, find}
-use Rattle.club_laws.proofs.Common.{is_some, bytes_eq, list_any, list_any-append, find-append, Member, after, ToOffice, done_answer, Verdict, Change, Command}
-use Rattle.club_laws.proofs.Common.{AddMember, Credit, SetQuota, AddKey, RevokeKey, RotateKey, OfficeFault, Words, Club, member_named, is_key_of, verdict_in}
-use Rattle.club_laws.proofs.Common.{credited_member, revoked_key, rotated_key, Event, Asked, Commanded, step, after_change, command_outcome, replies_of}
-use Rattle.club_laws.proofs.Common.{club_after, member_with_quota}
-use Rattle.club_laws.specs.Points.{key_given, keys_given, credit_accepted, credits_accepted}
+use Rattle.club_laws.proofs.{AnswerCases.{answer_cases, command_cases, CommandRestsOn, change_of}, Common.{◌≡◌, ℕ, ◌+◌, Bool, true, false, cond, List, [], ◌∷◌}}
+use Rattle.club_laws.proofs.Common.{map, Option, Some, None, arith, bytes_eq-Decides, Result, ◌||◌, find, is_some, bytes_eq, list_any, list_any-append}
+use Rattle.club_laws.proofs.Common.{find-append, Member, after, ToOffice, done_answer, Verdict, Change, Command, AddMember, Credit, SetQuota, AddKey, RevokeKey}
+use Rattle.club_laws.proofs.Common.{RotateKey, OfficeFault, Words, Club, member_named, is_key_of, verdict_in, credited_member, revoked_key, rotated_key, Event}
+use Rattle.club_laws.proofs.Common.{Asked, Commanded, step, after_change, command_outcome, replies_of, club_after, member_with_quota}
 use Rattle.club_laws.proofs.MemberParts.{is_key_of-added, is_key_of-edited}
-use Rattle.club_laws.proofs.AnswerCases.{answer_cases, command_cases, CommandRestsOn, change_of}
+use Rattle.club_laws.specs.Points.{key_given, keys_given, credit_accepted, credits_accepted}
 
 -- requests change only bookings
 pub record KeepsPeople (club new : Club) : Type 0 where

@@ -1,21 +1,18 @@
 -- Whose keys are, and a member's part: what each kind of change makes of them.
-use Rattle.club_laws.proofs.Common.{◌≡◌, ◌≢◌, ℕ, Bool, true, List, [], ◌∷◌, ◌++◌, get_or, map, Option, Some, sym, ◌∙◌, arith, false, cond, filter, None, All}
-use Rattle.club_laws.proofs.Common.{Contains, append-nil, refl, find, AllPairs, Result, bytes_eq-Decides, ◌&&◌, ◌||◌, bytes_eq, list_any, list_any-append}
-use Rattle.club_laws.proofs.Common.{Any-from_list_any, Key, Booking, Club, key_named, is_key_of, bookings_of, keys_of, IsSound, Contains-push, All-contains}
-use Rattle.club_laws.proofs.Common.{filter-append, All-push, All-map, Member, Change, InsertMember, AddCredit, InsertFacility, InsertKey, MarkRevoked}
-use Rattle.club_laws.proofs.Common.{ReplaceRoot, MarkClosed, MarkOpen, ReplaceQuota, InsertBooking, MarkCancelled, after, credited_member, revoked_key}
-use Rattle.club_laws.proofs.Common.{rotated_key, cancelled_booking}
-use Rattle.club_laws.proofs.Common.{map-map, Verdict, Command, AddKey, RevokeKey, RotateKey, OfficeFault, Event, Asked, Commanded, step, after_change}
-use Rattle.club_laws.proofs.Common.{command_outcome, member_with_quota}
-use Rattle.std.proofs.Common.{bytes_eq}
+use Rattle.club_laws.proofs.{AnswerCases.{answer_cases, written, CommandRestsOn, change_of, command_cases}, Common.{◌≡◌, ◌≢◌, ℕ, Bool, true, List, [], ◌∷◌}}
+use Rattle.club_laws.proofs.Common.{◌++◌, get_or, map, Option, Some, sym, ◌∙◌, arith, false, cond, filter, None, All, Contains, append-nil, refl, find}
+use Rattle.club_laws.proofs.Common.{AllPairs, Result, bytes_eq-Decides, ◌&&◌, ◌||◌, bytes_eq, list_any, list_any-append, Any-from_list_any, Key, Booking, Club}
+use Rattle.club_laws.proofs.Common.{key_named, is_key_of, bookings_of, keys_of, IsSound, Contains-push, All-contains, filter-append, All-push, All-map, Member}
+use Rattle.club_laws.proofs.Common.{Change, InsertMember, AddCredit, InsertFacility, InsertKey, MarkRevoked, ReplaceRoot, MarkClosed, MarkOpen, ReplaceQuota}
+use Rattle.club_laws.proofs.Common.{InsertBooking, MarkCancelled, after, credited_member, revoked_key, rotated_key, cancelled_booking, map-map, Verdict}
+use Rattle.club_laws.proofs.Common.{Command, AddKey, RevokeKey, RotateKey, OfficeFault, Event, Asked, Commanded, step, after_change, command_outcome}
+use Rattle.club_laws.proofs.{Common.member_with_quota, FilteredRows.{filter_same, filter_fixed, fixed_where_none, filter-map}, FoundRows.AllPairs-head}
+use Rattle.club_laws.proofs.FoundRows.{AllPairs-tail, any-filter, any-map, fresh_differs, only_named, none_named, other_bytes, AllPairs-map, still_there}
+use Rattle.club_laws.proofs.FoundRows.{named_there}
+use Rattle.std.proofs.{Common.bytes_eq, lemmas.List.Quantifiers.all_pairs_push}
 use Rattle.club_rows.specs.declared.key.OlderRoot.{OlderRoot}
-use Rattle.club_laws.proofs.FoundRows.{AllPairs-head, AllPairs-tail, any-filter, any-map, fresh_differs, only_named, none_named, other_bytes, AllPairs-map}
-use Rattle.club_laws.proofs.FoundRows.{still_there, named_there}
-use Rattle.club_laws.proofs.FilteredRows.{filter_same, filter_fixed, fixed_where_none, filter-map}
 use Rattle.club_core.specs.Solo.{part_of}
 use Rattle.club_laws.specs.Frame.{ChangesThePartAlike, part_after}
-use Rattle.std.proofs.lemmas.List.Quantifiers.{all_pairs_push}
-use Rattle.club_laws.proofs.AnswerCases.{answer_cases, written, CommandRestsOn, change_of, command_cases}
 
 -- whether the key has this name and this member
 abbrev pub is_own : List ℕ → List ℕ → Key → Bool

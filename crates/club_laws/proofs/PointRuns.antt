@@ -1,27 +1,22 @@
 -- Points and places over runs. A total over bookings moves with the entries in each reply: charges with replies to bookings, refunds with
 -- replies to cancellations.
-use Rattle.club_laws.proofs.Common.{get_or, ◌≡◌, ℕ, ◌+◌, Bool, true, false, cond, List, [], ◌∷◌, ◌++◌, ap, ◌∙◌, arith, map, Some, None, refl, ◌≤◌, Option, sym}
-use Rattle.club_laws.proofs.Common.{flat_map, ◌-◌, not, ◌&&◌, ◌||◌, ◌==◌, filter, sum_by, find, AllPairs, Result, All, MatchOption, option_map, bytes_eq}
-use Rattle.club_laws.proofs.Common.{filter_agree, All-head, All-tail, All-filter, false_from_ne_true, list_any, list_any-append, list_any_none, Booking}
-use Rattle.club_laws.proofs.Common.{Verdict, Booked, Cancelled, Words, refund_at, Club, IsSound, empty_club, member_named, facility_named, is_key_of}
-use Rattle.club_laws.proofs.Common.{bookings_of, verdict_in, cancelled_booking, after, after_change, EventReply, ToMember, Event, Asked, Commanded, step}
-use Rattle.club_laws.proofs.Common.{command_outcome, replies_of, club_after, Outcome, ToOffice, done_answer, Slot, Member, Facility, Change, OfficeFault}
-use Rattle.club_laws.proofs.Common.{cost_of, taken_in, is_under, IsEvent, club_account, OwnBookings}
-use Rattle.std.proofs.lemmas.List.Sums.{sum_by-cons}
-use Rattle.club_laws.specs.Points.{Entry, is_entry_of, firsts, charge_of_reply, refund_of_reply, charges_of_replies, refunds_of_replies, keys_given}
-use Rattle.club_laws.specs.Points.{credits_accepted, total_under}
+use Rattle.club_laws.proofs.{AnswerCases.{written, answer_cases, change_of, command_cases}, Common.{get_or, ◌≡◌, ℕ, ◌+◌, Bool, true, false, cond, List, []}}
+use Rattle.club_laws.proofs.Common.{◌∷◌, ◌++◌, ap, ◌∙◌, arith, map, Some, None, refl, ◌≤◌, Option, sym, flat_map, ◌-◌, not, ◌&&◌, ◌||◌, ◌==◌, filter, sum_by}
+use Rattle.club_laws.proofs.Common.{find, AllPairs, Result, All, MatchOption, option_map, bytes_eq, filter_agree, All-head, All-tail, All-filter}
+use Rattle.club_laws.proofs.Common.{false_from_ne_true, list_any, list_any-append, list_any_none, Booking, Verdict, Booked, Cancelled, Words, refund_at, Club}
+use Rattle.club_laws.proofs.Common.{IsSound, empty_club, member_named, facility_named, is_key_of, bookings_of, verdict_in, cancelled_booking, after}
+use Rattle.club_laws.proofs.Common.{after_change, EventReply, ToMember, Event, Asked, Commanded, step, command_outcome, replies_of, club_after, Outcome}
+use Rattle.club_laws.proofs.Common.{ToOffice, done_answer, Slot, Member, Facility, Change, OfficeFault, cost_of, taken_in, is_under, IsEvent, club_account}
+use Rattle.club_laws.proofs.{Common.OwnBookings, FilteredRows.{filter-filter, filter-map, sum-map, sum_middle, sum_one_more, fixed_where_none}}
 use Rattle.club_laws.proofs.FoundRows.{AreApart, found_is_there, none_found, any_passes, any-map, at_found, AllPairs-head, AllPairs-tail, All-each, is_numbered}
 use Rattle.club_laws.proofs.FoundRows.{self_numbered, numbered_back, numbered, only_numbered, found_by_own, named, none_named}
-use Rattle.club_laws.proofs.FilteredRows.{filter-filter, filter-map, sum-map, sum_middle, sum_one_more, fixed_where_none}
-use Rattle.club_laws.proofs.AnswerCases.{written, answer_cases, change_of, command_cases}
-use Rattle.club_rows.specs.Rows.{IsBooking}
-use Rattle.club_core.specs.declared.command.OfficeAnswer.TheVariants.{NotDone}
-use Rattle.club_core.specs.declared.command.OfficeAnswer.{OfficeAnswer}
-use Rattle.club_laws.specs.Conservation.{ConservesPoints, SoundClubsHavePlaces, NeverOverbooks}
-use Rattle.club_laws.proofs.SoundSteps.{nobody_in, sound_step, sound_run}
-use Rattle.club_laws.proofs.MemberAccounts.{is_among, keys_of_run, credit_of, credit_of_run}
-use Rattle.std.proofs.lemmas.List.Filters.{sum_by-filter_both}
+use Rattle.club_laws.proofs.{MemberAccounts.{is_among, keys_of_run, credit_of, credit_of_run}, SoundSteps.{nobody_in, sound_step, sound_run}}
+use Rattle.std.proofs.lemmas.List.{Filters.sum_by-filter_both, Sums.sum_by-cons}
+use Rattle.club_laws.specs.{Conservation.{ConservesPoints, SoundClubsHavePlaces, NeverOverbooks}, Points.{Entry, is_entry_of, firsts, charge_of_reply}}
+use Rattle.club_laws.specs.Points.{refund_of_reply, charges_of_replies, refunds_of_replies, keys_given, credits_accepted, total_under}
 use Rattle.club_laws.specs.Spending.{AccountsShowWhatIsUsed, SpendsWithinItsMember}
+use Rattle.club_rows.specs.Rows.{IsBooking}
+use Rattle.club_core.specs.declared.command.OfficeAnswer.{OfficeAnswer, TheVariants.NotDone}
 
 -- which keys and numbers are on record
 abbrev pub Seen : Type 0

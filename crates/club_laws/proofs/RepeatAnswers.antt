@@ -1,14 +1,13 @@
 -- What was served is on record, stays there, and answers each repeat.
-use Rattle.club_laws.proofs.Common.{◌≡◌, ℕ, true, List, [], ◌∷◌, Some, refl, arith, find, ap, option_map, ◌∙◌, ◌++◌, sym, Member, ◌&&◌, ◌==◌, Key, Booking}
-use Rattle.club_laws.proofs.Common.{Verdict, Change, InsertBooking, MarkCancelled, Reply, Booked, Cancelled, Request, same_slot, refund_at, booking_under}
-use Rattle.club_laws.proofs.Common.{Words, Club, key_of, Basis, basis_of, view_of, verdict_in, after, cancelled_booking, Event, after_change, club_after, Asked}
-use Rattle.club_laws.proofs.Common.{Outcome, step, verdict_outcome, replies_of, ToMember, request_number, TestsTheSet, TestsTheSignature, IsAcceptedIn}
-use Rattle.club_laws.specs.Repeats.{IsBookedOrCancelled, RepeatsReturnTheSame, RepeatsMayBeLeftOut, WasServed}
+use Rattle.club_laws.proofs.{AnswerCases.{written, answer_cases, Knows, own_booking, known_rows, whole_basis}, Common.{◌≡◌, ℕ, true, List, [], ◌∷◌, Some, refl}}
+use Rattle.club_laws.proofs.Common.{arith, find, ap, option_map, ◌∙◌, ◌++◌, sym, Member, ◌&&◌, ◌==◌, Key, Booking, Verdict, Change, InsertBooking}
+use Rattle.club_laws.proofs.Common.{MarkCancelled, Reply, Booked, Cancelled, Request, same_slot, refund_at, booking_under, Words, Club, key_of, Basis, basis_of}
+use Rattle.club_laws.proofs.Common.{view_of, verdict_in, after, cancelled_booking, Event, after_change, club_after, Asked, Outcome, step, verdict_outcome}
+use Rattle.club_laws.proofs.Common.{replies_of, ToMember, request_number, TestsTheSet, TestsTheSignature, IsAcceptedIn}
 use Rattle.club_laws.proofs.FoundRows.{found_before, found_last, find-map, is_numbered, same_slots, self_numbered}
-use Rattle.club_laws.proofs.AnswerCases.{written, answer_cases, Knows, own_booking, known_rows, whole_basis}
-use Rattle.club_laws.proofs.KeptByRuns.{kept_by_run, club_after-append, replies_of-append}
+use Rattle.club_laws.proofs.{KeptByRuns.{kept_by_run, club_after-append, replies_of-append}, ServedPasses.accepted_under}
+use Rattle.club_laws.specs.Repeats.{IsBookedOrCancelled, RepeatsReturnTheSame, RepeatsMayBeLeftOut, WasServed}
 use Rattle.club_core.specs.declared.view.View.{View}
-use Rattle.club_laws.proofs.ServedPasses.{accepted_under}
 use Rattle.club_core.specs.declared.request.Request.TheVariants as asked
 use Rattle.club_core.specs.Verdict as verdicts
 

@@ -1,23 +1,16 @@
 -- What a served request shows of its pass; and that a revoked key stays revoked.
-use Rattle.club_laws.proofs.Common.{◌≡◌, ℕ, ◌+◌, true, false, List, [], ◌∷◌, ◌++◌, Option, Some, None, Result, Ok, Err, arith, All, refl, sym, ap, ◌∙◌, subst}
-use Rattle.club_laws.proofs.Common.{option_map, false_from_ne_true, All-nil, All-cons, All-head, All-tail, TestsTheSet, TestsTheSignature, Key, Request, Pass}
-use Rattle.club_laws.proofs.Common.{Words, is_signed_under, Club, key_named, Basis, basis_of, key_of, view_of, answer_to, ask_of, form_refusal, IsServed}
-use Rattle.club_laws.proofs.Common.{IsAllowedBy, IsAcceptedPass, IsEntitled, OfficeFault, Change, InsertKey, MarkRevoked, ReplaceRoot, RevokeKey, after}
-use Rattle.club_laws.proofs.Common.{revoked_key, rotated_key, Event, Commanded, step, command_outcome, club_after, ToOffice, find-append}
-use Rattle.std.proofs.lemmas.Option.{same_Some}
-use Rattle.pass_caveats.specs.declared.ask.Ask.{Ask}
-use Rattle.pass_caveats.specs.declared.caveat.Caveat.{Caveat}
-use Rattle.pass_caveats.specs.Fault.{first_fault_from, first_fault_of}
-use Rattle.club_core.specs.declared.refusal.Refusal.TheVariants.{NotVerified, KeyRevoked, CaveatNotUnderstood, CaveatDenies}
-use Rattle.club_core.specs.declared.pass_fault.PassFault.{PassFault}
-use Rattle.club_core.specs.Verdict.{refusal_verdict, verdict_of}
-use Rattle.club_laws.specs.SingleRequest.{RefusesTheUnsigned, MoreCaveatsNeverOpenMore, blind_refusal, words_with}
-use Rattle.club_laws.proofs.AnswerCases.{known_rows, command_cases}
-use Rattle.club_core.specs.declared.command.OfficeAnswer.TheVariants.{Done}
-use Rattle.club_laws.specs.Revoked.{ServesNoRevokedKey, WasRevoked}
-use Rattle.club_laws.proofs.FoundRows.{find-map, found_passes}
+use Rattle.club_laws.proofs.{AnswerCases.{known_rows, command_cases}, Common.{◌≡◌, ℕ, ◌+◌, true, false, List, [], ◌∷◌, ◌++◌, Option, Some, None, Result, Ok}}
+use Rattle.club_laws.proofs.Common.{Err, arith, All, refl, sym, ap, ◌∙◌, subst, option_map, false_from_ne_true, All-nil, All-cons, All-head, All-tail}
+use Rattle.club_laws.proofs.Common.{TestsTheSet, TestsTheSignature, Key, Request, Pass, Words, is_signed_under, Club, key_named, Basis, basis_of, key_of}
+use Rattle.club_laws.proofs.Common.{view_of, answer_to, ask_of, form_refusal, IsServed, IsAllowedBy, IsAcceptedPass, IsEntitled, OfficeFault, Change, InsertKey}
+use Rattle.club_laws.proofs.Common.{MarkRevoked, ReplaceRoot, RevokeKey, after, revoked_key, rotated_key, Event, Commanded, step, command_outcome, club_after}
+use Rattle.club_laws.proofs.{Common.{ToOffice, find-append}, FoundRows.{find-map, found_passes}, KeptByRuns.{kept_by_run, club_after-append}}
 use Rattle.club_laws.proofs.MemberParts.{has_name}
-use Rattle.club_laws.proofs.KeptByRuns.{kept_by_run, club_after-append}
+use Rattle.std.proofs.lemmas.Option.{same_Some}
+use Rattle.pass_caveats.specs.{Fault.{first_fault_from, first_fault_of}, declared.{ask.Ask.Ask, caveat.Caveat.Caveat}}
+use Rattle.club_core.specs.{Verdict.{refusal_verdict, verdict_of}, declared.{command.OfficeAnswer.TheVariants.Done, pass_fault.PassFault.PassFault}}
+use Rattle.club_core.specs.declared.refusal.Refusal.TheVariants.{NotVerified, KeyRevoked, CaveatNotUnderstood, CaveatDenies}
+use Rattle.club_laws.specs.{Revoked.{ServesNoRevokedKey, WasRevoked}, SingleRequest.{RefusesTheUnsigned, MoreCaveatsNeverOpenMore, blind_refusal, words_with}}
 
 -- the pass passes the tests of the answer
 pub record PassesTests (pass : Pass) (request : Request) (moment : ℕ) (basis : Basis) : Type 0 where

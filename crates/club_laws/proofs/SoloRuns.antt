@@ -1,22 +1,18 @@
 -- The solo law: a member's part follows each event of the club by the member's own entry for it.
-use Rattle.club_laws.proofs.Common.{subst, ◌≡◌, ℕ, ◌+◌, Bool, List, Option, Some, None, option_map, refl, sym, ap, true, false, cond, [], ◌∷◌, Result, ◌∙◌}
-use Rattle.club_laws.proofs.Common.{arith, ◌++◌, map, Slot, Facility, Booking, persons_of, refund_at, is_in, request_slot, Words, Club, key_named, member_named}
-use Rattle.club_laws.proofs.Common.{keys_of, is_key_of, bookings_of, Basis, SlotState, basis_of, state_of, key_of, bytes_eq-Decides, Change, InsertBooking}
-use Rattle.club_laws.proofs.Common.{MarkCancelled, Verdict, Command, OfficeFault, after, answer_by_basis, verdict_in, office_verdict, Event, Asked, Commanded}
-use Rattle.club_laws.proofs.Common.{step, after_change, command_outcome, EventReply, ToMember, replies_of, club_after, map-map}
-use Rattle.std.proofs.Common.{bytes_eq}
-use Rattle.club_core.specs.declared.slot_use.SlotUse.{SlotUse}
-use Rattle.club_core.specs.Solo.{outside, part_of, with_others, OwnEvent, OwnAsk, OwnChange, own_ask, own_change, own_part, solo_verdict, own_events}
-use Rattle.club_core.specs.Solo.{solo_replies}
-use Rattle.club_laws.proofs.FoundRows.{found_passes, find_filtered, bytes_same, same_bytes_of, numbered, is_numbered}
+use Rattle.club_laws.proofs.{AnswerCases.{known_rows, whole_basis, is_own_key, answer_cases, written, change_of, command_cases}, Common.{subst, ◌≡◌, ℕ, ◌+◌}}
+use Rattle.club_laws.proofs.Common.{Bool, List, Option, Some, None, option_map, refl, sym, ap, true, false, cond, [], ◌∷◌, Result, ◌∙◌, arith, ◌++◌, map, Slot}
+use Rattle.club_laws.proofs.Common.{Facility, Booking, persons_of, refund_at, is_in, request_slot, Words, Club, key_named, member_named, keys_of, is_key_of}
+use Rattle.club_laws.proofs.Common.{bookings_of, Basis, SlotState, basis_of, state_of, key_of, bytes_eq-Decides, Change, InsertBooking, MarkCancelled, Verdict}
+use Rattle.club_laws.proofs.Common.{Command, OfficeFault, after, answer_by_basis, verdict_in, office_verdict, Event, Asked, Commanded, step, after_change}
+use Rattle.club_laws.proofs.{Common.{command_outcome, EventReply, ToMember, replies_of, club_after, map-map}, FailedEvents.run_of_answered}
 use Rattle.club_laws.proofs.FilteredRows.{filter_twice, sum_in_parts}
+use Rattle.club_laws.proofs.FoundRows.{found_passes, find_filtered, bytes_same, same_bytes_of, numbered, is_numbered}
 use Rattle.club_laws.proofs.MemberParts.{is_named, is_owned, has_name, is_under_one, IsFresh, part_changed, owner, IsKeyed, keyed_step, keyed_from_sound}
-use Rattle.club_laws.proofs.AnswerCases.{known_rows, whole_basis, is_own_key, answer_cases, written, change_of, command_cases}
-use Rattle.club_laws.specs.RunsWithFailures.{SoloLawWithFailures}
-use Rattle.club_laws.specs.Frame.{LeavesThePart}
+use Rattle.std.proofs.Common.{bytes_eq}
+use Rattle.club_core.specs.Solo.{outside, part_of, with_others, OwnEvent, OwnAsk, OwnChange, own_ask, own_change, own_part, solo_verdict, own_events}
+use Rattle.club_core.specs.{Solo.solo_replies, declared.slot_use.SlotUse.SlotUse}
+use Rattle.club_laws.specs.{Failed.{present_reply, answered_events}, Frame.LeavesThePart, RunsWithFailures.SoloLawWithFailures}
 use Rattle.club_laws.specs.SoloLaw.{SoloLaw, EndsWithThePart, is_ask, replies_to, solo_part}
-use Rattle.club_laws.specs.Failed.{present_reply, answered_events}
-use Rattle.club_laws.proofs.FailedEvents.{run_of_answered}
 
 abbrev state_with : Option Facility → ℕ → Bool → SlotState
 state_with facility taken closed = record { facility = facility; held = record { taken = taken; closed = closed } }

@@ -1,18 +1,14 @@
 -- A change whose values are within their limits, and which leaves what the club's rows allow, keeps the club sound.
-use Rattle.club_laws.proofs.Common.{◌≡◌, ◌≢◌, ℕ, ◌≤◌, false, true, List, [], ◌∷◌, ◌++◌, get_or, map, arith, All, Contains, sum_by, All-push}
-use Rattle.club_laws.proofs.Common.{All-map, map-map, both_ways, Slot, Member, Facility, Key, Booking, persons_of, same_slot, cost_of, is_in, taken_in}
-use Rattle.club_laws.proofs.Common.{credited_member, revoked_key, rotated_key, after, is_marked, cancelled_booking, Club, is_key_of, bookings_of, IsSound}
-use Rattle.club_laws.proofs.Common.{bytes_eq-Decides, InsertMember, AddCredit, InsertFacility, InsertKey, MarkRevoked, ReplaceRoot, MarkClosed, MarkOpen}
-use Rattle.club_laws.proofs.Common.{ReplaceQuota}
-use Rattle.club_laws.proofs.Common.{InsertBooking, MarkCancelled, Some, subst, sym, key_named}
-use Rattle.std.proofs.lemmas.List.Quantifiers.{all_pairs_push}
-use Rattle.std.proofs.lemmas.Bool.Decides.{nat_tests}
-use Rattle.club_rows.specs.Rows.{IsMember, IsFacility, IsKey, IsSlot, IsBooking}
+use Rattle.club_laws.proofs.Common.{◌≡◌, ◌≢◌, ℕ, ◌≤◌, false, true, List, [], ◌∷◌, ◌++◌, get_or, map, arith, All, Contains, sum_by, All-push, All-map, map-map}
+use Rattle.club_laws.proofs.Common.{both_ways, Slot, Member, Facility, Key, Booking, persons_of, same_slot, cost_of, is_in, taken_in, credited_member}
+use Rattle.club_laws.proofs.Common.{revoked_key, rotated_key, after, is_marked, cancelled_booking, Club, is_key_of, bookings_of, IsSound, bytes_eq-Decides}
+use Rattle.club_laws.proofs.Common.{InsertMember, AddCredit, InsertFacility, InsertKey, MarkRevoked, ReplaceRoot, MarkClosed, MarkOpen, ReplaceQuota}
+use Rattle.club_laws.proofs.{Common.{InsertBooking, MarkCancelled, Some, subst, sym, key_named}, FilteredRows.{sum_one_more, sum_no_more}}
 use Rattle.club_laws.proofs.FoundRows.{AllPairs-map, All-each, still_there, still_all, named, named_there, only_named, only_numbered, none_passes, same_slots}
-use Rattle.club_laws.proofs.FoundRows.{slots_same, AreApart}
-use Rattle.club_laws.proofs.FilteredRows.{sum_one_more, sum_no_more}
-use Rattle.club_laws.proofs.MemberParts.{bookings_of-added, owner}
+use Rattle.club_laws.proofs.{FoundRows.{slots_same, AreApart}, MemberParts.{bookings_of-added, owner}}
 use Rattle.club_laws.proofs.SoundSteps.{nothing_booked, nobody_in, sound_edited, sound_opened, sound_quota, rotated_row, cancelled_row, costs_no_more}
+use Rattle.std.proofs.lemmas.{Bool.Decides.nat_tests, List.Quantifiers.all_pairs_push}
+use Rattle.club_rows.specs.Rows.{IsMember, IsFacility, IsKey, IsSlot, IsBooking}
 use Rattle.club_laws.specs.SoundRuns.{Suits, SuitingChangesKeepSound}
 
 -- a booking under a key of a member, which that member pays and the slot has room for

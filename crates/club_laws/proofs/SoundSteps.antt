@@ -1,26 +1,19 @@
 -- Steps and runs keep a sound club, and each change fits.
-use Rattle.club_laws.proofs.Common.{None, ◌≡◌, ◌≢◌, ℕ, ◌≤◌, Bool, false, List, [], ◌∷◌, ◌++◌, get_or, map, ap, arith, ◌+◌, true, cond, All, subst, Option, Some}
-use Rattle.club_laws.proofs.Common.{Ok, Err, Contains, IfSome, sum_by, ◌||◌, Result, bytes_eq, All-push, All-map, All-head, All-tail, map-map, cond_both}
-use Rattle.club_laws.proofs.Common.{both_ways, Slot, Member, Facility, Key, Booking, persons_of, same_slot, refund_at, cost_of, is_in, taken_in}
-use Rattle.club_laws.proofs.Common.{credited_member, revoked_key, good_until, rotated_key, after, is_marked, cancelled_booking, Club, keys_of, is_key_of}
-use Rattle.club_laws.proofs.Common.{bookings_of, IsSound, HasReferences, Command, AddMember, Credit, AddFacility, AddKey, RevokeKey, RotateKey, CloseSlot}
-use Rattle.club_laws.proofs.Common.{OpenSlot, SetQuota}
-use Rattle.club_laws.proofs.Common.{IsCommand, IsRequest, IsEvent, bytes_eq-Decides, Verdict, Words, verdict_in, after_change, Asked, Commanded, step}
-use Rattle.club_laws.proofs.Common.{command_outcome, Change, OfficeFault, office_verdict, MarkOpen, ReplaceQuota, member_with_quota, All-filter, not}
-use Rattle.std.proofs.lemmas.List.Kept.{AllPairs-filter}
-use Rattle.std.proofs.lemmas.List.Quantifiers.{all_pairs_push}
-use Rattle.club_rows.specs.declared.key.OlderRoot.{OlderRoot}
-use Rattle.club_rows.specs.Limits.{IsRoot}
-use Rattle.club_values.specs.Moment.{IsMoment}
-use Rattle.club_rows.specs.Rows.{IsMember, IsFacility, IsOlderRoot, IsKey, IsSlot, IsBooking}
-use Rattle.club_laws.proofs.FoundRows.{AreApart, AllPairs-map, All-each, fresh_differs, still_there, still_all, none_named, named_there, only_named}
-use Rattle.club_laws.proofs.FoundRows.{none_passes}
-use Rattle.club_laws.proofs.FoundRows.{same_slots, at_found, none_found, slots_same, is_numbered, only_numbered, found_by_own, found_passes, numbered}
-use Rattle.club_laws.proofs.FilteredRows.{filter_none, sum_one_more, sum_no_more}
+use Rattle.club_laws.proofs.{AnswerCases.{CommandRestsOn, change_of, Knows, Books, Cancels, written, answer_cases, command_cases}, Common.{None, ◌≡◌, ◌≢◌, ℕ}}
+use Rattle.club_laws.proofs.Common.{◌≤◌, Bool, false, List, [], ◌∷◌, ◌++◌, get_or, map, ap, arith, ◌+◌, true, cond, All, subst, Option, Some, Ok, Err, Contains}
+use Rattle.club_laws.proofs.Common.{IfSome, sum_by, ◌||◌, Result, bytes_eq, All-push, All-map, All-head, All-tail, map-map, cond_both, both_ways, Slot, Member}
+use Rattle.club_laws.proofs.Common.{Facility, Key, Booking, persons_of, same_slot, refund_at, cost_of, is_in, taken_in, credited_member, revoked_key}
+use Rattle.club_laws.proofs.Common.{good_until, rotated_key, after, is_marked, cancelled_booking, Club, keys_of, is_key_of, bookings_of, IsSound, HasReferences}
+use Rattle.club_laws.proofs.Common.{Command, AddMember, Credit, AddFacility, AddKey, RevokeKey, RotateKey, CloseSlot, OpenSlot, SetQuota, IsCommand, IsRequest}
+use Rattle.club_laws.proofs.Common.{IsEvent, bytes_eq-Decides, Verdict, Words, verdict_in, after_change, Asked, Commanded, step, command_outcome, Change}
+use Rattle.club_laws.proofs.Common.{OfficeFault, office_verdict, MarkOpen, ReplaceQuota, member_with_quota, All-filter, not}
+use Rattle.club_laws.proofs.{FilteredRows.{filter_none, sum_one_more, sum_no_more}, FoundRows.{AreApart, AllPairs-map, All-each, fresh_differs, still_there}}
+use Rattle.club_laws.proofs.FoundRows.{still_all, none_named, named_there, only_named, none_passes, same_slots, at_found, none_found, slots_same, is_numbered}
+use Rattle.club_laws.proofs.FoundRows.{only_numbered, found_by_own, found_passes, numbered}
 use Rattle.club_laws.proofs.MemberParts.{edited, bookings_of-added, bookings_of-edited, owner}
-use Rattle.std.proofs.lemmas.Bool.Decides.{nat_tests}
-use Rattle.club_laws.proofs.AnswerCases.{CommandRestsOn, change_of, Knows, Books, Cancels, written, answer_cases, command_cases}
-use Rattle.std.proofs.lemmas.Nat.{mul-le}
+use Rattle.std.proofs.lemmas.{Bool.Decides.nat_tests, List.{Kept.AllPairs-filter, Quantifiers.all_pairs_push}, Nat.mul-le}
+use Rattle.club_rows.specs.{Limits.IsRoot, Rows.{IsMember, IsFacility, IsOlderRoot, IsKey, IsSlot, IsBooking}, declared.key.OlderRoot.OlderRoot}
+use Rattle.club_values.specs.Moment.{IsMoment}
 use Rattle.club_core.specs.Store.{IsTrueOf}
 use Rattle.club_laws.specs.SoundRuns.{ChangesFit, RunsKeepSound, StepsKeepSound}
 use Rattle.club_core.specs.declared.request.Request.TheVariants as asked

@@ -1,12 +1,9 @@
 -- An example of an account, which computes (ours): it counts the open bookings of all keys of the member; begun slots don't count.
 use Rattle.std.specs.Prelude.{◌≡◌, true, List, [], ◌∷◌, Some, Ok, codes}
-use Rattle.club_core.specs.declared.command.Command.TheVariants.{AddKey}
-use Rattle.club_core.specs.declared.reply.Reply.TheVariants.{Booked, Cancelled}
-use Rattle.club_core.specs.declared.request.Request.{Request}
-use Rattle.club_core.specs.declared.request.Request.TheVariants as asked
 use Rattle.club_core.specs.Examples.{opened_club, root, slot_at, noon, late, ask, served_booking, account}
-use Rattle.club_core.specs.declared.command.OfficeAnswer.TheVariants.{NewKey}
-use Rattle.club_core.specs.Run.{Event, Asked, Commanded, replies_of, ToMember, ToOffice}
+use Rattle.club_core.specs.{Run.{Event, Asked, Commanded, replies_of, ToMember, ToOffice}, declared.command.Command.TheVariants.AddKey}
+use Rattle.club_core.specs.declared.{command.OfficeAnswer.TheVariants.NewKey, reply.Reply.TheVariants.{Booked, Cancelled}, request.Request.Request}
+use Rattle.club_core.specs.declared.request.Request.TheVariants as asked
 
 -- a request of amy's other key, at noon
 abbrev pub ask_of_other_key : Request → Event

@@ -1,12 +1,9 @@
 -- Points are neither made nor lost, and no slot is overbooked (ours).
 use Rattle.std.specs.Prelude.{◌≡◌, ℕ, ◌+◌, ◌≤◌, List, All, sum_by, Some, MatchOption}
 use Rattle.club_values.specs.declared.slot.Slot.{Slot}
-use Rattle.club_rows.specs.declared.member.Member.{Member}
-use Rattle.club_rows.specs.declared.facility.Facility.{Facility}
-use Rattle.club_core.specs.Club.{Club, empty_club, member_named, facility_named, bookings_of, IsSound}
-use Rattle.club_core.specs.Sums.{cost_of, balance_of, taken_in}
-use Rattle.club_core.specs.Run.{Event, replies_of, club_after, EventReply}
-use Rattle.club_core.specs.Events.{IsEvent}
+use Rattle.club_rows.specs.declared.{facility.Facility.Facility, member.Member.Member}
+use Rattle.club_core.specs.{Club.{Club, empty_club, member_named, facility_named, bookings_of, IsSound}, Events.IsEvent}
+use Rattle.club_core.specs.{Run.{Event, replies_of, club_after, EventReply}, Sums.{cost_of, balance_of, taken_in}}
 use Rattle.club_laws.specs.Points.{keys_given, credits_accepted, charges_of_replies, refunds_of_replies, total_under}
 
 -- the member's balance and the first charge of each booking of its keys add up to its credits and the first refund of each booking;

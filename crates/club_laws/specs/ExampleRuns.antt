@@ -1,15 +1,10 @@
 -- Example runs on which the definitions of points and repeats compute (ours).
 use Rattle.std.specs.Prelude.{◌≡◌, ℕ, true, List, [], ◌∷◌, ◌++◌, Some, Ok, codes}
 use Rattle.pass_caveats.specs.declared.caveat.Caveat.TheVariants.{Spend}
-use Rattle.club_core.specs.declared.reply.Reply.TheVariants.{Booked}
+use Rattle.club_core.specs.{Acceptance.IsAcceptedIn, Club.empty_club, Examples.{opening, opened_club, slot_at, noon, late, ask}, Pass.Words}
+use Rattle.club_core.specs.{Run.{Event, replies_of, club_after, EventReply}, declared.reply.Reply.TheVariants.Booked}
 use Rattle.club_core.specs.declared.request.Request.TheVariants as asked
-use Rattle.club_core.specs.Pass.{Words}
-use Rattle.club_core.specs.Club.{empty_club}
-use Rattle.club_core.specs.Examples.{opening, opened_club, slot_at, noon, late, ask}
-use Rattle.club_core.specs.Run.{Event, replies_of, club_after, EventReply}
-use Rattle.club_laws.specs.Points.{keys_given, credits_accepted, charges_of_replies, refunds_of_replies, total_under}
-use Rattle.club_core.specs.Acceptance.{IsAcceptedIn}
-use Rattle.club_laws.specs.Repeats.{WasServed}
+use Rattle.club_laws.specs.{Points.{keys_given, credits_accepted, charges_of_replies, refunds_of_replies, total_under}, Repeats.WasServed}
 
 -- twelve hours before the slot at 18 begins
 abbrev pub at_six : ℕ

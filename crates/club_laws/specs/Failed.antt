@@ -1,12 +1,7 @@
 -- Runs in which some events failed, because memory or storage was refused (ours).
 use Rattle.std.specs.Prelude.{◌≡◌, ◌≢◌, ◌⊎◌, Bool, true, false, IsTrue, IsFalse, List, [], ◌∷◌, ◌++◌, length, map, All, if◌then◌else◌}
-use Rattle.club_core.specs.declared.refusal.Refusal.TheVariants.{Unavailable}
-use Rattle.club_core.specs.declared.reply.Reply.{Reply}
-use Rattle.club_core.specs.declared.reply.Reply.TheVariants.{Refused}
-use Rattle.club_core.specs.Club.{Club}
-use Rattle.club_core.specs.declared.command.OfficeAnswer.{OfficeAnswer}
-use Rattle.club_core.specs.Run.{Event, Asked, Commanded, step, replies_of, club_after, EventReply, Response, ToMember, ToOffice}
-use Rattle.club_core.specs.Events.{IsEvent}
+use Rattle.club_core.specs.{Club.Club, Events.IsEvent, Run.{Event, Asked, Commanded, step, replies_of, club_after, EventReply, Response, ToMember, ToOffice}}
+use Rattle.club_core.specs.declared.{command.OfficeAnswer.OfficeAnswer, refusal.Refusal.TheVariants.Unavailable, reply.Reply.{Reply, TheVariants.Refused}}
 
 -- how a desk presents the machine's answers to the office, and which presented answers say that memory or storage was refused
 pub record Presentation (O : Type 0) : Type 0 where

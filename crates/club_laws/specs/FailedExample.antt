@@ -1,14 +1,9 @@
 -- A run with a failed credit and a failed booking, which computes (ours).
 use Rattle.std.specs.Prelude.{◌≡◌, List, [], ◌∷◌, ◌++◌, Option, Some, None, is_none, map, codes}
-use Rattle.club_core.specs.declared.command.Command.TheVariants.{Credit}
-use Rattle.club_core.specs.declared.refusal.Refusal.TheVariants.{Unavailable}
-use Rattle.club_core.specs.declared.reply.Reply.TheVariants.{AccountShown, Refused}
+use Rattle.club_core.specs.{Club.empty_club, Examples.{opening, root, slot_at, noon, ask}, Run.{Event, Commanded, replies_of, Response, ToMember, ToOffice}}
+use Rattle.club_core.specs.declared.command.{Command.TheVariants.Credit, OfficeAnswer.{OfficeAnswer, TheVariants.{Done, NewKey}}}
+use Rattle.club_core.specs.declared.{refusal.Refusal.TheVariants.Unavailable, reply.Reply.TheVariants.{AccountShown, Refused}}
 use Rattle.club_core.specs.declared.request.Request.TheVariants as asked
-use Rattle.club_core.specs.Club.{empty_club}
-use Rattle.club_core.specs.Examples.{opening, root, slot_at, noon, ask}
-use Rattle.club_core.specs.declared.command.OfficeAnswer.{OfficeAnswer}
-use Rattle.club_core.specs.declared.command.OfficeAnswer.TheVariants.{Done, NewKey}
-use Rattle.club_core.specs.Run.{Event, Commanded, replies_of, Response, ToMember, ToOffice}
 use Rattle.club_laws.specs.Failed.{Presentation, present_reply, answered_events, answers}
 
 -- a desk that returns its answer to the office, or none if memory or storage was refused

@@ -1,13 +1,8 @@
 -- Which changes and events leave a member's part unchanged (ours).
 use Rattle.std.specs.Prelude.{◌≡◌, ℕ, ◌+◌, Bool, List, [], if◌then◌else◌, Some}
 use Rattle.club_values.specs.declared.slot.Slot.{Slot}
-use Rattle.club_core.specs.declared.change.Change.{Change}
-use Rattle.club_core.specs.declared.change.Change.TheVariants.{InsertBooking, MarkCancelled}
-use Rattle.club_core.specs.Club.{Club, IsSound, is_key_of}
-use Rattle.club_core.specs.Sums.{taken_in}
-use Rattle.club_core.specs.After.{after}
-use Rattle.club_core.specs.Run.{Event, step}
-use Rattle.club_core.specs.Solo.{outside, is_own, own_part, part_of}
+use Rattle.club_core.specs.{After.after, Club.{Club, IsSound, is_key_of}, Run.{Event, step}, Solo.{outside, is_own, own_part, part_of}, Sums.taken_in}
+use Rattle.club_core.specs.declared.change.Change.{Change, TheVariants.{InsertBooking, MarkCancelled}}
 
 -- whether a change is made in the member's part: the member's own changes, and the bookings and cancellations under its keys
 abbrev pub is_of_part : List ℕ → Club → Change → Bool

@@ -1,13 +1,8 @@
 -- What the solo machine sees of others (ours): of the requested slot, the number of persons and whether it is closed.
 use Rattle.std.specs.Prelude.{◌≡◌, ℕ, List, Option, Some, None, codes}
 use Rattle.club_values.specs.declared.slot.Slot.{Slot}
-use Rattle.club_core.specs.Club.{Club, empty_club, is_closed}
-use Rattle.club_core.specs.Sums.{taken_in}
-use Rattle.club_core.specs.Basis.{Basis, basis_of}
-use Rattle.club_core.specs.Pass.{Words}
-use Rattle.club_core.specs.Request.{request_slot}
-use Rattle.club_core.specs.Run.{Asked}
-use Rattle.club_core.specs.Solo.{bookings_of_others, own_part, own_events}
+use Rattle.club_core.specs.{Basis.{Basis, basis_of}, Club.{Club, empty_club, is_closed}, Pass.Words, Request.request_slot, Run.Asked}
+use Rattle.club_core.specs.{Solo.{bookings_of_others, own_part, own_events}, Sums.taken_in}
 use Rattle.club_laws.specs.SoloExamples.{amy_alone, amy_among_others}
 
 -- others have as many persons in the slot in both clubs, and it is closed in both or in none

@@ -1,11 +1,7 @@
 -- Points in a run, computed from its events and replies alone, without the tables (ours).
-use Rattle.std.specs.Prelude.{ℕ, ◌+◌, ◌==◌, ◌&&◌, not, Bool, List, [], ◌∷◌, ◌++◌, filter, flat_map, sum_by, if◌then◌else◌}
-use Rattle.std.specs.Str.{bytes_eq}
-use Rattle.std.specs.List.{list_any}
-use Rattle.club_core.specs.declared.reply.Reply.TheVariants.{Booked, Cancelled}
-use Rattle.club_core.specs.declared.command.Command.TheVariants.{Credit, AddKey}
-use Rattle.club_core.specs.declared.command.OfficeAnswer.TheVariants.{Done, NewKey}
-use Rattle.club_core.specs.Run.{Event, Commanded, EventReply, ToMember, ToOffice}
+use Rattle.std.specs.{List.list_any, Prelude.{ℕ, ◌+◌, ◌==◌, ◌&&◌, not, Bool, List, [], ◌∷◌, ◌++◌, filter, flat_map, sum_by, if◌then◌else◌}, Str.bytes_eq}
+use Rattle.club_core.specs.{Run.{Event, Commanded, EventReply, ToMember, ToOffice}, declared.command.Command.TheVariants.{Credit, AddKey}}
+use Rattle.club_core.specs.declared.{command.OfficeAnswer.TheVariants.{Done, NewKey}, reply.Reply.TheVariants.{Booked, Cancelled}}
 
 -- points in a reply, with the key and the number of the booking
 pub record Entry : Type 0 where

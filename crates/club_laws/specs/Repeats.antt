@@ -1,12 +1,8 @@
 -- A served booking or cancellation takes place once (ours).
 use Rattle.std.specs.Prelude.{◌≡◌, ℕ, List, ◌∷◌, ◌++◌}
-use Rattle.club_core.specs.declared.reply.Reply.{Reply}
+use Rattle.club_core.specs.{Acceptance.IsAcceptedIn, Basis.key_of, Club.Club, Pass.Words}
+use Rattle.club_core.specs.{Run.{Event, Asked, step, replies_of, club_after, EventReply, ToMember}, declared.reply.Reply.Reply}
 use Rattle.club_core.specs.declared.reply.Reply.TheVariants.{Booked, Cancelled}
-use Rattle.club_core.specs.Pass.{Words}
-use Rattle.club_core.specs.Club.{Club}
-use Rattle.club_core.specs.Basis.{key_of}
-use Rattle.club_core.specs.Acceptance.{IsAcceptedIn}
-use Rattle.club_core.specs.Run.{Event, Asked, step, replies_of, club_after, EventReply, ToMember}
 
 -- a reply to a booking or a cancellation that was served
 abbrev pub IsBookedOrCancelled : Reply → Type 0

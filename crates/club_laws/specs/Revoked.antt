@@ -1,13 +1,7 @@
 -- A key that was revoked (ours).
 use Rattle.std.specs.Prelude.{◌≡◌, ℕ, List, ◌∷◌, ◌++◌, Some}
-use Rattle.club_core.specs.declared.command.Command.TheVariants.{RevokeKey}
-use Rattle.club_core.specs.declared.command.OfficeAnswer.TheVariants.{Done}
-use Rattle.club_core.specs.Acceptance.{IsServed}
-use Rattle.club_core.specs.Answer.{verdict_in}
-use Rattle.club_core.specs.Basis.{key_of}
-use Rattle.club_core.specs.Club.{Club}
-use Rattle.club_core.specs.Pass.{Words}
-use Rattle.club_core.specs.Run.{Event, Commanded, step, club_after, ToOffice}
+use Rattle.club_core.specs.{Acceptance.IsServed, Answer.verdict_in, Basis.key_of, Club.Club, Pass.Words, Run.{Event, Commanded, step, club_after, ToOffice}}
+use Rattle.club_core.specs.declared.command.{Command.TheVariants.RevokeKey, OfficeAnswer.TheVariants.Done}
 
 -- the office revoked the key within the history
 pub record WasRevoked (club : Club) (history : List Event) (name : List ℕ) : Type 0 where

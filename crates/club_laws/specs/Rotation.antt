@@ -1,14 +1,10 @@
 -- Example runs with a rotation of a key, which compute (ours).
-use Rattle.std.specs.Prelude.{◌≡◌, ℕ, List, [], ◌∷◌, Some, Ok, replicate, codes}
-use Rattle.std.specs.Str.{bytes_eq}
-use Rattle.club_core.specs.declared.command.Command.TheVariants.{RevokeKey, RotateKey}
-use Rattle.club_core.specs.declared.refusal.Refusal.TheVariants as refusals
-use Rattle.club_core.specs.declared.reply.Reply.TheVariants.{Refused}
-use Rattle.club_core.specs.declared.request.Request.{Request}
-use Rattle.club_core.specs.declared.request.Request.TheVariants as asked
+use Rattle.std.specs.{Prelude.{◌≡◌, ℕ, List, [], ◌∷◌, Some, Ok, replicate, codes}, Str.bytes_eq}
 use Rattle.club_core.specs.Examples.{opened_club, root, slot_at, noon, late, served_booking, account}
-use Rattle.club_core.specs.declared.command.OfficeAnswer.TheVariants.{Done, NewKey}
-use Rattle.club_core.specs.Run.{Event, Asked, Commanded, replies_of, ToMember, ToOffice}
+use Rattle.club_core.specs.{Run.{Event, Asked, Commanded, replies_of, ToMember, ToOffice}, declared.command.Command.TheVariants.{RevokeKey, RotateKey}}
+use Rattle.club_core.specs.declared.{command.OfficeAnswer.TheVariants.{Done, NewKey}, reply.Reply.TheVariants.Refused, request.Request.Request}
+use Rattle.club_core.specs.declared.refusal.Refusal.TheVariants as refusals
+use Rattle.club_core.specs.declared.request.Request.TheVariants as asked
 
 -- a request of the key amy-1, under a pass that is signed under this root alone
 abbrev pub ask_under : List ℕ → Request → ℕ → Event

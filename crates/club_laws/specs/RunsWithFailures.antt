@@ -2,18 +2,11 @@
 use Rattle.std.specs.Prelude.{◌≡◌, ℕ, IsFalse, List, ◌∷◌, ◌++◌, length, map, All, Some}
 use Rattle.club_values.specs.declared.slot.Slot.{Slot}
 use Rattle.club_rows.specs.declared.member.Member.{Member}
+use Rattle.club_core.specs.{Acceptance.IsAcceptedIn, Basis.key_of, Club.{Club, empty_club, member_named, IsSound}, Events.IsEvent, Pass.Words}
+use Rattle.club_core.specs.{Run.{Event, Asked, step, replies_of, club_after, ToMember, Response}, Solo.{own_events, part_of, solo_replies}}
 use Rattle.club_core.specs.declared.reply.Reply.{Reply}
-use Rattle.club_core.specs.Basis.{key_of}
-use Rattle.club_core.specs.Club.{Club, empty_club, member_named, IsSound}
-use Rattle.club_core.specs.Pass.{Words}
-use Rattle.club_core.specs.Run.{Event, Asked, step, replies_of, club_after, ToMember, Response}
-use Rattle.club_core.specs.Solo.{own_events, part_of, solo_replies}
-use Rattle.club_laws.specs.Conservation.{IsConserved, HasPlaces}
-use Rattle.club_core.specs.Events.{IsEvent}
-use Rattle.club_laws.specs.Failed.{Presentation, has_failed, IsRun, answered_events, answers}
-use Rattle.club_core.specs.Acceptance.{IsAcceptedIn}
-use Rattle.club_laws.specs.Repeats.{IsBookedOrCancelled}
-use Rattle.club_laws.specs.SoloLaw.{replies_to}
+use Rattle.club_laws.specs.{Conservation.{IsConserved, HasPlaces}, Failed.{Presentation, has_failed, IsRun, answered_events, answers}}
+use Rattle.club_laws.specs.{Repeats.IsBookedOrCancelled, SoloLaw.replies_to}
 
 -- the club at the end is sound
 abbrev pub SoundWithFailures : Type 0 → Type 0

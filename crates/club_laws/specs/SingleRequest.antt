@@ -2,17 +2,9 @@
 use Rattle.std.specs.Prelude.{◌≡◌, ℕ, List, ◌++◌, Option, Some, None, Result, Ok, Err}
 use Rattle.pass_caveats.specs.declared.caveat.Caveat.{Caveat}
 use Rattle.club_rows.specs.declared.key.Key.{Key}
-use Rattle.club_core.specs.declared.pass_fault.PassFault.{PassFault}
-use Rattle.club_core.specs.declared.refusal.Refusal.{Refusal}
-use Rattle.club_core.specs.declared.refusal.Refusal.TheVariants.{NotVerified}
-use Rattle.club_core.specs.declared.request.Request.{Request}
-use Rattle.club_core.specs.Acceptance.{IsServed, IsEntitled}
-use Rattle.club_core.specs.Answer.{form_refusal, verdict_in}
-use Rattle.club_core.specs.Basis.{basis_of}
-use Rattle.club_core.specs.Club.{Club, key_named}
-use Rattle.club_core.specs.Pass.{Pass, Words, IsSignedUnder}
-use Rattle.club_core.specs.Run.{Asked, step}
-use Rattle.club_core.specs.Verdict.{refusal_verdict}
+use Rattle.club_core.specs.{Acceptance.{IsServed, IsEntitled}, Answer.{form_refusal, verdict_in}, Basis.basis_of, Club.{Club, key_named}}
+use Rattle.club_core.specs.{Pass.{Pass, Words, IsSignedUnder}, Run.{Asked, step}, Verdict.refusal_verdict, declared.pass_fault.PassFault.PassFault}
+use Rattle.club_core.specs.declared.{refusal.Refusal.{Refusal, TheVariants.NotVerified}, request.Request.Request}
 
 -- if two clubs have the same basis for the same words, they give the same verdict at the same moment
 abbrev pub DependsOnTheBasisAlone : Type 0

@@ -1,11 +1,9 @@
 -- Example runs from the empty club, which compute: one member's requests, alone and among those of another (ours).
 use Rattle.std.specs.Prelude.{◌≡◌, true, List, [], ◌∷◌, ◌++◌, Some, Ok, codes}
-use Rattle.club_core.specs.declared.command.Command.TheVariants.{AddMember, Credit, AddKey, RevokeKey, CloseSlot, OpenSlot, SetQuota}
-use Rattle.club_core.specs.declared.request.Request.{Request}
-use Rattle.club_core.specs.declared.request.Request.TheVariants as asked
-use Rattle.club_core.specs.Club.{empty_club}
+use Rattle.club_core.specs.{Club.empty_club, Examples.{opening, root, slot_at, noon, ask, served_booking, account, served_cancellation}}
 use Rattle.club_core.specs.Run.{Event, Asked, Commanded, replies_of, EventReply}
-use Rattle.club_core.specs.Examples.{opening, root, slot_at, noon, ask, served_booking, account, served_cancellation}
+use Rattle.club_core.specs.declared.{command.Command.TheVariants.{AddMember, Credit, AddKey, RevokeKey, CloseSlot, OpenSlot, SetQuota}, request.Request.Request}
+use Rattle.club_core.specs.declared.request.Request.TheVariants as asked
 use Rattle.club_laws.specs.SoloLaw.{replies_to}
 
 -- the replies to amy's requests in a run that begins before she is a member

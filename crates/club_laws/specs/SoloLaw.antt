@@ -1,8 +1,6 @@
 -- A member's replies in a run are those of a machine that holds the member's part alone (ours).
 use Rattle.std.specs.Prelude.{◌≡◌, ℕ, Bool, true, false, List, [], ◌∷◌, map, if◌then◌else◌}
-use Rattle.club_core.specs.Club.{Club, IsSound}
-use Rattle.club_core.specs.After.{after}
-use Rattle.club_core.specs.Run.{Event, step, after_change, replies_of, club_after, ToMember}
+use Rattle.club_core.specs.{After.after, Club.{Club, IsSound}, Run.{Event, step, after_change, replies_of, club_after, ToMember}}
 use Rattle.club_core.specs.Solo.{OwnEvent, OwnAsk, OwnChange, own_part, own_events, part_of, solo_verdict, solo_replies}
 
 -- whether an event's entry among the member's own is a request

@@ -1,23 +1,13 @@
 -- Every club that a run reaches is sound, and each change fits (ours).
 use Rattle.std.specs.Prelude.{◌≡◌, ◌≢◌, ◌+◌, ◌≤◌, false, List, [], ◌∷◌, ◌++◌, map, sum_by, All, Contains, Some, Ok}
 use Rattle.club_values.specs.Moment.{IsMoment}
-use Rattle.club_rows.specs.declared.member.Member.{Member}
-use Rattle.club_rows.specs.declared.facility.Facility.{Facility}
-use Rattle.club_rows.specs.declared.key.Key.{Key}
-use Rattle.club_rows.specs.declared.booking.Booking.{Booking}
-use Rattle.club_rows.specs.Limits.{credited_limit, quota_limit, IsRoot}
-use Rattle.club_rows.specs.Rows.{IsMember, IsFacility, IsKey, IsSlot, IsBooking}
-use Rattle.club_core.specs.declared.change.Change.{Change}
-use Rattle.club_core.specs.declared.change.Change.TheVariants.{InsertMember, AddCredit, InsertFacility, InsertKey, MarkRevoked, ReplaceRoot, MarkClosed}
-use Rattle.club_core.specs.declared.change.Change.TheVariants.{MarkOpen, ReplaceQuota, InsertBooking, MarkCancelled}
-use Rattle.club_core.specs.After.{after}
-use Rattle.club_core.specs.Answer.{verdict_in}
-use Rattle.club_core.specs.Club.{Club, empty_club, IsSound, bookings_of, is_closed, member_named, facility_named, key_named}
-use Rattle.club_core.specs.Office.{office_verdict}
-use Rattle.club_core.specs.Run.{Event, Asked, Commanded, step, club_after}
-use Rattle.club_core.specs.Events.{IsEvent}
-use Rattle.club_core.specs.Store.{FitsClub}
-use Rattle.club_core.specs.Sums.{booking_under, cost_of, taken_in}
+use Rattle.club_rows.specs.{Limits.{credited_limit, quota_limit, IsRoot}, Rows.{IsMember, IsFacility, IsKey, IsSlot, IsBooking}}
+use Rattle.club_rows.specs.declared.{booking.Booking.Booking, facility.Facility.Facility, key.Key.Key, member.Member.Member}
+use Rattle.club_core.specs.{After.after, Answer.verdict_in, Club.{Club, empty_club, IsSound, bookings_of, is_closed, member_named, facility_named, key_named}}
+use Rattle.club_core.specs.{Events.IsEvent, Office.office_verdict, Run.{Event, Asked, Commanded, step, club_after}, Store.FitsClub}
+use Rattle.club_core.specs.{Sums.{booking_under, cost_of, taken_in}, declared.change.Change.{Change, TheVariants.{InsertMember, AddCredit, InsertFacility}}}
+use Rattle.club_core.specs.declared.change.Change.TheVariants.{InsertKey, MarkRevoked, ReplaceRoot, MarkClosed, MarkOpen, ReplaceQuota, InsertBooking}
+use Rattle.club_core.specs.declared.change.Change.TheVariants.{MarkCancelled}
 
 -- the club that a run begins with
 abbrev pub EmptyIsSound : Type 0

@@ -1,10 +1,7 @@
 -- What a key has spent, beside what its member has used (ours).
 use Rattle.std.specs.Prelude.{◌≡◌, ℕ, ◌-◌, ◌≤◌, List, sum_by, Contains, Some}
 use Rattle.club_rows.specs.declared.key.Key.{Key}
-use Rattle.club_core.specs.declared.account.MemberAccount.{MemberAccount}
-use Rattle.club_core.specs.Basis.{account_named}
-use Rattle.club_core.specs.Club.{Club, IsSound, bookings_of}
-use Rattle.club_core.specs.Sums.{cost_of, spent_under}
+use Rattle.club_core.specs.{Basis.account_named, Club.{Club, IsSound, bookings_of}, Sums.{cost_of, spent_under}, declared.account.MemberAccount.MemberAccount}
 
 -- no key has spent more than its member has used: what the bookings of all its keys have cost
 abbrev pub SpendsWithinItsMember : Type 0

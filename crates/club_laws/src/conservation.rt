@@ -1,7 +1,7 @@
 //! Points are neither made nor lost, and no slot is overbooked.
 
-ghost use Rattle.club_laws.specs.Conservation.{ConservesPoints, NeverOverbooks, SoundClubsHavePlaces};
-ghost use Rattle.club_laws.specs.ExampleRuns.{CountsEachOnce};
+ghost use Rattle.club_laws.specs.Conservation.{ConservesPoints, NeverOverbooks};
+ghost use Rattle.club_laws.specs.{Conservation.SoundClubsHavePlaces, ExampleRuns.CountsEachOnce};
 
 /// A charge and a refund count once, however often a reply repeats them.
 pub fn counts_each_once()

@@ -1,7 +1,8 @@
 //! Runs in which some events failed, because memory or storage was refused. `O` is the type
 //! of a desk's answers to the office.
 
-ghost use Rattle.club_laws.specs.Failed.{CutsRuns, JoinsRuns, LeavesEvents, LeavesOutFailed, NeverUnavailable, RunsWithoutFailures};
+ghost use Rattle.club_laws.specs.Failed.{CutsRuns, JoinsRuns, LeavesEvents, LeavesOutFailed};
+ghost use Rattle.club_laws.specs.Failed.{NeverUnavailable, RunsWithoutFailures};
 ghost use Rattle.club_laws.specs.FailedExample.{LeavesOutFailedEvents};
 
 /// A run in which some events failed has the responses and the end of the list without them.

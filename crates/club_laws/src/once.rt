@@ -1,7 +1,7 @@
 //! A served booking or cancellation takes place once.
 
-ghost use Rattle.club_laws.specs.Repeats.{RepeatsReturnTheSame, RepeatsMayBeLeftOut};
 ghost use Rattle.club_laws.specs.ExampleRuns.{AcceptsARepeat};
+ghost use Rattle.club_laws.specs.Repeats.{RepeatsReturnTheSame, RepeatsMayBeLeftOut};
 
 use club_core::laws::tests_the_signature;
 use pass_caveats::laws::tests_the_set;

@@ -1,15 +1,10 @@
 //! The laws over runs in which some events failed, as statements about the responses. `O` is the
 //! type of a desk's answers to the office.
 
-ghost use Rattle.club_laws.specs.RunsWithFailures.{
-  ConservesWithFailures,
-  PlacesWithFailures,
-  SoloLawWithFailures,
-  SoloLawOfTwoWithFailures,
-  SoundWithFailures,
-  RepeatsAfterOneMore,
-  RepeatsWithFailures,
-};
+ghost use Rattle.club_laws.specs.RunsWithFailures.{ConservesWithFailures, PlacesWithFailures};
+ghost use Rattle.club_laws.specs.RunsWithFailures.{SoloLawWithFailures, SoloLawOfTwoWithFailures};
+ghost use Rattle.club_laws.specs.RunsWithFailures.{SoundWithFailures, RepeatsAfterOneMore};
+ghost use Rattle.club_laws.specs.RunsWithFailures.{RepeatsWithFailures};
 
 use club_core::laws::tests_the_signature;
 use pass_caveats::laws::tests_the_set;

@@ -1,14 +1,9 @@
 //! Laws of a single request: what its reply depends on, and when it is served.
 
-ghost use Rattle.club_laws.specs.SingleRequest.{
-  AnswersFormsAlike,
-  DependsOnTheBasisAlone,
-  MoreCaveatsNeverOpenMore,
-  RefusesTheUnsigned,
-  RefusesWithoutABasis,
-  ServesOnlyTheEntitled,
-};
-ghost use Rattle.club_laws.specs.Revoked.{ServesNoRevokedKey};
+ghost use Rattle.club_laws.specs.{Revoked.ServesNoRevokedKey, SingleRequest.AnswersFormsAlike};
+ghost use Rattle.club_laws.specs.SingleRequest.{DependsOnTheBasisAlone, MoreCaveatsNeverOpenMore};
+ghost use Rattle.club_laws.specs.SingleRequest.{RefusesTheUnsigned, RefusesWithoutABasis};
+ghost use Rattle.club_laws.specs.SingleRequest.{ServesOnlyTheEntitled};
 
 use club_core::laws::tests_the_signature;
 use pass_caveats::laws::tests_the_set;

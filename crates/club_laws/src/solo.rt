@@ -1,6 +1,7 @@
 //! A member's replies in a run are those of a machine that holds the member's part alone.
 
-ghost use Rattle.club_laws.specs.SoloExamples.{AnswersAmyAlone, AnswersAmyAmongOthers, ShowsAmyATakenPlace};
+ghost use Rattle.club_laws.specs.SoloExamples.{AnswersAmyAlone, AnswersAmyAmongOthers};
+ghost use Rattle.club_laws.specs.SoloExamples.{ShowsAmyATakenPlace};
 ghost use Rattle.club_laws.specs.SoloLaw.{EndsWithThePart, SoloLaw, SoloLawOfTwo};
 
 /// The replies to a member's requests follow from the member's part and own events alone.

@@ -1,12 +1,7 @@
 //! Every club that a run reaches is sound, and each change fits.
 
-ghost use Rattle.club_laws.specs.SoundRuns.{
-  ChangesFit,
-  EmptyIsSound,
-  RunsKeepSound,
-  StepsKeepSound,
-  SuitingChangesKeepSound,
-};
+ghost use Rattle.club_laws.specs.SoundRuns.{ChangesFit, EmptyIsSound, RunsKeepSound};
+ghost use Rattle.club_laws.specs.SoundRuns.{StepsKeepSound, SuitingChangesKeepSound};
 
 /// The empty club is sound.
 pub fn empty_is_sound()

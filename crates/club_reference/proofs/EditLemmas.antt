@@ -1,7 +1,7 @@
 -- Edits of each element of a list, one after the other.
 use Rattle.std.proofs.Common.{◌≡◌, ℕ, ◌+◌, ◌<◌, zero, suc, List, [], ◌∷◌, ◌++◌, length, take, drop, get_or, set, refl, arith, ◌∙◌, sym, ap, subst, add-one}
-use Rattle.std.specs.Prelude.{map, All}
 use Rattle.std.proofs.lemmas.List.{get_or-map, length-map}
+use Rattle.std.specs.Prelude.{map, All}
 
 -- the elements before this index are edited, and the others are unchanged
 abbrev pub edited : {X : Type 0} → (X → X) → ℕ → List X → List X

@@ -1,44 +1,21 @@
 -- A club's numbers keep within their widths: in each change, in a member's part, and after each step.
 use Rattle.std.proofs.Common.{◌≡◌, ℕ, Bool, true, List, [], ◌∷◌, refl, arith, subst, ◌+◌, ◌-◌, ◌≤◌, cond, ◌++◌, ◌<◌, false, length, get_or, ◌∙◌, sym, ap}
-use Rattle.std.proofs.lemmas.Option.{same_Some}
-use Rattle.std.proofs.lemmas.Bool.{cond_both, and_parts}
-use Rattle.std.proofs.lemmas.List.Elements.{All-head, All-tail, All-filter, All-push, All-cons}
-use Rattle.std.specs.Prelude.{Option, Some, find, filter, map, All, option_map, fold, sum_by, None, not, Result, Ok, Err}
-use Rattle.std.specs.List.{list_any}
-use Rattle.std.specs.Str.{bytes_eq}
+use Rattle.std.proofs.lemmas.{Bool.{cond_both, and_parts, Decides.nat_tests}, List.{get_or-map, length-map}}
+use Rattle.std.proofs.lemmas.{List.{Elements.{All-head, All-tail, All-filter, All-push, All-cons}, Folds.find-append, Sums.sum_by-cons}, Option.same_Some}
 use Rattle.std.proofs.lemmas.Slice.Eq.{bytes_eq-Decides}
-use Rattle.std.proofs.lemmas.List.Sums.{sum_by-cons}
-use Rattle.std.proofs.lemmas.List.Folds.{find-append}
-use Rattle.std.proofs.lemmas.List.{get_or-map, length-map}
+use Rattle.std.specs.{List.list_any, Prelude.{Option, Some, find, filter, map, All, option_map, fold, sum_by, None, not, Result, Ok, Err}, Str.bytes_eq}
 use Rattle.club_values.specs.declared.slot.Slot.{Slot}
+use Rattle.club_rows.specs.{Booking.{same_slot, persons_of}, Facility.charge_of, declared.{booking.Booking.Booking, facility.Facility.Facility, key.Key.Key}}
 use Rattle.club_rows.specs.declared.member.Member.{Member}
-use Rattle.club_rows.specs.declared.facility.Facility.{Facility}
-use Rattle.club_rows.specs.declared.booking.Booking.{Booking}
-use Rattle.club_core.specs.declared.change.Change.TheVariants.{InsertMember, AddCredit, InsertFacility, InsertBooking, MarkCancelled, InsertKey, MarkRevoked}
-use Rattle.club_core.specs.declared.change.Change.TheVariants.{ReplaceRoot, MarkClosed, MarkOpen, ReplaceQuota}
-use Rattle.club_rows.specs.Booking.{same_slot, persons_of}
-use Rattle.club_core.specs.Club.{Club, member_named, is_key_of, facility_named, key_named, bookings_of}
-use Rattle.club_core.specs.Sums.{is_in, taken_in, cost_of, is_under, spent_under, balance_of}
-use Rattle.club_core.specs.After.{after, credited_member, member_with_quota, cancelled_booking}
-use Rattle.club_reference.specs.Widths.{FitsWidths}
-use Rattle.club_core.specs.Solo.{part_of, with_others, solo_verdict}
-use Rattle.club_rows.specs.declared.key.Key.{Key}
+use Rattle.club_core.specs.{After.{after, credited_member, member_with_quota, cancelled_booking}, Answer.{answer_to, answer_by_basis}}
+use Rattle.club_core.specs.{Basis.{Basis, view_of, basis_of}, Club.{Club, member_named, is_key_of, facility_named, key_named, bookings_of}}
+use Rattle.club_core.specs.{Office.office_verdict, Pass.{Pass, Words}, Request.request_slot, Run.after_change, Solo.{part_of, with_others, solo_verdict}}
+use Rattle.club_core.specs.{Sums.{is_in, taken_in, cost_of, is_under, spent_under, balance_of}, Verdict.{new_booking, verdict_of}}
+use Rattle.club_core.specs.declared.change.Change.{Change, TheVariants.{InsertMember, AddCredit, InsertFacility, InsertBooking, MarkCancelled, InsertKey}}
+use Rattle.club_core.specs.declared.{change.Change.TheVariants.{MarkRevoked, ReplaceRoot, MarkClosed, MarkOpen, ReplaceQuota}, command.Command.Command}
+use Rattle.club_core.specs.declared.{command.OfficeFault.OfficeFault, pass_fault.PassFault.PassFault, request.Request.Request, slot_use.SlotUse.SlotUse}
 use Rattle.club_core.specs.declared.view.View.{View}
-use Rattle.club_core.specs.declared.change.Change.{Change}
-use Rattle.club_core.specs.declared.request.Request.{Request}
-use Rattle.club_rows.specs.Facility.{charge_of}
-use Rattle.club_core.specs.declared.pass_fault.PassFault.{PassFault}
-use Rattle.club_core.specs.Pass.{Pass, Words}
-use Rattle.club_core.specs.Verdict.{new_booking, verdict_of}
-use Rattle.club_core.specs.Basis.{Basis, view_of, basis_of}
-use Rattle.club_core.specs.Request.{request_slot}
-use Rattle.club_core.specs.declared.slot_use.SlotUse.{SlotUse}
-use Rattle.club_core.specs.Answer.{answer_to, answer_by_basis}
-use Rattle.std.proofs.lemmas.Bool.Decides.{nat_tests}
-use Rattle.club_core.specs.declared.command.Command.{Command}
-use Rattle.club_core.specs.declared.command.OfficeFault.{OfficeFault}
-use Rattle.club_core.specs.Office.{office_verdict}
-use Rattle.club_core.specs.Run.{after_change}
+use Rattle.club_reference.specs.Widths.{FitsWidths}
 use Rattle.club_core.specs.declared.request.Request.TheVariants as asked
 use Rattle.club_core.specs.declared.command.Command.TheVariants as commands
 

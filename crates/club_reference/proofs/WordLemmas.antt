@@ -1,32 +1,14 @@
 -- The computed model of words is their model; and what is answered by a key's view is answered by its basis.
-use Rattle.std.proofs.Common.{arith, ◌≡◌, ℕ, List, [], ◌∷◌, map, Option, Some, None, refl, sym, ap, subst, Decides}
-use Rattle.std.proofs.Math.Path.{fun_ext}
-use Rattle.std.specs.Prelude.{Contains, Result, Ok, Err, option_map}
-use Rattle.std.specs.List.{list_any}
-use Rattle.std.specs.Str.{bytes_eq}
-use Rattle.std.specs.Vec.{vec_items}
-use Rattle.std.proofs.lemmas.Bool.Decides.{same_from_decides, Decides-like, Decides-by_or}
-use Rattle.std.proofs.lemmas.List.Elements.{at_from_Contains}
-use Rattle.std.proofs.lemmas.Slice.Eq.{bytes_eq-Decides}
-use Rattle.pass_caveats.specs.declared.caveat.Caveat.{Caveat}
-use Rattle.pass_caveats.specs.Caveat.{Understood}
-use Rattle.pass_caveats.specs.Fault.{AreUnderstoodAs}
-use Rattle.pass_caveats.specs.Laws.{ReadsWhatIsUnderstood}
-use Rattle.pass_caveats.specs.computed.CaveatOf.{caveat_of}
+use Rattle.std.proofs.{Common.{arith, ◌≡◌, ℕ, List, [], ◌∷◌, map, Option, Some, None, refl, sym, ap, subst, Decides}, Math.Path.fun_ext}
+use Rattle.std.proofs.lemmas.{Bool.Decides.{same_from_decides, Decides-like, Decides-by_or}, List.Elements.at_from_Contains, Slice.Eq.bytes_eq-Decides}
+use Rattle.std.specs.{List.list_any, Prelude.{Contains, Result, Ok, Err, option_map}, Str.bytes_eq, Vec.vec_items}
+use Rattle.pass_caveats.specs.{Caveat.Understood, Fault.AreUnderstoodAs, Laws.ReadsWhatIsUnderstood, computed.CaveatOf.caveat_of, declared.caveat.Caveat.Caveat}
 use Rattle.club_values.specs.Reading.{Reads}
-use Rattle.club_core.specs.declared.pass_fault.PassFault.{PassFault}
-use Rattle.club_core.specs.declared.request.Request.{Request}
-use Rattle.club_core.specs.declared.slot_use.SlotUse.{SlotUse}
-use Rattle.club_core.specs.Answer.{answer_to}
-use Rattle.club_core.specs.Basis.{Basis, seen_of}
-use Rattle.club_core.specs.Pass.{Pass, Words}
-use Rattle.club_core.specs.Solo.{with_others}
-use Rattle.club_reference.specs.declared.words.Pass.{Pass as PassInCode}
+use Rattle.club_core.specs.{Answer.answer_to, Basis.{Basis, seen_of}, Pass.{Pass, Words}, Solo.with_others, declared.pass_fault.PassFault.PassFault}
+use Rattle.club_core.specs.declared.{request.Request.Request, slot_use.SlotUse.SlotUse}
+use Rattle.club_reference.specs.{Laws.ModelsWords, Solo.with_outside, Words.{IsModelOf, IsPassModel, IsResultModel, answer_seen}}
+use Rattle.club_reference.specs.{computed.Words.{pass_model, pass_result_model, words_model}, declared.words.Pass.Pass as PassInCode}
 use Rattle.club_reference.specs.declared.words.Words.{Words as WordsInCode}
-use Rattle.club_reference.specs.Laws.{ModelsWords}
-use Rattle.club_reference.specs.Solo.{with_outside}
-use Rattle.club_reference.specs.Words.{IsModelOf, IsPassModel, IsResultModel, answer_seen}
-use Rattle.club_reference.specs.computed.Words.{pass_model, pass_result_model, words_model}
 
 Decides-signed : (roots : List (List ℕ)) (root : List ℕ) → Decides (list_any (λ other. bytes_eq other root) roots) (Contains roots root)
 Decides-signed roots root =

@@ -1,10 +1,7 @@
 -- Which changes need memory (ours): those that add a row.
 use Rattle.std.specs.Prelude.{ℕ, ◌+◌, ◌<◌, Bool, true, false, length}
-use Rattle.club_core.specs.declared.change.Change.{Change}
-use Rattle.club_core.specs.declared.change.Change.TheVariants.{InsertMember, AddCredit, InsertFacility, InsertKey, MarkRevoked, ReplaceRoot, MarkClosed}
-use Rattle.club_core.specs.declared.change.Change.TheVariants.{MarkOpen, ReplaceQuota, InsertBooking, MarkCancelled}
-use Rattle.club_core.specs.Club.{Club}
-use Rattle.club_core.specs.Run.{Event, step}
+use Rattle.club_core.specs.{Club.Club, Run.{Event, step}, declared.change.Change.{Change, TheVariants.{InsertMember, AddCredit, InsertFacility, InsertKey}}}
+use Rattle.club_core.specs.declared.change.Change.TheVariants.{MarkRevoked, ReplaceRoot, MarkClosed, MarkOpen, ReplaceQuota, InsertBooking, MarkCancelled}
 
 abbrev pub is_growth : Change → Bool
 is_growth (InsertMember member) = true

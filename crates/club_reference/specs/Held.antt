@@ -1,9 +1,6 @@
 -- A member's bookings, from lists of keys and bookings (ours).
-use Rattle.std.specs.Prelude.{ℕ, not, Bool, List, filter}
-use Rattle.std.specs.List.{list_any}
-use Rattle.std.specs.Str.{bytes_eq}
-use Rattle.club_rows.specs.declared.key.Key.{Key}
-use Rattle.club_rows.specs.declared.booking.Booking.{Booking}
+use Rattle.std.specs.{List.list_any, Prelude.{ℕ, not, Bool, List, filter}, Str.bytes_eq}
+use Rattle.club_rows.specs.declared.{booking.Booking.Booking, key.Key.Key}
 
 -- whether a key of this name is the member's
 abbrev pub is_held : List Key → List ℕ → List ℕ → Bool

@@ -1,9 +1,7 @@
 -- Laws of the definitions.
 use Rattle.std.specs.Prelude.{◌≡◌, ◌↔◌}
 use Rattle.club_core.specs.Pass.{Words}
-use Rattle.club_reference.specs.declared.words.Words.{Words as WordsInCode}
-use Rattle.club_reference.specs.Words.{IsModelOf}
-use Rattle.club_reference.specs.computed.Words.{words_model}
+use Rattle.club_reference.specs.{Words.IsModelOf, computed.Words.words_model, declared.words.Words.Words as WordsInCode}
 
 -- `words_model` is the one model of words
 abbrev pub ModelsWords : Type 0

@@ -1,6 +1,5 @@
 -- The club of the model, from the lists of rows (ours).
-use Rattle.club_core.specs.Club.{Club as Rows}
-use Rattle.club_core.specs.Run.{Outcome, EventReply}
+use Rattle.club_core.specs.{Club.Club as Rows, Run.{Outcome, EventReply}}
 use Rattle.club_reference.specs.declared.club.Club.TheInside.{Inside}
 
 abbrev pub rows_of : Inside → Rows

@@ -1,7 +1,6 @@
 -- What the solo machine sees (ours).
 use Rattle.std.specs.Prelude.{◌+◌}
-use Rattle.club_core.specs.declared.slot_use.SlotUse.{SlotUse}
-use Rattle.club_core.specs.declared.view.KeyView.{KeyView}
+use Rattle.club_core.specs.declared.{slot_use.SlotUse.SlotUse, view.KeyView.KeyView}
 
 -- a view with what others hold of the slot
 abbrev pub with_outside : SlotUse → KeyView → KeyView

@@ -1,12 +1,8 @@
 -- The numbers of a club fit the types that hold them (ours). This holds of the empty club, and each step preserves it.
 use Rattle.std.specs.Prelude.{◌≡◌, ℕ, ◌≤◌, false, List, Some, All}
 use Rattle.club_values.specs.declared.slot.Slot.{Slot}
-use Rattle.club_rows.specs.declared.member.Member.{Member}
-use Rattle.club_rows.specs.declared.facility.Facility.{Facility}
-use Rattle.club_rows.specs.declared.booking.Booking.{Booking}
-use Rattle.club_rows.specs.Limits.{credited_limit, places_limit}
-use Rattle.club_core.specs.Club.{Club, member_named}
-use Rattle.club_core.specs.Sums.{taken_in, spent_under}
+use Rattle.club_rows.specs.{Limits.{credited_limit, places_limit}, declared.{booking.Booking.Booking, facility.Facility.Facility, member.Member.Member}}
+use Rattle.club_core.specs.{Club.{Club, member_named}, Sums.{taken_in, spent_under}}
 
 pub record FitsWidths (club : Club) : Type 0 where
   -- points are credited up to this limit, to the one member of a name

@@ -1,17 +1,10 @@
 -- The models of the code's words: the words of the rules that they are, and their answers (ours).
-use Rattle.std.specs.Prelude.{◌≡◌, ◌↔◌, ℕ, List, map, Contains, IsTrue, Option, Some, None, Result, Ok, Err}
-use Rattle.std.specs.Vec.{vec_items}
+use Rattle.std.specs.{Prelude.{◌≡◌, ◌↔◌, ℕ, List, map, Contains, IsTrue, Option, Some, None, Result, Ok, Err}, Vec.vec_items}
 use Rattle.pass_caveats.specs.Fault.{AreUnderstoodAs, first_fault_of}
-use Rattle.club_core.specs.declared.pass_fault.PassFault.{PassFault}
-use Rattle.club_core.specs.declared.refusal.Refusal.TheVariants.{NotVerified}
-use Rattle.club_core.specs.declared.request.Request.{Request}
-use Rattle.club_core.specs.declared.verdict.Verdict.{Verdict}
+use Rattle.club_core.specs.{Answer.{answer_by_view, ask_of, form_refusal}, Pass.{Pass, Words, is_signed_under}, Verdict.refusal_verdict}
+use Rattle.club_core.specs.declared.{pass_fault.PassFault.PassFault, refusal.Refusal.TheVariants.NotVerified, request.Request.Request, verdict.Verdict.Verdict}
 use Rattle.club_core.specs.declared.view.KeyView.{KeyView}
-use Rattle.club_reference.specs.declared.words.Pass.{Pass as PassInCode}
-use Rattle.club_reference.specs.declared.words.Words.{Words as WordsInCode}
-use Rattle.club_core.specs.Answer.{answer_by_view, ask_of, form_refusal}
-use Rattle.club_core.specs.Pass.{Pass, Words, is_signed_under}
-use Rattle.club_core.specs.Verdict.{refusal_verdict}
+use Rattle.club_reference.specs.declared.words.{Pass.Pass as PassInCode, Words.Words as WordsInCode}
 
 -- the same key, each caveat as its text is understood, and signed under the listed roots
 pub record IsPassModel (pass : PassInCode) (model : Pass) : Type 0 where

@@ -9,8 +9,7 @@ use std::alloc::AllocError;
 
 impl Club {
     ghost use Rattle.club_core.specs.After.{after};
-    ghost use Rattle.club_reference.specs.Widths.{FitsWidths};
-    ghost use Rattle.club_reference.specs.Growth.{is_growth};
+    ghost use Rattle.club_reference.specs.{Growth.is_growth, Widths.FitsWidths};
 
     /// Makes a change. Only a new row needs memory; if it is refused, the club is unchanged.
     pub(crate) fn apply(&mut self, change: Change) -> Result<(), AllocError>

@@ -23,8 +23,7 @@ impl Model for Club {
 
     ghost Value = { Rows };
 
-    ghost use Rattle.club_reference.specs.Rows.{rows_of};
-    ghost use Rattle.club_reference.specs.Widths.{FitsWidths};
+    ghost use Rattle.club_reference.specs.{Rows.rows_of, Widths.FitsWidths};
 
     ghost view = { rows_of };
 

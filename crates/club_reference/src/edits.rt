@@ -1,8 +1,8 @@
 //! Changes of rows that are there: each changes all rows that match.
 
 ghost use Rattle.std.specs.Prelude.{◌≡◌, ◌≤◌, map, All};
-ghost use Rattle.club_rows.specs.declared.member.Member.{Member as MemberRow};
 ghost use Rattle.club_rows.specs.Limits.{credited_limit};
+ghost use Rattle.club_rows.specs.declared.member.Member.{Member as MemberRow};
 ghost use Rattle.club_core.specs.After as after;
 
 use club_rows::{Booking, BookingNumber, Key, Member, OlderRoot, Root};

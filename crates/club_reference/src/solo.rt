@@ -1,16 +1,14 @@
 //! The solo machine: it holds only one member's part of the club, and sees of others only what they
 //! hold of the slot of each request.
 
-ghost use Rattle.std.specs.Prelude.{◌≡◌, ◌≤◌, ◌<◌, ◌^◌, IfOk, IfSome, OnOk, OnErr, filter, option_map};
-ghost use Rattle.std.specs.Str.{bytes_eq};
-ghost use Rattle.club_rows.specs.declared.member.Member.{Member as MemberRow};
+ghost use Rattle.std.specs.Prelude.{◌≡◌, ◌≤◌, ◌<◌, ◌^◌, IfOk, IfSome, OnOk, OnErr, filter};
+ghost use Rattle.std.specs.{Prelude.option_map, Str.bytes_eq};
 ghost use Rattle.club_rows.specs.declared.key.Key.{Key as KeyRow};
+ghost use Rattle.club_rows.specs.declared.member.Member.{Member as MemberRow};
 ghost use Rattle.club_core.specs.Pass as rules;
 ghost use Rattle.club_core.specs.Sums as sums;
-ghost use Rattle.club_reference.specs.Growth.{Grows};
-ghost use Rattle.club_reference.specs.Held.{held_under, others_under};
-ghost use Rattle.club_reference.specs.Solo.{with_outside};
-ghost use Rattle.club_reference.specs.Words.{IsModelOf};
+ghost use Rattle.club_reference.specs.{Growth.Grows, Held.{held_under, others_under}};
+ghost use Rattle.club_reference.specs.{Solo.with_outside, Words.IsModelOf};
 ghost use Rattle.club_reference.specs.computed.Words.{words_model};
 
 use crate::club::{Club, copy_rows};

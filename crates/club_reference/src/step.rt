@@ -1,13 +1,10 @@
 //! Requests and commands: the machine's steps.
 
 ghost use Rattle.std.specs.Prelude.{◌≡◌, IfOk, OnErr};
-ghost use Rattle.club_core.specs.Answer.{verdict_in};
-ghost use Rattle.club_core.specs.Office.{office_verdict};
+ghost use Rattle.club_core.specs.{Answer.verdict_in, Office.office_verdict};
 ghost use Rattle.club_core.specs.Pass as rules;
 ghost use Rattle.club_core.specs.Run as machine;
-ghost use Rattle.club_reference.specs.Words.{IsModelOf};
-ghost use Rattle.club_reference.specs.Growth.{AddsRow};
-ghost use Rattle.club_reference.specs.Rows.{outcome};
+ghost use Rattle.club_reference.specs.{Growth.AddsRow, Rows.outcome, Words.IsModelOf};
 ghost use Rattle.club_reference.specs.computed.Words.{words_model};
 
 use crate::club::Club;

@@ -1,7 +1,6 @@
 //! A parsed pass, and the words of a request.
 
-ghost use Rattle.std.specs.Prelude.{◌≡◌};
-ghost use Rattle.std.specs.Option.{option_copied};
+ghost use Rattle.std.specs.{Option.option_copied, Prelude.{◌≡◌}};
 ghost use Rattle.club_core.specs.Pass as rules;
 
 use crate::laws::models_words;

@@ -1,9 +1,6 @@
 -- The persons of a booking, and its refund (ours).
-use Rattle.std.specs.Prelude.{ℕ, ◌+◌, ◌/◌, ◌==◌, ◌&&◌, Bool, nat_le, if◌then◌else◌}
-use Rattle.std.specs.Str.{bytes_eq}
-use Rattle.club_values.specs.declared.slot.Slot.{Slot}
-use Rattle.club_values.specs.Moment.{minutes_a_day}
-use Rattle.club_values.specs.Slot.{start_of}
+use Rattle.std.specs.{Prelude.{ℕ, ◌+◌, ◌/◌, ◌==◌, ◌&&◌, Bool, nat_le, if◌then◌else◌}, Str.bytes_eq}
+use Rattle.club_values.specs.{Moment.minutes_a_day, Slot.start_of, declared.slot.Slot.Slot}
 use Rattle.club_rows.specs.declared.booking.Booking.{Booking}
 
 abbrev pub same_slot : Slot → Slot → Bool

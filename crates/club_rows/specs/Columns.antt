@@ -1,15 +1,9 @@
 -- The rows that the values of columns represent (ours).
 use Rattle.std.specs.Prelude.{◌≡◌, ℕ, ◌≤◌, ℤ, pos, Bool, true, false, List}
-use Rattle.club_values.specs.declared.slot.Slot.{Slot}
-use Rattle.club_values.specs.Kind.{kind_text}
-use Rattle.club_rows.specs.declared.booking.Booking.{Booking}
-use Rattle.club_rows.specs.declared.booking.BookingColumns.{BookingColumns}
-use Rattle.club_rows.specs.declared.facility.Facility.{Facility}
-use Rattle.club_rows.specs.declared.facility.FacilityColumns.{FacilityColumns}
-use Rattle.club_rows.specs.declared.key.KeyRow.{KeyRow}
+use Rattle.club_values.specs.{Kind.kind_text, declared.slot.Slot.Slot}
+use Rattle.club_rows.specs.{Limits.charge_limit, Rows.{IsMember, IsFacility, IsKeyRow, IsSlot, IsBooking}, declared.booking.Booking.Booking}
+use Rattle.club_rows.specs.declared.{booking.BookingColumns.BookingColumns, facility.{Facility.Facility, FacilityColumns.FacilityColumns}, key.KeyRow.KeyRow}
 use Rattle.club_rows.specs.declared.member.Member.{Member}
-use Rattle.club_rows.specs.Limits.{charge_limit}
-use Rattle.club_rows.specs.Rows.{IsMember, IsFacility, IsKeyRow, IsSlot, IsBooking}
 
 abbrev pub truth : Bool → ℕ
 truth false = 0

@@ -1,8 +1,6 @@
 -- What a facility charges, and when it can be booked (ours).
 use Rattle.std.specs.Prelude.{ℕ, ◌+◌, ◌*◌, ◌&&◌, Bool, nat_lt, nat_le}
-use Rattle.club_values.specs.declared.slot.Slot.{Slot}
-use Rattle.club_values.specs.Moment.{minutes_a_day}
-use Rattle.club_values.specs.Slot.{start_of}
+use Rattle.club_values.specs.{Moment.minutes_a_day, Slot.start_of, declared.slot.Slot.Slot}
 use Rattle.club_rows.specs.declared.facility.Facility.{Facility}
 
 -- the price for the member and each guest

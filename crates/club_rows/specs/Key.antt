@@ -1,8 +1,6 @@
 -- The two parts of a key: its row, and its older root (ours).
 use Rattle.std.specs.Prelude.{ℕ, nat_lt, List, Option, Some, None, if◌then◌else◌}
-use Rattle.club_rows.specs.declared.key.Key.{Key}
-use Rattle.club_rows.specs.declared.key.KeyRow.{KeyRow}
-use Rattle.club_rows.specs.declared.key.OlderRoot.{OlderRoot}
+use Rattle.club_rows.specs.declared.key.{Key.Key, KeyRow.KeyRow, OlderRoot.OlderRoot}
 
 -- the older root, if the moment is strictly earlier than its end
 abbrev pub older_root_at : Option OlderRoot → ℕ → Option (List ℕ)

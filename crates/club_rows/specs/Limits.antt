@@ -1,8 +1,6 @@
 -- The limits of single values (ours).
 use Rattle.std.specs.Prelude.{ℕ, ◌-◌, ◌*◌, ◌≤◌, List, length}
-use Rattle.club_values.specs.Hour.{hours_a_day}
-use Rattle.club_values.specs.Number.{number_limit}
-use Rattle.club_values.specs.Slot.{guests_limit}
+use Rattle.club_values.specs.{Hour.hours_a_day, Number.number_limit, Slot.guests_limit}
 
 -- the most points that a member is ever credited, and the most bookings that a member may have open
 abbrev pub credited_limit : ℕ

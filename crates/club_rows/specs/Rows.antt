@@ -1,18 +1,9 @@
 -- The limits of the club's rows (ours).
 use Rattle.std.specs.Prelude.{◌≡◌, false, ◌<◌, ◌≤◌, IfSome}
-use Rattle.club_values.specs.declared.slot.Slot.{Slot}
-use Rattle.club_values.specs.Name.{IsName}
-use Rattle.club_values.specs.Day.{IsDay}
-use Rattle.club_values.specs.Hour.{IsHour}
-use Rattle.club_values.specs.Moment.{IsMoment}
-use Rattle.club_rows.specs.declared.member.Member.{Member}
-use Rattle.club_rows.specs.declared.facility.Facility.{Facility}
-use Rattle.club_rows.specs.declared.key.Key.{Key}
-use Rattle.club_rows.specs.declared.key.KeyRow.{KeyRow}
-use Rattle.club_rows.specs.declared.key.OlderRoot.{OlderRoot}
-use Rattle.club_rows.specs.declared.booking.Booking.{Booking}
+use Rattle.club_values.specs.{Day.IsDay, Hour.IsHour, Moment.IsMoment, Name.IsName, declared.slot.Slot.Slot}
 use Rattle.club_rows.specs.Limits.{credited_limit, quota_limit, places_limit, price_limit, shutting_limit, charge_limit, left_limit, IsBookingNumber, IsGuests}
-use Rattle.club_rows.specs.Limits.{IsRoot}
+use Rattle.club_rows.specs.{Limits.IsRoot, declared.{booking.Booking.Booking, facility.Facility.Facility, key.{Key.Key, KeyRow.KeyRow, OlderRoot.OlderRoot}}}
+use Rattle.club_rows.specs.declared.member.Member.{Member}
 
 pub record IsMember (member : Member) : Type 0 where
   pub name : IsName member.name

@@ -52,8 +52,7 @@ pub struct BookingColumns<'a> {
 }
 
 impl Booking {
-    ghost use Rattle.club_rows.specs.Booking.{refund_at};
-    ghost use Rattle.club_rows.specs.Columns.{IsBookingOf};
+    ghost use Rattle.club_rows.specs.{Booking.refund_at, Columns.IsBookingOf};
 
     /// The points refunded for a cancellation at this moment, if the slot hasn't begun: all of them
     /// a day or more ahead, else half of them, rounded down.

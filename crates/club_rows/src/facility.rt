@@ -43,8 +43,7 @@ pub struct FacilityColumns<'a> {
 }
 
 impl Facility {
-    ghost use Rattle.club_rows.specs.Columns.{IsFacilityOf};
-    ghost use Rattle.club_rows.specs.Facility.{charge_of, is_open_at};
+    ghost use Rattle.club_rows.specs.{Columns.IsFacilityOf, Facility.{charge_of, is_open_at}};
 
     /// The charge of a booking with so many guests, in points.
     pub fn charge(&self, guests: Guests) -> u32

@@ -1,7 +1,6 @@
 //! Keys, their roots and their columns.
 
-ghost use Rattle.std.specs.Prelude.{◌≡◌};
-ghost use Rattle.std.specs.Option.{option_copied};
+ghost use Rattle.std.specs.{Option.option_copied, Prelude.{◌≡◌}};
 ghost use Rattle.club_values.specs.Reading.{Reads};
 
 use crate::columns::truth_of;

@@ -1,24 +1,15 @@
 -- What a crash leaves, and what an opening makes of it.
-use Rattle.std.proofs.Common.{◌≡◌, List, [], ◌∷◌, length, IsTrue, inl, inr, map, refl, sym, ap, subst, arith}
+use Rattle.std.proofs.{Common.{◌≡◌, List, [], ◌∷◌, length, IsTrue, inl, inr, map, refl, sym, ap, subst, arith}, Math.Logic.{∥∥₁_map}}
 use Rattle.std.specs.List.{AllZip}
-use Rattle.std.proofs.Math.Logic.{∥∥₁_map}
 use Rattle.sqlite_catalog.specs.Listing.{IsSound, AreListed, IsTableRow, IsIndexRow, IsViewRow, cut}
 use Rattle.sqlite_catalog.proofs.ReadLemmas.{reads, read_once}
 use Rattle.sqlite_trees.specs.Objects.{catalog_tree}
 use Rattle.sqlite_disk.specs.declared.Disk.{Ghosts}
-use Rattle.sqlite.specs.declared.FileStore.{FileStore}
-use Rattle.sqlite.specs.FileStore.{recovers}
-use Rattle.sqlite.specs.Start.{FindsIn}
-use Rattle.sqlite.specs.Recovery.{Image}
-use Rattle.sqlite.specs.Schema.{Schema}
-use Rattle.sqlite.specs.Tree.{Trees}
-use Rattle.sqlite.specs.Effect.{Database, IsDatabase}
-use Rattle.sqlite.specs.Held.{AreDatabases}
-use Rattle.sqlite.specs.State.{State, Opens, IsLive}
+use Rattle.sqlite.specs.{Effect.{Database, IsDatabase}, FileStore.recovers, Held.AreDatabases, Recovery.Image, Schema.Schema, Start.FindsIn}
+use Rattle.sqlite.specs.{State.{State, Opens, IsLive}, Tree.Trees, declared.FileStore.FileStore}
 use Rattle.sqlite.proofs.Theorems.{opens_again}
 use Rattle.club_core.specs.Club.{Club, empty_club}
-use Rattle.club_tables.specs.Schema.{no_schema}
-use Rattle.club_tables.specs.Tables.{HoldsClubAnyVersion, IsLeftOf, Represents, IsFound}
+use Rattle.club_tables.specs.{Schema.no_schema, Tables.{HoldsClubAnyVersion, IsLeftOf, Represents, IsFound}}
 use Rattle.club_store.specs.Crash.{RepresentsOne, OneIsFound, HoldsOneOf, CrashLeaves}
 
 -- every crash leaves what was committed last

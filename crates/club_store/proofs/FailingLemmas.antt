@@ -1,16 +1,8 @@
 -- What fails after a reading has failed since before it; and a change keeps the clubs sound.
 use Rattle.std.specs.Prelude.{Option, Some, None, Result, Ok, Err, IfErr}
-use Rattle.std.proofs.Common.{arith, [], ◌∷◌, Ok, Err}
-use Rattle.std.proofs.lemmas.Result.{MatchResult-weaker}
-use Rattle.std.proofs.lemmas.List.Elements.{All-cons, All-head, All-nil, All-tail}
-use Rattle.club_core.specs.After.{after}
-use Rattle.sqlite.specs.Store.{Ghosts}
-use Rattle.sqlite.specs.State.{HasCleanDisk}
-use Rattle.sqlite.specs.Held.{Held, state}
-use Rattle.club_core.specs.declared.change.Change.{Change}
-use Rattle.club_core.specs.declared.store.StoreFault.{StoreFault}
-use Rattle.club_core.specs.Club.{Club, IsSound}
-use Rattle.club_core.specs.Store.{Changes, ReadsStore}
+use Rattle.std.proofs.{Common.{arith, [], ◌∷◌, Ok, Err}, lemmas.{List.Elements.{All-cons, All-head, All-nil, All-tail}, Result.MatchResult-weaker}}
+use Rattle.club_core.specs.{After.after, Club.{Club, IsSound}, Store.{Changes, ReadsStore}, declared.{change.Change.Change, store.StoreFault.StoreFault}}
+use Rattle.sqlite.specs.{Held.{Held, state}, State.HasCleanDisk, Store.Ghosts}
 use Rattle.club_tables.specs.ReadsAndChanges.{ChangesClub, ReadsClub, sound_in, represents_in}
 use Rattle.club_store.specs.Failing.{Fails}
 use Rattle.club_store.proofs.ReadingLemmas.{change_fault, later_fault}

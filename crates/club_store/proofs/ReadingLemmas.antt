@@ -1,18 +1,11 @@
 -- Readings in turn, and a change after a reading.
 use Rattle.std.proofs.Common.{◌≡◌, Result, Ok, Err, IfOk, IsErrAnd, refl, inl, inr, sym, ◌∙◌, arith}
 use Rattle.std.proofs.lemmas.Result.{IfOk-weaker, IfErr-weaker, err_from_is_err_and}
-use Rattle.sqlite.specs.Store.{Ghosts}
-use Rattle.sqlite.specs.State.{State, HasCleanDisk}
-use Rattle.sqlite.specs.Held.{Held, state}
+use Rattle.sqlite.specs.{Held.{Held, state}, State.{State, HasCleanDisk}, Store.Ghosts}
 use Rattle.sqlite.proofs.StateLemmas.{survives_then}
-use Rattle.club_core.specs.declared.change.Change.{Change}
-use Rattle.club_core.specs.Club.{Club}
-use Rattle.club_core.specs.declared.store.StoreFault.{StoreFault}
-use Rattle.club_tables.specs.Transaction.{IsUntouched}
-use Rattle.club_tables.specs.Answers.{IsAfterReadings, IsReadFault}
-use Rattle.club_store.specs.Opening.{SurvivesOpening}
-use Rattle.club_store.specs.Failing.{FailsToChange}
-use Rattle.club_tables.specs.ReadsAndChanges.{ReadsClub}
+use Rattle.club_core.specs.{Club.Club, declared.{change.Change.Change, store.StoreFault.StoreFault}}
+use Rattle.club_tables.specs.{Answers.{IsAfterReadings, IsReadFault}, ReadsAndChanges.ReadsClub, Transaction.IsUntouched}
+use Rattle.club_store.specs.{Failing.FailsToChange, Opening.SurvivesOpening}
 
 pub untouched_then : (a b c : State) → (HasCleanDisk c → HasCleanDisk b) → IsUntouched a b → IsUntouched b c → IsUntouched a c
 untouched_then a b c earlier first next rest clean is_open =

@@ -1,21 +1,12 @@
 -- What the parts of a view make together.
-use Rattle.std.proofs.Common.{◌≡◌, ℕ, suc, Bool, true, List, [], ◌∷◌, Option, Some, None, refl, sym, ap, subst, ◌∙◌, arith, inl, inr}
-use Rattle.std.specs.Prelude.{find, Contains, option_map, option_and_then}
-use Rattle.std.specs.Str.{bytes_eq}
+use Rattle.std.proofs.{Common.{◌≡◌, ℕ, suc, Bool, true, List, [], ◌∷◌, Option, Some, None, refl, sym, ap, subst, ◌∙◌, arith, inl, inr}, lemmas.Bool.cases_Bool}
 use Rattle.std.proofs.lemmas.Slice.Eq.{bytes_eq-Decides}
-use Rattle.std.proofs.lemmas.Bool.{cases_Bool}
-use Rattle.club_rows.specs.declared.key.Key.{Key}
-use Rattle.club_rows.specs.declared.key.KeyRow.{KeyRow}
-use Rattle.club_rows.specs.declared.key.OlderRoot.{OlderRoot}
-use Rattle.club_rows.specs.declared.member.Member.{Member}
+use Rattle.std.specs.{Prelude.{find, Contains, option_map, option_and_then}, Str.bytes_eq}
+use Rattle.club_rows.specs.{Key.{key_of_row, row_of_key}, declared.{key.{Key.Key, KeyRow.KeyRow, OlderRoot.OlderRoot}, member.Member.Member}}
+use Rattle.club_core.specs.{Basis.{account_named, club_account, key_view_in, state_of}, Club.{Club, bookings_of, key_named, member_named}}
+use Rattle.club_core.specs.{Laws.{OwnBookings, HasOwnBookings}, Request.{request_number, request_slot}}
+use Rattle.club_core.specs.{Sums.{balance_of, booking_under, count_to_come, spent_under}, declared.account.MemberAccount.MemberAccount}
 use Rattle.club_core.specs.declared.request.Request.{Request}
-use Rattle.club_core.specs.Club.{Club, bookings_of, key_named, member_named}
-use Rattle.club_core.specs.Laws.{OwnBookings, HasOwnBookings}
-use Rattle.club_core.specs.declared.account.MemberAccount.{MemberAccount}
-use Rattle.club_core.specs.Request.{request_number, request_slot}
-use Rattle.club_core.specs.Basis.{account_named, club_account, key_view_in, state_of}
-use Rattle.club_core.specs.Sums.{balance_of, booking_under, count_to_come, spent_under}
-use Rattle.club_rows.specs.Key.{key_of_row, row_of_key}
 
 -- what is found is an element, and passes
 pub found : {X : Type 0} (p : X → Bool) (xs : List X) (x : X) → find p xs ≡ Some x → Contains xs x × (p x ≡ true)

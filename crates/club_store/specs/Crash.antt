@@ -1,14 +1,9 @@
 -- What a crash leaves of a store, and what reopening it recovers (ours).
 use Rattle.std.specs.Prelude.{List, [], ◌∷◌, ◌⊎◌, IsTrue}
 use Rattle.sqlite_disk.specs.declared.Disk as disk
+use Rattle.sqlite.specs.{Files.{HoldsDatabase, over_files}, Recovery.Image, State.{State, Opens, IsLive}, Store.Ghosts, Tree.Trees, View.IsClean}
 use Rattle.sqlite.specs.declared.FileStore.{FileStore}
 use Rattle.sqlite.specs.FileStore as file
-use Rattle.sqlite.specs.Store.{Ghosts}
-use Rattle.sqlite.specs.Tree.{Trees}
-use Rattle.sqlite.specs.View.{IsClean}
-use Rattle.sqlite.specs.Recovery.{Image}
-use Rattle.sqlite.specs.State.{State, Opens, IsLive}
-use Rattle.sqlite.specs.Files.{HoldsDatabase, over_files}
 use Rattle.club_core.specs.Club.{Club}
 use Rattle.club_tables.specs.Tables.{IsLeftOf, Represents, IsFound}
 

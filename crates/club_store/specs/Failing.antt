@@ -1,14 +1,8 @@
 -- How a call of a store fails (ours).
 use Rattle.std.specs.Prelude.{List, Option, Some, None}
-use Rattle.sqlite.specs.Store.{Ghosts}
-use Rattle.sqlite.specs.Held.{Held}
-use Rattle.club_core.specs.declared.change.Change.{Change}
-use Rattle.club_core.specs.declared.store.StoreFault.{StoreFault}
-use Rattle.club_core.specs.Club.{Club}
-use Rattle.club_core.specs.Store.{FitsClub}
-use Rattle.club_tables.specs.Answers.{IsReadFault}
-use Rattle.club_tables.specs.ChangeStatements.{statements_of}
-use Rattle.club_tables.specs.ReadsAndChanges.{IsChangeFault, IsRunFault, represents_in}
+use Rattle.sqlite.specs.{Held.Held, Store.Ghosts}
+use Rattle.club_core.specs.{Club.Club, Store.FitsClub, declared.{change.Change.Change, store.StoreFault.StoreFault}}
+use Rattle.club_tables.specs.{Answers.IsReadFault, ChangeStatements.statements_of, ReadsAndChanges.{IsChangeFault, IsRunFault, represents_in}}
 
 -- a change failed with this fault; if it fits the club, because of an error, and not for want of a row
 pub record FailsToChange {S : Type 0} (g : Ghosts S) (change : Change) (old : Held S) (fault : StoreFault) (new : Held S) : Type 0 where

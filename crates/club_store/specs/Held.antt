@@ -1,10 +1,7 @@
 -- A file that another program has open (ours).
 use Rattle.std.specs.Prelude.{◌≡◌, ◌≢◌, Option, None}
 use Rattle.sqlite_disk.specs.declared.Disk as disk
-use Rattle.sqlite.specs.declared.error.Error.{Error}
-use Rattle.sqlite.specs.declared.error.Error.TheVariants.{SqliteFailure}
-use Rattle.sqlite.specs.declared.error.ErrorCode.TheVariants.{DatabaseBusy}
-use Rattle.sqlite.specs.declared.file.Leftover.{Leftover}
+use Rattle.sqlite.specs.declared.{error.{Error.{Error, TheVariants.SqliteFailure}, ErrorCode.TheVariants.DatabaseBusy}, file.Leftover.Leftover}
 use Rattle.club_store.specs.declared.remains.Remains.{Remains}
 use Rattle.club_store.specs.declared.remains.Remains.TheVariants as remains
 

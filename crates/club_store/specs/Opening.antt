@@ -2,31 +2,15 @@
 use Rattle.std.specs.Prelude.{◌≡◌, ◌⊎◌, false, List, [], Option, None, IfSome, IsTrue}
 use Rattle.sqlite_disk.specs.declared.Disk as disk
 use Rattle.sqlite_disk.specs.declared.Files.{Files}
-use Rattle.sqlite.specs.declared.FileStore.{FileStore}
-use Rattle.sqlite.specs.declared.error.Error.{Error}
-use Rattle.sqlite.specs.declared.error.Error.TheVariants.{SqliteFailure}
-use Rattle.sqlite.specs.declared.error.ErrorCode.TheVariants.{CannotOpen, OutOfMemory}
+use Rattle.sqlite.specs.{Files.{over_files, file_state, image_of, IsOpened, IsCleanLeft, FailsToOpenFiles, LeavesFiles}, Held.{Held, state}, Recovery.Image}
+use Rattle.sqlite.specs.{Start.FindsIn, State.{HasCleanDisk, Survives}, Steps.{over_memory, IsEmpty}, Store.Ghosts, WalFiles.outcomes}
+use Rattle.sqlite.specs.declared.{FileStore.FileStore, error.{Error.{Error, TheVariants.SqliteFailure}, ErrorCode.TheVariants.{CannotOpen, OutOfMemory}}}
 use Rattle.sqlite.specs.declared.file.Leftover.{Leftover}
-use Rattle.sqlite.specs.Recovery.{Image}
-use Rattle.sqlite.specs.Store.{Ghosts}
-use Rattle.sqlite.specs.State.{HasCleanDisk, Survives}
-use Rattle.sqlite.specs.Held.{Held, state}
-use Rattle.sqlite.specs.Steps.{over_memory, IsEmpty}
-use Rattle.sqlite.specs.Files.{over_files, file_state, image_of, IsOpened, IsCleanLeft, FailsToOpenFiles, LeavesFiles}
-use Rattle.sqlite.specs.WalFiles.{outcomes}
-use Rattle.sqlite.specs.Start.{FindsIn}
-use Rattle.club_core.specs.Club.{Club, empty_club}
-use Rattle.club_core.specs.Store.{KeepsClub}
-use Rattle.club_core.specs.declared.store.StoreFault.{StoreFault}
-use Rattle.club_core.specs.declared.store.StoreFault.TheVariants.{Memory}
-use Rattle.club_tables.specs.Opening.{AcceptsTables, IsOpeningBatch, IsOpeningFault}
+use Rattle.club_core.specs.{Club.{Club, empty_club}, Store.KeepsClub, declared.store.StoreFault.{StoreFault, TheVariants.Memory}}
+use Rattle.club_tables.specs.{Opening.{AcceptsTables, IsOpeningBatch, IsOpeningFault}, ReadsAndChanges.found_in, Tables.{Represents, IsFound}}
 use Rattle.club_tables.specs.Transaction.{MayCommit, IsKept, fault_by}
-use Rattle.club_tables.specs.Tables.{Represents, IsFound}
-use Rattle.club_tables.specs.ReadsAndChanges.{found_in}
-use Rattle.club_store.specs.declared.remains.Remains.{Remains}
+use Rattle.club_store.specs.{Crash.{HoldsOneOf, IsOpenedOn, RepresentsOne, OneIsFound}, Held.busy, declared.remains.Remains.Remains}
 use Rattle.club_store.specs.declared.remains.Remains.TheVariants as remains
-use Rattle.club_store.specs.Held.{busy}
-use Rattle.club_store.specs.Crash.{HoldsOneOf, IsOpenedOn, RepresentsOne, OneIsFound}
 
 -- the possible crash states: those of before, and what the opening's one batch left
 abbrev pub SurvivesOpening : {S : Type 0} → Ghosts S → Held S → Held S → Type 0

@@ -7,8 +7,7 @@ use club_values::{Day, Moment, Name, Slot};
 use sqlite::Alter;
 
 impl<S: Alter> ClubStore for Store<S> {
-    ghost use Rattle.sqlite.specs.State.{HasCleanDisk};
-    ghost use Rattle.sqlite.specs.Held.{state};
+    ghost use Rattle.sqlite.specs.{Held.state, State.HasCleanDisk};
     ghost use Rattle.club_tables.specs.ReadsAndChanges.{sound_in};
     ghost use Rattle.club_store.specs.Failing.{Fails};
 

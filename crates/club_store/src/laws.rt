@@ -1,11 +1,8 @@
 //! Laws of stores. Each is the contract of a function that does nothing.
 
 ghost use Rattle.std.specs.Prelude.{List};
-ghost use Rattle.sqlite.specs.Held.{state};
-ghost use Rattle.sqlite.specs.State.{HasCleanDisk};
+ghost use Rattle.sqlite.specs.{Files.file_state, Held.state, Recovery.Image, State.HasCleanDisk};
 ghost use Rattle.sqlite.specs.Steps.{over_memory};
-ghost use Rattle.sqlite.specs.Recovery.{Image};
-ghost use Rattle.sqlite.specs.Files.{file_state};
 ghost use Rattle.club_core.specs.Club.{Club};
 ghost use Rattle.club_store.specs.Crash.{CrashLeaves, HoldsOneOf, RepresentsOne};
 ghost use Rattle.club_store.specs.Opening.{OpensFrom};

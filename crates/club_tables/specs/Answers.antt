@@ -1,42 +1,15 @@
 -- What the rows of a query are decoded to, whatever the tables hold, and why a read fails (ours).
-use Rattle.std.specs.Prelude.{◌≡◌, ◌⊎◌, ℕ, ◌<◌, ◌≤◌, ◌^◌, ◌/◌, List, [], ◌∷◌, length, sum_by, All}
-use Rattle.std.specs.Prelude.{Option, None, Result, IfOk, IfErr, IsSomeAnd}
-use Rattle.sqlite_value.specs.declared.value.Value.TheVariants.{Text}
-use Rattle.sqlite_value.specs.Order.{Row}
-use Rattle.sqlite.specs.Store.{Ghosts}
-use Rattle.sqlite.specs.State.{HasCleanDisk}
-use Rattle.sqlite.specs.Held.{Held, state}
-use Rattle.club_values.specs.Moment.{minutes_a_day}
-use Rattle.club_values.specs.declared.slot.Slot.{Slot}
-use Rattle.club_rows.specs.declared.facility.Facility.{Facility}
-use Rattle.club_rows.specs.declared.key.KeyRow.{KeyRow}
-use Rattle.club_rows.specs.declared.key.OlderRoot.{OlderRoot}
-use Rattle.club_rows.specs.declared.booking.Booking.{Booking}
-use Rattle.club_rows.specs.Key.{key_of_row}
-use Rattle.club_rows.specs.Limits.{places_limit}
-use Rattle.club_rows.specs.Rows.{IsFacility, IsKeyRow, IsOlderRoot, IsBooking}
-use Rattle.club_core.specs.declared.slot_use.SlotUse.{SlotUse}
-use Rattle.club_core.specs.declared.store.StoreFault.{StoreFault}
-use Rattle.club_core.specs.declared.store.StoreFault.TheVariants.{Memory, Storage}
-use Rattle.club_tables.specs.declared.row.MemberRow.{MemberRow}
+use Rattle.std.specs.Prelude.{◌≡◌, ◌⊎◌, ℕ, ◌<◌, ◌≤◌, ◌^◌, ◌/◌, List, [], ◌∷◌, length, sum_by, All, Option, None, Result, IfOk, IfErr, IsSomeAnd}
+use Rattle.sqlite_value.specs.{Order.Row, declared.value.Value.TheVariants.Text}
+use Rattle.sqlite.specs.{Held.{Held, state}, State.HasCleanDisk, Store.Ghosts}
+use Rattle.club_values.specs.{Moment.minutes_a_day, declared.slot.Slot.Slot}
+use Rattle.club_rows.specs.{Key.key_of_row, Limits.places_limit, Rows.{IsFacility, IsKeyRow, IsOlderRoot, IsBooking}, declared.booking.Booking.Booking}
+use Rattle.club_rows.specs.declared.{facility.Facility.Facility, key.{KeyRow.KeyRow, OlderRoot.OlderRoot}}
+use Rattle.club_core.specs.declared.{slot_use.SlotUse.SlotUse, store.StoreFault.{StoreFault, TheVariants.{Memory, Storage}}}
+use Rattle.club_tables.specs.Columns.{whole, HasValues, IsCostRow, cost_in, key_values, older_root_values, member_values, facility_values, booking_values}
+use Rattle.club_tables.specs.{Columns.{name_values, use_values}, Fault.FailsToAsk, Sheet.AreBookings, Stored.{IsMemberRow, no_slot_use}}
+use Rattle.club_tables.specs.{Transaction.{BoundStatement, Asked, IsUntouched}, declared.row.MemberRow.MemberRow}
 use Rattle.club_tables.specs.declared.texts.TheConstants.{KEY, OLDER_ROOT, MEMBER, FACILITY, SLOT, BOOKING, COSTS_UNDER_KEY, DAY, OPEN}
-use Rattle.club_tables.specs.Columns.{
-  whole,
-  HasValues,
-  IsCostRow,
-  cost_in,
-  key_values,
-  older_root_values,
-  member_values,
-  facility_values,
-  booking_values,
-  name_values,
-  use_values,
-}
-use Rattle.club_tables.specs.Sheet.{AreBookings}
-use Rattle.club_tables.specs.Stored.{IsMemberRow, no_slot_use}
-use Rattle.club_tables.specs.Transaction.{BoundStatement, Asked, IsUntouched}
-use Rattle.club_tables.specs.Fault.{FailsToAsk}
 
 -- the row decodes to a value: the value is within its limits, and the row has its columns
 abbrev pub IsKeyIn : Row → KeyRow → Type 0

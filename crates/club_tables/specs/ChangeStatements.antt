@@ -1,24 +1,15 @@
 -- The statements that make each change, with the values of their parameters (ours).
 use Rattle.std.specs.Prelude.{◌≡◌, ℕ, ℤ, pos, neg_ℤ, List, [], ◌∷◌, ◌++◌}
-use Rattle.sqlite_value.specs.declared.value.Value.TheVariants.{Int, Text, Blob}
-use Rattle.sqlite_value.specs.Order.{Row}
+use Rattle.sqlite_value.specs.{Order.Row, declared.value.Value.TheVariants.{Int, Text, Blob}}
 use Rattle.club_values.specs.declared.slot.Slot.{Slot}
+use Rattle.club_rows.specs.{Booking.persons_of, declared.{booking.Booking.Booking, facility.Facility.Facility, key.{Key.Key, OlderRoot.OlderRoot}}}
 use Rattle.club_rows.specs.declared.member.Member.{Member}
-use Rattle.club_rows.specs.declared.facility.Facility.{Facility}
-use Rattle.club_rows.specs.declared.key.Key.{Key}
-use Rattle.club_rows.specs.declared.key.OlderRoot.{OlderRoot}
-use Rattle.club_rows.specs.declared.booking.Booking.{Booking}
-use Rattle.club_rows.specs.Booking.{persons_of}
-use Rattle.club_core.specs.declared.change.Change.{Change}
-use Rattle.club_core.specs.declared.change.Change.TheVariants.{InsertMember, AddCredit, InsertFacility, InsertKey, MarkRevoked, ReplaceRoot, MarkClosed}
-use Rattle.club_core.specs.declared.change.Change.TheVariants.{MarkOpen, ReplaceQuota, InsertBooking, MarkCancelled}
-use Rattle.club_core.specs.Sums.{cost_of}
-use Rattle.club_tables.specs.declared.texts.TheConstants.{ADD_MEMBER, ADD_CREDIT, ADD_FACILITY, ADD_KEY, REVOKE_KEY, PUT_OLDER_ROOT, SET_ROOT, CLOSE_SLOT}
-use Rattle.club_tables.specs.declared.texts.TheConstants.{OPEN_SLOT, SET_QUOTA}
-use Rattle.club_tables.specs.declared.texts.TheConstants.{ADD_BOOKING, CANCEL_BOOKING, CHARGE, ADD_USED, ADD_TAKEN}
-use Rattle.club_tables.specs.Columns.{whole, facility_values, key_values, older_root_values, booking_values, name_values}
-use Rattle.club_tables.specs.Stored.{persons_taken}
-use Rattle.club_tables.specs.Transaction.{BoundStatement}
+use Rattle.club_core.specs.{Sums.cost_of, declared.change.Change.{Change, TheVariants.{InsertMember, AddCredit, InsertFacility, InsertKey, MarkRevoked}}}
+use Rattle.club_core.specs.declared.change.Change.TheVariants.{ReplaceRoot, MarkClosed, MarkOpen, ReplaceQuota, InsertBooking, MarkCancelled}
+use Rattle.club_tables.specs.{Columns.{whole, facility_values, key_values, older_root_values, booking_values, name_values}, Stored.persons_taken}
+use Rattle.club_tables.specs.{Transaction.BoundStatement, declared.texts.TheConstants.{ADD_MEMBER, ADD_CREDIT, ADD_FACILITY, ADD_KEY, REVOKE_KEY}}
+use Rattle.club_tables.specs.declared.texts.TheConstants.{PUT_OLDER_ROOT, SET_ROOT, CLOSE_SLOT, OPEN_SLOT, SET_QUOTA, ADD_BOOKING, CANCEL_BOOKING, CHARGE}
+use Rattle.club_tables.specs.declared.texts.TheConstants.{ADD_USED, ADD_TAKEN}
 
 -- a member, whose bookings have cost nothing
 abbrev pub adding_member : Member → List BoundStatement

@@ -1,19 +1,11 @@
 -- The values of a row's columns (ours). Whole numbers and truth values are integers, names and kinds texts, roots bytes.
 use Rattle.std.specs.Prelude.{◌≡◌, ℕ, ◌+◌, ◌-◌, ◌≤◌, ℤ, pos, Bool, List, [], ◌∷◌, ◌++◌, Option, Some, None, ⊤}
-use Rattle.sqlite_value.specs.declared.value.Value.{Value}
-use Rattle.sqlite_value.specs.declared.value.Value.TheVariants.{Int, Text, Blob}
-use Rattle.sqlite_value.specs.Order.{Row, column}
-use Rattle.club_values.specs.Kind.{kind_text}
-use Rattle.club_values.specs.declared.slot.Slot.{Slot}
-use Rattle.club_rows.specs.Columns.{truth}
-use Rattle.club_rows.specs.Limits.{charge_limit}
-use Rattle.club_rows.specs.declared.facility.Facility.{Facility}
-use Rattle.club_rows.specs.declared.key.Key.{Key}
+use Rattle.sqlite_value.specs.{Order.{Row, column}, declared.value.Value.{Value, TheVariants.{Int, Text, Blob}}}
+use Rattle.club_values.specs.{Kind.kind_text, declared.slot.Slot.Slot}
+use Rattle.club_rows.specs.{Columns.truth, Limits.charge_limit, declared.{booking.Booking.Booking, facility.Facility.Facility, key.Key.Key}}
 use Rattle.club_rows.specs.declared.key.OlderRoot.{OlderRoot}
-use Rattle.club_rows.specs.declared.booking.Booking.{Booking}
 use Rattle.club_core.specs.declared.slot_use.SlotUse.{SlotUse}
-use Rattle.club_tables.specs.declared.row.MemberRow.{MemberRow}
-use Rattle.club_tables.specs.Stored.{SlotRow, OlderRow}
+use Rattle.club_tables.specs.{Stored.{SlotRow, OlderRow}, declared.row.MemberRow.MemberRow}
 
 abbrev pub whole : ℕ → Value
 whole n = Int (pos n)

@@ -1,13 +1,8 @@
 -- How a call fails: with the fault to which the database's error maps (ours).
 use Rattle.std.specs.Prelude.{◌≡◌, ◌⊎◌, ℕ, ◌<◌, ◌≤◌, List, [], ◌∷◌, Result, Ok, Err, IfErr, IsTrue, OnOk, OnErr}
-use Rattle.sqlite.specs.Store.{Ghosts}
-use Rattle.sqlite.specs.Effect.{Database}
-use Rattle.sqlite.specs.State.{HasCleanDisk, Survives, FailsToQuery, IsNotRun, Executes, ExecutesInside}
-use Rattle.sqlite.specs.Steps.{FailsToCommit}
-use Rattle.sqlite.specs.Held.{Held, state}
-use Rattle.sqlite.specs.declared.error.Error.{Error}
-use Rattle.club_core.specs.declared.store.StoreFault.{StoreFault}
-use Rattle.club_core.specs.declared.store.StoreFault.TheVariants.{Storage}
+use Rattle.sqlite.specs.{Effect.Database, Held.{Held, state}, State.{HasCleanDisk, Survives, FailsToQuery, IsNotRun, Executes, ExecutesInside}}
+use Rattle.sqlite.specs.{Steps.FailsToCommit, Store.Ghosts, declared.error.Error.Error}
+use Rattle.club_core.specs.declared.store.StoreFault.{StoreFault, TheVariants.Storage}
 use Rattle.club_tables.specs.Transaction.{BoundStatement, Ran, IsKept, transaction_start, fault_by}
 
 -- the database refused a query with an error that maps to the fault; the count of the disk's failures doesn't shrink

@@ -1,23 +1,13 @@
 -- Which club a connection represents, and what reads and changes promise of it (ours).
 use Rattle.std.specs.Prelude.{◌≡◌, ◌⊎◌, ℕ, ◌<◌, ◌≤◌, ◌^◌, List, ◌∷◌, All, None, Result, IfErr, OnErr}
-use Rattle.sqlite.specs.Store.{Ghosts}
-use Rattle.sqlite.specs.State.{HasCleanDisk, Survives}
-use Rattle.sqlite.specs.Held.{Held, state}
-use Rattle.club_core.specs.declared.change.Change.{Change}
+use Rattle.sqlite.specs.{Held.{Held, state}, State.{HasCleanDisk, Survives}, Store.Ghosts}
+use Rattle.club_core.specs.{Club.{Club, IsSound}, Store.{Changes, FitsClub, KeepsClub, Returns}, declared.change.Change.{Change, TheVariants.InsertMember}}
+use Rattle.club_core.specs.declared.change.Change.TheVariants.{AddCredit, InsertFacility, InsertKey, MarkRevoked, ReplaceRoot, MarkClosed, MarkOpen}
+use Rattle.club_core.specs.declared.{change.Change.TheVariants.{ReplaceQuota, InsertBooking, MarkCancelled}, store.StoreFault.{StoreFault, TheVariants.Storage}}
 use Rattle.club_values.specs.Moment.{IsMoment}
-use Rattle.club_rows.specs.Limits.{IsRoot, quota_limit}
-use Rattle.club_rows.specs.Rows.{IsMember, IsFacility, IsKey, IsSlot, IsBooking}
-use Rattle.club_core.specs.declared.change.Change.TheVariants.{InsertMember, AddCredit, InsertFacility, InsertKey, MarkRevoked, ReplaceRoot, MarkClosed}
-use Rattle.club_core.specs.declared.change.Change.TheVariants.{MarkOpen, ReplaceQuota, InsertBooking, MarkCancelled}
-use Rattle.club_core.specs.declared.store.StoreFault.{StoreFault}
-use Rattle.club_core.specs.declared.store.StoreFault.TheVariants.{Storage}
-use Rattle.club_core.specs.Store.{Changes, FitsClub, KeepsClub, Returns}
-use Rattle.club_core.specs.Club.{Club, IsSound}
-use Rattle.club_tables.specs.Tables.{Represents, RepresentsVersion1, RepresentsVersion2, IsFound}
-use Rattle.club_tables.specs.Transaction.{BoundStatement, IsUntouched, MayCommit}
-use Rattle.club_tables.specs.Fault.{FailsToRun}
-use Rattle.club_tables.specs.Answers.{IsAfterReadings, IsReadFault}
-use Rattle.club_tables.specs.ChangeStatements.{AreStatementsOf, statements_of}
+use Rattle.club_rows.specs.{Limits.{IsRoot, quota_limit}, Rows.{IsMember, IsFacility, IsKey, IsSlot, IsBooking}}
+use Rattle.club_tables.specs.{Answers.{IsAfterReadings, IsReadFault}, ChangeStatements.{AreStatementsOf, statements_of}, Fault.FailsToRun}
+use Rattle.club_tables.specs.{Tables.{Represents, RepresentsVersion1, RepresentsVersion2, IsFound}, Transaction.{BoundStatement, IsUntouched, MayCommit}}
 
 abbrev pub represents_in : {S : Type 0} → Ghosts S → Held S → Club → List Club → Type 0
 represents_in g held = Represents (state g held)

@@ -1,19 +1,9 @@
 -- The tables of the club as sqlite understands them (ours): seven STRICT tables, each column NOT NULL.
 use Rattle.std.specs.Prelude.{ℕ, pos, true, false, codes, None, List, [], ◌∷◌, ◌++◌, map, slice_get, unwrap_or}
-use Rattle.sqlite_value.specs.declared.value.Value.TheVariants.{Null, Int}
-use Rattle.sqlite_value.specs.declared.keys.Collation.TheVariants.{Binary}
-use Rattle.sqlite_value.specs.Keys.{plain}
-use Rattle.sqlite_sql.specs.declared.ops.BinaryOp.TheVariants.{And, Compare}
-use Rattle.sqlite_sql.specs.declared.ops.CompareOp.TheVariants.{Ge, Le}
-use Rattle.sqlite_sql.specs.Term.{Term, lit, col, op2}
-use Rattle.sqlite_schema.specs.declared.schema.Action.TheVariants.{NoAction}
-use Rattle.sqlite_schema.specs.declared.schema.Column.{Column}
-use Rattle.sqlite_schema.specs.declared.schema.Kind.{Kind}
-use Rattle.sqlite_schema.specs.declared.schema.Kind.TheVariants.{Integer, Text, Blob}
-use Rattle.sqlite_schema.specs.declared.schema.Reference.{Reference}
-use Rattle.sqlite_schema.specs.declared.schema.Table.{Table}
-use Rattle.sqlite_schema.specs.declared.schema.Schema.{Schema}
-use Rattle.sqlite_schema.specs.declared.schema.Index.{Index}
+use Rattle.sqlite_value.specs.{Keys.plain, declared.{keys.Collation.TheVariants.Binary, value.Value.TheVariants.{Null, Int}}}
+use Rattle.sqlite_sql.specs.{Term.{Term, lit, col, op2}, declared.ops.{BinaryOp.TheVariants.{And, Compare}, CompareOp.TheVariants.{Ge, Le}}}
+use Rattle.sqlite_schema.specs.declared.schema.{Action.TheVariants.NoAction, Column.Column, Index.Index, Kind.{Kind, TheVariants.{Integer, Text, Blob}}}
+use Rattle.sqlite_schema.specs.declared.schema.{Reference.Reference, Schema.Schema, Table.Table}
 use Rattle.sqlite.specs.Change.{created}
 use Rattle.sqlite_catalog.specs.Change.{indexed}
 

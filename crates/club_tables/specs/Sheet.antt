@@ -1,11 +1,8 @@
 -- A day's bookings as rows (ours).
-use Rattle.std.specs.Prelude.{◌≡◌, ℕ, List, map}
-use Rattle.std.specs.List.{AllZip}
+use Rattle.std.specs.{List.AllZip, Prelude.{◌≡◌, ℕ, List, map}}
 use Rattle.sqlite_value.specs.Order.{Row}
-use Rattle.club_rows.specs.declared.booking.Booking.{Booking}
-use Rattle.club_rows.specs.Rows.{IsBooking}
-use Rattle.club_core.specs.Club.{Club}
-use Rattle.club_core.specs.Sheet.{AreRowsOf}
+use Rattle.club_rows.specs.{Rows.IsBooking, declared.booking.Booking.Booking}
+use Rattle.club_core.specs.{Club.Club, Sheet.AreRowsOf}
 use Rattle.club_tables.specs.Columns.{HasValues, booking_values}
 
 -- the rows have the values of the day's bookings, in the order of the day sheet

@@ -1,12 +1,8 @@
 -- The statements, as sqlite understands them over the tables of the club (ours).
 use Rattle.std.specs.Prelude.{ℕ, pos, negsuc, false, None, List, [], map}
-use Rattle.sqlite_value.specs.declared.value.Value.TheVariants.{Int}
-use Rattle.sqlite_value.specs.declared.keys.Collation.TheVariants.{Binary}
-use Rattle.sqlite_value.specs.Keys.{ascending}
-use Rattle.sqlite_sql.specs.declared.ops.BinaryOp.TheVariants.{Compare}
-use Rattle.sqlite_sql.specs.declared.ops.CompareOp.TheVariants.{Eq}
-use Rattle.sqlite.specs.Term.{Term, lit, col, op2}
-use Rattle.sqlite.specs.Query.{Query, Join}
+use Rattle.sqlite_value.specs.{Keys.ascending, declared.{keys.Collation.TheVariants.Binary, value.Value.TheVariants.Int}}
+use Rattle.sqlite_sql.specs.declared.ops.{BinaryOp.TheVariants.Compare, CompareOp.TheVariants.Eq}
+use Rattle.sqlite.specs.{Query.{Query, Join}, Term.{Term, lit, col, op2}}
 
 -- the column at a place of the row equals a parameter; parameters count from 0
 abbrev pub is_given : ℕ → ℕ → Term

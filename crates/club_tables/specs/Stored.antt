@@ -1,20 +1,9 @@
 -- Rows as they are stored, with their totals, and when they are the rows of a club (ours).
-use Rattle.std.specs.Prelude.{◌≡◌, ◌≢◌, ◌≤◌, ℕ, false, List, map, find, sum_by, Option, option_map, if◌then◌else◌, unwrap_or, AllPairs}
-use Rattle.std.specs.Str.{bytes_eq}
+use Rattle.std.specs.{Prelude.{◌≡◌, ◌≢◌, ◌≤◌, ℕ, false, List, map, find, sum_by, Option, option_map, if◌then◌else◌, unwrap_or, AllPairs}, Str.bytes_eq}
 use Rattle.club_values.specs.declared.slot.Slot.{Slot}
-use Rattle.club_rows.specs.declared.member.Member.{Member}
-use Rattle.club_rows.specs.declared.facility.Facility.{Facility}
-use Rattle.club_rows.specs.declared.key.Key.{Key}
-use Rattle.club_rows.specs.declared.key.OlderRoot.{OlderRoot}
-use Rattle.club_rows.specs.declared.booking.Booking.{Booking}
-use Rattle.club_core.specs.declared.slot_use.SlotUse.{SlotUse}
-use Rattle.club_rows.specs.Booking.{same_slot, persons_of}
-use Rattle.club_core.specs.Club.{Club, bookings_of}
-use Rattle.club_rows.specs.Limits.{credited_limit}
-use Rattle.club_rows.specs.Rows.{IsMember}
-use Rattle.club_core.specs.Basis.{slot_use}
-use Rattle.club_core.specs.KeyParts.{older_root_of}
-use Rattle.club_core.specs.Sums.{cost_of}
+use Rattle.club_rows.specs.{Booking.{same_slot, persons_of}, Limits.credited_limit, Rows.IsMember, declared.booking.Booking.Booking}
+use Rattle.club_rows.specs.declared.{facility.Facility.Facility, key.{Key.Key, OlderRoot.OlderRoot}, member.Member.Member}
+use Rattle.club_core.specs.{Basis.slot_use, Club.{Club, bookings_of}, KeyParts.older_root_of, Sums.cost_of, declared.slot_use.SlotUse.SlotUse}
 use Rattle.club_tables.specs.declared.row.MemberRow.{MemberRow}
 
 -- a row of `slots`: a slot that was closed or booked, and its use

@@ -1,19 +1,8 @@
 -- What statements return or write in a transaction of their own (ours).
 use Rattle.std.specs.Prelude.{◌≡◌, ℕ, ◌<◌, ◌≤◌, true, List, [], ◌∷◌, length, Ok, IsTrue, is_ok}
-use Rattle.sqlite.specs.Store.{Ghosts}
-use Rattle.sqlite.specs.Order.{Row}
-use Rattle.sqlite.specs.Effect.{Database}
-use Rattle.sqlite.specs.Schema.{Schema}
-use Rattle.sqlite.specs.Listing.{understood}
-use Rattle.sqlite.specs.Tree.{Trees}
-use Rattle.sqlite.specs.State.{State, HasCleanDisk, Executes, Shown}
-use Rattle.sqlite.specs.Held.{Held, state}
-use Rattle.sqlite.specs.declared.error.Error.{Error}
-use Rattle.sqlite.specs.declared.error.Error.TheVariants.{SqliteFailure}
-use Rattle.sqlite.specs.declared.error.ErrorCode.TheVariants.{OutOfMemory}
-use Rattle.sqlite.specs.Values.{bound}
-use Rattle.club_core.specs.declared.store.StoreFault.{StoreFault}
-use Rattle.club_core.specs.declared.store.StoreFault.TheVariants.{Memory, Storage}
+use Rattle.sqlite.specs.{Effect.Database, Held.{Held, state}, Listing.understood, Order.Row, Schema.Schema, State.{State, HasCleanDisk, Executes, Shown}}
+use Rattle.sqlite.specs.{Store.Ghosts, Tree.Trees, Values.bound, declared.error.{Error.{Error, TheVariants.SqliteFailure}, ErrorCode.TheVariants.OutOfMemory}}
+use Rattle.club_core.specs.declared.store.StoreFault.{StoreFault, TheVariants.{Memory, Storage}}
 use Rattle.club_tables.specs.declared.transaction.Statement.{Statement}
 
 -- out of memory maps to Memory, each other error to Storage

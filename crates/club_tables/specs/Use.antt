@@ -2,10 +2,8 @@
 use Rattle.std.specs.Prelude.{◌≡◌, ◌⊎◌, List, [], ◌∷◌}
 use Rattle.sqlite_value.specs.Order.{Row}
 use Rattle.club_values.specs.declared.slot.Slot.{Slot}
-use Rattle.club_core.specs.Club.{Club}
-use Rattle.club_core.specs.Basis.{slot_use}
-use Rattle.club_tables.specs.Columns.{use_values}
-use Rattle.club_tables.specs.Stored.{no_slot_use}
+use Rattle.club_core.specs.{Basis.slot_use, Club.Club}
+use Rattle.club_tables.specs.{Columns.use_values, Stored.no_slot_use}
 
 -- one row holds the slot's use, or there is no row and no use
 abbrev pub ShowsUse : Club → Slot → List Row → Type 0

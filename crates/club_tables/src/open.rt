@@ -1,40 +1,15 @@
 //! Opens the tables of a database: migrates version 1, adds a missing index of the bookings, and
 //! makes all tables if there are none.
 
-ghost use Rattle.std.specs.Prelude.{
-  ◌≡◌,
-  [],
-  ◌∷◌,
-  map,
-  IsTrue,
-  IfOk,
-  IfErr,
-  OnOk,
-  OnErr,
-};
-ghost use Rattle.sqlite.specs.State.{HasCleanDisk, Survives};
-ghost use Rattle.sqlite.specs.Held.{state};
+ghost use Rattle.std.specs.Prelude.{◌≡◌, [], ◌∷◌, map, IsTrue, IfOk, IfErr, OnOk, OnErr};
+ghost use Rattle.sqlite.specs.{Held.state, State.{HasCleanDisk, Survives}};
+ghost use Rattle.club_tables.specs.{Columns.{version_values, HasValues}, Fault.FailsToAsk};
+ghost use Rattle.club_tables.specs.Opening.{AcceptsTables, EnsuresIndex, FailsToPrepareOne};
+ghost use Rattle.club_tables.specs.Opening.{HasMigrated, HasOrGetsIndex, IsOpeningFault, Opens};
+ghost use Rattle.club_tables.specs.Opening.{RunsBatch, Understands, WhenIdle, YieldsVersion};
+ghost use Rattle.club_tables.specs.Opening.{table_batch, migration, index_batch, version_text};
 ghost use Rattle.club_tables.specs.ReadsAndChanges.{version_1_in, version_2_in, found_in};
-ghost use Rattle.club_tables.specs.Columns.{version_values, HasValues};
 ghost use Rattle.club_tables.specs.Transaction.{IsIdle, IsKept, IsUntouched};
-ghost use Rattle.club_tables.specs.Fault.{FailsToAsk};
-ghost use Rattle.club_tables.specs.Opening.{
-  AcceptsTables,
-  EnsuresIndex,
-  FailsToPrepareOne,
-  HasMigrated,
-  HasOrGetsIndex,
-  IsOpeningFault,
-  Opens,
-  RunsBatch,
-  Understands,
-  WhenIdle,
-  YieldsVersion,
-  table_batch,
-  migration,
-  index_batch,
-  version_text,
-};
 
 use crate::row::integer_at;
 use crate::tables::Tables;

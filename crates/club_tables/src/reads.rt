@@ -1,49 +1,23 @@
 //! Reads the rows of the club. These calls change nothing. A row out of its limits is a fault of
 //! storage.
 
-ghost use Rattle.std.specs.Prelude.{◌≡◌, ◌↔◌, List, All, IsTrue, IfOk, IfErr, IfSome};
-ghost use Rattle.std.specs.Prelude.{option_map};
+ghost use Rattle.std.specs.Prelude.{◌≡◌, ◌↔◌, List, All, IsTrue, IfOk, IfErr, IfSome, option_map};
 ghost use Rattle.sqlite_value.specs.Order.{Row as Values};
-ghost use Rattle.sqlite.specs.Values.{bound};
-ghost use Rattle.sqlite.specs.State.{HasCleanDisk, Survives};
-ghost use Rattle.sqlite.specs.Held.{state};
+ghost use Rattle.sqlite.specs.{Held.state, State.{HasCleanDisk, Survives}, Values.bound};
 ghost use Rattle.club_rows.specs.Key.{row_of_key};
 ghost use Rattle.club_rows.specs.Rows.{IsFacility, IsKeyRow, IsOlderRoot, IsBooking};
-ghost use Rattle.club_core.specs.Club.{bookings_of, key_named, member_named, facility_named};
 ghost use Rattle.club_core.specs.Basis.{slot_use};
-ghost use Rattle.club_core.specs.KeyParts.{older_root_of};
-ghost use Rattle.club_core.specs.Sheet.{AreRowsOf};
+ghost use Rattle.club_core.specs.Club.{bookings_of, key_named, member_named, facility_named};
+ghost use Rattle.club_core.specs.{KeyParts.older_root_of, Sheet.AreRowsOf};
 ghost use Rattle.club_core.specs.Sums.{booking_under, count_to_come, spent_under};
-ghost use Rattle.club_tables.specs.ReadsAndChanges.{ReadsClub};
-ghost use Rattle.club_tables.specs.Sheet.{AreBookings};
-ghost use Rattle.club_tables.specs.Stored.{IsMemberRow, member_row};
-ghost use Rattle.club_tables.specs.Transaction.{Asked, IsKept};
-ghost use Rattle.club_tables.specs.Answers.{
-  Answers,
-  FailsAtReading,
-  IsFirst,
-  IsKeyIn,
-  IsOlderRootIn,
-  IsMemberIn,
-  IsFacilityIn,
-  IsBookingNamed,
-  IsUse,
-  AreCosts,
-  IsCount,
-  reading_statement,
-};
+ghost use Rattle.club_tables.specs.Answers.{Answers, FailsAtReading, IsFirst, IsKeyIn};
+ghost use Rattle.club_tables.specs.Answers.{IsOlderRootIn, IsMemberIn, IsFacilityIn};
+ghost use Rattle.club_tables.specs.Answers.{IsBookingNamed, IsUse, AreCosts, IsCount};
+ghost use Rattle.club_tables.specs.Answers.{reading_statement, OfKey, OfOlderRoot, OfMember};
+ghost use Rattle.club_tables.specs.Answers.{OfFacility, OfSlot, OfBooking, OfCosts, OfDay, OfOpen};
+ghost use Rattle.club_tables.specs.{ReadsAndChanges.ReadsClub, Sheet.AreBookings};
+ghost use Rattle.club_tables.specs.{Stored.{IsMemberRow, member_row}, Transaction.{Asked, IsKept}};
 ghost use Rattle.club_tables.specs.declared.texts.TheConstants.{DAY};
-ghost use Rattle.club_tables.specs.Answers.{
-  OfKey,
-  OfOlderRoot,
-  OfMember,
-  OfFacility,
-  OfSlot,
-  OfBooking,
-  OfCosts,
-  OfDay,
-  OfOpen,
-};
 
 use crate::params::{of_open, of_slot};
 use crate::row::{FromRows, MemberRow, bookings_in};

@@ -1,25 +1,13 @@
 //! Decodes rows of the tables into rows of the club: `None` if a value is of another kind, or out
 //! of its limits.
 
-ghost use Rattle.std.specs.Prelude.{
-  ◌≡◌,
-  ◌≤◌,
-  [],
-  ◌∷◌,
-  List,
-  Err,
-  None,
-  Some,
-  IfOk,
-  option_map,
-};
+ghost use Rattle.std.specs.Prelude.{◌≡◌, ◌≤◌, [], ◌∷◌, List, Err, None, Some, IfOk, option_map};
 ghost use Rattle.sqlite_value.specs.Order.{column};
 ghost use Rattle.club_values.specs.Reading.{Reads};
 ghost use Rattle.club_rows.specs.declared.booking.Booking.{Booking as BookingRow};
 ghost use Rattle.club_tables.specs.Answers.{IsUseIn};
-ghost use Rattle.club_tables.specs.Sheet.{AreBookings};
-ghost use Rattle.club_tables.specs.Stored.{no_slot_use};
 ghost use Rattle.club_tables.specs.Columns.{whole, text_in, bytes_in, integer_in};
+ghost use Rattle.club_tables.specs.{Sheet.AreBookings, Stored.no_slot_use};
 
 use club_core::{SlotUse, StoreFault};
 use club_rows::{

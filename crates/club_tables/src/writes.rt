@@ -1,39 +1,19 @@
 //! Writes the changes of a club, each in a transaction of its own.
 
 ghost use Rattle.std.specs.Prelude.{◌≡◌, ◌≤◌, [], ◌∷◌, None, Err};
-ghost use Rattle.club_rows.specs.Limits.{quota_limit};
-ghost use Rattle.club_rows.specs.Rows.{IsMember, IsFacility, IsBooking};
+ghost use Rattle.club_rows.specs.{Limits.quota_limit, Rows.{IsMember, IsFacility, IsBooking}};
 ghost use Rattle.sqlite.specs.Values.{bound};
-ghost use Rattle.club_core.specs.declared.change.Change.TheVariants.{
-  InsertMember,
-  InsertFacility,
-  InsertKey,
-  InsertBooking,
-  AddCredit,
-  ReplaceQuota,
-  MarkRevoked,
-  ReplaceRoot,
-  MarkClosed,
-  MarkOpen,
-  MarkCancelled,
-};
-ghost use Rattle.club_tables.specs.Fault.{Commits};
-ghost use Rattle.club_tables.specs.ChangeStatements.{
-  adding_member,
-  adding_facility,
-  adding_key,
-  adding_credit,
-  giving_quota,
-  revoking,
-  closing,
-  reopening,
-  rotating,
-  replacing_root,
-  booking_with,
-  cancelling_with,
-  adding_booking,
-  cancelling,
-};
+ghost use Rattle.club_core.specs.declared.change.Change.TheVariants.{InsertMember, InsertFacility};
+ghost use Rattle.club_core.specs.declared.change.Change.TheVariants.{InsertKey, InsertBooking};
+ghost use Rattle.club_core.specs.declared.change.Change.TheVariants.{AddCredit, ReplaceQuota};
+ghost use Rattle.club_core.specs.declared.change.Change.TheVariants.{MarkRevoked, ReplaceRoot};
+ghost use Rattle.club_core.specs.declared.change.Change.TheVariants.{MarkClosed, MarkOpen};
+ghost use Rattle.club_core.specs.declared.change.Change.TheVariants.{MarkCancelled};
+ghost use Rattle.club_tables.specs.ChangeStatements.{adding_member, adding_facility, adding_key};
+ghost use Rattle.club_tables.specs.ChangeStatements.{adding_credit, giving_quota, revoking};
+ghost use Rattle.club_tables.specs.ChangeStatements.{closing, reopening, rotating, replacing_root};
+ghost use Rattle.club_tables.specs.ChangeStatements.{booking_with, cancelling_with, adding_booking};
+ghost use Rattle.club_tables.specs.{ChangeStatements.cancelling, Fault.Commits};
 ghost use Rattle.club_tables.specs.ReadsAndChanges.{ChangesClub};
 
 use crate::limits::{is_booking, is_facility, is_member, key_within, rotation_within, slot_within};

@@ -1,21 +1,11 @@
 -- The texts of dates.
-use Rattle.std.proofs.Common.{◌≡◌, ◌<◌, ℕ, ◌+◌, ◌*◌, length, List, [], ◌∷◌, get_or, arith, sym, ◌∙◌, subst, Option, Result, Ok, Err}
-use Rattle.std.proofs.Common.{ℤ, pos}
-use Rattle.std.specs.Prelude.{IsOk, IfOk}
-use Rattle.std.specs.Result.{result_ok}
+use Rattle.std.proofs.Common.{◌≡◌, ◌<◌, ℕ, ◌+◌, ◌*◌, length, List, [], ◌∷◌, get_or, arith, sym, ◌∙◌, subst, Option, Result, Ok, Err, ℤ, pos}
 use Rattle.std.proofs.lemmas.Slice.Eq.{text_from_reads}
-use Rattle.jiff_core.specs.Calendar.{IsCivilDate, IsDate}
-use Rattle.jiff_core.specs.Date.{epoch_day, IsYmd}
-use Rattle.jiff_core.proofs.SignedLemmas.{signed_arith}
-use Rattle.jiff_core.specs.declared.civil.date.Date.{Date}
-use Rattle.jiff_core.proofs.DateLemmas.{civil}
-use Rattle.jiff_core.proofs.CalendarLemmas.{days_in_month_bounds}
-use Rattle.club_values.specs.Reading.{Reads}
-use Rattle.club_values.specs.Digits.{two_digits}
-use Rattle.club_values.specs.Day.{IsDay, date_text, AreDateParts, IsDateText, SpellsDay}
+use Rattle.std.specs.{Prelude.{IsOk, IfOk}, Result.result_ok}
+use Rattle.jiff_core.specs.{Calendar.{IsCivilDate, IsDate}, Date.{epoch_day, IsYmd}, declared.civil.date.Date.Date}
+use Rattle.jiff_core.proofs.{CalendarLemmas.days_in_month_bounds, DateLemmas.civil, SignedLemmas.signed_arith}
+use Rattle.club_values.specs.{Day.{IsDay, date_text, AreDateParts, IsDateText, SpellsDay}, Digits.two_digits, Reading.Reads}
 use Rattle.club_values.proofs.DigitLemmas.{two_digits_injective, four_digits_injective}
-use Rattle.std.proofs.Common.{arith}
-use Rattle.std.proofs.Common.{arith}
 
 -- a text of ten bytes, read two digits at a time
 pub parts_from_reads : (text : List ℕ) (century y year month day : ℕ) → length text ≡ 10 → get_or text 4 0 ≡ 45 → get_or text 7 0 ≡ 45 → century < 100 →

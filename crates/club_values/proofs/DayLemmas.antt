@@ -1,22 +1,12 @@
 -- The date of a day by arithmetic is the calendar's.
 use Rattle.std.proofs.Common.{◌≡◌, ℕ, ◌+◌, ◌-◌, ◌*◌, ◌/◌, ◌%◌, ◌<◌, ◌≤◌, ◌≢◌, cond, Bool, true, false, nat_lt, refl, suc, ◌∙◌, ltb-true, ltb-false, sym, List}
-use Rattle.std.proofs.Common.{◌++◌, arith, to_z, of_z, w16, pos, ◌+ℤ◌}
-use Rattle.std.proofs.lemmas.Bool.Decides.{nat_tests}
-use Rattle.jiff_core.specs.Calendar.{IsCivilDate, days_from_civil, day_count}
-use Rattle.jiff_core.specs.Date.{epoch_day}
-use Rattle.jiff_core.specs.March.{march_days}
-use Rattle.jiff_core.proofs.SignedLemmas.{signed_arith, back_small}
+use Rattle.std.proofs.{Common.{◌++◌, arith, to_z, of_z, w16, pos, ◌+ℤ◌}, lemmas.Bool.Decides.nat_tests}
+use Rattle.jiff_core.specs.{Calendar.{IsCivilDate, days_from_civil, day_count}, Date.epoch_day, March.march_days, declared.civil.date.Date.Date}
+use Rattle.jiff_core.proofs.{CalendarLemmas.{days_from_civil-day_count, days_in_month_bounds}, DateLemmas.epoch_day_injective}
 use Rattle.jiff_core.proofs.MarchLemmas.{day_count-late, day_count-early, month_and_day, day_in_month, day_in_early_month, leap_day}
-use Rattle.jiff_core.proofs.CalendarLemmas.{days_from_civil-day_count, days_in_month_bounds}
+use Rattle.jiff_core.proofs.SignedLemmas.{signed_arith, back_small}
 use Rattle.club_values.specs.Day.{IsDay, IsDateOf, march_year, day_of_march_year, year_of, month_of, day_of_month, date_text, day_text, SpellsDay}
-use Rattle.jiff_core.specs.declared.civil.date.Date.{Date}
-use Rattle.jiff_core.proofs.DateLemmas.{epoch_day_injective}
-use Rattle.club_values.proofs.DateTextLemmas.{date_record, from_pos}
-use Rattle.club_values.proofs.DigitLemmas.{two_digits_injective, four_digits_injective}
-use Rattle.std.proofs.Common.{arith}
-use Rattle.std.proofs.lemmas.Bool.Decides.{nat_tests}
-use Rattle.std.proofs.Common.{arith}
-use Rattle.std.proofs.lemmas.Bool.Decides.{nat_tests}
+use Rattle.club_values.proofs.{DateTextLemmas.{date_record, from_pos}, DigitLemmas.{two_digits_injective, four_digits_injective}}
 
 -- a day's place in its year from March
 pub march_year_bounds : (n : ℕ) → IsDay n →

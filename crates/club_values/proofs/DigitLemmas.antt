@@ -1,7 +1,6 @@
 -- Digits of a fixed width determine their number.
 use Rattle.std.proofs.Common.{◌≡◌, ℕ, ◌+◌, ◌/◌, ◌%◌, List, ◌++◌, get_or, ap, arith}
 use Rattle.club_values.specs.Digits.{two_digits, four_digits}
-use Rattle.std.proofs.Common.{arith}
 
 -- if the first digits agree, whatever follows
 pub two_digits_injective : (a b : ℕ) (xs ys : List ℕ) → two_digits a ++ xs ≡ two_digits b ++ ys → a ≡ b

@@ -1,11 +1,9 @@
 -- The value that a text can be is the one whose text it is.
 use Rattle.std.proofs.Common.{◌≡◌, ℕ, ◌+◌, ◌-◌, ◌*◌, ◌/◌, ◌%◌, ◌<◌, ◌≤◌, Bool, cond, nat_lt, List, ◌++◌, arith}
 use Rattle.jiff_core.proofs.MarchLemmas.{month_and_day}
-use Rattle.club_values.specs.Day.{IsDay, year_of, month_of, day_of_month, day_text}
-use Rattle.club_values.specs.Moment.{IsMoment, moment_text}
+use Rattle.club_values.specs.{Day.{IsDay, year_of, month_of, day_of_month, day_text}, Moment.{IsMoment, moment_text}}
 use Rattle.club_values.specs.computed.TextOf.{number_of_date, day_of, moment_of}
 use Rattle.club_values.proofs.DayLemmas.{march_year_bounds}
-use Rattle.std.proofs.Common.{arith}
 
 pub two_again : (n : ℕ) → 10 * (48 + n / 10 - 48) + (48 + n % 10 - 48) ≡ n
 two_again n = omega arith

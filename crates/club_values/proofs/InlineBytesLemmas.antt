@@ -1,12 +1,7 @@
 -- A short string of bytes and the buffer that stores it.
-use Rattle.std.proofs.Common.{◌≡◌, ℕ, ◌≤◌, List, ◌++◌, length, drop, arith}
+use Rattle.std.proofs.{Common.{◌≡◌, ℕ, ◌≤◌, List, ◌++◌, length, drop, arith}, lemmas.{Grind.common_steps, List.drop-replicate}}
 use Rattle.std.specs.Prelude.{replicate}
-use Rattle.std.proofs.lemmas.List.{drop-replicate}
 use Rattle.club_values.specs.InlineBytes.{stored_inline, IsPadded}
-use Rattle.std.proofs.Common.{arith}
-use Rattle.std.proofs.lemmas.Grind.{common_steps}
-use Rattle.std.proofs.Common.{arith}
-use Rattle.std.proofs.lemmas.Grind.{common_steps}
 
 IsPadded-stored_inline : (n : ℕ) (bytes : List ℕ) → length bytes ≤ n → IsPadded (stored_inline n bytes)
 IsPadded-stored_inline n bytes h = grind (arith, common_steps)

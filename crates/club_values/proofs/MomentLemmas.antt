@@ -1,14 +1,7 @@
 -- The texts of moments.
-use Rattle.std.proofs.Common.{◌≡◌, ℕ, ◌/◌, ◌%◌, List, [], ◌∷◌, take, drop, get_or, ap, refl, arith}
-use Rattle.club_values.specs.Digits.{two_digits}
-use Rattle.club_values.specs.Day.{SpellsDay, day_text}
-use Rattle.club_values.specs.Moment.{IsMoment, time_text, SpellsTime, SpellsMoment, moment_text}
-use Rattle.club_values.proofs.DigitLemmas.{two_digits_injective}
-use Rattle.club_values.proofs.DayLemmas.{day_text-spells, spells-day_text, day_text_injective}
-use Rattle.std.proofs.Common.{arith}
-use Rattle.std.proofs.lemmas.Grind.{common_steps}
-use Rattle.std.proofs.Common.{arith}
-use Rattle.std.proofs.lemmas.Grind.{common_steps}
+use Rattle.std.proofs.{Common.{◌≡◌, ℕ, ◌/◌, ◌%◌, List, [], ◌∷◌, take, drop, get_or, ap, refl, arith}, lemmas.Grind.common_steps}
+use Rattle.club_values.specs.{Day.{SpellsDay, day_text}, Digits.two_digits, Moment.{IsMoment, time_text, SpellsTime, SpellsMoment, moment_text}}
+use Rattle.club_values.proofs.{DayLemmas.{day_text-spells, spells-day_text, day_text_injective}, DigitLemmas.two_digits_injective}
 
 -- the date is the first ten bytes, and the time what follows
 parts_of : (text : List ℕ) (n : ℕ) (s : SpellsMoment text n) → (take 10 text ≡ s.date) × (drop 10 text ≡ s.time)

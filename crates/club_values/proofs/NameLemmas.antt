@@ -1,11 +1,7 @@
 -- The bytes of a name are ASCII.
-use Rattle.std.proofs.Common.{◌≡◌, ◌<◌, true, ℕ, List, arith}
+use Rattle.std.proofs.{Common.{◌≡◌, ◌<◌, true, ℕ, List, arith}, lemmas.{Bool.Decides.nat_tests, Str.Ascii.IsAscii-from_all}}
 use Rattle.std.specs.Str.{IsAscii}
-use Rattle.std.proofs.lemmas.Str.Ascii.{IsAscii-from_all}
-use Rattle.std.proofs.lemmas.Bool.Decides.{nat_tests}
 use Rattle.club_values.specs.Name.{is_name_byte, IsName}
-use Rattle.std.proofs.Common.{arith}
-use Rattle.std.proofs.lemmas.Bool.Decides.{nat_tests}
 
 name_byte_below : (byte : ℕ) → is_name_byte byte ≡ true → byte < 128
 name_byte_below byte h = grind (arith, nat_tests)

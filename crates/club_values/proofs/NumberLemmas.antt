@@ -1,23 +1,11 @@
 -- Numbers and their digits.
-use Rattle.std.proofs.Common.{◌≡◌, ℕ, ◌<◌, ◌≤◌, ◌^◌, Bool, true, List, length, get_or, Result}
-use Rattle.std.proofs.Common.{arith, rules, Decides}
-use Rattle.std.specs.Prelude.{◌==◌, ◌&&◌, not, nat_lt, slice_index}
-use Rattle.std.specs.Char.{is_ascii_digit}
-use Rattle.std.specs.Fmt.{decimal}
-use Rattle.std.specs.List.{list_all}
-use Rattle.std.specs.Result.{result_ok}
+use Rattle.std.proofs.Common.{◌≡◌, ℕ, ◌<◌, ◌≤◌, ◌^◌, Bool, true, List, length, get_or, Result, arith, rules, Decides}
+use Rattle.std.proofs.lemmas.Bool.Decides.{Decides-like, Decides-and, Decides-not, Decides-ltb, Decides-eqb, nat_tests}
+use Rattle.std.proofs.lemmas.Fmt.{decimal-digits_value, digits_decimal, digits_value-decimal, decimal_nonempty, length-decimal-le, first_decimal, decimal_digit}
+use Rattle.std.proofs.lemmas.{Grind.common_steps, Str.Parse.{IsNumeralModel, numerals_by_value, digits_value_short, parse_gives}}
+use Rattle.std.specs.{Char.is_ascii_digit, Fmt.decimal, List.list_all, Prelude.{◌==◌, ◌&&◌, not, nat_lt, slice_index}, Result.result_ok}
 use Rattle.std.specs.Str.Parse.{digits_value, ParsesUnsigned}
-use Rattle.std.proofs.lemmas.Bool.Decides.{Decides-like, Decides-and, Decides-not, Decides-ltb, Decides-eqb}
-use Rattle.std.proofs.lemmas.Fmt.{decimal-digits_value, digits_decimal, digits_value-decimal, decimal_nonempty, length-decimal-le}
-use Rattle.std.proofs.lemmas.Fmt.{first_decimal, decimal_digit}
-use Rattle.std.proofs.lemmas.Str.Parse.{IsNumeralModel, numerals_by_value, digits_value_short, parse_gives}
 use Rattle.club_values.specs.Number.{are_few_digits, number_of_digits, SpellsNumber}
-use Rattle.std.proofs.Common.{rules, arith}
-use Rattle.std.proofs.lemmas.Grind.{common_steps}
-use Rattle.std.proofs.lemmas.Bool.Decides.{nat_tests}
-use Rattle.std.proofs.Common.{rules, arith}
-use Rattle.std.proofs.lemmas.Grind.{common_steps}
-use Rattle.std.proofs.lemmas.Bool.Decides.{nat_tests}
 
 abbrev AreDigits : List ℕ → Type 0
 AreDigits text = list_all is_ascii_digit text ≡ true

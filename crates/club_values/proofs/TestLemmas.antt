@@ -1,11 +1,8 @@
 -- The tests decide what they test.
 use Rattle.std.proofs.Common.{◌≡◌, ℕ, ◌≤◌, true, nat_le, List, length, refl, arith, Decides}
-use Rattle.std.specs.Int.{IsInRange, is_in_range}
-use Rattle.std.specs.List.{list_all}
 use Rattle.std.proofs.lemmas.Bool.Decides.{Decides-like, Decides-and, Decides-not, Decides-ltb, Decides-eqb, Decides-by_and, leb_tells}
-use Rattle.club_values.specs.Name.{is_name_byte, IsName}
-use Rattle.club_values.specs.computed.TextOf.{is_name}
-use Rattle.std.proofs.Common.{arith}
+use Rattle.std.specs.{Int.{IsInRange, is_in_range}, List.list_all}
+use Rattle.club_values.specs.{Name.{is_name_byte, IsName}, computed.TextOf.is_name}
 
 pub Decides-leb : (a b : ℕ) → Decides (nat_le a b) (a ≤ b)
 Decides-leb a b = grind (arith, leb_tells a b)

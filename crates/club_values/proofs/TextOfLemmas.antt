@@ -1,30 +1,16 @@
 -- The functions `.._of_text` return exactly what the text spells.
 use Rattle.std.proofs.Common.{◌≡◌, ◌↔◌, ℕ, Bool, true, cond, List, [], Option, Some, None, refl, sym, subst, Decides, arith}
-use Rattle.std.specs.Prelude.{◌&&◌, not}
-use Rattle.std.specs.Str.Parse.{digits_value}
-use Rattle.std.proofs.lemmas.Bool.Decides.{Decides-like, Decides-ltb}
-use Rattle.std.proofs.lemmas.Slice.Eq.{bytes_eq-Decides}
-use Rattle.club_values.specs.Reading.{Reads}
-use Rattle.club_values.specs.declared.kind.Kind.{Kind}
-use Rattle.club_values.specs.declared.action.Action.{Action}
-use Rattle.club_values.specs.Name.{IsName}
-use Rattle.club_values.specs.Number.{are_few_digits, SpellsNumber}
-use Rattle.club_values.specs.Digits.{two_digits}
-use Rattle.club_values.specs.Day.{IsDay, SpellsDay, day_text}
-use Rattle.club_values.specs.Moment.{IsMoment, SpellsMoment, moment_text}
-use Rattle.club_values.specs.Hour.{IsHour, SpellsHour}
-use Rattle.club_values.specs.Kind.{kind_text}
-use Rattle.club_values.specs.Action.{action_text}
-use Rattle.club_values.specs.computed.TextOf.{is_name, two_at, day_of, moment_of, candidate_kind, candidate_action, where_spelled, name_of_text, day_of_text}
-use Rattle.club_values.specs.computed.TextOf.{decimal_of_text, moment_of_text, hour_of_text, kind_of_text, action_of_text}
-use Rattle.club_values.proofs.TestLemmas.{Decides-is_name, Decides-range}
-use Rattle.club_values.proofs.NumberLemmas.{leads_with_zero, Decides-number, value_of-number}
-use Rattle.club_values.proofs.GuessLemmas.{two_again, day_of-day_text, moment_of-moment_text}
-use Rattle.club_values.proofs.DayLemmas.{day_text-spells, spells-day_text}
-use Rattle.club_values.proofs.MomentLemmas.{moment_text-spells, spells-moment_text}
+use Rattle.std.proofs.lemmas.{Bool.Decides.{Decides-like, Decides-ltb}, Slice.Eq.bytes_eq-Decides}
+use Rattle.std.specs.{Prelude.{◌&&◌, not}, Str.Parse.digits_value}
+use Rattle.club_values.specs.{Action.action_text, Day.{IsDay, SpellsDay, day_text}, Digits.two_digits, Hour.{IsHour, SpellsHour}, Kind.kind_text}
 use Rattle.club_values.specs.Laws.{ReadsNames, ReadsNumbers, ReadsKinds, ReadsActions, ReadsDays, ReadsHours, ReadsMoments}
-use Rattle.std.proofs.Common.{arith}
-use Rattle.std.proofs.Common.{arith}
+use Rattle.club_values.specs.{Moment.{IsMoment, SpellsMoment, moment_text}, Name.IsName, Number.{are_few_digits, SpellsNumber}, Reading.Reads}
+use Rattle.club_values.specs.computed.TextOf.{is_name, two_at, day_of, moment_of, candidate_kind, candidate_action, where_spelled, name_of_text, day_of_text}
+use Rattle.club_values.specs.{computed.TextOf.{decimal_of_text, moment_of_text, hour_of_text, kind_of_text, action_of_text}, declared.action.Action.Action}
+use Rattle.club_values.specs.declared.kind.Kind.{Kind}
+use Rattle.club_values.proofs.{DayLemmas.{day_text-spells, spells-day_text}, GuessLemmas.{two_again, day_of-day_text, moment_of-moment_text}}
+use Rattle.club_values.proofs.{MomentLemmas.{moment_text-spells, spells-moment_text}, NumberLemmas.{leads_with_zero, Decides-number, value_of-number}}
+use Rattle.club_values.proofs.TestLemmas.{Decides-is_name, Decides-range}
 
 -- a value that is computed back from its text is returned exactly if the text spells it
 found : {A : Type 0} (Spells : A → Type 0) (guess : A) (test : Bool) → Decides test (Spells guess) → ((x : A) → Spells x → guess ≡ x) → (x : A) →

@@ -1,7 +1,6 @@
 -- What a request may do, and the texts (ours).
 use Rattle.std.specs.Prelude.{ℕ, List, codes}
-use Rattle.club_values.specs.declared.action.Action.{Action}
-use Rattle.club_values.specs.declared.action.Action.TheVariants.{View, Book, Cancel, Account}
+use Rattle.club_values.specs.declared.action.Action.{Action, TheVariants.{View, Book, Cancel, Account}}
 
 abbrev pub action_text : Action → List ℕ
 action_text View = codes "view"

@@ -1,7 +1,6 @@
 -- Days and their texts.
 use Rattle.std.specs.Prelude.{◌≡◌, ℕ, ◌+◌, ◌-◌, ◌*◌, ◌/◌, ◌%◌, ◌<◌, ◌≤◌, List, ◌∷◌, ◌++◌, nat_lt, if◌then◌else◌, pos}
-use Rattle.jiff_core.specs.Calendar.{IsCivilDate, days_from_civil}
-use Rattle.jiff_core.specs.declared.civil.date.Date.{Date}
+use Rattle.jiff_core.specs.{Calendar.{IsCivilDate, days_from_civil}, declared.civil.date.Date.Date}
 use Rattle.club_values.specs.Digits.{two_digits, four_digits}
 
 -- 2000-01-01 and 2099-12-31, as days since 1970-01-01 (ours)

@@ -1,7 +1,6 @@
 -- How a short string of bytes is stored in a buffer of fixed length.
 use Rattle.std.specs.Prelude.{◌≡◌, ℕ, ◌-◌, ◌≤◌, List, ◌++◌, length, take, replicate}
-use Rattle.std.proofs.Common.{sym, ap, ◌∙◌}
-use Rattle.std.proofs.lemmas.List.{length-take-le}
+use Rattle.std.proofs.{Common.{sym, ap, ◌∙◌}, lemmas.List.length-take-le}
 use Rattle.club_values.specs.declared.inline_bytes.InlineBytes.TheInside.{Inside}
 
 module _ {n : ℕ} where

@@ -1,7 +1,6 @@
 -- The kinds of facilities, and their texts (ours).
 use Rattle.std.specs.Prelude.{ℕ, List, codes}
-use Rattle.club_values.specs.declared.kind.Kind.{Kind}
-use Rattle.club_values.specs.declared.kind.Kind.TheVariants.{Court, Boat, Room}
+use Rattle.club_values.specs.declared.kind.Kind.{Kind, TheVariants.{Court, Boat, Room}}
 
 abbrev pub kind_text : Kind → List ℕ
 kind_text Court = codes "court"

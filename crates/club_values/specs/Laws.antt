@@ -1,15 +1,9 @@
 -- Laws of the definitions.
 use Rattle.std.specs.Prelude.{◌≡◌, ◌↔◌, ℕ, List, Some}
-use Rattle.club_values.specs.declared.kind.Kind.{Kind}
-use Rattle.club_values.specs.declared.action.Action.{Action}
-use Rattle.club_values.specs.Name.{IsName}
-use Rattle.club_values.specs.Number.{SpellsNumber}
-use Rattle.club_values.specs.Kind.{kind_text}
-use Rattle.club_values.specs.Action.{action_text}
-use Rattle.club_values.specs.Day.{IsDay, SpellsDay, day_text}
-use Rattle.club_values.specs.Hour.{SpellsHour}
-use Rattle.club_values.specs.Moment.{IsMoment, SpellsMoment, moment_text}
+use Rattle.club_values.specs.{Action.action_text, Day.{IsDay, SpellsDay, day_text}, Hour.SpellsHour, Kind.kind_text}
+use Rattle.club_values.specs.{Moment.{IsMoment, SpellsMoment, moment_text}, Name.IsName, Number.SpellsNumber}
 use Rattle.club_values.specs.computed.TextOf.{name_of_text, decimal_of_text, kind_of_text, action_of_text, day_of_text, hour_of_text, moment_of_text}
+use Rattle.club_values.specs.declared.{action.Action.Action, kind.Kind.Kind}
 
 -- The functions `.._of_text` return exactly what the text spells, for any list of numbers.
 -- a name is returned exactly if the text is one, and the name is the text

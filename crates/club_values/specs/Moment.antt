@@ -1,8 +1,6 @@
 -- Moments and their texts.
 use Rattle.std.specs.Prelude.{◌≡◌, ℕ, ◌+◌, ◌-◌, ◌*◌, ◌/◌, ◌%◌, ◌<◌, ◌≤◌, List, ◌∷◌, ◌++◌}
-use Rattle.club_values.specs.Digits.{two_digits}
-use Rattle.club_values.specs.Day.{SpellsDay, day_text, first_day, last_day}
-use Rattle.club_values.specs.Hour.{hours_a_day}
+use Rattle.club_values.specs.{Day.{SpellsDay, day_text, first_day, last_day}, Digits.two_digits, Hour.hours_a_day}
 
 abbrev pub minutes_an_hour : ℕ
 minutes_an_hour = 60

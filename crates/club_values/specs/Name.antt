@@ -1,7 +1,5 @@
 -- The names of members, keys and facilities.
-use Rattle.std.specs.Prelude.{◌≢◌, ◌==◌, ◌||◌, ℕ, ◌<◌, ◌≤◌, Bool, List, length, slice_index}
-use Rattle.std.specs.Int.{is_in_range}
-use Rattle.std.specs.List.{AllPass}
+use Rattle.std.specs.{Int.is_in_range, List.AllPass, Prelude.{◌≢◌, ◌==◌, ◌||◌, ℕ, ◌<◌, ◌≤◌, Bool, List, length, slice_index}}
 
 -- a to z, 0 to 9, or a hyphen
 abbrev pub is_name_byte : ℕ → Bool

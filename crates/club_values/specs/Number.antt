@@ -1,9 +1,6 @@
 -- Numbers of a few decimal digits.
-use Rattle.std.specs.Prelude.{◌≡◌, ℕ, ◌≤◌, ◌&&◌, Bool, List, length, nat_lt, nat_le, if◌then◌else◌, Option, Some, None}
-use Rattle.std.specs.Char.{is_ascii_digit}
-use Rattle.std.specs.Fmt.{decimal}
-use Rattle.std.specs.List.{list_all}
-use Rattle.std.specs.Str.Parse.{digits_value}
+use Rattle.std.specs.{Char.is_ascii_digit, Fmt.decimal, List.list_all}
+use Rattle.std.specs.{Prelude.{◌≡◌, ℕ, ◌≤◌, ◌&&◌, Bool, List, length, nat_lt, nat_le, if◌then◌else◌, Option, Some, None}, Str.Parse.digits_value}
 
 -- the most digits of a number, and the greatest number (ours)
 abbrev pub max_digits : ℕ

@@ -1,7 +1,6 @@
 -- Slots.
 use Rattle.std.specs.Prelude.{ℕ, ◌+◌, ◌*◌}
-use Rattle.club_values.specs.declared.slot.Slot.{Slot}
-use Rattle.club_values.specs.Moment.{minutes_a_day, minutes_an_hour}
+use Rattle.club_values.specs.{Moment.{minutes_a_day, minutes_an_hour}, declared.slot.Slot.Slot}
 
 -- the minute at which a slot begins (ours)
 abbrev pub start_of : Slot → ℕ

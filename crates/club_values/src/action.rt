@@ -1,8 +1,7 @@
 //! The actions that a request may ask for.
 
 ghost use Rattle.std.specs.Prelude.{◌≡◌, Some};
-ghost use Rattle.club_values.specs.Reading.{Reads};
-ghost use Rattle.club_values.specs.Action.{action_text};
+ghost use Rattle.club_values.specs.{Action.action_text, Reading.Reads};
 ghost use Rattle.club_values.specs.computed.TextOf.{action_of_text};
 
 use std::fmt;

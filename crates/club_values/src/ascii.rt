@@ -1,7 +1,6 @@
 //! ASCII bytes as text.
 
-ghost use Rattle.std.specs.Prelude.{◌≡◌};
-ghost use Rattle.std.specs.Str.{IsAscii};
+ghost use Rattle.std.specs.{Prelude.{◌≡◌}, Str.IsAscii};
 
 use std::str;
 

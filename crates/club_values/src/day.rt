@@ -2,17 +2,9 @@
 
 ghost use Rattle.std.specs.Prelude.{◌≡◌, ◌<◌, ◌≤◌, ◌↔◌, IsSome, IfSome, Some, pos};
 ghost use Rattle.jiff_core.specs.Date.{epoch_day};
-ghost use Rattle.club_values.specs.Reading.{Reads};
-ghost use Rattle.club_values.specs.Day.{
-  IsDay,
-  SpellsDay,
-  AreDateParts,
-  IsDateText,
-  IsDateOf,
-  day_text,
-};
+ghost use Rattle.club_values.specs.Day.{IsDay, SpellsDay, AreDateParts, IsDateText, IsDateOf};
+ghost use Rattle.club_values.specs.{Day.day_text, Reading.Reads, Weekday.weekday_of};
 ghost use Rattle.club_values.specs.computed.TextOf.{day_of_text};
-ghost use Rattle.club_values.specs.Weekday.{weekday_of};
 
 use crate::ascii::text_of;
 use crate::digits::{read_two, two_digits};

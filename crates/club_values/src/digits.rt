@@ -1,13 +1,10 @@
 //! Decimal digits, parsed and written.
 
-ghost use Rattle.std.specs.Prelude.{◌≡◌, ◌<◌, ◌++◌, [], ◌∷◌};
-ghost use Rattle.std.specs.Char.{is_ascii_digit};
-ghost use Rattle.std.specs.List.{list_all};
-ghost use Rattle.club_values.specs.Reading.{Reads};
+ghost use Rattle.std.specs.{Char.is_ascii_digit, List.list_all, Prelude.{◌≡◌, ◌<◌, ◌++◌, [], ◌∷◌}};
+ghost use Rattle.club_values.specs.{Number.SpellsNumber, Reading.Reads};
+ghost use Rattle.club_values.specs.computed.TextOf.{decimal_of_text};
 ghost use Rattle.club_values.specs.Digits as spec;
 ghost use Rattle.club_values.specs.Number as number;
-ghost use Rattle.club_values.specs.Number.{SpellsNumber};
-ghost use Rattle.club_values.specs.computed.TextOf.{decimal_of_text};
 
 use crate::ascii::text_of;
 

@@ -1,10 +1,9 @@
 //! Hours of a day, and their texts.
 
 ghost use Rattle.std.specs.Prelude.{◌≡◌, ◌↔◌, IsSome, IfSome, Some};
-ghost use Rattle.club_values.specs.Reading.{Reads};
-ghost use Rattle.club_values.specs.Digits as digits;
-ghost use Rattle.club_values.specs.Hour.{IsHour, SpellsHour};
+ghost use Rattle.club_values.specs.{Hour.{IsHour, SpellsHour}, Reading.Reads};
 ghost use Rattle.club_values.specs.computed.TextOf.{hour_of_text};
+ghost use Rattle.club_values.specs.Digits as digits;
 
 use crate::ascii::text_of;
 use crate::digits::{read_two, two_digits};

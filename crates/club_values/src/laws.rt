@@ -1,18 +1,8 @@
 //! Laws of the definitions, each the contract of a function that does nothing.
 
-ghost use Rattle.club_values.specs.Laws.{
-  ReadsNames,
-  ReadsNumbers,
-  ReadsKinds,
-  ReadsActions,
-  ReadsDays,
-  ReadsHours,
-  ReadsMoments,
-  IsTextOfDay,
-  IsTextOfMoment,
-  DistinctDayTexts,
-  DistinctMomentTexts,
-};
+ghost use Rattle.club_values.specs.Laws.{ReadsNames, ReadsNumbers, ReadsKinds, ReadsActions};
+ghost use Rattle.club_values.specs.Laws.{ReadsDays, ReadsHours, ReadsMoments, IsTextOfDay};
+ghost use Rattle.club_values.specs.Laws.{IsTextOfMoment, DistinctDayTexts, DistinctMomentTexts};
 
 /// `name_of_text` returns a name exactly if the text is a name, and the name is the text.
 pub fn reads_names()

@@ -1,15 +1,8 @@
 //! Civil minutes from 2000 to 2099, and their texts.
 
 ghost use Rattle.std.specs.Prelude.{◌≡◌, ◌+◌, ◌*◌, ◌/◌, ◌%◌, ◌<◌, ◌↔◌, IsSome, IfSome, Some};
-ghost use Rattle.club_values.specs.Reading.{Reads};
-ghost use Rattle.club_values.specs.Day.{IsDay};
-ghost use Rattle.club_values.specs.Moment.{
-  IsMoment,
-  SpellsTime,
-  SpellsMoment,
-  minutes_a_day,
-  moment_text,
-};
+ghost use Rattle.club_values.specs.{Day.IsDay, Moment.{IsMoment, SpellsTime, SpellsMoment}};
+ghost use Rattle.club_values.specs.{Moment.{minutes_a_day, moment_text}, Reading.Reads};
 ghost use Rattle.club_values.specs.computed.TextOf.{moment_of_text};
 
 use crate::ascii::text_of;

@@ -1,15 +1,8 @@
 -- Exact readers are the same, so what arguments ask for doesn't depend on them.
 use Rattle.std.proofs.Common.{◌≡◌, ◌↔◌, Option, Some, None, refl, sym, subst}
-use Rattle.club_values.specs.Day.{SpellsDay}
-use Rattle.club_values.specs.Hour.{SpellsHour}
-use Rattle.club_values.specs.Kind.{kind_text}
-use Rattle.club_values.specs.Moment.{SpellsMoment}
-use Rattle.club_values.specs.Name.{IsName}
-use Rattle.command_line.specs.Job.{Answers}
-use Rattle.command_line.specs.JobLaws.{RowsAnswerOnce, ReadsOnce}
-use Rattle.clubdesk_arguments.specs.JobModel.{JobModel}
-use Rattle.clubdesk_arguments.specs.Readers.{ReadExactly, Readers}
-use Rattle.clubdesk_arguments.specs.Arguments.{ReadsValues, job_of}
+use Rattle.club_values.specs.{Day.SpellsDay, Hour.SpellsHour, Kind.kind_text, Moment.SpellsMoment, Name.IsName}
+use Rattle.command_line.specs.{Job.Answers, JobLaws.{RowsAnswerOnce, ReadsOnce}}
+use Rattle.clubdesk_arguments.specs.{Arguments.{ReadsValues, job_of}, JobModel.JobModel, Readers.{ReadExactly, Readers}}
 
 same_value : {V : Type 0} (Spelled : V → Type 0) (a b : Option V) → ((v : V) → (a ≡ Some v) ↔ Spelled v) → ((v : V) → (b ≡ Some v) ↔ Spelled v) → a ≡ b
 same_value Spelled None None f g = refl

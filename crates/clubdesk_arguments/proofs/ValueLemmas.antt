@@ -1,8 +1,6 @@
 -- The roots that arguments spell, as the code reads them.
-use Rattle.std.proofs.Common.{◌≡◌, ◌⊎◌, ◌↔◌, ℕ, ◌<◌, List, length, Option, Some, None, inl, inr, refl, sym, arith}
+use Rattle.std.proofs.{Common.{◌≡◌, ◌⊎◌, ◌↔◌, ℕ, ◌<◌, List, length, Option, Some, None, inl, inr, refl, sym, arith}, lemmas.Bool.{cases_lt, Decides.nat_tests}}
 use Rattle.std.specs.Prelude.{IsSome, IfSome}
-use Rattle.std.proofs.lemmas.Bool.{cases_lt}
-use Rattle.std.proofs.lemmas.Bool.Decides.{nat_tests}
 use Rattle.club_rows.specs.Limits.{IsRoot}
 use Rattle.clubdesk_arguments.specs.Values.{has_key_root_length}
 

@@ -1,11 +1,9 @@
 -- The program's commands and options, as `clap` reads them (ours).
 use Rattle.std.specs.Prelude.{List, [], ◌∷◌, ◌++◌, map, codes}
 use Rattle.clap.specs.Words.{Rule, Text}
-use Rattle.command_line.specs.Application.{as_required, flag_named, form_or_v2, option_named, positional_named, with_default}
-use Rattle.command_line.specs.Table.{Table}
-use Rattle.clubdesk_arguments.specs.declared.table.CommandName.{CommandName}
-use Rattle.clubdesk_arguments.specs.declared.table.CommandName.TheVariants.{AddMember, Credit, SetQuota, AddFacility, AddKey, RevokeKey, RotateKey}
-use Rattle.clubdesk_arguments.specs.declared.table.CommandName.TheVariants.{CloseSlot, OpenSlot, Sheet, Serve, ShowAccount, ShowSlot}
+use Rattle.command_line.specs.{Application.{as_required, flag_named, form_or_v2, option_named, positional_named, with_default}, Table.Table}
+use Rattle.clubdesk_arguments.specs.declared.table.CommandName.{CommandName, TheVariants.{AddMember, Credit, SetQuota, AddFacility, AddKey, RevokeKey}}
+use Rattle.clubdesk_arguments.specs.declared.table.CommandName.TheVariants.{RotateKey, CloseSlot, OpenSlot, Sheet, Serve, ShowAccount, ShowSlot}
 
 -- positional arguments that must be given, of which the first is the file
 abbrev pub positionals_over_file : List Text → List Rule

@@ -1,31 +1,20 @@
 -- What the arguments ask for (ours).
+use Rattle.std.specs.{Borrow.Bor, Option.{ok_or, unwrap_or}}
 use Rattle.std.specs.Prelude.{◌≡◌, ℕ, Bool, true, false, List, Option, Some, None, option_map, option_and_then, Result, Ok, Err, codes}
-use Rattle.std.specs.Borrow.{Bor}
-use Rattle.std.specs.Option.{ok_or, unwrap_or}
 use Rattle.clap.specs.Words.{Row, Text, first_of}
 use Rattle.clap.specs.declared.error.kind.ErrorKind.TheVariants as kind
-use Rattle.command_line.specs.Job.{Answers, JobOf, ReadsJob, Refusal, bad_value, form_given, refused_as}
-use Rattle.command_line.specs.Arguments.{is_set, value_in}
-use Rattle.command_line.specs.declared.errors.ArgumentsFault.{ArgumentsFault}
-use Rattle.command_line.specs.declared.job.Asked.{Asked}
-use Rattle.command_line.specs.declared.job.Asked.TheVariants.{Perform}
+use Rattle.command_line.specs.{Arguments.{is_set, value_in}, Job.{Answers, JobOf, ReadsJob, Refusal, bad_value, form_given, refused_as}}
+use Rattle.command_line.specs.declared.{errors.ArgumentsFault.ArgumentsFault, job.Asked.{Asked, TheVariants.Perform}}
 use Rattle.club_values.specs.declared.slot.Slot.{Slot}
 use Rattle.club_core.specs.declared.command.Command.TheVariants as office
 use Rattle.pass_forms.specs.declared.form.Form.{Form}
-use Rattle.clubdesk_arguments.specs.Application.{clubdesk}
-use Rattle.clubdesk_arguments.specs.JobModel.{JobModel}
-use Rattle.clubdesk_arguments.specs.Readers.{ReadExactly, Readers}
-use Rattle.clubdesk_arguments.specs.Values.{count_of, parse_number, patience_of, port_of, key_root_of}
-use Rattle.club_clock.specs.Zone.{zone_of}
-use Rattle.club_clock.specs.declared.clock.Clock.{Clock}
-use Rattle.club_clock.specs.declared.clock.Clock.TheVariants.{Fixed, InZone}
-use Rattle.clubdesk_arguments.specs.declared.table.CommandName.{CommandName}
-use Rattle.clubdesk_arguments.specs.declared.table.CommandName.TheVariants as command
-use Rattle.clubdesk_arguments.specs.declared.task.KeyChange.TheVariants.{Add, Rotate}
-use Rattle.clubdesk_arguments.specs.declared.task.KeyCommand.{KeyCommand}
-use Rattle.clubdesk_arguments.specs.declared.task.Task.TheVariants.{Give, Key, Sheet, ShowAccount, ShowSlot}
-use Rattle.clubdesk_arguments.specs.declared.task.Work.{Work}
+use Rattle.clubdesk_arguments.specs.{Application.clubdesk, JobModel.JobModel, Readers.{ReadExactly, Readers}}
+use Rattle.clubdesk_arguments.specs.{Values.{count_of, parse_number, patience_of, port_of, key_root_of}, declared.table.CommandName.CommandName}
+use Rattle.clubdesk_arguments.specs.declared.task.{KeyChange.TheVariants.{Add, Rotate}, KeyCommand.KeyCommand}
+use Rattle.clubdesk_arguments.specs.declared.task.{Task.TheVariants.{Give, Key, Sheet, ShowAccount, ShowSlot}, Work.Work}
 use Rattle.clubdesk_arguments.specs.declared.task.Work.TheVariants.{Office, Rootless, Serve}
+use Rattle.club_clock.specs.{Zone.zone_of, declared.clock.Clock.{Clock, TheVariants.{Fixed, InZone}}}
+use Rattle.clubdesk_arguments.specs.declared.table.CommandName.TheVariants as command
 
 -- the `?` of the logic
 infixl 10 ◌>>=◌

@@ -1,15 +1,11 @@
 -- The exit status and the line of each fault (ours).
-use Rattle.std.specs.Prelude.{ℕ, List, ◌++◌, Option, Some, None, codes}
-use Rattle.std.specs.Fmt.{with_newline}
-use Rattle.std.specs.String.{string_bytes}
+use Rattle.std.specs.{Fmt.with_newline, Prelude.{ℕ, List, ◌++◌, Option, Some, None, codes}, String.string_bytes}
 use Rattle.command_line.specs.declared.errors.ArgumentsFault.{ArgumentsFault}
 use Rattle.command_line.specs.declared.errors.ArgumentsFault.TheVariants as arguments
-use Rattle.club_core.specs.Faults.{office_fault_text}
-use Rattle.club_core.specs.declared.store.StoreFault.{StoreFault}
+use Rattle.club_core.specs.{Faults.office_fault_text, declared.store.StoreFault.StoreFault}
 use Rattle.club_core.specs.declared.store.StoreFault.TheVariants as store
-use Rattle.clubdesk_arguments.specs.declared.fault.Fault.{Fault}
-use Rattle.clubdesk_arguments.specs.declared.fault.Fault.TheVariants.{Refused, Arguments, BadValue, Memory, Storage}
-use Rattle.clubdesk_arguments.specs.declared.fault.Fault.TheVariants.{ClockOutOfRange, InputOutput, NoAnswer, Answered}
+use Rattle.clubdesk_arguments.specs.declared.fault.Fault.{Fault, TheVariants.{Refused, Arguments, BadValue, Memory, Storage, ClockOutOfRange, InputOutput}}
+use Rattle.clubdesk_arguments.specs.declared.fault.Fault.TheVariants.{NoAnswer, Answered}
 
 abbrev pub fault_status : Fault → ℕ
 fault_status (Refused fault) = 1

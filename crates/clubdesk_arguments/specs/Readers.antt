@@ -1,11 +1,6 @@
 -- How the texts of the club's values are read (ours).
 use Rattle.std.specs.Prelude.{◌≡◌, ◌↔◌, ℕ, List, Option, Some}
-use Rattle.club_values.specs.Day.{SpellsDay}
-use Rattle.club_values.specs.Hour.{SpellsHour}
-use Rattle.club_values.specs.Kind.{kind_text}
-use Rattle.club_values.specs.Moment.{SpellsMoment}
-use Rattle.club_values.specs.Name.{IsName}
-use Rattle.club_values.specs.declared.kind.Kind.{Kind}
+use Rattle.club_values.specs.{Day.SpellsDay, Hour.SpellsHour, Kind.kind_text, Moment.SpellsMoment, Name.IsName, declared.kind.Kind.Kind}
 
 -- a reader of texts for each kind of value
 pub record Readers : Type 0 where

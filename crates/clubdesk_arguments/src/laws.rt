@@ -1,7 +1,6 @@
 //! Laws of the definitions. Each law is the contract of a function that does nothing.
 
-ghost use Rattle.clubdesk_arguments.specs.Laws.{AskForOneJob};
-ghost use Rattle.clubdesk_arguments.specs.Readers.{ReadExactly};
+ghost use Rattle.clubdesk_arguments.specs.{Laws.AskForOneJob, Readers.ReadExactly};
 ghost use Rattle.clubdesk_arguments.specs.computed.TextReaders.{text_readers};
 
 use crate::task::Job;

@@ -1,23 +1,16 @@
 -- What a server does to its desk it does alike to another, if each answer and each command does.
 use Rattle.std.proofs.Common.{◌≡◌, ℕ, List, ◌∷◌, Option, Some, None, Result, Ok, Err, refl}
 use Rattle.jiff_core.specs.declared.timestamp.Timestamp.{Timestamp}
-use Rattle.club_core.specs.declared.reply.Reply.{Reply}
-use Rattle.club_core.specs.declared.request.Request.{Request}
+use Rattle.club_core.specs.declared.{reply.Reply.Reply, request.Request.Request}
 use Rattle.club_clock.specs.Moments.{GivesMoment, showing}
-use Rattle.club_http.specs.Replied.{AnswerRelation, IsReplied}
+use Rattle.club_http.specs.{Replied.{AnswerRelation, IsReplied}, declared.fault.AnswerFault.{AnswerFault, TheVariants.{Read, Write}}}
 use Rattle.club_http.specs.Replied as replied
-use Rattle.club_http.specs.declared.fault.AnswerFault.{AnswerFault}
-use Rattle.club_http.specs.declared.fault.AnswerFault.TheVariants.{Read, Write}
-use Rattle.clubdesk_arguments.specs.declared.fault.Fault.{Fault}
-use Rattle.clubdesk_arguments.specs.declared.task.Service.{Service}
+use Rattle.clubdesk_arguments.specs.declared.{fault.Fault.Fault, task.Service.Service}
 use Rattle.clubdesk_commands.specs.Run.{RunsServer, over_socket}
 use Rattle.clubdesk_commands.specs.Run as run
-use Rattle.desk_server.specs.Served.{AreCommanded, AreServed, CommandRelation, IsAttended, IsCarriedOut, IsExchanged, ServesOne, Turn}
+use Rattle.desk_server.specs.{Served.{AreCommanded, AreServed, CommandRelation, IsAttended, IsCarriedOut, IsExchanged, ServesOne, Turn}, declared.log.Fate.Fate}
+use Rattle.desk_server.specs.declared.{log.Fate.TheVariants.{Absent, Overrun, Unanswered, Exchanged, Commanded}, office.{Answer.Answer, Carried.Carried}}
 use Rattle.desk_server.specs.Served as served
-use Rattle.desk_server.specs.declared.log.Fate.{Fate}
-use Rattle.desk_server.specs.declared.log.Fate.TheVariants.{Absent, Overrun, Unanswered, Exchanged, Commanded}
-use Rattle.desk_server.specs.declared.office.Answer.{Answer}
-use Rattle.desk_server.specs.declared.office.Carried.{Carried}
 
 -- `Alike old new Gives`: what changed the one desk from `old` to `new` is on the other as `Gives` says. It holds of nothing, and of two steps if of each.
 module _ {D E : Type 0} (Alike : D → D → (E → E → Type 0) → Type 0)

@@ -1,16 +1,12 @@
 -- A server at a desk with the machine's clock is one over the store, since the clock stays the same.
 use Rattle.std.proofs.Common.{◌≡◌, ℕ, List, Option, Result, ◌∙◌, ap, refl}
 use Rattle.jiff_core.specs.declared.timestamp.Timestamp.{Timestamp}
-use Rattle.club_core.specs.declared.reply.Reply.{Reply}
-use Rattle.club_core.specs.declared.request.Request.{Request}
+use Rattle.club_core.specs.declared.{reply.Reply.Reply, request.Request.Request}
 use Rattle.club_http.specs.Replied.{AnswerRelation}
-use Rattle.clubdesk_arguments.specs.declared.fault.Fault.{Fault}
-use Rattle.clubdesk_arguments.specs.declared.task.Service.{Service}
-use Rattle.clubdesk_commands.specs.OfficeDesk.{answers_with_clock, carries_out_with_clock}
-use Rattle.clubdesk_commands.specs.Run.{RunsServer}
+use Rattle.clubdesk_arguments.specs.declared.{fault.Fault.Fault, task.Service.Service}
+use Rattle.clubdesk_commands.specs.{OfficeDesk.{answers_with_clock, carries_out_with_clock}, Run.RunsServer}
 use Rattle.clubdesk_commands.proofs.AlikeLemmas.{run_alike}
-use Rattle.desk_server.specs.Served.{CommandRelation, Turn}
-use Rattle.desk_server.specs.declared.office.Answer.{Answer}
+use Rattle.desk_server.specs.{Served.{CommandRelation, Turn}, declared.office.Answer.Answer}
 
 module _ {S Machine : Type 0} (machine : Machine) where
   -- with this clock before, it is there after, and the store changes as `Gives` says

@@ -1,13 +1,8 @@
 -- The pieces of a command, one after the other, and split again.
-use Rattle.std.proofs.Common.{rules, arith, ◌≡◌, ℕ, suc, ◌+◌, ◌%◌, ◌^◌, ◌<◌, ◌≤◌, List, [], ◌∷◌, ◌++◌, length, take, map}
-use Rattle.std.proofs.Common.{refl, sym, ap, subst, ◌∙◌, append_assoc, append-nil, decimal, get_or, slice_index_or, remove}
-use Rattle.std.proofs.lemmas.List.{length-append, take_more}
-use Rattle.std.proofs.lemmas.Fmt.{decimal_by_steps, IsAscii-decimal}
-use Rattle.std.proofs.lemmas.Str.{IsUtf8-append, IsUtf8-from_ascii, IsUtf8-nil}
-use Rattle.std.specs.List.{AllByRecursion}
-use Rattle.std.specs.Str.{IsUtf8}
-use Rattle.std.specs.Str.Iter.{LacksByte}
-use Rattle.std.proofs.lemmas.Grind.{elements}
+use Rattle.std.proofs.Common.{rules, arith, ◌≡◌, ℕ, suc, ◌+◌, ◌%◌, ◌^◌, ◌<◌, ◌≤◌, List, [], ◌∷◌, ◌++◌, length, take, map, refl, sym, ap, subst, ◌∙◌}
+use Rattle.std.proofs.{Common.{append_assoc, append-nil, decimal, get_or, slice_index_or, remove}, lemmas.Fmt.{decimal_by_steps, IsAscii-decimal}}
+use Rattle.std.proofs.lemmas.{Grind.elements, List.{length-append, take_more}, Str.{IsUtf8-append, IsUtf8-from_ascii, IsUtf8-nil}}
+use Rattle.std.specs.{List.AllByRecursion, Str.{IsUtf8, Iter.LacksByte}}
 use Rattle.clap.specs.Words.{Text}
 use Rattle.clubdesk_commands.specs.HandedCommand.{IsPieceText, SpellsCommand, piece, pieces}
 

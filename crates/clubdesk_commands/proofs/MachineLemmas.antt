@@ -1,48 +1,26 @@
 -- What a server does to its store, the machine does to the club that this represents.
 use Rattle.std.proofs.Common.{◌≡◌, ◌≢◌, ◌⊎◌, ℕ, false, List, ◌∷◌, Option, Some, None, Result, Ok, Err, inl, inr, refl, ap}
-use Rattle.std.specs.Prelude.{String}
-use Rattle.std.specs.declared.alloc.Global.{Global}
+use Rattle.std.specs.{Prelude.String, declared.alloc.Global.Global}
 use Rattle.clap.specs.Words.{Text}
-use Rattle.club_core.specs.Answer.{verdict_in}
-use Rattle.club_core.specs.Club.{Club}
-use Rattle.club_core.specs.Pass.{Words}
-use Rattle.club_core.specs.Run.{Event, Asked, step, Response, ToMember}
-use Rattle.club_core.specs.declared.change.Change.{Change}
-use Rattle.club_core.specs.declared.command.Command.{Command}
-use Rattle.club_core.specs.declared.refusal.Refusal.TheVariants.{Unavailable}
-use Rattle.club_core.specs.declared.reply.Reply.{Reply}
-use Rattle.club_core.specs.declared.reply.Reply.TheVariants.{Refused}
-use Rattle.club_core.specs.declared.store.StoreFault.{StoreFault}
-use Rattle.club_gate.specs.Desk.{HasFailed, IsAnsweredBy, IsDecidedBy, IsRefusedBy, Steps}
-use Rattle.club_gate.specs.Response.{desk_presentation}
-use Rattle.club_gate.specs.declared.event.OfficeReply.{OfficeReply}
+use Rattle.club_core.specs.{Answer.verdict_in, Club.Club, Pass.Words, Run.{Event, Asked, step, Response, ToMember}, declared.change.Change.Change}
+use Rattle.club_core.specs.declared.{command.Command.Command, refusal.Refusal.TheVariants.Unavailable, reply.Reply.{Reply, TheVariants.Refused}}
+use Rattle.club_core.specs.declared.{request.Request.Request, store.StoreFault.StoreFault}
+use Rattle.club_gate.specs.{Desk.{HasFailed, IsAnsweredBy, IsDecidedBy, IsRefusedBy, Steps}, Response.desk_presentation, declared.event.OfficeReply.OfficeReply}
 use Rattle.club_gate.specs.declared.fault.Fault.{Fault as DeskFault}
-use Rattle.club_http.specs.Desk.{AnswersBy}
-use Rattle.club_http.specs.Replied.{IsReplied}
+use Rattle.club_http.specs.{Desk.AnswersBy, Replied.IsReplied, declared.fault.AnswerFault.{AnswerFault, TheVariants.{Read, Write}}}
 use Rattle.club_http.specs.Replied as replied
-use Rattle.club_http.specs.declared.fault.AnswerFault.{AnswerFault}
-use Rattle.club_http.specs.declared.fault.AnswerFault.TheVariants.{Read, Write}
 use Rattle.club_laws.specs.Failed.{IsStep, is_unavailable}
-use Rattle.clubdesk_arguments.specs.declared.fault.Fault.{Fault}
-use Rattle.clubdesk_arguments.specs.declared.task.Service.{Service}
-use Rattle.clubdesk_arguments.specs.declared.task.Task.{Task}
-use Rattle.clubdesk_arguments.specs.declared.task.Task.TheVariants.{Give, Key, ShowAccount}
-use Rattle.clubdesk_commands.specs.Does.{DeskShows, Does, IsAnswered}
+use Rattle.clubdesk_arguments.specs.declared.{fault.Fault.Fault, task.{Service.Service, Task.{Task, TheVariants.{Give, Key, ShowAccount}}}}
+use Rattle.clubdesk_commands.specs.{Does.{DeskShows, Does, IsAnswered}, Machine.{Always, IsItself, machine_answers, machine_commands}}
+use Rattle.clubdesk_commands.specs.{OfficeDesk.{CarriesOutBy, DoesArguments}, Run.{FollowsMachine, RunsServer, over_socket}}
 use Rattle.clubdesk_commands.specs.Does as does
-use Rattle.clubdesk_commands.specs.Machine.{Always, IsItself, machine_answers, machine_commands}
 use Rattle.clubdesk_commands.proofs.AlikeLemmas.{run_alike}
 use Rattle.jiff_core.specs.declared.timestamp.Timestamp.{Timestamp}
-use Rattle.club_core.specs.declared.request.Request.{Request}
-use Rattle.clubdesk_commands.specs.OfficeDesk.{CarriesOutBy, DoesArguments}
 use Rattle.clubdesk_commands.specs.OfficeDesk as spec
-use Rattle.clubdesk_commands.specs.Run.{FollowsMachine, RunsServer, over_socket}
 use Rattle.clubdesk_commands.specs.Run as run
-use Rattle.desk_server.specs.Served.{AreCommanded, AreServed, IsAttended, IsCarriedOut, IsExchanged, ServesOne, Turn}
+use Rattle.desk_server.specs.{Served.{AreCommanded, AreServed, IsAttended, IsCarriedOut, IsExchanged, ServesOne, Turn}, declared.log.Fate.Fate}
+use Rattle.desk_server.specs.declared.{log.Fate.TheVariants.{Absent, Overrun, Unanswered, Exchanged, Commanded}, office.{Answer.Answer, Carried.Carried}}
 use Rattle.desk_server.specs.Served as served
-use Rattle.desk_server.specs.declared.log.Fate.{Fate}
-use Rattle.desk_server.specs.declared.log.Fate.TheVariants.{Absent, Overrun, Unanswered, Exchanged, Commanded}
-use Rattle.desk_server.specs.declared.office.Answer.{Answer}
-use Rattle.desk_server.specs.declared.office.Carried.{Carried}
 use Rattle.club_clock.specs.Moments.{GivesMoment}
 
 -- a step of the machine, as an event that a club answers in place of a store

@@ -2,25 +2,13 @@
 use Rattle.std.proofs.Common.{◌≡◌, ℕ, List, Option, Result, Ok, Err, subst, ◌∙◌, inl, inr, refl}
 use Rattle.clap.specs.Words.{Text}
 use Rattle.jiff_core.specs.declared.timestamp.Timestamp.{Timestamp}
-use Rattle.club_core.specs.declared.store.ClubStore.{Ghosts as StoreWords}
-use Rattle.club_core.specs.declared.store.StoreFault.{StoreFault}
+use Rattle.club_core.specs.declared.store.{ClubStore.Ghosts as StoreWords, StoreFault.StoreFault}
 use Rattle.club_core.specs.declared.store.StoreFault.TheVariants as store
-use Rattle.desk_server.specs.Databases.{Giving}
-use Rattle.desk_server.specs.Served.{Turn}
-use Rattle.desk_server.specs.declared.databases.Databases.{Ghosts as DatabasesWords}
-use Rattle.desk_server.specs.declared.databases.Visit.{Ghosts as VisitWords}
-use Rattle.clubdesk_arguments.specs.Fault.{fault_of_opening}
-use Rattle.clubdesk_arguments.specs.JobModel.{JobModel}
-use Rattle.clubdesk_arguments.specs.Arguments.{AskFor, ReadsArguments}
-use Rattle.clubdesk_arguments.specs.declared.fault.Fault.{Fault}
-use Rattle.clubdesk_arguments.specs.declared.fault.Fault.TheVariants.{Memory, ClockOutOfRange, InputOutput}
-use Rattle.clubdesk_arguments.specs.declared.task.Service.{Service}
-use Rattle.clubdesk_arguments.specs.declared.task.Work.{Work}
-use Rattle.command_line.specs.declared.job.Asked.{Asked}
-use Rattle.command_line.specs.declared.job.Asked.TheVariants.{Perform}
-use Rattle.clubdesk_commands.specs.HandedCommand.{command_bytes}
-use Rattle.clubdesk_commands.specs.Output.{EndsWork, Stream}
-use Rattle.clubdesk_commands.specs.Run.{Announces, IsHandedOver, IsReply, Serves}
+use Rattle.desk_server.specs.{Databases.Giving, Served.Turn, declared.databases.{Databases.Ghosts as DatabasesWords, Visit.Ghosts as VisitWords}}
+use Rattle.clubdesk_arguments.specs.{Arguments.{AskFor, ReadsArguments}, Fault.fault_of_opening, JobModel.JobModel, declared.fault.Fault.Fault}
+use Rattle.clubdesk_arguments.specs.declared.{fault.Fault.TheVariants.{Memory, ClockOutOfRange, InputOutput}, task.{Service.Service, Work.Work}}
+use Rattle.command_line.specs.declared.job.Asked.{Asked, TheVariants.Perform}
+use Rattle.clubdesk_commands.specs.{HandedCommand.command_bytes, Output.{EndsWork, Stream}, Run.{Announces, IsHandedOver, IsReply, Serves}}
 use Rattle.clubdesk_commands.specs.Run as spec
 
 -- arguments that were read as a job ask for its work

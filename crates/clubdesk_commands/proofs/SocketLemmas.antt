@@ -3,10 +3,9 @@ use Rattle.std.proofs.Common.{ℕ, List}
 use Rattle.club_clock.specs.Moments.{GivesMoment}
 use Rattle.club_http.specs.Replied.{AnswerRelation}
 use Rattle.clubdesk_commands.specs.Run.{over_socket}
-use Rattle.desk_server.specs.Served.{AreServed, CommandRelation, Ends, ServesOne, Turn}
-use Rattle.desk_server.specs.Served as served
-use Rattle.desk_server.specs.declared.log.Fate.{Fate}
+use Rattle.desk_server.specs.{Served.{AreServed, CommandRelation, Ends, ServesOne, Turn}, declared.log.Fate.Fate}
 use Rattle.desk_server.specs.declared.log.Fate.TheVariants.{Absent, Overrun, Unanswered, Exchanged, Commanded}
+use Rattle.desk_server.specs.Served as served
 
 module _ {Clock Desk : Type 0} (Given : GivesMoment Clock) (Answers : ℕ → AnswerRelation Desk) (Carries : CommandRelation Desk) (Ended : Ends) where
   one_over : (clock : Clock) (desk : Desk) (f : ℕ) (meanwhile : List Fate) (fate : Fate) (clock' : Clock) (desk' : Desk) (f' : ℕ)

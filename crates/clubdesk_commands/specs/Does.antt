@@ -1,30 +1,17 @@
 -- What a task of the office does at a desk (ours).
-use Rattle.std.specs.Prelude.{◌≡◌, ℕ, List, [], ◌∷◌, ◌++◌, codes, Option, MatchOption, Result, Ok, Err, IfOk, String}
-use Rattle.std.specs.String.{string_bytes}
+use Rattle.std.specs.{Prelude.{◌≡◌, ℕ, List, [], ◌∷◌, ◌++◌, codes, Option, MatchOption, Result, Ok, Err, IfOk, String}, String.string_bytes}
 use Rattle.std.specs.declared.alloc.Global.{Global}
-use Rattle.club_core.specs.declared.command.Command.{Command}
+use Rattle.club_core.specs.{Club.Club, Run.ToOffice, Sheet.IsSheet, Store.KeepsClub, declared.command.Command.Command}
 use Rattle.club_core.specs.declared.command.Command.TheVariants as office
-use Rattle.club_core.specs.Club.{Club}
-use Rattle.club_core.specs.Run.{ToOffice}
 use Rattle.club_core.specs.Run as machine
-use Rattle.club_core.specs.Sheet.{IsSheet}
-use Rattle.club_core.specs.Store.{KeepsClub}
-use Rattle.club_gate.specs.Desk.{OfItsClub, Steps}
-use Rattle.club_gate.specs.Shown.{ReturnsShown, shown_account, shown_slot}
-use Rattle.club_gate.specs.Minted.{key_pass, minted_signature}
-use Rattle.club_gate.specs.declared.event.OfficeReply.{OfficeReply}
+use Rattle.club_gate.specs.{Desk.{OfItsClub, Steps}, Minted.{key_pass, minted_signature}, Shown.{ReturnsShown, shown_account, shown_slot}}
+use Rattle.club_gate.specs.declared.{event.OfficeReply.OfficeReply, fault.Fault.Fault as DeskFault}
 use Rattle.club_gate.specs.declared.event.OfficeReply.TheVariants as replies
-use Rattle.club_gate.specs.declared.fault.Fault.{Fault as DeskFault}
 use Rattle.club_gate.specs.declared.fault.Fault.TheVariants as desk
-use Rattle.pass_forms.specs.declared.form.Form.{Form}
-use Rattle.pass_forms.specs.Writing.{IsWritableText}
+use Rattle.pass_forms.specs.{Writing.IsWritableText, declared.form.Form.Form}
 use Rattle.pass_json.specs.AnyForm.{IsTextIn}
-use Rattle.clubdesk_arguments.specs.Fault.{fault_of_opening}
-use Rattle.clubdesk_arguments.specs.declared.fault.Fault.{Fault}
-use Rattle.clubdesk_arguments.specs.declared.fault.Fault.TheVariants.{Refused, Memory, ClockOutOfRange}
-use Rattle.clubdesk_arguments.specs.declared.task.KeyChange.{KeyChange}
-use Rattle.clubdesk_arguments.specs.declared.task.KeyChange.TheVariants.{Add, Rotate}
-use Rattle.clubdesk_arguments.specs.declared.task.Task.{Task}
+use Rattle.clubdesk_arguments.specs.{Fault.fault_of_opening, declared.fault.Fault.{Fault, TheVariants.{Refused, Memory, ClockOutOfRange}}}
+use Rattle.clubdesk_arguments.specs.declared.task.{KeyChange.{KeyChange, TheVariants.{Add, Rotate}}, Task.Task}
 use Rattle.clubdesk_arguments.specs.declared.task.Task.TheVariants.{Give, Key, Sheet, ShowAccount, ShowSlot}
 use Rattle.club_clock.specs.Moments.{IsMomentOf}
 use Rattle.jiff_core.specs.declared.timestamp.Timestamp.{Timestamp}

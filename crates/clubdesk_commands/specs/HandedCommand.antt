@@ -1,8 +1,5 @@
 -- The bytes of a command that is handed to a server (ours).
-use Rattle.std.specs.Prelude.{◌≡◌, ◌≢◌, ℕ, List, [], ◌∷◌, ◌++◌, length, map, Option, Some, None, decimal}
-use Rattle.std.specs.List.{AllByRecursion}
-use Rattle.std.specs.Str.{IsUtf8}
-use Rattle.std.specs.Str.Iter.{LacksByte}
+use Rattle.std.specs.{List.AllByRecursion, Prelude.{◌≡◌, ◌≢◌, ℕ, List, [], ◌∷◌, ◌++◌, length, map, Option, Some, None, decimal}, Str.{IsUtf8, Iter.LacksByte}}
 use Rattle.std.specs.String.{string_bytes}
 use Rattle.clap.specs.Words.{Text}
 use Rattle.clubdesk_commands.specs.declared.handed_command.HandedCommand.{HandedCommand}

@@ -1,11 +1,7 @@
 -- A key's root from standard input (ours).
-use Rattle.std.specs.Prelude.{◌≡◌, ℕ, List, Option, Some, None, Result, Ok, Err, if◌then◌else◌}
-use Rattle.std.specs.Io.BufRead.{strip_last}
-use Rattle.std.specs.Str.{is_utf8}
+use Rattle.std.specs.{Io.BufRead.strip_last, Prelude.{◌≡◌, ℕ, List, Option, Some, None, Result, Ok, Err, if◌then◌else◌}, Str.is_utf8}
 use Rattle.command_line.specs.Input.{ReadsAtMost}
-use Rattle.clubdesk_arguments.specs.Values.{key_root_of}
-use Rattle.clubdesk_arguments.specs.declared.fault.Fault.{Fault}
-use Rattle.clubdesk_arguments.specs.declared.fault.Fault.TheVariants.{BadValue, InputOutput}
+use Rattle.clubdesk_arguments.specs.{Values.key_root_of, declared.fault.Fault.{Fault, TheVariants.{BadValue, InputOutput}}}
 
 -- the root that a text spells
 abbrev pub root_of_text : List ℕ → Option (List ℕ)

@@ -1,11 +1,8 @@
 -- The club in place of a store: what its machine makes of requests and commands (ours).
 use Rattle.std.specs.Prelude.{◌≡◌, ℕ, List, Option}
 use Rattle.jiff_core.specs.declared.timestamp.Timestamp.{Timestamp}
-use Rattle.club_core.specs.Club.{Club}
-use Rattle.club_core.specs.Pass.{Words}
-use Rattle.club_core.specs.Run.{Asked, ToMember}
-use Rattle.club_gate.specs.DecodedPass.{AreWordsOf}
-use Rattle.club_gate.specs.Response.{desk_presentation}
+use Rattle.club_core.specs.{Club.Club, Pass.Words, Run.{Asked, ToMember}}
+use Rattle.club_gate.specs.{DecodedPass.AreWordsOf, Response.desk_presentation}
 use Rattle.club_http.specs.Replied.{AnswerRelation}
 use Rattle.club_laws.specs.Failed.{IsStep}
 use Rattle.desk_server.specs.Served as served

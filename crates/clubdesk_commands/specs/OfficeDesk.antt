@@ -1,27 +1,15 @@
 -- What the desk of a server does with a command that was handed to it (ours).
-use Rattle.std.specs.Prelude.{◌≡◌, ◌⊎◌, ℕ, List, [], ◌++◌, take, slice_get, codes, IfSome, Option, Some, None, Result, Ok, Err}
-use Rattle.std.specs.String.{string_bytes}
-use Rattle.clap.specs.Words.{Text}
-use Rattle.clap.specs.declared.error.Error.{Error}
+use Rattle.std.specs.{Prelude.{◌≡◌, ◌⊎◌, ℕ, List, [], ◌++◌, take, slice_get, codes, IfSome, Option, Some, None, Result, Ok, Err}, String.string_bytes}
+use Rattle.clap.specs.{Words.Text, declared.error.Error.Error}
 use Rattle.jiff_core.specs.declared.timestamp.Timestamp.{Timestamp}
 use Rattle.club_core.specs.Club.{Club}
 use Rattle.club_http.specs.Replied.{AnswerRelation}
-use Rattle.desk_server.specs.Served.{CommandRelation}
-use Rattle.desk_server.specs.declared.office.Answer.{Answer}
-use Rattle.command_line.specs.declared.errors.ArgumentsFault.{ArgumentsFault}
-use Rattle.command_line.specs.declared.job.Asked.TheVariants.{ShowText}
-use Rattle.clubdesk_arguments.specs.Fault.{fault_line, fault_status, of_arguments}
-use Rattle.clubdesk_arguments.specs.Arguments.{AskFor, ReadsArguments}
-use Rattle.clubdesk_arguments.specs.declared.fault.Fault.{Fault}
-use Rattle.clubdesk_arguments.specs.declared.fault.Fault.TheVariants.{Arguments, BadValue}
-use Rattle.clubdesk_arguments.specs.declared.task.KeyCommand.{KeyCommand}
-use Rattle.clubdesk_arguments.specs.declared.task.Service.{Service}
-use Rattle.clubdesk_arguments.specs.declared.task.Task.{Task}
-use Rattle.clubdesk_arguments.specs.declared.task.Task.TheVariants.{Key}
-use Rattle.clubdesk_arguments.specs.declared.task.Work.TheVariants.{Office, Rootless, Serve}
-use Rattle.clubdesk_commands.specs.Does.{Does}
-use Rattle.clubdesk_commands.specs.Input.{root_in_input}
-use Rattle.clubdesk_commands.specs.HandedCommand.{SpellsCommand, SpellsNoCommand}
+use Rattle.desk_server.specs.{Served.CommandRelation, declared.office.Answer.Answer}
+use Rattle.command_line.specs.declared.{errors.ArgumentsFault.ArgumentsFault, job.Asked.TheVariants.ShowText}
+use Rattle.clubdesk_arguments.specs.{Arguments.{AskFor, ReadsArguments}, Fault.{fault_line, fault_status, of_arguments}, declared.fault.Fault.Fault}
+use Rattle.clubdesk_arguments.specs.declared.{fault.Fault.TheVariants.{Arguments, BadValue}, task.{KeyCommand.KeyCommand, Service.Service, Task.Task}}
+use Rattle.clubdesk_arguments.specs.declared.task.{Task.TheVariants.Key, Work.TheVariants.{Office, Rootless, Serve}}
+use Rattle.clubdesk_commands.specs.{Does.Does, HandedCommand.{SpellsCommand, SpellsNoCommand}, Input.root_in_input}
 
 -- the status of an answer and its text; of a fault its line, or that memory was refused for that
 abbrev pub AnswersWith : Result (List ℕ) Fault → Answer → Type 0

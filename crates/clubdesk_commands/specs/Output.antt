@@ -1,12 +1,8 @@
 -- What was written (ours).
-use Rattle.std.specs.Prelude.{◌≡◌, ◌⊎◌, ℕ, List, Option, Result, Ok, Err, IfErr, String}
-use Rattle.std.specs.String.{string_bytes}
-use Rattle.std.specs.Io.KnownBytes.{Appends}
+use Rattle.std.specs.{Io.KnownBytes.Appends, Prelude.{◌≡◌, ◌⊎◌, ℕ, List, Option, Result, Ok, Err, IfErr, String}, String.string_bytes}
 use Rattle.command_line.specs.Output.{AppendsFront}
-use Rattle.desk_server.specs.Served.{AreNoted, Turn}
-use Rattle.desk_server.specs.declared.log.Log.{Ghosts as LogWords}
-use Rattle.clubdesk_arguments.specs.declared.fault.Fault.{Fault}
-use Rattle.clubdesk_arguments.specs.declared.fault.Fault.TheVariants.{Arguments, BadValue, ClockOutOfRange, InputOutput}
+use Rattle.desk_server.specs.{Served.{AreNoted, Turn}, declared.log.Log.Ghosts as LogWords}
+use Rattle.clubdesk_arguments.specs.declared.fault.Fault.{Fault, TheVariants.{Arguments, BadValue, ClockOutOfRange, InputOutput}}
 
 -- a reader or a writer before and after: the bytes that it has left or holds, if they are known, and the statement that it is unchanged
 pub record Stream : Type 1 where

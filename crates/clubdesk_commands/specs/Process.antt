@@ -4,14 +4,10 @@ use Rattle.clap.specs.Words.{Text}
 use Rattle.clap.specs.declared.error.kind.ErrorKind.TheVariants as kinds
 use Rattle.jiff_core.specs.declared.timestamp.Timestamp.{Timestamp}
 use Rattle.club_core.specs.declared.store.ClubStore.{Ghosts as StoreWords}
-use Rattle.command_line.specs.Arguments.{IsOfKind}
-use Rattle.command_line.specs.declared.errors.ArgumentsFault.{ArgumentsFault}
-use Rattle.desk_server.specs.declared.databases.Databases.{Ghosts as DatabasesWords}
-use Rattle.desk_server.specs.declared.databases.Visit.{Ghosts as VisitWords}
-use Rattle.clubdesk_arguments.specs.Fault.{fault_output, fault_status, of_arguments}
-use Rattle.clubdesk_arguments.specs.declared.fault.Fault.{Fault}
-use Rattle.clubdesk_commands.specs.Output.{LogChange, Stream}
-use Rattle.clubdesk_commands.specs.Run.{Runs}
+use Rattle.command_line.specs.{Arguments.IsOfKind, declared.errors.ArgumentsFault.ArgumentsFault}
+use Rattle.desk_server.specs.declared.databases.{Databases.Ghosts as DatabasesWords, Visit.Ghosts as VisitWords}
+use Rattle.clubdesk_arguments.specs.{Fault.{fault_output, fault_status, of_arguments}, declared.fault.Fault.Fault}
+use Rattle.clubdesk_commands.specs.{Output.{LogChange, Stream}, Run.Runs}
 
 -- the exit status of a run
 abbrev pub exit_status : Result Unit Fault → ℕ

@@ -1,43 +1,23 @@
 -- What a run of the program does (ours).
-use Rattle.std.specs.Prelude.{◌≡◌, ◌≢◌, ◌⊎◌, ℕ, ◌≤◌, List, [], ◌∷◌, ◌++◌, Option, Some, None, Result, Ok, Err, IfErr, true, false, codes, decimal}
 use Rattle.std.specs.Io.KnownBytes.{Appends}
+use Rattle.std.specs.Prelude.{◌≡◌, ◌≢◌, ◌⊎◌, ℕ, ◌≤◌, List, [], ◌∷◌, ◌++◌, Option, Some, None, Result, Ok, Err, IfErr, true, false, codes, decimal}
 use Rattle.std.specs.String.{string_bytes}
-use Rattle.clap.specs.Words.{Text}
-use Rattle.clap.specs.declared.error.Error.{Error}
+use Rattle.clap.specs.{Words.Text, declared.error.Error.Error}
 use Rattle.hex.specs.Hex.{encode_lower}
-use Rattle.club_core.specs.declared.store.ClubStore.{Ghosts as StoreWords}
-use Rattle.club_core.specs.declared.store.StoreFault.{StoreFault}
-use Rattle.club_core.specs.Club.{Club}
-use Rattle.club_http.specs.Desk.{AnswersBy}
-use Rattle.club_http.specs.Replied.{AnswerRelation}
-use Rattle.command_line.specs.Output.{AppendsFront}
-use Rattle.command_line.specs.declared.errors.ArgumentsFault.{ArgumentsFault}
-use Rattle.command_line.specs.declared.job.Asked.TheVariants.{ShowText}
-use Rattle.desk_server.specs.Databases.{Giving}
-use Rattle.desk_server.specs.Served.{Ends, Turn}
-use Rattle.desk_server.specs.Served as served
-use Rattle.desk_server.specs.declared.databases.Databases.{Ghosts as DatabasesWords}
-use Rattle.desk_server.specs.declared.databases.Reached.TheVariants.{Opened, Served}
-use Rattle.desk_server.specs.declared.databases.Visit.{Ghosts as VisitWords}
+use Rattle.club_core.specs.{Club.Club, declared.store.{ClubStore.Ghosts as StoreWords, StoreFault.StoreFault}}
+use Rattle.club_http.specs.{Desk.AnswersBy, Replied.AnswerRelation}
+use Rattle.command_line.specs.{Output.AppendsFront, declared.{errors.ArgumentsFault.ArgumentsFault, job.Asked.TheVariants.ShowText}}
+use Rattle.desk_server.specs.{Databases.Giving, Served.{Ends, Turn}, declared.databases.Databases.Ghosts as DatabasesWords}
+use Rattle.desk_server.specs.declared.databases.{Reached.TheVariants.{Opened, Served}, Visit.Ghosts as VisitWords}
 use Rattle.desk_server.specs.declared.serve.ClockOutOfRange.{ClockOutOfRange as ClockFault}
-use Rattle.clubdesk_arguments.specs.Fault.{fault_of_opening, of_arguments}
-use Rattle.clubdesk_arguments.specs.Arguments.{AskFor, ReadsArguments}
-use Rattle.club_clock.specs.declared.clock.Clock.{Clock}
-use Rattle.clubdesk_arguments.specs.declared.fault.Fault.{Fault}
-use Rattle.clubdesk_arguments.specs.declared.fault.Fault.TheVariants.{Memory, ClockOutOfRange, InputOutput, NoAnswer, Answered}
-use Rattle.clubdesk_arguments.specs.declared.task.KeyCommand.{KeyCommand}
-use Rattle.clubdesk_arguments.specs.declared.task.Service.{Service}
-use Rattle.clubdesk_arguments.specs.declared.task.Task.{Task}
-use Rattle.clubdesk_arguments.specs.declared.task.Task.TheVariants.{Key}
-use Rattle.clubdesk_arguments.specs.declared.task.Work.TheVariants.{Office, Rootless, Serve}
-use Rattle.clubdesk_commands.specs.Does.{Does}
-use Rattle.clubdesk_commands.specs.Input.{TakesRoot}
-use Rattle.club_clock.specs.Moments.{showing}
+use Rattle.desk_server.specs.Served as served
+use Rattle.clubdesk_arguments.specs.{Arguments.{AskFor, ReadsArguments}, Fault.{fault_of_opening, of_arguments}, declared.fault.Fault.Fault}
+use Rattle.clubdesk_arguments.specs.declared.{fault.Fault.TheVariants.{Memory, ClockOutOfRange, InputOutput, NoAnswer, Answered}, task.KeyCommand.KeyCommand}
+use Rattle.clubdesk_arguments.specs.declared.task.{Service.Service, Task.{Task, TheVariants.Key}, Work.TheVariants.{Office, Rootless, Serve}}
+use Rattle.club_clock.specs.{Moments.showing, declared.clock.Clock.Clock}
+use Rattle.clubdesk_commands.specs.{Does.Does, HandedCommand.command_bytes, Input.TakesRoot, Machine.{machine_answers, machine_commands}}
+use Rattle.clubdesk_commands.specs.{OfficeDesk.CarriesOutBy, Output.{EndsWork, LogChange, Prints, Stream}}
 use Rattle.jiff_core.specs.declared.timestamp.Timestamp.{Timestamp}
-use Rattle.clubdesk_commands.specs.Machine.{machine_answers, machine_commands}
-use Rattle.clubdesk_commands.specs.OfficeDesk.{CarriesOutBy}
-use Rattle.clubdesk_commands.specs.HandedCommand.{command_bytes}
-use Rattle.clubdesk_commands.specs.Output.{EndsWork, LogChange, Prints, Stream}
 
 -- ---- the server
 

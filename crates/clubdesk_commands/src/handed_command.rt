@@ -1,7 +1,7 @@
 //! The bytes of a command that is handed to a server.
 
-ghost use Rattle.std.specs.Prelude.{◌≡◌, ◌++◌, ◌∷◌, [], IfOk, MatchOption, OnOk, map};
 ghost use Rattle.std.specs.List.{AllByRecursion};
+ghost use Rattle.std.specs.Prelude.{◌≡◌, ◌++◌, ◌∷◌, [], IfOk, MatchOption, OnOk, map};
 ghost use Rattle.std.specs.String.{string_bytes};
 ghost use Rattle.clubdesk_commands.specs.HandedCommand as spec;
 

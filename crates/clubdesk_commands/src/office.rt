@@ -1,7 +1,6 @@
 //! The tasks of the office, over a desk.
 
-ghost use Rattle.std.specs.Prelude.{◌≡◌, IfErr, IfSome};
-ghost use Rattle.std.specs.String.{string_bytes};
+ghost use Rattle.std.specs.{Prelude.{◌≡◌, IfErr, IfSome}, String.string_bytes};
 ghost use Rattle.clubdesk_commands.specs.Does as spec;
 ghost use Rattle.clubdesk_commands.specs.Output.{IsWorkFault, text_of};
 

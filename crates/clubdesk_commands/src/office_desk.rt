@@ -3,8 +3,7 @@
 ghost use Rattle.std.specs.Prelude.{◌≡◌, map, MatchOption, Err, option_copied, option_map};
 ghost use Rattle.std.specs.String.{string_bytes};
 ghost use Rattle.clubdesk_commands.specs.OfficeDesk as spec;
-ghost use Rattle.clubdesk_commands.specs.OfficeDesk.{AnswersWith};
-ghost use Rattle.clubdesk_commands.specs.Output.{text_of};
+ghost use Rattle.clubdesk_commands.specs.{OfficeDesk.AnswersWith, Output.text_of};
 
 use crate::handed_command::{HandedCommand, read_command};
 use crate::input::root_in;

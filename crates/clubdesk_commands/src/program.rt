@@ -1,9 +1,8 @@
 //! A run of the program, over arguments, a reader and writers.
 
 ghost use Rattle.std.specs.Prelude.{◌≡◌, IfErr, IfOk, map};
-ghost use Rattle.clubdesk_commands.specs.HandedCommand.{command_bytes};
-ghost use Rattle.clubdesk_commands.specs.Output.{EndsWork, IsWorkFault, Prints, log_change};
-ghost use Rattle.clubdesk_commands.specs.Output.{stream, text_of};
+ghost use Rattle.clubdesk_commands.specs.{HandedCommand.command_bytes, Output.EndsWork};
+ghost use Rattle.clubdesk_commands.specs.Output.{IsWorkFault, Prints, log_change, stream, text_of};
 ghost use Rattle.clubdesk_commands.specs.Run as spec;
 
 use crate::handed_command::command_bytes;

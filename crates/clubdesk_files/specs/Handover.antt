@@ -1,7 +1,5 @@
 -- A command that is handed to a server, and the answer to it (ours).
-use Rattle.std.specs.Prelude.{◌≡◌, ℕ, List, Option}
-use Rattle.std.specs.Io.KnownBytes.{Appends, Consumes, IsAtEnd}
-use Rattle.std.specs.Str.Lossy.{utf8_lossy}
+use Rattle.std.specs.{Io.KnownBytes.{Appends, Consumes, IsAtEnd}, Prelude.{◌≡◌, ℕ, List, Option}, Str.Lossy.utf8_lossy}
 use Rattle.desk_server.specs.Served.{answer_bytes}
 
 -- The bytes of the command were written, once, and then its end was told.

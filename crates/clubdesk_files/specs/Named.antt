@@ -1,10 +1,6 @@
 -- A store over a file that may lose its name (ours).
 use Rattle.std.specs.Prelude.{◌≡◌, ◌⊎◌, List, Option, Result}
-use Rattle.club_core.specs.Club.{Club}
-use Rattle.club_core.specs.Store.{ReadsStore}
-use Rattle.club_core.specs.declared.change.Change.{Change}
-use Rattle.club_core.specs.declared.store.StoreFault.{StoreFault}
-use Rattle.club_core.specs.declared.store.StoreFault.TheVariants.{Storage}
+use Rattle.club_core.specs.{Club.Club, Store.ReadsStore, declared.{change.Change.Change, store.StoreFault.{StoreFault, TheVariants.Storage}}}
 use Rattle.clubdesk_files.specs.declared.named.NamedStore.{NamedStore}
 
 -- the store below failed, or the file had no name

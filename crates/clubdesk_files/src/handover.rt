@@ -1,7 +1,6 @@
 //! A command that is handed to a server, over a reader and a writer.
 
-ghost use Rattle.std.specs.Prelude.{IfOk, OnOk, codes};
-ghost use Rattle.std.specs.Io.KnownBytes.{Consumes};
+ghost use Rattle.std.specs.{Io.KnownBytes.Consumes, Prelude.{IfOk, OnOk, codes}};
 ghost use Rattle.std.specs.String.{string_bytes};
 ghost use Rattle.clubdesk_files.specs.Handover.{ReadsAnswer, SendsCommand};
 

@@ -1,11 +1,8 @@
 //! A store of a club in a file that another program may remove.
 
-ghost use Rattle.std.specs.Bool.{OnFalse};
-ghost use Rattle.std.specs.Prelude.{◌≡◌, IfErr, IfOk, IsTrue, option_map};
-ghost use Rattle.club_core.specs.Basis.{account_named};
-ghost use Rattle.club_core.specs.Club.{facility_named, key_named};
-ghost use Rattle.club_core.specs.Sheet.{AreRowsOf};
-ghost use Rattle.club_core.specs.declared.store.StoreFault.TheVariants.{Storage};
+ghost use Rattle.std.specs.{Bool.OnFalse, Prelude.{◌≡◌, IfErr, IfOk, IsTrue, option_map}};
+ghost use Rattle.club_core.specs.{Basis.account_named, Club.{facility_named, key_named}};
+ghost use Rattle.club_core.specs.{Sheet.AreRowsOf, declared.store.StoreFault.TheVariants.Storage};
 ghost use Rattle.club_rows.specs.Key.{row_of_key};
 ghost use Rattle.clubdesk_files.specs.Named.{ReadsNamed};
 

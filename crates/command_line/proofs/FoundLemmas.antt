@@ -1,21 +1,12 @@
 -- Rows of arguments, and how clap finds an argument.
-use Rattle.std.proofs.Common.{◌≡◌, ◌∙◌, ℕ, ◌==◌, ◌&&◌, Bool, true, false, not, List, [], ◌∷◌, ◌++◌, Some, is_some, append_assoc, refl}
-use Rattle.std.proofs.Common.{sym, ap, map, unwrap_or, find}
-use Rattle.std.proofs.lemmas.List.{append-nil}
-use Rattle.std.proofs.lemmas.Slice.Eq.{bytes_eq-Decides}
-use Rattle.std.specs.List.{list_any}
-use Rattle.std.specs.Option.{option_map_or}
-use Rattle.std.specs.Str.{bytes_eq}
-use Rattle.std.proofs.lemmas.Bool.{and_parts, or_parts}
+use Rattle.std.proofs.Common.{◌≡◌, ◌∙◌, ℕ, ◌==◌, ◌&&◌, Bool, true, false, not, List, [], ◌∷◌, ◌++◌, Some, is_some, append_assoc, refl, sym, ap, map, unwrap_or}
+use Rattle.std.proofs.{Common.find, lemmas.{Bool.{and_parts, or_parts}, List.append-nil, Slice.Eq.bytes_eq-Decides}}
+use Rattle.std.specs.{List.list_any, Option.option_map_or, Str.bytes_eq}
 use Rattle.clap.specs.Simple.{filled, filled_from, index_after, with_index}
-use Rattle.clap.specs.Walk.{arg_by_id, arg_by_index, arg_by_long, at_row, has_long, has_row}
-use Rattle.clap.specs.Walk.{more_values}
-use Rattle.clap.specs.Walk.{without}
-use Rattle.clap.specs.Words.{Row as Found, Rule, Text}
+use Rattle.clap.specs.{Walk.{arg_by_id, arg_by_index, arg_by_long, at_row, has_long, has_row, more_values, without}, Words.{Row as Found, Rule, Text}}
 use Rattle.clap.specs.declared.parser.matches.ValueSource.TheVariants.{CommandLine}
 use Rattle.clap.proofs.SimpleLemmas.{is_false}
-use Rattle.command_line.specs.Given.{Given, rule_given}
-use Rattle.command_line.specs.Given.{row_given, are_apart}
+use Rattle.command_line.specs.Given.{Given, rule_given, row_given, are_apart}
 
 -- ---- lists of rows
 

@@ -1,30 +1,17 @@
 -- How clap walks over what a row is given.
-use Rattle.std.proofs.Common.{◌≡◌, ◌∙◌, ℕ, ◌==◌, ◌&&◌, Bool, true, false, not, List, [], ◌∷◌, ◌++◌, Option, Some, None, is_some, append_assoc, fold}
-use Rattle.std.proofs.Common.{refl}
-use Rattle.std.proofs.Common.{sym, ap, ap₂, inl, inr, codes, cond, map, subst, arith}
-use Rattle.std.proofs.lemmas.Bool.Decides.{nat_tests}
-use Rattle.std.proofs.lemmas.List.{append-nil}
-use Rattle.std.proofs.lemmas.List.Folds.{list_any_at}
+use Rattle.std.proofs.Common.{◌≡◌, ◌∙◌, ℕ, ◌==◌, ◌&&◌, Bool, true, false, not, List, [], ◌∷◌, ◌++◌, Option, Some, None, is_some, append_assoc, fold, refl, sym}
+use Rattle.std.proofs.{Common.{ap, ap₂, inl, inr, codes, cond, map, subst, arith}, Math.Bool.and-false, lemmas.Bool.{and_parts, cond_both, cases_Bool}}
+use Rattle.std.proofs.lemmas.{Bool.Decides.nat_tests, List.{append-nil, Folds.list_any_at}}
 use Rattle.std.specs.List.{list_any}
-use Rattle.std.proofs.lemmas.Bool.{and_parts, cond_both, cases_Bool}
-use Rattle.std.proofs.Math.Bool.{and-false}
 use Rattle.clap.specs.Faults.{check_fault, defaults_fault, flag_word_fault, level_fault, settle_fault, step_fault, turn_fault, walk_fault}
-use Rattle.clap.specs.Kinds.{Kinds, or_else}
-use Rattle.clap.specs.Lexer.{long_of, strip_byte}
-use Rattle.clap.specs.Simple.{filled, filled_from, index_after, wants_index, with_index}
-use Rattle.clap.specs.Walk.{Held, Waiting, Walk, after_step, arg_by_index, finished, has_row, idle, is_multiple, is_pending, long_or_other, arg_by_long}
-use Rattle.clap.specs.Walk.{next_position, nothing_held, option, positional, positional_held, pushed, rows_after, settled, takes_several}
-use Rattle.clap.specs.Walk.{walk_from, walked, with_default, without}
-use Rattle.clap.specs.Words.{Row as Found, Rule, Shape, Text}
-use Rattle.clap.proofs.CutLemmas.{Lacks}
-use Rattle.clap.proofs.SimpleLemmas.{is_false}
-use Rattle.clap.proofs.LexerLemmas.{name_and_value-at, name_and_value-without}
-use Rattle.command_line.specs.Application.{positionals_named, option_named}
-use Rattle.command_line.specs.Given.{Given, option_given, flag_given, positional_given, positionals_given, left_out, rule_given, options_spelled}
-use Rattle.command_line.specs.Given.{AreSpelled}
-use Rattle.command_line.specs.Given.{row_given, option_rows, positional_rows, rows_given, are_apart, are_new, are_options_named, is_in_order}
-use Rattle.command_line.specs.Given.{has_no_positionals, positionals_spelled}
-use Rattle.command_line.specs.Given.{end_fault}
+use Rattle.clap.specs.{Kinds.{Kinds, or_else}, Lexer.{long_of, strip_byte}, Simple.{filled, filled_from, index_after, wants_index, with_index}, Walk.Held}
+use Rattle.clap.specs.Walk.{Waiting, Walk, after_step, arg_by_index, finished, has_row, idle, is_multiple, is_pending, long_or_other, arg_by_long}
+use Rattle.clap.specs.Walk.{next_position, nothing_held, option, positional, positional_held, pushed, rows_after, settled, takes_several, walk_from, walked}
+use Rattle.clap.specs.{Walk.{with_default, without}, Words.{Row as Found, Rule, Shape, Text}}
+use Rattle.clap.proofs.{CutLemmas.Lacks, LexerLemmas.{name_and_value-at, name_and_value-without}, SimpleLemmas.is_false}
+use Rattle.command_line.specs.{Application.{positionals_named, option_named}, Given.{Given, option_given, flag_given, positional_given, positionals_given}}
+use Rattle.command_line.specs.Given.{left_out, rule_given, options_spelled, AreSpelled, row_given, option_rows, positional_rows, rows_given, are_apart, are_new}
+use Rattle.command_line.specs.Given.{are_options_named, is_in_order, has_no_positionals, positionals_spelled, end_fault}
 use Rattle.command_line.proofs.FoundLemmas.{same_text, added, set_row, grown, AreFound, all_found, IsFound}
 
 lacks : (name : Text) → not (list_any (λ byte. byte == 61) name) ≡ true → Lacks 61 name

@@ -1,19 +1,13 @@
 -- Lemmas on a parse of the arguments, and on the job that they ask for.
 use Rattle.std.proofs.Common.{◌≡◌, List, [], Option, Some, None, IsSome, Result, Ok, Err, inl, inr, refl, ap, subst, arith, ◌∙◌, true, sym}
 use Rattle.std.proofs.lemmas.Bool.{and_parts}
-use Rattle.clap.specs.declared.parser.matches.ArgMatches.{ArgMatches}
-use Rattle.clap.specs.declared.error.Error.{Error}
-use Rattle.clap.specs.Words.{subcommand_rows_of}
-use Rattle.clap.specs.Words.{IsAmong, Kinds, Row, Text, fault_of, subcommand_of, App, HasKind, HasMatchesOf, is_simple, is_simple_and_free, kind_of}
-use Rattle.clap.specs.declared.error.kind.ErrorKind.{ErrorKind}
-use Rattle.command_line.specs.JobLaws.{RowsAnswerOnce, AskOnce, IsOrLacksMemory, ReadsOnce, WordsNameARow}
+use Rattle.clap.specs.Words.{subcommand_rows_of, IsAmong, Kinds, Row, Text, fault_of, subcommand_of, App, HasKind, HasMatchesOf, is_simple, is_simple_and_free}
+use Rattle.clap.specs.{Words.kind_of, declared.{error.{Error.Error, kind.ErrorKind.ErrorKind}, parser.matches.ArgMatches.ArgMatches}}
 use Rattle.command_line.specs.Job.{ReadsAccepted, ReadsFound, ReadsJob, ReadsRow}
-use Rattle.command_line.specs.Table.{IsGood, Table, app_of_table, asked, asked_in, refusals}
-use Rattle.command_line.specs.declared.errors.ArgumentsFault.{ArgumentsFault}
-use Rattle.command_line.specs.declared.errors.ArgumentsFault.TheVariants.{Refused, BadValue, Memory}
-use Rattle.command_line.specs.declared.job.Asked.{Asked}
+use Rattle.command_line.specs.JobLaws.{RowsAnswerOnce, AskOnce, IsOrLacksMemory, ReadsOnce, WordsNameARow}
+use Rattle.command_line.specs.{Table.{IsGood, Table, app_of_table, asked, asked_in, refusals}, declared.errors.ArgumentsFault.ArgumentsFault}
+use Rattle.command_line.specs.declared.{errors.ArgumentsFault.TheVariants.{Refused, BadValue, Memory}, job.Asked.{Asked, TheVariants.{Perform, ShowText}}}
 use Rattle.clap.specs.declared.error.kind.ErrorKind.TheVariants as kind
-use Rattle.command_line.specs.declared.job.Asked.TheVariants.{Perform, ShowText}
 
 module _ (made app : App) (arguments : List Text) (is : made ≡ app) (free : is_simple_and_free app ≡ true) where
   -- clap accepts the arguments

@@ -1,20 +1,13 @@
 -- Words that clap reads enter one of a program's commands.
-use Rattle.std.proofs.Common.{◌≡◌, ℕ, Bool, true, false, List, [], ◌∷◌, Option, Some, None, is_some, refl, codes, fold}
-use Rattle.std.proofs.Common.{not, ◌&&◌}
-use Rattle.std.specs.Str.{bytes_eq}
-use Rattle.clap.specs.Words.{App, Kinds, Row, Rule, Shape, Text}
-use Rattle.clap.specs.Kinds.{check_kinds, or_else}
-use Rattle.clap.specs.Simple.{entered, names_of}
-use Rattle.clap.specs.Walk.{Held, Names, Outcome, Step, Waiting, Walk, after_flag, after_step, done, long_or_other, nothing_held}
-use Rattle.clap.specs.Walk.{option, plain_word, short_or_plain, stop_after, subcommand_met, subcommand_or_other, to_positional}
-use Rattle.clap.specs.Walk.{value, waits, walk, walk_from, walked, word_met}
-use Rattle.clap.specs.Walk.{subcommand as enters}
-use Rattle.clap.specs.Walk.{arg_by_index, finished, settled, walked_from}
-use Rattle.clap.specs.Facts.{explicit_source}
-use Rattle.clap.specs.Takes.{is_given}
-use Rattle.std.specs.List.{list_any}
+use Rattle.std.proofs.Common.{◌≡◌, ℕ, Bool, true, false, List, [], ◌∷◌, Option, Some, None, is_some, refl, codes, fold, not, ◌&&◌}
 use Rattle.std.proofs.lemmas.Bool.{false_from_ne_true, cond_both}
+use Rattle.std.specs.{List.list_any, Str.bytes_eq}
+use Rattle.clap.specs.Facts.{explicit_source}
 use Rattle.clap.specs.Faults.{built_fault, defaults_fault, entered_fault, settle_fault, check_fault, other_fault, turn_fault, walk_fault, word_fault}
+use Rattle.clap.specs.{Kinds.{check_kinds, or_else}, Simple.{entered, names_of}, Takes.is_given, Walk.{Held, Names, Outcome, Step, Waiting, Walk, after_flag}}
+use Rattle.clap.specs.Walk.{after_step, done, long_or_other, nothing_held, option, plain_word, short_or_plain, stop_after, subcommand_met, subcommand_or_other}
+use Rattle.clap.specs.Walk.{to_positional, value, waits, walk, walk_from, walked, word_met, subcommand as enters, arg_by_index, finished, settled, walked_from}
+use Rattle.clap.specs.Words.{App, Kinds, Row, Rule, Shape, Text}
 
 -- of two lists of kinds in turn, both are empty if the whole is
 or_else_nil : (a b : Kinds) → or_else a b ≡ [] → (a ≡ []) × (b ≡ [])

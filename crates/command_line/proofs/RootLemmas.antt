@@ -1,12 +1,9 @@
 -- Lemmas on `root_of`.
 use Rattle.std.proofs.Common.{◌≡◌, ◌⊎◌, ◌∙◌, ℕ, ◌*◌, ◌/◌, ◌%◌, ◌<◌, ◌≤◌, List, length, take, ◌++◌, Some, None, Result, Ok, Err, MatchResult, length-take-le}
-use Rattle.std.proofs.Common.{inl, inr, refl, sym, ap, arith}
-use Rattle.std.proofs.lemmas.Bool.{cases_eq}
-use Rattle.std.proofs.lemmas.Bool.Decides.{nat_tests}
+use Rattle.std.proofs.{Common.{inl, inr, refl, sym, ap, arith}, lemmas.Bool.{cases_eq, Decides.nat_tests}}
 use lib.Seq.{take-append_seam}
-use Rattle.hex.specs.Hex.{decode_of, decode_sized}
+use Rattle.hex.specs.{Hex.{decode_of, decode_sized}, declared.error.FromHexError.FromHexError}
 use Rattle.hex.proofs.HexLemmas.{decode_of-odd, decode_of-ok, decode_sized-odd, decode_sized-twice}
-use Rattle.hex.specs.declared.error.FromHexError.{FromHexError}
 use Rattle.command_line.specs.Root.{has_root_length, root_among, root_of}
 
 kept : (bytes : List ℕ) → 1 ≤ length bytes → length bytes ≤ 64 → has_root_length bytes ≡ Some bytes

@@ -1,26 +1,18 @@
 -- The row of a table that a name enters takes what it is given.
-use Rattle.std.proofs.Common.{◌≡◌, ◌∙◌, true, false, List, [], ◌∷◌, ◌++◌, Option, Some, None, append_assoc, fold, refl, sym, ap, ap₂, codes}
-use Rattle.std.proofs.Common.{map, find, drop, is_some, IsSome, option_map, subst, inl, inr}
-use Rattle.std.proofs.lemmas.List.{append-nil}
+use Rattle.std.proofs.Common.{◌≡◌, ◌∙◌, true, false, List, [], ◌∷◌, ◌++◌, Option, Some, None, append_assoc, fold, refl, sym, ap, ap₂, codes, map, find, drop}
+use Rattle.std.proofs.{Common.{is_some, IsSome, option_map, subst, inl, inr}, lemmas.Bool.{and_parts, false_from_ne_true, both_ways, cases_Bool}}
+use Rattle.std.proofs.lemmas.{List.append-nil, Slice.Eq.bytes_eq-Decides}
 use Rattle.std.specs.Str.{bytes_eq}
-use Rattle.std.proofs.lemmas.Slice.Eq.{bytes_eq-Decides}
-use Rattle.std.proofs.lemmas.Bool.{and_parts, false_from_ne_true, both_ways, cases_Bool}
 use Rattle.clap.specs.Faults.{built_fault, check_fault, defaults_fault, entered_fault, level_fault, other_fault, settle_fault, step_fault, turn_fault}
-use Rattle.clap.specs.Faults.{walk_fault}
-use Rattle.clap.specs.Kinds.{Kinds, or_else}
-use Rattle.clap.specs.Simple.{built, built_leaf, entered, help_shape, inherited, label_of, marked_built, names_of, help_rule, new_shape, on_top, rows_at}
-use Rattle.clap.specs.Simple.{with_leaf_noted}
-use Rattle.clap.specs.Walk.{Names, Walk, after_step, answers_to, finished, idle, nothing_held, rows_after, settled, stop_after, subcommand_met}
-use Rattle.clap.specs.Walk.{subcommand_or_other, walk, walk_from, walked}
+use Rattle.clap.specs.{Faults.walk_fault, Kinds.{Kinds, or_else}, Simple.{built, built_leaf, entered, help_shape, inherited, label_of, marked_built, names_of}}
+use Rattle.clap.specs.{Simple.{help_rule, new_shape, on_top, rows_at, with_leaf_noted}, Walk.{Names, Walk, after_step, answers_to, finished, idle}}
+use Rattle.clap.specs.Walk.{nothing_held, rows_after, settled, stop_after, subcommand_met, subcommand_or_other, walk, walk_from, walked}
 use Rattle.clap.specs.Words.{App, Row as Found, Rule, Shape, Text, fault_of, new_app, subcommand_of, with_rule, with_subcommand}
-use Rattle.clap.proofs.SimpleLemmas.{is_false, is_nil}
-use Rattle.clap.proofs.WalkLemmas.{find-map}
-use Rattle.command_line.specs.Application.{program_named}
-use Rattle.command_line.specs.Given.{AreSpelled, Given, can_be_given, found_given, rule_given, shape_given}
+use Rattle.clap.proofs.{SimpleLemmas.{is_false, is_nil}, WalkLemmas.find-map}
+use Rattle.command_line.specs.{Application.program_named, Given.{AreSpelled, Given, can_be_given, found_given, rule_given, shape_given}}
 use Rattle.command_line.specs.JobLaws.{RowsTakeWhatTheyAreGiven, WordsNameARow}
 use Rattle.command_line.specs.Table.{Entry, Table, asked, asked_in, entry_app, entry_named, refusals, with_entries}
-use Rattle.command_line.proofs.GivenLemmas.{given_taken}
-use Rattle.command_line.proofs.NamedLemmas.{StopsNotAtHelp, enters_command}
+use Rattle.command_line.proofs.{GivenLemmas.given_taken, NamedLemmas.{StopsNotAtHelp, enters_command}}
 
 -- ---- what clap builds of a table
 

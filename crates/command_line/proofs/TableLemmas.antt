@@ -1,11 +1,9 @@
 -- Lemmas on the rows of a table.
-use Rattle.std.proofs.Common.{◌≡◌, ◌∙◌, ℕ, ◌+◌, ◌<◌, List, [], ◌∷◌, ◌++◌, map, take, drop, ap, get_or, length, refl}
-use Rattle.std.proofs.Common.{sym, cond, Bool, Some}
+use Rattle.std.proofs.Common.{◌≡◌, ◌∙◌, ℕ, ◌+◌, ◌<◌, List, [], ◌∷◌, ◌++◌, map, take, drop, ap, get_or, length, refl, sym, cond, Bool, Some}
 use Rattle.std.proofs.lemmas.List.{drop_more, take_more}
 use Rattle.std.specs.Str.{bytes_eq}
 use Rattle.clap.specs.Words.{App, Text, with_subcommand}
-use Rattle.command_line.specs.Table.{entry_app, entry_named, entry_of, with_entries}
-use Rattle.command_line.specs.declared.table.Row.{Row}
+use Rattle.command_line.specs.{Table.{entry_app, entry_named, entry_of, with_entries}, declared.table.Row.Row}
 
 one_last : {C : Type 0} (app : App) (rows : List (Row C)) (row : Row C)
     → with_entries app (map entry_of (rows ++ row ∷ [])) ≡ with_subcommand (with_entries app (map entry_of rows)) (entry_app (entry_of row)).top

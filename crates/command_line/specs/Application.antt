@@ -1,10 +1,7 @@
 -- The parts of a program with its commands, as `clap` reads them (ours).
 use Rattle.std.specs.Prelude.{◌≡◌, [], ◌∷◌, Some, true, false, codes}
-use Rattle.clap.specs.Words.{App, Rule, Shape, Text, app_of, new_app, new_rule}
-use Rattle.clap.specs.Simple.{on_top}
-use Rattle.clap.specs.declared.builder.command.Command.{Command}
-use Rattle.clap.specs.declared.builder.command.Command.TheViews.{out-Command}
-use Rattle.clap.specs.declared.builder.action.ArgAction.TheVariants.{Append, SetTrue}
+use Rattle.clap.specs.{Simple.on_top, Words.{App, Rule, Shape, Text, app_of, new_app, new_rule}}
+use Rattle.clap.specs.declared.builder.{action.ArgAction.TheVariants.{Append, SetTrue}, command.Command.{Command, TheViews.out-Command}}
 
 -- `--NAME VALUE`
 abbrev pub option_named : Text → Rule

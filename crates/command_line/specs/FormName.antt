@@ -1,8 +1,6 @@
 -- The forms by their names on the command line (ours).
-use Rattle.std.specs.Prelude.{ℕ, List, Option, Some, None, codes, if◌then◌else◌}
-use Rattle.std.specs.Str.{bytes_eq}
-use Rattle.pass_forms.specs.declared.form.Form.{Form}
-use Rattle.pass_forms.specs.declared.form.Form.TheVariants.{V1, V2, Json}
+use Rattle.std.specs.{Prelude.{ℕ, List, Option, Some, None, codes, if◌then◌else◌}, Str.bytes_eq}
+use Rattle.pass_forms.specs.declared.form.Form.{Form, TheVariants.{V1, V2, Json}}
 
 abbrev pub form_name : Form → List ℕ
 form_name V1 = codes "v1"

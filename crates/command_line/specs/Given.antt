@@ -1,15 +1,8 @@
 -- What the arguments of a row are given, how that is spelled, and what clap finds of it (ours).
-use Rattle.std.specs.Prelude.{◌≡◌, ◌⊎◌, ◌==◌, ◌&&◌, ◌||◌, Bool, true, false, not, List, [], ◌∷◌, ◌++◌}
-use Rattle.std.specs.Prelude.{Some, None, codes, fold, is_some, map, unwrap_or, if◌then◌else◌}
-use Rattle.std.specs.List.{list_any}
-use Rattle.std.specs.Option.{option_map_or}
-use Rattle.std.specs.Str.{bytes_eq}
-use Rattle.clap.specs.Faults.{check_fault, defaults_fault}
-use Rattle.clap.specs.Kinds.{Kinds, or_else}
-use Rattle.clap.specs.Lexer.{strip_byte}
-use Rattle.clap.specs.Simple.{built_leaf, new_shape, wants_index}
-use Rattle.clap.specs.Walk.{has_long, has_row, is_empty, reading_by, with_default}
-use Rattle.clap.specs.Words.{Row as Found, Rule, Shape, Text}
+use Rattle.std.specs.{List.list_any, Option.option_map_or, Prelude.{◌≡◌, ◌⊎◌, ◌==◌, ◌&&◌, ◌||◌, Bool, true, false, not, List, [], ◌∷◌, ◌++◌, Some, None, codes}}
+use Rattle.std.specs.{Prelude.{fold, is_some, map, unwrap_or, if◌then◌else◌}, Str.bytes_eq}
+use Rattle.clap.specs.{Faults.{check_fault, defaults_fault}, Kinds.{Kinds, or_else}, Lexer.strip_byte, Simple.{built_leaf, new_shape, wants_index}}
+use Rattle.clap.specs.{Walk.{has_long, has_row, is_empty, reading_by, with_default}, Words.{Row as Found, Rule, Shape, Text}}
 use Rattle.clap.specs.declared.parser.matches.ValueSource.TheVariants.{CommandLine}
 use Rattle.command_line.specs.Application.{flag_named, option_named, positional_named, positionals_named}
 

@@ -1,6 +1,5 @@
 -- The part of its input that a command reads (ours).
-use Rattle.std.specs.Prelude.{ℕ, ◌<◌, ◌≤◌, List, Option, length}
-use Rattle.std.specs.Io.KnownBytes.{Consumes, IsAtEnd}
+use Rattle.std.specs.{Io.KnownBytes.{Consumes, IsAtEnd}, Prelude.{ℕ, ◌<◌, ◌≤◌, List, Option, length}}
 
 -- the bytes are all that the reader had left, or the first `most` of them
 pub record ReadsAtMost (most : ℕ) (old new : Option (List ℕ)) (bytes : List ℕ) : Type 0 where

@@ -1,16 +1,10 @@
 -- What arguments ask for: the job of a row, from the values that they give it (ours).
-use Rattle.std.specs.Prelude.{◌≡◌, ◌⊎◌, List, [], Option, Some, None, Result, Ok, Err, codes}
-use Rattle.std.specs.Option.{ok_or}
-use Rattle.clap.specs.Words.{Row, Text, kind_of}
-use Rattle.clap.specs.declared.error.kind.ErrorKind.{ErrorKind}
+use Rattle.std.specs.{Option.ok_or, Prelude.{◌≡◌, ◌⊎◌, List, [], Option, Some, None, Result, Ok, Err, codes}}
+use Rattle.clap.specs.{Words.{Row, Text, kind_of}, declared.error.kind.ErrorKind.ErrorKind}
 use Rattle.clap.specs.declared.error.kind.ErrorKind.TheVariants as kind
 use Rattle.pass_forms.specs.declared.form.Form.{Form}
-use Rattle.command_line.specs.FormName.{form_named}
-use Rattle.command_line.specs.Table.{Table, asked, refusals}
-use Rattle.command_line.specs.Arguments.{HasText, IsRefusedAs, value_in}
-use Rattle.command_line.specs.declared.errors.ArgumentsFault.{ArgumentsFault}
-use Rattle.command_line.specs.declared.errors.ArgumentsFault.TheVariants.{Refused, BadValue, Memory}
-use Rattle.command_line.specs.declared.job.Asked.{Asked}
+use Rattle.command_line.specs.{Arguments.{HasText, IsRefusedAs, value_in}, FormName.form_named, Table.{Table, asked, refusals}}
+use Rattle.command_line.specs.declared.{errors.ArgumentsFault.{ArgumentsFault, TheVariants.{Refused, BadValue, Memory}}, job.Asked.Asked}
 use Rattle.command_line.specs.declared.job.Asked.TheVariants.{ShowText, Perform}
 
 -- why a row's arguments ask for nothing: an error of this kind, or the value that one of them doesn't spell

@@ -1,13 +1,9 @@
 -- Laws of what arguments ask for: the row that they are given to, and one job at most.
 use Rattle.std.specs.Prelude.{◌≡◌, ◌⊎◌, List, [], ◌∷◌, Some, IsSome, Result, Ok, Err, map, true}
 use Rattle.clap.specs.Words.{Row, Text}
-use Rattle.command_line.specs.Given.{AreSpelled, Given, can_be_given, found_given, rule_given}
-use Rattle.command_line.specs.Job.{Answers, ReadsJob, ReadsRow, Refusal}
-use Rattle.command_line.specs.Table.{Entry, Table, asked, entry_named, refusals}
-use Rattle.command_line.specs.declared.errors.ArgumentsFault.{ArgumentsFault}
-use Rattle.command_line.specs.declared.errors.ArgumentsFault.TheVariants.{Memory}
-use Rattle.command_line.specs.declared.job.Asked.{Asked}
-use Rattle.command_line.specs.declared.job.Asked.TheVariants.{Perform}
+use Rattle.command_line.specs.{Given.{AreSpelled, Given, can_be_given, found_given, rule_given}, Job.{Answers, ReadsJob, ReadsRow, Refusal}}
+use Rattle.command_line.specs.{Table.{Entry, Table, asked, entry_named, refusals}, declared.errors.ArgumentsFault.{ArgumentsFault, TheVariants.Memory}}
+use Rattle.command_line.specs.declared.job.Asked.{Asked, TheVariants.Perform}
 
 -- Arguments that clap accepts name a row.
 abbrev pub WordsNameARow : Type 0 → Type 0

@@ -1,7 +1,5 @@
 -- The part of a text that was written (ours).
-use Rattle.std.specs.Prelude.{ℕ, List, Option}
-use Rattle.std.specs.Io.{StartsWith}
-use Rattle.std.specs.Io.KnownBytes.{Appends}
+use Rattle.std.specs.{Io.{StartsWith, KnownBytes.Appends}, Prelude.{ℕ, List, Option}}
 
 -- the known bytes grow by a beginning of the text, which may be empty or all of it
 abbrev pub AppendsFront : Option (List ℕ) → Option (List ℕ) → List ℕ → Type 0

@@ -1,6 +1,5 @@
 -- The line of a fault on standard error (ours).
-use Rattle.std.specs.Prelude.{ℕ, List, Bool, Option, if◌then◌else◌}
-use Rattle.std.specs.Fmt.{with_newline}
+use Rattle.std.specs.{Fmt.with_newline, Prelude.{ℕ, List, Bool, Option, if◌then◌else◌}}
 
 -- what is printed for a text: the text of clap, which ends its lines itself, or a line
 abbrev pub printed : Bool → Option (List ℕ) → Option (List ℕ)

@@ -1,8 +1,6 @@
 -- A root on the command line: 1 to 64 bytes in hexadecimal, in either case of letters (ours).
-use Rattle.std.specs.Prelude.{ℕ, List, Option, Some, None, Result, Ok, Err, length, nat_le, ◌&&◌}
-use Rattle.std.specs.Prelude.{if◌then◌else◌}
-use Rattle.hex.specs.Hex.{decode_of}
-use Rattle.hex.specs.declared.error.FromHexError.{FromHexError}
+use Rattle.std.specs.Prelude.{ℕ, List, Option, Some, None, Result, Ok, Err, length, nat_le, ◌&&◌, if◌then◌else◌}
+use Rattle.hex.specs.{Hex.decode_of, declared.error.FromHexError.FromHexError}
 
 -- the most bytes of a root
 abbrev pub max_root_bytes : ℕ

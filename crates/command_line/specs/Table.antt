@@ -1,16 +1,10 @@
 -- A program's commands as the rows of a table, and the row that arguments ask for (ours).
-use Rattle.std.specs.Prelude.{◌≡◌, List, Option, fold, map, find, option_map, option_and_then, true}
-use Rattle.std.specs.List.{list_all}
-use Rattle.std.specs.Str.{bytes_eq}
-use Rattle.clap.specs.Words.{App, Kinds, Row as Found, Rule, Text, fault_of, is_simple_and_free, new_app}
-use Rattle.clap.specs.Words.{subcommand_of, with_rule, with_subcommand}
+use Rattle.std.specs.{List.list_all, Prelude.{◌≡◌, List, Option, fold, map, find, option_map, option_and_then, true}, Str.bytes_eq}
+use Rattle.clap.specs.Words.{App, Kinds, Row as Found, Rule, Text, fault_of, is_simple_and_free, new_app, subcommand_of, with_rule, with_subcommand}
 use Rattle.command_line.specs.Application.{as_required, flag_named, option_named, positional_named, positionals_named, program_named, with_default}
-use Rattle.command_line.specs.Given.{can_be_given, given_by, rule_given}
-use Rattle.command_line.specs.declared.table.Argument.{Argument}
-use Rattle.command_line.specs.declared.table.Argument.TheVariants.{Value, Needed, Or, Flag, Positional, NeededPositional, NeededPositionalAs}
-use Rattle.command_line.specs.declared.table.Argument.TheVariants.{Positionals, NeededPositionals}
-use Rattle.command_line.specs.declared.table.Program.{Program}
-use Rattle.command_line.specs.declared.table.Row.{Row}
+use Rattle.command_line.specs.{Given.{can_be_given, given_by, rule_given}, declared.table.Argument.{Argument, TheVariants.{Value, Needed, Or, Flag}}}
+use Rattle.command_line.specs.declared.table.Argument.TheVariants.{Positional, NeededPositional, NeededPositionalAs, Positionals, NeededPositionals}
+use Rattle.command_line.specs.declared.table.{Program.Program, Row.Row}
 
 -- what a row asks for, its name, and the rules of its arguments in their order
 pub record Entry (C : Type 0) : Type 0 where

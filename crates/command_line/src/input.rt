@@ -1,9 +1,8 @@
 //! Reading the input.
 
-ghost use Rattle.std.specs.Prelude.{◌≡◌, ◌≢◌, ◌+◌, ◌<◌, ◌≤◌, take, drop, length, IfErr, IfOk, OnErr};
-ghost use Rattle.std.specs.Io.KnownBytes.{Consumes, IsAtEnd, Keeps};
-ghost use Rattle.std.specs.Io.BufRead.{strip_last};
-ghost use Rattle.std.specs.IoError.{error_kind};
+ghost use Rattle.std.specs.Io.{BufRead.strip_last, KnownBytes.{Consumes, IsAtEnd, Keeps}};
+ghost use Rattle.std.specs.{IoError.error_kind, Prelude.{◌≡◌, ◌≢◌, ◌+◌, ◌<◌, ◌≤◌, take, drop}};
+ghost use Rattle.std.specs.Prelude.{length, IfErr, IfOk, OnErr};
 ghost use Rattle.command_line.specs.Input.{ReadsAtMost};
 
 use crate::signal::is_interrupted;

@@ -1,8 +1,7 @@
 //! Writing a text.
 
+ghost use Rattle.std.specs.{Io.KnownBytes.{Appends, Keeps}, IoError.error_kind};
 ghost use Rattle.std.specs.Prelude.{◌≢◌, ◌+◌, ◌≤◌, IfErr, IfOk, OnErr, OnOk, drop, length, take};
-ghost use Rattle.std.specs.Io.KnownBytes.{Appends, Keeps};
-ghost use Rattle.std.specs.IoError.{error_kind};
 ghost use Rattle.command_line.specs.Output.{AppendsFront};
 
 use crate::signal::is_interrupted;

@@ -1,10 +1,8 @@
 //! What a program does with the arguments of its process, and with a fault.
 
-ghost use Rattle.std.specs.Prelude.{IfErr, IfOk, map};
-ghost use Rattle.std.specs.String.{string_bytes};
+ghost use Rattle.std.specs.{Prelude.{IfErr, IfOk, map}, String.string_bytes};
 ghost use Rattle.clap.specs.declared.error.kind.ErrorKind.TheVariants as kinds;
-ghost use Rattle.command_line.specs.Arguments.{IsOfKind};
-ghost use Rattle.command_line.specs.Process.{printed};
+ghost use Rattle.command_line.specs.{Arguments.IsOfKind, Process.printed};
 
 use crate::errors::{ArgumentsFault, text_fault};
 use crate::table::Commands;
@@ -15,8 +13,7 @@ use std::io;
 
 /// A process that was given arguments.
 pub trait GivenArguments {
-    ghost use Rattle.std.specs.Prelude.{List, IfOk, map};
-    ghost use Rattle.std.specs.String.{string_bytes};
+    ghost use Rattle.std.specs.{Prelude.{List, IfOk, map}, String.string_bytes};
     ghost use Rattle.clap.specs.Words.{Text};
 
     // the arguments that it may have been given

@@ -1,7 +1,6 @@
 //! Calls that a signal interrupts.
 
-ghost use Rattle.std.specs.Prelude.{◌≡◌, ◌↔◌, IsTrue};
-ghost use Rattle.std.specs.IoError.{error_kind};
+ghost use Rattle.std.specs.{IoError.error_kind, Prelude.{◌≡◌, ◌↔◌, IsTrue}};
 
 use std::io::{Error, ErrorKind};
 

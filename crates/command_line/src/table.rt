@@ -2,8 +2,8 @@
 
 ghost use Rattle.std.specs.Prelude.{◌≡◌, IfOk, false, map, option_map};
 ghost use Rattle.clap.specs.Words.{app_of, rule_of};
-ghost use Rattle.command_line.specs.Application.{IsMade};
-ghost use Rattle.command_line.specs.Table.{app_of_table, entry_app, entry_named, entry_of, rule_for, table_of};
+ghost use Rattle.command_line.specs.{Application.IsMade, Table.{app_of_table, entry_app}};
+ghost use Rattle.command_line.specs.Table.{entry_named, entry_of, rule_for, table_of};
 
 use crate::options::{make_flag, make_option, make_positional, make_positionals};
 use crate::tree::{make_program, new_command, with_argument, with_command};

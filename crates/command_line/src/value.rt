@@ -2,9 +2,8 @@
 
 ghost use Rattle.std.specs.Prelude.{◌≡◌, ℕ, List, Option};
 ghost use Rattle.clap.specs.Words.{found_of, rows_of};
-ghost use Rattle.command_line.specs.FormName.{form_named as form_of};
+ghost use Rattle.command_line.specs.{Arguments.value_in, FormName.form_named as form_of};
 ghost use Rattle.command_line.specs.Root.{root_of};
-ghost use Rattle.command_line.specs.Arguments.{value_in};
 
 use crate::form_names::form_named;
 use crate::options::value_of;

@@ -1,8 +1,6 @@
 -- What the calls of an accepted connection keep.
-use Rattle.std.proofs.Common.{◌∙◌, ℕ, List, Option, ap, refl}
-use Rattle.std.proofs.KnownBytes.{Keeps-refl, Keeps-trans}
-use Rattle.desk_server.specs.Accepted.{HasMoved, HasWaited}
-use Rattle.desk_server.specs.declared.timed.Accepted.{Accepted}
+use Rattle.std.proofs.{Common.{◌∙◌, ℕ, List, Option, ap, refl}, KnownBytes.{Keeps-refl, Keeps-trans}}
+use Rattle.desk_server.specs.{Accepted.{HasMoved, HasWaited}, declared.timed.Accepted.Accepted}
 
 module _ {S C : Type 0} where
   pub moved_more : (old mid new : Accepted S C) → HasMoved old mid → HasMoved mid new → HasMoved old new

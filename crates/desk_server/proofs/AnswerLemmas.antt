@@ -1,10 +1,7 @@
 -- The bytes of an answer, as far as the office took them.
-use Rattle.std.proofs.Common.{◌<◌, ◌+◌, ℕ, suc, arith, List, [], ◌∷◌, ◌++◌, length, take}
-use Rattle.std.specs.Prelude.{Option, Result, Ok, Err}
-use Rattle.std.specs.Io.KnownBytes.{Appends}
-use Rattle.std.proofs.KnownBytes.{Appends-trans}
-use Rattle.std.proofs.Math.Seq.{take-append-add}
+use Rattle.std.proofs.{Common.{◌<◌, ◌+◌, ℕ, suc, arith, List, [], ◌∷◌, ◌++◌, length, take}, KnownBytes.Appends-trans, Math.Seq.take-append-add}
 use Rattle.std.proofs.lemmas.List.{take_all, take-append-le}
+use Rattle.std.specs.{Io.KnownBytes.Appends, Prelude.{Option, Result, Ok, Err}}
 use Rattle.club_http.specs.Ends.{TakesAll}
 use Rattle.desk_server.specs.Served.{answer_bytes}
 

@@ -1,22 +1,15 @@
 -- The steps of an exchange, put together.
 use Rattle.std.proofs.Common.{◌≡◌, ◌∙◌, ℕ, List, [], ◌++◌, take, Option, Some, None, IfSome, Result, Ok, Err, ap, refl}
-use Rattle.std.specs.Io.KnownBytes.{Appends, Keeps}
 use Rattle.std.proofs.KnownBytes.{Appends-kept, Keeps-refl, Keeps-trans}
+use Rattle.std.specs.Io.KnownBytes.{Appends, Keeps}
 use Rattle.club_core.specs.declared.reply.Reply.{Reply}
-use Rattle.club_http.specs.Calls.{ArePut, ReadsNoFurther}
+use Rattle.club_http.specs.{Calls.{ArePut, ReadsNoFurther}, Exchange.{Exchanges, reader_failures, writer_failures}, Received.Receives}
+use Rattle.club_http.specs.{Replied.{AnswerRelation, IsReplied}, declared.fault.AnswerFault.{AnswerFault, TheVariants.{Read, Write}}}
 use Rattle.club_http.specs.Calls as calls
-use Rattle.club_http.specs.Exchange.{Exchanges, reader_failures, writer_failures}
-use Rattle.club_http.specs.Replied.{AnswerRelation, IsReplied}
-use Rattle.club_http.specs.declared.fault.AnswerFault.{AnswerFault}
-use Rattle.club_http.specs.declared.fault.AnswerFault.TheVariants.{Read, Write}
-use Rattle.club_http.specs.Received.{Receives}
 use Rattle.http_response.specs.Text.{reply_text}
-use Rattle.desk_server.specs.Accepted.{Comes, HasWaited, IsEnded, IsRead, IsWritten, Talks}
-use Rattle.desk_server.specs.Between.{AreWaits, Awaits}
-use Rattle.desk_server.specs.Between as between
-use Rattle.desk_server.specs.Limits.{Calls}
-use Rattle.desk_server.specs.Served.{IsExchanged}
+use Rattle.desk_server.specs.{Accepted.{Comes, HasWaited, IsEnded, IsRead, IsWritten, Talks}, Between.{AreWaits, Awaits}, Limits.Calls, Served.IsExchanged}
 use Rattle.desk_server.specs.declared.timed.Accepted.{Accepted}
+use Rattle.desk_server.specs.Between as between
 use Rattle.desk_server.proofs.MeanwhileLemmas.{reads_kept}
 
 -- the second step of an exchange, with what it wrote

@@ -1,13 +1,10 @@
 -- The lines of a log, from what it notes.
 use Rattle.std.proofs.Common.{◌≡◌, ℕ, List, [], ◌∷◌, ◌++◌, append_assoc, append-nil, ap, sym, ◌∙◌}
 use Rattle.std.specs.Prelude.{Option}
-use Rattle.desk_server.specs.Laws.{WritesLines}
-use Rattle.desk_server.specs.Log.{AreWritten, IsTextWritten, line_text}
+use Rattle.desk_server.specs.{Laws.WritesLines, Log.{AreWritten, IsTextWritten, line_text}, Served.{AreNotedMeanwhile, IsBegun, Notes, Turn, fates_in}}
+use Rattle.desk_server.specs.declared.log.Fate.{Fate, TheVariants.{Absent, Overrun}}
 use Rattle.desk_server.specs.Log as log
-use Rattle.desk_server.specs.Served.{AreNotedMeanwhile, IsBegun, Notes, Turn, fates_in}
 use Rattle.desk_server.specs.Served as served
-use Rattle.desk_server.specs.declared.log.Fate.{Fate}
-use Rattle.desk_server.specs.declared.log.Fate.TheVariants.{Absent, Overrun}
 
 -- the fates of one turn more
 fates_more : (turns : List Turn) (turn : Turn) → fates_in (turns ++ turn ∷ []) ≡ fates_in turns ++ (turn.meanwhile ++ turn.fate ∷ [])

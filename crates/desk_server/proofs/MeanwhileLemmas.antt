@@ -4,13 +4,9 @@ use Rattle.std.specs.Prelude.{Option, None, Some}
 use Rattle.club_clock.specs.Moments.{GivesMoment}
 use Rattle.club_http.specs.Calls.{Call, Gives, ReadsNoFurther}
 use Rattle.club_http.specs.Calls as calls
-use Rattle.desk_server.specs.Between.{CommandsAlone}
-use Rattle.desk_server.specs.Served.{AreCommanded, AreNotedMeanwhile, CommandRelation, Meanwhile, Notes}
+use Rattle.desk_server.specs.{Between.CommandsAlone, Served.{AreCommanded, AreNotedMeanwhile, CommandRelation, Meanwhile, Notes}, Server.IsCommanded}
+use Rattle.desk_server.specs.declared.{between.Between.Between, log.Fate.{Fate, TheVariants.Commanded}}
 use Rattle.desk_server.specs.Served as spec
-use Rattle.desk_server.specs.Server.{IsCommanded}
-use Rattle.desk_server.specs.declared.between.Between.{Between}
-use Rattle.desk_server.specs.declared.log.Fate.{Fate}
-use Rattle.desk_server.specs.declared.log.Fate.TheVariants.{Commanded}
 
 commanded_append : {Clock Desk : Type 0} {Given : GivesMoment Clock} {Carries : CommandRelation Desk} {c c1 : Clock} {d d1 : Desk} {first : List Fate}
     → AreCommanded Given Carries c d first c1 d1 → (second : List Fate) (c' : Clock) (d' : Desk) → AreCommanded Given Carries c1 d1 second c' d'

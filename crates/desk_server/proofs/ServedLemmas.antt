@@ -2,10 +2,9 @@
 use Rattle.std.proofs.Common.{◌≡◌, ℕ, ◌+◌, List, [], ◌∷◌, ◌++◌, ◌≤◌, length, arith, length-append}
 use Rattle.club_clock.specs.Moments.{GivesMoment}
 use Rattle.club_http.specs.Replied.{AnswerRelation}
-use Rattle.desk_server.specs.Served.{AreNoted, AreServed, CommandRelation, CountsOn, Ends, IsBegun, IsDue, IsNoted, Notes, ServesOne}
-use Rattle.desk_server.specs.Served.{Turn, alone, client_in, clients_in}
+use Rattle.desk_server.specs.Served.{AreNoted, AreServed, CommandRelation, CountsOn, Ends, IsBegun, IsDue, IsNoted, Notes, ServesOne, Turn, alone, client_in}
+use Rattle.desk_server.specs.{Served.clients_in, declared.log.Fate.Fate}
 use Rattle.desk_server.specs.Served as spec
-use Rattle.desk_server.specs.declared.log.Fate.{Fate}
 
 clients_more : (turns : List Turn) (turn : Turn) → clients_in (turns ++ turn ∷ []) ≡ clients_in turns + client_in turn.fate
 clients_more [] turn = omega arith

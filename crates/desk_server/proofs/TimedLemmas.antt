@@ -1,11 +1,9 @@
 -- Lemmas on the bytes of several reads, and on calls under a limit.
-use Rattle.std.proofs.Common.{◌≡◌, ◌+◌, ◌≤◌, ◌∙◌, ℕ, List, ◌++◌, length, take, Option, sym, ap}
-use Rattle.std.proofs.Math.Seq.{take-append-add}
+use Rattle.std.proofs.{Common.{◌≡◌, ◌+◌, ◌≤◌, ◌∙◌, ℕ, List, ◌++◌, length, take, Option, sym, ap}, Math.Seq.take-append-add}
 use Rattle.std.proofs.lemmas.List.{take-append-le, length-take-le}
 use borrow.Rule.Slice.PartMut.{put_mid}
 use Rattle.std.specs.Io.KnownBytes.{Keeps}
-use Rattle.desk_server.specs.Limits.{AreInterrupted, Calls}
-use Rattle.desk_server.specs.declared.limit.Limit.{Limit}
+use Rattle.desk_server.specs.{Limits.{AreInterrupted, Calls}, declared.limit.Limit.Limit}
 
 -- a buffer that was filled from a place on
 pub filled : (room part : List ℕ) (len n k : ℕ) → len ≤ length room → n ≤ length part → take (len + n) (put_mid len k room part) ≡ take len room ++ take n part

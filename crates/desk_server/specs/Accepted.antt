@@ -1,17 +1,10 @@
 -- An accepted connection under limits of time (ours).
-use Rattle.std.specs.Prelude.{◌≡◌, ℕ, List, Option, IsSomeAnd, Result, Ok, Err}
-use Rattle.std.specs.Duration.{as_nanos}
-use Rattle.std.specs.Io.KnownBytes.{Appends, Keeps}
+use Rattle.std.specs.{Duration.as_nanos, Io.KnownBytes.{Appends, Keeps}, Prelude.{◌≡◌, ℕ, List, Option, IsSomeAnd, Result, Ok, Err}}
 use Rattle.club_core.specs.declared.reply.Reply.{Reply}
-use Rattle.club_http.specs.Calls.{ArePut, ReadsNoFurther}
-use Rattle.club_http.specs.Exchange.{reader_failures, writer_failures}
-use Rattle.club_http.specs.Received.{IsCutOff, Receives}
-use Rattle.club_http.specs.declared.fault.AnswerFault.{AnswerFault}
-use Rattle.club_http.specs.declared.fault.AnswerFault.TheVariants.{Read, Write}
+use Rattle.club_http.specs.{Calls.{ArePut, ReadsNoFurther}, Exchange.{reader_failures, writer_failures}, Received.{IsCutOff, Receives}}
+use Rattle.club_http.specs.declared.fault.AnswerFault.{AnswerFault, TheVariants.{Read, Write}}
 use Rattle.http_request.specs.Frame.{IsOneRequest}
-use Rattle.desk_server.specs.Between.{Awaits}
-use Rattle.desk_server.specs.Limits.{Calls, IsCalledUnder, StartsLimit, TakesAtMost}
-use Rattle.desk_server.specs.declared.timed.Accepted.{Accepted}
+use Rattle.desk_server.specs.{Between.Awaits, Limits.{Calls, IsCalledUnder, StartsLimit, TakesAtMost}, declared.timed.Accepted.Accepted}
 
 -- only its stream moved on
 abbrev pub HasMoved : {S C : Type 0} → Accepted S C → Accepted S C → Type 0

@@ -1,8 +1,7 @@
 -- The count of failed waits (ours).
 use Rattle.std.specs.Prelude.{ℕ}
 use Rattle.club_http.specs.Ends.{one_more}
-use Rattle.desk_server.specs.declared.connections.Arrival.{Arrival}
-use Rattle.desk_server.specs.declared.connections.Arrival.TheVariants.{Client, Command, Nobody}
+use Rattle.desk_server.specs.declared.connections.Arrival.{Arrival, TheVariants.{Client, Command, Nobody}}
 
 -- the count after a wait: one more if nobody came
 abbrev pub failures_after : {C O : Type 0} → ℕ → Arrival C O → ℕ

@@ -2,8 +2,7 @@
 use Rattle.std.specs.Prelude.{◌≡◌, ℕ, List, Option}
 use Rattle.club_clock.specs.Moments.{GivesMoment}
 use Rattle.club_http.specs.Calls.{Call}
-use Rattle.desk_server.specs.Served.{CommandRelation, Meanwhile, Notes}
-use Rattle.desk_server.specs.declared.between.Between.{Between}
+use Rattle.desk_server.specs.{Served.{CommandRelation, Meanwhile, Notes}, declared.between.Between.Between}
 
 -- what a wait does: the reader before, and after
 abbrev pub Wait : Type 0 → Type 1

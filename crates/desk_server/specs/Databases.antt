@@ -1,6 +1,5 @@
 -- What opening and closing databases by their names may do (ours).
-use Rattle.std.specs.Prelude.{ℕ, List, Option, Some, None, Result, String}
-use Rattle.std.specs.String.{string_bytes}
+use Rattle.std.specs.{Prelude.{ℕ, List, Option, Some, None, Result, String}, String.string_bytes}
 use Rattle.club_core.specs.declared.store.StoreFault.{StoreFault}
 use Rattle.desk_server.specs.declared.databases.Reached.{Reached}
 

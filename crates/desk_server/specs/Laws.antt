@@ -1,7 +1,6 @@
 -- Laws of the definitions (ours).
 use Rattle.std.specs.Prelude.{ℕ, List, Option}
-use Rattle.desk_server.specs.Log.{AreWritten}
-use Rattle.desk_server.specs.Served.{AreNoted, Notes, Turn, fates_in}
+use Rattle.desk_server.specs.{Log.AreWritten, Served.{AreNoted, Notes, Turn, fates_in}}
 
 -- after a log has noted turns, it has written the lines of their fates
 abbrev pub WritesLines : {Log : Type 0} → (Log → Log → Type 0) → Notes Log → (Log → Option (List ℕ)) → (Log → ℕ) → Type 0

@@ -1,11 +1,8 @@
 -- Limits of time (ours).
-use Rattle.std.specs.Prelude.{◌≡◌, ◌⊎◌, ℕ, ◌+◌, ◌-◌, ◌*◌, ◌^◌, ◌<◌, ◌≤◌, nat_lt, if◌then◌else◌, List, length, Option, Some, None, IfSome, IsSomeAnd, option_map}
 use Rattle.std.specs.Io.KnownBytes.{Consumes}
-use Rattle.std.specs.Time.{instant_nanos}
-use Rattle.std.specs.declared.time.Instant.{Instant}
-use Rattle.desk_server.specs.declared.limit.Limit.{Limit}
-use Rattle.desk_server.specs.declared.timed.Waited.{Waited}
-use Rattle.desk_server.specs.declared.timed.Waited.TheVariants.{Moved, Interrupted, Failed}
+use Rattle.std.specs.Prelude.{◌≡◌, ◌⊎◌, ℕ, ◌+◌, ◌-◌, ◌*◌, ◌^◌, ◌<◌, ◌≤◌, nat_lt, if◌then◌else◌, List, length, Option, Some, None, IfSome, IsSomeAnd, option_map}
+use Rattle.std.specs.{Time.instant_nanos, declared.time.Instant.Instant}
+use Rattle.desk_server.specs.declared.{limit.Limit.Limit, timed.Waited.{Waited, TheVariants.{Moved, Interrupted, Failed}}}
 
 -- the nanoseconds of an instant since the start of its clock
 abbrev pub nanos_of : Option Instant → Option ℕ

@@ -1,15 +1,11 @@
 -- The lines of a log (ours).
+use Rattle.std.specs.{Fmt.decimal, Io.KnownBytes.Appends}
 use Rattle.std.specs.Prelude.{◌≡◌, ℕ, ◌<◌, ◌⊎◌, List, [], ◌∷◌, ◌++◌, length, take, codes, Option, Some, None, option_map, unwrap_or, Result, Ok, Err}
-use Rattle.std.specs.Fmt.{decimal}
-use Rattle.std.specs.Io.KnownBytes.{Appends}
 use Rattle.club_core.specs.declared.reply.Reply.{Reply}
-use Rattle.club_http.specs.Ends.{one_more}
-use Rattle.club_http.specs.declared.fault.AnswerFault.{AnswerFault}
+use Rattle.club_http.specs.{Ends.one_more, declared.fault.AnswerFault.AnswerFault}
 use Rattle.club_values.specs.Moment.{moment_text}
 use Rattle.http_response.specs.Status.{status_of}
-use Rattle.desk_server.specs.RequestLine.{method_of, path_of}
-use Rattle.desk_server.specs.declared.log.Fate.{Fate}
-use Rattle.desk_server.specs.declared.log.Fate.TheVariants.{Absent, Overrun, Unanswered, Exchanged, Commanded}
+use Rattle.desk_server.specs.{RequestLine.{method_of, path_of}, declared.log.Fate.{Fate, TheVariants.{Absent, Overrun, Unanswered, Exchanged, Commanded}}}
 
 -- a word, or a dash if there is none
 abbrev pub or_dash : Option (List ℕ) → List ℕ

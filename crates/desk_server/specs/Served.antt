@@ -1,19 +1,13 @@
 -- A server: it serves what arrives, clients and commands of the office, one after the other, and commands also while a client's request is awaited
 -- (ours).
-use Rattle.std.specs.Prelude.{◌≡◌, ℕ, suc, ◌+◌, ◌^◌, ◌<◌, ◌≤◌, length, List, [], ◌∷◌, ◌++◌, take, Option, Some, None, IfSome, Result, MatchResult}
 use Rattle.std.specs.Io.KnownBytes.{Appends}
+use Rattle.std.specs.Prelude.{◌≡◌, ℕ, suc, ◌+◌, ◌^◌, ◌<◌, ◌≤◌, length, List, [], ◌∷◌, ◌++◌, take, Option, Some, None, IfSome, Result, MatchResult}
 use Rattle.std.specs.String.{string_bytes}
 use Rattle.club_clock.specs.Moments.{GivesMoment}
 use Rattle.club_core.specs.declared.reply.Reply.{Reply}
-use Rattle.club_http.specs.Ends.{one_more}
-use Rattle.club_http.specs.Exchange.{Exchanges}
-use Rattle.club_http.specs.Replied.{AnswerRelation, IsReplied}
-use Rattle.club_http.specs.declared.fault.AnswerFault.{AnswerFault}
-use Rattle.desk_server.specs.declared.log.Fate.{Fate}
-use Rattle.desk_server.specs.declared.log.Fate.TheVariants.{Absent, Overrun, Unanswered, Exchanged, Commanded}
-use Rattle.desk_server.specs.declared.office.Answer.{Answer}
-use Rattle.desk_server.specs.declared.office.Carried.{Carried}
-use Rattle.desk_server.specs.declared.serve.ClockOutOfRange.{ClockOutOfRange}
+use Rattle.club_http.specs.{Ends.one_more, Exchange.Exchanges, Replied.{AnswerRelation, IsReplied}, declared.fault.AnswerFault.AnswerFault}
+use Rattle.desk_server.specs.declared.{log.Fate.{Fate, TheVariants.{Absent, Overrun, Unanswered, Exchanged, Commanded}}, office.Answer.Answer}
+use Rattle.desk_server.specs.declared.{office.Carried.Carried, serve.ClockOutOfRange.ClockOutOfRange}
 
 -- a u64 counter grows by so many, as long as it doesn't overflow
 abbrev pub CountsOn : ℕ → ℕ → ℕ → Type 0

@@ -2,10 +2,8 @@
 use Rattle.std.specs.Prelude.{ℕ, length, Option, Result}
 use Rattle.club_clock.specs.Moments.{GivesMoment}
 use Rattle.club_http.specs.Replied.{AnswerRelation}
-use Rattle.desk_server.specs.Served.{AreNoted, CommandRelation, CountsOn, Ends, IsCarriedOut, Notes, Serves}
-use Rattle.desk_server.specs.declared.log.Fate.TheVariants.{Commanded}
-use Rattle.desk_server.specs.declared.office.Carried.{Carried}
-use Rattle.desk_server.specs.declared.serve.ClockOutOfRange.{ClockOutOfRange}
+use Rattle.desk_server.specs.{Served.{AreNoted, CommandRelation, CountsOn, Ends, IsCarriedOut, Notes, Serves}, declared.log.Fate.TheVariants.Commanded}
+use Rattle.desk_server.specs.declared.{office.Carried.Carried, serve.ClockOutOfRange.ClockOutOfRange}
 
 module _ {Clock Desk Log : Type 0} (Gives : GivesMoment Clock) (Begins : Log → Log → Type 0) (Noted : Notes Log) where
   -- a command, carried out or not, begun and noted with the clock's moment

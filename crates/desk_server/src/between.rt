@@ -2,11 +2,9 @@
 
 ghost use Rattle.std.specs.Prelude.{◌≡◌, IfNone, IfSome};
 ghost use Rattle.http_request.specs.Front.{Covers};
-ghost use Rattle.club_http.specs.Calls.{ReadsNoFurther};
-ghost use Rattle.club_http.specs.Ends.{read_failures};
+ghost use Rattle.club_http.specs.{Calls.ReadsNoFurther, Ends.read_failures};
 ghost use Rattle.club_http.specs.Received.{IsCutOff, Receives};
-ghost use Rattle.desk_server.specs.Between.{Awaits, CommandsAlone};
-ghost use Rattle.desk_server.specs.Served.{Meanwhile};
+ghost use Rattle.desk_server.specs.{Between.{Awaits, CommandsAlone}, Served.Meanwhile};
 ghost use Rattle.desk_server.specs.Server.{IsCommanded};
 
 use crate::log::{Fate, Log};
@@ -43,8 +41,7 @@ pub(crate) fn carry_out<O: Handover + Drop, M: Moments, D: Office, G: Log>(
 
 /// A client's reader that waits for the office, too.
 pub trait Waits: Inlet {
-    ghost use Rattle.std.specs.Prelude.{◌≡◌};
-    ghost use Rattle.std.specs.Io.KnownBytes.{Keeps};
+    ghost use Rattle.std.specs.{Io.KnownBytes.Keeps, Prelude.{◌≡◌}};
 
     type Command: Handover + Drop;
 

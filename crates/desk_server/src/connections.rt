@@ -76,8 +76,7 @@ impl<S: ClientStream, C: MonotonicClock> Waits for Accepted<'_, S, C> {
 /// The two steps of `club_http::answer`, at this connection's ends, but that commands are carried
 /// out while the request is awaited.
 impl<S: ClientStream, C: MonotonicClock> Connection for Accepted<'_, S, C> {
-    ghost use Rattle.desk_server.specs.Accepted.{Talks};
-    ghost use Rattle.desk_server.specs.Served.{ExchangesBetween};
+    ghost use Rattle.desk_server.specs.{Accepted.Talks, Served.ExchangesBetween};
 
     ghost to_come = { λ accepted. S.to_come accepted.stream };
 
@@ -146,8 +145,7 @@ pub trait Arrivals {
     type Command: Handover + Drop;
 
     ghost use Rattle.std.specs.Prelude.{◌≡◌, ℕ};
-    ghost use Rattle.desk_server.specs.Served.{CountsOn};
-    ghost use Rattle.desk_server.specs.Arrival.{failures_after};
+    ghost use Rattle.desk_server.specs.{Arrival.failures_after, Served.CountsOn};
 
     // the number of calls of `next`
     ghost waited: { Self → ℕ };

@@ -1,7 +1,7 @@
 //! The office's door, as the server sees it.
 
-ghost use Rattle.std.specs.Prelude.{◌≡◌, ◌≤◌, ℕ, length, take, IfSome};
 ghost use Rattle.std.specs.Io.KnownBytes.{Appends, Consumes, IsAtEnd};
+ghost use Rattle.std.specs.Prelude.{◌≡◌, ◌≤◌, ℕ, length, take, IfSome};
 ghost use Rattle.desk_server.specs.Served.{AnswersCommand, answer_bytes};
 
 use crate::between::Handover;

@@ -40,8 +40,7 @@ pub struct Limit<'c, C> {
 }
 
 impl<'c, C: MonotonicClock> Limit<'c, C> {
-    ghost use Rattle.std.specs.Prelude.{◌≡◌};
-    ghost use Rattle.std.specs.Duration.{as_nanos};
+    ghost use Rattle.std.specs.{Duration.as_nanos, Prelude.{◌≡◌}};
     ghost use Rattle.desk_server.specs.Limits.{AtShown, due_after, left_until, nanos_of};
 
     /// The deadline that is this much later than now. If the clock can't be read, or has no such

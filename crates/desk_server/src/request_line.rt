@@ -1,8 +1,7 @@
 //! The beginning of a request, for the log.
 
+ghost use Rattle.std.specs.{Char.is_ascii_uppercase, List.list_all};
 ghost use Rattle.std.specs.Prelude.{◌≡◌, ◌<◌, ◌≤◌, IfSome, length, option_map};
-ghost use Rattle.std.specs.Char.{is_ascii_uppercase};
-ghost use Rattle.std.specs.List.{list_all};
 ghost use Rattle.desk_server.specs.RequestLine as spec;
 
 use club_http::Line;

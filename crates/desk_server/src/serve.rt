@@ -1,7 +1,6 @@
 //! The server.
 
-ghost use Rattle.desk_server.specs.Served.{HasTalked};
-ghost use Rattle.desk_server.specs.Server.{ServesLogged, ServesOn};
+ghost use Rattle.desk_server.specs.{Served.HasTalked, Server.{ServesLogged, ServesOn}};
 
 use crate::between::carry_out;
 use crate::connections::{Arrival, Arrivals, Connection};

@@ -1,7 +1,6 @@
 //! A connection under limits of time.
 
-ghost use Rattle.std.specs.Prelude.{◌≡◌, length, MatchResult, None};
-ghost use Rattle.std.specs.Io.KnownBytes.{Keeps};
+ghost use Rattle.std.specs.{Io.KnownBytes.Keeps, Prelude.{◌≡◌, length, MatchResult, None}};
 ghost use Rattle.club_http.specs.Ends.{Fills, Takes};
 ghost use Rattle.desk_server.specs.Limits.{EndsUnder, moved};
 
@@ -28,9 +27,8 @@ pub enum Waited {
 /// A stream whose reads and writes take a time limit, such as a socket. With no time a read takes
 /// what is there, and a write is taken as far as there is room.
 pub trait TimedStream {
+    ghost use Rattle.std.specs.{Duration.as_nanos, Io.KnownBytes.Keeps};
     ghost use Rattle.std.specs.Prelude.{◌≤◌, ℕ, List, length, Option, IfSome};
-    ghost use Rattle.std.specs.Duration.{as_nanos};
-    ghost use Rattle.std.specs.Io.KnownBytes.{Keeps};
     ghost use Rattle.club_http.specs.Ends.{Fills, Takes};
     ghost use Rattle.desk_server.specs.Limits.{Calls, moved};
 
@@ -184,9 +182,7 @@ pub struct Accepted<'c, S, C> {
 }
 
 impl<'c, S: TimedStream, C: MonotonicClock> Accepted<'c, S, C> {
-    ghost use Rattle.std.specs.Prelude.{◌≡◌, None, false};
-    ghost use Rattle.std.specs.Duration.{as_nanos};
-    ghost use Rattle.std.specs.Io.KnownBytes.{Keeps};
+    ghost use Rattle.std.specs.{Duration.as_nanos, Io.KnownBytes.Keeps, Prelude.{◌≡◌, None, false}};
     ghost use Rattle.desk_server.specs.Accepted.{HasMoved};
     ghost use Rattle.desk_server.specs.Limits.{AtShown, TakesAtMost, due_after, nanos_of};
 

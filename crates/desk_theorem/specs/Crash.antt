@@ -1,22 +1,14 @@
 -- What a reopened store holds after a crash (ours).
 use Rattle.std.specs.Prelude.{◌≡◌, ◌⊎◌, List, [], ◌∷◌, All, Contains, IsTrue}
 use Rattle.sqlite_disk.specs.declared.Disk as disk
+use Rattle.sqlite.specs.{Files.{file_state, over_files, IsOpened}, Held.Held, Recovery.Image, Start.FindsIn, State.State, Store.Ghosts, View.IsClean}
 use Rattle.sqlite.specs.declared.FileStore.{FileStore}
 use Rattle.sqlite.specs.FileStore as file
-use Rattle.sqlite.specs.Files.{file_state, over_files, IsOpened}
-use Rattle.sqlite.specs.Held.{Held}
-use Rattle.sqlite.specs.Recovery.{Image}
-use Rattle.sqlite.specs.Start.{FindsIn}
-use Rattle.sqlite.specs.State.{State}
-use Rattle.sqlite.specs.Store.{Ghosts}
-use Rattle.sqlite.specs.View.{IsClean}
 use Rattle.club_core.specs.Club.{Club, IsSound}
 use Rattle.club_core.specs.Run as machine
 use Rattle.club_laws.specs.RunsWithFailures.{RepeatsServedReplies}
-use Rattle.club_store.specs.Crash.{CrashLeaves, IsOpenedOn, LeavesOneOf, RepresentsOne}
-use Rattle.club_store.specs.Opening.{OpensFrom}
-use Rattle.club_tables.specs.Tables.{Represents}
-use Rattle.club_tables.specs.ReadsAndChanges.{sound_in}
+use Rattle.club_store.specs.{Crash.{CrashLeaves, IsOpenedOn, LeavesOneOf, RepresentsOne}, Opening.OpensFrom}
+use Rattle.club_tables.specs.{ReadsAndChanges.sound_in, Tables.Represents}
 use Rattle.club_gate.specs.Runs.{IsWithinOneEvent, MayBeLeft, DeskResponse, club_left}
 
 -- The state represents exactly one of these clubs, and no crash leaves another. An accepted repeat gets the same reply.

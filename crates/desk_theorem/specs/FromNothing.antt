@@ -1,23 +1,12 @@
 -- How a desk over a new database in memory handles a list of events, and a request after it (ours).
 use Rattle.std.specs.Prelude.{◌≡◌, ◌⊎◌, ℕ, List, [], Option}
-use Rattle.sqlite.specs.declared.MemStore.{MemStore}
-use Rattle.sqlite.specs.Held.{Held, state}
-use Rattle.sqlite.specs.State.{HasCleanDisk}
-use Rattle.sqlite.specs.Steps.{over_memory}
-use Rattle.club_core.specs.declared.change.Change.{Change}
-use Rattle.club_core.specs.declared.reply.Reply.{Reply}
-use Rattle.club_core.specs.declared.request.Request.{Request}
-use Rattle.club_core.specs.declared.store.StoreFault.{StoreFault}
-use Rattle.club_core.specs.Club.{Club, empty_club}
+use Rattle.sqlite.specs.{Held.{Held, state}, State.HasCleanDisk, Steps.over_memory, declared.MemStore.MemStore}
+use Rattle.club_core.specs.{Club.{Club, empty_club}, declared.{change.Change.Change, reply.Reply.Reply, request.Request.Request, store.StoreFault.StoreFault}}
 use Rattle.club_core.specs.Run as machine
-use Rattle.club_tables.specs.Tables.{Represents}
-use Rattle.club_tables.specs.ReadsAndChanges.{sound_in}
+use Rattle.club_tables.specs.{ReadsAndChanges.sound_in, Tables.Represents}
 use Rattle.club_store.specs.Failing.{Fails}
-use Rattle.club_gate.specs.declared.event.Event.{Event}
+use Rattle.club_gate.specs.{Desk.FailsForCause, Events.AreEventsOf, Runs.{AreHandled, club_left, responses_of}, declared.event.Event.Event}
 use Rattle.club_gate.specs.declared.event.EventReply.{EventReply}
-use Rattle.club_gate.specs.Desk.{FailsForCause}
-use Rattle.club_gate.specs.Events.{AreEventsOf}
-use Rattle.club_gate.specs.Runs.{AreHandled, club_left, responses_of}
 
 -- a connection to a database in memory
 abbrev pub InMemory : Type 0

@@ -2,8 +2,7 @@
 
 ghost use Rattle.std.specs.Prelude.{List, All, IfOk};
 ghost use Rattle.sqlite.specs.FileStore as file;
-ghost use Rattle.sqlite.specs.Files.{over_files};
-ghost use Rattle.sqlite.specs.View.{IsClean};
+ghost use Rattle.sqlite.specs.{Files.over_files, View.IsClean};
 ghost use Rattle.club_core.specs.Club.{Club};
 ghost use Rattle.club_core.specs.Run as machine;
 ghost use Rattle.club_laws.specs.RunsWithFailures.{RepeatsServedReplies};

@@ -3,8 +3,7 @@
 ghost use Rattle.std.specs.Prelude.{IfErr, IfOk, List};
 ghost use Rattle.club_core.specs.Club.{empty_club};
 ghost use Rattle.club_core.specs.Run as machine;
-ghost use Rattle.club_gate.specs.Events.{AreEventsOf};
-ghost use Rattle.club_gate.specs.Runs.{IsLawfulRun, club_left, responses_of};
+ghost use Rattle.club_gate.specs.{Events.AreEventsOf, Runs.{IsLawfulRun, club_left, responses_of}};
 ghost use Rattle.club_gate.specs.Served.{IsLawful, RefusesByFormFault};
 ghost use Rattle.club_store.specs.Opening.{IsMemoryFault};
 ghost use Rattle.desk_theorem.specs.FromNothing.{HandlesFromNothing, RepliesFromNothing};

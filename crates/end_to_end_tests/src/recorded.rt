@@ -1,23 +1,11 @@
 //! A file in memory that keeps each change since its last sync, so that a test can lose or tear it.
 //! It is read as the program reads a real file: a torn write leaves each byte old or new.
 
-ghost use Rattle.std.specs.Prelude.{
-  ◌≡◌,
-  ◌∷◌,
-  length,
-  true,
-  false,
-  refl,
-  reverse,
-  map,
-  is_ok,
-  OnOk,
-  OnErr,
-};
+ghost use Rattle.std.specs.Prelude.{◌≡◌, ◌∷◌, length, true, false, refl, reverse, map, is_ok, OnOk};
+ghost use Rattle.std.specs.Prelude.{OnErr};
 ghost use Rattle.std.proofs.Common.{inl};
-ghost use Rattle.sqlite_disk.specs.Disk.{Holds, Mixed, Cut, CountsFault};
+ghost use Rattle.sqlite_disk.specs.{Disk.{Holds, Mixed, Cut, CountsFault}, History.MayLeave};
 ghost use Rattle.sqlite_disk.specs.Refusal.{finds_no_room};
-ghost use Rattle.sqlite_disk.specs.History.{MayLeave};
 ghost use Rattle.end_to_end_tests.specs.Steps.{step_from};
 
 use sqlite_disk::{Disk, Tally, digest_of};

@@ -1,16 +1,10 @@
 -- The parts of a body.
 use Rattle.http_request.proofs.Common.{◌≡◌, ℕ, ◌&&◌, Bool, true, false, cond, List, [], ◌∷◌, Option, Some, None, Result, inl, inr, refl, ap, MatchResult, ok_or}
 use Rattle.http_request.proofs.Common.{option_and_then, list_all, bytes_eq, IsUtf8, is_utf8, only_named}
-use Rattle.std.specs.Map.{keys_of}
-use Rattle.std.specs.String.{string_bytes}
-use Rattle.std.specs.declared.alloc.Global.{Global}
-use Rattle.std.specs.declared.string.String.{String}
+use Rattle.std.specs.{Map.keys_of, String.string_bytes, declared.{alloc.Global.Global, string.String.String}}
 use Rattle.std.proofs.lemmas.Str.{IsUtf8-from_is_utf8}
-use Rattle.serde_json.specs.Data.{Data}
-use Rattle.serde_json.specs.View.{members_view}
-use Rattle.serde_json.specs.declared.value.Value.{Value}
-use Rattle.club_core.specs.declared.refusal.Refusal.{Refusal}
-use Rattle.club_core.specs.declared.refusal.Refusal.TheVariants.{BadRequest}
+use Rattle.serde_json.specs.{Data.Data, View.members_view, declared.value.Value.Value}
+use Rattle.club_core.specs.declared.refusal.Refusal.{Refusal, TheVariants.BadRequest}
 use Rattle.http_request.specs.Refused.{Refuses}
 
 -- the names of a map's entries are those of the object's members

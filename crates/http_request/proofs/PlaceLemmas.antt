@@ -3,19 +3,12 @@ use Rattle.http_request.proofs.Common.{◌≡◌, ℕ, ◌==◌, Bool, true, fal
 use Rattle.http_request.proofs.Common.{option_map, IfSome, bytes_eq, cond-true, eqb-true, nat_tests, segments, account_at, place_of, under_root, under_slots}
 use Rattle.http_request.proofs.Common.{ReadsPlaces}
 use Rattle.std.specs.Fmt.{decimal}
-use Rattle.std.proofs.lemmas.Option.{IfSome_then}
-use Rattle.std.proofs.lemmas.Slice.Eq.{bytes_eq-Decides}
-use Rattle.club_values.specs.declared.slot.Slot.{Slot}
-use Rattle.club_values.specs.Day.{day_text}
-use Rattle.club_values.specs.Digits.{two_digits}
-use Rattle.club_values.specs.Laws.{IsTextOfDay, ReadsDays, ReadsHours, ReadsNames, ReadsNumbers}
-use Rattle.club_values.specs.computed.TextOf.{name_of_text, day_of_text, hour_of_text, decimal_of_text}
-use Rattle.club_rows.specs.Limits.{IsBookingNumber, booking_number_limit}
-use Rattle.club_rows.specs.Rows.{IsSlot}
-use Rattle.http_request.specs.declared.path.Place.{Place}
-use Rattle.http_request.specs.declared.path.Place.TheVariants.{SlotPlace, BookingPlace, AccountPlace}
-use Rattle.http_request.specs.Path.{HasRealValues, IsPlace, place_parts}
-use Rattle.http_request.specs.computed.Parts.{number_of_text, slot_of_parts, within_limits, ◌>>=◌}
+use Rattle.std.proofs.lemmas.{Option.IfSome_then, Slice.Eq.bytes_eq-Decides}
+use Rattle.club_values.specs.{Day.day_text, Digits.two_digits, Laws.{IsTextOfDay, ReadsDays, ReadsHours, ReadsNames, ReadsNumbers}}
+use Rattle.club_values.specs.{computed.TextOf.{name_of_text, day_of_text, hour_of_text, decimal_of_text}, declared.slot.Slot.Slot}
+use Rattle.club_rows.specs.{Limits.{IsBookingNumber, booking_number_limit}, Rows.IsSlot}
+use Rattle.http_request.specs.{Path.{HasRealValues, IsPlace, place_parts}, computed.Parts.{number_of_text, slot_of_parts, within_limits, ◌>>=◌}}
+use Rattle.http_request.specs.declared.path.Place.{Place, TheVariants.{SlotPlace, BookingPlace, AccountPlace}}
 
 -- what is so of a value that is found: by a test, by two steps, or by a function of what was found
 if_all : {A : Type 0} (P : A → Type 0) (test : Bool) (found : Option A) → (test ≡ true → IfSome found P) → IfSome (cond test found None) P

@@ -1,7 +1,7 @@
 -- Paths with more parts than a place has.
 use Rattle.http_request.proofs.Common.{◌≡◌, List, ◌∷◌, ℕ, Bor, Option, Some, None, true, refl, is_some, following_parts, at_slot, account_at}
-use Rattle.club_values.specs.declared.slot.Slot.{Slot}
 use Rattle.http_request.proofs.Segments.{first_part}
+use Rattle.club_values.specs.declared.slot.Slot.{Slot}
 
 pub past_number : (slot : Slot) (word number : List ℕ) (rest : Option (Bor (List ℕ))) → is_some rest ≡ true
     → at_slot slot (word ∷ number ∷ following_parts rest) ≡ None

@@ -1,18 +1,13 @@
 -- Every place of the desk has a route.
 use Rattle.http_request.proofs.Common.{◌≡◌, ℕ, ◌<◌, List, [], ◌∷◌, ◌++◌, length, Some, true, false, cond, ◌==◌, append-nil, codes, refl, sym, ap, subst, ◌∙◌}
-use Rattle.http_request.proofs.Common.{arith, IsSome, eqb-true, ReadsPlaces, with_front, segments}
+use Rattle.http_request.proofs.{Common.{arith, IsSome, eqb-true, ReadsPlaces, with_front, segments}, Segments.first_part}
+use Rattle.http_request.proofs.Walks.{over_bytes, over_part, takes_two, takes_one, takes_last, takes_end}
 use Rattle.std.specs.Fmt.{decimal}
 use Rattle.std.proofs.lemmas.Fmt.{decimal_nonempty}
-use Rattle.matchit.specs.Rows.{RowsOf, param_token}
-use Rattle.matchit.specs.Seek.{has_slash, seek, first, own, step, param_step}
-use Rattle.club_values.specs.Day.{day_text}
-use Rattle.club_values.specs.Digits.{two_digits}
-use Rattle.http_request.specs.declared.path.Place.{Place}
+use Rattle.matchit.specs.{Rows.{RowsOf, param_token}, Seek.{has_slash, seek, first, own, step, param_step}}
+use Rattle.club_values.specs.{Day.day_text, Digits.two_digits}
+use Rattle.http_request.specs.{Path.{HasRealValues, IsPlace, place_parts}, Routes.KnowsPlaces, declared.path.Place.Place}
 use Rattle.http_request.specs.declared.path.Place.TheVariants.{SlotPlace, BookingPlace, AccountPlace}
-use Rattle.http_request.specs.Path.{HasRealValues, IsPlace, place_parts}
-use Rattle.http_request.specs.Routes.{KnowsPlaces}
-use Rattle.http_request.proofs.Segments.{first_part}
-use Rattle.http_request.proofs.Walks.{over_bytes, over_part, takes_two, takes_one, takes_last, takes_end}
 
 -- the path that has these parts
 abbrev glued : List (List ℕ) → List ℕ

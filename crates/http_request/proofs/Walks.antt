@@ -3,8 +3,7 @@ use Rattle.http_request.proofs.Common.{◌≡◌, ℕ, zero, suc, ◌-◌, ◌<�
 use Rattle.http_request.proofs.Common.{refl, ap, ◌∙◌, arith, length-append, IsSome, and_right, nat_tests}
 use Rattle.std.specs.Cmp.Lexicographic.{pointwise}
 use Rattle.std.proofs.Math.Seq.{drop-append_seam}
-use Rattle.matchit.specs.Rows.{RowsOf, param_token}
-use Rattle.matchit.specs.Seek.{segment, has_slash, cuts, step, or_else, param_step, seek}
+use Rattle.matchit.specs.{Rows.{RowsOf, param_token}, Seek.{segment, has_slash, cuts, step, or_else, param_step, seek}}
 
 -- the rows that go on after some bytes
 abbrev pub steps : {K : Type 0} → List ℕ → RowsOf K → RowsOf K

@@ -3,10 +3,9 @@ use Rattle.http_request.proofs.Common.{◌≡◌, ◌⊎◌, ℕ, ◌-◌, ◌<�
 use Rattle.http_request.proofs.Common.{length-append, take-append-le, take-append-drop, length-drop, HeaderSpan, RequestHead, Head, IsFramed, IsOneRequest}
 use Rattle.http_request.proofs.Common.{IsRefusedHead, HasNoPiece, IsWhole, has_frame, endless, bad_head, IsHeadAt, IsFrontOf, OneReading, ReadsPlaces}
 use Rattle.http_request.proofs.Common.{WholeKeepsItsReading, BodyStays}
-use Rattle.http_request.specs.declared.front.Front.{Front}
-use Rattle.http_request.specs.declared.front.Front.TheVariants.{Refused, Asking}
-use Rattle.http_request.specs.Words as words
 use Rattle.http_request.proofs.FrameLemmas.{Asks, asks_at, cut_frame, framed, no_piece, not_refused, only, same_asked, same_parts}
+use Rattle.http_request.specs.declared.front.Front.{Front, TheVariants.{Refused, Asking}}
+use Rattle.http_request.specs.Words as words
 
 -- if no head has ended within the limit, the bytes hold no whole request
 pub open_head : (bytes : List ℕ) → HasNoPiece bytes → length bytes < 16384 → ¬ (IsWhole bytes)

@@ -1,9 +1,7 @@
 -- The body of a request.
 use Rattle.std.specs.Prelude.{ℕ, ◌&&◌, Bool, true, false, List, codes, nat_le, if◌then◌else◌, Option, Some, None, option_and_then, option_map, unwrap_or}
 use Rattle.std.specs.Str.{bytes_eq, is_utf8}
-use Rattle.serde_json.specs.Data.{Data, Members, no_members, member}
-use Rattle.serde_json.specs.Find.{get, as_number, as_object, as_u64}
-use Rattle.serde_json.specs.Read.{read}
+use Rattle.serde_json.specs.{Data.{Data, Members, no_members, member}, Find.{get, as_number, as_object, as_u64}, Read.read}
 use Rattle.club_values.specs.Slot.{guests_limit}
 
 -- every name of the object is this one

@@ -1,11 +1,7 @@
 -- The fields of a head, by their names.
-use Rattle.std.specs.Prelude.{◌≡◌, ℕ, Bool, List, [], ◌∷◌, map, if◌then◌else◌}
-use Rattle.std.specs.Char.{to_ascii_lowercase}
-use Rattle.std.specs.Str.{bytes_eq}
-use Rattle.httparse.specs.declared.spans.HeaderSpan.{HeaderSpan}
-use Rattle.httparse.specs.Spans.{header_bytes}
-use Rattle.http_request.specs.declared.fields.Values.{Values}
-use Rattle.http_request.specs.declared.fields.Values.TheVariants.{None, One, More}
+use Rattle.std.specs.{Char.to_ascii_lowercase, Prelude.{◌≡◌, ℕ, Bool, List, [], ◌∷◌, map, if◌then◌else◌}, Str.bytes_eq}
+use Rattle.httparse.specs.{Spans.header_bytes, declared.spans.HeaderSpan.HeaderSpan}
+use Rattle.http_request.specs.declared.fields.Values.{Values, TheVariants.{None, One, More}}
 
 -- two names are the same, in any case (RFC 9110, section 5.1)
 abbrev pub same_word : List ℕ → List ℕ → Bool

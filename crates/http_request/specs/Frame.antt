@@ -1,11 +1,7 @@
 -- A request as its head and its body (RFC 9112, section 6), and when it is whole.
-use Rattle.std.specs.Prelude.{◌≡◌, ℕ, ◌≤◌, false, List, ◌++◌, length, take, map, nat_eq, Some}
-use Rattle.std.specs.List.{ends_with}
-use Rattle.httparse.specs.Grammar.{RequestHead}
-use Rattle.httparse.specs.Spans.{name_and_value}
-use Rattle.http_request.specs.Head.{empty_line, IsPiece, IsHeadOf}
-use Rattle.http_request.specs.Length.{asked_length}
-use Rattle.http_request.specs.Limits.{max_head_len}
+use Rattle.std.specs.{List.ends_with, Prelude.{◌≡◌, ℕ, ◌≤◌, false, List, ◌++◌, length, take, map, nat_eq, Some}}
+use Rattle.httparse.specs.{Grammar.RequestHead, Spans.name_and_value}
+use Rattle.http_request.specs.{Head.{empty_line, IsPiece, IsHeadOf}, Length.asked_length, Limits.max_head_len}
 
 -- the names and the values of a head's fields
 abbrev pub header_fields : RequestHead → List (List ℕ × List ℕ)

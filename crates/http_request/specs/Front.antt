@@ -1,14 +1,8 @@
 -- The head that bytes begin with, if they do.
 use Rattle.std.specs.Prelude.{◌≤◌, ℕ, List, length, take}
-use Rattle.httparse.specs.declared.spans.HeaderSpan.{HeaderSpan}
-use Rattle.httparse.specs.Grammar.{RequestHead}
-use Rattle.httparse.specs.Spans.{IsRequestWithin, IsRequestAt}
-use Rattle.http_request.specs.declared.front.Head.{Head}
-use Rattle.http_request.specs.declared.front.Front.{Front}
-use Rattle.http_request.specs.declared.front.Front.TheVariants.{NoPiece, Refused, Asking}
-use Rattle.http_request.specs.declared.scan.HeadScan.{HeadScan}
-use Rattle.http_request.specs.Head.{IsPiece}
-use Rattle.http_request.specs.Frame.{AsksForBody, HasNoPiece, IsRefusedHead}
+use Rattle.httparse.specs.{Grammar.RequestHead, Spans.{IsRequestWithin, IsRequestAt}, declared.spans.HeaderSpan.HeaderSpan}
+use Rattle.http_request.specs.{Frame.{AsksForBody, HasNoPiece, IsRefusedHead}, Head.IsPiece, declared.front.Front.Front}
+use Rattle.http_request.specs.declared.{front.{Front.TheVariants.{NoPiece, Refused, Asking}, Head.Head}, scan.HeadScan.HeadScan}
 
 -- the bytes begin with this head; its spans and the fields say where its parts are
 pub record IsHeadAt (bytes : List ℕ) (fields : List HeaderSpan) (found : Head) : Type 0 where

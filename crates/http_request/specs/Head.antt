@@ -1,6 +1,5 @@
 -- The head of a request, cut out of bytes.
-use Rattle.std.specs.Prelude.{◌≡◌, ℕ, ◌<◌, ◌≤◌, true, false, List, [], length, take, nat_eq, codes}
-use Rattle.std.specs.List.{ends_with}
+use Rattle.std.specs.{List.ends_with, Prelude.{◌≡◌, ℕ, ◌<◌, ◌≤◌, true, false, List, [], length, take, nat_eq, codes}}
 use Rattle.httparse.specs.Grammar.{RequestHead, ReadsRequest}
 use Rattle.http_request.specs.Limits.{max_fields, max_head_len}
 

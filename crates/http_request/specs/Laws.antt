@@ -1,11 +1,8 @@
 -- Laws of the decoding of requests.
 use Rattle.std.specs.Prelude.{◌≡◌, ◌↔◌, ℕ, List, ◌++◌, Option, Result}
 use Rattle.club_core.specs.declared.refusal.Refusal.{Refusal}
+use Rattle.http_request.specs.{Frame.IsWhole, Path.IsPlaceOf, Words.{DecodedRequest, IsRequestReading, HoldsBody}, computed.Path.place_of}
 use Rattle.http_request.specs.declared.path.Place.{Place}
-use Rattle.http_request.specs.Frame.{IsWhole}
-use Rattle.http_request.specs.Path.{IsPlaceOf}
-use Rattle.http_request.specs.computed.Path.{place_of}
-use Rattle.http_request.specs.Words.{DecodedRequest, IsRequestReading, HoldsBody}
 
 -- a target names one place at most: that which is computed
 abbrev pub ReadsPlaces : Type 0

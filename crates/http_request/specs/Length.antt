@@ -1,9 +1,7 @@
 -- How many bytes a body has (RFC 9112, section 6.2).
-use Rattle.std.specs.Prelude.{ℕ, ◌==◌, ◌||◌, List, [], ◌∷◌, length, nat_le, codes, if◌then◌else◌, Option, Some, None, option_and_then}
-use Rattle.std.specs.Str.{bytes_eq}
+use Rattle.std.specs.{Prelude.{ℕ, ◌==◌, ◌||◌, List, [], ◌∷◌, length, nat_le, codes, if◌then◌else◌, Option, Some, None, option_and_then}, Str.bytes_eq}
 use Rattle.club_values.specs.Number.{number_of_digits}
-use Rattle.http_request.specs.Fields.{values_of}
-use Rattle.http_request.specs.Limits.{max_body_len}
+use Rattle.http_request.specs.{Fields.values_of, Limits.max_body_len}
 
 -- the length, if it is at most that of the longest body
 abbrev pub body_length : ℕ → Option ℕ

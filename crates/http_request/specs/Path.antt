@@ -1,14 +1,8 @@
 -- The paths of the desk (ours): /slots/FACILITY/DAY/HOUR, the same with /bookings/NUMBER, and /account.
-use Rattle.std.specs.Prelude.{◌≡◌, ℕ, List, [], ◌∷◌, codes, Option, Some, None}
-use Rattle.std.specs.Fmt.{decimal}
-use Rattle.club_values.specs.declared.slot.Slot.{Slot}
-use Rattle.club_values.specs.Day.{day_text}
-use Rattle.club_values.specs.Digits.{two_digits}
-use Rattle.club_rows.specs.Limits.{IsBookingNumber}
-use Rattle.club_rows.specs.Rows.{IsSlot}
-use Rattle.http_request.specs.declared.path.Place.{Place}
-use Rattle.http_request.specs.declared.path.Place.TheVariants.{SlotPlace, BookingPlace, AccountPlace}
-use Rattle.http_request.specs.Parts.{segments}
+use Rattle.std.specs.{Fmt.decimal, Prelude.{◌≡◌, ℕ, List, [], ◌∷◌, codes, Option, Some, None}}
+use Rattle.club_values.specs.{Day.day_text, Digits.two_digits, declared.slot.Slot.Slot}
+use Rattle.club_rows.specs.{Limits.IsBookingNumber, Rows.IsSlot}
+use Rattle.http_request.specs.{Parts.segments, declared.path.Place.{Place, TheVariants.{SlotPlace, BookingPlace, AccountPlace}}}
 
 -- the parts of a slot's path, and of what follows it
 abbrev pub slot_parts : Slot → List (List ℕ) → List (List ℕ)

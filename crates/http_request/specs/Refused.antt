@@ -1,7 +1,6 @@
 -- Why a value that was looked for is missing.
 use Rattle.std.specs.Prelude.{◌≡◌, ◌⊎◌, Option, None}
-use Rattle.club_core.specs.declared.refusal.Refusal.{Refusal}
-use Rattle.club_core.specs.declared.refusal.Refusal.TheVariants.{BadRequest, Unavailable}
+use Rattle.club_core.specs.declared.refusal.Refusal.{Refusal, TheVariants.{BadRequest, Unavailable}}
 
 -- `BadRequest` if the value isn't there; `Unavailable` if there was no memory, which is possible only if `Needs` holds
 abbrev pub Refuses : {A : Type 0} → Type 0 → Option A → Refusal → Type 0

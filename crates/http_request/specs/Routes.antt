@@ -1,9 +1,7 @@
 -- The routes of the desk's paths; matchit refuses a target that has none.
 use Rattle.std.specs.Prelude.{◌≡◌, ℕ, List, Some, IsSome}
-use Rattle.matchit.specs.Rows.{RowsOf}
-use Rattle.matchit.specs.Seek.{first}
-use Rattle.http_request.specs.declared.path.Place.{Place}
-use Rattle.http_request.specs.computed.Path.{place_of}
+use Rattle.matchit.specs.{Rows.RowsOf, Seek.first}
+use Rattle.http_request.specs.{computed.Path.place_of, declared.path.Place.Place}
 
 -- every place of the desk has a route
 abbrev pub KnowsPlaces : {K : Type 0} → RowsOf K → Type 0

@@ -1,20 +1,12 @@
 -- The decoding of a request (ours).
-use Rattle.std.specs.Prelude.{◌≡◌, ◌⊎◌, ℕ, ◌<◌, List, length, if◌then◌else◌, codes, Option, Some, Result, Ok, Err}
-use Rattle.std.specs.Option.{ok_or}
-use Rattle.std.specs.Str.{bytes_eq}
+use Rattle.std.specs.{Option.ok_or, Prelude.{◌≡◌, ◌⊎◌, ℕ, ◌<◌, List, length, if◌then◌else◌, codes, Option, Some, Result, Ok, Err}, Str.bytes_eq}
 use Rattle.httparse.specs.Grammar.{RequestHead}
-use Rattle.club_core.specs.declared.refusal.Refusal.{Refusal}
-use Rattle.club_core.specs.declared.refusal.Refusal.TheVariants.{BadRequest, NoSuchPath, MethodNotAllowed, NoPass, Unavailable}
+use Rattle.club_core.specs.declared.refusal.Refusal.{Refusal, TheVariants.{BadRequest, NoSuchPath, MethodNotAllowed, NoPass, Unavailable}}
+use Rattle.club_core.specs.declared.{request.Request.Request, sent_words.SentWords.SentWords as Words}
 use Rattle.club_core.specs.declared.refusal.Resource.TheVariants as resources
-use Rattle.club_core.specs.declared.request.Request.{Request}
 use Rattle.club_core.specs.declared.request.Request.TheVariants as requests
-use Rattle.http_request.specs.declared.path.Place.{Place}
+use Rattle.http_request.specs.{Body.guests_in, Frame.{header_fields, IsFramed}, Pass.pass_text_of, Path.IsPlaceOf, declared.path.Place.Place}
 use Rattle.http_request.specs.declared.path.Place.TheVariants.{SlotPlace, BookingPlace, AccountPlace}
-use Rattle.club_core.specs.declared.sent_words.SentWords.{SentWords as Words}
-use Rattle.http_request.specs.Body.{guests_in}
-use Rattle.http_request.specs.Path.{IsPlaceOf}
-use Rattle.http_request.specs.Pass.{pass_text_of}
-use Rattle.http_request.specs.Frame.{header_fields, IsFramed}
 
 infixl 10 ◌>>=◌
 abbrev pub ◌>>=◌ : {A B : Type 0} → Result A Refusal → (A → Result B Refusal) → Result B Refusal

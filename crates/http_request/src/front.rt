@@ -1,8 +1,7 @@
 //! The head that bytes begin with, if they do.
 
 ghost use Rattle.std.specs.Prelude.{◌≡◌, ◌≤◌, length, map, take, All};
-ghost use Rattle.http_request.specs.Frame.{HasNoPiece};
-ghost use Rattle.http_request.specs.Front.{IsFrontOf};
+ghost use Rattle.http_request.specs.{Frame.HasNoPiece, Front.IsFrontOf};
 
 use crate::head::{MAX_FIELDS, piece_len, read_head};
 use crate::length::asked_length;

@@ -1,11 +1,6 @@
 //! Laws of the decoding of requests. Each is the contract of a function that does nothing.
 
-ghost use Rattle.http_request.specs.Laws.{
-  OneReading,
-  WholeKeepsItsReading,
-  BodyStays,
-  ReadsPlaces,
-};
+ghost use Rattle.http_request.specs.Laws.{OneReading, WholeKeepsItsReading, BodyStays, ReadsPlaces};
 
 use club_values::laws::{is_text_of_day, reads_days, reads_hours, reads_names, reads_numbers};
 

@@ -1,16 +1,13 @@
 //! The routes of the desk, and the decoding of requests by them.
 
 ghost use Rattle.std.specs.Prelude.{◌≡◌, length, map, All, codes, IfOk, MatchResult, Some, Ok};
-ghost use Rattle.matchit.specs.Route.{parse_route};
-ghost use Rattle.matchit.specs.Router.{InsertsRead};
 ghost use Rattle.std.specs.Str.{IsUtf8};
+ghost use Rattle.matchit.specs.{Route.parse_route, Router.InsertsRead};
 ghost use Rattle.http_request.specs.computed.Path as path;
-ghost use Rattle.http_request.specs.Routes.{KnowsPlaces};
-ghost use Rattle.httparse.specs.Spans.{IsHeaderWithin, header_bytes};
-ghost use Rattle.http_request.specs.Front.{Covers};
-ghost use Rattle.http_request.specs.Refused.{Refuses};
+ghost use Rattle.http_request.specs.{Front.Covers, Refused.Refuses, Routes.KnowsPlaces};
 ghost use Rattle.http_request.specs.Words.{guests_by_method, decoded_request, IsRequestReading};
 ghost use Rattle.http_request.specs.Words.{NeedsMemory, HoldsBody, OrUnavailable};
+ghost use Rattle.httparse.specs.Spans.{IsHeaderWithin, header_bytes};
 
 use crate::body::guests_in;
 use crate::front::Front;

@@ -1,9 +1,7 @@
 //! The scan for the head of a request while its bytes arrive.
 
-ghost use Rattle.std.specs.Prelude.{◌<◌, ◌≤◌, ◌↔◌, [], length, take, IsTrue};
-ghost use Rattle.std.specs.Bool.{OnFalse};
-ghost use Rattle.http_request.specs.Frame.{IsOneRequest, IsWhole};
-ghost use Rattle.http_request.specs.Front.{Covers};
+ghost use Rattle.std.specs.{Bool.OnFalse, Prelude.{◌<◌, ◌≤◌, ◌↔◌, [], length, take, IsTrue}};
+ghost use Rattle.http_request.specs.{Frame.{IsOneRequest, IsWhole}, Front.Covers};
 ghost use Rattle.http_request.specs.Limits.{max_request_len};
 
 use crate::front::{Front, front_of};

@@ -1,6 +1,5 @@
 -- An object that is written member by member.
-use Rattle.std.proofs.Common.{◌≡◌, ℕ, List, [], ◌∷◌, ◌++◌, codes, flat_map, ap, sym, ◌∙◌, append_assoc}
-use Rattle.std.proofs.lemmas.List.{append-nil}
+use Rattle.std.proofs.{Common.{◌≡◌, ℕ, List, [], ◌∷◌, ◌++◌, codes, flat_map, ap, sym, ◌∙◌, append_assoc}, lemmas.List.append-nil}
 use Rattle.http_response.specs.Body.{Member, member_text, object_text}
 
 -- a text, and after it the next members

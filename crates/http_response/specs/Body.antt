@@ -1,12 +1,8 @@
 -- The bodies of replies: JSON objects (RFC 8259) with these members in this order (ours).
-use Rattle.std.specs.Prelude.{ℕ, Bool, true, false, List, [], ◌∷◌, ◌++◌, codes, Option, Some, None}
-use Rattle.std.specs.List.{join_by}
-use Rattle.std.specs.Fmt.{decimal}
-use Rattle.club_values.specs.Day.{day_text}
-use Rattle.club_values.specs.Kind.{kind_text}
-use Rattle.club_core.specs.declared.reply.Reply.{Reply}
+use Rattle.std.specs.{Fmt.decimal, List.join_by, Prelude.{ℕ, Bool, true, false, List, [], ◌∷◌, ◌++◌, codes, Option, Some, None}}
+use Rattle.club_values.specs.{Day.day_text, Kind.kind_text}
+use Rattle.club_core.specs.{Refusal.{details_of, caveat_of_refusal}, declared.reply.Reply.Reply}
 use Rattle.club_core.specs.declared.reply.Reply.TheVariants.{SlotShown, Booked, Cancelled, AccountShown, Refused}
-use Rattle.club_core.specs.Refusal.{details_of, caveat_of_refusal}
 
 -- a value: a text that needs no escapes, a number, or a truth value
 pub data Value : Type 0 where

@@ -1,14 +1,11 @@
 -- The statuses of replies (RFC 9110, section 15), and the methods of what a path names (ours).
 use Rattle.std.specs.Prelude.{ℕ, List, codes}
-use Rattle.club_core.specs.declared.refusal.Refusal.{Refusal}
-use Rattle.club_core.specs.declared.refusal.Refusal.TheVariants.{BadRequest, NoSuchPath, MethodNotAllowed, NoPass, PassTooLong, PassMalformed, ThirdPartyCaveat}
-use Rattle.club_core.specs.declared.refusal.Refusal.TheVariants.{TooManyCaveats, NotVerified, KeyRevoked, CaveatNotUnderstood, CaveatDenies, NumberUsed}
-use Rattle.club_core.specs.declared.refusal.Refusal.TheVariants.{NoSuchFacility, NoSuchBooking, NotBookable, SlotClosed, NoPlaces, QuotaReached, BalanceTooLow}
-use Rattle.club_core.specs.declared.refusal.Refusal.TheVariants.{SlotHasBegun, Unavailable}
-use Rattle.club_core.specs.declared.refusal.Resource.{Resource}
-use Rattle.club_core.specs.declared.refusal.Resource.TheVariants as resources
-use Rattle.club_core.specs.declared.reply.Reply.{Reply}
+use Rattle.club_core.specs.declared.refusal.Refusal.{Refusal, TheVariants.{BadRequest, NoSuchPath, MethodNotAllowed, NoPass, PassTooLong, PassMalformed}}
+use Rattle.club_core.specs.declared.refusal.Refusal.TheVariants.{ThirdPartyCaveat, TooManyCaveats, NotVerified, KeyRevoked, CaveatNotUnderstood, CaveatDenies}
+use Rattle.club_core.specs.declared.refusal.Refusal.TheVariants.{NumberUsed, NoSuchFacility, NoSuchBooking, NotBookable, SlotClosed, NoPlaces, QuotaReached}
+use Rattle.club_core.specs.declared.{refusal.{Refusal.TheVariants.{BalanceTooLow, SlotHasBegun, Unavailable}, Resource.Resource}, reply.Reply.Reply}
 use Rattle.club_core.specs.declared.reply.Reply.TheVariants.{Refused}
+use Rattle.club_core.specs.declared.refusal.Resource.TheVariants as resources
 
 abbrev pub refusal_status : Refusal → ℕ
 refusal_status BadRequest = 400

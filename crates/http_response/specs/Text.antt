@@ -1,12 +1,8 @@
 -- The text of a reply: an HTTP/1.1 response (RFC 9112).
-use Rattle.std.specs.Prelude.{ℕ, ◌==◌, List, [], ◌++◌, length, codes, if◌then◌else◌}
-use Rattle.std.specs.Fmt.{decimal}
+use Rattle.std.specs.{Fmt.decimal, Prelude.{ℕ, ◌==◌, List, [], ◌++◌, length, codes, if◌then◌else◌}}
 use Rattle.http.specs.StatusCode.{code_digits}
-use Rattle.club_core.specs.declared.refusal.Refusal.TheVariants.{MethodNotAllowed}
-use Rattle.club_core.specs.declared.reply.Reply.{Reply}
-use Rattle.club_core.specs.declared.reply.Reply.TheVariants.{Refused}
-use Rattle.http_response.specs.Body.{body_text}
-use Rattle.http_response.specs.Status.{status_of, methods_of}
+use Rattle.club_core.specs.declared.{refusal.Refusal.TheVariants.MethodNotAllowed, reply.Reply.{Reply, TheVariants.Refused}}
+use Rattle.http_response.specs.{Body.body_text, Status.{status_of, methods_of}}
 
 -- the phrases of the statuses (RFC 9110, section 15)
 abbrev pub phrase_of : ℕ → List ℕ

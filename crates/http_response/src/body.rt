@@ -1,7 +1,8 @@
 //! The bodies of replies: JSON objects, written member by member.
 
 ghost use Rattle.std.specs.Prelude.{◌≡◌, ◌≤◌, ◌+◌, ◌++◌, length, codes};
-ghost use Rattle.club_core.specs.declared.reply.Reply.TheVariants.{SlotShown, Booked, Cancelled, AccountShown, Refused};
+ghost use Rattle.club_core.specs.declared.reply.Reply.TheVariants.{SlotShown, Booked, Cancelled};
+ghost use Rattle.club_core.specs.declared.reply.Reply.TheVariants.{AccountShown, Refused};
 ghost use Rattle.http_response.specs.Body as spec;
 ghost use Rattle.http_response.specs.Limits.{max_line_len};
 

@@ -25,8 +25,7 @@ impl Model for Line {
 }
 
 impl Line {
-    ghost use Rattle.std.specs.Prelude.{◌≡◌, ◌≤◌, ◌+◌, ◌++◌, [], length};
-    ghost use Rattle.std.specs.Fmt.{decimal};
+    ghost use Rattle.std.specs.{Fmt.decimal, Prelude.{◌≡◌, ◌≤◌, ◌+◌, ◌++◌, [], length}};
     ghost use Rattle.http_response.specs.Limits.{max_line_len};
 
     /// Makes an empty text.

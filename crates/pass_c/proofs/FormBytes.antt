@@ -1,29 +1,16 @@
 -- The fields of a pass have together at most as many bytes as what spells it, in each form.
-use Rattle.std.proofs.Common.{◌≡◌, ℕ, ◌+◌, ◌*◌, ◌/◌, ◌≤◌, ◌⊎◌, inl, inr, List, [], ◌∷◌, ◌++◌, codes, length, map, Option, Some, None, unwrap_or}
-use Rattle.std.proofs.Common.{false, if◌then◌else◌, replicate, refl, sym, ◌∙◌, ap, arith, is_eq, bytes_eq}
-use Rattle.std.specs.Ordering.{nat_cmp}
-use Rattle.std.specs.List.{flat_map, sum_by}
-use Rattle.std.specs.declared.cmp.Ordering.TheVariants.{Equal}
-use Rattle.std.specs.Cmp.Lexicographic.{slice_cmp}
-use Rattle.std.proofs.lemmas.Bool.{true≢false}
-use Rattle.std.proofs.lemmas.List.{length-append}
-use Rattle.std.proofs.lemmas.Map.Text.{is_eq-slice_cmp}
-use Rattle.std.proofs.lemmas.Slice.Eq.{bytes_eq-Decides}
-use Rattle.std.proofs.lemmas.List.Sums.{sum_by-cons}
-use Rattle.base64.specs.Engines.{url_safe_no_pad, url_safe, standard_no_pad, standard}
-use Rattle.base64.specs.GeneralPurpose.{encode_of}
+use Rattle.std.proofs.Common.{◌≡◌, ℕ, ◌+◌, ◌*◌, ◌/◌, ◌≤◌, ◌⊎◌, inl, inr, List, [], ◌∷◌, ◌++◌, codes, length, map, Option, Some, None, unwrap_or, false}
+use Rattle.std.proofs.{Common.{if◌then◌else◌, replicate, refl, sym, ◌∙◌, ap, arith, is_eq, bytes_eq}, lemmas.{Bool.{true≢false}, List.length-append}}
+use Rattle.std.proofs.lemmas.{List.Sums.sum_by-cons, Map.Text.is_eq-slice_cmp, Slice.Eq.bytes_eq-Decides}
+use Rattle.std.specs.{Cmp.Lexicographic.slice_cmp, List.{flat_map, sum_by}, Ordering.nat_cmp, declared.cmp.Ordering.TheVariants.Equal}
+use Rattle.base64.specs.{Engines.{url_safe_no_pad, url_safe, standard_no_pad, standard}, GeneralPurpose.encode_of, Rfc4648.{encode_symbols, padding_len}}
 use Rattle.base64.specs.declared.engine.general_purpose.GeneralPurpose.{GeneralPurpose}
-use Rattle.base64.specs.Rfc4648.{encode_symbols, padding_len}
 use Rattle.base64.proofs.RoundTrip.{length-encode_symbols}
-use Rattle.serde_json.specs.Data.{Data, string, array, Items, no_items, item}
-use Rattle.serde_json.specs.Find.{get}
-use Rattle.pass_forms.specs.Envelope.{IsBase64}
-use Rattle.pass_forms.specs.Pass.{Plain, WideCaveat, WidePass, as_wide_pass, widened_caveat}
-use Rattle.pass_forms.specs.V1.{SpellsV1, packet, caveat_packets}
+use Rattle.serde_json.specs.{Data.{Data, string, array, Items, no_items, item}, Find.get}
+use Rattle.pass_forms.specs.{Envelope.IsBase64, Pass.{Plain, WideCaveat, WidePass, as_wide_pass, widened_caveat}, V1.{SpellsV1, packet, caveat_packets}}
 use Rattle.pass_forms.specs.V2.{SpellsV2, field, caveat_section, optional_field}
 use Rattle.pass_json.specs.Json.{AreCaveats, IsCaveatList, IsCaveatObject, IsField, IsPass, SpellsJson}
-use Rattle.pass_c.proofs.JsonBytes.{data_bytes, items_bytes, read_fits}
-use Rattle.pass_c.proofs.MemberBytes.{Apart, bytes_at, found_bytes, one_value, three_values}
+use Rattle.pass_c.proofs.{JsonBytes.{data_bytes, items_bytes, read_fits}, MemberBytes.{Apart, bytes_at, found_bytes, one_value, three_values}}
 use Rattle.pass_c.specs.Laws.{fields_len}
 
 -- ---- base64

@@ -1,13 +1,9 @@
 -- The pass of an object after its bytes were written.
 use Rattle.std.proofs.Common.{◌≡◌, ℕ, ◌+◌, ◌≤◌, ◌<◌, suc, List, [], ◌∷◌, ◌++◌, length, take, drop, set, map, get_or, Vec, ap, sym, ◌∙◌, arith}
-use Rattle.std.specs.List.{sum}
-use Rattle.std.specs.Vec.{vec_items}
-use Rattle.std.proofs.Math.Seq.{take-suc-set}
-use Rattle.std.proofs.lemmas.Grind.{common_steps, take_at_read}
-use Rattle.std.proofs.lemmas.List.{length-drop, length-append, length-map, length-take}
+use Rattle.std.proofs.{Math.Seq.take-suc-set, lemmas.{Grind.{common_steps, take_at_read}, List.{length-drop, length-append, length-map, length-take}}}
+use Rattle.std.specs.{List.sum, Vec.vec_items}
 use Rattle.pass_forms.specs.Pass.{Plain}
-use Rattle.pass_c.specs.Object.{held, pieces_of, with_one_more}
-use Rattle.pass_c.specs.declared.object.PassObject.{PassObject}
+use Rattle.pass_c.specs.{Object.{held, pieces_of, with_one_more}, declared.object.PassObject.PassObject}
 use Rattle.pass_c.proofs.PieceLemmas.{written, part_in, take_before, drop_before, one_more_piece}
 
 abbrev pub pass_of : List ℕ → List ℕ → List (List ℕ) → List ℕ → Plain

@@ -1,13 +1,9 @@
 -- The texts in a JSON value have together at most as many bytes as what it was read from.
 use Rattle.std.proofs.Common.{◌≡◌, ℕ, zero, suc, ◌+◌, ◌≤◌, List, [], ◌∷◌, length, Option, Some, None, option_map, option_and_then, refl, subst, arith}
-use Rattle.std.specs.Prelude.{⊤}
-use Rattle.std.specs.Ordering.{nat_cmp, match_ordering}
-use Rattle.std.specs.declared.cmp.Ordering.{Ordering}
+use Rattle.std.specs.{Cmp.Lexicographic.slice_cmp, Ordering.{nat_cmp, match_ordering}, Prelude.{⊤}, declared.cmp.Ordering.Ordering}
 use Rattle.std.specs.declared.cmp.Ordering.TheVariants.{Less, Equal, Greater}
-use Rattle.std.specs.Cmp.Lexicographic.{slice_cmp}
-use Rattle.json.specs.Lex.{tokens}
-use Rattle.json.specs.Token.{Token}
 use Rattle.json.specs.Json.{Json, Parse, parse_map, after_end_array, read_key, items_step, members_step, if_last, items, members, value_with, value}
+use Rattle.json.specs.{Lex.tokens, Token.Token}
 use Rattle.json.specs.Json as json
 use Rattle.serde_json.specs.Data.{Num, Data, null, boolean, number, string, array, object, Items, no_items, item, Members, no_members, member, put}
 use Rattle.serde_json.specs.Read.{max_depth, number_of, of_items, of_json, of_members, read}

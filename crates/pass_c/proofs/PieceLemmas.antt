@@ -1,8 +1,8 @@
 -- Pieces of bytes: their number, and one more piece that is written after them.
 use Rattle.std.proofs.Common.{◌≡◌, ℕ, ◌+◌, ◌≤◌, List, [], ◌∷◌, ◌++◌, length, take, drop, refl, ap, sym, suc, ◌∙◌, arith}
-use Rattle.std.specs.List.{sum}
 use Rattle.std.proofs.lemmas.List.{take_at, drop_at, length-take-le, take-append-le, drop-append-le, take-take, drop-take, drop-drop, length-drop}
 use Rattle.std.proofs.lemmas.List.Sums.{sum_by-cons}
+use Rattle.std.specs.List.{sum}
 use Rattle.pass_c.specs.Object.{pieces_of}
 
 pub length_pieces : (lens bytes : List ℕ) → length (pieces_of lens bytes) ≡ length lens

@@ -1,9 +1,6 @@
 -- A pass that a text spells has room in an object.
 use Rattle.std.proofs.Common.{◌≡◌, ℕ, ◌≤◌, ◌⊎◌, inl, inr, List, length, Ok, ap, arith}
-use Rattle.pass_forms.specs.declared.form.Form.{Form}
-use Rattle.pass_forms.specs.declared.form.Form.TheVariants.{V1, V2, Json}
-use Rattle.pass_forms.specs.Envelope.{Wraps}
-use Rattle.pass_forms.specs.Pass.{Plain, as_wide_pass}
+use Rattle.pass_forms.specs.{Envelope.Wraps, Pass.{Plain, as_wide_pass}, declared.form.Form.{Form, TheVariants.{V1, V2, Json}}}
 use Rattle.pass_json.specs.AnyForm.{IsAnyReading, SpellsForm}
 use Rattle.pass_c.proofs.FormBytes.{base64_fits, json_fits, v1_fits, v2_fits}
 use Rattle.pass_c.specs.Laws.{ReadablePassesFit, fields_len}

@@ -1,15 +1,10 @@
 -- A string's content is no longer than its text.
-use Rattle.std.proofs.Common.{◌≡◌, ℕ, ◌+◌, ◌≤◌, Bool, true, false, cond, ◌&&◌, ◌==◌, nat_lt, List, [], ◌∷◌, length, Option, Some, None}
-use Rattle.std.proofs.Common.{option_and_then, refl, sym, ap, ◌∙◌, arith}
-use Rattle.std.proofs.lemmas.Bool.{false≢true, eqb-true, and_parts}
-use Rattle.std.proofs.lemmas.List.{length-append}
-use Rattle.std.specs.Prelude.{⊤}
-use Rattle.std.specs.Char.{is_digit, encode_utf8}
-use Rattle.json.specs.Text.{code_unit, short_escape, is_high_surrogate, is_low_surrogate, surrogate_pair, Within, plain, after_backslash, after_u}
-use Rattle.json.specs.Text.{after_high, prepend, content}
+use Rattle.std.proofs.Common.{◌≡◌, ℕ, ◌+◌, ◌≤◌, Bool, true, false, cond, ◌&&◌, ◌==◌, nat_lt, List, [], ◌∷◌, length, Option, Some, None, option_and_then, refl}
+use Rattle.std.proofs.{Common.{sym, ap, ◌∙◌, arith}, lemmas.{Bool.{false≢true, eqb-true, and_parts}, List.length-append}}
+use Rattle.std.specs.{Char.{is_digit, encode_utf8}, Prelude.{⊤}}
+use Rattle.json.specs.{Align.{span_byte, span}, Lex.{quote, backslash, operator, space, other, Mode, in_string, in_escape}, Text.{code_unit, short_escape}}
+use Rattle.json.specs.Text.{is_high_surrogate, is_low_surrogate, surrogate_pair, Within, plain, after_backslash, after_u, after_high, prepend, content}
 use Rattle.json.specs.Word.{is_operator, is_space}
-use Rattle.json.specs.Lex.{quote, backslash, operator, space, other, Mode, in_string, in_escape}
-use Rattle.json.specs.Align.{span_byte, span}
 
 abbrev is_found : Option ℕ → Bool
 is_found None = false

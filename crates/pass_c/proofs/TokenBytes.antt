@@ -1,16 +1,11 @@
 -- The texts in the tokens of some JSON have together at most as many bytes as it.
-use Rattle.std.proofs.Common.{◌≡◌, ℕ, suc, ◌+◌, ◌-◌, ◌≤◌, Bool, true, false, cond, ◌==◌, ◌&&◌, nat_eq, List, [], ◌∷◌, length, take, drop, Option}
-use Rattle.std.proofs.Common.{Some, None, refl, arith}
+use Rattle.std.proofs.Common.{◌≡◌, ℕ, suc, ◌+◌, ◌-◌, ◌≤◌, Bool, true, false, cond, ◌==◌, ◌&&◌, nat_eq, List, [], ◌∷◌, length, take, drop, Option, Some, None}
+use Rattle.std.proofs.Common.{refl, arith}
 use Rattle.std.specs.List.{starts_with}
-use Rattle.json.specs.Align.{span, span_byte}
-use Rattle.json.specs.Lex.{Class, quote, backslash, operator, space, other, class, Lexeme, token, comma, colon, Mode, between, in_word, in_string, in_escape}
-use Rattle.json.specs.Lex.{lex, lex_byte, operator_lexeme, string_token, Place, fresh, after_value, after_comma, after_key, begins_colon, may_begin}
-use Rattle.json.specs.Lex.{may_close}
-use Rattle.json.specs.Lex.{if_allowed, place_token, punctuate, tokens}
-use Rattle.json.specs.Text.{content, plain}
-use Rattle.json.specs.Token.{Token}
-use Rattle.json.specs.Ascii.{true_text, false_text, null_text}
-use Rattle.json.specs.Word.{after_number, ends_word, head, literal, number_before, word}
+use Rattle.json.specs.{Align.{span, span_byte}, Ascii.{true_text, false_text, null_text}, Lex.{Class, quote, backslash, operator, space, other, class, Lexeme}}
+use Rattle.json.specs.Lex.{token, comma, colon, Mode, between, in_word, in_string, in_escape, lex, lex_byte, operator_lexeme, string_token, Place, fresh}
+use Rattle.json.specs.Lex.{after_value, after_comma, after_key, begins_colon, may_begin, may_close, if_allowed, place_token, punctuate, tokens}
+use Rattle.json.specs.{Text.{content, plain}, Token.Token, Word.{after_number, ends_word, head, literal, number_before, word}}
 use Rattle.pass_c.proofs.StringBytes.{AtMost, content-span}
 
 abbrev pub token_bytes : Token → ℕ

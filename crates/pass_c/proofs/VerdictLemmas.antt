@@ -1,11 +1,7 @@
 -- Texts are understood as the caveats that the library reads from them.
 use Rattle.std.proofs.Common.{◌≡◌, ℕ, List, [], ◌∷◌, map, Option, None, Some, refl, arith}
 use Rattle.club_values.specs.Reading.{Reads}
-use Rattle.pass_caveats.specs.Caveat.{Understood}
-use Rattle.pass_caveats.specs.Fault.{AreUnderstoodAs}
-use Rattle.pass_caveats.specs.Laws.{ReadsWhatIsUnderstood}
-use Rattle.pass_caveats.specs.computed.CaveatOf.{caveat_of}
-use Rattle.pass_caveats.specs.declared.caveat.Caveat.{Caveat}
+use Rattle.pass_caveats.specs.{Caveat.Understood, Fault.AreUnderstoodAs, Laws.ReadsWhatIsUnderstood, computed.CaveatOf.caveat_of, declared.caveat.Caveat.Caveat}
 
 reads_one : ReadsWhatIsUnderstood → (text : List ℕ) (found : Option Caveat) → caveat_of text ≡ found → Reads (Understood text) found
 reads_one law text None is = λ caveat understood. let some = (law text caveat).0 understood in grind arith

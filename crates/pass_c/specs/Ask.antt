@@ -1,21 +1,10 @@
 -- An ask as an object of plain numbers (ours).
-use Rattle.std.specs.Prelude.{◌≡◌, ℕ, ◌==◌, if◌then◌else◌, take, List, Option, None, Some, ◌≤◌, MatchOption, option_and_then, option_map}
-use Rattle.std.specs.Int.{is_in_range}
-use Rattle.club_values.specs.declared.action.Action.{Action}
-use Rattle.club_values.specs.declared.action.Action.TheVariants.{View, Book, Cancel, Account}
-use Rattle.club_values.specs.declared.kind.Kind.{Kind}
-use Rattle.club_values.specs.declared.kind.Kind.TheVariants.{Court, Boat, Room}
+use Rattle.std.specs.{Int.is_in_range, Prelude.{◌≡◌, ℕ, ◌==◌, if◌then◌else◌, take, List, Option, None, Some, ◌≤◌, MatchOption, option_and_then, option_map}}
+use Rattle.club_values.specs.{Day.{first_day, last_day}, Moment.{first_moment, last_moment}, Name.{IsName, max_name_len}, Reading.Reads}
+use Rattle.club_values.specs.declared.{action.Action.{Action, TheVariants.{View, Book, Cancel, Account}}, kind.Kind.{Kind, TheVariants.{Court, Boat, Room}}}
 use Rattle.club_values.specs.declared.slot.Slot.{Slot}
-use Rattle.club_values.specs.Day.{first_day, last_day}
-use Rattle.club_values.specs.Moment.{first_moment, last_moment}
-use Rattle.club_values.specs.Name.{IsName, max_name_len}
-use Rattle.club_values.specs.Reading.{Reads}
-use Rattle.pass_caveats.specs.Fault.{IsFirstFault}
-use Rattle.pass_caveats.specs.declared.ask.Ask.{Ask}
-use Rattle.pass_caveats.specs.declared.fault.CaveatFault.{CaveatFault}
-use Rattle.pass_caveats.specs.declared.fault.CaveatFault.TheVariants.{NotUnderstood, Denied}
-use Rattle.pass_c.specs.Code.{ok_code, bad_ask_code, not_understood_code, denied_code}
-use Rattle.pass_c.specs.declared.ask.AskObject.{AskObject}
+use Rattle.pass_caveats.specs.{Fault.IsFirstFault, declared.{ask.Ask.Ask, fault.CaveatFault.{CaveatFault, TheVariants.{NotUnderstood, Denied}}}}
+use Rattle.pass_c.specs.{Code.{ok_code, bad_ask_code, not_understood_code, denied_code}, declared.ask.AskObject.AskObject}
 
 -- the action of a number
 abbrev pub action_of : ℕ → Option Action

@@ -1,8 +1,6 @@
 -- Laws of the definitions.
-use Rattle.std.specs.Prelude.{ℕ, ◌+◌, ◌≤◌, List, length, Ok}
-use Rattle.std.specs.List.{sum_by}
-use Rattle.pass_forms.specs.declared.form.Form.{Form}
-use Rattle.pass_forms.specs.Pass.{Plain}
+use Rattle.std.specs.{List.sum_by, Prelude.{ℕ, ◌+◌, ◌≤◌, List, length, Ok}}
+use Rattle.pass_forms.specs.{Pass.Plain, declared.form.Form.Form}
 use Rattle.pass_json.specs.AnyForm.{IsAnyReading}
 use Rattle.pass_c.specs.Object.{room}
 

@@ -1,11 +1,7 @@
 -- A pass as an object of plain data holds it (ours).
 use Rattle.std.specs.Prelude.{◌≡◌, ℕ, ◌+◌, nat_le, if◌then◌else◌, List, [], ◌∷◌, ◌++◌, take, drop, sum, Result, Ok, Err}
-use Rattle.pass_forms.specs.declared.fault.FormFault.{FormFault}
-use Rattle.pass_forms.specs.declared.form.Form.{Form}
-use Rattle.pass_forms.specs.FieldSource.{no_fields}
-use Rattle.pass_forms.specs.Pass.{Plain}
-use Rattle.pass_c.specs.Code.{form_with_number, memory_code, no_form_number, ok_code}
-use Rattle.pass_c.specs.declared.object.PassObject.{PassObject}
+use Rattle.pass_forms.specs.{FieldSource.no_fields, Pass.Plain, declared.{fault.FormFault.FormFault, form.Form.Form}}
+use Rattle.pass_c.specs.{Code.{form_with_number, memory_code, no_form_number, ok_code}, declared.object.PassObject.PassObject}
 
 -- the pieces of bytes with these lengths, one after the other
 abbrev pub pieces_of : List ℕ → List ℕ → List (List ℕ)

@@ -1,10 +1,6 @@
 -- The caller's buffer after a call (ours).
 use Rattle.std.specs.Prelude.{◌≡◌, ◌≢◌, ℕ, ◌<◌, ◌≤◌, List, ◌++◌, length, drop, MatchResult, Result, Ok, Err}
-use Rattle.pass_forms.specs.declared.fault.FormFault.{FormFault}
-use Rattle.pass_forms.specs.declared.fault.FormFault.TheVariants.{Memory}
-use Rattle.pass_forms.specs.declared.form.Form.{Form}
-use Rattle.pass_forms.specs.Pass.{Plain}
-use Rattle.pass_forms.specs.Writing.{IsWritableText}
+use Rattle.pass_forms.specs.{Pass.Plain, Writing.IsWritableText, declared.{fault.FormFault.{FormFault, TheVariants.Memory}, form.Form.Form}}
 use Rattle.pass_json.specs.AnyForm.{IsAnyReading, IsRefusedIn, IsTextIn}
 use Rattle.pass_c.specs.Code.{fault_code, no_form_code, number_of_form, ok_code, short_buffer_code}
 

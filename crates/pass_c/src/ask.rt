@@ -2,8 +2,7 @@
 
 ghost use Rattle.std.specs.Prelude.{◌≡◌};
 ghost use Rattle.pass_c.specs.Ask as spec;
-ghost use Rattle.club_values.specs.Day.{first_day, last_day};
-ghost use Rattle.club_values.specs.Moment.{first_moment, last_moment};
+ghost use Rattle.club_values.specs.{Day.{first_day, last_day}, Moment.{first_moment, last_moment}};
 
 use pass_caveats::{Action, Ask, Day, Hour, Kind, MAX_NAME_LEN, Moment, Name, Slot};
 

@@ -1,43 +1,17 @@
 //! The exports. A slice crosses as a pointer and a length, and `Global` takes no argument in C.
 
-ghost use Rattle.std.specs.Prelude.{
-  ◌≡◌,
-  ◌≢◌,
-  ◌↔◌,
-  ◌+◌,
-  ◌<◌,
-  ◌≤◌,
-  ◌⊎◌,
-  ℕ,
-  List,
-  Err,
-  IfOk,
-  IsTrue,
-  MatchOption,
-  length,
-  slice_get,
-};
-ghost use Rattle.pass_caveats.specs.Caveat.{Understood};
-ghost use Rattle.pass_caveats.specs.Fault.{IsFirstFault};
+ghost use Rattle.std.specs.Prelude.{◌≡◌, ◌≢◌, ◌↔◌, ◌+◌, ◌<◌, ◌≤◌, ◌⊎◌, ℕ, List, Err, IfOk, IsTrue};
+ghost use Rattle.std.specs.Prelude.{MatchOption, length, slice_get};
+ghost use Rattle.pass_caveats.specs.{Caveat.Understood, Fault.IsFirstFault};
 ghost use Rattle.pass_caveats.specs.declared.caveat.Caveat.{Caveat};
+ghost use Rattle.pass_forms.specs.Pass.{IsSigned, minted_pass};
+ghost use Rattle.pass_forms.specs.{Reading.{UnlessMemory, max_caveats}, Writing.with_caveat};
+ghost use Rattle.pass_forms.specs.computed.Pass.{is_signed};
 ghost use Rattle.pass_forms.specs.declared.fault.FormFault.TheVariants.{Memory, TooMany};
 ghost use Rattle.pass_forms.specs.declared.form.Form.TheVariants.{V2};
-ghost use Rattle.pass_forms.specs.Pass.{IsSigned, minted_pass};
-ghost use Rattle.pass_forms.specs.computed.Pass.{is_signed};
-ghost use Rattle.pass_forms.specs.Reading.{UnlessMemory, max_caveats};
-ghost use Rattle.pass_forms.specs.Writing.{with_caveat};
-ghost use Rattle.pass_json.specs.AnyForm.{IsAnyReading, MayRunOut};
-ghost use Rattle.pass_json.specs.computed.AnyForm.{reading};
-ghost use Rattle.pass_c.specs.Ask.{Answers};
-ghost use Rattle.pass_c.specs.Code.{
-  code_of,
-  memory_code,
-  no_caveat_code,
-  number_of_form,
-  ok_code,
-  result_of,
-  too_many_code,
-};
+ghost use Rattle.pass_json.specs.{AnyForm.{IsAnyReading, MayRunOut}, computed.AnyForm.reading};
+ghost use Rattle.pass_c.specs.{Ask.Answers, Code.{code_of, memory_code, no_caveat_code}};
+ghost use Rattle.pass_c.specs.Code.{number_of_form, ok_code, result_of, too_many_code};
 ghost use Rattle.pass_c.specs.Object.{IsEmpty, filled, form_in, held, room, room_code, taken};
 ghost use Rattle.pass_c.specs.Output.{IsCopied, IsLeft, IsTextCopied, WritesForm};
 

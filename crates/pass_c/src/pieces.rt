@@ -1,23 +1,9 @@
 //! Bytes cut into pieces, and written.
 
-ghost use Rattle.std.specs.Prelude.{
-  ◌≡◌,
-  ◌+◌,
-  ◌*◌,
-  ◌≤◌,
-  ◌++◌,
-  OnOk,
-  drop,
-  length,
-  map,
-  option_map,
-  slice_get,
-  sum,
-  take,
-};
+ghost use Rattle.std.specs.Prelude.{◌≡◌, ◌+◌, ◌*◌, ◌≤◌, ◌++◌, OnOk, drop, length, map, option_map};
+ghost use Rattle.std.specs.Prelude.{slice_get, sum, take};
 ghost use Rattle.pass_mac.specs.Chain.{extended_signature};
-ghost use Rattle.pass_caveats.specs.Fault.{first_fault_from};
-ghost use Rattle.pass_caveats.specs.computed.CaveatOf.{caveat_of};
+ghost use Rattle.pass_caveats.specs.{Fault.first_fault_from, computed.CaveatOf.caveat_of};
 ghost use Rattle.pass_c.specs.Object.{pieces_of, room};
 
 use crate::object::ROOM;

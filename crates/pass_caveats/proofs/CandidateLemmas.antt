@@ -1,20 +1,13 @@
 -- The one caveat that a text can be.
-use Rattle.pass_caveats.proofs.Common.{◌≡◌, ◌≢◌, ℕ, List, [], ◌++◌, drop, refl, sym, ap, ◌∙◌, arith, codes, Caveat, Facility, Kind, Hours, Days, Weekdays}
-use Rattle.pass_caveats.proofs.Common.{Until, Guests, Spend, Actions, comma_list, IsCaveat, caveat_text, Understood, candidate, actions_from, actions_of}
-use Rattle.pass_caveats.proofs.Common.{weekdays_from, weekdays_of}
+use Rattle.pass_caveats.proofs.{ChoiceLemmas.{AreWords, choice_again}, Common.{◌≡◌, ◌≢◌, ℕ, List, [], ◌++◌, drop, refl, sym, ap, ◌∙◌, arith, codes, Caveat}}
+use Rattle.pass_caveats.proofs.Common.{Facility, Kind, Hours, Days, Weekdays, Until, Guests, Spend, Actions, comma_list, IsCaveat, caveat_text, Understood}
+use Rattle.pass_caveats.proofs.{Common.{candidate, actions_from, actions_of, weekdays_from, weekdays_of}, PartLemmas.names_again}
 use Rattle.std.proofs.lemmas.Fmt.{decimal_is_IsNumeral}
+use Rattle.club_values.specs.{Action.action_text, Day.{IsDay, day_text}, Weekday.weekdays, computed.TextOf.day_of}
 use Rattle.club_values.specs.declared.kind.Kind.TheVariants.{Court, Boat, Room}
-use Rattle.club_values.specs.Day.{IsDay, day_text}
-use Rattle.club_values.specs.Action.{action_text}
-use Rattle.club_values.specs.Weekday.{weekdays}
-use Rattle.pass_caveats.specs.declared.actions.Actions.{Actions as SomeActions}
-use Rattle.pass_caveats.specs.declared.weekdays.Weekdays.{Weekdays as SomeWeekdays}
-use Rattle.pass_caveats.specs.Actions.{all_actions, has_action, action_texts}
-use Rattle.pass_caveats.specs.Weekdays.{weekday_text, has_weekday, weekday_texts}
-use Rattle.club_values.specs.computed.TextOf.{day_of}
+use Rattle.pass_caveats.specs.{Actions.{all_actions, has_action, action_texts}, Weekdays.{weekday_text, has_weekday, weekday_texts}}
+use Rattle.pass_caveats.specs.declared.{actions.Actions.Actions as SomeActions, weekdays.Weekdays.Weekdays as SomeWeekdays}
 use Rattle.club_values.proofs.GuessLemmas.{two_again, day_of-day_text, moment_of-moment_text}
-use Rattle.pass_caveats.proofs.PartLemmas.{names_again}
-use Rattle.pass_caveats.proofs.ChoiceLemmas.{AreWords, choice_again}
 
 pub action_words : AreWords action_text all_actions
 action_words = record { distinct = refl; plain = refl }

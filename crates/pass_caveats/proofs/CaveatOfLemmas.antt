@@ -1,15 +1,12 @@
 -- The functions agree with the definitions.
-use Rattle.pass_caveats.proofs.Common.{◌≡◌, ◌↔◌, ℕ, ◌+◌, Bool, true, false, List, [], ◌∷◌, ◌++◌, length, map, ◌⊎◌, Option, Some, None, inl, inr, refl, sym}
-use Rattle.pass_caveats.proofs.Common.{subst, ◌∙◌, arith, add-zero, option_or, All-head, All-tail, All-push, All-nil, All-cons, append-nil, Caveat, Ask}
-use Rattle.pass_caveats.proofs.Common.{CaveatFault, Understood, permits, candidate, spells, caveat_of, first_fault_from, first_fault_of, Allows, Allowed}
-use Rattle.pass_caveats.proofs.Common.{AreUnderstoodAs, IsUnknown, Denies, IsFaultAt, IsFirstFault, append_assoc}
-use Rattle.std.proofs.lemmas.Option.{cond_some}
-use Rattle.std.proofs.lemmas.Bool.{false_from_ne_true, both_ways}
-use Rattle.std.proofs.lemmas.List.{append_assoc}
+use Rattle.pass_caveats.proofs.{CandidateLemmas.candidate-caveat_text, Common.{◌≡◌, ◌↔◌, ℕ, ◌+◌, Bool, true, false, List, [], ◌∷◌, ◌++◌, length, map, ◌⊎◌}}
+use Rattle.pass_caveats.proofs.Common.{Option, Some, None, inl, inr, refl, sym, subst, ◌∙◌, arith, add-zero, option_or, All-head, All-tail, All-push, All-nil}
+use Rattle.pass_caveats.proofs.Common.{All-cons, append-nil, Caveat, Ask, CaveatFault, Understood, permits, candidate, spells, caveat_of, first_fault_from}
+use Rattle.pass_caveats.proofs.Common.{first_fault_of, Allows, Allowed, AreUnderstoodAs, IsUnknown, Denies, IsFaultAt, IsFirstFault, append_assoc}
+use Rattle.pass_caveats.proofs.DecisionLemmas.{Decides-spells, Decides-permits}
+use Rattle.std.proofs.lemmas.{Bool.{false_from_ne_true, both_ways}, List.append_assoc, Option.cond_some}
 use Rattle.pass_caveats.specs.declared.fault.CaveatFault.TheVariants.{NotUnderstood, Denied}
 use Rattle.club_values.specs.Reading.{Reads}
-use Rattle.pass_caveats.proofs.CandidateLemmas.{candidate-caveat_text}
-use Rattle.pass_caveats.proofs.DecisionLemmas.{Decides-spells, Decides-permits}
 
 pub caveat_of-understood : (text : List ℕ) (caveat : Caveat) → Understood text caveat → caveat_of text ≡ Some caveat
 unfolding caveat_of

@@ -3,9 +3,9 @@ use Rattle.pass_caveats.proofs.Common.{◌≡◌, ◌≢◌, ℕ, ◌<◌, Bool,
 use Rattle.pass_caveats.proofs.Common.{arith, Bor, ◌==◌, ◌&&◌, ◌||◌, not, filter, is_some, All, option_copied, list_all, length-map, append-nil, All-head}
 use Rattle.pass_caveats.proofs.Common.{All-tail, All-nil, All-cons, bytes_eq-Decides, comma_parts, comma_list, parts_left, Skips, is_next, after_next}
 use Rattle.pass_caveats.proofs.Common.{words_found, common_steps, nat_tests}
+use Rattle.pass_caveats.proofs.PartLemmas.{HasNoComma, all_left, parts_of-joined, joined-parts_of, skip_leaves, skip_takes, some_part}
 use Rattle.std.proofs.lemmas.Bool.{cond_both}
 use Rattle.std.specs.Str.{bytes_eq}
-use Rattle.pass_caveats.proofs.PartLemmas.{HasNoComma, all_left, parts_of-joined, joined-parts_of, skip_leaves, skip_takes, some_part}
 
 -- the words whose flag is set
 abbrev chosen : List Bool → List (List ℕ) → List (List ℕ)

@@ -1,15 +1,12 @@
 -- The tests decide what they test.
-use Rattle.pass_caveats.proofs.Common.{IsTrue, ◌↔◌, ◌≡◌, ◌≢◌, ℕ, ◌+◌, Bool, false, nat_lt, List, [], length, Option, Some, refl, arith, Decides, ap, ◌&&◌}
-use Rattle.pass_caveats.proofs.Common.{Contains, IsSomeAnd, is_some, list_all, list_any, option_map_or, same_from_decides, Decides-like, Decides-and}
-use Rattle.pass_caveats.proofs.Common.{Decides-or, Decides-ltb, Decides-eqb, Decides-by_and, Decides-by_or, at_from_Contains, bytes_eq-Decides, Caveat}
-use Rattle.pass_caveats.proofs.Common.{Facility, Kind, Hours, Days, Weekdays, Until, Guests, Spend, Actions, Ask, IsName, AreNames, IsCaveat, Understood}
-use Rattle.pass_caveats.proofs.Common.{Permits, is_kind, permits, is_caveat, spells, nat_tests}
+use Rattle.pass_caveats.proofs.{ChoiceLemmas.some_of, Common.{IsTrue, ◌↔◌, ◌≡◌, ◌≢◌, ℕ, ◌+◌, Bool, false, nat_lt, List, [], length, Option, Some, refl, arith}}
+use Rattle.pass_caveats.proofs.Common.{Decides, ap, ◌&&◌, Contains, IsSomeAnd, is_some, list_all, list_any, option_map_or, same_from_decides, Decides-like}
+use Rattle.pass_caveats.proofs.Common.{Decides-and, Decides-or, Decides-ltb, Decides-eqb, Decides-by_and, Decides-by_or, at_from_Contains, bytes_eq-Decides}
+use Rattle.pass_caveats.proofs.Common.{Caveat, Facility, Kind, Hours, Days, Weekdays, Until, Guests, Spend, Actions, Ask, IsName, AreNames, IsCaveat}
+use Rattle.pass_caveats.proofs.Common.{Understood, Permits, is_kind, permits, is_caveat, spells, nat_tests}
 use Rattle.std.specs.Str.{bytes_eq}
-use Rattle.club_values.specs.declared.kind.Kind.{Kind as AKind}
-use Rattle.club_values.specs.declared.slot.Slot.{Slot}
-use Rattle.club_values.specs.computed.TextOf.{is_name}
+use Rattle.club_values.specs.{computed.TextOf.is_name, declared.{kind.Kind.Kind as AKind, slot.Slot.Slot}}
 use Rattle.club_values.proofs.TestLemmas.{Decides-leb, Decides-is_name}
-use Rattle.pass_caveats.proofs.ChoiceLemmas.{some_of}
 
 Decides-are_names : (names : List (List ℕ)) → Decides (is_caveat (Facility names)) (AreNames names)
 Decides-are_names names =

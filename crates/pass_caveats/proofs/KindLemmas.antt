@@ -1,13 +1,8 @@
 -- A caveat has the same fault for each kind if and only if it isn't on the kind.
-use Rattle.pass_caveats.proofs.Common.{◌≡◌, ℕ, false, List, [], ◌∷◌, Option, Some, None, Ask, Caveat, caveat_of, permits, first_fault_from, arith}
-use Rattle.pass_caveats.proofs.Common.{refl, sym, ap, ◌∙◌, Facility, Kind, Hours, Days, Weekdays, Until, Guests, Spend, Actions}
-use Rattle.club_values.specs.declared.action.Action.TheVariants.{View}
-use Rattle.club_values.specs.declared.kind.Kind.{Kind as AKind}
-use Rattle.club_values.specs.declared.kind.Kind.TheVariants.{Court, Boat, Room}
-use Rattle.pass_caveats.specs.declared.fault.CaveatFault.{CaveatFault}
-use Rattle.pass_caveats.specs.declared.fault.CaveatFault.TheVariants.{Denied}
-use Rattle.pass_caveats.specs.Kinds.{IsBlindToKind, at_kind, is_on_kind}
-use Rattle.pass_caveats.proofs.CaveatOfLemmas.{finds_fault_at}
+use Rattle.pass_caveats.proofs.{CaveatOfLemmas.finds_fault_at, Common.{◌≡◌, ℕ, false, List, [], ◌∷◌, Option, Some, None, Ask, Caveat, caveat_of, permits}}
+use Rattle.pass_caveats.proofs.Common.{first_fault_from, arith, refl, sym, ap, ◌∙◌, Facility, Kind, Hours, Days, Weekdays, Until, Guests, Spend, Actions}
+use Rattle.club_values.specs.declared.{action.Action.TheVariants.View, kind.Kind.{Kind as AKind, TheVariants.{Court, Boat, Room}}}
+use Rattle.pass_caveats.specs.{Kinds.{IsBlindToKind, at_kind, is_on_kind}, declared.fault.CaveatFault.{CaveatFault, TheVariants.Denied}}
 
 permits_alike : (caveat : Caveat) (ask : Ask) (kind : Option AKind) → is_on_kind (Some caveat) ≡ false
     → permits caveat (at_kind kind ask) ≡ permits caveat ask

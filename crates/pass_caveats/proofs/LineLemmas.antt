@@ -2,15 +2,9 @@
 use Rattle.pass_caveats.proofs.Common.{◌≡◌, ℕ, ◌<◌, ◌≤◌, List, [], ◌++◌, length, take, drop, Option, refl, sym, ap, subst, ◌∙◌, arith, codes, take-append-drop}
 use Rattle.pass_caveats.proofs.Common.{Facility, Kind, Hours, Days, Weekdays, Until, Guests, Spend, Actions, Caveat, SpellsCaveat, common_steps}
 use Rattle.std.proofs.lemmas.Fmt.{decimal_injective}
-use Rattle.club_values.specs.declared.kind.Kind.{Kind as AKind}
-use Rattle.pass_caveats.specs.declared.actions.Actions.{Actions as SomeActions}
-use Rattle.pass_caveats.specs.declared.weekdays.Weekdays.{Weekdays as SomeWeekdays}
-use Rattle.club_values.specs.Reading.{Reads}
-use Rattle.club_values.specs.Number.{SpellsNumber}
-use Rattle.club_values.specs.Day.{SpellsDay, day_text}
-use Rattle.club_values.specs.Moment.{SpellsMoment}
-use Rattle.club_values.proofs.DayLemmas.{day_text-spells, spells-day_text, day_text_injective}
-use Rattle.club_values.proofs.MomentLemmas.{moment_text-spells, spells-moment_text}
+use Rattle.club_values.specs.{Day.{SpellsDay, day_text}, Moment.SpellsMoment, Number.SpellsNumber, Reading.Reads, declared.kind.Kind.Kind as AKind}
+use Rattle.pass_caveats.specs.declared.{actions.Actions.Actions as SomeActions, weekdays.Weekdays.Weekdays as SomeWeekdays}
+use Rattle.club_values.proofs.{DayLemmas.{day_text-spells, spells-day_text, day_text_injective}, MomentLemmas.{moment_text-spells, spells-moment_text}}
 
 -- a parser of one thing is a parser of another if the same texts spell both
 reads_as : {A : Type 0} (P Q : A → Type 0) (r : Option A) → Reads P r → ((x : A) → P x → Q x) → ((x : A) → Q x → P x) → Reads Q r

@@ -1,12 +1,9 @@
 -- What was spent before changes the first fault of a list only under a spend limit, and only if something is owed.
-use Rattle.pass_caveats.proofs.Common.{◌≡◌, ℕ, ◌+◌, ◌-◌, ◌≤◌, ◌==◌, ◌||◌, true, false, cond, nat_le, List, [], ◌∷◌, Option, Some, None, refl, subst, arith, All}
-use Rattle.pass_caveats.proofs.Common.{IfSome, All-head, All-tail, nat_tests, Ask, Caveat, Spend, IsCaveat, Permits, Understood, permits, first_fault_from}
-use Rattle.pass_caveats.proofs.Common.{common_steps}
-use Rattle.pass_caveats.specs.declared.fault.CaveatFault.TheVariants.{Denied}
+use Rattle.pass_caveats.proofs.{CandidateLemmas.one_caveat, Common.{◌≡◌, ℕ, ◌+◌, ◌-◌, ◌≤◌, ◌==◌, ◌||◌, true, false, cond, nat_le, List, [], ◌∷◌, Option, Some}}
+use Rattle.pass_caveats.proofs.Common.{None, refl, subst, arith, All, IfSome, All-head, All-tail, nat_tests, Ask, Caveat, Spend, IsCaveat, Permits, Understood}
+use Rattle.pass_caveats.proofs.{Common.{permits, first_fault_from, common_steps}, DecisionLemmas.Decides-permits}
+use Rattle.pass_caveats.specs.{Spending.{HoldsWithin, IsWithin, LimitsNoMore, after_spending, slack_under}, declared.fault.CaveatFault.TheVariants.Denied}
 use Rattle.club_values.specs.Number.{number_limit}
-use Rattle.pass_caveats.specs.Spending.{HoldsWithin, IsWithin, LimitsNoMore, after_spending, slack_under}
-use Rattle.pass_caveats.proofs.CandidateLemmas.{one_caveat}
-use Rattle.pass_caveats.proofs.DecisionLemmas.{Decides-permits}
 
 -- a key that spent less is allowed at least as much
 permits_less : (caveat : Caveat) (ask : Ask) (less more : ℕ) → less ≤ more → permits caveat (after_spending more ask) ≡ true

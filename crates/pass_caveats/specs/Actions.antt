@@ -1,10 +1,7 @@
 -- Sets of actions in a caveat.
 use Rattle.std.specs.Prelude.{◌≡◌, ◌≢◌, ℕ, Bool, List, [], ◌∷◌, filter, map}
-use Rattle.club_values.specs.declared.action.Action.{Action}
-use Rattle.club_values.specs.declared.action.Action.TheVariants.{View, Book, Cancel, Account}
-use Rattle.club_values.specs.Action.{action_text}
-use Rattle.pass_caveats.specs.Parts.{comma_list}
-use Rattle.pass_caveats.specs.declared.actions.Actions.{Actions}
+use Rattle.club_values.specs.{Action.action_text, declared.action.Action.{Action, TheVariants.{View, Book, Cancel, Account}}}
+use Rattle.pass_caveats.specs.{Parts.comma_list, declared.actions.Actions.Actions}
 
 -- in the order of a list (ours)
 abbrev pub all_actions : List Action

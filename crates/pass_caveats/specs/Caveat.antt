@@ -1,21 +1,9 @@
 -- The lines that a caveat may be, and the requests that each allows (ours).
-use Rattle.std.specs.Prelude.{◌≡◌, ◌≢◌, ◌⊎◌, ℕ, ◌+◌, ◌<◌, ◌≤◌, IsTrue, List, [], ◌∷◌, ◌++◌, length, Contains, Some, IsSomeAnd, codes, ⊤}
-use Rattle.std.specs.Fmt.{decimal}
-use Rattle.pass_caveats.specs.declared.caveat.Caveat.{Caveat}
-use Rattle.pass_caveats.specs.declared.caveat.Caveat.TheVariants.{Facility, Kind, Hours, Days, Weekdays, Until, Guests, Spend, Actions}
-use Rattle.pass_caveats.specs.declared.ask.Ask.{Ask}
-use Rattle.club_values.specs.Digits.{two_digits}
-use Rattle.club_values.specs.Day.{IsDay, day_text}
-use Rattle.club_values.specs.Hour.{hours_a_day}
-use Rattle.club_values.specs.Moment.{IsMoment, moment_text}
-use Rattle.club_values.specs.Kind.{kind_text}
-use Rattle.club_values.specs.Slot.{guests_limit}
-use Rattle.pass_caveats.specs.Names.{AreNames}
-use Rattle.club_values.specs.Number.{number_limit}
-use Rattle.pass_caveats.specs.Parts.{comma_list}
-use Rattle.club_values.specs.Weekday.{weekday_of}
-use Rattle.pass_caveats.specs.Actions.{has_action, action_texts}
-use Rattle.pass_caveats.specs.Weekdays.{has_weekday, weekday_texts}
+use Rattle.std.specs.{Fmt.decimal, Prelude.{◌≡◌, ◌≢◌, ◌⊎◌, ℕ, ◌+◌, ◌<◌, ◌≤◌, IsTrue, List, [], ◌∷◌, ◌++◌, length, Contains, Some, IsSomeAnd, codes, ⊤}}
+use Rattle.pass_caveats.specs.{Actions.{has_action, action_texts}, Names.AreNames, Parts.comma_list, Weekdays.{has_weekday, weekday_texts}}
+use Rattle.pass_caveats.specs.declared.{ask.Ask.Ask, caveat.Caveat.{Caveat, TheVariants.{Facility, Kind, Hours, Days, Weekdays, Until, Guests, Spend, Actions}}}
+use Rattle.club_values.specs.{Day.{IsDay, day_text}, Digits.two_digits, Hour.hours_a_day, Kind.kind_text, Moment.{IsMoment, moment_text}, Number.number_limit}
+use Rattle.club_values.specs.{Slot.guests_limit, Weekday.weekday_of}
 
 -- a caveat's line, what its values have to be, and the requests that it allows
 pub record CaveatRow : Type 1 where

@@ -1,14 +1,8 @@
 -- Lists of caveats, as the texts that a pass carries.
-use Rattle.std.specs.Prelude.{◌≡◌, ℕ, ◌+◌, List, [], ◌∷◌, ◌++◌, length, All, Option, Some, None, if◌then◌else◌, codes}
-use Rattle.std.specs.Fmt.{decimal}
-use Rattle.std.specs.List.{AllZip}
-use Rattle.pass_caveats.specs.declared.caveat.Caveat.{Caveat}
-use Rattle.pass_caveats.specs.declared.ask.Ask.{Ask}
-use Rattle.pass_caveats.specs.declared.fault.CaveatFault.{CaveatFault}
+use Rattle.std.specs.{Fmt.decimal, List.AllZip, Prelude.{◌≡◌, ℕ, ◌+◌, List, [], ◌∷◌, ◌++◌, length, All, Option, Some, None, if◌then◌else◌, codes}}
+use Rattle.pass_caveats.specs.{Caveat.{Understood, Permits}, Tests.permits, declared.{ask.Ask.Ask, caveat.Caveat.Caveat, fault.CaveatFault.CaveatFault}}
 use Rattle.pass_caveats.specs.declared.fault.CaveatFault.TheVariants.{NotUnderstood, Denied}
 use Rattle.club_values.specs.Reading.{Reads}
-use Rattle.pass_caveats.specs.Caveat.{Understood, Permits}
-use Rattle.pass_caveats.specs.Tests.{permits}
 
 -- the text is a caveat that allows the request; a text that isn't understood allows none (ours)
 abbrev pub Allows : List ℕ → Ask → Type 0

@@ -1,11 +1,7 @@
 -- Which caveats look at the kind of a slot's facility (ours).
 use Rattle.std.specs.Prelude.{◌↔◌, ℕ, Bool, true, false, List, Option, Some}
 use Rattle.club_values.specs.declared.kind.Kind.{Kind as AKind}
-use Rattle.pass_caveats.specs.declared.ask.Ask.{Ask}
-use Rattle.pass_caveats.specs.declared.caveat.Caveat.{Caveat}
-use Rattle.pass_caveats.specs.declared.caveat.Caveat.TheVariants.{Kind}
-use Rattle.pass_caveats.specs.declared.fault.CaveatFault.{CaveatFault}
-use Rattle.pass_caveats.specs.Fault.{IsFaultAt}
+use Rattle.pass_caveats.specs.{Fault.IsFaultAt, declared.{ask.Ask.Ask, caveat.Caveat.{Caveat, TheVariants.Kind}, fault.CaveatFault.CaveatFault}}
 
 -- whether it is a caveat on the kind
 abbrev pub is_on_kind : Option Caveat → Bool

@@ -1,14 +1,8 @@
 -- Laws of the definitions.
-use Rattle.std.specs.Prelude.{◌≡◌, ◌↔◌, ℕ, ◌+◌, List, [], ◌∷◌, ◌++◌, length, IsTrue, Option, Some, None}
-use Rattle.std.specs.Option.{option_or}
-use Rattle.pass_caveats.specs.declared.caveat.Caveat.{Caveat}
-use Rattle.pass_caveats.specs.declared.ask.Ask.{Ask}
-use Rattle.pass_caveats.specs.declared.fault.CaveatFault.{CaveatFault}
+use Rattle.std.specs.{Option.option_or, Prelude.{◌≡◌, ◌↔◌, ℕ, ◌+◌, List, [], ◌∷◌, ◌++◌, length, IsTrue, Option, Some, None}}
+use Rattle.pass_caveats.specs.{Caveat.{Understood, Permits}, Fault.{Allowed, AreUnderstoodAs, IsFaultAt, IsFirstFault, first_fault_from, first_fault_of}}
+use Rattle.pass_caveats.specs.{Tests.permits, computed.CaveatOf.caveat_of, declared.{ask.Ask.Ask, caveat.Caveat.Caveat, fault.CaveatFault.CaveatFault}}
 use Rattle.club_values.specs.Reading.{Reads}
-use Rattle.pass_caveats.specs.Caveat.{Understood, Permits}
-use Rattle.pass_caveats.specs.computed.CaveatOf.{caveat_of}
-use Rattle.pass_caveats.specs.Fault.{Allowed, AreUnderstoodAs, IsFaultAt, IsFirstFault, first_fault_from, first_fault_of}
-use Rattle.pass_caveats.specs.Tests.{permits}
 
 -- more caveats never open more
 abbrev pub Narrows : Type 0

@@ -1,6 +1,5 @@
 -- Lists with commas (ours).
-use Rattle.std.specs.Prelude.{◌≡◌, ◌≢◌, ℕ, ◌==◌, Bool, true, false, List, [], ◌∷◌, Option, Some, None}
-use Rattle.std.specs.List.{slice_split, join_with_byte}
+use Rattle.std.specs.{List.{slice_split, join_with_byte}, Prelude.{◌≡◌, ◌≢◌, ℕ, ◌==◌, Bool, true, false, List, [], ◌∷◌, Option, Some, None}}
 
 -- the parts of a text, between its commas
 abbrev pub comma_parts : List ℕ → List (List ℕ)

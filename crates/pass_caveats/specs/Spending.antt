@@ -1,11 +1,7 @@
 -- How what a key has spent changes the first fault of a list of caveats (ours).
 use Rattle.std.specs.Prelude.{◌≡◌, ℕ, ◌-◌, ◌==◌, ◌≤◌, min, List, All, Option, Some, None, IfSome, if◌then◌else◌}
-use Rattle.pass_caveats.specs.declared.ask.Ask.{Ask}
-use Rattle.pass_caveats.specs.declared.caveat.Caveat.{Caveat}
-use Rattle.pass_caveats.specs.declared.caveat.Caveat.TheVariants.{Spend}
+use Rattle.pass_caveats.specs.{Caveat.IsCaveat, Fault.{IsFaultAt, first_fault_of}, declared.{ask.Ask.Ask, caveat.Caveat.{Caveat, TheVariants.Spend}}}
 use Rattle.pass_caveats.specs.declared.fault.CaveatFault.{CaveatFault}
-use Rattle.pass_caveats.specs.Caveat.{IsCaveat}
-use Rattle.pass_caveats.specs.Fault.{IsFaultAt, first_fault_of}
 use Rattle.club_values.specs.Number.{number_limit}
 
 -- the same request of a key that has spent this much

@@ -1,17 +1,9 @@
 -- Whether a caveat permits a request, as a test (ours). `Permits` says which requests those are; the law `tests_the_set` says that both agree.
-use Rattle.std.specs.Prelude.{◌+◌, ◌==◌, ◌&&◌, ◌||◌, Bool, true, false, nat_lt, nat_le, Option, Some, is_some}
-use Rattle.std.specs.List.{list_any}
-use Rattle.std.specs.Option.{option_map_or}
+use Rattle.std.specs.{List.list_any, Option.option_map_or, Prelude.{◌+◌, ◌==◌, ◌&&◌, ◌||◌, Bool, true, false, nat_lt, nat_le, Option, Some, is_some}}
 use Rattle.std.specs.Str.{bytes_eq}
-use Rattle.pass_caveats.specs.declared.caveat.Caveat.{Caveat}
+use Rattle.pass_caveats.specs.{Actions.has_action, Weekdays.has_weekday, declared.{ask.Ask.Ask, caveat.Caveat.Caveat}}
 use Rattle.pass_caveats.specs.declared.caveat.Caveat.TheVariants.{Facility, Kind, Hours, Days, Weekdays, Until, Guests, Spend, Actions}
-use Rattle.pass_caveats.specs.declared.ask.Ask.{Ask}
-use Rattle.club_values.specs.declared.kind.Kind.{Kind as AKind}
-use Rattle.club_values.specs.declared.kind.Kind.TheVariants.{Court, Boat, Room}
-use Rattle.club_values.specs.declared.slot.Slot.{Slot}
-use Rattle.club_values.specs.Weekday.{weekday_of}
-use Rattle.pass_caveats.specs.Actions.{has_action}
-use Rattle.pass_caveats.specs.Weekdays.{has_weekday}
+use Rattle.club_values.specs.{Weekday.weekday_of, declared.{kind.Kind.{Kind as AKind, TheVariants.{Court, Boat, Room}}, slot.Slot.Slot}}
 
 -- the request is about a slot, and the test is true of it
 abbrev pub in_slot : (Slot → Bool) → Ask → Bool

@@ -1,10 +1,8 @@
 -- Sets of weekdays in a caveat.
 use Rattle.std.specs.Prelude.{◌≡◌, ◌≢◌, ℕ, Bool, List, [], filter, map, codes}
-use Rattle.jiff_core.specs.declared.civil.weekday.Weekday.{Weekday}
-use Rattle.jiff_core.specs.declared.civil.weekday.Weekday.TheVariants.{Monday, Tuesday, Wednesday, Thursday, Friday, Saturday, Sunday}
+use Rattle.jiff_core.specs.declared.civil.weekday.Weekday.{Weekday, TheVariants.{Monday, Tuesday, Wednesday, Thursday, Friday, Saturday, Sunday}}
 use Rattle.club_values.specs.Weekday.{weekdays}
-use Rattle.pass_caveats.specs.Parts.{comma_list}
-use Rattle.pass_caveats.specs.declared.weekdays.Weekdays.{Weekdays}
+use Rattle.pass_caveats.specs.{Parts.comma_list, declared.weekdays.Weekdays.Weekdays}
 
 -- the texts of weekdays (ours)
 abbrev pub weekday_text : Weekday → List ℕ

@@ -3,9 +3,8 @@
 ghost use Rattle.std.specs.Prelude.{◌≡◌, ◌⊎◌, ◌+◌, ◌≤◌, ◌↔◌, IsTrue, Some, false};
 ghost use Rattle.club_values.specs.Reading.{Reads};
 ghost use Rattle.pass_caveats.specs.Caveat.{SpellsCaveat, Understood, Permits};
-ghost use Rattle.pass_caveats.specs.Kinds.{IsBlindToKind, is_on_kind};
+ghost use Rattle.pass_caveats.specs.{Kinds.{IsBlindToKind, is_on_kind}, Tests.permits};
 ghost use Rattle.pass_caveats.specs.computed.CaveatOf.{caveat_of};
-ghost use Rattle.pass_caveats.specs.Tests.{permits};
 
 use crate::actions::Actions;
 use crate::ask::Ask;

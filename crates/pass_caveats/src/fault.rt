@@ -1,9 +1,8 @@
 //! The first fault of a list of caveats.
 
-ghost use Rattle.std.specs.Prelude.{◌≡◌, [], ◌∷◌, map};
-ghost use Rattle.std.specs.Vec.{vec_items};
-ghost use Rattle.pass_caveats.specs.Fault.{IsFaultAt, IsFirstFault, first_fault_from, first_fault_of};
-ghost use Rattle.pass_caveats.specs.computed.CaveatOf.{caveat_of};
+ghost use Rattle.std.specs.{Prelude.{◌≡◌, [], ◌∷◌, map}, Vec.vec_items};
+ghost use Rattle.pass_caveats.specs.Fault.{IsFaultAt, IsFirstFault, first_fault_from};
+ghost use Rattle.pass_caveats.specs.{Fault.first_fault_of, computed.CaveatOf.caveat_of};
 
 use crate::ask::Ask;
 use crate::caveat::{allows, read};

@@ -1,15 +1,8 @@
 //! Laws of the definitions, each the contract of a function that does nothing.
 
-ghost use Rattle.pass_caveats.specs.Laws.{
-  Narrows,
-  FaultsOnlyWhereNotAllowed,
-  FindsTheFirstFault,
-  FindsTheFaultAt,
-  FindsTheFaultOfOneMore,
-  ReadsWhatIsUnderstood,
-  TestsTheSet,
-  IsUnderstoodOnce,
-};
+ghost use Rattle.pass_caveats.specs.Laws.{Narrows, FaultsOnlyWhereNotAllowed, FindsTheFirstFault};
+ghost use Rattle.pass_caveats.specs.Laws.{FindsTheFaultAt, FindsTheFaultOfOneMore};
+ghost use Rattle.pass_caveats.specs.Laws.{ReadsWhatIsUnderstood, TestsTheSet, IsUnderstoodOnce};
 ghost use Rattle.pass_caveats.specs.Spending.{LimitsNoMore, OwesNothing};
 
 /// A request that a list allows with more caveats added is also allowed without them.

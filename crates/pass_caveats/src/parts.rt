@@ -1,7 +1,7 @@
 //! The parts of a text between its commas.
 
-ghost use Rattle.std.specs.Prelude.{◌≡◌, ◌↔◌, ◌∷◌, IsTrue, All, Contains, length};
 ghost use Rattle.std.specs.Option.{option_copied};
+ghost use Rattle.std.specs.Prelude.{◌≡◌, ◌↔◌, ◌∷◌, IsTrue, All, Contains, length};
 ghost use Rattle.club_values.specs.Name.{IsName};
 ghost use Rattle.pass_caveats.specs.Parts.{comma_parts, parts_left, Skips};
 

@@ -2,17 +2,11 @@
 use Rattle.pass_forms.proofs.Common.{◌≡◌, ℕ, zero, suc, ◌+◌, ◌*◌, ◌/◌, ◌<◌, Bool, true, ltb, List, [], ◌∷◌, ◌++◌, length, take, drop, slice_index, refl, arith}
 use Rattle.pass_forms.proofs.Common.{list_all, lt-ltb, get_or-drop, take-append-drop, DecodeError, GeneralPurpose, IsBytes, decode_of, elements, nat_tests}
 use Rattle.pass_forms.proofs.Common.{IfOk}
-use Rattle.std.specs.declared.option.Option.{Option}
-use Rattle.std.specs.declared.option.Option.TheVariants.{None}
-use Rattle.std.specs.declared.result.Result.{Result}
-use Rattle.std.specs.declared.result.Result.TheVariants.{Ok, Err}
-use Rattle.base64.specs.declared.engine.DecodePaddingMode.{DecodePaddingMode}
+use Rattle.std.specs.declared.{option.Option.{Option, TheVariants.None}, result.Result.{Result, TheVariants.{Ok, Err}}}
 use Rattle.base64.specs.Decode.{IsDecodeTable, decode_error, decode_group, decode_outcome, decoded_bytes, group_bytes, group_error, groups_before_last}
-use Rattle.base64.specs.Decode.{groups_bytes, groups_error, no_leftover, push_leftover, scan_last, scan_steps, suffix_bytes}
-use Rattle.base64.proofs.Decoding.{IsLeftover, IsLeftover_next}
-use Rattle.base64.proofs.EngineFacts.{decode_of_bytes, front_bytes}
-use Rattle.base64.proofs.Tables.{IsDecodeTable_from, are_tables_inverse}
-use Rattle.base64.specs.Decode.{scan_bytes}
+use Rattle.base64.specs.Decode.{groups_bytes, groups_error, no_leftover, push_leftover, scan_last, scan_steps, suffix_bytes, scan_bytes}
+use Rattle.base64.specs.declared.engine.DecodePaddingMode.{DecodePaddingMode}
+use Rattle.base64.proofs.{Decoding.{IsLeftover, IsLeftover_next}, EngineFacts.{decode_of_bytes, front_bytes}, Tables.{IsDecodeTable_from, are_tables_inverse}}
 
 abbrev TypeOf : {A : Type 0} → A → Type 0
 TypeOf {A} x = A

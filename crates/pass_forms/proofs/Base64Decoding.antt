@@ -1,15 +1,10 @@
 -- The engines in turn: which bytes the first that decodes gives.
+use Rattle.pass_forms.proofs.{Base64Bytes.{bytes_from_passes, passes_from_bytes}, Base64Spelling.{decoded-encode, decoded_spells, spelling_passes, spells_one}}
 use Rattle.pass_forms.proofs.Common.{◌≡◌, ℕ, Bool, true, false, cond, ltb, List, take, refl, ap, ◌∙◌, inl, inr, arith, list_all, IfErr, IfOk, result_ok}
 use Rattle.pass_forms.proofs.Common.{DecodeError, standard, standard_no_pad, url_safe, url_safe_no_pad, IsBytes, IsConsistent, IsDecodedInto, decode_of}
 use Rattle.pass_forms.proofs.Common.{decoded_of, encode_of, GeneralPurpose, IsBase64, by_decoders, from_base64, ◌⊎◌, ◌≤◌, length}
-use Rattle.std.specs.Option.{option_map, option_or}
-use Rattle.std.specs.declared.option.Option.{Option}
-use Rattle.std.specs.declared.option.Option.TheVariants.{None, Some}
-use Rattle.std.specs.declared.result.Result.{Result}
+use Rattle.std.specs.{Option.{option_map, option_or, IfSome}, declared.{option.Option.{Option, TheVariants.{None, Some}}, result.Result.Result}}
 use Rattle.std.specs.declared.result.Result.TheVariants.{Ok, Err}
-use Rattle.pass_forms.proofs.Base64Bytes.{bytes_from_passes, passes_from_bytes}
-use Rattle.pass_forms.proofs.Base64Spelling.{decoded-encode, decoded_spells, spelling_passes, spells_one}
-use Rattle.std.specs.Option.{IfSome}
 
 -- one of the four engines decodes the text to these bytes
 abbrev IsDecoded : List ℕ → List ℕ → Type 0

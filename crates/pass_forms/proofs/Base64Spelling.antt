@@ -1,17 +1,12 @@
 -- What is base64 of which bytes, and the engine that takes it off.
-use Rattle.pass_forms.proofs.Common.{◌≡◌, ℕ, ◌==◌, not, Bool, true, false, List, [], ◌∷◌, drop, map, refl, sym, ◌∙◌, inl, inr, Decides-eqb, list_all, result_ok}
-use Rattle.pass_forms.proofs.Common.{standard, url_safe, IsBytes, IsConsistent, IsStrict, decode_of, decoded_of, encode_of, engine_symbols, encode, DecodeError}
-use Rattle.pass_forms.proofs.Common.{GeneralPurpose, IsBase64, starts_with_brace, url_safe_no_pad, standard_no_pad, ◌⊎◌, arith}
+use Rattle.pass_forms.proofs.{Base64Bytes.decode_of_are_bytes, Base64Symbols.{encode_map, encode_passes, standard_symbol}, Common.{◌≡◌, ℕ, ◌==◌, not, Bool}}
+use Rattle.pass_forms.proofs.Common.{true, false, List, [], ◌∷◌, drop, map, refl, sym, ◌∙◌, inl, inr, Decides-eqb, list_all, result_ok, standard, url_safe}
+use Rattle.pass_forms.proofs.Common.{IsBytes, IsConsistent, IsStrict, decode_of, decoded_of, encode_of, engine_symbols, encode, DecodeError, GeneralPurpose}
+use Rattle.pass_forms.proofs.Common.{IsBase64, starts_with_brace, url_safe_no_pad, standard_no_pad, ◌⊎◌, arith}
 use Rattle.std.proofs.lemmas.Slice.Eq.{starts_is}
-use Rattle.std.specs.declared.option.Option.TheVariants.{Some}
-use Rattle.std.specs.declared.result.Result.{Result}
-use Rattle.std.specs.declared.result.Result.TheVariants.{Ok}
-use Rattle.base64.specs.Decode.{decoded_bytes}
-use Rattle.base64.specs.declared.engine.DecodePaddingMode.TheVariants.{Indifferent}
-use Rattle.base64.proofs.RoundTrip.{decode-encode}
-use Rattle.base64.proofs.EngineFacts.{decode_of-encode_of, decode_of_strict}
-use Rattle.pass_forms.proofs.Base64Bytes.{decode_of_are_bytes}
-use Rattle.pass_forms.proofs.Base64Symbols.{encode_map, encode_passes, standard_symbol}
+use Rattle.std.specs.declared.{option.Option.TheVariants.Some, result.Result.{Result, TheVariants.Ok}}
+use Rattle.base64.specs.{Decode.decoded_bytes, declared.engine.DecodePaddingMode.TheVariants.Indifferent}
+use Rattle.base64.proofs.{EngineFacts.{decode_of-encode_of, decode_of_strict}, RoundTrip.decode-encode}
 
 -- the two alphabets
 abbrev standard_symbols : List ℕ

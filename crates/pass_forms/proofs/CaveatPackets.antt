@@ -1,10 +1,7 @@
 -- Caveats that are read are the caveats that were written, and what was written is read.
-use Rattle.pass_forms.proofs.Common.{◌≡◌, ℕ, ◌≤◌, List, ◌++◌, length, Option, Some, None, refl, sym, ap, subst, ◌∙◌, append_assoc, arith, IfSome, same_Some}
-use Rattle.pass_forms.proofs.Common.{WideCaveat, packet, optional_packet, caveat_packets, FitsPacket, FitsCaveat, found_or_none, packet_at, optional_at}
-use Rattle.pass_forms.proofs.Common.{caveat_at, common_steps}
-use Rattle.pass_forms.proofs.FieldNames.{caveat_key, verifier_id_key, caveat_location_key}
-use Rattle.pass_forms.proofs.CaveatTexts.{Exact}
-use Rattle.pass_forms.proofs.Digits.{bind_some}
+use Rattle.pass_forms.proofs.{CaveatTexts.Exact, Common.{◌≡◌, ℕ, ◌≤◌, List, ◌++◌, length, Option, Some, None, refl, sym, ap, subst, ◌∙◌, append_assoc, arith}}
+use Rattle.pass_forms.proofs.Common.{IfSome, same_Some, WideCaveat, packet, optional_packet, caveat_packets, FitsPacket, FitsCaveat, found_or_none, packet_at}
+use Rattle.pass_forms.proofs.{Common.{optional_at, caveat_at, common_steps}, Digits.bind_some, FieldNames.{caveat_key, verifier_id_key, caveat_location_key}}
 use Rattle.pass_forms.proofs.Packets.{packet_takes, packet_again, packet_other, length-packet}
 
 optional_takes : (key bytes : List ℕ) → (bytes ≡ optional_packet key (optional_at key bytes).0 ++ (optional_at key bytes).1)

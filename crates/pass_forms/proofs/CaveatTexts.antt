@@ -1,8 +1,7 @@
 -- The caveats that are read are the caveats that were written, and the reverse, in either layout.
-use Rattle.pass_forms.proofs.Common.{◌≡◌, ℕ, zero, suc, ◌≤◌, List, [], ◌∷◌, ◌++◌, length, Some, None, refl, sym, ap, ◌∙◌, subst, arith, flat_map}
-use Rattle.pass_forms.proofs.Common.{AllByRecursion, length-append, and_others, caveats_at, WideCaveat, common_steps}
+use Rattle.pass_forms.proofs.{CaveatRuns.Reader, Common.{◌≡◌, ℕ, zero, suc, ◌≤◌, List, [], ◌∷◌, ◌++◌, length, Some, None, refl, sym, ap, ◌∙◌, subst, arith}}
+use Rattle.pass_forms.proofs.Common.{flat_map, AllByRecursion, length-append, and_others, caveats_at, WideCaveat, common_steps}
 use Rattle.std.proofs.lemmas.List.Concat.{flat_map-cons}
-use Rattle.pass_forms.proofs.CaveatRuns.{Reader}
 
 -- A layout reads the texts of the caveats that fit it, if what follows ends a caveat.
 pub record Exact (at : Reader) (text : WideCaveat → List ℕ) (Fits : WideCaveat → Type 0) (Ends : List ℕ → Type 0) : Type 0 where

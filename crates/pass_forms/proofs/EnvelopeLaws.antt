@@ -1,10 +1,9 @@
 -- What a text wraps, and the result of unwrapping it.
-use Rattle.pass_forms.proofs.Common.{◌≡◌, ◌↔◌, ◌≤◌, ℕ, false, List, length, refl, sym, subst, ◌∙◌, inl, inr, Result, Ok, Err, Option, None, Some, arith, rules}
-use Rattle.pass_forms.proofs.Common.{cases_Bool, cases_lt, lt-ltb, le-ltb, FormFault, TooLong, Malformed, Form, IsBase64, IsUnwrapped, Wraps, form_of}
-use Rattle.pass_forms.proofs.Common.{starts_with_brace, from_base64, unwrapping, with_its_form, max_text_len, option_map}
+use Rattle.pass_forms.proofs.{Base64Decoding.{from_base64_spells, spells_from_base64}, Base64Spelling.{spelling_brace, spells_one}, Common.{◌≡◌, ◌↔◌, ◌≤◌, ℕ}}
+use Rattle.pass_forms.proofs.Common.{false, List, length, refl, sym, subst, ◌∙◌, inl, inr, Result, Ok, Err, Option, None, Some, arith, rules, cases_Bool}
+use Rattle.pass_forms.proofs.Common.{cases_lt, lt-ltb, le-ltb, FormFault, TooLong, Malformed, Form, IsBase64, IsUnwrapped, Wraps, form_of, starts_with_brace}
+use Rattle.pass_forms.proofs.Common.{from_base64, unwrapping, with_its_form, max_text_len, option_map}
 use Rattle.std.specs.Option.{ok_or, option_and_then}
-use Rattle.pass_forms.proofs.Base64Decoding.{from_base64_spells, spells_from_base64}
-use Rattle.pass_forms.proofs.Base64Spelling.{spelling_brace, spells_one}
 
 -- A text wraps one form and one list of bytes at most.
 pub wraps_one : (text : List ℕ) (f g : Form) (a b : List ℕ) → Wraps text f a → Wraps text g b → (f ≡ g) × (a ≡ b)

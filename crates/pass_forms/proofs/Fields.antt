@@ -1,10 +1,9 @@
 -- A field that is read is the field that was written, and what was written is read, whatever follows.
 use Rattle.pass_forms.proofs.Common.{◌≡◌, ℕ, zero, suc, ◌+◌, ◌-◌, ◌*◌, ◌/◌, ◌%◌, ◌^◌, ◌<◌, ◌≤◌, List, [], ◌∷◌, ◌++◌, length, Option, Some, None, refl, sym, ap}
 use Rattle.pass_forms.proofs.Common.{◌∙◌, arith, inl, inr, cases_lt, lt-ltb, le-ltb, nat_tests, take-append-drop, groups, varint, field, optional_field}
-use Rattle.pass_forms.proofs.Common.{varint_up_to, counted_at, field_at, common_steps}
-use Rattle.pass_forms.specs.computed.V2Reading.{optional_at}
-use Rattle.pass_forms.proofs.Packets.{after_prefix_takes, after_prefix_again}
+use Rattle.pass_forms.proofs.{Common.{varint_up_to, counted_at, field_at, common_steps}, Packets.{after_prefix_takes, after_prefix_again}}
 use Rattle.pass_forms.proofs.Varints.{varint_last, varint_more, above_some}
+use Rattle.pass_forms.specs.computed.V2Reading.{optional_at}
 
 -- ---- numbers
 

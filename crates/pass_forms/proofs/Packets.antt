@@ -2,10 +2,8 @@
 use Rattle.pass_forms.proofs.Common.{◌≡◌, ℕ, ◌+◌, ◌-◌, ◌^◌, ◌<◌, ◌≤◌, ◌&&◌, leb, List, [], ◌∷◌, ◌++◌, length, take, drop, Some, None, refl, sym, ap, ◌∙◌}
 use Rattle.pass_forms.proofs.Common.{append_assoc, arith, and_parts, leb-true, cond_some, some_pair_parts, drop-take, take-take, take_at, drop_at}
 use Rattle.pass_forms.proofs.Common.{take-append-drop, length-append, length-take, length-drop, four_hex_digits, packet_len, packet, FitsPacket, after_prefix}
-use Rattle.pass_forms.proofs.Common.{before_suffix, len_at, packet_at, common_steps}
-use Rattle.std.proofs.Math.Seq.{take-append-add}
-use Rattle.std.proofs.lemmas.Slice.Eq.{bytes_eq-Decides}
-use Rattle.pass_forms.proofs.Digits.{bind_some, len_takes, len_again}
+use Rattle.pass_forms.proofs.{Common.{before_suffix, len_at, packet_at, common_steps}, Digits.{bind_some, len_takes, len_again}}
+use Rattle.std.proofs.{Math.Seq.take-append-add, lemmas.Slice.Eq.bytes_eq-Decides}
 
 pub after_prefix_takes : (prefix bytes rest : List ℕ) → after_prefix prefix bytes ≡ Some rest → bytes ≡ prefix ++ rest
 after_prefix_takes prefix bytes rest e = grind (arith, common_steps, take-append-drop, bytes_eq-Decides)

@@ -1,12 +1,8 @@
 -- The reading of a text in any form is exact, if the reading of bytes is.
-use Rattle.pass_forms.proofs.Common.{◌≡◌, ◌↔◌, ℕ, ◌≤◌, List, length, Option, Some, Result, Ok, Err, refl, sym, ap, subst, ◌∙◌, arith, rules, FormFault, TooLong}
-use Rattle.pass_forms.proofs.Common.{Malformed, ThirdParty, TooMany, Form, Wraps, IsUnwrapped, unwrapping, Plain, WidePass, as_wide_pass, max_text_len}
-use Rattle.pass_forms.proofs.Common.{IsReadAs}
-use Rattle.pass_forms.specs.computed.Reading.{checked_if_any}
-use Rattle.pass_forms.specs.Text.{SpellsText, IsTextReading}
-use Rattle.pass_forms.specs.computed.Text.{in_form, reading_in, text_reading}
-use Rattle.pass_forms.proofs.EnvelopeLaws.{wraps_one, unwrapped_answers}
-use Rattle.pass_forms.proofs.Checking.{Computes, checked_if_any_is, checked_determined}
+use Rattle.pass_forms.proofs.{Checking.{Computes, checked_if_any_is, checked_determined}, Common.{◌≡◌, ◌↔◌, ℕ, ◌≤◌, List, length, Option, Some, Result, Ok}}
+use Rattle.pass_forms.proofs.Common.{Err, refl, sym, ap, subst, ◌∙◌, arith, rules, FormFault, TooLong, Malformed, ThirdParty, TooMany, Form, Wraps, IsUnwrapped}
+use Rattle.pass_forms.proofs.{Common.{unwrapping, Plain, WidePass, as_wide_pass, max_text_len, IsReadAs}, EnvelopeLaws.{wraps_one, unwrapped_answers}}
+use Rattle.pass_forms.specs.{Text.{SpellsText, IsTextReading}, computed.{Reading.checked_if_any, Text.{in_form, reading_in, text_reading}}}
 
 abbrev Reader : Type 0
 Reader = Form → List ℕ → Option WidePass

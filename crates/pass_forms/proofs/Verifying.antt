@@ -1,10 +1,8 @@
 -- The result of a walk over the fields of a pass that compares its signature.
 use Rattle.pass_forms.proofs.Common.{◌≡◌, ℕ, List, [], ◌∷◌, ◌++◌, fold, map, Bool, false, refl, PassField, caveat_field, signature_field, location_field}
-use Rattle.pass_forms.proofs.Common.{identifier_field}
-use Rattle.pass_forms.proofs.Common.{◌↔◌, arith, ap, sym, subst}
-use Rattle.std.specs.Prelude.{IsTrue}
+use Rattle.pass_forms.proofs.Common.{identifier_field, ◌↔◌, arith, ap, sym, subst}
+use Rattle.std.specs.{Prelude.IsTrue, Str.bytes_eq}
 use Rattle.std.proofs.lemmas.Slice.Eq.{bytes_eq-Decides}
-use Rattle.std.specs.Str.{bytes_eq}
 use Rattle.pass_mac.specs.Hmac.{hmac}
 use Rattle.pass_forms.specs.FieldSource.{AreSignedBy}
 

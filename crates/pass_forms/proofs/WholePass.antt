@@ -1,7 +1,6 @@
 -- From the parts that were found one after another to the whole pass.
-use Rattle.pass_forms.proofs.Common.{◌≡◌, ℕ, List, [], length, Option, Some, caveats_at, whole_at, ◌>>=◌, last_signature, WideCaveat, WidePass, arith}
-use Rattle.pass_forms.proofs.Common.{common_steps, nat_tests}
-use Rattle.pass_forms.proofs.CaveatRuns.{Reader}
+use Rattle.pass_forms.proofs.{CaveatRuns.Reader, Common.{◌≡◌, ℕ, List, [], length, Option, Some, caveats_at, whole_at, ◌>>=◌, last_signature, WideCaveat}}
+use Rattle.pass_forms.proofs.Common.{WidePass, arith, common_steps, nat_tests}
 
 -- the pass of a header, the caveats and a signature
 abbrev pub made : List ℕ × List ℕ × List ℕ → List WideCaveat → List ℕ → WidePass

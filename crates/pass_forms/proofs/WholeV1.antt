@@ -1,14 +1,10 @@
 -- A pass that is read from packets is the pass that they spell, and a pass that is spelled is read.
-use Rattle.pass_forms.proofs.Common.{◌≡◌, ℕ, ◌≤◌, List, [], ◌++◌, length, Some, None, refl, ap, subst, ◌∙◌, arith, flat_map, append-nil, length-append}
-use Rattle.pass_forms.proofs.Common.{same_Some, WidePass, packet, caveat_packets, packets_of, FitsPacket, FitsCaveat, FitsPackets, SpellsV1, packet_at}
-use Rattle.pass_forms.proofs.Common.{header_at, caveat_at, signature_at, wide_at, reading_v1, caveats_at, ComputesSpelled, ReadsExactly}
-use Rattle.pass_forms.proofs.FieldNames.{location_key, identifier_key, caveat_key, verifier_id_key, caveat_location_key, signature_key}
-use Rattle.pass_forms.proofs.Checking.{exactly}
-use Rattle.pass_forms.proofs.WholePass.{last_takes, made, whole_parts, whole_again}
-use Rattle.pass_forms.proofs.Digits.{bind_some}
-use Rattle.pass_forms.proofs.Packets.{packet_takes, packet_again, packet_other}
-use Rattle.pass_forms.proofs.CaveatPackets.{EndsCaveat, exact_caveats, caveat_has_bytes}
-use Rattle.pass_forms.proofs.CaveatTexts.{caveats_take, caveats_again, caveats_fit}
+use Rattle.pass_forms.proofs.{CaveatPackets.{EndsCaveat, exact_caveats, caveat_has_bytes}, CaveatTexts.{caveats_take, caveats_again, caveats_fit}}
+use Rattle.pass_forms.proofs.{Checking.exactly, Common.{◌≡◌, ℕ, ◌≤◌, List, [], ◌++◌, length, Some, None, refl, ap, subst, ◌∙◌, arith, flat_map, append-nil}}
+use Rattle.pass_forms.proofs.Common.{length-append, same_Some, WidePass, packet, caveat_packets, packets_of, FitsPacket, FitsCaveat, FitsPackets, SpellsV1}
+use Rattle.pass_forms.proofs.Common.{packet_at, header_at, caveat_at, signature_at, wide_at, reading_v1, caveats_at, ComputesSpelled, ReadsExactly}
+use Rattle.pass_forms.proofs.{Digits.bind_some, FieldNames.{location_key, identifier_key, caveat_key, verifier_id_key, caveat_location_key, signature_key}}
+use Rattle.pass_forms.proofs.{Packets.{packet_takes, packet_again, packet_other}, WholePass.{last_takes, made, whole_parts, whole_again}}
 
 signature_takes : (bytes signature : List ℕ) → signature_at bytes ≡ Some signature → (bytes ≡ packet signature_key signature) × (length signature ≡ 32)
 unfolding signature_at

@@ -1,15 +1,12 @@
 -- A pass that is read from sections is the pass that they spell, and a pass that is spelled is read.
-use Rattle.pass_forms.proofs.Common.{◌≡◌, ℕ, ◌≤◌, List, [], ◌∷◌, ◌++◌, length, Option, Some, None, refl, sym, ap, subst, ◌∙◌, append_assoc, arith, flat_map}
-use Rattle.pass_forms.proofs.Common.{AllByRecursion, append-nil, length-append, caveats_at, WideCaveat, WidePass, field, optional_field, end_of_section}
-use Rattle.pass_forms.proofs.Common.{caveat_section, types, sections, SpellsV2, field_at, footer_at, reading_v2, ComputesSpelled, ReadsExactly, common_steps}
+use Rattle.pass_forms.proofs.{CaveatTexts.{Exact, caveats_take, caveats_again, caveats_fit}, Checking.exactly, Common.{◌≡◌, ℕ, ◌≤◌, List, [], ◌∷◌, ◌++◌}}
+use Rattle.pass_forms.proofs.Common.{length, Option, Some, None, refl, sym, ap, subst, ◌∙◌, append_assoc, arith, flat_map, AllByRecursion, append-nil}
+use Rattle.pass_forms.proofs.Common.{length-append, caveats_at, WideCaveat, WidePass, field, optional_field, end_of_section, caveat_section, types, sections}
+use Rattle.pass_forms.proofs.{Common.{SpellsV2, field_at, footer_at, reading_v2, ComputesSpelled, ReadsExactly, common_steps}, Digits.bind_some}
+use Rattle.pass_forms.proofs.{Fields.{field_takes, field_again, optional_takes, optional_again}, Packets.after_prefix_takes}
+use Rattle.pass_forms.proofs.WholePass.{last_takes, made, whole_parts, whole_again}
 use Rattle.std.specs.Prelude.{unwrap_or}
 use Rattle.pass_forms.specs.computed.V2Reading.{caveat_at, header_at, wide_at}
-use Rattle.pass_forms.proofs.CaveatTexts.{Exact, caveats_take, caveats_again, caveats_fit}
-use Rattle.pass_forms.proofs.Digits.{bind_some}
-use Rattle.pass_forms.proofs.Fields.{field_takes, field_again, optional_takes, optional_again}
-use Rattle.pass_forms.proofs.Packets.{after_prefix_takes}
-use Rattle.pass_forms.proofs.Checking.{exactly}
-use Rattle.pass_forms.proofs.WholePass.{last_takes, made, whole_parts, whole_again}
 
 -- ---- caveats
 

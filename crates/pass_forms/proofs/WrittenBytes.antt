@@ -1,10 +1,9 @@
 -- The bytes that are written of a pass are bytes, where its parts are.
-use Rattle.pass_forms.proofs.Common.{◌≡◌, ℕ, zero, suc, ◌+◌, ◌/◌, ◌%◌, ◌^◌, ◌<◌, ◌≤◌, true, ltb, List, [], ◌∷◌, ◌++◌, map, refl, arith, inl, inr}
-use Rattle.pass_forms.proofs.Common.{AllByRecursion, flat_map, list_all, cases_lt, lt-ltb, le-ltb, nat_tests, IsBytes, Plain, as_wide_pass, widened_caveat}
-use Rattle.pass_forms.proofs.Common.{FitsPackets, FitsCaveat, FitsPacket, caveat_packets, four_hex_digits, hex_digit, packet, caveat_section, end_of_section}
-use Rattle.pass_forms.proofs.Common.{field, groups, optional_field, varint, types, HasBytes, nonempty_location, v1_bytes, v2_bytes, rules}
-use Rattle.pass_forms.proofs.FieldNames.{caveat_key, identifier_key, location_key, signature_key}
-use Rattle.pass_forms.proofs.Base64Bytes.{append_is_bytes, bytes_from_passes, nil_is_bytes, one_more}
+use Rattle.pass_forms.proofs.{Base64Bytes.{append_is_bytes, bytes_from_passes, nil_is_bytes, one_more}, Common.{◌≡◌, ℕ, zero, suc, ◌+◌, ◌/◌, ◌%◌, ◌^◌, ◌<◌}}
+use Rattle.pass_forms.proofs.Common.{◌≤◌, true, ltb, List, [], ◌∷◌, ◌++◌, map, refl, arith, inl, inr, AllByRecursion, flat_map, list_all, cases_lt, lt-ltb}
+use Rattle.pass_forms.proofs.Common.{le-ltb, nat_tests, IsBytes, Plain, as_wide_pass, widened_caveat, FitsPackets, FitsCaveat, FitsPacket, caveat_packets}
+use Rattle.pass_forms.proofs.Common.{four_hex_digits, hex_digit, packet, caveat_section, end_of_section, field, groups, optional_field, varint, types, HasBytes}
+use Rattle.pass_forms.proofs.{Common.{nonempty_location, v1_bytes, v2_bytes, rules}, FieldNames.{caveat_key, identifier_key, location_key, signature_key}}
 
 -- ---- V1
 

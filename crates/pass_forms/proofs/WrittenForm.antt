@@ -2,9 +2,8 @@
 use Rattle.pass_forms.proofs.Common.{◌≡◌, ◌↔◌, ℕ, ◌≤◌, Bool, true, false, cond, ltb, List, length, Some, Result, Ok, Err, refl, arith, IsOk, MatchResult}
 use Rattle.pass_forms.proofs.Common.{ltb-false, ltb-true, IsBytes, FormFault, TooLong, TooMany, Memory, Form, form_of, Plain, WidePass, as_wide_pass}
 use Rattle.pass_forms.proofs.Common.{buffer_len, max_caveats, max_text_len, FailsAs, IsReadBack, IsWriteFault, IsWriting, IsTextBy, IsWritableText, in_base64}
-use Rattle.pass_forms.proofs.Common.{writing_of}
+use Rattle.pass_forms.proofs.{Common.writing_of, WrittenTexts.{bytes_fit, unwraps}}
 use Rattle.std.proofs.Common.{IfErr, IfOk}
-use Rattle.pass_forms.proofs.WrittenTexts.{bytes_fit, unwraps}
 
 -- A form: the bytes of a pass, and which bytes spell a pass.
 pub record BytesForm : Type 1 where

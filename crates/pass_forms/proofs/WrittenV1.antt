@@ -2,12 +2,9 @@
 use Rattle.pass_forms.proofs.Common.{◌≡◌, ◌↔◌, ℕ, ◌/◌, ◌<◌, ◌≤◌, List, [], ◌∷◌, length, map, Result, Some, refl, arith, flat_map, AllByRecursion, nat_tests}
 use Rattle.pass_forms.proofs.Common.{FormFault, form_of, form_of_byte, Plain, as_wide_pass, widened_caveat, buffer_len, FitsPackets, FitsCaveat, FitsPacket}
 use Rattle.pass_forms.proofs.Common.{SpellsV1, caveat_packets, hex_digit, packet, packet_len, packets_of, HasBytes, IsReadBack, IsV1Text, IsWritableText}
-use Rattle.pass_forms.proofs.Common.{IsWriting, v1_bytes, writing_v1, common_steps}
-use Rattle.pass_forms.specs.declared.form.Form.TheVariants.{V1}
-use Rattle.pass_forms.proofs.FieldNames.{location_key}
-use Rattle.pass_forms.proofs.Packets.{length-packet}
-use Rattle.pass_forms.proofs.WrittenBytes.{v1_is_bytes}
+use Rattle.pass_forms.proofs.{Common.{IsWriting, v1_bytes, writing_v1, common_steps}, FieldNames.location_key, Packets.length-packet, WrittenBytes.v1_is_bytes}
 use Rattle.pass_forms.proofs.WrittenForm.{BytesForm, exact, reads_back}
+use Rattle.pass_forms.specs.declared.form.Form.TheVariants.{V1}
 
 fits_packet : (key bytes : List ℕ) → length (packet key bytes) ≤ buffer_len → FitsPacket key bytes
 fits_packet key bytes h = grind (arith, length-packet)

@@ -1,10 +1,9 @@
 -- What is written of a pass in V2.
 use Rattle.pass_forms.proofs.Common.{◌≡◌, ◌↔◌, ℕ, List, [], length, Result, Some, refl, FormFault, form_of, Plain, as_wide_pass, SpellsV2, HasBytes, IsReadBack}
-use Rattle.pass_forms.proofs.Common.{IsV2Text, IsWritableText, IsWriting, nonempty_location, v2_bytes, writing_v2, arith}
+use Rattle.pass_forms.proofs.{Common.{IsV2Text, IsWritableText, IsWriting, nonempty_location, v2_bytes, writing_v2, arith}, WrittenBytes.v2_is_bytes}
+use Rattle.pass_forms.proofs.WrittenForm.{BytesForm, exact, reads_back}
 use Rattle.std.specs.Prelude.{unwrap_or}
 use Rattle.pass_forms.specs.declared.form.Form.TheVariants.{V2}
-use Rattle.pass_forms.proofs.WrittenBytes.{v2_is_bytes}
-use Rattle.pass_forms.proofs.WrittenForm.{BytesForm, exact, reads_back}
 
 nonempty_is : (location : List ℕ) → unwrap_or (nonempty_location location) [] ≡ location
 nonempty_is location = grind arith

@@ -1,16 +1,9 @@
 -- The envelope of a pass text: base64, and which form the bytes in it are in.
-use Rattle.std.specs.Prelude.{◌≡◌, ◌==◌, ◌≤◌, ◌<◌, ◌&&◌, ◌||◌, ◌⊎◌, ℕ, Bool, List, length, take, slice_get, nat_eq, nat_le, IsTrue, codes}
-use Rattle.std.specs.Prelude.{if◌then◌else◌, Option, None, Some, Result, Ok, Err}
-use Rattle.std.specs.List.{starts_with}
-use Rattle.std.specs.Option.{option_and_then}
-use Rattle.base64.specs.Engines.{url_safe_no_pad, url_safe, standard_no_pad, standard}
-use Rattle.base64.specs.GeneralPurpose.{IsBytes, encode_of}
-use Rattle.pass_forms.specs.declared.envelope.Unwrapped.{Unwrapped}
-use Rattle.pass_forms.specs.declared.fault.FormFault.{FormFault}
-use Rattle.pass_forms.specs.declared.fault.FormFault.TheVariants.{TooLong, Malformed}
-use Rattle.pass_forms.specs.declared.form.Form.{Form}
-use Rattle.pass_forms.specs.declared.form.Form.TheVariants.{V1, V2, Json}
-use Rattle.pass_forms.specs.Reading.{max_text_len}
+use Rattle.std.specs.{List.starts_with, Option.option_and_then, Prelude.{◌≡◌, ◌==◌, ◌≤◌, ◌<◌, ◌&&◌, ◌||◌, ◌⊎◌, ℕ, Bool, List, length, take, slice_get, nat_eq}}
+use Rattle.std.specs.Prelude.{nat_le, IsTrue, codes, if◌then◌else◌, Option, None, Some, Result, Ok, Err}
+use Rattle.base64.specs.{Engines.{url_safe_no_pad, url_safe, standard_no_pad, standard}, GeneralPurpose.{IsBytes, encode_of}}
+use Rattle.pass_forms.specs.{Reading.max_text_len, declared.{envelope.Unwrapped.Unwrapped, fault.FormFault.{FormFault, TheVariants.{TooLong, Malformed}}}}
+use Rattle.pass_forms.specs.declared.form.Form.{Form, TheVariants.{V1, V2, Json}}
 
 -- The text is base64 of the bytes: in the URL-safe alphabet (RFC 4648, section 5) or in the standard
 -- one (section 4), with no padding or with all of it (section 3.2), the bits past the last byte zero

@@ -2,10 +2,8 @@
 -- the signature.
 use Rattle.std.specs.Prelude.{◌≡◌, ℕ, List, [], ◌∷◌, ◌++◌, map, fold, replicate, Option, None, Some, Result, Ok, Err}
 use Rattle.pass_mac.specs.Chain.{extended_signature}
-use Rattle.pass_forms.specs.declared.fault.FormFault.{FormFault}
-use Rattle.pass_forms.specs.declared.field_source.Field.{Field}
+use Rattle.pass_forms.specs.{Pass.Plain, declared.{fault.FormFault.FormFault, field_source.Field.Field}}
 use Rattle.pass_forms.specs.declared.field_source.Field.TheVariants.{Location, Identifier, Caveat, Signature}
-use Rattle.pass_forms.specs.Pass.{Plain}
 
 pub data PassField : Type 0 where
   location_field : (bytes : List ℕ) → PassField

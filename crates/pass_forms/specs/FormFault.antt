@@ -1,7 +1,6 @@
 -- The text of a fault (ours).
 use Rattle.std.specs.Prelude.{ℕ, List, codes}
-use Rattle.pass_forms.specs.declared.fault.FormFault.{FormFault}
-use Rattle.pass_forms.specs.declared.fault.FormFault.TheVariants.{TooLong, Malformed, ThirdParty, TooMany, Memory}
+use Rattle.pass_forms.specs.declared.fault.FormFault.{FormFault, TheVariants.{TooLong, Malformed, ThirdParty, TooMany, Memory}}
 
 abbrev pub fault_text : FormFault → List ℕ
 fault_text TooLong = codes "too long"

@@ -1,21 +1,10 @@
 -- Laws of the definitions.
 use Rattle.std.specs.Prelude.{◌≡◌, ◌↔◌, ℕ, List, length, Option, Some, Result, true}
-use Rattle.pass_forms.specs.declared.fault.FormFault.{FormFault}
-use Rattle.pass_forms.specs.Pass.{Plain, WidePass, IsSigned}
-use Rattle.pass_forms.specs.Reading.{IsReadAs}
-use Rattle.pass_forms.specs.computed.Reading.{reading_of}
+use Rattle.pass_forms.specs.{Envelope.{IsBase64, Wraps, IsUnwrapped}, Pass.{Plain, WidePass, IsSigned}, Reading.IsReadAs, Text.IsTextReading, V1.SpellsV1}
+use Rattle.pass_forms.specs.{V2.SpellsV2, Writing.{v1_bytes, v2_bytes, IsV1Text, IsV2Text, IsWritableText, IsWriting, IsReadBack, HasBytes, with_caveat}}
+use Rattle.pass_forms.specs.computed.{Envelope.{from_base64, unwrapping}, Pass.is_signed, Reading.reading_of, Text.text_reading}
+use Rattle.pass_forms.specs.{computed.Writing.{writing_v1, writing_v2}, declared.{fault.FormFault.FormFault, form.Form.{Form, TheVariants.{V1, V2}}}}
 use Rattle.base64.specs.GeneralPurpose.{IsBytes}
-use Rattle.pass_forms.specs.declared.form.Form.{Form}
-use Rattle.pass_forms.specs.Envelope.{IsBase64, Wraps, IsUnwrapped}
-use Rattle.pass_forms.specs.computed.Envelope.{from_base64, unwrapping}
-use Rattle.pass_forms.specs.Text.{IsTextReading}
-use Rattle.pass_forms.specs.computed.Text.{text_reading}
-use Rattle.pass_forms.specs.declared.form.Form.TheVariants.{V1, V2}
-use Rattle.pass_forms.specs.V1.{SpellsV1}
-use Rattle.pass_forms.specs.V2.{SpellsV2}
-use Rattle.pass_forms.specs.Writing.{v1_bytes, v2_bytes, IsV1Text, IsV2Text, IsWritableText, IsWriting, IsReadBack, HasBytes, with_caveat}
-use Rattle.pass_forms.specs.computed.Writing.{writing_v1, writing_v2}
-use Rattle.pass_forms.specs.computed.Pass.{is_signed}
 
 -- If a text spells exactly the computed wide pass, the relation allows exactly one result: the computed one.
 abbrev pub AnswersExactly : Type 0

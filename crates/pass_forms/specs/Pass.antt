@@ -1,7 +1,6 @@
 -- A pass is a macaroon (NDSS 2014) of first-party caveats. A wide pass is what the formats can spell: its
 -- caveats may be third-party.
-use Rattle.std.specs.Prelude.{◌≡◌, ℕ, Bool, ◌||◌, List, [], Option, None, map, is_some}
-use Rattle.std.specs.List.{list_any}
+use Rattle.std.specs.{List.list_any, Prelude.{◌≡◌, ℕ, Bool, ◌||◌, List, [], Option, None, map, is_some}}
 use Rattle.pass_mac.specs.Chain.{chain, derived_key}
 
 pub record Plain : Type 0 where

@@ -1,7 +1,6 @@
 -- The buffer that the writers append to (ours).
 use Rattle.std.specs.Prelude.{◌≡◌, ℕ, ◌<◌, List, ◌++◌, length, Result, Ok, Err}
-use Rattle.pass_forms.specs.declared.fault.FormFault.{FormFault}
-use Rattle.pass_forms.specs.declared.fault.FormFault.TheVariants.{TooLong}
+use Rattle.pass_forms.specs.declared.fault.FormFault.{FormFault, TheVariants.TooLong}
 
 -- the most bytes that base64 of 8,192 characters can hold
 abbrev pub buffer_len : ℕ

@@ -1,8 +1,7 @@
 -- What a reader returns, in any form (ours: the limits, and the order of the faults).
 use Rattle.std.specs.Prelude.{◌≡◌, ℕ, ◌<◌, ◌≤◌, true, false, length, Result, Ok, Err}
-use Rattle.pass_forms.specs.declared.fault.FormFault.{FormFault}
+use Rattle.pass_forms.specs.{Pass.{Plain, WidePass, has_third_party, as_wide_pass}, declared.fault.FormFault.FormFault}
 use Rattle.pass_forms.specs.declared.fault.FormFault.TheVariants.{TooLong, Malformed, ThirdParty, TooMany, Memory}
-use Rattle.pass_forms.specs.Pass.{Plain, WidePass, has_third_party, as_wide_pass}
 
 -- the longest text of a pass, in bytes
 abbrev pub max_text_len : ℕ

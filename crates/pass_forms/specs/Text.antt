@@ -1,11 +1,7 @@
 -- Reading a pass text in any form (ours). The wide pass that bytes spell in each form is a parameter here: a further form adds
 -- its spelling and changes nothing.
 use Rattle.std.specs.Prelude.{ℕ, List, length, Result, Ok, Err}
-use Rattle.pass_forms.specs.declared.fault.FormFault.{FormFault}
-use Rattle.pass_forms.specs.declared.form.Form.{Form}
-use Rattle.pass_forms.specs.Envelope.{Wraps}
-use Rattle.pass_forms.specs.Pass.{Plain, WidePass}
-use Rattle.pass_forms.specs.Reading.{IsReadAs}
+use Rattle.pass_forms.specs.{Envelope.Wraps, Pass.{Plain, WidePass}, Reading.IsReadAs, declared.{fault.FormFault.FormFault, form.Form.Form}}
 
 -- The text spells the wide pass in this form: it wraps bytes that spell it so.
 abbrev pub SpellsText : (Form → List ℕ → WidePass → Type 0) → List ℕ → Form → WidePass → Type 0

@@ -1,7 +1,7 @@
 -- V1, the packets of libmacaroons. A packet is its whole length in four lower-case hexadecimal digits, a key,
 -- one space, the data and one line feed. The length decides where a packet ends, so data may hold any bytes.
-use Rattle.std.specs.Prelude.{◌≡◌, ℕ, ◌+◌, ◌/◌, ◌%◌, ◌^◌, ◌<◌, nat_lt, if◌then◌else◌, List, [], ◌∷◌, ◌++◌, length, Option, Some, None, IfSome, codes}
 use Rattle.std.specs.List.{flat_map, AllByRecursion}
+use Rattle.std.specs.Prelude.{◌≡◌, ℕ, ◌+◌, ◌/◌, ◌%◌, ◌^◌, ◌<◌, nat_lt, if◌then◌else◌, List, [], ◌∷◌, ◌++◌, length, Option, Some, None, IfSome, codes}
 use Rattle.pass_forms.specs.Pass.{WideCaveat, WidePass}
 
 -- `0` to `9`, then `a` to `f`

@@ -1,6 +1,6 @@
 -- V2, libmacaroons' binary form: fields of a type, a length and that many bytes, in sections that end with a zero byte.
-use Rattle.std.specs.Prelude.{◌≡◌, ℕ, zero, suc, ◌+◌, ◌/◌, ◌%◌, nat_lt, if◌then◌else◌, List, [], ◌∷◌, ◌++◌, length, Option, Some, None, unwrap_or}
 use Rattle.std.specs.List.{flat_map}
+use Rattle.std.specs.Prelude.{◌≡◌, ℕ, zero, suc, ◌+◌, ◌/◌, ◌%◌, nat_lt, if◌then◌else◌, List, [], ◌∷◌, ◌++◌, length, Option, Some, None, unwrap_or}
 use Rattle.pass_forms.specs.Pass.{WideCaveat, WidePass}
 
 -- A number in seven bits a byte, the lowest first, with the top bit set on all bytes but the last. This is the

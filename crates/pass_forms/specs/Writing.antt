@@ -1,17 +1,10 @@
 -- What the writers return: the one text of a pass in each form, or a fault.
-use Rattle.std.specs.Prelude.{◌≡◌, ℕ, ◌<◌, ◌≤◌, List, [], ◌∷◌, ◌++◌, length, Option, None, Some, Result, Ok, Err, IsOk}
-use Rattle.std.specs.List.{AllByRecursion}
-use Rattle.base64.specs.Engines.{url_safe_no_pad}
-use Rattle.base64.specs.GeneralPurpose.{IsBytes, encode_of}
+use Rattle.std.specs.{List.AllByRecursion, Prelude.{◌≡◌, ℕ, ◌<◌, ◌≤◌, List, [], ◌∷◌, ◌++◌, length, Option, None, Some, Result, Ok, Err, IsOk}}
+use Rattle.base64.specs.{Engines.url_safe_no_pad, GeneralPurpose.{IsBytes, encode_of}}
 use Rattle.pass_mac.specs.Hmac.{hmac}
-use Rattle.pass_forms.specs.declared.fault.FormFault.{FormFault}
-use Rattle.pass_forms.specs.declared.fault.FormFault.TheVariants.{TooLong, Malformed, ThirdParty, TooMany, Memory}
-use Rattle.pass_forms.specs.declared.form.Form.{Form}
-use Rattle.pass_forms.specs.Envelope.{IsUnwrapped}
-use Rattle.pass_forms.specs.Pass.{Plain, WidePass, as_wide_pass}
-use Rattle.pass_forms.specs.Reading.{IsReadAs, max_caveats, max_text_len}
-use Rattle.pass_forms.specs.V1.{SpellsV1, packets_of}
-use Rattle.pass_forms.specs.V2.{SpellsV2, sections}
+use Rattle.pass_forms.specs.{Envelope.IsUnwrapped, Pass.{Plain, WidePass, as_wide_pass}, Reading.{IsReadAs, max_caveats, max_text_len}}
+use Rattle.pass_forms.specs.{V1.{SpellsV1, packets_of}, V2.{SpellsV2, sections}, declared.fault.FormFault.FormFault}
+use Rattle.pass_forms.specs.declared.{fault.FormFault.TheVariants.{TooLong, Malformed, ThirdParty, TooMany, Memory}, form.Form.Form}
 
 -- Base64 in the URL-safe alphabet (RFC 4648, section 5), without padding (section 3.2; ours).
 abbrev pub in_base64 : List ℕ → List ℕ

@@ -1,18 +1,11 @@
 //! The envelope of a pass text: plain JSON, or base64 of the bytes of any form.
 
-ghost use Rattle.std.specs.Prelude.{◌≡◌, ◌↔◌, ℕ, ◌≤◌, List, Option, Some, length, take, IfOk, IfSome};
-ghost use Rattle.std.specs.Option.{option_map, option_or};
-ghost use Rattle.base64.specs.Decode.{decoded_estimate};
-ghost use Rattle.base64.specs.GeneralPurpose.{decoded_of};
+ghost use Rattle.std.specs.{Option.{option_map, option_or}, Prelude.{◌≡◌, ◌↔◌, ℕ, ◌≤◌, List}};
+ghost use Rattle.std.specs.Prelude.{Option, Some, length, take, IfOk, IfSome};
+ghost use Rattle.base64.specs.{Decode.decoded_estimate, GeneralPurpose.decoded_of};
+ghost use Rattle.pass_forms.specs.Envelope.{IsBase64, IsUnwrapped, form_of, starts_with_brace};
+ghost use Rattle.pass_forms.specs.Envelope.{unwrapped_result, unwrapped_bytes};
 ghost use Rattle.pass_forms.specs.Reading.{max_text_len};
-ghost use Rattle.pass_forms.specs.Envelope.{
-  IsBase64,
-  IsUnwrapped,
-  form_of,
-  starts_with_brace,
-  unwrapped_result,
-  unwrapped_bytes,
-};
 ghost use Rattle.pass_forms.specs.computed.Envelope.{from_base64, unwrapping};
 
 use crate::fault::FormFault;

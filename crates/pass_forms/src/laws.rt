@@ -1,23 +1,11 @@
 //! Laws of the definitions. Each law is the contract of a function with an empty body.
 
-ghost use Rattle.pass_forms.specs.Laws.{
-  FromBase64IsBase64,
-  UnwrappedIsTheAnswer,
-  WrapsBytes,
-  WrapsOne,
-  DecidesSigned,
-  AnswersExactly,
-  ComputesSpelled,
-  OnePassEach,
-  ReadsExactly,
-  ReadsTextsExactly,
-  NarrowedStaysSigned,
-  TextsReadBack,
-  WritesExactly,
-};
-ghost use Rattle.pass_forms.specs.V1.{SpellsV1};
+ghost use Rattle.pass_forms.specs.Laws.{FromBase64IsBase64, UnwrappedIsTheAnswer, WrapsBytes};
+ghost use Rattle.pass_forms.specs.Laws.{WrapsOne, DecidesSigned, AnswersExactly, ComputesSpelled};
+ghost use Rattle.pass_forms.specs.Laws.{OnePassEach, ReadsExactly, ReadsTextsExactly};
+ghost use Rattle.pass_forms.specs.Laws.{NarrowedStaysSigned, TextsReadBack, WritesExactly};
+ghost use Rattle.pass_forms.specs.{V1.SpellsV1, V2.SpellsV2};
 ghost use Rattle.pass_forms.specs.computed.V1Reading as v1;
-ghost use Rattle.pass_forms.specs.V2.{SpellsV2};
 ghost use Rattle.pass_forms.specs.computed.V2Reading as v2;
 
 /// A text wraps at most one form and one list of bytes, in any alphabet and padding.

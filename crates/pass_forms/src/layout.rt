@@ -2,16 +2,9 @@
 //! are read afterwards. Only the copy into a pass allocates memory.
 
 ghost use Rattle.std.specs.Prelude.{◌≡◌, [], ◌∷◌, IfNone, IfSome, length, option_map};
-ghost use Rattle.pass_forms.specs.computed.Caveats.{
-  caveats_at,
-  identifiers_at,
-  scan_summary,
-  whole_at,
-  Counts,
-};
-ghost use Rattle.pass_forms.specs.computed.Reading.{reading_of};
-ghost use Rattle.pass_forms.specs.FieldSource.{opening_of};
-ghost use Rattle.pass_forms.specs.Reading.{IsReadAs, OrOutOfMemory};
+ghost use Rattle.pass_forms.specs.{FieldSource.opening_of, Reading.{IsReadAs, OrOutOfMemory}};
+ghost use Rattle.pass_forms.specs.computed.Caveats.{caveats_at, identifiers_at, scan_summary};
+ghost use Rattle.pass_forms.specs.computed.{Caveats.{whole_at, Counts}, Reading.reading_of};
 
 use crate::{Field, FieldSource, FormFault, MAX_CAVEATS, MAX_TEXT, Pass};
 use std::alloc::{AllocError, Global};
@@ -74,11 +67,9 @@ struct ScanResult<'a, L: Layout> {
 /// How a pass is laid out as bytes: a header, the caveats, and a footer that holds the signature.
 pub trait Layout: Copy {
     ghost use Rattle.std.specs.Prelude.{◌≡◌, ℕ, List, Option, Result, length, option_map};
+    ghost use Rattle.pass_forms.specs.{Laws.ReadsExactly, Pass.{Plain, WideCaveat, WidePass}};
+    ghost use Rattle.pass_forms.specs.computed.{Caveats.{summary, whole_at}, Reading.reading_of};
     ghost use Rattle.pass_forms.specs.declared.fault.FormFault.{FormFault as FaultOfForm};
-    ghost use Rattle.pass_forms.specs.computed.Caveats.{summary, whole_at};
-    ghost use Rattle.pass_forms.specs.computed.Reading.{reading_of};
-    ghost use Rattle.pass_forms.specs.Laws.{ReadsExactly};
-    ghost use Rattle.pass_forms.specs.Pass.{Plain, WideCaveat, WidePass};
 
     // the wide passes that bytes spell
     ghost Spells: { List ℕ → WidePass → Type 0 };

@@ -2,10 +2,9 @@
 
 ghost use Rattle.std.specs.Prelude.{◌≡◌, ◌↔◌, ◌≤◌, ℕ, List, Err, IfErr, OnErr, OnOk, length, map};
 ghost use Rattle.pass_mac.specs.Chain.{chain, derived_key};
-ghost use Rattle.pass_forms.specs.declared.fault.FormFault.TheVariants.{Memory, TooMany};
-ghost use Rattle.pass_forms.specs.Pass.{IsSigned};
-ghost use Rattle.pass_forms.specs.Reading.{max_caveats};
+ghost use Rattle.pass_forms.specs.{Pass.IsSigned, Reading.max_caveats};
 ghost use Rattle.pass_forms.specs.Writing.{IsNarrowingFault, with_caveat};
+ghost use Rattle.pass_forms.specs.declared.fault.FormFault.TheVariants.{Memory, TooMany};
 
 use crate::{Field, FieldSource, FormFault, PassFields, is_signed_by};
 use pass_mac::Chain;
@@ -56,8 +55,7 @@ impl Model for Pass {
 impl Pass {
     ghost use Rattle.std.specs.Prelude.{◌≡◌, ◌↔◌, length, map, IfOk, IsTrue, OnOk};
     ghost use Rattle.pass_forms.specs.FieldSource.{as_field, no_fields, pass_fields, with_field};
-    ghost use Rattle.pass_forms.specs.Pass.{IsSigned, minted_pass};
-    ghost use Rattle.pass_forms.specs.computed.Pass.{is_signed};
+    ghost use Rattle.pass_forms.specs.{Pass.{IsSigned, minted_pass}, computed.Pass.is_signed};
 
     /// A pass of these parts, without any check.
     pub fn new(

@@ -1,8 +1,7 @@
 //! The reader of V1, libmacaroons' packets.
 
 ghost use Rattle.std.specs.Prelude.{◌≡◌, length, option_map, is_some};
-ghost use Rattle.pass_forms.specs.Reading.{IsReadAs, OrOutOfMemory};
-ghost use Rattle.pass_forms.specs.V1.{SpellsV1};
+ghost use Rattle.pass_forms.specs.{Reading.{IsReadAs, OrOutOfMemory}, V1.SpellsV1};
 ghost use Rattle.pass_forms.specs.computed.V1Reading as reading;
 
 use crate::laws::reads_v1_exactly;

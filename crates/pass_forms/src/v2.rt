@@ -1,8 +1,7 @@
 //! The reader of V2, libmacaroons' binary form.
 
 ghost use Rattle.std.specs.Prelude.{◌≡◌, ◌≤◌, IfSome, length, option_map, is_some};
-ghost use Rattle.pass_forms.specs.Reading.{IsReadAs, OrOutOfMemory};
-ghost use Rattle.pass_forms.specs.V2.{SpellsV2};
+ghost use Rattle.pass_forms.specs.{Reading.{IsReadAs, OrOutOfMemory}, V2.SpellsV2};
 ghost use Rattle.pass_forms.specs.computed.V2Reading as reading;
 
 use crate::laws::reads_v2_exactly;

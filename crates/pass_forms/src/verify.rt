@@ -1,7 +1,6 @@
 //! The verifier of a pass, over its fields.
 
-ghost use Rattle.std.specs.Prelude.{◌≡◌, ◌↔◌, ◌++◌, ◌∷◌, ℕ, IsTrue, List, [], map};
-ghost use Rattle.std.specs.Str.{bytes_eq};
+ghost use Rattle.std.specs.{Prelude.{◌≡◌, ◌↔◌, ◌++◌, ◌∷◌, ℕ, IsTrue, List, [], map}, Str.bytes_eq};
 ghost use Rattle.pass_mac.specs.Chain.{extended_signature};
 ghost use Rattle.pass_forms.specs.FieldSource.{AreSignedBy, caveat_field, signature_field};
 

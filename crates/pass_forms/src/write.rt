@@ -3,21 +3,11 @@
 ghost use Rattle.std.specs.Prelude.{◌≡◌, length, IfErr, IfOk, IsOk, MatchResult, Ok};
 ghost use Rattle.std.specs.String.{string_bytes};
 ghost use Rattle.base64.specs.GeneralPurpose.{IsBytes};
-ghost use Rattle.pass_forms.specs.declared.form.Form.TheVariants.{V1, V2};
-ghost use Rattle.pass_forms.specs.V1.{SpellsV1};
-ghost use Rattle.pass_forms.specs.V2.{SpellsV2};
-ghost use Rattle.pass_forms.specs.Writing.{
-  FailsAs,
-  IsReadBack,
-  IsWriteFault,
-  IsV1Text,
-  IsV2Text,
-  IsWritableText,
-  in_base64,
-  v1_bytes,
-  v2_bytes,
-};
+ghost use Rattle.pass_forms.specs.{V1.SpellsV1, V2.SpellsV2, Writing.{FailsAs, IsReadBack}};
+ghost use Rattle.pass_forms.specs.Writing.{IsWriteFault, IsV1Text, IsV2Text, IsWritableText};
+ghost use Rattle.pass_forms.specs.Writing.{in_base64, v1_bytes, v2_bytes};
 ghost use Rattle.pass_forms.specs.computed.Writing.{writing_of, writing_v1, writing_v2};
+ghost use Rattle.pass_forms.specs.declared.form.Form.TheVariants.{V1, V2};
 
 use crate::v1::Packets;
 use crate::v2::Sections;
@@ -33,8 +23,7 @@ mod sections;
 /// How the bytes of a pass are written in one layout.
 trait PutLayout {
     ghost use Rattle.std.specs.Prelude.{◌≡◌, ℕ, List, OnOk, length};
-    ghost use Rattle.pass_forms.specs.Pass.{Plain};
-    ghost use Rattle.pass_forms.specs.Putting.{Puts};
+    ghost use Rattle.pass_forms.specs.{Pass.Plain, Putting.Puts};
 
     // the bytes of a pass
     ghost bytes_of: { Plain → List ℕ };

@@ -1,12 +1,9 @@
 -- The reading of a text in any form is exact.
 use Rattle.pass_json.proofs.Common.{◌≡◌, ◌↔◌, ℕ, List, length, Some, Result, Ok, Err, FormFault, Form, Plain, WidePass, ReadsTextsExactly, ComputesSpelled}
-use Rattle.pass_json.proofs.Common.{SpellsForm, IsAnyReading, OneReadingEachText, reading, wide_in, SpellsJson, wide_json, arith}
-use Rattle.pass_forms.specs.Text.{SpellsText, IsTextReading}
-use Rattle.pass_forms.specs.V1.{SpellsV1}
+use Rattle.pass_json.proofs.{Common.{SpellsForm, IsAnyReading, OneReadingEachText, reading, wide_in, SpellsJson, wide_json, arith}, SameReading.same_answer}
+use Rattle.pass_forms.specs.{Text.{SpellsText, IsTextReading}, V1.SpellsV1, V2.SpellsV2}
 use Rattle.pass_forms.specs.computed.V1Reading as v1
-use Rattle.pass_forms.specs.V2.{SpellsV2}
 use Rattle.pass_forms.specs.computed.V2Reading as v2
-use Rattle.pass_json.proofs.SameReading.{same_answer}
 
 abbrev Relation : Type 1
 Relation = Form → List ℕ → WidePass → Type 0

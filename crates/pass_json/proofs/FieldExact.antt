@@ -1,8 +1,7 @@
 -- A field, computed, is what is spelled.
 use Rattle.pass_json.proofs.Common.{◌≡◌, ℕ, List, Option, Some, None, refl, sym, ap, subst, ◌⊎◌, inl, inr, option_map, Data, string, object, Members, get}
 use Rattle.pass_json.proofs.Common.{as_str, FromBase64IsBase64, IsBase64, IsField, decoded_text, field_bytes, field_from, must_have, arith}
-use Rattle.pass_forms.specs.computed.Envelope.{from_base64}
-use Rattle.pass_forms.specs.computed.Parts.{◌>>=◌}
+use Rattle.pass_forms.specs.computed.{Envelope.from_base64, Parts.{◌>>=◌}}
 
 pub bound : {A B : Type 0} (o : Option A) (f : A → Option B) (b : B) → (o >>= f) ≡ Some b → (a : A) × (o ≡ Some a) × (f a ≡ Some b)
 bound None f b e = absurd cc

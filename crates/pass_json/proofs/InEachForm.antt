@@ -1,8 +1,7 @@
 -- A text written in one form, as the definitions for any form see it.
 use Rattle.pass_json.proofs.Common.{◌≡◌, ◌↔◌, ℕ, List, length, Result, Ok, FormFault, Form, V1, V2, Json, Plain, FailsAs, HasBytes, IsReadBack, IsWritableText}
 use Rattle.pass_json.proofs.Common.{IsWriting, v1_bytes, v2_bytes, TextsReadBack, WritesExactly, IsAnyReading, IsTextIn, SpellsForm, writing, JsonReadsBack}
-use Rattle.pass_json.proofs.Common.{WritesJsonExactly, MayFailAs, arith}
-use Rattle.pass_json.proofs.Wrapped.{reads_back}
+use Rattle.pass_json.proofs.{Common.{WritesJsonExactly, MayFailAs, arith}, Wrapped.reads_back}
 
 -- what is read back of a text is its reading
 pub back_from : (form : Form) (bytes : List ℕ) (pass : Plain) (text : List ℕ) → IsReadBack (SpellsForm form) form bytes pass text →

@@ -5,12 +5,9 @@ use Rattle.pass_json.proofs.Common.{Items, no_items, item, Members, get, as_arra
 use Rattle.pass_json.proofs.Common.{WidePass, IsReadAs, HasOnly, IsCaveatObject, AreCaveats, IsCaveatList, IsVersion, IsPass, SpellsJson, caveat_names}
 use Rattle.pass_json.proofs.Common.{pass_names, field_from, must_have, has_only_names, caveat_from, caveats_of, caveat_list, is_version, of_length}
 use Rattle.pass_json.proofs.Common.{signature_from, pass_from, value_of, wide_json, reading_json, arith}
-use Rattle.std.proofs.lemmas.Option.{cond_some}
-use Rattle.pass_json.proofs.SameReading.{same_answer}
 use Rattle.pass_json.proofs.FieldExact.{bound, field_takes, field_again, required_takes, required_again, is_object}
-use Rattle.pass_json.proofs.NamesExact.{has_only_takes, has_only_again}
-use Rattle.std.proofs.lemmas.Bool.Decides.{nat_tests}
-use Rattle.std.proofs.lemmas.Bool.Decides.{nat_tests}
+use Rattle.pass_json.proofs.{NamesExact.{has_only_takes, has_only_again}, SameReading.same_answer}
+use Rattle.std.proofs.lemmas.{Bool.Decides.nat_tests, Option.cond_some}
 
 has_only_of : (names : List (List ℕ)) (value : Data) (found : (members : Members) × (value ≡ object members)) → HasOnly names value →
     has_only_names names value ≡ true

@@ -1,9 +1,6 @@
 -- The names of a map's entries are those of the object's members.
 use Rattle.pass_json.proofs.Common.{◌≡◌, ℕ, List, [], ◌∷◌, map, Bor, refl, list_all, list_any, bytes_eq, members_view, only_among, arith}
-use Rattle.std.specs.Map.{keys_of}
-use Rattle.std.specs.String.{string_bytes}
-use Rattle.std.specs.declared.alloc.Global.{Global}
-use Rattle.std.specs.declared.string.String.{String}
+use Rattle.std.specs.{Map.keys_of, String.string_bytes, declared.{alloc.Global.Global, string.String.String}}
 use Rattle.serde_json.specs.declared.value.Value.{Value}
 
 one_among : (key : List ℕ) (names : List (Bor (List ℕ))) →

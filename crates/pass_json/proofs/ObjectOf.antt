@@ -3,6 +3,7 @@ use Rattle.pass_json.proofs.Common.{◌≡◌, ℕ, ◌≤◌, Bool, true, false
 use Rattle.pass_json.proofs.Common.{is_utf8, or_from, IsUtf8-from_ascii, IsUtf8-from_is_utf8, encode_of, Data, number, string, array, object, unsigned, Items}
 use Rattle.pass_json.proofs.Common.{item, Members, no_members, member, put, number_of, of_items, of_json, has_float, items_have_float, members_have_float}
 use Rattle.pass_json.proofs.Common.{items_outline, members_outline, outline, Plain, caveat_object, caveat_objects, object_of, put_member, with_location}
+use Rattle.pass_json.proofs.ReadsText.{HasTexts, ItemsHaveTexts, MembersHaveTexts}
 use Rattle.std.specs.Fmt.{digits}
 use Rattle.base64.specs.Engines.{url_safe_no_pad}
 use Rattle.base64.proofs.EngineFacts.{IsAscii-encode_of}
@@ -10,7 +11,6 @@ use Rattle.json.specs.Tree.{HasNumbers, ItemsHaveNumbers, MembersHaveNumbers}
 use Rattle.json.specs.Tree as tree
 use Rattle.json.proofs.Printed.Utf8.{IsUtf8-are_ascii}
 use Rattle.serde_json.proofs.OnLiterals.{serde_json_on_literals}
-use Rattle.pass_json.proofs.ReadsText.{HasTexts, ItemsHaveTexts, MembersHaveTexts}
 
 -- Whether bytes are under the plain name, and their text.
 abbrev pub FieldText : Type 0

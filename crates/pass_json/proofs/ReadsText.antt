@@ -2,14 +2,9 @@
 use Rattle.pass_json.proofs.Common.{◌≡◌, ℕ, ◌≤◌, ◌++◌, Bool, true, false, List, [], ◌∷◌, Option, option_and_then, refl, sym, ap, subst, ◌∙◌, append-nil}
 use Rattle.pass_json.proofs.Common.{append_assoc, IsUtf8, IsUtf8-append, Data, null, boolean, number, string, array, object, Items, no_items, item, Members}
 use Rattle.pass_json.proofs.Common.{no_members, member, max_depth, of_json, read, comma_if, compact_text, items_text, members_text, number_text, outline}
-use Rattle.json.specs.Json.{Json, if_last, value}
-use Rattle.json.specs.Lex.{tokens}
-use Rattle.json.specs.Print.{quoted}
-use Rattle.json.specs.Token.{Token}
-use Rattle.json.specs.Tree.{HasNumbers, json_tokens}
+use Rattle.json.specs.{Json.{Json, if_last, value}, Lex.tokens, Print.quoted, Token.Token, Tree.{HasNumbers, json_tokens}}
 use Rattle.json.specs.Tree as tree
-use Rattle.json.proofs.Printed.Tokens.{tokens-print}
-use Rattle.json.proofs.Printed.Trees.{ArePrintable-json_tokens, value-json_tokens}
+use Rattle.json.proofs.Printed.{Tokens.tokens-print, Trees.{ArePrintable-json_tokens, value-json_tokens}}
 use Rattle.json.proofs.Printed.Utf8.{IsUtf8-are_ascii, IsUtf8-boolean, IsUtf8-key, IsUtf8-quoted}
 use Rattle.serde_json.proofs.Texts.{print-outline}
 

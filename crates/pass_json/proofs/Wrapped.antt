@@ -1,9 +1,8 @@
 -- The reading of a text by what it wraps.
 use Rattle.pass_json.proofs.Common.{◌≡◌, ◌↔◌, ℕ, ◌≤◌, List, length, Result, Ok, Err, ◌⊎◌, inl, inr, arith, FormFault, TooLong, Malformed, Form, Json}
 use Rattle.pass_json.proofs.Common.{IsUnwrapped, Wraps, WrapsOne, Plain, WidePass, as_wide_pass, IsReadAs, max_text_len, IsAnyReading, IsReadingInForm}
-use Rattle.pass_json.proofs.Common.{MayRunOut, SpellsForm}
+use Rattle.pass_json.proofs.{Common.{MayRunOut, SpellsForm}, SameReading.{Spelling, same_answer}}
 use Rattle.pass_forms.specs.Text.{SpellsText}
-use Rattle.pass_json.proofs.SameReading.{Spelling, same_answer}
 
 -- what the envelope refuses
 pub refused_wrapping : (text : List ℕ) (fault : FormFault) → IsUnwrapped text (Err fault) → IsAnyReading text (Err fault)

@@ -1,11 +1,10 @@
 -- What the writer of JSON answers, and that its text is read back.
 use Rattle.pass_json.proofs.Common.{◌≡◌, ◌↔◌, ℕ, Bool, cond, ltb, List, length, Result, Ok, Err, refl, FormFault, TooLong, TooMany, Json, FromBase64IsBase64}
 use Rattle.pass_json.proofs.Common.{Plain, max_caveats, max_text_len, HasBytes, IsReadBack, IsWritableText, IsWriting, SpellsJson, IsJsonText, IsRefusedJson}
-use Rattle.pass_json.proofs.Common.{MayFailAs, json_text, WritesJsonExactly, arith}
+use Rattle.pass_json.proofs.{Common.{MayFailAs, json_text, WritesJsonExactly, arith}, WritingOnce.one_writing_for_each_form}
+use Rattle.pass_json.proofs.WrittenJson.{spells_json, starts_json}
 use Rattle.std.specs.Result.{IfErr, IfOk, MatchResult, OnOk}
 use Rattle.pass_json.specs.computed.JsonWriting.{writing_json}
-use Rattle.pass_json.proofs.WritingOnce.{one_writing_for_each_form}
-use Rattle.pass_json.proofs.WrittenJson.{spells_json, starts_json}
 use Rattle.std.proofs.lemmas.Bool.Decides.{nat_tests}
 
 abbrev answer_by : Bool → Bool → List ℕ → Result (List ℕ) FormFault

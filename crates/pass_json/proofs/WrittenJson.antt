@@ -2,14 +2,11 @@
 use Rattle.pass_json.proofs.Common.{◌≡◌, ℕ, Bool, true, false, eqb, List, [], ◌∷◌, length, map, Option, Some, None, refl, ap, ◌∙◌, arith, AllByRecursion}
 use Rattle.pass_json.proofs.Common.{IsUtf8, is_utf8, eq-eqb, IsBytes, encode_of, object, Items, no_members, read, FromBase64IsBase64, starts_with_brace, Plain}
 use Rattle.pass_json.proofs.Common.{WideCaveat, as_wide_pass, widened_caveat, HasBytes, SpellsJson, caveat_from, caveats_of, field_from, has_only_names}
-use Rattle.pass_json.proofs.Common.{pass_from, caveat_object, caveat_objects, json_text, object_of}
+use Rattle.pass_json.proofs.{Common.{pass_from, caveat_object, caveat_objects, json_text, object_of}, JsonExact.pass_takes}
+use Rattle.pass_json.proofs.ObjectOf.{FieldText, caveat_is, identified, object_is, object_is_fine, object_reads, field_text, text_by_test, location_text, whole}
+use Rattle.pass_json.proofs.ReadsText.{reads_text, utf8_text}
 use Rattle.base64.specs.Engines.{url_safe_no_pad}
 use Rattle.pass_forms.specs.computed.Envelope.{from_base64}
-use Rattle.pass_json.proofs.JsonExact.{pass_takes}
-use Rattle.pass_json.proofs.ObjectOf.{FieldText, caveat_is, identified, object_is, object_is_fine, object_reads, field_text}
-use Rattle.pass_json.proofs.ObjectOf.{text_by_test}
-use Rattle.pass_json.proofs.ObjectOf.{location_text, whole}
-use Rattle.pass_json.proofs.ReadsText.{reads_text, utf8_text}
 
 -- ---- the members hold the parts of the pass
 

@@ -1,17 +1,8 @@
 -- Pass texts in any of the three forms (ours): how they are read and written.
 use Rattle.std.specs.Prelude.{◌≡◌, ◌⊎◌, ℕ, List, length, Result, Ok, Err}
-use Rattle.pass_forms.specs.declared.fault.FormFault.{FormFault}
-use Rattle.pass_forms.specs.declared.form.Form.{Form}
-use Rattle.pass_forms.specs.declared.form.Form.TheVariants.{V1, V2, Json}
-use Rattle.pass_forms.specs.Envelope.{IsUnwrapped}
-use Rattle.pass_forms.specs.Pass.{Plain, WidePass}
-use Rattle.pass_forms.specs.Reading.{IsReadAs}
-use Rattle.pass_forms.specs.Text.{IsTextReading}
-use Rattle.pass_forms.specs.V1.{SpellsV1}
-use Rattle.pass_forms.specs.V2.{SpellsV2}
-use Rattle.pass_json.specs.Json.{SpellsJson}
-use Rattle.pass_forms.specs.Writing.{IsWriteFault, IsV1Text, IsV2Text}
-use Rattle.pass_json.specs.JsonWriting.{IsJsonText, IsRefusedJson}
+use Rattle.pass_forms.specs.{Envelope.IsUnwrapped, Pass.{Plain, WidePass}, Reading.IsReadAs, Text.IsTextReading, V1.SpellsV1, V2.SpellsV2}
+use Rattle.pass_forms.specs.{Writing.{IsWriteFault, IsV1Text, IsV2Text}, declared.{fault.FormFault.FormFault, form.Form.{Form, TheVariants.{V1, V2, Json}}}}
+use Rattle.pass_json.specs.{Json.SpellsJson, JsonWriting.{IsJsonText, IsRefusedJson}}
 
 -- Bytes spell a wide pass in this form.
 abbrev pub SpellsForm : Form → List ℕ → WidePass → Type 0

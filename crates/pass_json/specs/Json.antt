@@ -1,11 +1,8 @@
 -- The JSON spelling of a pass: one object, after libmacaroons' V2 JSON. Which names may be left out, and that a `64` name
 -- takes either alphabet of base64, is ours.
 use Rattle.std.specs.Prelude.{◌≡◌, ◌⊎◌, ℕ, List, [], ◌∷◌, codes, length, Option, None, Some, unwrap_or, IsSome, IsUtf8, Contains}
-use Rattle.serde_json.specs.Data.{Data, number, string, array, unsigned, Items, no_items, item}
-use Rattle.serde_json.specs.Find.{get}
-use Rattle.serde_json.specs.Read.{read}
-use Rattle.pass_forms.specs.Envelope.{IsBase64}
-use Rattle.pass_forms.specs.Pass.{WideCaveat, WidePass}
+use Rattle.serde_json.specs.{Data.{Data, number, string, array, unsigned, Items, no_items, item}, Find.get, Read.read}
+use Rattle.pass_forms.specs.{Envelope.IsBase64, Pass.{WideCaveat, WidePass}}
 
 -- Bytes are under a plain name, as a text that has these bytes in UTF-8, or under a `64` name, as a text that is base64
 -- of them. They are never under both, and may be under neither.

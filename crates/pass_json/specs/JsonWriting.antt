@@ -1,16 +1,9 @@
 -- The JSON text of a pass, and the writer's faults.
-use Rattle.std.specs.Prelude.{◌≡◌, ℕ, ◌≤◌, if◌then◌else◌, List, [], ◌∷◌, codes, length, map, Result, Err}
-use Rattle.std.specs.Str.{is_utf8}
-use Rattle.base64.specs.Engines.{url_safe_no_pad}
-use Rattle.base64.specs.GeneralPurpose.{encode_of}
-use Rattle.serde_json.specs.Data.{Data, number, string, array, object, unsigned, Items, Members, no_members, put}
-use Rattle.serde_json.specs.View.{items_of}
-use Rattle.serde_json.specs.Written.{compact_text}
-use Rattle.pass_forms.specs.declared.fault.FormFault.{FormFault}
+use Rattle.std.specs.{Prelude.{◌≡◌, ℕ, ◌≤◌, if◌then◌else◌, List, [], ◌∷◌, codes, length, map, Result, Err}, Str.is_utf8}
+use Rattle.base64.specs.{Engines.url_safe_no_pad, GeneralPurpose.encode_of}
+use Rattle.serde_json.specs.{Data.{Data, number, string, array, object, unsigned, Items, Members, no_members, put}, View.items_of, Written.compact_text}
+use Rattle.pass_forms.specs.{Pass.{Plain, as_wide_pass}, Reading.max_caveats, Writing.IsWriteFault, declared.fault.FormFault.FormFault}
 use Rattle.pass_forms.specs.declared.fault.FormFault.TheVariants.{TooLong, Malformed, ThirdParty, TooMany, Memory}
-use Rattle.pass_forms.specs.Pass.{Plain, as_wide_pass}
-use Rattle.pass_forms.specs.Reading.{max_caveats}
-use Rattle.pass_forms.specs.Writing.{IsWriteFault}
 use Rattle.pass_json.specs.Json.{SpellsJson}
 
 -- URL-safe base64 (RFC 4648, section 5), without padding

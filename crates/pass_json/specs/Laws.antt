@@ -1,18 +1,10 @@
 -- Laws of the definitions.
 use Rattle.std.specs.Prelude.{◌≡◌, ◌↔◌, ℕ, List, length, Ok, ◌≤◌, Result, Err}
-use Rattle.pass_forms.specs.declared.form.Form.TheVariants.{Json}
-use Rattle.pass_forms.specs.Pass.{Plain}
-use Rattle.pass_forms.specs.Writing.{HasBytes, IsReadBack, IsWritableText, IsWriting}
-use Rattle.pass_json.specs.Json.{SpellsJson}
-use Rattle.pass_json.specs.JsonWriting.{IsJsonText}
+use Rattle.pass_forms.specs.{Envelope.IsUnwrapped, Pass.Plain, Reading.max_text_len, Writing.{HasBytes, IsReadBack, IsWritableText, IsWriting}}
+use Rattle.pass_forms.specs.declared.{fault.FormFault.FormFault, form.Form.{Form, TheVariants.Json}}
+use Rattle.pass_json.specs.{AnyForm.{IsAnyReading, IsReadingInForm, IsTextIn}, Json.SpellsJson, JsonWriting.IsJsonText, computed.AnyForm.{reading, writing}}
 use Rattle.pass_json.specs.computed.JsonWriting.{writing_json}
 use Rattle.base64.specs.GeneralPurpose.{IsBytes}
-use Rattle.pass_forms.specs.declared.fault.FormFault.{FormFault}
-use Rattle.pass_forms.specs.declared.form.Form.{Form}
-use Rattle.pass_forms.specs.Envelope.{IsUnwrapped}
-use Rattle.pass_forms.specs.Reading.{max_text_len}
-use Rattle.pass_json.specs.AnyForm.{IsAnyReading, IsReadingInForm, IsTextIn}
-use Rattle.pass_json.specs.computed.AnyForm.{reading, writing}
 
 -- A written text is read back as the same pass.
 abbrev pub JsonReadsBack : Type 0

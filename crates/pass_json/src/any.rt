@@ -2,20 +2,13 @@
 
 ghost use Rattle.std.specs.Prelude.{◌≡◌, ◌⊎◌, Err, IfErr, IfOk, MatchResult, Ok, length};
 ghost use Rattle.std.specs.String.{string_bytes};
+ghost use Rattle.pass_forms.specs.{Pass.Plain, Reading.{IsReadAs, UnlessMemory}};
+ghost use Rattle.pass_forms.specs.Writing.{IsWritableText};
 ghost use Rattle.pass_forms.specs.declared.fault.FormFault.TheVariants.{Memory};
 ghost use Rattle.pass_forms.specs.declared.form.Form.TheVariants.{Json};
-ghost use Rattle.pass_forms.specs.Pass.{Plain};
-ghost use Rattle.pass_forms.specs.Writing.{IsWritableText};
-ghost use Rattle.pass_forms.specs.Reading.{IsReadAs, UnlessMemory};
-ghost use Rattle.pass_json.specs.AnyForm.{
-  IsAnyReading,
-  IsRefusedIn,
-  IsTextIn,
-  MayRunOut,
-  SpellsForm,
-};
+ghost use Rattle.pass_json.specs.AnyForm.{IsAnyReading, IsRefusedIn, IsTextIn, MayRunOut};
+ghost use Rattle.pass_json.specs.{AnyForm.SpellsForm, JsonWriting.MayFailAs};
 ghost use Rattle.pass_json.specs.computed.AnyForm.{reading, writing};
-ghost use Rattle.pass_json.specs.JsonWriting.{MayFailAs};
 
 use crate::laws::{reads_any_form_exactly, reads_what_is_wrapped, refuses_what_wraps_nothing};
 use crate::{read_json, write_json};

@@ -1,8 +1,7 @@
 //! One field of an object: bytes under a plain name, or under a `64` name.
 
 ghost use Rattle.std.specs.Prelude.{◌≡◌, Some, option_map, IfErr, IfOk};
-ghost use Rattle.serde_json.specs.Find.{as_str};
-ghost use Rattle.serde_json.specs.View.{view};
+ghost use Rattle.serde_json.specs.{Find.as_str, View.view};
 ghost use Rattle.pass_json.specs.computed.JsonReading.{decoded_text, field_from, RefusesPart};
 
 use pass_forms::{FormFault, decode_base64};

@@ -1,21 +1,12 @@
 //! Laws of the definitions. Each law is the contract of a function that only cites the laws that it
 //! uses.
 
-ghost use Rattle.pass_json.specs.Laws.{
-  AnyFormReadsBack,
-  OneReadingEachText,
-  OneTextEachForm,
-  OneWritingEachForm,
-  ReadsAnyFormExactly,
-  ReadsWhatIsWrapped,
-  RefusesWhatWrapsNothing,
-  WritesAnyFormExactly,
-  JsonReadsBack,
-  WritesJsonExactly,
-};
-ghost use Rattle.pass_forms.specs.Laws.{ComputesSpelled, OnePassEach, ReadsExactly};
-ghost use Rattle.pass_json.specs.Json.{SpellsJson};
+ghost use Rattle.pass_json.specs.{Json.SpellsJson, Laws.{AnyFormReadsBack, OneReadingEachText}};
+ghost use Rattle.pass_json.specs.Laws.{OneTextEachForm, OneWritingEachForm, ReadsAnyFormExactly};
+ghost use Rattle.pass_json.specs.Laws.{ReadsWhatIsWrapped, RefusesWhatWrapsNothing};
+ghost use Rattle.pass_json.specs.Laws.{WritesAnyFormExactly, JsonReadsBack, WritesJsonExactly};
 ghost use Rattle.pass_json.specs.computed.JsonReading.{reading_json, wide_json};
+ghost use Rattle.pass_forms.specs.Laws.{ComputesSpelled, OnePassEach, ReadsExactly};
 
 use pass_forms::laws::{
     answers_exactly, computes_v1, computes_v2, from_base64_is_base64, reads_texts_exactly,

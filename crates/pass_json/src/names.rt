@@ -1,10 +1,7 @@
 //! The names of an object's members.
 
-ghost use Rattle.std.specs.Prelude.{◌≡◌, map};
-ghost use Rattle.std.specs.BTreeMap.{keys};
-ghost use Rattle.std.specs.List.{list_all, list_any};
-ghost use Rattle.std.specs.Str.{bytes_eq};
-ghost use Rattle.std.specs.String.{string_bytes};
+ghost use Rattle.std.specs.{BTreeMap.keys, List.{list_all, list_any}, Prelude.{◌≡◌, map}};
+ghost use Rattle.std.specs.{Str.bytes_eq, String.string_bytes};
 ghost use Rattle.serde_json.specs.View.{view};
 ghost use Rattle.pass_json.specs.computed.JsonReading as reading;
 

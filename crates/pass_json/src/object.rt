@@ -2,8 +2,7 @@
 
 ghost use Rattle.std.specs.Prelude.{◌≡◌, Some, codes, option_map, map, IfErr, IfOk};
 ghost use Rattle.pass_forms.specs.computed.Reading.{pass_summary};
-ghost use Rattle.serde_json.specs.Find.{get};
-ghost use Rattle.serde_json.specs.View.{items_view, view};
+ghost use Rattle.serde_json.specs.{Find.get, View.{items_view, view}};
 ghost use Rattle.pass_json.specs.computed.JsonReading as reading;
 ghost use Rattle.pass_json.specs.computed.JsonReading.{RefusesPart, kept_caveat, kept_caveats};
 

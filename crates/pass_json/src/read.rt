@@ -1,12 +1,11 @@
 //! The reader of the JSON form.
 
 ghost use Rattle.std.specs.Prelude.{◌≡◌, ◌≤◌, length, Err, IfErr, IfOk, Some};
-ghost use Rattle.pass_forms.specs.declared.fault.FormFault.TheVariants.{Memory};
 ghost use Rattle.pass_forms.specs.Reading.{IsReadAs, UnlessMemory, max_text_len};
+ghost use Rattle.pass_forms.specs.declared.fault.FormFault.TheVariants.{Memory};
 ghost use Rattle.serde_json.specs.View.{view};
-ghost use Rattle.pass_json.specs.Json.{SpellsJson};
+ghost use Rattle.pass_json.specs.{Json.SpellsJson, computed.JsonReading.RefusesPart};
 ghost use Rattle.pass_json.specs.computed.JsonReading as reading;
-ghost use Rattle.pass_json.specs.computed.JsonReading.{RefusesPart};
 
 use crate::laws::reads_json_exactly;
 use crate::object;

@@ -1,24 +1,16 @@
 //! The writer of the JSON form.
 
-ghost use Rattle.std.specs.Prelude.{◌≡◌, Ok, length, map, IfErr, IfOk, MatchResult, OnOk};
 ghost use Rattle.std.specs.List.{AllByRecursion};
+ghost use Rattle.std.specs.Prelude.{◌≡◌, Ok, length, map, IfErr, IfOk, MatchResult, OnOk};
 ghost use Rattle.std.specs.String.{string_bytes};
 ghost use Rattle.base64.specs.GeneralPurpose.{IsBytes};
-ghost use Rattle.serde_json.specs.Data.{array};
-ghost use Rattle.serde_json.specs.View.{members_view, view};
+ghost use Rattle.serde_json.specs.{Data.array, View.{members_view, view}};
 ghost use Rattle.pass_json.specs.JsonWriting as spec;
-ghost use Rattle.pass_forms.specs.declared.form.Form.TheVariants.{Json};
 ghost use Rattle.pass_forms.specs.Writing.{HasBytes, IsReadBack, IsWritableText};
-ghost use Rattle.pass_json.specs.Json.{SpellsJson};
-ghost use Rattle.pass_json.specs.JsonWriting.{
-  MayFailAs,
-  IsJsonText,
-  IsRefusedJson,
-  base64_text,
-  put_member,
-  with_location,
-};
-ghost use Rattle.pass_json.specs.computed.JsonWriting.{writing_json};
+ghost use Rattle.pass_forms.specs.declared.form.Form.TheVariants.{Json};
+ghost use Rattle.pass_json.specs.{Json.SpellsJson, JsonWriting.{MayFailAs, IsJsonText}};
+ghost use Rattle.pass_json.specs.JsonWriting.{IsRefusedJson, base64_text, put_member};
+ghost use Rattle.pass_json.specs.{JsonWriting.with_location, computed.JsonWriting.writing_json};
 
 use crate::laws::{json_reads_back, writes_json_exactly};
 use base64::engine::general_purpose::URL_SAFE_NO_PAD;

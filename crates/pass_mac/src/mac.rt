@@ -1,7 +1,6 @@
 //! HMAC-SHA-256, key derivation, and the comparison of signatures.
 
-ghost use Rattle.std.specs.Prelude.{◌≡◌, ◌↔◌, IsTrue};
-ghost use Rattle.std.specs.Str.{bytes_eq};
+ghost use Rattle.std.specs.{Prelude.{◌≡◌, ◌↔◌, IsTrue}, Str.bytes_eq};
 ghost use Rattle.pass_mac.specs.Hmac as spec;
 ghost use Rattle.pass_mac.specs.Chain.{derived_key};
 

@@ -1,21 +1,13 @@
 -- Laws on what the commands answer.
-use Rattle.std.proofs.Common.{◌≡◌, ◌∙◌, ℕ, ◌+◌, nat_lt, List, length, Result, Ok, Err, MatchResult, refl, sym, ap, subst, codes}
-use Rattle.std.proofs.lemmas.List.Sums.{fold-append}
+use Rattle.std.proofs.Common.{◌≡◌, ◌∙◌, ℕ, ◌+◌, nat_lt, List, length, Result, Ok, Err, MatchResult, refl, sym, ap, subst, codes, inl, inr}
+use Rattle.std.proofs.lemmas.{Bool.cases_Bool, List.Sums.fold-append}
 use Rattle.std.specs.Io.BufRead.{strip_last}
-use Rattle.std.proofs.lemmas.Bool.{cases_Bool}
-use Rattle.std.proofs.Common.{inl, inr}
-use Rattle.pass_mac.specs.Chain.{derived_key, extended_signature}
-use Rattle.pass_mac.specs.Hmac.{hmac}
-use Rattle.pass_forms.specs.Pass.{IsSigned, Plain}
-use Rattle.pass_forms.specs.Reading.{max_caveats}
-use Rattle.pass_forms.specs.declared.fault.FormFault.{FormFault}
-use Rattle.pass_forms.specs.declared.form.Form.{Form}
+use Rattle.pass_mac.specs.{Chain.{derived_key, extended_signature}, Hmac.hmac}
+use Rattle.pass_forms.specs.{Pass.{IsSigned, Plain}, Reading.max_caveats, declared.{fault.FormFault.FormFault, form.Form.Form}}
 use Rattle.pass_json.specs.Laws.{OneReadingEachText, OneWritingEachForm}
 use Rattle.passtool_commands.specs.Answer.{IsVerdict, OutcomeText, ReadsPass, WritesPass, narrowing, new_pass, with_caveats}
-use Rattle.passtool_commands.specs.Laws.{AnswersOnce, MintSigns, NarrowingKeepsSigned, VerifyDecidesSigned}
-use Rattle.passtool_commands.specs.Shown.{shown_text, with_line_feed}
-use Rattle.passtool_commands.specs.declared.answer.Outcome.TheVariants.{Done, NotSigned}
-use Rattle.passtool_commands.specs.declared.command.Command.TheVariants.{Mint, Show, Narrow, Convert, Verify}
+use Rattle.passtool_commands.specs.{Laws.{AnswersOnce, MintSigns, NarrowingKeepsSigned, VerifyDecidesSigned}, Shown.{shown_text, with_line_feed}}
+use Rattle.passtool_commands.specs.declared.{answer.Outcome.TheVariants.{Done, NotSigned}, command.Command.TheVariants.{Mint, Show, Narrow, Convert, Verify}}
 use Rattle.passtool_commands.proofs.StepLemmas.{HasOne, one_only, one_then}
 
 narrowed_to : (caveats : List (List ℕ)) (pass narrowed_pass : Plain) → narrowing caveats pass ≡ Ok narrowed_pass → with_caveats caveats pass ≡ narrowed_pass

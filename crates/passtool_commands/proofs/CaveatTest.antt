@@ -1,18 +1,10 @@
 -- There is one test of caveats, by which arguments ask for one command.
-use Rattle.std.proofs.Common.{◌≡◌, ◌↔◌, Bool, true, false, IsTrue, is_some, List, Option, Some, None, Result, refl, sym, ap, subst}
-use Rattle.std.proofs.Math.Path.{fun_ext}
+use Rattle.std.proofs.{Common.{◌≡◌, ◌↔◌, Bool, true, false, IsTrue, is_some, List, Option, Some, None, Result, refl, sym, ap, subst}, Math.Path.fun_ext}
 use Rattle.clap.specs.Words.{Row, Text}
-use Rattle.command_line.specs.Job.{Answers}
-use Rattle.command_line.specs.JobLaws.{RowsAnswerOnce, ReadsOnce}
-use Rattle.command_line.specs.declared.errors.ArgumentsFault.{ArgumentsFault}
-use Rattle.pass_caveats.specs.Laws.{ReadsWhatIsUnderstood}
-use Rattle.pass_caveats.specs.computed.CaveatOf.{caveat_of}
-use Rattle.pass_caveats.specs.declared.caveat.Caveat.{Caveat}
-use Rattle.passtool_commands.specs.Arguments.{IsCaveatTest, IsCaveatText, ReadsCommand, command_of}
-use Rattle.passtool_commands.specs.computed.Arguments.{is_understood}
-use Rattle.passtool_commands.specs.declared.answer.BadValue.{BadValue as OurBadValue}
-use Rattle.passtool_commands.specs.declared.command.Command.{Command}
-use Rattle.passtool_commands.specs.declared.table.Name.{Name}
+use Rattle.command_line.specs.{Job.Answers, JobLaws.{RowsAnswerOnce, ReadsOnce}, declared.errors.ArgumentsFault.ArgumentsFault}
+use Rattle.pass_caveats.specs.{Laws.ReadsWhatIsUnderstood, computed.CaveatOf.caveat_of, declared.caveat.Caveat.Caveat}
+use Rattle.passtool_commands.specs.{Arguments.{IsCaveatTest, IsCaveatText, ReadsCommand, command_of}, computed.Arguments.is_understood}
+use Rattle.passtool_commands.specs.declared.{answer.BadValue.BadValue as OurBadValue, command.Command.Command, table.Name.Name}
 
 same_test : (a b : Bool) (P : Type 0) → IsTrue a ↔ P → IsTrue b ↔ P → a ≡ b
 same_test true b P h k = sym (k.1 (h.0 refl))

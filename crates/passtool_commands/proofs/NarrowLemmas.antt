@@ -1,15 +1,8 @@
 -- Lemmas on caveats that are added in turn.
-use Rattle.std.proofs.Common.{◌≡◌, ◌∙◌, ℕ, ◌+◌, ◌<◌, ◌≤◌, List, [], ◌∷◌, length, map, drop, Result, Ok, Err, IsOk, inl, inr, ap, sym, refl, append_assoc}
-use Rattle.std.proofs.Common.{arith}
-use Rattle.std.proofs.lemmas.Bool.{cases_lt, le-ltb, lt-ltb}
-use Rattle.std.proofs.lemmas.List.{append-nil, drop_more, length-append, length-map}
-use Rattle.std.specs.Borrow.{Bor}
-use Rattle.std.specs.List.{slice_index_or}
-use Rattle.std.proofs.Math.ListN.{drop_of_length-le}
-use Rattle.pass_forms.specs.Pass.{Plain}
-use Rattle.pass_forms.specs.Reading.{UnlessMemory, max_caveats}
-use Rattle.pass_forms.specs.Writing.{IsNarrowingFault, with_caveat}
-use Rattle.pass_forms.specs.declared.fault.FormFault.{FormFault}
+use Rattle.std.proofs.Common.{◌≡◌, ◌∙◌, ℕ, ◌+◌, ◌<◌, ◌≤◌, List, [], ◌∷◌, length, map, drop, Result, Ok, Err, IsOk, inl, inr, ap, sym, refl, append_assoc, arith}
+use Rattle.std.proofs.{Math.ListN.drop_of_length-le, lemmas.{Bool.{cases_lt, le-ltb, lt-ltb}, List.{append-nil, drop_more, length-append, length-map}}}
+use Rattle.std.specs.{Borrow.Bor, List.slice_index_or}
+use Rattle.pass_forms.specs.{Pass.Plain, Reading.{UnlessMemory, max_caveats}, Writing.{IsNarrowingFault, with_caveat}, declared.fault.FormFault.FormFault}
 use Rattle.pass_forms.specs.declared.fault.FormFault.TheVariants.{TooMany, Memory}
 use Rattle.passtool_commands.specs.Answer.{narrowing, with_caveats}
 

@@ -1,11 +1,8 @@
 -- Lemmas on what clap found of a command's options.
-use Rattle.std.proofs.lemmas.List.{length-map}
-use Rattle.std.specs.List.{position, prefix_len}
-use Rattle.std.proofs.Common.{◌≡◌, ◌∙◌, ◌+◌, Bool, cond, not, List, [], ◌∷◌, map, Option, option_map, unwrap_or, ap, refl}
-use Rattle.std.specs.Borrow.{Bor}
-use Rattle.clap.specs.Words.{Text, all_of, matched_of, raw_values, rows_of}
+use Rattle.std.proofs.{Common.{◌≡◌, ◌∙◌, ◌+◌, Bool, cond, not, List, [], ◌∷◌, map, Option, option_map, unwrap_or, ap, refl}, lemmas.List.length-map}
+use Rattle.std.specs.{Borrow.Bor, List.{position, prefix_len}}
+use Rattle.clap.specs.{Words.{Text, all_of, matched_of, raw_values, rows_of}, declared.parser.matches.Found.Found}
 use Rattle.clap.proofs.WalkLemmas.{raw_values-rows}
-use Rattle.clap.specs.declared.parser.matches.Found.{Found}
 
 -- the values of an argument as the code reads them
 pub values_read : (options : Found) (id : Text) (given : Option (List Text)) → given ≡ option_map raw_values (matched_of options id)

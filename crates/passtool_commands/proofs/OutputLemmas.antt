@@ -1,19 +1,10 @@
 -- What is written of a pass.
-use Rattle.std.proofs.Common.{◌≡◌, ℕ, List, Ok, Err, ap, sym, arith}
-use Rattle.std.proofs.lemmas.Grind.{common_steps}
+use Rattle.std.proofs.{Common.{◌≡◌, ℕ, List, Ok, Err, ap, sym, arith}, lemmas.Grind.common_steps}
 use Rattle.std.specs.Io.BufRead.{strip_last}
-use Rattle.pass_forms.specs.Pass.{Plain}
-use Rattle.pass_forms.specs.Reading.{UnlessMemory}
-use Rattle.pass_forms.specs.Writing.{IsV1Text, IsV2Text, IsWritableText, IsWriteFault, IsWriting}
-use Rattle.pass_forms.specs.declared.fault.FormFault.{FormFault}
-use Rattle.pass_forms.specs.declared.fault.FormFault.TheVariants.{TooLong, TooMany, Memory}
-use Rattle.pass_forms.specs.declared.form.Form.{Form}
-use Rattle.pass_forms.specs.declared.form.Form.TheVariants.{V1, V2, Json}
-use Rattle.pass_json.specs.AnyForm.{IsAnyReading, IsRefusedIn, IsTextIn}
-use Rattle.pass_json.specs.JsonWriting.{IsJsonText}
-use Rattle.passtool_commands.specs.Answer.{AnswersText, OutcomeText, WritesPass}
-use Rattle.passtool_commands.specs.Shown.{with_line_feed}
-use Rattle.passtool_commands.specs.declared.answer.Outcome.TheVariants.{Done}
+use Rattle.pass_forms.specs.{Pass.Plain, Reading.UnlessMemory, Writing.{IsV1Text, IsV2Text, IsWritableText, IsWriteFault, IsWriting}}
+use Rattle.pass_forms.specs.declared.{fault.FormFault.{FormFault, TheVariants.{TooLong, TooMany, Memory}}, form.Form.{Form, TheVariants.{V1, V2, Json}}}
+use Rattle.pass_json.specs.{AnyForm.{IsAnyReading, IsRefusedIn, IsTextIn}, JsonWriting.IsJsonText}
+use Rattle.passtool_commands.specs.{Answer.{AnswersText, OutcomeText, WritesPass}, Shown.with_line_feed, declared.answer.Outcome.TheVariants.Done}
 use Rattle.passtool_commands.proofs.StepLemmas.{fails}
 
 -- a writer's fault is one of writing the pass, unless memory ran out

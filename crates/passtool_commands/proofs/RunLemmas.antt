@@ -2,25 +2,13 @@
 use Rattle.std.proofs.Common.{◌≡◌, ℕ, List, Option, Result, Ok, Err, inl, inr, refl, ap₂, subst, sym}
 use Rattle.std.specs.Io.KnownBytes.{Appends}
 use Rattle.clap.specs.Words.{Text}
-use Rattle.command_line.specs.Output.{AppendsFront}
-use Rattle.command_line.specs.declared.errors.ArgumentsFault.{ArgumentsFault}
-use Rattle.command_line.specs.declared.errors.ArgumentsFault.TheVariants.{BadValue, Memory as OutOfMemory}
+use Rattle.command_line.specs.{Output.AppendsFront, declared.errors.ArgumentsFault.{ArgumentsFault, TheVariants.{BadValue, Memory as OutOfMemory}}}
 use Rattle.command_line.specs.declared.job.Asked.TheVariants.{Perform}
-use Rattle.pass_forms.specs.Reading.{UnlessMemory}
-use Rattle.pass_forms.specs.declared.fault.FormFault.{FormFault}
-use Rattle.pass_forms.specs.declared.fault.FormFault.TheVariants.{Memory}
-use Rattle.passtool_commands.specs.Answer.{IsAnswer, OutcomeText, reads_input}
-use Rattle.passtool_commands.specs.Fault.{of_arguments}
-use Rattle.passtool_commands.specs.Run.{AnswersArguments, Performs, ReadsInput, Writes, WritesFront}
-use Rattle.passtool_commands.specs.Arguments.{AskForCommand, ReadsArguments}
-use Rattle.passtool_commands.specs.declared.answer.BadValue.{BadValue as OurBadValue}
-use Rattle.passtool_commands.specs.declared.answer.BadValue.TheVariants.{Root}
-use Rattle.passtool_commands.specs.declared.answer.Fault.{Fault}
-use Rattle.passtool_commands.specs.declared.answer.Fault.TheVariants.{Pass, InputOutput}
-use Rattle.passtool_commands.specs.declared.answer.Outcome.{Outcome}
-use Rattle.passtool_commands.specs.declared.answer.Outcome.TheVariants.{Done}
-use Rattle.passtool_commands.specs.declared.command.Command.{Command}
-use Rattle.passtool_commands.specs.Laws.{AskForOneCommand}
+use Rattle.pass_forms.specs.{Reading.UnlessMemory, declared.fault.FormFault.{FormFault, TheVariants.Memory}}
+use Rattle.passtool_commands.specs.{Answer.{IsAnswer, OutcomeText, reads_input}, Arguments.{AskForCommand, ReadsArguments}, Fault.of_arguments}
+use Rattle.passtool_commands.specs.{Laws.AskForOneCommand, Run.{AnswersArguments, Performs, ReadsInput, Writes, WritesFront}}
+use Rattle.passtool_commands.specs.declared.answer.{BadValue.{BadValue as OurBadValue, TheVariants.Root}, Fault.{Fault, TheVariants.{Pass, InputOutput}}}
+use Rattle.passtool_commands.specs.declared.{answer.Outcome.{Outcome, TheVariants.Done}, command.Command.Command}
 
 module _ (command : Command) (left left' held held' : Option (List ℕ)) (bytes : List ℕ) (reads : ReadsInput (reads_input command) left left' bytes) where
   module _ (ending : OutcomeText) (is : IsAnswer command bytes (Ok ending)) where

@@ -1,12 +1,8 @@
 -- Lemmas on what `show` writes.
-use Rattle.std.proofs.Common.{◌≡◌, ◌∙◌, ℕ, ◌+◌, ◌<◌, ◌≤◌, List, ◌∷◌, ◌++◌, length, map, drop, ap, ap₂, sym, append_assoc}
-use Rattle.std.proofs.lemmas.List.{append-nil, drop_more}
-use Rattle.std.specs.Prelude.{Vec, codes}
-use Rattle.std.proofs.Common.{Global}
-use Rattle.std.specs.Fmt.{decimal}
+use Rattle.std.proofs.Common.{◌≡◌, ◌∙◌, ℕ, ◌+◌, ◌<◌, ◌≤◌, List, ◌∷◌, ◌++◌, length, map, drop, ap, ap₂, sym, append_assoc, Global}
+use Rattle.std.proofs.{Math.ListN.drop_of_length-le, lemmas.List.{append-nil, drop_more}}
+use Rattle.std.specs.{Fmt.decimal, List.slice_index_or, Prelude.{Vec, codes}}
 use Rattle.passtool_commands.specs.Shown.{caveat_lines, escaped_text, escaped_byte, value_line}
-use Rattle.std.specs.List.{slice_index_or}
-use Rattle.std.proofs.Math.ListN.{drop_of_length-le}
 
 -- one byte more was written, of those that are left
 pub byte_written : (bytes : List ℕ) (i d : ℕ) (old new whole : List ℕ) → i < length bytes → new ≡ old ++ escaped_byte (slice_index_or bytes i d)

@@ -1,8 +1,6 @@
 -- Steps that may fail, one after the other.
 use Rattle.std.proofs.Common.{◌≡◌, ◌∙◌, Result, Ok, Err, MatchResult, refl, sym, subst}
-use Rattle.pass_forms.specs.Reading.{UnlessMemory}
-use Rattle.pass_forms.specs.declared.fault.FormFault.{FormFault}
-use Rattle.pass_forms.specs.declared.fault.FormFault.TheVariants.{Memory}
+use Rattle.pass_forms.specs.{Reading.UnlessMemory, declared.fault.FormFault.{FormFault, TheVariants.Memory}}
 use Rattle.passtool_commands.specs.Answer.{IsOnly, Results, ◌>>=◌}
 
 module _ {A B : Type 0} (step : Results A) (rest : A → Results B) where

@@ -1,21 +1,13 @@
 -- What each command answers (ours).
-use Rattle.std.specs.Prelude.{◌≡◌, ℕ, ◌+◌, Bool, true, false, nat_lt, if◌then◌else◌, List, ◌++◌, length, codes, Result, Ok, Err, MatchResult}
 use Rattle.std.specs.Io.BufRead.{strip_last}
+use Rattle.std.specs.Prelude.{◌≡◌, ℕ, ◌+◌, Bool, true, false, nat_lt, if◌then◌else◌, List, ◌++◌, length, codes, Result, Ok, Err, MatchResult}
 use Rattle.pass_mac.specs.Chain.{extended_signature}
-use Rattle.pass_forms.specs.declared.fault.FormFault.{FormFault}
-use Rattle.pass_forms.specs.declared.fault.FormFault.TheVariants.{TooMany}
+use Rattle.pass_forms.specs.{Pass.{IsSigned, Plain}, Reading.max_caveats, Writing.IsWriting, declared.fault.FormFault.{FormFault, TheVariants.TooMany}}
 use Rattle.pass_forms.specs.declared.form.Form.{Form}
-use Rattle.pass_forms.specs.Pass.{IsSigned, Plain}
 use Rattle.pass_forms.specs.Pass as passes
-use Rattle.pass_forms.specs.Reading.{max_caveats}
-use Rattle.pass_forms.specs.Writing.{IsWriting}
 use Rattle.pass_json.specs.AnyForm.{IsAnyReading, IsTextIn}
-use Rattle.passtool_commands.specs.Minting.{Minting}
-use Rattle.passtool_commands.specs.Shown.{with_line_feed, shown_text}
-use Rattle.passtool_commands.specs.declared.answer.Outcome.{Outcome}
-use Rattle.passtool_commands.specs.declared.answer.Outcome.TheVariants.{Done, NotSigned}
-use Rattle.passtool_commands.specs.declared.command.Command.{Command}
-use Rattle.passtool_commands.specs.declared.command.Command.TheVariants.{Mint, Show, Narrow, Convert, Verify}
+use Rattle.passtool_commands.specs.{Minting.Minting, Shown.{with_line_feed, shown_text}, declared.answer.Outcome.{Outcome, TheVariants.{Done, NotSigned}}}
+use Rattle.passtool_commands.specs.declared.command.Command.{Command, TheVariants.{Mint, Show, Narrow, Convert, Verify}}
 
 -- how the command ended, and the text that it wrote
 abbrev pub OutcomeText : Type 0

@@ -1,10 +1,8 @@
 -- The program's commands and options, as `clap` reads them (ours).
 use Rattle.std.specs.Prelude.{[], ◌∷◌, codes}
 use Rattle.clap.specs.Words.{Rule}
-use Rattle.command_line.specs.Application.{as_required, flag_named, form_option, form_or_v2, option_named, positionals_named}
-use Rattle.command_line.specs.Table.{Table}
-use Rattle.passtool_commands.specs.declared.table.Name.{Name}
-use Rattle.passtool_commands.specs.declared.table.Name.TheVariants.{Mint, Show, Narrow, Convert, Verify}
+use Rattle.command_line.specs.{Application.{as_required, flag_named, form_option, form_or_v2, option_named, positionals_named}, Table.Table}
+use Rattle.passtool_commands.specs.declared.table.Name.{Name, TheVariants.{Mint, Show, Narrow, Convert, Verify}}
 
 abbrev pub root_option : Rule
 root_option = as_required (option_named (codes "root"))

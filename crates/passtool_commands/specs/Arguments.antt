@@ -1,21 +1,12 @@
 -- What the arguments ask for (ours).
-use Rattle.std.specs.Prelude.{◌↔◌, ℕ, ◌+◌, Bool, IsTrue, not, if◌then◌else◌, List, [], Option, Some, None, Result, Ok, Err, codes, position, unwrap_or}
 use Rattle.std.specs.Option.{ok_or}
+use Rattle.std.specs.Prelude.{◌↔◌, ℕ, ◌+◌, Bool, IsTrue, not, if◌then◌else◌, List, [], Option, Some, None, Result, Ok, Err, codes, position, unwrap_or}
 use Rattle.clap.specs.Words.{Row, Text, all_of}
-use Rattle.command_line.specs.Job.{Answers, JobOf, ReadsJob, Refusal, bad_value, ◌>>=◌, form_given}
-use Rattle.command_line.specs.Root.{root_of}
-use Rattle.command_line.specs.Arguments.{is_set, value_in}
-use Rattle.command_line.specs.declared.errors.ArgumentsFault.{ArgumentsFault}
-use Rattle.command_line.specs.declared.job.Asked.{Asked}
-use Rattle.command_line.specs.declared.job.Asked.TheVariants.{Perform}
-use Rattle.pass_caveats.specs.Caveat.{Understood}
-use Rattle.pass_caveats.specs.declared.caveat.Caveat.{Caveat as ACaveat}
-use Rattle.passtool_commands.specs.Application.{passtool}
-use Rattle.passtool_commands.specs.declared.answer.BadValue.{BadValue}
-use Rattle.passtool_commands.specs.declared.answer.BadValue.TheVariants.{Root, Caveat}
-use Rattle.passtool_commands.specs.declared.command.Command.{Command}
-use Rattle.passtool_commands.specs.declared.command.Command.TheVariants.{Mint, Show, Narrow, Convert, Verify}
-use Rattle.passtool_commands.specs.declared.table.Name.{Name}
+use Rattle.command_line.specs.{Arguments.{is_set, value_in}, Job.{Answers, JobOf, ReadsJob, Refusal, bad_value, ◌>>=◌, form_given}, Root.root_of}
+use Rattle.command_line.specs.declared.{errors.ArgumentsFault.ArgumentsFault, job.Asked.{Asked, TheVariants.Perform}}
+use Rattle.pass_caveats.specs.{Caveat.Understood, declared.caveat.Caveat.Caveat as ACaveat}
+use Rattle.passtool_commands.specs.{Application.passtool, declared.{answer.BadValue.{BadValue, TheVariants.{Root, Caveat}}, command.Command.Command}}
+use Rattle.passtool_commands.specs.declared.{command.Command.TheVariants.{Mint, Show, Narrow, Convert, Verify}, table.Name.Name}
 use Rattle.passtool_commands.specs.declared.table.Name.TheVariants as name
 
 abbrev pub root_in : List Row → Result (List ℕ) (Refusal BadValue)

@@ -1,16 +1,11 @@
 -- The exit status and the line of each answer (ours).
-use Rattle.std.specs.Prelude.{ℕ, List, ◌++◌, Option, Some, None, Result, Ok, Err, codes}
-use Rattle.std.specs.Fmt.{decimal, with_newline}
+use Rattle.std.specs.{Fmt.{decimal, with_newline}, Prelude.{ℕ, List, ◌++◌, Option, Some, None, Result, Ok, Err, codes}}
 use Rattle.command_line.specs.declared.errors.ArgumentsFault.{ArgumentsFault}
 use Rattle.command_line.specs.declared.errors.ArgumentsFault.TheVariants as arguments
-use Rattle.pass_forms.specs.FormFault.{fault_text}
-use Rattle.pass_forms.specs.declared.fault.FormFault.{FormFault}
+use Rattle.pass_forms.specs.{FormFault.fault_text, declared.fault.FormFault.FormFault}
 use Rattle.pass_forms.specs.declared.fault.FormFault.TheVariants as form
-use Rattle.passtool_commands.specs.declared.answer.BadValue.{BadValue}
-use Rattle.passtool_commands.specs.declared.answer.BadValue.TheVariants.{Root, Caveat}
-use Rattle.passtool_commands.specs.declared.answer.Fault.{Fault}
-use Rattle.passtool_commands.specs.declared.answer.Fault.TheVariants.{Arguments, Pass, CaveatNotUnderstood, BadRoot, InputOutput}
-use Rattle.passtool_commands.specs.declared.answer.Outcome.{Outcome}
+use Rattle.passtool_commands.specs.declared.answer.{BadValue.{BadValue, TheVariants.{Root, Caveat}}, Fault.Fault}
+use Rattle.passtool_commands.specs.declared.answer.{Fault.TheVariants.{Arguments, Pass, CaveatNotUnderstood, BadRoot, InputOutput}, Outcome.Outcome}
 use Rattle.passtool_commands.specs.declared.answer.Outcome.TheVariants.{Done, NotSigned}
 
 abbrev pub outcome_status : Outcome → ℕ

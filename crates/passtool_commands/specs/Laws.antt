@@ -1,17 +1,10 @@
 -- Laws of the definitions.
 use Rattle.std.specs.Prelude.{◌≡◌, ◌↔◌, ℕ, List, Result, Ok, codes}
-use Rattle.pass_forms.specs.declared.fault.FormFault.{FormFault}
-use Rattle.pass_forms.specs.declared.form.Form.{Form}
-use Rattle.pass_forms.specs.Pass.{IsSigned, Plain}
-use Rattle.passtool_commands.specs.Answer.{IsAnswer, OutcomeText, ReadsPass, narrowing, new_pass}
-use Rattle.passtool_commands.specs.Application.{passtool}
-use Rattle.passtool_commands.specs.Minting.{Minting}
-use Rattle.command_line.specs.JobLaws.{AskOnce}
-use Rattle.passtool_commands.specs.Shown.{with_line_feed}
-use Rattle.passtool_commands.specs.Arguments.{ReadsCommand}
-use Rattle.passtool_commands.specs.declared.answer.Outcome.TheVariants.{Done}
-use Rattle.passtool_commands.specs.declared.command.Command.{Command}
+use Rattle.pass_forms.specs.{Pass.{IsSigned, Plain}, declared.{fault.FormFault.FormFault, form.Form.Form}}
+use Rattle.passtool_commands.specs.{Answer.{IsAnswer, OutcomeText, ReadsPass, narrowing, new_pass}, Application.passtool, Arguments.ReadsCommand}
+use Rattle.passtool_commands.specs.{Minting.Minting, Shown.with_line_feed, declared.{answer.Outcome.TheVariants.Done, command.Command.Command}}
 use Rattle.passtool_commands.specs.declared.command.Command.TheVariants.{Verify}
+use Rattle.command_line.specs.JobLaws.{AskOnce}
 
 -- Arguments that ask for a command ask for no other, and have no fault: each of their results is this command, or out of memory.
 abbrev pub AskForOneCommand : Type 0

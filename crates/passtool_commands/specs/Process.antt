@@ -2,16 +2,9 @@
 use Rattle.std.specs.Prelude.{◌≡◌, ◌≢◌, ℕ, List, Option, Result, Err, IfErr}
 use Rattle.clap.specs.Words.{Text}
 use Rattle.clap.specs.declared.error.kind.ErrorKind.TheVariants as kinds
-use Rattle.command_line.specs.Arguments.{IsOfKind}
-use Rattle.command_line.specs.declared.errors.ArgumentsFault.{ArgumentsFault}
-use Rattle.passtool_commands.specs.Arguments.{AskForCommand}
-use Rattle.passtool_commands.specs.Fault.{fault_output, of_arguments, exit_status}
-use Rattle.passtool_commands.specs.Run.{AnswersArguments, AskForNoInput, Performs}
-use Rattle.passtool_commands.specs.declared.answer.BadValue.{BadValue}
-use Rattle.passtool_commands.specs.declared.answer.Fault.{Fault}
-use Rattle.passtool_commands.specs.declared.answer.Fault.TheVariants.{InputOutput}
-use Rattle.passtool_commands.specs.declared.answer.Outcome.{Outcome}
-use Rattle.passtool_commands.specs.declared.command.Command.{Command}
+use Rattle.command_line.specs.{Arguments.IsOfKind, declared.errors.ArgumentsFault.ArgumentsFault}
+use Rattle.passtool_commands.specs.{Arguments.AskForCommand, Fault.{fault_output, of_arguments, exit_status}, Run.{AnswersArguments, AskForNoInput, Performs}}
+use Rattle.passtool_commands.specs.declared.{answer.{BadValue.BadValue, Fault.{Fault, TheVariants.InputOutput}, Outcome.Outcome}, command.Command.Command}
 
 -- `Unread` and `Unwritten` say that the reader and the writer are as before
 module _ (left left' held held' : Option (List ℕ)) (Unread Unwritten : Type 0) where

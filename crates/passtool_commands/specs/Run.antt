@@ -1,22 +1,12 @@
 -- What a run of the program does (ours).
-use Rattle.std.specs.Prelude.{◌≡◌, ◌⊎◌, ℕ, List, [], Option, Result, Ok, Err, Bool, false, true}
-use Rattle.std.specs.Io.{StartsWith}
-use Rattle.std.specs.Io.KnownBytes.{Appends, Keeps}
+use Rattle.std.specs.{Io.{StartsWith, KnownBytes.{Appends, Keeps}}, Prelude.{◌≡◌, ◌⊎◌, ℕ, List, [], Option, Result, Ok, Err, Bool, false, true}}
 use Rattle.clap.specs.Words.{Text}
 use Rattle.pass_forms.specs.declared.fault.FormFault.TheVariants.{Memory}
-use Rattle.passtool_commands.specs.Answer.{IsAnswer, OutcomeText, reads_input}
-use Rattle.command_line.specs.Input.{ReadsAtMost}
-use Rattle.command_line.specs.Table.{refusals}
-use Rattle.command_line.specs.Arguments.{HasText}
-use Rattle.command_line.specs.declared.errors.ArgumentsFault.TheVariants.{Refused, BadValue}
-use Rattle.passtool_commands.specs.Application.{passtool}
-use Rattle.passtool_commands.specs.Arguments.{AskForCommand, ReadsArguments}
-use Rattle.passtool_commands.specs.declared.answer.BadValue.TheVariants.{Root, Caveat}
-use Rattle.passtool_commands.specs.declared.answer.Fault.{Fault}
-use Rattle.passtool_commands.specs.declared.answer.Fault.TheVariants.{Arguments, Pass, BadRoot, CaveatNotUnderstood, InputOutput}
-use Rattle.passtool_commands.specs.declared.answer.Outcome.{Outcome}
-use Rattle.passtool_commands.specs.declared.answer.Outcome.TheVariants.{Done, NotSigned}
-use Rattle.passtool_commands.specs.declared.command.Command.{Command}
+use Rattle.passtool_commands.specs.{Answer.{IsAnswer, OutcomeText, reads_input}, Application.passtool, Arguments.{AskForCommand, ReadsArguments}}
+use Rattle.passtool_commands.specs.declared.answer.{BadValue.TheVariants.{Root, Caveat}, Fault.Fault}
+use Rattle.passtool_commands.specs.declared.answer.{Fault.TheVariants.{Arguments, Pass, BadRoot, CaveatNotUnderstood, InputOutput}, Outcome.Outcome}
+use Rattle.passtool_commands.specs.declared.{answer.Outcome.TheVariants.{Done, NotSigned}, command.Command.Command}
+use Rattle.command_line.specs.{Arguments.HasText, Input.ReadsAtMost, Table.refusals, declared.errors.ArgumentsFault.TheVariants.{Refused, BadValue}}
 
 -- a command's input: at most the first 8,194 bytes that the reader had left, or nothing
 abbrev pub ReadsInput : Bool → Option (List ℕ) → Option (List ℕ) → List ℕ → Type 0

@@ -1,10 +1,7 @@
 -- The text that `show` writes (ours).
-use Rattle.std.specs.Prelude.{ℕ, ◌+◌, ◌==◌, ◌&&◌, nat_le, List, [], ◌∷◌, ◌++◌, codes, if◌then◌else◌}
-use Rattle.std.specs.Fmt.{decimal}
-use Rattle.std.specs.List.{flat_map}
+use Rattle.std.specs.{Fmt.decimal, List.flat_map, Prelude.{ℕ, ◌+◌, ◌==◌, ◌&&◌, nat_le, List, [], ◌∷◌, ◌++◌, codes, if◌then◌else◌}}
 use Rattle.hex.specs.Hex.{encode_lower}
-use Rattle.pass_forms.specs.declared.form.Form.{Form}
-use Rattle.pass_forms.specs.Pass.{Plain}
+use Rattle.pass_forms.specs.{Pass.Plain, declared.form.Form.Form}
 use Rattle.command_line.specs.FormName.{form_name}
 
 -- a text with the line feed that ends it

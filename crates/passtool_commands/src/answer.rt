@@ -1,7 +1,6 @@
 //! The result of a run: an outcome, or a fault with its exit status and its line.
 
-ghost use Rattle.std.specs.Prelude.{◌≡◌};
-ghost use Rattle.std.specs.String.{string_bytes};
+ghost use Rattle.std.specs.{Prelude.{◌≡◌}, String.string_bytes};
 ghost use Rattle.passtool_commands.specs.Fault.{form_number};
 
 use command_line::ArgumentsFault;
@@ -41,8 +40,7 @@ pub struct Answer {
 }
 
 impl Model for Answer {
-    ghost use Rattle.std.specs.Prelude.{ℕ, List};
-    ghost use Rattle.std.specs.String.{string_bytes};
+    ghost use Rattle.std.specs.{Prelude.{ℕ, List}, String.string_bytes};
     ghost use Rattle.passtool_commands.specs.declared.answer.Outcome.{Outcome};
 
     ghost Value = { Outcome × List ℕ };

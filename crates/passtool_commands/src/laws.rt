@@ -1,13 +1,8 @@
 //! Laws of the definitions. Each law is the contract of a function that only cites the laws that it
 //! uses.
 
-ghost use Rattle.passtool_commands.specs.Laws.{
-  AnswersOnce,
-  AskForOneCommand,
-  MintSigns,
-  NarrowingKeepsSigned,
-  VerifyDecidesSigned,
-};
+ghost use Rattle.passtool_commands.specs.Laws.{AnswersOnce, AskForOneCommand, MintSigns};
+ghost use Rattle.passtool_commands.specs.Laws.{NarrowingKeepsSigned, VerifyDecidesSigned};
 
 use crate::answer::BadValue;
 use crate::command::Command;

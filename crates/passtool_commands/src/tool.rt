@@ -1,8 +1,8 @@
 //! A run of the program, on arguments, a reader and a writer.
 
 ghost use Rattle.std.specs.Prelude.{◌≡◌, ◌≢◌, IfErr, MatchResult, map};
-ghost use Rattle.passtool_commands.specs.Run.{AnswersArguments, AskForNoInput, Performs};
 ghost use Rattle.passtool_commands.specs.Arguments.{AskForCommand};
+ghost use Rattle.passtool_commands.specs.Run.{AnswersArguments, AskForNoInput, Performs};
 ghost use Rattle.passtool_commands.specs.declared.command.Command.{Command as CommandOf};
 
 use crate::answer::{Fault, Outcome};

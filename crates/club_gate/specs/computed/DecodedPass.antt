@@ -1,19 +1,12 @@
 -- A text, decoded for the rules of the club, and an event at the desk as the machine sees it, computed.
 use Rattle.std.specs.Prelude.{ℕ, List, map, Result, Ok, Err}
 use Rattle.pass_caveats.specs.computed.CaveatOf.{caveat_of}
-use Rattle.pass_forms.specs.declared.fault.FormFault.{FormFault}
-use Rattle.pass_forms.specs.declared.form.Form.{Form}
-use Rattle.pass_forms.specs.Pass.{Plain}
-use Rattle.pass_forms.specs.computed.Pass.{is_signed}
+use Rattle.pass_forms.specs.{Pass.Plain, computed.Pass.is_signed, declared.{fault.FormFault.FormFault, form.Form.Form}}
 use Rattle.pass_json.specs.computed.AnyForm.{reading, reading_in_form}
-use Rattle.club_core.specs.declared.pass_fault.PassFault.{PassFault}
-use Rattle.club_core.specs.declared.request.Request.{Request}
-use Rattle.club_core.specs.Pass.{Pass, Words}
+use Rattle.club_core.specs.{Pass.{Pass, Words}, declared.{pass_fault.PassFault.PassFault, request.Request.Request}}
 use Rattle.club_core.specs.Run as machine
-use Rattle.club_gate.specs.declared.event.Event.{Event}
+use Rattle.club_gate.specs.{DecodedPass.fault_of, Identifier.key_name_in, declared.event.Event.Event}
 use Rattle.club_gate.specs.declared.event.Event.TheVariants as events
-use Rattle.club_gate.specs.DecodedPass.{fault_of}
-use Rattle.club_gate.specs.Identifier.{key_name_in}
 
 -- a pass as the rules see it: the key that it names, its caveats as they are understood, and the roots under which it is signed
 abbrev pub machine_pass : Plain → Pass

@@ -1,13 +1,8 @@
 -- The model of the code's words, computed. `IsModelOf` defines what it is; a law states that both agree.
-use Rattle.std.specs.Prelude.{map, Result, Ok, Err}
-use Rattle.std.specs.List.{list_any}
-use Rattle.std.specs.Str.{bytes_eq}
-use Rattle.std.specs.Vec.{vec_items}
+use Rattle.std.specs.{List.list_any, Prelude.{map, Result, Ok, Err}, Str.bytes_eq, Vec.vec_items}
 use Rattle.pass_caveats.specs.computed.CaveatOf.{caveat_of}
-use Rattle.club_core.specs.declared.pass_fault.PassFault.{PassFault}
-use Rattle.club_reference.specs.declared.words.Pass.{Pass as PassInCode}
-use Rattle.club_reference.specs.declared.words.Words.{Words as WordsInCode}
-use Rattle.club_core.specs.Pass.{Pass, Words}
+use Rattle.club_core.specs.{Pass.{Pass, Words}, declared.pass_fault.PassFault.PassFault}
+use Rattle.club_reference.specs.declared.words.{Pass.Pass as PassInCode, Words.Words as WordsInCode}
 
 -- the caveats are parsed from their texts; the pass is signed under the listed roots
 abbrev pub pass_model : PassInCode → Pass

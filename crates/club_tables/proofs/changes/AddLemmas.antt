@@ -5,28 +5,19 @@ use Rattle.club_tables.proofs.Common.{bytes_eq-Decides, and-true, or-false, ever
 use Rattle.club_tables.proofs.Common.{understood, Value, Arith, Add, binary, Row, column, rowid, cast, cast_row, next_rowid, shown, value_rows, command_of}
 use Rattle.club_tables.proofs.Common.{first_key, conflicts, Database, works, Enforced, All-contains_itself, recursion_from_All, arith, truth, Member, Facility}
 use Rattle.club_tables.proofs.Common.{Key, Booking, Slot, same_slot, SlotUse, OlderRoot, MemberRow, ADD_MEMBER, ADD_FACILITY, ADD_KEY, ADD_BOOKING, CLOSE_SLOT}
-use Rattle.club_tables.proofs.Common.{OPEN_SLOT}
-use Rattle.club_tables.proofs.Common.{ADD_TAKEN, PUT_OLDER_ROOT, members_table, facilities_table, keys_table, bookings_table, club_schema, slots_table}
-use Rattle.club_tables.proofs.Common.{old_roots_table, whole, member_values, facility_values, key_values, booking_values, flag, name_values, use_values}
-use Rattle.club_tables.proofs.Common.{slot_values, older_root_values, older_values, Rows, SlotRow, no_slot_use, OlderRow, older_by, stored_slot_use, row_of}
-use Rattle.club_tables.proofs.Common.{Holds, members_tree, facilities_tree, keys_tree, bookings_tree, HoldsRows, slots_tree, olders_tree}
+use Rattle.club_tables.proofs.Common.{OPEN_SLOT, ADD_TAKEN, PUT_OLDER_ROOT, members_table, facilities_table, keys_table, bookings_table, club_schema}
+use Rattle.club_tables.proofs.Common.{slots_table, old_roots_table, whole, member_values, facility_values, key_values, booking_values, flag, name_values}
+use Rattle.club_tables.proofs.Common.{use_values, slot_values, older_root_values, older_values, Rows, SlotRow, no_slot_use, OlderRow, older_by, stored_slot_use}
+use Rattle.club_tables.proofs.Common.{row_of, Holds, members_tree, facilities_tree, keys_tree, bookings_tree, HoldsRows, slots_tree, olders_tree, list_all}
+use Rattle.club_tables.proofs.{Common.{holds, is_true, Compare, Eq, Binary, ◌&&◌, not, ◌==◌, State, Executes, Ok}, lists.KeyedRows.{absent, lone, by_put}}
+use Rattle.club_tables.proofs.lists.KeyedRows.{put_once as once_put, slots_conflict, slot_table, same_itself, changed, same_row as unchanged, put_slot}
+use Rattle.club_tables.proofs.{lists.{KeyedRows.new_row as new_row_of, PutRows.put_among, RowLemmas.holds_more}, queries.KeyLemmas.same_slots}
+use Rattle.club_tables.proofs.statements.InsertLemmas.{inserts, cast_null, cast_int}
+use Rattle.club_tables.proofs.statements.MeansLemmas.{Wrote, Means, on_members, on_facilities, on_keys, on_bookings, Steps, on_slots, on_olders}
+use Rattle.club_tables.proofs.statements.{PassLemmas.contains_counts, PutLemmas.{PutsRow, first_clause, row_put, row_allowed}}
+use Rattle.club_tables.proofs.statements.{SelectLemmas.{one_passes, text_equal, whole_equal}, UpdateLemmas.each_of}
 use Rattle.std.proofs.Common.{unwrap_or}
 use Rattle.sqlite.specs.Kind.TheVariants.{Integer}
-use Rattle.club_tables.proofs.statements.PassLemmas.{contains_counts}
-use Rattle.club_tables.proofs.statements.SelectLemmas.{one_passes}
-use Rattle.club_tables.proofs.statements.MeansLemmas.{Wrote}
-use Rattle.club_tables.proofs.lists.KeyedRows.{absent}
-use Rattle.club_tables.proofs.statements.MeansLemmas.{Means, on_members, on_facilities, on_keys, on_bookings, Steps, on_slots, on_olders}
-use Rattle.club_tables.proofs.statements.InsertLemmas.{inserts, cast_null, cast_int}
-use Rattle.club_tables.proofs.lists.RowLemmas.{holds_more}
-use Rattle.club_tables.proofs.Common.{list_all, holds, is_true, Compare, Eq, Binary, ◌&&◌, not, ◌==◌, State, Executes, Ok}
-use Rattle.club_tables.proofs.statements.SelectLemmas.{text_equal, whole_equal}
-use Rattle.club_tables.proofs.statements.UpdateLemmas.{each_of}
-use Rattle.club_tables.proofs.statements.PutLemmas.{PutsRow, first_clause, row_put, row_allowed}
-use Rattle.club_tables.proofs.lists.KeyedRows.{lone, by_put, put_once as once_put, slots_conflict, slot_table, same_itself, changed, same_row as unchanged}
-use Rattle.club_tables.proofs.lists.KeyedRows.{put_slot, new_row as new_row_of}
-use Rattle.club_tables.proofs.lists.PutRows.{put_among}
-use Rattle.club_tables.proofs.queries.KeyLemmas.{same_slots}
 
 -- ---- lists
 

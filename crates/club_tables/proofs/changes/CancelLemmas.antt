@@ -5,17 +5,12 @@ use Rattle.club_tables.proofs.Common.{or-false, list_all, AllByRecursion, bytes_
 use Rattle.club_tables.proofs.Common.{is_true, Row, Term, lit, col, holds, inner, end, Update, understood, truth, Booking, cancelled_booking, is_marked}
 use Rattle.club_tables.proofs.Common.{booking_under, is_in, taken_in, cost_of, Slot, Member, same_slot, persons_of, Club, IsSound, is_key_of, IsBooking}
 use Rattle.club_tables.proofs.Common.{IsOwnedBy, IsToCancel, CANCEL_BOOKING, club_schema, whole, booking_values, select, is_given, Rows, member_row, used_by}
-use Rattle.club_tables.proofs.Common.{bookings_tree, MemberRow}
-use Rattle.club_tables.proofs.statements.MeansLemmas.{Means, on_bookings, Steps}
-use Rattle.club_tables.proofs.statements.InsertLemmas.{cast_int}
-use Rattle.club_tables.proofs.statements.PassLemmas.{found, Implies}
-use Rattle.club_tables.proofs.statements.SelectLemmas.{text_equal, whole_equal, test, shows, Apart, apart_from_pairs}
-use Rattle.club_tables.proofs.statements.UpdateLemmas.{updates, finds}
-use Rattle.club_tables.proofs.changes.AddLemmas.{booking_table}
-use Rattle.club_tables.proofs.lists.BookingRows.{truths}
-use Rattle.club_tables.proofs.queries.KeyLemmas.{AreBookingsOnce, is_numbered, is_uncancelled, one_numbered, same_names}
-use Rattle.club_tables.proofs.changes.ChangeLemmas.{used_row, one_found, WhenRan, FindsOne, one_changed}
+use Rattle.club_tables.proofs.{Common.{bookings_tree, MemberRow}, changes.AddLemmas.booking_table}
+use Rattle.club_tables.proofs.{changes.ChangeLemmas.{used_row, one_found, WhenRan, FindsOne, one_changed}, lists.BookingRows.truths}
 use Rattle.club_tables.proofs.lists.OwnerLemmas.{IsAlone, picked_changed, owner_is}
+use Rattle.club_tables.proofs.{queries.KeyLemmas.{AreBookingsOnce, is_numbered, is_uncancelled, one_numbered, same_names}, statements.InsertLemmas.cast_int}
+use Rattle.club_tables.proofs.statements.{MeansLemmas.{Means, on_bookings, Steps}, PassLemmas.{found, Implies}}
+use Rattle.club_tables.proofs.statements.{SelectLemmas.{text_equal, whole_equal, test, shows, Apart, apart_from_pairs}, UpdateLemmas.{updates, finds}}
 
 abbrev cancel_tests : List Term
 cancel_tests =

@@ -4,21 +4,17 @@ use Rattle.club_tables.proofs.Common.{ap, ◌∙◌, false, subst, filter, find,
 use Rattle.club_tables.proofs.Common.{or-false, everything, Int, Text, Blob, Binary, Arith, Compare, Add, Eq, binary, cast_row, Row, Table, Term, col, op2}
 use Rattle.club_tables.proofs.Common.{holds, lit, Query, inner, end, counted, Update, understood, State, Executes, Key, credited_member, revoked_key}
 use Rattle.club_tables.proofs.Common.{rotated_key, truth, MemberRow, ADD_CREDIT, ADD_USED, REVOKE_KEY, SET_ROOT, club_schema, used_values, whole, member_values}
-use Rattle.club_tables.proofs.Common.{key_values, select, is_given, Rows, BoundStatement, Holds, HoldsRows, members_tree, keys_tree}
-use Rattle.club_tables.proofs.Common.{is_true, int_cmp, nat_le, nat_tests, arith, value_cmp-Int, SET_QUOTA}
-use Rattle.club_core.specs.After.{member_with_quota}
-use Rattle.std.specs.Ordering.{is_le}
-use Rattle.sqlite_sql.specs.declared.ops.CompareOp.TheVariants.{Le}
-use Rattle.club_tables.proofs.statements.MeansLemmas.{Wrote}
-use Rattle.club_tables.proofs.statements.MeansLemmas.{Means, on_members, on_keys, Steps}
-use Rattle.club_tables.proofs.statements.InsertLemmas.{cast_int}
-use Rattle.club_tables.proofs.queries.KeyLemmas.{both_tests, one_named}
-use Rattle.club_tables.proofs.changes.AddLemmas.{member_table, key_table, only_found}
+use Rattle.club_tables.proofs.Common.{key_values, select, is_given, Rows, BoundStatement, Holds, HoldsRows, members_tree, keys_tree, is_true, int_cmp, nat_le}
+use Rattle.club_tables.proofs.{Common.{nat_tests, arith, value_cmp-Int, SET_QUOTA}, changes.AddLemmas.{member_table, key_table, only_found}}
+use Rattle.club_tables.proofs.{queries.KeyLemmas.{both_tests, one_named}, statements.InsertLemmas.cast_int}
+use Rattle.club_tables.proofs.statements.JoinLemmas.{is_counted, some_counted, counted_some, passes, shown, with_count, answered_counted, counts_elements}
+use Rattle.club_tables.proofs.statements.MeansLemmas.{Wrote, Means, on_members, on_keys, Steps}
 use Rattle.club_tables.proofs.statements.PassLemmas.{contains_counts, each_row, find_some, agree, found_by_both, found, Implies}
 use Rattle.club_tables.proofs.statements.SelectLemmas.{text_equal, shows, test, blob_equal, from_truth_is}
 use Rattle.club_tables.proofs.statements.UpdateLemmas.{Updates, updates, Finds, finds, passes_one, writes_one, changes_one}
-use Rattle.club_tables.proofs.statements.JoinLemmas.{is_counted, some_counted, counted_some, passes, shown, with_count, answered_counted}
-use Rattle.club_tables.proofs.statements.JoinLemmas.{counts_elements}
+use Rattle.club_core.specs.After.{member_with_quota}
+use Rattle.std.specs.Ordering.{is_le}
+use Rattle.sqlite_sql.specs.declared.ops.CompareOp.TheVariants.{Le}
 
 -- ---- an UPDATE of the one element that a test finds
 

@@ -1,26 +1,18 @@
 -- What the statement makes of the tables that charges a member for a booking.
-use Rattle.club_tables.proofs.Common.{rules, ◌≡◌, ◌≤◌, ℕ, ℤ, Bool, true, ◌&&◌, if◌then◌else◌, List, [], ◌∷◌, length, map, refl, sym}
-use Rattle.club_tables.proofs.Common.{ap, ◌∙◌, subst, filter, list_all, bytes_eq, and_parts, bytes_eq-Decides, and-true}
-use Rattle.club_tables.proofs.Common.{everything, Int, Text, Binary, Arith, Compare, Add, Eq, binary, Row, Term, col, op2}
-use Rattle.club_tables.proofs.Common.{holds, Query, inner, end, counted, Update, understood, Key}
-use Rattle.club_tables.proofs.Common.{MemberRow, club_schema, whole, member_values}
-use Rattle.club_tables.proofs.Common.{key_values, select, is_given, Rows, members_tree, keys_tree}
-use Rattle.club_tables.proofs.Common.{is_true, nat_le, Slot, SlotRow, Facility, ◌==◌, name_values, slot_values}
-use Rattle.club_tables.proofs.Common.{facility_values, slots_tree, facilities_tree, flat_map, AllZip, IsRowOf, Has}
+use Rattle.club_tables.proofs.Common.{rules, ◌≡◌, ◌≤◌, ℕ, ℤ, Bool, true, ◌&&◌, if◌then◌else◌, List, [], ◌∷◌, length, map, refl, sym, ap, ◌∙◌, subst, filter}
+use Rattle.club_tables.proofs.Common.{list_all, bytes_eq, and_parts, bytes_eq-Decides, and-true, everything, Int, Text, Binary, Arith, Compare, Add, Eq, binary}
+use Rattle.club_tables.proofs.Common.{Row, Term, col, op2, holds, Query, inner, end, counted, Update, understood, Key, MemberRow, club_schema, whole}
+use Rattle.club_tables.proofs.Common.{member_values, key_values, select, is_given, Rows, members_tree, keys_tree, is_true, nat_le, Slot, SlotRow, Facility}
+use Rattle.club_tables.proofs.Common.{◌==◌, name_values, slot_values, facility_values, slots_tree, facilities_tree, flat_map, AllZip, IsRowOf, Has}
+use Rattle.club_tables.proofs.changes.{AddLemmas.member_table, ChangeLemmas.{casts_member, owner_tests, used_terms, wider_is, whole_to, WhenRan, FindsOne}}
+use Rattle.club_tables.proofs.changes.ChangeLemmas.{one_found, one_changed, AreKeysOnce, StoresKey, name_of, AreNamedOnce, StoresMember, used_row}
+use Rattle.club_tables.proofs.{queries.KeyLemmas.{both_tests, one_named}, statements.JoinLemmas.{is_counted, some_counted, counted_some, passes}}
+use Rattle.club_tables.proofs.statements.JoinLemmas.{counts_elements, count_in, with_counts, pairs_in, passes_both, shown_both, answered_counted_both}
+use Rattle.club_tables.proofs.statements.{JoinLemmas.{as_many_pairs, pair_found, pair_counts}, MeansLemmas.{Means, on_members, Steps}}
+use Rattle.club_tables.proofs.statements.{PassLemmas.{contains_counts, each_row, as_many, find_some, found, Implies}, SelectLemmas.{text_equal, whole_equal}}
+use Rattle.club_tables.proofs.statements.UpdateLemmas.{Updates, updates}
 use Rattle.sqlite_sql.specs.declared.ops.CompareOp.TheVariants.{Le}
 use Rattle.club_tables.specs.declared.texts.TheConstants.{CHARGE}
-use Rattle.club_tables.proofs.statements.MeansLemmas.{Means, on_members, Steps}
-use Rattle.club_tables.proofs.queries.KeyLemmas.{both_tests, one_named}
-use Rattle.club_tables.proofs.changes.AddLemmas.{member_table}
-use Rattle.club_tables.proofs.statements.PassLemmas.{contains_counts, each_row, as_many, find_some, found, Implies}
-use Rattle.club_tables.proofs.statements.SelectLemmas.{text_equal, whole_equal}
-use Rattle.club_tables.proofs.statements.UpdateLemmas.{Updates, updates}
-use Rattle.club_tables.proofs.statements.JoinLemmas.{is_counted, some_counted, counted_some, passes}
-use Rattle.club_tables.proofs.statements.JoinLemmas.{counts_elements, count_in, with_counts, pairs_in, passes_both, shown_both, answered_counted_both}
-use Rattle.club_tables.proofs.statements.JoinLemmas.{as_many_pairs}
-use Rattle.club_tables.proofs.statements.JoinLemmas.{pair_found, pair_counts}
-use Rattle.club_tables.proofs.changes.ChangeLemmas.{casts_member, owner_tests, used_terms, wider_is, whole_to, WhenRan, FindsOne, one_found, one_changed}
-use Rattle.club_tables.proofs.changes.ChangeLemmas.{AreKeysOnce, StoresKey, name_of, AreNamedOnce, StoresMember, used_row}
 
 abbrev place_tests : List Term
 place_tests =

@@ -1,31 +1,20 @@
 -- A change whose statements each wrote a row suits the club, and so fits it.
 use Rattle.club_tables.proofs.Common.{◌≡◌, ◌≢◌, ℕ, ◌+◌, ◌≤◌, Bool, true, false, ◌&&◌, ◌==◌, List, [], ◌∷◌, ◌++◌, map, Contains, All, refl, sym, ap, subst, ◌∙◌}
 use Rattle.club_tables.proofs.Common.{arith, true≢false, find, filter, slice_get, AllPairs, Some, bytes_eq, bytes_eq-Decides, unsigned_Decides, and_parts}
-use Rattle.club_tables.proofs.Common.{nat_le}
-use Rattle.club_tables.proofs.Common.{nat_tests, AllByRecursion, All-from_recursion, All-contains, all_from_map, all_has, has_found, has_kept, Has}
-use Rattle.club_tables.proofs.Common.{map-map, Ghosts}
-use Rattle.club_tables.proofs.Common.{Held, state, Database, HoldsClub, Ran, Club, Member, Facility, Key, Booking, Slot, SlotRow, SlotUse, MemberRow}
-use Rattle.club_tables.proofs.Common.{IsMember, InLimits, InsertMember, AddCredit, InsertFacility, InsertKey, MarkRevoked, ReplaceRoot, MarkClosed, MarkOpen}
-use Rattle.club_tables.proofs.Common.{ReplaceQuota}
-use Rattle.club_tables.proofs.Common.{InsertBooking}
-use Rattle.club_tables.proofs.Common.{MarkCancelled, member_row, member_named, facility_named, same_slot, cost_of, taken_in, used_by, statements_of}
-use Rattle.club_tables.proofs.Common.{FitsClub, row_of}
+use Rattle.club_tables.proofs.Common.{nat_le, nat_tests, AllByRecursion, All-from_recursion, All-contains, all_from_map, all_has, has_found, has_kept, Has}
+use Rattle.club_tables.proofs.Common.{map-map, Ghosts, Held, state, Database, HoldsClub, Ran, Club, Member, Facility, Key, Booking, Slot, SlotRow, SlotUse}
+use Rattle.club_tables.proofs.Common.{MemberRow, IsMember, InLimits, InsertMember, AddCredit, InsertFacility, InsertKey, MarkRevoked, ReplaceRoot, MarkClosed}
+use Rattle.club_tables.proofs.Common.{MarkOpen, ReplaceQuota, InsertBooking, MarkCancelled, member_row, member_named, facility_named, same_slot, cost_of}
+use Rattle.club_tables.proofs.Common.{taken_in, used_by, statements_of, FitsClub, row_of}
+use Rattle.club_tables.proofs.changes.AddLemmas.{new_row, close_use, take_use, member_put, facility_put, key_put, slot_closed, slot_was_open, each_weaker}
+use Rattle.club_tables.proofs.changes.{ChangeLemmas.{credit_found, whole_to}, FoundLemmas.{slot_placed, the_named}}
+use Rattle.club_tables.proofs.changes.ObeyLemmas.{members_apart, facilities_apart, keys_apart, key_members, slot_facilities}
+use Rattle.club_tables.proofs.changes.PlanLemmas.{start, is_true, booked_by, adds, filled_use, member_of, members_once}
+use Rattle.club_tables.proofs.{lists.{KeyedRows.{put_slot, slot_once, same_itself}, OwnerLemmas.all_last}, queries.{KeyLemmas.same_slots, MemberLemmas.total}}
+use Rattle.club_tables.proofs.statements.{PassLemmas.found, SelectLemmas.{apart_from_pairs, one_passes, find_first, only}}
 use Rattle.club_rows.specs.Limits.{credited_limit}
 use Rattle.club_core.specs.declared.change.Change.{Change}
 use Rattle.club_laws.specs.SoundRuns.{Suits, SuitsBooking, SuitingChangesKeepSound}
-use Rattle.club_tables.proofs.changes.AddLemmas.{new_row, close_use, take_use, member_put, facility_put, key_put, slot_closed, slot_was_open}
-use Rattle.club_tables.proofs.changes.ChangeLemmas.{credit_found, whole_to}
-use Rattle.club_tables.proofs.changes.ObeyLemmas.{members_apart, facilities_apart, keys_apart, key_members, slot_facilities}
-use Rattle.club_tables.proofs.changes.FoundLemmas.{slot_placed, the_named}
-use Rattle.club_tables.proofs.changes.PlanLemmas.{start, is_true, booked_by, adds, filled_use, member_of}
-use Rattle.club_tables.proofs.changes.PlanLemmas.{members_once}
-use Rattle.club_tables.proofs.lists.KeyedRows.{put_slot, slot_once, same_itself}
-use Rattle.club_tables.proofs.lists.OwnerLemmas.{all_last}
-use Rattle.club_tables.proofs.queries.KeyLemmas.{same_slots}
-use Rattle.club_tables.proofs.queries.MemberLemmas.{total}
-use Rattle.club_tables.proofs.statements.PassLemmas.{found}
-use Rattle.club_tables.proofs.statements.SelectLemmas.{apart_from_pairs, one_passes, find_first, only}
-use Rattle.club_tables.proofs.changes.AddLemmas.{each_weaker}
 
 -- a name that isn't the same
 differs : (a b : List ℕ) → bytes_eq a b ≡ false → b ≢ a

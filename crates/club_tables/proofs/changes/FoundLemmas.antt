@@ -1,29 +1,15 @@
 -- What is found among rows, and how few persons are in a slot.
-use Rattle.club_tables.proofs.Common.{rules, ◌≡◌, ℕ, ◌≤◌, pos, neg_ℤ, Bool, None, List, Option, Some, refl, sym, ◌∙◌, ◌≢◌, ◌+◌, ◌-◌, true}
-use Rattle.club_tables.proofs.Common.{if◌then◌else◌, [], ◌∷◌, ◌++◌, map, Contains, ap, arith, zero, suc, All-contains}
-use Rattle.club_tables.proofs.Common.{bytes_eq-Decides, find, option_map, bytes_eq, binary, Arith, Add, ◌<◌, ◌^◌, cond}
-use Rattle.club_tables.proofs.Common.{SlotUse, IsFacility, Int, Club}
-use Rattle.club_tables.proofs.Common.{IsSound, taken_in}
-use Rattle.club_tables.proofs.Common.{same_slot, IsBooking, Booking, Facility, Slot}
-use Rattle.club_tables.proofs.Common.{whole}
-use Rattle.club_tables.proofs.Common.{persons_taken}
-use Rattle.club_tables.proofs.Common.{SlotRow, AllPairs, Has, has_kept, slice_get, filter, all_has, has_found, Database, HoldsRows, Rows, subst}
-use Rattle.club_tables.proofs.Common.{FitsClub, MarkClosed, is_closed, AllByRecursion}
-use Rattle.club_tables.proofs.lists.OwnerLemmas.{apart_last}
-use Rattle.club_tables.proofs.lists.KeyedRows.{not_same}
-use Rattle.club_tables.proofs.statements.SelectLemmas.{apart_from_pairs}
+use Rattle.club_tables.proofs.Common.{rules, ◌≡◌, ℕ, ◌≤◌, pos, neg_ℤ, Bool, None, List, Option, Some, refl, sym, ◌∙◌, ◌≢◌, ◌+◌, ◌-◌, true, if◌then◌else◌, []}
+use Rattle.club_tables.proofs.Common.{◌∷◌, ◌++◌, map, Contains, ap, arith, zero, suc, All-contains, bytes_eq-Decides, find, option_map, bytes_eq, binary, Arith}
+use Rattle.club_tables.proofs.Common.{Add, ◌<◌, ◌^◌, cond, SlotUse, IsFacility, Int, Club, IsSound, taken_in, same_slot, IsBooking, Booking, Facility, Slot}
+use Rattle.club_tables.proofs.Common.{whole, persons_taken, SlotRow, AllPairs, Has, has_kept, slice_get, filter, all_has, has_found, Database, HoldsRows, Rows}
+use Rattle.club_tables.proofs.Common.{subst, FitsClub, MarkClosed, is_closed, AllByRecursion, false, list_any, find-append, option_or, row_of}
+use Rattle.club_tables.proofs.changes.{CancelLemmas.there, ObeyLemmas.slot_facilities}
+use Rattle.club_tables.proofs.lists.{KeyedRows.{not_same, put_slot, changed, new_row, absent, same_itself}, OwnerLemmas.apart_last}
+use Rattle.club_tables.proofs.{queries.KeyLemmas.{one_named, same_slots, find_mapped}, statements.PassLemmas.{any_counts, contains_counts, find_some}}
+use Rattle.club_tables.proofs.statements.SelectLemmas.{apart_from_pairs, find_first, only}
 use Rattle.club_core.specs.Store.{HasFacility}
-use Rattle.club_tables.proofs.changes.ObeyLemmas.{slot_facilities}
-use Rattle.club_tables.proofs.Common.{false, list_any, find-append, option_or, row_of}
-use Rattle.club_tables.proofs.lists.KeyedRows.{put_slot, changed, new_row, absent}
-use Rattle.club_tables.proofs.queries.KeyLemmas.{one_named, same_slots}
-use Rattle.club_tables.proofs.statements.PassLemmas.{any_counts, contains_counts}
-use Rattle.club_tables.proofs.statements.SelectLemmas.{find_first, only}
 use Rattle.club_rows.specs.Limits.{places_limit}
-use Rattle.club_tables.proofs.changes.CancelLemmas.{there}
-use Rattle.club_tables.proofs.queries.KeyLemmas.{find_mapped}
-use Rattle.club_tables.proofs.statements.PassLemmas.{find_some}
-use Rattle.club_tables.proofs.lists.KeyedRows.{same_itself}
 
 pub contains_mapped : {X Y : Type 0} (f : X → Y) (xs : List X) (y : Y) → Contains (map f xs) y → (x : X) × Contains xs x × (f x ≡ y)
 contains_mapped f [] y has = absurd (omega (arith, has.1))

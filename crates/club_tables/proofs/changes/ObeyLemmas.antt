@@ -1,18 +1,13 @@
 -- What the rules of the tables say of the rows that they hold: names are unique, and each name that a row refers to is that of a row.
-use Rattle.club_tables.proofs.Common.{◌≡◌, ℕ, ℤ, Bool, true, false, not, ◌&&◌, ◌==◌, List, [], ◌∷◌, ◌++◌, map, Contains, refl, sym, ap, subst, ◌∙◌}
-use Rattle.club_tables.proofs.Common.{inl, inr, bytes_eq, bytes_eq-Decides, and_parts, and-true, or_parts, cases_Bool}
-use Rattle.club_tables.proofs.Common.{list_any, AllByRecursion, AllZip, Int, Row, Database, Holds, HoldsRows, Rows, MemberRow, Facility, Key}
-use Rattle.club_tables.proofs.Common.{Booking, SlotRow, Less, binary, value_cmp, rowid, Has, all_has, ascending-map}
-use Rattle.club_tables.proofs.Common.{ascending_from_map, IsTable, club_schema, member_values, facility_values, key_values, slot_values, booking_values}
-use Rattle.club_tables.proofs.Common.{members_tree, facilities_tree, keys_tree, slots_tree, bookings_tree, IsRowOf, first_key}
-use Rattle.club_tables.proofs.Common.{contains_had, value_cmp_total}
-use Rattle.sqlite_schema.specs.Rules.{Obeys, agree, differ}
-use Rattle.sqlite_schema.specs.declared.schema.Constraint.TheVariants.{Unique, ForeignKey}
-use Rattle.sqlite_schema.specs.Names.{same_name}
-use Rattle.sqlite_value.specs.Keys.{plain, joined}
-use Rattle.club_tables.proofs.lists.OwnerLemmas.{apart_last}
-use Rattle.club_tables.proofs.statements.SelectLemmas.{Apart, paired, row_of, text_equal, whole_equal}
+use Rattle.club_tables.proofs.Common.{◌≡◌, ℕ, ℤ, Bool, true, false, not, ◌&&◌, ◌==◌, List, [], ◌∷◌, ◌++◌, map, Contains, refl, sym, ap, subst, ◌∙◌, inl, inr}
+use Rattle.club_tables.proofs.Common.{bytes_eq, bytes_eq-Decides, and_parts, and-true, or_parts, cases_Bool, list_any, AllByRecursion, AllZip, Int, Row}
+use Rattle.club_tables.proofs.Common.{Database, Holds, HoldsRows, Rows, MemberRow, Facility, Key, Booking, SlotRow, Less, binary, value_cmp, rowid, Has}
+use Rattle.club_tables.proofs.Common.{all_has, ascending-map, ascending_from_map, IsTable, club_schema, member_values, facility_values, key_values, slot_values}
+use Rattle.club_tables.proofs.Common.{booking_values, members_tree, facilities_tree, keys_tree, slots_tree, bookings_tree, IsRowOf, first_key, contains_had}
+use Rattle.club_tables.proofs.{Common.value_cmp_total, lists.OwnerLemmas.apart_last, statements.SelectLemmas.{Apart, paired, row_of, text_equal, whole_equal}}
 use Rattle.club_tables.proofs.statements.UpdateLemmas.{Below}
+use Rattle.sqlite_schema.specs.{Names.same_name, Rules.{Obeys, agree, differ}, declared.schema.Constraint.TheVariants.{Unique, ForeignKey}}
+use Rattle.sqlite_value.specs.Keys.{plain, joined}
 
 -- the rules of the tables, of those that hold rows
 obeys : {db : Database} {rows : Rows} → HoldsRows db rows → Obeys club_schema db.trees

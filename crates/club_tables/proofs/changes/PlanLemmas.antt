@@ -1,44 +1,29 @@
 -- A change that was made is true of the club, and what the statements of one that fits do, one after the other.
 use Rattle.club_tables.proofs.Common.{rules, ◌≡◌, ℕ, ◌≤◌, ℤ, pos, neg_ℤ, Bool, Ok, None, List, Option, Some, refl, sym, subst, ◌∙◌, ◌≢◌, ◌+◌, ◌-◌, true}
 use Rattle.club_tables.proofs.Common.{if◌then◌else◌, [], ◌∷◌, ◌++◌, map, Contains, ap, arith, IsTrue, inl, inr, recursion_from_All, All-contains}
-use Rattle.club_tables.proofs.Common.{bytes_eq-Decides, find, option_map, bytes_eq, Database, Held, state, Row, binary, Arith, Add, cond}
-use Rattle.club_tables.proofs.Common.{SlotUse, IsMember, Executes, State, Ghosts, Int, good_until, after, cancelled_booking, credited_member, Club}
-use Rattle.club_tables.proofs.Common.{member_named, key_named, IsOwnedBy, IsTrueOf, FitsClub, booking_under, cost_of, taken_in, InsertMember}
-use Rattle.club_tables.proofs.Common.{AddCredit, InsertFacility, InsertKey, MarkRevoked, ReplaceRoot, MarkClosed, MarkOpen, ReplaceQuota, InsertBooking}
-use Rattle.club_tables.proofs.Common.{MarkCancelled, StoreFault}
-use Rattle.club_tables.proofs.Common.{same_slot, persons_of, IsBooking, Booking, Facility, Key, Member, Slot, used_values, statements_of}
-use Rattle.club_tables.proofs.Common.{adding_booking, cancelling, whole, name_values, FailsInTurn, Rows, member_row, used_by}
-use Rattle.club_tables.proofs.Common.{persons_taken, IsStoredAs, HoldsClub, HoldsRows, Ran, transaction_start, BoundStatement, RanInTurn, MemberRow, ADD_USED}
-use Rattle.club_tables.proofs.Common.{InLimits, ADD_TAKEN, CANCEL_BOOKING, SlotRow, AllByRecursion, Has, has_found, has_contained}
-use Rattle.club_tables.proofs.Common.{◌&&◌, ◌==◌, false, list_any, unwrap_or, stored_slot_use, no_slot_use, row_of, nat_le, nat_tests, unsigned_Decides}
-use Rattle.club_tables.proofs.Common.{cancelling_with, is_closed}
-use Rattle.club_tables.proofs.changes.AddLemmas.{take_use}
-use Rattle.club_tables.proofs.changes.ChangeLemmas.{credit_found, whole_to}
-use Rattle.club_tables.proofs.changes.ObeyLemmas.{bookings_apart, booking_facilities}
-use Rattle.club_tables.proofs.lists.KeyedRows.{put_slot, use_put, changed, not_same}
-use Rattle.club_tables.proofs.lists.OwnerLemmas.{apart_last}
-use Rattle.club_tables.proofs.queries.KeyLemmas.{same_slots}
-use Rattle.club_tables.proofs.statements.SelectLemmas.{apart_from_pairs}
+use Rattle.club_tables.proofs.Common.{bytes_eq-Decides, find, option_map, bytes_eq, Database, Held, state, Row, binary, Arith, Add, cond, SlotUse, IsMember}
+use Rattle.club_tables.proofs.Common.{Executes, State, Ghosts, Int, good_until, after, cancelled_booking, credited_member, Club, member_named, key_named}
+use Rattle.club_tables.proofs.Common.{IsOwnedBy, IsTrueOf, FitsClub, booking_under, cost_of, taken_in, InsertMember, AddCredit, InsertFacility, InsertKey}
+use Rattle.club_tables.proofs.Common.{MarkRevoked, ReplaceRoot, MarkClosed, MarkOpen, ReplaceQuota, InsertBooking, MarkCancelled, StoreFault, same_slot}
+use Rattle.club_tables.proofs.Common.{persons_of, IsBooking, Booking, Facility, Key, Member, Slot, used_values, statements_of, adding_booking, cancelling}
+use Rattle.club_tables.proofs.Common.{whole, name_values, FailsInTurn, Rows, member_row, used_by, persons_taken, IsStoredAs, HoldsClub, HoldsRows, Ran}
+use Rattle.club_tables.proofs.Common.{transaction_start, BoundStatement, RanInTurn, MemberRow, ADD_USED, InLimits, ADD_TAKEN, CANCEL_BOOKING, SlotRow}
+use Rattle.club_tables.proofs.Common.{AllByRecursion, Has, has_found, has_contained, ◌&&◌, ◌==◌, false, list_any, unwrap_or, stored_slot_use, no_slot_use}
+use Rattle.club_tables.proofs.{Common.{row_of, nat_le, nat_tests, unsigned_Decides, cancelling_with, is_closed}, changes.AddLemmas.{take_use, booking_put}}
+use Rattle.club_tables.proofs.changes.AddLemmas.{member_put, facility_put, key_put, slot_taken, slot_closed, slot_opened, open_use, older_represents, put_older}
+use Rattle.club_tables.proofs.changes.CancelLemmas.{booking_cancelled, cancel_found, there, used_back, taken_back, mapped_holds, used_less, taken_less}
+use Rattle.club_tables.proofs.changes.ChangeLemmas.{credit_found, whole_to, owner_found, AreKeysOnce, StoresKey, name_of, member_used, AreNamedOnce, used_row}
+use Rattle.club_tables.proofs.changes.ChangeLemmas.{StoresMember, one_found, member_credited, member_given, quota_found, root_found, key_revoked, revoke_finds}
+use Rattle.club_tables.proofs.changes.{ChangeLemmas.root_set, ChargeLemmas.{Charged, charge_found, member_charged}}
+use Rattle.club_tables.proofs.changes.FoundLemmas.{contains_mapped, minus, few_taken, put_there, few_persons, facility_there, slot_placed, still_open}
+use Rattle.club_tables.proofs.changes.{ObeyLemmas.{bookings_apart, booking_facilities}, StoredLemmas.{taken_more, member_stored, credit_stored}}
+use Rattle.club_tables.proofs.changes.StoredLemmas.{facility_stored, key_stored, revoke_stored, rotate_stored, close_stored, open_stored, quota_stored}
+use Rattle.club_tables.proofs.{changes.StoredLemmas.{used_more, bookings_stored}, lists.KeyedRows.{put_slot, use_put, changed, not_same, same_itself}}
+use Rattle.club_tables.proofs.{lists.OwnerLemmas.{apart_last, all_last, owner_is}, queries.KeyLemmas.{same_slots, find_mapped, AreBookingsOnce}}
+use Rattle.club_tables.proofs.{queries.MemberLemmas.total, statements.{MeansLemmas.Steps, PassLemmas.{contains_counts, find_some, found}}}
+use Rattle.club_tables.proofs.statements.SelectLemmas.{apart_from_pairs, pairs_mapped}
 use Rattle.club_core.specs.declared.change.Change.{Change}
 use Rattle.club_rows.specs.Limits.{credited_limit}
-use Rattle.club_tables.proofs.changes.AddLemmas.{booking_put, member_put, facility_put, key_put, slot_taken, slot_closed, slot_opened, open_use}
-use Rattle.club_tables.proofs.changes.AddLemmas.{older_represents}
-use Rattle.club_tables.proofs.changes.AddLemmas.{put_older}
-use Rattle.club_tables.proofs.changes.CancelLemmas.{booking_cancelled, cancel_found, there, used_back, taken_back, mapped_holds, used_less, taken_less}
-use Rattle.club_tables.proofs.changes.ChangeLemmas.{owner_found, AreKeysOnce, StoresKey, name_of, member_used, AreNamedOnce, used_row, StoresMember, one_found}
-use Rattle.club_tables.proofs.changes.ChangeLemmas.{member_credited, member_given, quota_found, root_found, key_revoked, revoke_finds}
-use Rattle.club_tables.proofs.changes.StoredLemmas.{taken_more, member_stored, credit_stored, facility_stored, key_stored, revoke_stored, rotate_stored}
-use Rattle.club_tables.proofs.changes.StoredLemmas.{close_stored, open_stored, quota_stored, used_more, bookings_stored}
-use Rattle.club_tables.proofs.lists.OwnerLemmas.{all_last, owner_is}
-use Rattle.club_tables.proofs.queries.KeyLemmas.{find_mapped, AreBookingsOnce}
-use Rattle.club_tables.proofs.queries.MemberLemmas.{total}
-use Rattle.club_tables.proofs.statements.PassLemmas.{contains_counts, find_some, found}
-use Rattle.club_tables.proofs.statements.SelectLemmas.{pairs_mapped}
-use Rattle.club_tables.proofs.changes.ChangeLemmas.{root_set}
-use Rattle.club_tables.proofs.lists.KeyedRows.{same_itself}
-use Rattle.club_tables.proofs.statements.MeansLemmas.{Steps}
-use Rattle.club_tables.proofs.changes.ChargeLemmas.{Charged, charge_found, member_charged}
-use Rattle.club_tables.proofs.changes.FoundLemmas.{contains_mapped, minus, few_taken, put_there, few_persons, facility_there, slot_placed, still_open}
 
 -- ---- statements in turn
 

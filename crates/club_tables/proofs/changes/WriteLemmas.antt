@@ -1,28 +1,17 @@
 -- Which club is represented after statements that write, whether they succeed or fail.
-use Rattle.club_tables.proofs.Common.{◌≡◌, ◌<◌, length, List, [], ◌∷◌, IsTrue, Result, Ok, Err, OnOk, OnErr, inl, inr, refl, sym, subst, arith}
-use Rattle.club_tables.proofs.Common.{MatchResult, IfErr-weaker, on_err_weaker, Trees, Ghosts, Database, HasCleanDisk, Survives, Held, state, after}
-use Rattle.club_tables.proofs.Common.{IsSound, FitsClub}
-use Rattle.club_tables.proofs.Common.{Club, StoreFault, HoldsClub, IsLeftOf, Represents, ChangesClub, IsChangeFault, IsRunFault, InLimits, BoundStatement}
-use Rattle.club_tables.proofs.Common.{Ran, IsKept, transaction_start, Commits, FailsToRun, AreStatementsOf, statements_of}
-use Rattle.club_tables.proofs.Common.{ℕ, ◌≤◌, ◌++◌, true, if◌then◌else◌, recursion_from_All, Member, Facility, Key, Booking, IsMember, IsFacility, IsBooking}
-use Rattle.club_tables.proofs.Common.{InsertMember, InsertFacility, InsertKey, InsertBooking, MarkCancelled, cancelled_booking, is_marked}
-use Rattle.club_rows.specs.Rows.{IsKey}
-use Rattle.club_rows.specs.Limits.{quota_limit}
-use Rattle.club_core.specs.After.{member_with_quota}
-use Rattle.club_tables.proofs.Common.{ReplaceQuota, bytes_eq}
-use Rattle.club_tables.proofs.changes.CancelLemmas.{mapped_holds}
-use Rattle.club_tables.proofs.lists.OwnerLemmas.{all_last}
-use Rattle.club_tables.proofs.queries.KeyLemmas.{is_numbered}
+use Rattle.club_tables.proofs.Common.{◌≡◌, ◌<◌, length, List, [], ◌∷◌, IsTrue, Result, Ok, Err, OnOk, OnErr, inl, inr, refl, sym, subst, arith, MatchResult}
+use Rattle.club_tables.proofs.Common.{IfErr-weaker, on_err_weaker, Trees, Ghosts, Database, HasCleanDisk, Survives, Held, state, after, IsSound, FitsClub, Club}
+use Rattle.club_tables.proofs.Common.{StoreFault, HoldsClub, IsLeftOf, Represents, ChangesClub, IsChangeFault, IsRunFault, InLimits, BoundStatement, Ran}
+use Rattle.club_tables.proofs.Common.{IsKept, transaction_start, Commits, FailsToRun, AreStatementsOf, statements_of, ℕ, ◌≤◌, ◌++◌, true, if◌then◌else◌}
+use Rattle.club_tables.proofs.Common.{recursion_from_All, Member, Facility, Key, Booking, IsMember, IsFacility, IsBooking, InsertMember, InsertFacility}
+use Rattle.club_tables.proofs.Common.{InsertKey, InsertBooking, MarkCancelled, cancelled_booking, is_marked, ReplaceQuota, bytes_eq}
+use Rattle.club_tables.proofs.changes.{CancelLemmas.mapped_holds, FitLemmas.fits_if_ran, PlanLemmas.{plan, made, less_in_turn}}
+use Rattle.club_tables.proofs.crashes.{RepresentsLemmas.represents_by, SurviveLemmas.{may_commit, kept_when_idle, commits_nothing, survives_itself}}
+use Rattle.club_tables.proofs.{lists.OwnerLemmas.all_last, opening.OpenLemmas.{IsSettled, settles}, queries.{KeyLemmas.is_numbered, ReadLemmas.at_once}}
 use Rattle.club_tables.proofs.statements.PassLemmas.{found}
-use Rattle.club_tables.proofs.crashes.RepresentsLemmas.{represents_by}
-use Rattle.club_core.specs.declared.change.Change.{Change}
-use Rattle.club_tables.proofs.opening.OpenLemmas.{IsSettled, settles}
-use Rattle.club_tables.proofs.queries.ReadLemmas.{at_once}
-use Rattle.club_tables.proofs.crashes.SurviveLemmas.{may_commit, kept_when_idle, commits_nothing, survives_itself}
-use Rattle.club_tables.proofs.changes.PlanLemmas.{plan, made, less_in_turn}
-use Rattle.club_tables.proofs.changes.FitLemmas.{fits_if_ran}
+use Rattle.club_rows.specs.{Limits.quota_limit, Rows.IsKey}
+use Rattle.club_core.specs.{After.member_with_quota, declared.{change.Change.Change, store.StoreFault.TheVariants.Storage}}
 use Rattle.club_laws.specs.SoundRuns.{SuitingChangesKeepSound}
-use Rattle.club_core.specs.declared.store.StoreFault.TheVariants.{Storage}
 
 module _ {S : Type 0} (g : Ghosts S) (all : List BoundStatement) (some : 0 < length all) (old new : Held S)
     (survives : Survives (state g old) (state g new) (λ trees. (db : Database) × Ran g 1 all old db × (trees ≡ db.trees)))

@@ -3,8 +3,7 @@ use Rattle.club_tables.proofs.Common.{rules, Trees, IsLeftOf, filter, IsPermutat
 use Rattle.club_tables.proofs.Common.{Int, Row, Schema, Ghosts, Database, Reads, Select, Term, holds, eval_all, Query, inner, end, understood, reads_listing}
 use Rattle.club_tables.proofs.Common.{State, HasCleanDisk, Survives, Shown, Held, state, survives_then, IsPlain, command_of, reads_as, Club, club_schema}
 use Rattle.club_tables.proofs.Common.{key_values, booking_values, HoldsClub, Holds, RepresentsBy, Represents, keys_tree, bookings_tree, select, BoundStatement}
-use Rattle.club_tables.proofs.Common.{Asked, IsKept, transaction_start}
-use Rattle.club_tables.proofs.statements.SelectLemmas.{selected}
+use Rattle.club_tables.proofs.{Common.{Asked, IsKept, transaction_start}, statements.SelectLemmas.selected}
 
 -- the state represents the same club, by whichever predicate a database holds it, if a crash leaves one of these
 pub represents_by : (IsHeld : Database → Club → Type 0) (old new : State) → IsKept old new → (HasCleanDisk new → HasCleanDisk old) → (club : Club)

@@ -1,8 +1,7 @@
 -- What a crash may leave of statements in a transaction, and what a call in it leaves unchanged.
 use Rattle.club_tables.proofs.Common.{◌≡◌, ℕ, List, refl, arith, inl, Err, IsTrue, true, rules, Ghosts, Trees, Database, State, HasCleanDisk, Survives}
-use Rattle.club_tables.proofs.Common.{IsRolledBack}
-use Rattle.club_tables.proofs.Common.{Shown, FailsToQuery, IsNotRun, IsTooLate, ExecutesInside, Held, state, survives_then, Row, Error, StoreFault}
-use Rattle.club_tables.proofs.Common.{BoundStatement, Ran, IsUntouched, MayCommit, IsAfterReadings, IsOpeningFault}
+use Rattle.club_tables.proofs.Common.{IsRolledBack, Shown, FailsToQuery, IsNotRun, IsTooLate, ExecutesInside, Held, state, survives_then, Row, Error}
+use Rattle.club_tables.proofs.Common.{StoreFault, BoundStatement, Ran, IsUntouched, MayCommit, IsAfterReadings, IsOpeningFault}
 use Rattle.sqlite.specs.Steps.{FailsToCommit}
 
 pub was_clean : (old new : State) (P : Trees → Type 0) → Survives old new P → HasCleanDisk new → HasCleanDisk old

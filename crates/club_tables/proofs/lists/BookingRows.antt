@@ -4,15 +4,12 @@ use Rattle.club_tables.proofs.Common.{inl, inr, get_or, Option, Some, None, if�
 use Rattle.club_tables.proofs.Common.{All-from_recursion, Value, Text, Blob, Row, column, truth, Booking, Club, IsBooking, Slot, SlotUse, slot_use}
 use Rattle.club_tables.proofs.Common.{booking_values, HasValues, use_values, whole_in, key_values, older_root_values, member_values, facility_values, ShowsDay}
 use Rattle.club_tables.proofs.Common.{AreBookings, IsUse, IsFirst, IsBookingIn, IsBookingNamed, option_to_list, Facility, Key, OlderRoot, MemberRow}
+use Rattle.club_tables.proofs.lists.RowLemmas.{zip_more}
 use Rattle.club_core.specs.Sheet.{AreRowsOf}
 use Rattle.club_tables.specs.Use.{ShowsUse}
-use Rattle.club_tables.proofs.lists.RowLemmas.{zip_more}
 use Rattle.std.proofs.lemmas.Iterator.Adapters.{option_map_id}
-use Rattle.club_values.specs.declared.kind.Kind.{Kind}
-use Rattle.club_values.specs.declared.kind.Kind.TheVariants.{Court, Boat, Room}
-use Rattle.club_values.specs.Kind.{kind_text}
-use Rattle.club_rows.specs.declared.key.KeyRow.{KeyRow}
-use Rattle.club_rows.specs.Key.{key_of_row, row_of_key}
+use Rattle.club_values.specs.{Kind.kind_text, declared.kind.Kind.{Kind, TheVariants.{Court, Boat, Room}}}
+use Rattle.club_rows.specs.{Key.{key_of_row, row_of_key}, declared.key.KeyRow.KeyRow}
 
 pub truths : (a b : Bool) → truth a ≡ truth b → a ≡ b
 truths true true h = refl

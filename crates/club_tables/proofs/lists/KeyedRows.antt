@@ -3,11 +3,9 @@ use Rattle.club_tables.proofs.Common.{◌≡◌, ◌≢◌, Bool, true, false, c
 use Rattle.club_tables.proofs.Common.{true≢false, ℤ, ◌==◌, find, option_map, AllPairs, unwrap_or, option_or, list_any, false_from_ne_true, or_parts}
 use Rattle.club_tables.proofs.Common.{find-append, list_any_at, bytes_eq, nat_list_eq_equiv, nat_eq_equiv, or-false, Value, Int, first_key, Table, conflicts}
 use Rattle.club_tables.proofs.Common.{Slot, SlotUse, same_slot, slots_table, club_schema, name_values, slot_values, SlotRow, no_slot_use, stored_slot_use}
-use Rattle.club_tables.proofs.Common.{slots_tree}
-use Rattle.std.proofs.lemmas.List.Quantifiers.{all_pairs_push}
-use Rattle.club_tables.proofs.statements.PassLemmas.{any_counts, find_some, found}
+use Rattle.club_tables.proofs.{Common.slots_tree, queries.KeyLemmas.{same_slots, three, find_mapped}, statements.PassLemmas.{any_counts, find_some, found}}
 use Rattle.club_tables.proofs.statements.SelectLemmas.{Apart, apart_from_pairs, text_equal, whole_equal, pairs_mapped}
-use Rattle.club_tables.proofs.queries.KeyLemmas.{same_slots, three, find_mapped}
+use Rattle.std.proofs.lemmas.List.Quantifiers.{all_pairs_push}
 
 pub absent : {X : Type 0} (p : X → Bool) (xs : List X) → list_any p xs ≡ false → find p xs ≡ None
 absent p [] none = refl

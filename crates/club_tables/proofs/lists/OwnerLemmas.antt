@@ -2,10 +2,8 @@
 use Rattle.club_tables.proofs.Common.{◌≡◌, ◌≢◌, ℕ, ◌+◌, Bool, true, false, cond, List, [], ◌∷◌, ◌++◌, map, Some, Contains, refl, sym, ap, ◌∙◌, arith, filter}
 use Rattle.club_tables.proofs.Common.{find, sum_by, AllByRecursion, list_any, bytes_eq, false_from_ne_true, sum_by-cons, sum_by_push, bytes_eq-Decides}
 use Rattle.club_tables.proofs.Common.{nat_list_eq_equiv, and_comm, or-false, option_to_list, Key, Club, IsSound, is_key_of, IsOwnedBy, all_weaker, all-map}
-use Rattle.club_tables.proofs.Common.{all_has, has_last, has_contained}
-use Rattle.club_tables.proofs.queries.MemberLemmas.{any_filtered}
+use Rattle.club_tables.proofs.{Common.{all_has, has_last, has_contained}, queries.{KeyLemmas.{one_listed, one_named}, MemberLemmas.any_filtered}}
 use Rattle.club_tables.proofs.statements.SelectLemmas.{Apart}
-use Rattle.club_tables.proofs.queries.KeyLemmas.{one_listed, one_named}
 
 -- ---- lists
 

@@ -5,14 +5,10 @@ use Rattle.club_tables.proofs.Common.{Table, IsSound, empty_club, Club, ADD_VERS
 use Rattle.club_tables.proofs.Common.{unindexed_schema, whole, version_values, table_batch, HasNoDesk, migration, index_batch, Rows, IsStoredAs, HoldsClub}
 use Rattle.club_tables.proofs.Common.{HoldsRows, Holds, HoldsClubVersion1, HoldsRowsVersion1, HoldsTrees, RepresentsVersion1, desk_tree, HoldsClubUnindexed}
 use Rattle.club_tables.proofs.Common.{HoldsRowsWith, Represents, RepresentsVersion2, HoldsClubVersion2, Ran, transaction_start, IsKept, IsUnderstood, select}
-use Rattle.club_tables.proofs.statements.MeansLemmas.{Means, but, others_kept, trees_kept}
-use Rattle.club_tables.proofs.statements.InsertLemmas.{creates, indexes, inserts, cast_null, cast_int}
-use Rattle.club_tables.proofs.lists.RowLemmas.{holds_more, holds_none}
-use Rattle.club_tables.proofs.opening.MakesLemmas.{makes_six, makes_keys_by_member, makes_old_roots, makes_bookings_by_key, indexes_again}
-use Rattle.club_tables.proofs.opening.MakesLemmas.{never_ran}
-use Rattle.club_tables.proofs.statements.UpdateLemmas.{updates, finds, changes_one}
-use Rattle.club_tables.proofs.crashes.RepresentsLemmas.{represents_on}
-use Rattle.club_tables.proofs.opening.VersionLemmas.{desk_made}
+use Rattle.club_tables.proofs.{crashes.RepresentsLemmas.represents_on, lists.RowLemmas.{holds_more, holds_none}}
+use Rattle.club_tables.proofs.opening.MakesLemmas.{makes_six, makes_keys_by_member, makes_old_roots, makes_bookings_by_key, indexes_again, never_ran}
+use Rattle.club_tables.proofs.{opening.VersionLemmas.desk_made, statements.InsertLemmas.{creates, indexes, inserts, cast_null, cast_int}}
+use Rattle.club_tables.proofs.statements.{MeansLemmas.{Means, but, others_kept, trees_kept}, UpdateLemmas.{updates, finds, changes_one}}
 
 abbrev version_terms : List Term
 version_terms = lit Null ∷ lit (Int (pos 2)) ∷ []

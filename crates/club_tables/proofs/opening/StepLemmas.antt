@@ -3,9 +3,8 @@ use Rattle.club_tables.proofs.Common.{rules, List, Result, Err, inl, inr, ◌≡
 use Rattle.club_tables.proofs.Common.{get_or, zero, suc, Bor, add-one, arith, IfErr-weaker, on_ok_weaker, on_err_weaker, map-append, All-push, Ghosts, Database}
 use Rattle.club_tables.proofs.Common.{HasCleanDisk, Survives, State, Held, state, Row, Club, StoreFault, IsAfterReadings, FailsToRun, IsOpeningBatch}
 use Rattle.club_tables.proofs.Common.{IsOpeningFault, Opens, YieldsRows, FoundReady, OneOf, RepresentsBy, BoundStatement, IsUntouched, IsKept, IsIdle}
-use Rattle.club_tables.proofs.Common.{IsUnderstood, VERSION, HasValues, version_values}
+use Rattle.club_tables.proofs.{Common.{IsUnderstood, VERSION, HasValues, version_values}, crashes.SurviveLemmas.{after_one, commits_after, was_clean}}
 use Rattle.std.proofs.Math.Seq.{take-suc, take_all}
-use Rattle.club_tables.proofs.crashes.SurviveLemmas.{after_one, commits_after, was_clean}
 
 -- a batch that is refused after a read
 pub batch_failed : {S : Type 0} (g : Ghosts S) (statements : List BoundStatement) → IsOpeningBatch statements → (old mid new : Held S) (fault : StoreFault)

@@ -4,14 +4,12 @@ use Rattle.club_tables.proofs.Common.{Greater, nat_cmp, ◌==◌, not, filter, I
 use Rattle.club_tables.proofs.Common.{nat_tests, ranked, nat_cmp_total, nat_list_cmp_total, on_total, then_total, and-true, and_comm, everything, Text, Binary}
 use Rattle.club_tables.proofs.Common.{ascending, value_cmp-Int, value_cmp-Text, then-Equal, Row, value_cmp, Ghosts, Term, col, inner, end, key_cmp, understood}
 use Rattle.club_tables.proofs.Common.{Held, state, truth, Booking, DAY, club_schema, whole, booking_values, ShowsDay, bookings_tree, select, in_order, is_given}
-use Rattle.std.proofs.Common.{int_cmp}
-use Rattle.std.specs.Cmp.Lexicographic.{slice_cmp}
-use Rattle.std.proofs.lemmas.List.Kept.{AllPairs-filter}
-use Rattle.std.proofs.lemmas.Map.Lookups.{exact_bytes, exact_unsigned}
-use Rattle.club_core.specs.Sheet.{is_on, Precedes}
-use Rattle.club_tables.proofs.statements.SelectLemmas.{whole_equal, apart_from_pairs, pairs_from_apart, selected_in_order, none_greater, apart-permutation}
 use Rattle.club_tables.proofs.crashes.RepresentsLemmas.{Asks, Shows, asked_tables, asked_reads, bookings_held}
 use Rattle.club_tables.proofs.queries.KeyLemmas.{booking_terms, booking_names, is_uncancelled, no_truth}
+use Rattle.club_tables.proofs.statements.SelectLemmas.{whole_equal, apart_from_pairs, pairs_from_apart, selected_in_order, none_greater, apart-permutation}
+use Rattle.std.proofs.{Common.int_cmp, lemmas.{List.Kept.AllPairs-filter, Map.Lookups.{exact_bytes, exact_unsigned}}}
+use Rattle.std.specs.Cmp.Lexicographic.{slice_cmp}
+use Rattle.club_core.specs.Sheet.{is_on, Precedes}
 
 -- ---- the order of the sheet
 

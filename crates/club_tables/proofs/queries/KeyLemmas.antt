@@ -8,9 +8,9 @@ use Rattle.club_tables.proofs.Common.{MemberRow, KEY, MEMBER, FACILITY, OLDER_RO
 use Rattle.club_tables.proofs.Common.{facility_values, older_values, older_root_values, whole, name_values, slot_values, use_values, booking_values}
 use Rattle.club_tables.proofs.Common.{cost_values, OlderRow, member_row, SlotRow, no_slot_use, row_of, Holds, keys_tree, members_tree, facilities_tree}
 use Rattle.club_tables.proofs.Common.{olders_tree, slots_tree, bookings_tree, select, is_given}
-use Rattle.club_tables.specs.Use.{ShowsUse}
-use Rattle.club_tables.proofs.statements.SelectLemmas.{pairs_mapped, text_equal, find_first, apart_from_pairs, one_passes, short_permutation, whole_equal}
 use Rattle.club_tables.proofs.crashes.RepresentsLemmas.{Asks, Shows, asked_tables, asked_shows, keys_held, bookings_held}
+use Rattle.club_tables.proofs.statements.SelectLemmas.{pairs_mapped, text_equal, find_first, apart_from_pairs, one_passes, short_permutation, whole_equal}
+use Rattle.club_tables.specs.Use.{ShowsUse}
 
 pub find_mapped : {X Y : Type 0} (p : Y → Bool) (f : X → Y) (xs : List X) → find p (map f xs) ≡ option_map f (find (λ x. p (f x)) xs)
 find_mapped p f [] = refl

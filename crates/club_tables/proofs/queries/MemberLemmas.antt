@@ -6,12 +6,10 @@ use Rattle.club_tables.proofs.Common.{recursion_from_All, All-weaker, length_per
 use Rattle.club_tables.proofs.Common.{everything, Value, Int, Text, Binary, value_cmp-Int, Add, Mul, Arith, Compare, Eq, Gt, Ge, binary, is_true, Row, Ghosts}
 use Rattle.club_tables.proofs.Common.{Term, lit, col, op2, inner, end, understood, Held, state, truth, Key, Booking, IsBooking, is_to_come, count_to_come, Club}
 use Rattle.club_tables.proofs.Common.{is_key_of, bookings_of, OPEN, club_schema, whole, key_values, booking_values, keys_tree, bookings_tree, select, is_given}
-use Rattle.club_tables.proofs.Common.{map-flat_map}
-use Rattle.club_values.specs.Slot.{start_of}
+use Rattle.club_tables.proofs.{Common.map-flat_map, crashes.RepresentsLemmas.{Asks, Shows, asked_tables, asked_reads, keys_held, bookings_held}}
+use Rattle.club_tables.proofs.{queries.KeyLemmas.no_truth, statements.JoinLemmas.{filter_filter, IsElsewhere, pairs_counted, selected_both}}
 use Rattle.club_tables.proofs.statements.SelectLemmas.{apart_from_pairs, from_truth_is, text_equal, whole_equal, filter_same}
-use Rattle.club_tables.proofs.statements.JoinLemmas.{filter_filter, IsElsewhere, pairs_counted, selected_both}
-use Rattle.club_tables.proofs.crashes.RepresentsLemmas.{Asks, Shows, asked_tables, asked_reads, keys_held, bookings_held}
-use Rattle.club_tables.proofs.queries.KeyLemmas.{no_truth}
+use Rattle.club_values.specs.Slot.{start_of}
 
 -- the booking's key is the key
 abbrev under_it : Term

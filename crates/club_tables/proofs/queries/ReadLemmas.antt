@@ -1,10 +1,9 @@
 -- What makes a reading, and which fault it has.
 use Rattle.club_tables.proofs.Common.{List, Result, IfOk, IfErr, inl, inr, arith, IfErr-weaker, IfOk-weaker, Row, Ghosts, HasCleanDisk, Survives, Held, state}
 use Rattle.club_tables.proofs.Common.{StoreFault, Club, FailsAtReading, FailsToRead, IsAfterReadings, IsReadFault, Reading, CanRead, reading_statement}
-use Rattle.club_tables.proofs.Common.{ReadsClub, Asked, IsKept, BoundStatement, HoldsClub}
-use Rattle.club_tables.specs.Answers.{Answers}
-use Rattle.club_tables.proofs.crashes.RepresentsLemmas.{Shows, represents_on}
+use Rattle.club_tables.proofs.{Common.{ReadsClub, Asked, IsKept, BoundStatement, HoldsClub}, crashes.RepresentsLemmas.{Shows, represents_on}}
 use Rattle.club_tables.proofs.crashes.SurviveLemmas.{kept_when_idle}
+use Rattle.club_tables.specs.Answers.{Answers}
 
 -- no reading before
 pub at_once : {S : Type 0} (g : Ghosts S) (held : Held S) → HasCleanDisk (state g held) → IsAfterReadings g held held

@@ -2,11 +2,10 @@
 use Rattle.club_tables.proofs.Common.{◌≡◌, ℕ, ℤ, Bool, true, false, cond, ◌||◌, ◌&&◌, List, [], ◌∷◌, map, refl, ap, subst, ◌∙◌, ◌≤◌, pos, min, length, arith}
 use Rattle.club_tables.proofs.Common.{filter, flat_map, IsPermutation, AllByRecursion, list_all, list_any, length-map, Int, Row, Term, Env, holds, eval_all}
 use Rattle.club_tables.proofs.Common.{inner, end, IsAnswer, output, counted, Select, Database, Reads, Answers, map-map, map-flat_map, flat_map-map}
-use Rattle.club_tables.proofs.Common.{flat_map_same_on, filter-filter, filter_agree, and-true, not, sym, ◌+◌, length-append, is_true, Holds, select}
-use Rattle.club_tables.proofs.Common.{AllZip, Has, has_filtered, has_kept, inl, inr}
-use Rattle.std.proofs.lemmas.List.Filters.{length-filter_both}
+use Rattle.club_tables.proofs.Common.{flat_map_same_on, filter-filter, filter_agree, and-true, not, sym, ◌+◌, length-append, is_true, Holds, select, AllZip}
+use Rattle.club_tables.proofs.{Common.{Has, has_filtered, has_kept, inl, inr}, statements.PassLemmas.{as_many, each_row}}
 use Rattle.club_tables.proofs.statements.SelectLemmas.{Apart, pick_by_if, plain_answer, picked, none_of, shown_of, row_of, paired as with_rowids}
-use Rattle.club_tables.proofs.statements.PassLemmas.{as_many, each_row}
+use Rattle.std.proofs.lemmas.List.Filters.{length-filter_both}
 
 -- ---- lists
 

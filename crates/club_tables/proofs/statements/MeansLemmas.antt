@@ -5,10 +5,9 @@ use Rattle.club_tables.proofs.Common.{created, understood, IsPlain, command_of, 
 use Rattle.club_tables.proofs.Common.{version_values, member_values, facility_values, key_values, slot_values, booking_values, older_values, MemberRow, Rows}
 use Rattle.club_tables.proofs.Common.{SlotRow, OlderRow, Holds, HoldsTrees, HoldsRows, desk_tree, members_tree, facilities_tree, keys_tree, slots_tree}
 use Rattle.club_tables.proofs.Common.{bookings_tree, olders_tree, BoundStatement}
-use Rattle.sqlite.specs.Compile.{table_defined_by}
+use Rattle.sqlite.specs.{Compile.table_defined_by, Does.lacks_sequence}
 use Rattle.sqlite_resolve.specs.Compile.{index_defined_by}
 use Rattle.sqlite_schema.specs.declared.schema.Index.{Index}
-use Rattle.sqlite.specs.Does.{lacks_sequence}
 
 -- over these tables the text is this command
 pub record Means (schema : Schema) (text : List ℕ) (command : Command) : Type 0 where

@@ -2,9 +2,8 @@
 use Rattle.club_tables.proofs.Common.{◌≡◌, ◌≤◌, ℤ, Contains, Bool, true, false, ◌||◌, cond, Some, List, [], ◌∷◌, length, refl, sym, ap, ◌∙◌, not, arith}
 use Rattle.club_tables.proofs.Common.{true≢false, slice_get, suc, ◌==◌, nat_tests, filter, find, AllByRecursion, AllZip, list_any, list_any_at, Int, Row}
 use Rattle.club_tables.proofs.Common.{filter-filter, has_found, has_kept, contains_had, all_from, Has, false_from_ne_true, inl, inr, IsRowOf}
-use Rattle.std.proofs.lemmas.List.Filters.{length-filter_both}
-use Rattle.std.proofs.lemmas.Option.{slice_get_within}
 use Rattle.club_tables.proofs.statements.SelectLemmas.{find_first, filter_same, only}
+use Rattle.std.proofs.lemmas.{List.Filters.length-filter_both, Option.slice_get_within}
 
 -- a test of the columns passes if the element does
 pub each_row : {X : Type 0} (values : X → Row) (hit : Row → Bool) (p : X → Bool) → ((id : ℤ) (x : X) → hit (Int id ∷ values x) ≡ p x) → (rows : List Row)

@@ -6,22 +6,15 @@ use Rattle.club_tables.proofs.Common.{has_filtered, one_permutation, IsPlain, co
 use Rattle.club_tables.proofs.Common.{Compare, Eq, Row, column, value_cmp, Term, col, op2, eval_all, inner, end, Values, Command, InsertOr, conflicts}
 use Rattle.club_tables.proofs.Common.{AreConflicts, Table, cast_row, Edit, next_rowid, with_rowid, Chosen, Enforced, Written, Task, nothing, shown, count_of}
 use Rattle.club_tables.proofs.Common.{Upserts, Clears, Puts, Resolves, Tries, TriesEach, Meets, value_rows, State, Executes, understood, table_of, club_schema}
-use Rattle.club_tables.proofs.Common.{select, Holds, Equal-is, binary, is_true, Has}
-use Rattle.sqlite_schema.specs.declared.command.Conflict.TheVariants.{Abort}
-use Rattle.sqlite_schema.specs.declared.command.Upsert.{Upsert}
-use Rattle.sqlite_schema.specs.declared.program.Program.{Program}
-use Rattle.sqlite_schema.specs.declared.schema.Column.{Column}
+use Rattle.club_tables.proofs.Common.{select, Holds, Equal-is, binary, is_true, Has, list_all, holds, and_comm, and_assoc, ◌&&◌, cond, find, length_permutation}
+use Rattle.club_tables.proofs.lists.{PutRows.{IsLone, put_among}, RowLemmas.holds_more}
+use Rattle.club_tables.proofs.statements.{InsertLemmas.{Leaves, task_of, went, same_value, wrote_rows, edited_alone}, JoinLemmas.filter_filter}
+use Rattle.club_tables.proofs.statements.{MeansLemmas.{Means, Wrote}, PassLemmas.any_filtered_is}
+use Rattle.club_tables.proofs.statements.SelectLemmas.{Apart, one_passes, test, shows, answered, row_of, Paired, paired, only, from_truth_is, find_first}
+use Rattle.club_tables.proofs.statements.UpdateLemmas.{Updates, update_leaves, no_works, replaced, Below}
+use Rattle.sqlite_schema.specs.declared.{command.{Conflict.TheVariants.Abort, Upsert.Upsert}, program.Program.Program, schema.Column.Column}
 use Rattle.sqlite_schema.specs.declared.schema.Reference.{Reference}
 use Rattle.sqlite_rules.specs.Action.{Writes as ActionWrites}
-use Rattle.club_tables.proofs.lists.RowLemmas.{holds_more}
-use Rattle.club_tables.proofs.statements.InsertLemmas.{Leaves, task_of, went, same_value, wrote_rows, edited_alone}
-use Rattle.club_tables.proofs.statements.MeansLemmas.{Means, Wrote}
-use Rattle.club_tables.proofs.statements.UpdateLemmas.{Updates, update_leaves, no_works, replaced, Below}
-use Rattle.club_tables.proofs.Common.{list_all, holds, and_comm, and_assoc, ◌&&◌, cond, find, length_permutation}
-use Rattle.club_tables.proofs.statements.JoinLemmas.{filter_filter}
-use Rattle.club_tables.proofs.statements.PassLemmas.{any_filtered_is}
-use Rattle.club_tables.proofs.statements.SelectLemmas.{Apart, one_passes, test, shows, answered, row_of, Paired, paired, only, from_truth_is, find_first}
-use Rattle.club_tables.proofs.lists.PutRows.{IsLone, put_among}
 
 -- one more test
 list_all_more : {X : Type 0} (p : X → Bool) (xs : List X) (y : X) → list_all p (xs ++ y ∷ []) ≡ (list_all p xs && p y)

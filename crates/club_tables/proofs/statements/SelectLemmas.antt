@@ -8,9 +8,7 @@ use Rattle.club_tables.proofs.Common.{value_cmp-Text, value_cmp-Blob, Compare, E
 use Rattle.club_tables.proofs.Common.{end, IsAnswer, Output, output, Query, output_cmp, key_cmp, Select, Database, Reads, Answers, one_permutation, IsRowOf}
 use Rattle.club_tables.proofs.Common.{Holds, select, Has, map-map, filter-map, ascending-filter, ascending-map, all_of, pull_back, all-permutation}
 use Rattle.club_tables.proofs.Common.{along_permutation, Less, Equal, Greater, is_gt, ordering_reverse, IsTotalOrder, length-map, get_or-map}
-use Rattle.std.proofs.Math.Path.{ap₂}
-use Rattle.std.proofs.lemmas.Map.Text.{is_eq-slice_cmp}
-use Rattle.std.proofs.lemmas.List.Kept.{AllPairs-cons}
+use Rattle.std.proofs.{Math.Path.ap₂, lemmas.{List.Kept.AllPairs-cons, Map.Text.is_eq-slice_cmp}}
 use Rattle.sqlite.specs.Program.{overlay}
 use Rattle.sqlite_trees.specs.Tree.{IsAscending}
 pub use Rattle.sqlite_trees.proofs.ListLemmas.{filter_same, filter_none as none_pass}

@@ -6,15 +6,13 @@ use Rattle.club_tables.proofs.Common.{edited, taken_by, works, work_by, pairs, d
 use Rattle.club_tables.proofs.Common.{select, Holds, IsRowOf, is_eq, ordering_reverse, tied_itself, Value, value_cmp_total, rowid, has_rowid, put_row}
 use Rattle.club_tables.proofs.Common.{without_rowid, IsTable, filter-map, filter_all, filter_same, all_weaker, all_both, all_from_map, ascending-map}
 use Rattle.club_tables.proofs.Common.{ascending_from_map, all_has, has_filtered, one_permutation}
+use Rattle.club_tables.proofs.statements.{InsertLemmas.{Leaves, task_of, went, same_value, wrote_rows, edited_alone}, MeansLemmas.{Means, Wrote}}
+use Rattle.club_tables.proofs.statements.{PassLemmas.{each_row, as_many, find_some}, SelectLemmas.{answered, shows, test, row_of, paired, short_permutation}}
 use Rattle.sqlite_rules.proofs.RowLemmas.{length-numbered}
 use Rattle.sqlite_rules.specs.Calls.{ids_of}
 use Rattle.sqlite_schema.specs.Rules.{parent_key}
 use Rattle.sqlite.specs.Rows.{Updates as WritesUpdate}
 pub use Rattle.sqlite_trees.proofs.ListLemmas.{all_of as each_of}
-use Rattle.club_tables.proofs.statements.InsertLemmas.{Leaves, task_of, went, same_value, wrote_rows, edited_alone}
-use Rattle.club_tables.proofs.statements.MeansLemmas.{Means, Wrote}
-use Rattle.club_tables.proofs.statements.PassLemmas.{each_row, as_many, find_some}
-use Rattle.club_tables.proofs.statements.SelectLemmas.{answered, shows, test, row_of, paired, short_permutation}
 use Rattle.std.proofs.Math.Path.{ap₂}
 
 abbrev pub Below : Row → Row → Type 0

@@ -1,21 +1,12 @@
 -- The values of texts as functions, for definitions that compute. `IsName`, `SpellsDay` and the like define what the values mean; the
 -- contracts of the parsers state both.
+use Rattle.std.specs.{Int.is_in_range, List.list_all}
 use Rattle.std.specs.Prelude.{ℕ, ◌+◌, ◌-◌, ◌*◌, ◌/◌, ◌==◌, ◌&&◌, not, Bool, true, List, length, slice_index, nat_lt, nat_le, if◌then◌else◌, Option, Some, None}
-use Rattle.std.specs.List.{list_all}
 use Rattle.std.specs.Str.{bytes_eq}
-use Rattle.std.specs.Int.{is_in_range}
-use Rattle.club_values.specs.declared.kind.Kind.{Kind as AKind}
+use Rattle.club_values.specs.{Action.action_text, Day.{day_text, first_day, last_day}, Digits.two_digits, Hour.hours_a_day, Kind.kind_text}
+use Rattle.club_values.specs.{Moment.{moment_text, first_moment, last_moment, minutes_a_day, minutes_an_hour}, Name.{is_name_byte, max_name_len}}
+use Rattle.club_values.specs.{Number.number_of_digits, declared.{action.Action.{Action, TheVariants.{View, Book, Cancel, Account}}, kind.Kind.Kind as AKind}}
 use Rattle.club_values.specs.declared.kind.Kind.TheVariants.{Court, Boat, Room}
-use Rattle.club_values.specs.declared.action.Action.{Action}
-use Rattle.club_values.specs.declared.action.Action.TheVariants.{View, Book, Cancel, Account}
-use Rattle.club_values.specs.Name.{is_name_byte, max_name_len}
-use Rattle.club_values.specs.Digits.{two_digits}
-use Rattle.club_values.specs.Number.{number_of_digits}
-use Rattle.club_values.specs.Day.{day_text, first_day, last_day}
-use Rattle.club_values.specs.Hour.{hours_a_day}
-use Rattle.club_values.specs.Moment.{moment_text, first_moment, last_moment, minutes_a_day, minutes_an_hour}
-use Rattle.club_values.specs.Kind.{kind_text}
-use Rattle.club_values.specs.Action.{action_text}
 
 abbrev pub is_name : List ℕ → Bool
 is_name bytes =

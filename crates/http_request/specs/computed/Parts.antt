@@ -1,9 +1,7 @@
 -- The values that the parts of a path spell, computed.
-use Rattle.std.specs.Prelude.{ℕ, ◌&&◌, List, nat_le, if◌then◌else◌, Option, Some, None}
-use Rattle.std.specs.Prelude.{option_and_then}
+use Rattle.std.specs.Prelude.{ℕ, ◌&&◌, List, nat_le, if◌then◌else◌, Option, Some, None, option_and_then}
 use Rattle.club_rows.specs.Limits.{booking_number_limit}
-use Rattle.club_values.specs.declared.slot.Slot.{Slot}
-use Rattle.club_values.specs.computed.TextOf.{name_of_text, day_of_text, hour_of_text, decimal_of_text}
+use Rattle.club_values.specs.{computed.TextOf.{name_of_text, day_of_text, hour_of_text, decimal_of_text}, declared.slot.Slot.Slot}
 
 infixl 10 ◌>>=◌
 abbrev pub ◌>>=◌ : {A B : Type 0} → Option A → (A → Option B) → Option B

@@ -1,27 +1,12 @@
 -- Parsing a caveat, as a function for definitions that compute. `Understood` defines what it means; a law states that both agree.
-use Rattle.std.specs.Prelude.{ℕ, ◌==◌, ◌&&◌, Bool, true, false, List, [], ◌∷◌, length, drop, slice_index, slice_index_or, map, nat_lt, nat_le}
-use Rattle.std.specs.Prelude.{if◌then◌else◌, Option, Some, None}
-use Rattle.std.specs.List.{list_all}
-use Rattle.std.specs.Str.{bytes_eq}
-use Rattle.std.specs.Str.Parse.{digits_value}
-use Rattle.pass_caveats.specs.declared.caveat.Caveat.{Caveat}
+use Rattle.std.specs.{Int.is_in_range, List.list_all, Prelude.{ℕ, ◌==◌, ◌&&◌, Bool, true, false, List, [], ◌∷◌, length, drop, slice_index, slice_index_or, map}}
+use Rattle.std.specs.{Prelude.{nat_lt, nat_le, if◌then◌else◌, Option, Some, None}, Str.{bytes_eq, Parse.digits_value}}
+use Rattle.pass_caveats.specs.{Actions.{all_actions, action_texts}, Caveat.{caveat_text, max_caveat_len}, Names.max_names, Parts.comma_parts}
+use Rattle.pass_caveats.specs.{Weekdays.{weekday_text, weekday_texts}, declared.{actions.Actions.Actions as SomeActions, caveat.Caveat.Caveat}}
 use Rattle.pass_caveats.specs.declared.caveat.Caveat.TheVariants.{Facility, Kind, Hours, Days, Weekdays, Until, Guests, Spend, Actions}
-use Rattle.pass_caveats.specs.declared.actions.Actions.{Actions as SomeActions}
 use Rattle.pass_caveats.specs.declared.weekdays.Weekdays.{Weekdays as SomeWeekdays}
-use Rattle.std.specs.Int.{is_in_range}
-use Rattle.club_values.specs.Slot.{guests_limit}
-use Rattle.club_values.specs.computed.TextOf.{two_at, day_of, moment_of, candidate_kind, is_name}
-use Rattle.club_values.specs.Day.{first_day, last_day}
-use Rattle.club_values.specs.Hour.{hours_a_day}
-use Rattle.club_values.specs.Moment.{first_moment, last_moment}
-use Rattle.club_values.specs.Action.{action_text}
-use Rattle.club_values.specs.Weekday.{weekdays}
-use Rattle.pass_caveats.specs.Names.{max_names}
-use Rattle.club_values.specs.Number.{number_limit}
-use Rattle.pass_caveats.specs.Parts.{comma_parts}
-use Rattle.pass_caveats.specs.Actions.{all_actions, action_texts}
-use Rattle.pass_caveats.specs.Weekdays.{weekday_text, weekday_texts}
-use Rattle.pass_caveats.specs.Caveat.{caveat_text, max_caveat_len}
+use Rattle.club_values.specs.{Action.action_text, Day.{first_day, last_day}, Hour.hours_a_day, Moment.{first_moment, last_moment}, Number.number_limit}
+use Rattle.club_values.specs.{Slot.guests_limit, Weekday.weekdays, computed.TextOf.{two_at, day_of, moment_of, candidate_kind, is_name}}
 
 -- whether the first part is the word
 abbrev pub is_next : List ℕ → List (List ℕ) → Bool

@@ -1,10 +1,8 @@
 -- Lists of caveats, in either layout of bytes. A layout reads the caveat at the front, if there is one, and returns it
 -- with the bytes after it.
-use Rattle.std.specs.Prelude.{◌≡◌, ℕ, Bool, zero, suc, List, [], ◌∷◌, length, map, Option, Some, None}
-use Rattle.std.specs.List.{list_any}
+use Rattle.std.specs.{List.list_any, Prelude.{◌≡◌, ℕ, Bool, zero, suc, List, [], ◌∷◌, length, map, Option, Some, None}}
 use Rattle.pass_forms.specs.FieldSource.{PassField, pass_fields}
-use Rattle.pass_forms.specs.computed.Parts.{◌>>=◌}
-use Rattle.pass_forms.specs.Pass.{WideCaveat, WidePass, has_third_party, is_third_party, first_party, first_party_caveat}
+use Rattle.pass_forms.specs.{Pass.{WideCaveat, WidePass, has_third_party, is_third_party, first_party, first_party_caveat}, computed.Parts.{◌>>=◌}}
 
 -- A caveat, if there is one, and then the others.
 abbrev pub and_others : (List ℕ → List WideCaveat × List ℕ) → List ℕ → Option (WideCaveat × List ℕ) → List WideCaveat × List ℕ

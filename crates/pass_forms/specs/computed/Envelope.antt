@@ -1,15 +1,9 @@
 -- What a text wraps, computed.
+use Rattle.std.specs.{List.list_all, Option.{option_and_then, option_map, option_or, ok_or}}
 use Rattle.std.specs.Prelude.{ℕ, List, length, nat_lt, if◌then◌else◌, Option, None, Result, Ok, Err}
-use Rattle.std.specs.List.{list_all}
-use Rattle.std.specs.Option.{option_and_then, option_map, option_or, ok_or}
-use Rattle.base64.specs.Engines.{url_safe_no_pad, url_safe, standard_no_pad, standard}
-use Rattle.base64.specs.GeneralPurpose.{decoded_of}
-use Rattle.pass_forms.specs.declared.fault.FormFault.{FormFault}
-use Rattle.pass_forms.specs.declared.fault.FormFault.TheVariants.{TooLong, Malformed}
-use Rattle.pass_forms.specs.declared.form.Form.{Form}
-use Rattle.pass_forms.specs.declared.form.Form.TheVariants.{Json}
-use Rattle.pass_forms.specs.Reading.{max_text_len}
-use Rattle.pass_forms.specs.Envelope.{starts_with_brace, form_of}
+use Rattle.base64.specs.{Engines.{url_safe_no_pad, url_safe, standard_no_pad, standard}, GeneralPurpose.decoded_of}
+use Rattle.pass_forms.specs.{Envelope.{starts_with_brace, form_of}, Reading.max_text_len, declared.fault.FormFault.FormFault}
+use Rattle.pass_forms.specs.declared.{fault.FormFault.TheVariants.{TooLong, Malformed}, form.Form.{Form, TheVariants.Json}}
 
 -- the bytes, by the first of the four decoders that accepts the text
 unfoldable pub by_decoders : List ℕ → Option (List ℕ)

@@ -1,6 +1,5 @@
 -- Reading from the front of bytes: a part, and the bytes after it.
-use Rattle.std.specs.Prelude.{ℕ, ◌-◌, ◌==◌, ◌&&◌, nat_eq, if◌then◌else◌, List, length, take, drop, Option, Some, None}
-use Rattle.std.specs.Cmp.Lexicographic.{pointwise}
+use Rattle.std.specs.{Cmp.Lexicographic.pointwise, Prelude.{ℕ, ◌-◌, ◌==◌, ◌&&◌, nat_eq, if◌then◌else◌, List, length, take, drop, Option, Some, None}}
 
 infixl 10 ◌>>=◌
 abbrev pub ◌>>=◌ : {A B : Type 0} → Option A → (A → Option B) → Option B

@@ -1,6 +1,5 @@
 -- Whether a pass is signed under a root, computed.
-use Rattle.std.specs.Prelude.{ℕ, Bool, List}
-use Rattle.std.specs.Str.{bytes_eq}
+use Rattle.std.specs.{Prelude.{ℕ, Bool, List}, Str.bytes_eq}
 use Rattle.pass_mac.specs.Chain.{chain, derived_key}
 use Rattle.pass_forms.specs.Pass.{Plain}
 

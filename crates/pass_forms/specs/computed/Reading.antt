@@ -1,9 +1,7 @@
 -- The result of a reader, computed from the wide pass that a text spells, if there is one.
 use Rattle.std.specs.Prelude.{ℕ, Bool, nat_lt, if◌then◌else◌, length, Option, Some, None, Result, Ok, Err}
-use Rattle.pass_forms.specs.declared.fault.FormFault.{FormFault}
+use Rattle.pass_forms.specs.{Pass.{Plain, WidePass, has_third_party, first_party}, Reading.{max_text_len, max_caveats}, declared.fault.FormFault.FormFault}
 use Rattle.pass_forms.specs.declared.fault.FormFault.TheVariants.{TooLong, Malformed, ThirdParty, TooMany}
-use Rattle.pass_forms.specs.Pass.{Plain, WidePass, has_third_party, first_party}
-use Rattle.pass_forms.specs.Reading.{max_text_len, max_caveats}
 
 -- the first fault of a wide pass, else the pass
 abbrev pub checked_pass : WidePass → Result Plain FormFault

@@ -1,10 +1,7 @@
 -- The reading of a text, computed from the wide pass that bytes spell in each form, if there is one.
 use Rattle.std.specs.Prelude.{ℕ, List, Option, Result, Ok, Err}
-use Rattle.pass_forms.specs.declared.fault.FormFault.{FormFault}
+use Rattle.pass_forms.specs.{Pass.{Plain, WidePass}, computed.{Envelope.unwrapping, Reading.checked_if_any}, declared.fault.FormFault.FormFault}
 use Rattle.pass_forms.specs.declared.form.Form.{Form}
-use Rattle.pass_forms.specs.computed.Envelope.{unwrapping}
-use Rattle.pass_forms.specs.Pass.{Plain, WidePass}
-use Rattle.pass_forms.specs.computed.Reading.{checked_if_any}
 
 -- a result in a form
 abbrev pub in_form : Form → Result Plain FormFault → Result (Form × Plain) FormFault

@@ -1,10 +1,8 @@
 -- V1, parsed from the front: each function returns a value and the bytes after it.
 use Rattle.std.specs.Prelude.{ℕ, ◌+◌, ◌-◌, ◌*◌, nat_le, ◌&&◌, if◌then◌else◌, List, [], ◌∷◌, length, take, drop, codes, Option, Some, None, Result}
+use Rattle.pass_forms.specs.{Pass.{Plain, WideCaveat, WidePass}, computed.Caveats.whole_at}
+use Rattle.pass_forms.specs.computed.{Parts.{◌>>=◌, after_prefix, before_suffix, found_or_none, last_signature}, Reading.reading_of}
 use Rattle.pass_forms.specs.declared.fault.FormFault.{FormFault}
-use Rattle.pass_forms.specs.computed.Caveats.{whole_at}
-use Rattle.pass_forms.specs.computed.Parts.{◌>>=◌, after_prefix, before_suffix, found_or_none, last_signature}
-use Rattle.pass_forms.specs.Pass.{Plain, WideCaveat, WidePass}
-use Rattle.pass_forms.specs.computed.Reading.{reading_of}
 
 abbrev pub digit_value : ℕ → Option ℕ
 digit_value byte =

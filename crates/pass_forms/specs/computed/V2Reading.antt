@@ -1,12 +1,8 @@
 -- V2, parsed from the front: each function returns a value and the bytes after it.
 use Rattle.std.specs.Prelude.{ℕ, ◌+◌, ◌-◌, ◌*◌, ◌/◌, nat_lt, nat_le, ◌==◌, if◌then◌else◌, List, [], ◌∷◌, length, take, drop, Option, Some, None, Result}
 use Rattle.std.specs.Prelude.{unwrap_or}
-use Rattle.pass_forms.specs.declared.fault.FormFault.{FormFault}
-use Rattle.pass_forms.specs.computed.Caveats.{whole_at}
-use Rattle.pass_forms.specs.computed.Parts.{◌>>=◌, after_prefix, found_or_none, last_signature}
-use Rattle.pass_forms.specs.Pass.{Plain, WideCaveat, WidePass}
-use Rattle.pass_forms.specs.computed.Reading.{reading_of}
-use Rattle.pass_forms.specs.V2.{end_of_section, types}
+use Rattle.pass_forms.specs.{Pass.{Plain, WideCaveat, WidePass}, V2.{end_of_section, types}, computed.Caveats.whole_at}
+use Rattle.pass_forms.specs.{computed.{Parts.{◌>>=◌, after_prefix, found_or_none, last_signature}, Reading.reading_of}, declared.fault.FormFault.FormFault}
 
 -- seven low bits below the bits of the bytes that follow, which must not all be zero; the number is at most `most`
 abbrev pub above : ℕ → ℕ → Option (ℕ × List ℕ) → Option (ℕ × List ℕ)

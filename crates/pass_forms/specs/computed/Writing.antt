@@ -1,10 +1,7 @@
 -- The result of a writer, computed from the bytes of the pass.
 use Rattle.std.specs.Prelude.{ℕ, nat_lt, if◌then◌else◌, List, length, Result, Ok, Err}
-use Rattle.pass_forms.specs.declared.fault.FormFault.{FormFault}
+use Rattle.pass_forms.specs.{Pass.Plain, Reading.{max_caveats, max_text_len}, Writing.{in_base64, v1_bytes, v2_bytes}, declared.fault.FormFault.FormFault}
 use Rattle.pass_forms.specs.declared.fault.FormFault.TheVariants.{TooLong, TooMany}
-use Rattle.pass_forms.specs.Pass.{Plain}
-use Rattle.pass_forms.specs.Reading.{max_caveats, max_text_len}
-use Rattle.pass_forms.specs.Writing.{in_base64, v1_bytes, v2_bytes}
 
 -- the text of these bytes of a pass, or the first fault that applies
 abbrev pub writing_of : List ℕ → Plain → Result (List ℕ) FormFault

@@ -1,9 +1,7 @@
 //! A pass as the packets of V1.
 
-ghost use Rattle.std.specs.Prelude.{◌≡◌, ◌<◌, ◌≤◌, ◌^◌, length, map};
-ghost use Rattle.std.specs.List.{flat_map};
-ghost use Rattle.pass_forms.specs.Pass.{widened_caveat};
-ghost use Rattle.pass_forms.specs.Putting.{Puts};
+ghost use Rattle.std.specs.{List.flat_map, Prelude.{◌≡◌, ◌<◌, ◌≤◌, ◌^◌, length, map}};
+ghost use Rattle.pass_forms.specs.{Pass.widened_caveat, Putting.Puts};
 ghost use Rattle.pass_forms.specs.V1 as spec;
 
 use crate::v1::{CAVEAT, IDENTIFIER, LOCATION, Packets, SIGNATURE};

@@ -1,11 +1,8 @@
 //! A pass as the sections of V2.
 
-ghost use Rattle.std.specs.Prelude.{◌<◌, ◌^◌, ◌++◌, map};
-ghost use Rattle.std.specs.List.{flat_map};
-ghost use Rattle.pass_forms.specs.Pass.{widened_caveat};
-ghost use Rattle.pass_forms.specs.Putting.{Puts};
+ghost use Rattle.std.specs.{List.flat_map, Prelude.{◌<◌, ◌^◌, ◌++◌, map}};
+ghost use Rattle.pass_forms.specs.{Pass.widened_caveat, Putting.Puts, Writing.nonempty_location};
 ghost use Rattle.pass_forms.specs.V2 as spec;
-ghost use Rattle.pass_forms.specs.Writing.{nonempty_location};
 
 use crate::v2::{END_OF_SECTION, IDENTIFIER, LOCATION, SIGNATURE, Sections, VERSION};
 use crate::write::PutLayout;

@@ -1,15 +1,10 @@
 -- The reading and the writing of a text in any form, computed.
 use Rattle.std.specs.Prelude.{ℕ, List, Option, Result}
-use Rattle.pass_forms.specs.declared.fault.FormFault.{FormFault}
-use Rattle.pass_forms.specs.declared.form.Form.{Form}
-use Rattle.pass_forms.specs.declared.form.Form.TheVariants.{V1, V2, Json}
-use Rattle.pass_forms.specs.Pass.{Plain, WidePass}
-use Rattle.pass_forms.specs.computed.Text.{text_reading}
+use Rattle.pass_forms.specs.{Pass.{Plain, WidePass}, computed.{Text.text_reading, Writing.{writing_v1, writing_v2}}, declared.fault.FormFault.FormFault}
+use Rattle.pass_forms.specs.declared.form.Form.{Form, TheVariants.{V1, V2, Json}}
 use Rattle.pass_forms.specs.computed.V1Reading as v1
 use Rattle.pass_forms.specs.computed.V2Reading as v2
-use Rattle.pass_forms.specs.computed.Writing.{writing_v1, writing_v2}
-use Rattle.pass_json.specs.computed.JsonReading.{reading_json, wide_json}
-use Rattle.pass_json.specs.computed.JsonWriting.{writing_json}
+use Rattle.pass_json.specs.computed.{JsonReading.{reading_json, wide_json}, JsonWriting.writing_json}
 
 -- the wide pass that bytes spell in this form, if there is one
 unfoldable pub wide_in : Form → List ℕ → Option WidePass

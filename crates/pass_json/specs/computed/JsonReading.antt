@@ -1,17 +1,10 @@
 -- The JSON form, computed: the value of each part of the object.
-use Rattle.std.specs.Prelude.{◌≡◌, ℕ, ◌==◌, ◌&&◌, if◌then◌else◌, Bool, true, false, List, [], ◌∷◌, codes, length, map, Option, None, Some, option_map}
-use Rattle.std.specs.Prelude.{unwrap_or, Result}
-use Rattle.std.specs.List.{list_any}
-use Rattle.std.specs.Str.{bytes_eq, is_utf8}
-use Rattle.serde_json.specs.Data.{Data, Items, no_items, item, Members, no_members, member}
-use Rattle.serde_json.specs.Find.{get, as_array, as_number, as_object, as_str, as_u64}
+use Rattle.std.specs.{List.list_any, Prelude.{◌≡◌, ℕ, ◌==◌, ◌&&◌, if◌then◌else◌, Bool, true, false, List, [], ◌∷◌, codes, length, map, Option, None, Some}}
+use Rattle.std.specs.{Prelude.{option_map, unwrap_or, Result}, Str.{bytes_eq, is_utf8}}
+use Rattle.serde_json.specs.{Data.{Data, Items, no_items, item, Members, no_members, member}, Find.{get, as_array, as_number, as_object, as_str, as_u64}}
 use Rattle.serde_json.specs.Read.{read}
-use Rattle.pass_forms.specs.declared.fault.FormFault.{FormFault}
-use Rattle.pass_forms.specs.declared.fault.FormFault.TheVariants.{Malformed, Memory}
-use Rattle.pass_forms.specs.computed.Envelope.{from_base64}
-use Rattle.pass_forms.specs.computed.Parts.{◌>>=◌}
-use Rattle.pass_forms.specs.Pass.{Plain, WideCaveat, WidePass, is_third_party, first_party_caveat}
-use Rattle.pass_forms.specs.computed.Reading.{reading_of}
+use Rattle.pass_forms.specs.{Pass.{Plain, WideCaveat, WidePass, is_third_party, first_party_caveat}, computed.{Envelope.from_base64, Parts.{◌>>=◌}}}
+use Rattle.pass_forms.specs.{computed.Reading.reading_of, declared.fault.FormFault.{FormFault, TheVariants.{Malformed, Memory}}}
 use Rattle.pass_json.specs.Json.{caveat_names, pass_names}
 
 -- the bytes that a value is base64 of, if it is a text

@@ -1,9 +1,6 @@
 -- The result of the writer of JSON, computed: the text, or the first fault that applies.
 use Rattle.std.specs.Prelude.{ℕ, nat_lt, if◌then◌else◌, List, length, Result, Ok, Err}
-use Rattle.pass_forms.specs.declared.fault.FormFault.{FormFault}
-use Rattle.pass_forms.specs.declared.fault.FormFault.TheVariants.{TooLong, TooMany}
-use Rattle.pass_forms.specs.Pass.{Plain}
-use Rattle.pass_forms.specs.Reading.{max_caveats, max_text_len}
+use Rattle.pass_forms.specs.{Pass.Plain, Reading.{max_caveats, max_text_len}, declared.fault.FormFault.{FormFault, TheVariants.{TooLong, TooMany}}}
 use Rattle.pass_json.specs.JsonWriting.{json_text}
 
 unfoldable pub writing_json : Plain → Result (List ℕ) FormFault

@@ -1,6 +1,5 @@
 use Rattle.std.proofs.Common.{◌≡◌, ◌++◌, take}
-use Rattle.std.specs.Prelude.{flat_map}
-use Rattle.std.specs.String.{string_bytes}
+use Rattle.std.specs.{Prelude.flat_map, String.string_bytes}
 use Rattle.club_core.specs.Sheet as spec
 use Rattle.club_core.proofs.sheet.push_rows.Given as goal
 

@@ -1,6 +1,4 @@
-use Rattle.std.proofs.Common.{◌≡◌, ◌++◌, length, ap, sym, ◌∙◌}
-use Rattle.std.proofs.lemmas.Bool.{eqb-false}
-use Rattle.std.proofs.lemmas.Result.{IfOk-weaker}
+use Rattle.std.proofs.{Common.{◌≡◌, ◌++◌, length, ap, sym, ◌∙◌}, lemmas.{Bool.eqb-false, Result.IfOk-weaker}}
 use Rattle.std.specs.String.{string_bytes}
 use Rattle.club_core.proofs.SheetText.{laid_totals, laid_totals-totals_text}
 use Rattle.club_core.proofs.sheet.push_totals.Goals as goal

@@ -2,9 +2,8 @@ use Rattle.club_gate.proofs.Common.{◌≡◌, Option, Some, None, option_map, r
 use Rattle.club_gate.proofs.Common.{facility_named, key_named}
 use Rattle.club_values.specs.declared.slot.Slot.{Slot}
 use Rattle.club_rows.specs.declared.facility.Facility.{Facility}
-use Rattle.club_core.specs.declared.reply.Reply.TheVariants.{SlotShown}
+use Rattle.club_core.specs.{Verdict.shown_at, declared.reply.Reply.TheVariants.SlotShown}
 use Rattle.club_core.specs.declared.request.Request.TheVariants as asked
-use Rattle.club_core.specs.Verdict.{shown_at}
 use Rattle.club_gate.specs.Shown.{reply_lines, unless_refused}
 use Rattle.club_gate.proofs.laws.shows_slots_to_keys.Goals as goal
 

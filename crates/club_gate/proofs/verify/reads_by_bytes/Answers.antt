@@ -1,5 +1,4 @@
-use Rattle.club_gate.proofs.Common.{Err}
-use Rattle.club_gate.proofs.Verifying.{read_wrapped}
+use Rattle.club_gate.proofs.{Common.Err, Verifying.read_wrapped}
 use Rattle.club_gate.proofs.verify.reads_by_bytes.Goals as goal
 
 pub returns-clause-wrapped : goal.returns-clause-wrapped

@@ -1,5 +1,4 @@
-use Rattle.club_gate.proofs.Common.{◌≡◌, true, is_some, ◌∙◌, after_spending}
-use Rattle.club_gate.proofs.Walking.{fault_at_last, fault_comes, no_fault_comes}
+use Rattle.club_gate.proofs.{Common.{◌≡◌, true, is_some, ◌∙◌, after_spending}, Walking.{fault_at_last, fault_comes, no_fault_comes}}
 use Rattle.club_gate.proofs.walk.fault_after.Goals as goal
 
 pub returns-then-is_some : goal.returns-then-is_some

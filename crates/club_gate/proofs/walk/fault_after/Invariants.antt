@@ -1,6 +1,5 @@
 -- The first fault from here on is the first of all fields.
-use Rattle.club_gate.proofs.Common.{◌≡◌, length}
-use Rattle.club_gate.proofs.Walking.{fault_in}
+use Rattle.club_gate.proofs.{Common.{◌≡◌, length}, Walking.fault_in}
 use Rattle.club_gate.proofs.walk.fault_after.Given as goal
 
 abbrev pub invariant-loop-field : goal.invariant-loop-field

@@ -1,5 +1,4 @@
-use Rattle.club_gate.proofs.Common.{◌∙◌}
-use Rattle.club_gate.proofs.KindScans.{blind_at_last}
+use Rattle.club_gate.proofs.{Common.{◌∙◌}, KindScans.blind_at_last}
 use Rattle.club_gate.proofs.walk.has_kind.Goals as goal
 
 pub returns : goal.returns

@@ -1,6 +1,5 @@
 -- If the fields from here on are blind to kinds, all are.
-use Rattle.club_gate.proofs.Common.{length}
-use Rattle.club_gate.proofs.KindScans.{AreBlind}
+use Rattle.club_gate.proofs.{Common.length, KindScans.AreBlind}
 use Rattle.club_gate.proofs.walk.has_kind.Given as goal
 
 abbrev pub invariant-loop-field : goal.invariant-loop-field

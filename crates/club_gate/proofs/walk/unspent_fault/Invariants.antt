@@ -1,6 +1,5 @@
 -- For any amount within the slack, the first fault from here on is the first of all fields.
-use Rattle.club_gate.proofs.Common.{◌≡◌, ℕ, length, IsWithin, after_spending}
-use Rattle.club_gate.proofs.Walking.{fault_in}
+use Rattle.club_gate.proofs.{Common.{◌≡◌, ℕ, length, IsWithin, after_spending}, Walking.fault_in}
 use Rattle.club_gate.proofs.walk.unspent_fault.Given as goal
 
 abbrev pub invariant-loop-field : goal.invariant-loop-field

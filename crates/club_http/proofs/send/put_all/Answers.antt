@@ -1,8 +1,5 @@
-use Rattle.std.proofs.Common.{◌≡◌, ◌-◌, take, drop, length, arith, refl}
-use Rattle.std.proofs.Math.Seq.{take-add}
-use Rattle.std.proofs.lemmas.Grind.{common_steps}
-use Rattle.std.proofs.lemmas.List.{take_all}
-use Rattle.std.proofs.KnownBytes.{Appends-nil, Appends-trans}
+use Rattle.std.proofs.{Common.{◌≡◌, ◌-◌, take, drop, length, arith, refl}, KnownBytes.{Appends-nil, Appends-trans}, Math.Seq.take-add}
+use Rattle.std.proofs.lemmas.{Grind.common_steps, List.take_all}
 use Rattle.club_http.specs.Calls.{not_put, put_again}
 use Rattle.club_http.proofs.send.put_all.Goals as goal
 

@@ -1,5 +1,4 @@
-use Rattle.std.proofs.Common.{rules}
-use Rattle.std.proofs.lemmas.Fn.{filter_same}
+use Rattle.std.proofs.{Common.rules, lemmas.Fn.filter_same}
 use Rattle.club_reference.proofs.edits.open.Goals as goal
 
 pub returns : goal.returns

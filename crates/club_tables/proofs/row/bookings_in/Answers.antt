@@ -1,5 +1,4 @@
-use Rattle.club_tables.proofs.Common.{arith}
-use Rattle.club_tables.proofs.lists.BookingRows.{bookings_more, no_bookings}
+use Rattle.club_tables.proofs.{Common.arith, lists.BookingRows.{bookings_more, no_bookings}}
 use Rattle.club_tables.proofs.row.bookings_in.Goals as goal
 
 pub returns-in_default-clause-storage : goal.returns-in_default-clause-storage

@@ -1,6 +1,5 @@
 -- The pieces so far.
-use Rattle.std.proofs.Common.{◌≡◌, ◌++◌, take}
-use Rattle.std.proofs.Common.{map}
+use Rattle.std.proofs.Common.{◌≡◌, ◌++◌, take, map}
 use Rattle.clubdesk_commands.specs.HandedCommand.{pieces}
 use Rattle.clubdesk_commands.proofs.handed_command.push_pieces.Given as goal
 

@@ -1,6 +1,4 @@
-use Rattle.std.proofs.Common.{rules, arith, ◌≡◌, ◌<◌, ◌∙◌, ap, sym, map, length, decimal}
-use Rattle.std.proofs.lemmas.Grind.{common_steps}
-use Rattle.std.proofs.lemmas.List.{length-map}
+use Rattle.std.proofs.{Common.{rules, arith, ◌≡◌, ◌<◌, ◌∙◌, ap, sym, map, length, decimal}, lemmas.{Grind.common_steps, List.length-map}}
 use Rattle.std.specs.String.{string_bytes}
 use Rattle.clubdesk_commands.proofs.HandedLemmas.{command_utf8, same_order, same_words, taken_off}
 use Rattle.clubdesk_commands.proofs.handed_command.read_command.Goals as goal

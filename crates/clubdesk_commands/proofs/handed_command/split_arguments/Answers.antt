@@ -1,10 +1,6 @@
-use Rattle.std.proofs.Common.{rules, arith, ◌≡◌, ◌∙◌, ap, map, length, Some, None}
-use Rattle.std.proofs.lemmas.Grind.{common_steps}
-use Rattle.std.proofs.lemmas.Str.{IsUtf8-string_bytes}
-use Rattle.std.proofs.lemmas.Str.Pattern.{split_parts}
-use Rattle.std.proofs.Common.{append-nil}
+use Rattle.std.proofs.{Common.{rules, arith, ◌≡◌, ◌∙◌, ap, map, length, Some, None, append-nil}, lemmas.{Grind.common_steps, List.nil_from_length}}
+use Rattle.std.proofs.lemmas.Str.{IsUtf8-string_bytes, Pattern.split_parts}
 use Rattle.std.specs.String.{string_bytes}
-use Rattle.std.proofs.lemmas.List.{nil_from_length}
 use Rattle.clubdesk_commands.proofs.HandedLemmas.{all_more, one_before}
 use Rattle.clubdesk_commands.proofs.handed_command.split_arguments.Goals as goal
 

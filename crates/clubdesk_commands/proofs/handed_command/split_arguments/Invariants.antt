@@ -2,8 +2,7 @@
 use Rattle.std.proofs.Common.{◌≡◌, ◌++◌, map, length}
 use denote.Text.{Utf8}
 use denote.Shadow.{shadow}
-use Rattle.std.specs.List.{AllByRecursion}
-use Rattle.std.specs.String.{string_bytes}
+use Rattle.std.specs.{List.AllByRecursion, String.string_bytes}
 use Rattle.clubdesk_commands.specs.HandedCommand.{IsPieceText, pieces}
 use Rattle.clubdesk_commands.proofs.handed_command.split_arguments.Given as goal
 

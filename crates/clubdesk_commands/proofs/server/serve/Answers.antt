@@ -1,14 +1,9 @@
 use Rattle.std.proofs.Common.{refl, ◌≡◌, ℕ, List, [], Option, Result, Err, inl, inr}
-use Rattle.clubdesk_commands.specs.Run.{IfLogged, RunsServer, StopsBefore, outcome_of_server}
-use Rattle.clubdesk_commands.specs.Output.{Stream}
-use Rattle.club_clock.specs.Moments.{showing}
+use Rattle.clubdesk_commands.specs.{Output.Stream, Run.{IfLogged, RunsServer, StopsBefore, outcome_of_server}}
+use Rattle.club_clock.specs.{Moments.showing, declared.clock.Clock.Clock}
 use Rattle.jiff_core.specs.declared.timestamp.Timestamp.{Timestamp}
-use Rattle.clubdesk_arguments.specs.declared.task.Service.{Service}
-use Rattle.clubdesk_arguments.specs.declared.fault.Fault.TheVariants.{Memory, InputOutput}
-use Rattle.clubdesk_arguments.specs.declared.fault.Fault.{Fault}
-use Rattle.club_clock.specs.declared.clock.Clock.{Clock}
-use Rattle.desk_server.specs.declared.serve.ClockOutOfRange.{ClockOutOfRange as ClockFault}
-use Rattle.desk_server.specs.Served.{CommandRelation, Ends, Turn}
+use Rattle.clubdesk_arguments.specs.declared.{fault.Fault.{Fault, TheVariants.{Memory, InputOutput}}, task.Service.Service}
+use Rattle.desk_server.specs.{Served.{CommandRelation, Ends, Turn}, declared.serve.ClockOutOfRange.ClockOutOfRange as ClockFault}
 use Rattle.club_http.specs.Replied.{AnswerRelation}
 use Rattle.desk_server.specs.Served as served
 use Rattle.clubdesk_commands.specs.Run as spec

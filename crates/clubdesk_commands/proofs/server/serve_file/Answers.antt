@@ -2,8 +2,7 @@ use Rattle.std.proofs.Common.{Err, ap, refl}
 use Rattle.desk_server.specs.Served as served
 use Rattle.clubdesk_commands.specs.OfficeDesk.{CarriesOutBy}
 use Rattle.clubdesk_commands.specs.Run as spec
-use Rattle.clubdesk_commands.proofs.MachineLemmas.{follows_machine}
-use Rattle.clubdesk_commands.proofs.ClockLemmas.{over_the_store}
+use Rattle.clubdesk_commands.proofs.{ClockLemmas.over_the_store, MachineLemmas.follows_machine}
 use Rattle.clubdesk_commands.proofs.server.serve_file.Goals as goal
 
 pub returns-in-Err-clause-done : goal.returns-in-Err-clause-done

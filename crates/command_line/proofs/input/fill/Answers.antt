@@ -1,5 +1,4 @@
-use Rattle.std.proofs.Common.{arith, subst, sym}
-use Rattle.std.proofs.KnownBytes.{Consumes-kept, Consumes-trans}
+use Rattle.std.proofs.{Common.{arith, subst, sym}, KnownBytes.{Consumes-kept, Consumes-trans}}
 use lib.Seq.{take-add}
 use Rattle.std.specs.Io.KnownBytes.{Consumes}
 use Rattle.command_line.proofs.input.fill.Goals as goal

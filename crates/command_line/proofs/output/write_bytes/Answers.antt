@@ -1,5 +1,4 @@
-use Rattle.std.proofs.Common.{arith}
-use Rattle.std.proofs.KnownBytes.{Appends-kept, Appends-trans}
+use Rattle.std.proofs.{Common.arith, KnownBytes.{Appends-kept, Appends-trans}}
 use lib.Seq.{take-add}
 use Rattle.command_line.proofs.output.write_bytes.Goals as goal
 use Rattle.command_line.proofs.output.write_bytes.Goals.{in-Ok, in-Err+else-not-is_interrupted}

@@ -1,5 +1,4 @@
-use Rattle.std.proofs.Common.{◌∙◌, sym, arith}
-use Rattle.std.proofs.lemmas.Result.{IfOk-weaker}
+use Rattle.std.proofs.{Common.{◌∙◌, sym, arith}, lemmas.Result.IfOk-weaker}
 use Rattle.command_line.proofs.TableLemmas.{entry_more}
 use Rattle.command_line.proofs.table.make_application.Goals as goal
 

@@ -1,8 +1,7 @@
 -- The command has the arguments so far.
 use Rattle.std.proofs.Common.{IfOk, fold, map, take}
 use Rattle.clap.specs.Words.{new_app, with_rule}
-use Rattle.command_line.specs.Application.{IsMade}
-use Rattle.command_line.specs.Table.{rule_for}
+use Rattle.command_line.specs.{Application.IsMade, Table.rule_for}
 use Rattle.command_line.proofs.table.make_command.Given as goal
 
 abbrev pub invariant-loop-argument : goal.invariant-loop-argument

@@ -1,6 +1,5 @@
 use Rattle.std.proofs.Common.{◌∙◌, ap, true}
-use Rattle.clap.specs.Words.{Shape}
-use Rattle.clap.specs.Simple.{app_of_fields, on_top}
+use Rattle.clap.specs.{Simple.{app_of_fields, on_top}, Words.Shape}
 use Rattle.command_line.specs.Application.{as_program}
 use Rattle.command_line.proofs.tree.make_program.Goals as goal
 

@@ -1,5 +1,4 @@
-use Rattle.std.proofs.lemmas.Result.{IfOk-weaker}
-use Rattle.std.proofs.Common.{◌∙◌, Bool, ◌||◌, ap₂}
+use Rattle.std.proofs.{Common.{◌∙◌, Bool, ◌||◌, ap₂}, lemmas.Result.IfOk-weaker}
 use Rattle.clap.specs.Words.{with_rule}
 use Rattle.command_line.proofs.tree.with_argument.Goals as goal
 

@@ -1,6 +1,4 @@
-use Rattle.std.proofs.Common.{◌≤◌, ◌-◌, length, arith}
-use Rattle.std.proofs.lemmas.Grind.{common_steps}
-use Rattle.std.proofs.KnownBytes.{Consumes-trans}
+use Rattle.std.proofs.{Common.{◌≤◌, ◌-◌, length, arith}, KnownBytes.Consumes-trans, lemmas.Grind.common_steps}
 use Rattle.desk_server.proofs.TimedLemmas.{filled}
 use Rattle.desk_server.proofs.door.read_command.Goals as goal
 

@@ -1,7 +1,6 @@
 use Rattle.std.proofs.Common.{◌≤◌, ◌^◌, ◌∷◌, ◌++◌, suc, [], length, length-append, arith, refl}
 use Rattle.desk_server.specs.Served as spec
-use Rattle.desk_server.specs.Served.{alone}
-use Rattle.desk_server.specs.declared.log.Fate.TheVariants.{Absent, Overrun, Unanswered, Exchanged, Commanded}
+use Rattle.desk_server.specs.{Served.alone, declared.log.Fate.TheVariants.{Absent, Overrun, Unanswered, Exchanged, Commanded}}
 use Rattle.desk_server.proofs.ServedLemmas.{noted_alone, one_call, one_more}
 use Rattle.desk_server.proofs.serve.serve_logged.Goals as goal
 

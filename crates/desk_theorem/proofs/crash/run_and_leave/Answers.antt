@@ -1,14 +1,8 @@
-use Rattle.std.proofs.Common.{◌≡◌, ◌⊎◌, inl, inr, List, [], ◌∷◌, All, refl, subst, sym}
-use Rattle.std.proofs.Math.Logic.{∥∥₁_map}
+use Rattle.std.proofs.{Common.{◌≡◌, ◌⊎◌, inl, inr, List, [], ◌∷◌, All, refl, subst, sym}, Math.Logic.{∥∥₁_map}}
 use Rattle.std.proofs.lemmas.List.Elements.{All-nil, All-cons, All-head, All-tail, All-weaker}
 use Rattle.sqlite_disk.specs.declared.Disk as disk
-use Rattle.sqlite.specs.declared.FileStore.{FileStore}
-use Rattle.sqlite.specs.Files.{file_state}
-use Rattle.sqlite.specs.Held.{Held}
-use Rattle.sqlite.specs.Recovery.{Image}
-use Rattle.sqlite.specs.Tree.{Trees}
-use Rattle.club_core.specs.Club.{Club, IsSound}
-use Rattle.club_core.specs.Run.{Event}
+use Rattle.sqlite.specs.{Files.file_state, Held.Held, Recovery.Image, Tree.Trees, declared.FileStore.FileStore}
+use Rattle.club_core.specs.{Club.{Club, IsSound}, Run.Event}
 use Rattle.club_laws.specs.RunsWithFailures.{RepeatsServedReplies}
 use Rattle.club_store.specs.Crash.{HoldsOneOf, RepresentsOne}
 use Rattle.club_tables.specs.Tables.{IsLeftOf}

@@ -1,6 +1,5 @@
 use Rattle.std.proofs.Common.{subst, sym}
-use Rattle.sqlite.specs.Held.{state}
-use Rattle.sqlite.specs.State.{HasCleanDisk}
+use Rattle.sqlite.specs.{Held.state, State.HasCleanDisk}
 use Rattle.club_tables.specs.Tables.{Represents}
 use Rattle.club_gate.specs.Runs.{club_left, responses_of}
 use Rattle.desk_theorem.proofs.crash.run_to_end.Goals as goal

@@ -1,10 +1,7 @@
-use Rattle.std.proofs.Common.{inl, inr, List, [], ◌∷◌, All, refl, arith}
-use Rattle.std.proofs.Math.Logic.{∥∥₁_map}
+use Rattle.std.proofs.{Common.{inl, inr, List, [], ◌∷◌, All, refl, arith}, Math.Logic.{∥∥₁_map}}
 use Rattle.std.proofs.lemmas.List.Elements.{All-head, All-tail, Contains-append_right}
-use Rattle.sqlite.specs.Files.{file_state}
-use Rattle.sqlite.specs.State.{State}
-use Rattle.club_core.specs.Club.{Club}
-use Rattle.club_core.specs.Run.{Event}
+use Rattle.sqlite.specs.{Files.file_state, State.State}
+use Rattle.club_core.specs.{Club.Club, Run.Event}
 use Rattle.club_laws.specs.RunsWithFailures.{RepeatsServedReplies}
 use Rattle.club_store.specs.Crash.{RepresentsOne}
 use Rattle.club_gate.specs.Runs.{DeskResponse}

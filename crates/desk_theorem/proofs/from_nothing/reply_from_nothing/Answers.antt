@@ -1,5 +1,4 @@
-use Rattle.std.proofs.Common.{[]}
-use Rattle.std.proofs.lemmas.List.Elements.{All-nil, All-cons}
+use Rattle.std.proofs.{Common.{[]}, lemmas.List.Elements.{All-nil, All-cons}}
 use Rattle.sqlite.proofs.Callers.{memory_is_clean}
 use Rattle.club_core.specs.Club.{empty_club, IsSound}
 use Rattle.club_gate.specs.Runs.{club_left, responses_of}

@@ -1,5 +1,4 @@
-use Rattle.http_request.proofs.Common.{sym, ap, ◌∙◌, option_and_then, guests_in, guests_of_value}
-use Rattle.http_request.proofs.BodyLemmas.{refused_before, found_or_bad}
+use Rattle.http_request.proofs.{BodyLemmas.{refused_before, found_or_bad}, Common.{sym, ap, ◌∙◌, option_and_then, guests_in, guests_of_value}}
 use Rattle.http_request.proofs.body.guests_in.Goals as goal
 
 pub returns-in-Ok : goal.returns-in-Ok

@@ -1,7 +1,6 @@
-use Rattle.http_request.proofs.Common.{false, codes, Option, ap, ◌∙◌, unwrap_or, only_named}
+use Rattle.http_request.proofs.{BodyLemmas.all_named, Common.{false, codes, Option, ap, ◌∙◌, unwrap_or, only_named}}
 use Rattle.std.specs.Option.{option_map}
 use Rattle.serde_json.specs.Data.{Members}
-use Rattle.http_request.proofs.BodyLemmas.{all_named}
 use Rattle.http_request.proofs.body.has_only_guests.Goals as goal
 
 pub returns-in-Some : goal.returns-in-Some

@@ -1,7 +1,6 @@
-use Rattle.http_request.proofs.Common.{refl, inr, is_utf8, json_value_of}
+use Rattle.http_request.proofs.{BodyLemmas.no_value, Common.{refl, inr, is_utf8, json_value_of}}
 use Rattle.std.proofs.lemmas.Str.{is_utf8-from_IsUtf8}
 use Rattle.serde_json.specs.Read.{read}
-use Rattle.http_request.proofs.BodyLemmas.{no_value}
 use Rattle.http_request.proofs.body.json_value_of.Goals as goal
 
 pub returns-in-Ok-clause-ok : goal.returns-in-Ok-clause-ok

@@ -1,9 +1,6 @@
-use Rattle.http_request.proofs.Common.{◌≡◌, ◌+◌, length, true, false, ap, sym, ◌∙◌, values_in_head}
-use Rattle.std.proofs.Math.ListN.{drop_of_length-le}
-use Rattle.std.proofs.lemmas.List.Elements.{All-drop, All-same}
+use Rattle.http_request.proofs.{Common.{◌≡◌, ◌+◌, length, true, false, ap, sym, ◌∙◌, values_in_head}, FieldValues.{value_at, values_at}, Segments.rest_of}
+use Rattle.std.proofs.{Math.ListN.drop_of_length-le, lemmas.List.Elements.{All-drop, All-same}}
 use Rattle.httparse.specs.Spans.{IsHeaderWithin}
-use Rattle.http_request.proofs.FieldValues.{value_at, values_at}
-use Rattle.http_request.proofs.Segments.{rest_of}
 use Rattle.http_request.proofs.fields.next_value.Goals as goal
 
 pub returns-then-is_named : goal.returns-then-is_named

@@ -1,5 +1,4 @@
-use Rattle.http_request.proofs.Common.{arith, sym, ◌∙◌}
-use Rattle.http_request.proofs.ScanLemmas.{ends_none, piece_at}
+use Rattle.http_request.proofs.{Common.{arith, sym, ◌∙◌}, ScanLemmas.{ends_none, piece_at}}
 use Rattle.http_request.proofs.head.piece_len.Goals as goal
 
 pub loop-end-init : goal.loop-end-init

@@ -1,5 +1,4 @@
-use Rattle.http_request.proofs.Common.{◌∙◌, rules, tests}
-use Rattle.http_request.proofs.Segments.{from_the_front, byte_passed, slash_found, no_slash}
+use Rattle.http_request.proofs.{Common.{◌∙◌, rules, tests}, Segments.{from_the_front, byte_passed, slash_found, no_slash}}
 use Rattle.http_request.proofs.path.next_part.Goals as goal
 
 pub loop-i-init : goal.loop-i-init

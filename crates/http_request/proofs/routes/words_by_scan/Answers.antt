@@ -1,10 +1,8 @@
 use Rattle.http_request.proofs.Common.{◌≡◌, List, ℕ, Result, Ok, Err, refl, inl, inr, HeaderSpan, RequestHead, Head, IsFramed, IsFrontOf, place_of}
-use Rattle.club_core.specs.declared.refusal.Refusal.{Refusal}
-use Rattle.club_core.specs.declared.sent_words.SentWords.{SentWords as Words}
-use Rattle.http_request.specs.declared.front.Front.{Front}
-use Rattle.http_request.specs.declared.front.Front.TheVariants.{NoPiece, Refused, Asking}
-use Rattle.http_request.specs.Words.{DecodedRequest, has_frame, HoldsBody, IsRequestReading, lacks_frame, OrUnavailable}
 use Rattle.http_request.proofs.FrameLemmas.{asks_at, cut_frame, framed, no_piece, not_refused, whole_frame}
+use Rattle.club_core.specs.declared.{refusal.Refusal.Refusal, sent_words.SentWords.SentWords as Words}
+use Rattle.http_request.specs.{Words.{DecodedRequest, has_frame, HoldsBody, IsRequestReading, lacks_frame, OrUnavailable}, declared.front.Front.Front}
+use Rattle.http_request.specs.declared.front.Front.TheVariants.{NoPiece, Refused, Asking}
 use Rattle.http_request.proofs.routes.words_by_scan.Goals as goal
 
 -- no frame if the bytes begin with no head

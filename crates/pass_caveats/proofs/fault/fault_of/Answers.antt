@@ -1,5 +1,4 @@
-use Rattle.pass_caveats.proofs.Common.{map, arith, vec_items, length-map, take_all}
-use Rattle.pass_caveats.proofs.FaultLemmas.{text_at, first_fault_at, one_more}
+use Rattle.pass_caveats.proofs.{Common.{map, arith, vec_items, length-map, take_all}, FaultLemmas.{text_at, first_fault_at, one_more}}
 use Rattle.pass_caveats.proofs.fault.fault_of.Goals as goal
 
 pub returns-in-Some : goal.returns-in-Some

@@ -1,5 +1,5 @@
-use Rattle.pass_caveats.proofs.Common.{◌≡◌, ◌↔◌, [], ◌∷◌, Option, subst, sym, Caveat, IsFaultAt, first_fault_from}
 use Rattle.pass_caveats.proofs.CaveatOfLemmas.{finds_fault_at, reads_caveat_of}
+use Rattle.pass_caveats.proofs.Common.{◌≡◌, ◌↔◌, [], ◌∷◌, Option, subst, sym, Caveat, IsFaultAt, first_fault_from}
 use Rattle.pass_caveats.proofs.laws.finds_the_fault_at.Goals as goal
 
 pub returns : goal.returns

@@ -1,5 +1,4 @@
-use Rattle.pass_caveats.proofs.Common.{arith, nat_tests}
-use Rattle.pass_caveats.proofs.LineLemmas.{dates_of, no_first_day, no_dots, no_second_day, spells_days, days_fall}
+use Rattle.pass_caveats.proofs.{Common.{arith, nat_tests}, LineLemmas.{dates_of, no_first_day, no_dots, no_second_day, spells_days, days_fall}}
 use Rattle.pass_caveats.proofs.lines.read_days.Goals as goal
 
 pub returns-then-rest-lt10 : goal.returns-then-rest-lt10

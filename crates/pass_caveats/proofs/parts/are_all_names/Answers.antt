@@ -1,5 +1,4 @@
-use Rattle.pass_caveats.proofs.Common.{◌==◌, rules, List, ℕ, tests, cases_from_all, YieldsList-from_slice_split, IsName}
-use Rattle.pass_caveats.proofs.PartLemmas.{all_from_all}
+use Rattle.pass_caveats.proofs.{Common.{◌==◌, rules, List, ℕ, tests, cases_from_all, YieldsList-from_slice_split, IsName}, PartLemmas.all_from_all}
 use Rattle.pass_caveats.proofs.parts.are_all_names.Goals as goal
 
 pub returns : goal.returns

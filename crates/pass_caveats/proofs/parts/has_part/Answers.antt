@@ -1,5 +1,4 @@
-use Rattle.pass_caveats.proofs.Common.{◌==◌, rules, List, ℕ, ◌≡◌, ◌≢◌, tests, cases_from_any, YieldsList-from_slice_split}
-use Rattle.pass_caveats.proofs.PartLemmas.{contains_from_any}
+use Rattle.pass_caveats.proofs.{Common.{◌==◌, rules, List, ℕ, ◌≡◌, ◌≢◌, tests, cases_from_any, YieldsList-from_slice_split}, PartLemmas.contains_from_any}
 use Rattle.pass_caveats.proofs.parts.has_part.Goals as goal
 
 pub returns : goal.returns

@@ -1,6 +1,5 @@
-use Rattle.pass_caveats.proofs.Common.{◌≡◌, ℕ, true, false, Option, None, sym, subst, permits}
+use Rattle.pass_caveats.proofs.{Common.{◌≡◌, ℕ, true, false, Option, None, sym, subst, permits}, SpendingLemmas.{holds_allowed, holds_denied}}
 use Rattle.pass_caveats.specs.Spending.{HoldsWithin, after_spending}
-use Rattle.pass_caveats.proofs.SpendingLemmas.{holds_allowed, holds_denied}
 use Rattle.pass_caveats.proofs.unspent.unspent_at.Goals as goal
 
 pub returns-then-not-allows : goal.returns-then-not-allows

@@ -1,6 +1,5 @@
 -- `decoded_of` is opened, since the constants' proof that they are engines isn't the one of the specification's.
-use Rattle.pass_forms.proofs.Common.{refl, ◌∙◌, arith, decoded_of, by_decoders}
-use Rattle.pass_forms.proofs.Base64Decoding.{from_base64_is}
+use Rattle.pass_forms.proofs.{Base64Decoding.from_base64_is, Common.{refl, ◌∙◌, arith, decoded_of, by_decoders}}
 use Rattle.pass_forms.proofs.envelope.decode.Goals as goal
 
 pub returns-in-Some-clause-bytes : goal.returns-in-Some-clause-bytes

@@ -1,5 +1,5 @@
-use Rattle.pass_forms.proofs.Common.{◌≡◌, ◌↔◌, List, ℕ, Option, None, Some, sym, ◌∙◌, arith, rules, common_steps, IsBase64, from_base64}
 use Rattle.pass_forms.proofs.Base64Decoding.{from_base64_spells, spells_from_base64}
+use Rattle.pass_forms.proofs.Common.{◌≡◌, ◌↔◌, List, ℕ, Option, None, Some, sym, ◌∙◌, arith, rules, common_steps, IsBase64, from_base64}
 use Rattle.pass_forms.proofs.envelope.decode_base64.Goals as goal
 
 -- What is computed of a text is what it is base64 of.

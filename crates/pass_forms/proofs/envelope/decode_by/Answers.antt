@@ -1,5 +1,4 @@
-use Rattle.pass_forms.proofs.Common.{arith}
-use Rattle.pass_forms.proofs.Base64Decoding.{decoded_into, decoded_within}
+use Rattle.pass_forms.proofs.{Base64Decoding.{decoded_into, decoded_within}, Common.arith}
 use Rattle.pass_forms.proofs.envelope.decode_by.Goals as goal
 
 pub returns-clause-bytes : goal.returns-clause-bytes

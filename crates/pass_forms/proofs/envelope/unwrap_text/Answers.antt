@@ -1,5 +1,4 @@
-use Rattle.pass_forms.proofs.Common.{Ok, Err, rules, take, Malformed, unwrapping}
-use Rattle.pass_forms.proofs.EnvelopeLaws.{answers_as}
+use Rattle.pass_forms.proofs.{Common.{Ok, Err, rules, take, Malformed, unwrapping}, EnvelopeLaws.answers_as}
 use Rattle.pass_forms.proofs.envelope.unwrap_text.Goals as goal
 
 pub returns-in_default-clause-reading : goal.returns-in_default-clause-reading

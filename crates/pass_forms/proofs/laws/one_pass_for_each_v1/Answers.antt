@@ -1,6 +1,4 @@
-use Rattle.pass_forms.proofs.Common.{SpellsV1, wide_at}
-use Rattle.pass_forms.proofs.Checking.{one_each}
-use Rattle.pass_forms.proofs.WholeV1.{computes_v1}
+use Rattle.pass_forms.proofs.{Checking.one_each, Common.{SpellsV1, wide_at}, WholeV1.computes_v1}
 use Rattle.pass_forms.proofs.laws.one_pass_for_each_v1.Goals as goal
 
 pub returns : goal.returns

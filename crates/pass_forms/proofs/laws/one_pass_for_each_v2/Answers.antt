@@ -1,7 +1,5 @@
-use Rattle.pass_forms.proofs.Common.{SpellsV2}
+use Rattle.pass_forms.proofs.{Checking.one_each, Common.SpellsV2, WholeV2.computes_v2}
 use Rattle.pass_forms.specs.computed.V2Reading.{wide_at}
-use Rattle.pass_forms.proofs.Checking.{one_each}
-use Rattle.pass_forms.proofs.WholeV2.{computes_v2}
 use Rattle.pass_forms.proofs.laws.one_pass_for_each_v2.Goals as goal
 
 pub returns : goal.returns

@@ -1,5 +1,4 @@
-use Rattle.pass_forms.proofs.Common.{Ok, ap, ◌∙◌, sym, Plain}
-use Rattle.pass_forms.proofs.Collecting.{was_read}
+use Rattle.pass_forms.proofs.{Collecting.was_read, Common.{Ok, ap, ◌∙◌, sym, Plain}}
 use Rattle.pass_forms.proofs.layout.read.Goals as goal
 
 pub returns-clause-computed : goal.returns-clause-computed

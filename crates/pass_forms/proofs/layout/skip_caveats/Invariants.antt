@@ -1,6 +1,5 @@
 -- The caveats so far and those that are left make all of them.
-use Rattle.pass_forms.proofs.Common.{length, ◌≤◌, ◌-◌, caveats_at}
-use Rattle.pass_forms.proofs.CaveatRuns.{Keeps}
+use Rattle.pass_forms.proofs.{CaveatRuns.Keeps, Common.{length, ◌≤◌, ◌-◌, caveats_at}}
 use Rattle.pass_forms.proofs.layout.skip_caveats.Given as goal
 
 abbrev pub invariant-loop : goal.invariant-loop

@@ -1,5 +1,4 @@
-use Rattle.pass_forms.proofs.Common.{arith, common_steps}
-use Rattle.pass_forms.proofs.Verifying.{signed_if}
+use Rattle.pass_forms.proofs.{Common.{arith, common_steps}, Verifying.signed_if}
 use Rattle.pass_forms.proofs.verify.is_signed_by.Goals as goal
 
 pub returns-in-Signature-clause-signed : goal.returns-in-Signature-clause-signed

@@ -1,6 +1,5 @@
 -- What is found from here on is what is found of all fields.
-use Rattle.pass_forms.proofs.Common.{◌≡◌, length}
-use Rattle.pass_forms.proofs.Verifying.{signed_in}
+use Rattle.pass_forms.proofs.{Common.{◌≡◌, length}, Verifying.signed_in}
 use Rattle.pass_forms.proofs.verify.is_signed_by.Given as goal
 
 abbrev pub invariant-loop-field : goal.invariant-loop-field

@@ -1,6 +1,6 @@
 use Rattle.pass_forms.proofs.Common.{◌≤◌, ℕ, List, ◌++◌, length, Ok, refl, ap, sym, ◌∙◌, arith, length-map, buffer_len, max_caveats, in_base64}
-use Rattle.std.proofs.lemmas.Result.{err_from_is_err_and}
 use Rattle.pass_forms.proofs.WrittenTexts.{too_long, written}
+use Rattle.std.proofs.lemmas.Result.{err_from_is_err_and}
 use Rattle.pass_forms.proofs.write.write_in.Goals as goal
 
 pub returns-in_err-put_pass-clause-written : goal.returns-in_err-put_pass-clause-written

@@ -1,7 +1,5 @@
-use Rattle.pass_forms.proofs.Common.{writing_v1}
+use Rattle.pass_forms.proofs.{Common.writing_v1, WrittenForm.keeps_promises, WrittenV1.v1_form}
 use Rattle.std.specs.String.{string_bytes}
-use Rattle.pass_forms.proofs.WrittenForm.{keeps_promises}
-use Rattle.pass_forms.proofs.WrittenV1.{v1_form}
 use Rattle.pass_forms.proofs.write.write_v1.Goals as goal
 
 pub returns : goal.returns

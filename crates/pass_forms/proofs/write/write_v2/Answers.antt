@@ -1,7 +1,5 @@
-use Rattle.pass_forms.proofs.Common.{writing_v2}
+use Rattle.pass_forms.proofs.{Common.writing_v2, WrittenForm.keeps_promises, WrittenV2.v2_form}
 use Rattle.std.specs.String.{string_bytes}
-use Rattle.pass_forms.proofs.WrittenForm.{keeps_promises}
-use Rattle.pass_forms.proofs.WrittenV2.{v2_form}
 use Rattle.pass_forms.proofs.write.write_v2.Goals as goal
 
 pub returns : goal.returns

@@ -1,5 +1,4 @@
-use Rattle.pass_json.proofs.Common.{◌≡◌, arith, IsAnyReading, reading}
-use Rattle.pass_json.proofs.SameReading.{unless_memory}
+use Rattle.pass_json.proofs.{Common.{◌≡◌, arith, IsAnyReading, reading}, SameReading.unless_memory}
 use Rattle.pass_json.proofs.any.read_any.Goals as goal
 
 pub returns-clause-computed : goal.returns-clause-computed

@@ -1,5 +1,4 @@
-use Rattle.pass_json.proofs.Common.{false, map, Option, ap, ◌∙◌, option_map, unwrap_or, Members, has_only_names, only_among}
-use Rattle.pass_json.proofs.KnownNames.{all_among}
+use Rattle.pass_json.proofs.{Common.{false, map, Option, ap, ◌∙◌, option_map, unwrap_or, Members, has_only_names, only_among}, KnownNames.all_among}
 use Rattle.pass_json.proofs.names.has_only_names.Goals as goal
 
 pub returns-in-Some : goal.returns-in-Some

@@ -1,6 +1,5 @@
-use Rattle.pass_json.proofs.Common.{arith, rules}
+use Rattle.pass_json.proofs.{CaveatList.{one_more, all_read, one_refused}, Common.{arith, rules}}
 use Rattle.std.proofs.lemmas.List.{map_push}
-use Rattle.pass_json.proofs.CaveatList.{one_more, all_read, one_refused}
 use Rattle.pass_json.proofs.object.all_caveats.Goals as goal
 
 pub returns-in_err-found-clause-err : goal.returns-in_err-found-clause-err

@@ -1,6 +1,5 @@
 -- The caveats so far, and those that are left, are all of them.
-use Rattle.pass_json.proofs.Common.{◌≡◌, map, drop, items_view}
-use Rattle.pass_json.proofs.CaveatList.{kept_of, with_kept}
+use Rattle.pass_json.proofs.{CaveatList.{kept_of, with_kept}, Common.{◌≡◌, map, drop, items_view}}
 use Rattle.pass_json.proofs.object.all_caveats.Given as goal
 
 abbrev pub invariant-loop-value : goal.invariant-loop-value

@@ -1,6 +1,6 @@
 use Rattle.pass_json.proofs.Common.{◌≡◌, ℕ, [], length, map, arith, sym, ap, ◌∙◌, Vec, Global, List, option_map, unwrap_or, common_steps}
-use Rattle.std.proofs.lemmas.List.{length-map}
 use Rattle.pass_json.proofs.KeptPass.{kept_pass, location_or_none}
+use Rattle.std.proofs.lemmas.List.{length-map}
 use Rattle.pass_json.proofs.object.pass_from.Goals as goal
 
 abbrev items : Vec ℕ Global → List ℕ

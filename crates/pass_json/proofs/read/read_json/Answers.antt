@@ -1,5 +1,4 @@
-use Rattle.pass_json.proofs.Common.{◌≡◌, length, IsReadAs, SpellsJson, reading_json}
-use Rattle.pass_json.proofs.SameReading.{unless_memory}
+use Rattle.pass_json.proofs.{Common.{◌≡◌, length, IsReadAs, SpellsJson, reading_json}, SameReading.unless_memory}
 use Rattle.pass_json.proofs.read.read_json.Goals as goal
 
 pub returns-clause-spelling : goal.returns-clause-spelling

@@ -1,5 +1,4 @@
-use Rattle.pass_json.proofs.Common.{◌≡◌, ap, ◌∙◌, false, IfOk-weaker, view, compact_text, has_float, json_text}
-use Rattle.pass_json.proofs.ObjectOf.{object_is_fine}
+use Rattle.pass_json.proofs.{Common.{◌≡◌, ap, ◌∙◌, false, IfOk-weaker, view, compact_text, has_float, json_text}, ObjectOf.object_is_fine}
 use Rattle.pass_json.proofs.write.text_of.Goals as goal
 
 pub returns-clause-text : goal.returns-clause-text

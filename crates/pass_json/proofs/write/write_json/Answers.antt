@@ -1,6 +1,5 @@
-use Rattle.pass_json.proofs.Common.{IfOk-weaker}
+use Rattle.pass_json.proofs.{Common.IfOk-weaker, WritingJson.{refused_if, written_if}}
 use Rattle.std.specs.String.{string_bytes}
-use Rattle.pass_json.proofs.WritingJson.{refused_if, written_if}
 use Rattle.pass_json.proofs.write.write_json.Goals as goal
 
 pub returns-clause-ok : goal.returns-clause-ok

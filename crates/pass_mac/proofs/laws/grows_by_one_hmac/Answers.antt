@@ -1,5 +1,4 @@
-use Rattle.std.proofs.Common.{[], ◌∷◌}
-use Rattle.std.proofs.lemmas.List.Sums.{fold-append}
+use Rattle.std.proofs.{Common.{[], ◌∷◌}, lemmas.List.Sums.fold-append}
 use Rattle.pass_mac.specs.Hmac.{hmac}
 use Rattle.pass_mac.proofs.laws.grows_by_one_hmac.Goals as goal
 

@@ -1,5 +1,4 @@
-use Rattle.std.proofs.Common.{List, ℕ, ◌∙◌, ap, sym, fold}
-use Rattle.std.proofs.lemmas.List.Sums.{fold-append}
+use Rattle.std.proofs.{Common.{List, ℕ, ◌∙◌, ap, sym, fold}, lemmas.List.Sums.fold-append}
 use Rattle.pass_mac.specs.Hmac.{hmac}
 use Rattle.pass_mac.proofs.laws.narrows_without_the_key.Goals as goal
 

@@ -1,7 +1,5 @@
 -- A key that fits a block is used as it is.
-use Rattle.std.proofs.Common.{◌≡◌, length, false, ltb, arith, refl}
-use Rattle.std.proofs.lemmas.Bool.{le-ltb}
-use Rattle.std.proofs.lemmas.List.{drop-replicate}
+use Rattle.std.proofs.{Common.{◌≡◌, length, false, ltb, arith, refl}, lemmas.{Bool.le-ltb, List.drop-replicate}}
 use Rattle.pass_mac.specs.Hmac.{key_block}
 use Rattle.pass_mac.proofs.mac.key_block.Goals as goal
 

@@ -1,5 +1,4 @@
-use Rattle.std.proofs.Common.{◌∙◌, Err, length, ap, refl, arith}
-use Rattle.std.proofs.lemmas.Result.{err_from_is_err_and}
+use Rattle.std.proofs.{Common.{◌∙◌, Err, length, ap, refl, arith}, lemmas.Result.err_from_is_err_and}
 use Rattle.passtool_commands.proofs.NarrowLemmas.{all_added, counted_on, grown, one_added, one_refused}
 use Rattle.passtool_commands.proofs.narrow.narrowed_pass.Goals as goal
 

@@ -1,5 +1,4 @@
-use Rattle.std.proofs.Common.{◌∙◌, Some, None, map, codes}
-use Rattle.std.proofs.lemmas.Result.{IfOk-weaker}
+use Rattle.std.proofs.{Common.{◌∙◌, Some, None, map, codes}, lemmas.Result.IfOk-weaker}
 use Rattle.clap.specs.Words.{found_of}
 use Rattle.passtool_commands.proofs.OptionLemmas.{values_read}
 use Rattle.passtool_commands.proofs.options.caveats_of.Goals as goal

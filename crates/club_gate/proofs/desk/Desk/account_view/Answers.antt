@@ -1,7 +1,5 @@
-use Rattle.club_gate.proofs.Common.{◌≡◌, Some, refl, ◌∙◌, sym, rules, view_in}
+use Rattle.club_gate.proofs.{Common.{◌≡◌, Some, refl, ◌∙◌, sym, rules, view_in}, Reading.account_seen, StoreReads.reads}
 use Rattle.club_core.specs.declared.request.Request.TheVariants as asked
-use Rattle.club_gate.proofs.Reading.{account_seen}
-use Rattle.club_gate.proofs.StoreReads.{reads}
 use Rattle.club_gate.proofs.desk.Desk.account_view.Goals as goal
 
 pub returns-in-Some-2 : goal.returns-in-Some-2

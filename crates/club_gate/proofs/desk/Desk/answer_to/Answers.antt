@@ -1,8 +1,7 @@
 use Rattle.club_gate.proofs.Common.{◌≡◌, List, Ok, inl, inr, sym, All-head, Club, IsSound, office_verdict, Commanded, FitsClub}
-use Rattle.club_gate.proofs.Stepping.{command_done, command_failed}
+use Rattle.club_gate.proofs.{Stepping.{command_done, command_failed}, desk.Desk.answer_to.Goals.After-settle}
 use Rattle.club_gate.proofs.desk.Desk.answer_to.Given as given
 use Rattle.club_gate.proofs.desk.Desk.answer_to.Goals as goal
-use Rattle.club_gate.proofs.desk.Desk.answer_to.Goals.{After-settle}
 
 -- what was decided of the club, and that the store may settle it
 decided : (g : given.Over) (c : After-settle g) → g.S.ClubStore.disk_is_clean c.settle.new.self → (club : Club) (others : List Club)

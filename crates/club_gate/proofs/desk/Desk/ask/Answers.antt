@@ -1,7 +1,6 @@
 use Rattle.club_gate.proofs.Common.{◌≡◌, Result, Ok, Err, refl, ◌∙◌, Reply, StoreFault, verdict_in, decoded_words, reply_or_unavailable, unavailable}
+use Rattle.club_gate.proofs.{Decoding.decoded_text, DeskLaws.{reply_or_failure, lawful}}
 use Rattle.std.specs.Result.{result_unwrap_or}
-use Rattle.club_gate.proofs.Decoding.{decoded_text}
-use Rattle.club_gate.proofs.DeskLaws.{reply_or_failure, lawful}
 use Rattle.club_gate.proofs.desk.Desk.ask.Goals as goal
 
 reply_is : (result : Result Reply StoreFault) → result_unwrap_or result unavailable ≡ reply_or_unavailable result

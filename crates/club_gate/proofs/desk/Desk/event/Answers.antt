@@ -1,6 +1,5 @@
-use Rattle.club_gate.proofs.Common.{refl}
+use Rattle.club_gate.proofs.{Common.refl, Stepping.asked_steps}
 use Rattle.club_core.specs.Run as machine
-use Rattle.club_gate.proofs.Stepping.{asked_steps}
 use Rattle.club_gate.proofs.desk.Desk.event.Goals as goal
 
 pub returns-in-Asked : goal.returns-in-Asked

@@ -1,7 +1,5 @@
-use Rattle.club_gate.proofs.Common.{◌≤◌, sym, ◌∙◌, arith, rules}
+use Rattle.club_gate.proofs.{Common.{◌≤◌, sym, ◌∙◌, arith, rules}, Spending.spent_within, StoreReads.reads}
 use Rattle.std.proofs.lemmas.Bool.Decides.{nat_tests}
-use Rattle.club_gate.proofs.Spending.{spent_within}
-use Rattle.club_gate.proofs.StoreReads.{reads}
 use Rattle.club_gate.proofs.desk.Desk.has_spent_within.Goals as goal
 
 pub returns : goal.returns

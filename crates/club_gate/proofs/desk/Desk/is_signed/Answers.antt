@@ -1,10 +1,8 @@
-use Rattle.club_gate.proofs.Common.{◌≡◌, refl, sym, ap, ◌∙◌, drop, rules, pass_fields, Plain, is_signed, Key, row_of_key}
+use Rattle.club_gate.proofs.{Common.{◌≡◌, refl, sym, ap, ◌∙◌, drop, rules, pass_fields, Plain, is_signed, Key, row_of_key}, SigningLemmas.{older_of, signed_by}}
+use Rattle.club_gate.proofs.{StoreReads.reads, desk.Desk.is_signed.Goals.After-is_signed_by}
 use Rattle.pass_mac.specs.Chain.{derived_key}
-use Rattle.club_gate.proofs.SigningLemmas.{older_of, signed_by}
-use Rattle.club_gate.proofs.StoreReads.{reads}
 use Rattle.club_gate.proofs.desk.Desk.is_signed.Given as given
 use Rattle.club_gate.proofs.desk.Desk.is_signed.Goals as goal
-use Rattle.club_gate.proofs.desk.Desk.is_signed.Goals.{After-is_signed_by}
 
 -- the test by the current root
 by_current : (g : given.Over) (c : After-is_signed_by g) (pass : Plain) (key : Key) → c.args.identifier.now ≡ pass.identifier

@@ -1,8 +1,6 @@
-use Rattle.club_gate.proofs.Common.{◌≡◌, true, false, Some, refl, ap, ◌∙◌, rules, View}
+use Rattle.club_gate.proofs.{Common.{◌≡◌, true, false, Some, refl, ap, ◌∙◌, rules, View}, Reading.{last_reads, with_member}, StoreReads.reads}
 use Rattle.std.proofs.lemmas.Result.{IfOk-weaker}
 use Rattle.club_core.specs.Looks.{books_anew}
-use Rattle.club_gate.proofs.Reading.{last_reads, with_member}
-use Rattle.club_gate.proofs.StoreReads.{reads}
 use Rattle.club_gate.proofs.desk.Desk.last_view.Goals as goal
 
 pub returns-in_ok-view-in-View : goal.returns-in_ok-view-in-View

@@ -1,8 +1,8 @@
 use Rattle.club_gate.proofs.Common.{◌≡◌, List, inl, inr, ◌∙◌, All-head, verdict_in, Club, IsSound, FitsIfAny, decoded_words}
 use Rattle.club_gate.proofs.Stepping.{always_decided, ask_done, ask_failed, ask_fits, changed_fault, fails_at_its_words}
+use Rattle.club_gate.proofs.desk.Desk.reply_to.Goals.{After-settle}
 use Rattle.club_gate.proofs.desk.Desk.reply_to.Given as given
 use Rattle.club_gate.proofs.desk.Desk.reply_to.Goals as goal
-use Rattle.club_gate.proofs.desk.Desk.reply_to.Goals.{After-settle}
 
 -- what was decided of the club, and that the store may settle it
 decided : (g : given.Over) (c : After-settle g) → g.S.ClubStore.disk_is_clean c.settle.new.self → (club : Club) (others : List Club)

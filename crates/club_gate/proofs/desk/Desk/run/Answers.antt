@@ -1,5 +1,4 @@
-use Rattle.club_gate.proofs.Common.{All-head, IsSound, IsLawfulRun, LeavesClub, responses_of, machine_events}
-use Rattle.club_gate.proofs.FollowedRuns.{for_seen, lawful, leaves_club}
+use Rattle.club_gate.proofs.{Common.{All-head, IsSound, IsLawfulRun, LeavesClub, responses_of, machine_events}, FollowedRuns.{for_seen, lawful, leaves_club}}
 use Rattle.club_gate.proofs.desk.Desk.run.Goals as goal
 
 pub returns-clause-lawful : goal.returns-clause-lawful

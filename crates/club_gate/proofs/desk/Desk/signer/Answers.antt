@@ -1,10 +1,7 @@
 use Rattle.club_gate.proofs.Common.{◌≡◌, List, true, false, Ok, Err, refl, ◌∙◌, sym, rules, pass_fields, Plain, KeyRevoked, NotVerified, Club, key_in}
-use Rattle.club_gate.proofs.Common.{signer_of}
-use Rattle.club_gate.proofs.Signers.{by_tests, signer_by_tests}
-use Rattle.club_gate.proofs.StoreReads.{reads}
+use Rattle.club_gate.proofs.{Common.signer_of, Signers.{by_tests, signer_by_tests}, StoreReads.reads, desk.Desk.signer.Goals.In_ok-is_signed}
 use Rattle.club_gate.proofs.desk.Desk.signer.Given as given
 use Rattle.club_gate.proofs.desk.Desk.signer.Goals as goal
-use Rattle.club_gate.proofs.desk.Desk.signer.Goals.{In_ok-is_signed}
 
 -- the signer, by the tests of the row that was read
 by_row : (g : given.Over) (c : In_ok-is_signed g) → g.S.ClubStore.disk_is_clean c.is_signed.new.self → (club : Club) (others : List Club)

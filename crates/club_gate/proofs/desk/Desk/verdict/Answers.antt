@@ -1,9 +1,8 @@
-use Rattle.club_gate.proofs.Common.{◌≡◌, reading, reading_in_form}
+use Rattle.club_gate.proofs.{Common.{◌≡◌, reading, reading_in_form}, Verifying.{verdict_by_text, fault_in, lacks_memory, other_form}}
+use Rattle.club_gate.proofs.desk.Desk.verdict.Goals.{After-verdict_on}
 use Rattle.pass_forms.specs.computed.Text.{in_form}
-use Rattle.club_gate.proofs.Verifying.{verdict_by_text, fault_in, lacks_memory, other_form}
 use Rattle.club_gate.proofs.desk.Desk.verdict.Given as given
 use Rattle.club_gate.proofs.desk.Desk.verdict.Goals as goal
-use Rattle.club_gate.proofs.desk.Desk.verdict.Goals.{After-verdict_on}
 
 -- the reading of the text, by the bytes that it wraps
 reads_by_bytes : (g : given.Over) (c : After-verdict_on g)

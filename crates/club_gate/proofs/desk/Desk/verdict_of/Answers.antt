@@ -1,7 +1,5 @@
-use Rattle.club_gate.proofs.Common.{sym, ◌∙◌, rules}
+use Rattle.club_gate.proofs.{Common.{sym, ◌∙◌, rules}, Signers.refused_by_row, StoreReads.reads}
 use Rattle.std.proofs.lemmas.Result.{IfOk-weaker}
-use Rattle.club_gate.proofs.Signers.{refused_by_row}
-use Rattle.club_gate.proofs.StoreReads.{reads}
 use Rattle.club_gate.proofs.desk.Desk.verdict_of.Goals as goal
 
 pub returns-in-Ok : goal.returns-in-Ok

@@ -1,5 +1,4 @@
-use Rattle.club_gate.proofs.Common.{◌∙◌, Ok, ap, Form, reading_in_form}
-use Rattle.club_gate.proofs.Verifying.{verdict_by_bytes}
+use Rattle.club_gate.proofs.{Common.{◌∙◌, Ok, ap, Form, reading_in_form}, Verifying.verdict_by_bytes}
 use Rattle.club_gate.proofs.desk.Desk.verdict_on.Goals as goal
 
 pub returns-in-Ok-clause-returned : goal.returns-in-Ok-clause-returned

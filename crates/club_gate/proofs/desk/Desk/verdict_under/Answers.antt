@@ -1,8 +1,5 @@
-use Rattle.club_gate.proofs.Common.{◌≡◌, None, sym, ◌∙◌, arith, rules}
+use Rattle.club_gate.proofs.{Common.{◌≡◌, None, sym, ◌∙◌, arith, rules}, Reading.verdict_read, Spending.on_record, StoreReads.reads}
 use Rattle.std.proofs.lemmas.Grind.{common_steps}
-use Rattle.club_gate.proofs.Reading.{verdict_read}
-use Rattle.club_gate.proofs.Spending.{on_record}
-use Rattle.club_gate.proofs.StoreReads.{reads}
 use Rattle.club_gate.proofs.desk.Desk.verdict_under.Goals as goal
 
 pub returns-then-is_some : goal.returns-then-is_some

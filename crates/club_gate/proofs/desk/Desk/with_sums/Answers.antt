@@ -1,6 +1,4 @@
-use Rattle.club_gate.proofs.Common.{sym, ◌∙◌, rules, account_named}
-use Rattle.club_gate.proofs.Reading.{sums_read}
-use Rattle.club_gate.proofs.StoreReads.{reads}
+use Rattle.club_gate.proofs.{Common.{sym, ◌∙◌, rules, account_named}, Reading.sums_read, StoreReads.reads}
 use Rattle.club_gate.proofs.desk.Desk.with_sums.Goals as goal
 
 pub returns : goal.returns

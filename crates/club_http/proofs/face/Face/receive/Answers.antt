@@ -1,6 +1,4 @@
-use Rattle.std.proofs.Common.{◌≡◌, length, vec_len, arith}
-use Rattle.std.proofs.lemmas.Grind.{common_steps}
-use Rattle.std.proofs.lemmas.List.{with_items_is}
+use Rattle.std.proofs.{Common.{◌≡◌, length, vec_len, arith}, lemmas.{Grind.common_steps, List.with_items_is}}
 use Rattle.club_http.proofs.face.Face.receive.Goals as goal
 
 pub returns-in-Ok-clause-received : goal.returns-in-Ok-clause-received

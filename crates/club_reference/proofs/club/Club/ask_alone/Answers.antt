@@ -1,10 +1,7 @@
-use Rattle.std.proofs.Common.{◌∙◌, rules, sym, ap, subst, arith}
-use Rattle.std.proofs.lemmas.Grind.{common_steps}
-use Rattle.std.proofs.lemmas.Result.{err_from_is_err_and}
+use Rattle.std.proofs.{Common.{◌∙◌, rules, sym, ap, subst, arith}, lemmas.{Grind.common_steps, Result.err_from_is_err_and}}
 use Rattle.club_core.specs.declared.verdict.Verdict.{Verdict}
 use Rattle.club_reference.specs.computed.Words.{words_model}
-use Rattle.club_reference.proofs.WordLemmas.{their_model}
-use Rattle.club_reference.proofs.WidthLemmas.{Keeps, keeps_solo}
+use Rattle.club_reference.proofs.{WidthLemmas.{Keeps, keeps_solo}, WordLemmas.their_model}
 use Rattle.club_reference.proofs.club.Club.ask_alone.Goals as goal
 
 pub apply-requires : goal.apply-requires

@@ -1,9 +1,5 @@
-use Rattle.std.proofs.Common.{◌≡◌, ◌∙◌, ap, rules, tests}
-use Rattle.std.specs.Str.{bytes_eq}
-use Rattle.std.specs.Option.{option_copied}
-use Rattle.std.specs.List.{find}
-use Rattle.std.proofs.lemmas.Iterator.{YieldsList-from_slice}
-use Rattle.std.proofs.lemmas.Iterator.Search.{find_from_yields_List}
+use Rattle.std.proofs.{Common.{◌≡◌, ◌∙◌, ap, rules, tests}, lemmas.Iterator.{YieldsList-from_slice, Search.find_from_yields_List}}
+use Rattle.std.specs.{List.find, Option.option_copied, Str.bytes_eq}
 use Rattle.club_rows.specs.declared.member.Member.{Member}
 use Rattle.club_core.specs.Club.{Club as Rows, member_named}
 use Rattle.club_reference.proofs.club.Club.member_named.Goals as goal

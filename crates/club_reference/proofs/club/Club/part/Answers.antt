@@ -1,12 +1,8 @@
 use Rattle.std.proofs.Common.{◌∙◌, ap, List}
-use Rattle.std.specs.Prelude.{filter}
-use Rattle.std.specs.Str.{bytes_eq}
-use Rattle.club_rows.specs.declared.member.Member.{Member}
-use Rattle.club_rows.specs.declared.key.Key.{Key}
-use Rattle.club_rows.specs.declared.booking.Booking.{Booking}
+use Rattle.std.specs.{Prelude.filter, Str.bytes_eq}
+use Rattle.club_rows.specs.declared.{booking.Booking.Booking, key.Key.Key, member.Member.Member}
 use Rattle.club_core.specs.Solo.{part_of}
-use Rattle.club_reference.specs.Held.{held_under}
-use Rattle.club_reference.specs.Rows.{rows_of}
+use Rattle.club_reference.specs.{Held.held_under, Rows.rows_of}
 use Rattle.club_reference.proofs.WidthLemmas.{fits_part, fits_same}
 use Rattle.club_reference.proofs.club.Club.part.Goals as goal
 

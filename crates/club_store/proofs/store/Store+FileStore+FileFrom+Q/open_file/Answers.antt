@@ -1,19 +1,11 @@
 use Rattle.std.proofs.Common.{ℕ, List, [], ◌∷◌, inl, refl, subst, sym, ap, ap₂, ◌∙◌, arith, ◌≡◌, Bool, cond, inr, subst₂, ◌≢◌, Option, None}
 use Rattle.std.proofs.lemmas.Option.{IfSome_then}
-use Rattle.club_store.specs.declared.remains.Remains.{Remains}
-use Rattle.club_store.specs.Held.{IsRemainsOf, busy}
-use Rattle.sqlite.specs.declared.file.Leftover.{Leftover}
-use Rattle.sqlite.specs.declared.error.Error.{Error}
-use Rattle.sqlite_disk.specs.History.{MayLeave}
-use Rattle.sqlite_disk.specs.Events.{Event, replay, settled}
-use Rattle.sqlite.specs.State.{HasCleanDisk}
-use Rattle.sqlite.specs.Files.{file_state}
-use Rattle.sqlite.specs.Recovery.{Image}
+use Rattle.club_store.specs.{Held.{IsRemainsOf, busy}, Opening.{FailsFrom, LeavesFrom}, declared.remains.Remains.Remains}
+use Rattle.sqlite.specs.{Files.file_state, Recovery.Image, State.HasCleanDisk, declared.{error.Error.Error, file.Leftover.Leftover}}
+use Rattle.sqlite_disk.specs.{Events.{Event, replay, settled}, History.MayLeave}
 use Rattle.club_core.specs.Club.{Club, empty_club}
-use Rattle.club_tables.specs.Tables.{IsLeftOf}
+use Rattle.club_tables.specs.{Tables.IsLeftOf, Transaction.fault_by}
 use Rattle.club_store.proofs.CrashLemmas.{new_is_blank, the_one}
-use Rattle.club_tables.specs.Transaction.{fault_by}
-use Rattle.club_store.specs.Opening.{FailsFrom, LeavesFrom}
 use Rattle.sqlite_disk.specs.declared.Disk as disk
 use Rattle.club_store.specs.Held as spec
 use Rattle.club_store.specs.declared.remains.Remains.TheVariants as remains

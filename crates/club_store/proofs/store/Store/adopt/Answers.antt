@@ -1,11 +1,8 @@
-use Rattle.std.proofs.Common.{[], ◌∷◌, inl, inr, refl, sym, ap, ◌∙◌, arith}
-use Rattle.std.proofs.lemmas.Bool.{not-true}
-use Rattle.sqlite.specs.Effect.{Database}
-use Rattle.sqlite.specs.Held.{state}
+use Rattle.std.proofs.{Common.{[], ◌∷◌, inl, inr, refl, sym, ap, ◌∙◌, arith}, lemmas.Bool.not-true}
+use Rattle.sqlite.specs.{Effect.Database, Held.state}
 use Rattle.club_core.specs.Club.{empty_club}
 use Rattle.club_tables.specs.Tables.{HoldsClubAnyVersion}
-use Rattle.club_store.proofs.CrashLemmas.{one_found, represents_one, the_one}
-use Rattle.club_store.proofs.ReadingLemmas.{opens_nothing}
+use Rattle.club_store.proofs.{CrashLemmas.{one_found, represents_one, the_one}, ReadingLemmas.opens_nothing}
 use Rattle.club_store.proofs.store.Store.adopt.Goals as goal
 
 pub returns-in-Ok-clause-was_clean : goal.returns-in-Ok-clause-was_clean

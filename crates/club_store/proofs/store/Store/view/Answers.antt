@@ -1,6 +1,5 @@
 use Rattle.std.proofs.Common.{sym, ◌∙◌}
-use Rattle.club_store.proofs.ReadingLemmas.{both_read, read_as, read_failed}
-use Rattle.club_store.proofs.ViewLemmas.{seen_is}
+use Rattle.club_store.proofs.{ReadingLemmas.{both_read, read_as, read_failed}, ViewLemmas.seen_is}
 use Rattle.club_store.proofs.store.Store.view.Goals as goal
 
 pub returns-clause-reads : goal.returns-clause-reads

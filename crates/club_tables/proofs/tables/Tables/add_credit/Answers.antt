@@ -1,5 +1,4 @@
-use Rattle.club_tables.proofs.Common.{◌<◌, ◌^◌, arith, AddCredit}
-use Rattle.club_tables.proofs.changes.WriteLemmas.{changes}
+use Rattle.club_tables.proofs.{Common.{◌<◌, ◌^◌, arith, AddCredit}, changes.WriteLemmas.changes}
 use Rattle.club_tables.proofs.tables.Tables.add_credit.Goals as goal
 
 pub returns-clause-makes : goal.returns-clause-makes

@@ -1,6 +1,4 @@
-use Rattle.club_tables.proofs.Common.{inr, refl, index_batch, HoldsClubVersion2}
-use Rattle.club_tables.proofs.opening.OpenLemmas.{runs_batch}
-use Rattle.club_tables.proofs.opening.MakingLemmas.{holds_second}
+use Rattle.club_tables.proofs.{Common.{inr, refl, index_batch, HoldsClubVersion2}, opening.{MakingLemmas.holds_second, OpenLemmas.runs_batch}}
 use Rattle.club_tables.proofs.tables.Tables.add_index.Goals as goal
 
 pub returns-clause-opens : goal.returns-clause-opens

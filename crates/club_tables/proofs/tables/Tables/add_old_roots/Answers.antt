@@ -1,6 +1,4 @@
-use Rattle.club_tables.proofs.Common.{inl, inr, refl, migration, HoldsClubVersion1}
-use Rattle.club_tables.proofs.opening.OpenLemmas.{runs_batch}
-use Rattle.club_tables.proofs.opening.MakingLemmas.{holds_first}
+use Rattle.club_tables.proofs.{Common.{inl, inr, refl, migration, HoldsClubVersion1}, opening.{MakingLemmas.holds_first, OpenLemmas.runs_batch}}
 use Rattle.club_tables.proofs.tables.Tables.add_old_roots.Goals as goal
 
 pub returns-clause-opens : goal.returns-clause-opens

@@ -1,9 +1,7 @@
 use Rattle.club_tables.proofs.Common.{rules, ◌≡◌, List, ℕ, Option, Result, Ghosts, Survives, Held, state, Booking, StoreFault, booking_under, OfBooking}
 use Rattle.club_tables.proofs.Common.{IsFirst, IsBookingNamed, reading_statement, ReadsClub, IsKept, booking_values}
+use Rattle.club_tables.proofs.{lists.BookingRows.{first_held, unnamed, one_booking}, queries.{KeyLemmas.booking_shown, ReadLemmas.{read_answer, fewer_read}}}
 use Rattle.club_tables.specs.Answers.{Answers}
-use Rattle.club_tables.proofs.lists.BookingRows.{first_held, unnamed, one_booking}
-use Rattle.club_tables.proofs.queries.ReadLemmas.{read_answer, fewer_read}
-use Rattle.club_tables.proofs.queries.KeyLemmas.{booking_shown}
 use Rattle.club_tables.proofs.tables.Tables.booking.Goals as goal
 
 read_booking : {S : Type 0} (g : Ghosts S) (key : List ℕ) (number : ℕ) {old new : Held S} {result : Result (Option Booking) StoreFault}

@@ -1,5 +1,4 @@
-use Rattle.club_tables.proofs.Common.{◌≤◌, arith, MarkCancelled}
-use Rattle.club_tables.proofs.changes.WriteLemmas.{changes, refuses, refund_if_fits}
+use Rattle.club_tables.proofs.{Common.{◌≤◌, arith, MarkCancelled}, changes.WriteLemmas.{changes, refuses, refund_if_fits}}
 use Rattle.club_tables.proofs.tables.Tables.cancel_booking.Goals as goal
 
 pub returns-clause-commits : goal.returns-clause-commits

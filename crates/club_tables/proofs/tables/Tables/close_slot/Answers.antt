@@ -1,5 +1,4 @@
-use Rattle.club_tables.proofs.Common.{MarkClosed}
-use Rattle.club_tables.proofs.changes.WriteLemmas.{changes}
+use Rattle.club_tables.proofs.{Common.MarkClosed, changes.WriteLemmas.changes}
 use Rattle.club_tables.proofs.tables.Tables.close_slot.Goals as goal
 
 pub returns-clause-makes : goal.returns-clause-makes

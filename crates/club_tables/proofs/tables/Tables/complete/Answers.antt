@@ -1,7 +1,6 @@
 use Rattle.club_tables.proofs.Common.{◌≡◌, All, IsTrue, inl, inr, sym, subst, ◌∙◌, arith, All-push, Ghosts, Database, HasCleanDisk, Held, state, HasOrGetsIndex}
 use Rattle.club_tables.proofs.Common.{EnsuresIndex, Understands, texts_by_key, index_text, HoldsClubVersion2, IsKept, IsUnderstood}
-use Rattle.club_tables.proofs.opening.StepLemmas.{keeps_after, opens_after, opens_not, kept_then}
-use Rattle.club_tables.proofs.crashes.SurviveLemmas.{opened_after}
+use Rattle.club_tables.proofs.{crashes.SurviveLemmas.opened_after, opening.StepLemmas.{keeps_after, opens_after, opens_not, kept_then}}
 use Rattle.club_tables.proofs.tables.Tables.complete.Goals as goal
 
 -- the index is there, or is made, after each row was asked for

@@ -1,5 +1,4 @@
-use Rattle.club_tables.proofs.Common.{◌≡◌, true, arith, InsertBooking}
-use Rattle.club_tables.proofs.changes.WriteLemmas.{changes}
+use Rattle.club_tables.proofs.{Common.{◌≡◌, true, arith, InsertBooking}, changes.WriteLemmas.changes}
 use Rattle.club_tables.proofs.tables.Tables.insert_booking.Goals as goal
 
 pub returns-clause-commits : goal.returns-clause-commits

@@ -1,5 +1,4 @@
-use Rattle.club_tables.proofs.Common.{◌≡◌, true, arith, InsertFacility}
-use Rattle.club_tables.proofs.changes.WriteLemmas.{changes}
+use Rattle.club_tables.proofs.{Common.{◌≡◌, true, arith, InsertFacility}, changes.WriteLemmas.changes}
 use Rattle.club_tables.proofs.tables.Tables.insert_facility.Goals as goal
 
 pub returns-clause-makes : goal.returns-clause-makes

@@ -1,7 +1,6 @@
-use Rattle.club_tables.proofs.Common.{◌≡◌, false, Option, Some, None, true≢false, refl, sym, ◌∙◌, InsertKey}
+use Rattle.club_tables.proofs.{Common.{◌≡◌, false, Option, Some, None, true≢false, refl, sym, ◌∙◌, InsertKey}, changes.WriteLemmas.changes}
 use Rattle.std.specs.Prelude.{is_some}
 use Rattle.club_rows.specs.declared.key.OlderRoot.{OlderRoot}
-use Rattle.club_tables.proofs.changes.WriteLemmas.{changes}
 use Rattle.club_tables.proofs.tables.Tables.insert_key.Goals as goal
 
 none_of : (older : Option OlderRoot) → is_some older ≡ false → older ≡ None

@@ -1,5 +1,4 @@
-use Rattle.club_tables.proofs.Common.{◌≡◌, true, arith, InsertMember}
-use Rattle.club_tables.proofs.changes.WriteLemmas.{changes}
+use Rattle.club_tables.proofs.{Common.{◌≡◌, true, arith, InsertMember}, changes.WriteLemmas.changes}
 use Rattle.club_tables.proofs.tables.Tables.insert_member.Goals as goal
 
 pub returns-clause-makes : goal.returns-clause-makes

@@ -1,5 +1,4 @@
-use Rattle.club_tables.proofs.Common.{inl, refl, table_batch, HoldsClubAnyVersion}
-use Rattle.club_tables.proofs.opening.OpenLemmas.{holds_found, runs_batch}
+use Rattle.club_tables.proofs.{Common.{inl, refl, table_batch, HoldsClubAnyVersion}, opening.OpenLemmas.{holds_found, runs_batch}}
 use Rattle.club_tables.proofs.tables.Tables.make_tables.Goals as goal
 
 pub returns-clause-opens : goal.returns-clause-opens

@@ -1,5 +1,4 @@
-use Rattle.club_tables.proofs.Common.{MarkOpen}
-use Rattle.club_tables.proofs.changes.WriteLemmas.{changes}
+use Rattle.club_tables.proofs.{Common.MarkOpen, changes.WriteLemmas.changes}
 use Rattle.club_tables.proofs.tables.Tables.open_slot.Goals as goal
 
 pub returns-clause-makes : goal.returns-clause-makes

@@ -1,5 +1,4 @@
-use Rattle.club_tables.proofs.Common.{arith, [], HasCleanDisk, state, transaction_start}
-use Rattle.club_tables.proofs.crashes.SurviveLemmas.{Keeps, not_run_keeps, then_rolled}
+use Rattle.club_tables.proofs.{Common.{arith, [], HasCleanDisk, state, transaction_start}, crashes.SurviveLemmas.{Keeps, not_run_keeps, then_rolled}}
 use Rattle.club_tables.proofs.tables.Tables.prepare.Goals as goal
 
 pub returns-in-Err-clause-kept : goal.returns-in-Err-clause-kept

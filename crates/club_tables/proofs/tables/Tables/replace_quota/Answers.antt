@@ -1,6 +1,5 @@
-use Rattle.club_tables.proofs.Common.{◌≤◌, arith, ReplaceQuota}
+use Rattle.club_tables.proofs.{Common.{◌≤◌, arith, ReplaceQuota}, changes.WriteLemmas.{changes, refuses, quota_if_fits}}
 use Rattle.club_rows.specs.Limits.{quota_limit}
-use Rattle.club_tables.proofs.changes.WriteLemmas.{changes, refuses, quota_if_fits}
 use Rattle.club_tables.proofs.tables.Tables.replace_quota.Goals as goal
 
 pub returns-clause-commits : goal.returns-clause-commits

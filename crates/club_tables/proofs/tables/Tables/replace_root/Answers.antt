@@ -1,5 +1,4 @@
-use Rattle.club_tables.proofs.Common.{ReplaceRoot}
-use Rattle.club_tables.proofs.changes.WriteLemmas.{changes}
+use Rattle.club_tables.proofs.{Common.ReplaceRoot, changes.WriteLemmas.changes}
 use Rattle.club_tables.proofs.tables.Tables.replace_root.Goals as goal
 
 pub returns-clause-makes : goal.returns-clause-makes

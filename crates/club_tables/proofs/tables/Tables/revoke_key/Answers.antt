@@ -1,5 +1,4 @@
-use Rattle.club_tables.proofs.Common.{MarkRevoked}
-use Rattle.club_tables.proofs.changes.WriteLemmas.{changes}
+use Rattle.club_tables.proofs.{Common.MarkRevoked, changes.WriteLemmas.changes}
 use Rattle.club_tables.proofs.tables.Tables.revoke_key.Goals as goal
 
 pub returns-clause-makes : goal.returns-clause-makes

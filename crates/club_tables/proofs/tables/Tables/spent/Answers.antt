@@ -1,7 +1,4 @@
-use Rattle.club_tables.proofs.Common.{◌∙◌, OfCosts}
-use Rattle.club_tables.proofs.lists.SumLemmas.{costs_are}
-use Rattle.club_tables.proofs.queries.ReadLemmas.{read_answer}
-use Rattle.club_tables.proofs.queries.KeyLemmas.{costs_shown}
+use Rattle.club_tables.proofs.{Common.{◌∙◌, OfCosts}, lists.SumLemmas.costs_are, queries.{KeyLemmas.costs_shown, ReadLemmas.read_answer}}
 use Rattle.club_tables.proofs.tables.Tables.spent.Goals as goal
 
 pub returns-clause-reads : goal.returns-clause-reads

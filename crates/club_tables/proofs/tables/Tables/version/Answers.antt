@@ -1,7 +1,5 @@
 use Rattle.club_tables.proofs.Common.{inl, inr, IfOk-weaker, HasCleanDisk, Database, state, Club, HoldsClubVersion1, HoldsClubVersion2}
-use Rattle.club_tables.proofs.crashes.RepresentsLemmas.{represents_on}
-use Rattle.club_tables.proofs.crashes.SurviveLemmas.{was_clean}
-use Rattle.club_tables.proofs.opening.OpenLemmas.{version_returned}
+use Rattle.club_tables.proofs.{crashes.{RepresentsLemmas.represents_on, SurviveLemmas.was_clean}, opening.OpenLemmas.version_returned}
 use Rattle.club_tables.proofs.opening.VersionLemmas.{version_answered}
 use Rattle.club_tables.proofs.tables.Tables.version.Goals as goal
 

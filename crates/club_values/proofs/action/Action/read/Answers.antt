@@ -1,6 +1,5 @@
 use Rattle.std.proofs.Common.{◌≡◌}
-use Rattle.club_values.specs.declared.action.Action.{Action}
-use Rattle.club_values.specs.Action.{action_text}
+use Rattle.club_values.specs.{Action.action_text, declared.action.Action.Action}
 use Rattle.club_values.proofs.TextOfLemmas.{same_reading, reads_actions}
 use Rattle.club_values.proofs.action.Action.read.Goals as goal
 

@@ -1,8 +1,5 @@
 use Rattle.std.proofs.Common.{◌≡◌, ℕ, get_or, ap, ◌∙◌, arith}
-use Rattle.jiff_core.specs.Calendar.{weekday_number}
-use Rattle.jiff_core.specs.Weekday.{monday_zero}
-use Rattle.jiff_core.specs.declared.civil.weekday.Weekday.{Weekday}
-use Rattle.jiff_core.specs.declared.civil.weekday.Weekday.TheVariants.{Monday}
+use Rattle.jiff_core.specs.{Calendar.weekday_number, Weekday.monday_zero, declared.civil.weekday.Weekday.{Weekday, TheVariants.Monday}}
 use Rattle.club_values.specs.Weekday.{weekdays}
 use Rattle.club_values.proofs.day.Day.weekday.Goals as goal
 

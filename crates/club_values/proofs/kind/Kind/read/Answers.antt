@@ -1,6 +1,5 @@
 use Rattle.std.proofs.Common.{◌≡◌}
-use Rattle.club_values.specs.declared.kind.Kind.{Kind}
-use Rattle.club_values.specs.Kind.{kind_text}
+use Rattle.club_values.specs.{Kind.kind_text, declared.kind.Kind.Kind}
 use Rattle.club_values.proofs.TextOfLemmas.{same_reading, reads_kinds}
 use Rattle.club_values.proofs.kind.Kind.read.Goals as goal
 

@@ -1,5 +1,4 @@
-use Rattle.std.proofs.Common.{refl, ◌∙◌}
-use Rattle.std.proofs.KnownBytes.{Keeps-refl, Keeps-trans}
+use Rattle.std.proofs.{Common.{refl, ◌∙◌}, KnownBytes.{Keeps-refl, Keeps-trans}}
 use Rattle.desk_server.specs.Between.{no_wait, wait_again}
 use Rattle.desk_server.proofs.MeanwhileLemmas.{alone_none, one_command_more}
 use Rattle.desk_server.proofs.between.BetweenInlet.fill.Goals as goal

@@ -1,8 +1,6 @@
-use Rattle.std.proofs.Common.{[], Ok, Err, refl}
+use Rattle.std.proofs.{Common.{[], Ok, Err, refl}, KnownBytes.Appends-nil}
 use Rattle.std.specs.Io.KnownBytes.{Appends}
-use Rattle.std.proofs.KnownBytes.{Appends-nil}
-use Rattle.club_http.specs.Calls.{not_put}
-use Rattle.club_http.specs.declared.fault.AnswerFault.TheVariants.{Read}
+use Rattle.club_http.specs.{Calls.not_put, declared.fault.AnswerFault.TheVariants.Read}
 use Rattle.desk_server.proofs.ExchangeLemmas.{exchanged_to_all, reached, spoken, talked, unasked_to_all}
 use Rattle.desk_server.proofs.connections.AcceptedConnection.exchange.Goals as goal
 

@@ -1,6 +1,5 @@
-use Rattle.std.proofs.Common.{◌≡◌, ◌≤◌, ◌-◌, ◌++◌, length, take, arith, length-append, refl}
+use Rattle.std.proofs.{Common.{◌≡◌, ◌≤◌, ◌-◌, ◌++◌, length, take, arith, length-append, refl}, KnownBytes.{Consumes-trans, Keeps-trans}}
 use Rattle.std.proofs.lemmas.Grind.{common_steps}
-use Rattle.std.proofs.KnownBytes.{Consumes-trans, Keeps-trans}
 use Rattle.desk_server.proofs.AcceptedLemmas.{moved_more}
 use Rattle.desk_server.proofs.timed.Accepted.take_rest.Goals as goal
 

@@ -1,5 +1,4 @@
-use Rattle.http_request.proofs.Common.{take, drop, take-append-drop}
-use Rattle.http_request.proofs.WholeLemmas.{front_more}
+use Rattle.http_request.proofs.{Common.{take, drop, take-append-drop}, WholeLemmas.front_more}
 use Rattle.http_request.proofs.scan.HeadScan.go_on.Goals as goal
 
 pub returns-in-Refused : goal.returns-in-Refused

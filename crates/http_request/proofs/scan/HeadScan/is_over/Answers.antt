@@ -1,6 +1,4 @@
-use Rattle.http_request.proofs.FrameLemmas.{no_piece, not_refused, only}
-use Rattle.http_request.proofs.ScanLemmas.{tested_none, tested_same}
-use Rattle.http_request.proofs.WholeLemmas.{body_only}
+use Rattle.http_request.proofs.{FrameLemmas.{no_piece, not_refused, only}, ScanLemmas.{tested_none, tested_same}, WholeLemmas.body_only}
 use Rattle.http_request.proofs.scan.HeadScan.is_over.Goals as goal
 
 pub returns-in-NoPiece : goal.returns-in-NoPiece

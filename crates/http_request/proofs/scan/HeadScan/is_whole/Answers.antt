@@ -1,8 +1,5 @@
-use Rattle.http_request.proofs.Common.{arith, ◌<◌, ◌-◌, length, OnFalse_from, nat_tests, length-drop, endless, has_frame}
-use Rattle.http_request.proofs.FrameLemmas.{asks_at, whole_frame}
-use Rattle.http_request.proofs.LengthLemmas.{room_for}
-use Rattle.http_request.proofs.ScanLemmas.{tested}
-use Rattle.http_request.proofs.WholeLemmas.{open_head, open_body}
+use Rattle.http_request.proofs.{Common.{arith, ◌<◌, ◌-◌, length, OnFalse_from, nat_tests, length-drop, endless, has_frame}, FrameLemmas.{asks_at, whole_frame}}
+use Rattle.http_request.proofs.{LengthLemmas.room_for, ScanLemmas.tested, WholeLemmas.{open_head, open_body}}
 use Rattle.http_request.proofs.scan.HeadScan.is_whole.Goals as goal
 
 pub returns-in-NoPiece-clause-whole : goal.returns-in-NoPiece-clause-whole

@@ -1,5 +1,4 @@
-use Rattle.std.proofs.Common.{arith, ◌≤◌, refl, ◌∙◌, ap, sym, length, List, ℕ}
-use Rattle.std.proofs.lemmas.List.{take_all, length-map}
+use Rattle.std.proofs.{Common.{arith, ◌≤◌, refl, ◌∙◌, ap, sym, length, List, ℕ}, lemmas.List.{take_all, length-map}}
 use Rattle.std.specs.Vec.{vec_items}
 use Rattle.pass_c.specs.Object.{with_one_more}
 use Rattle.pass_c.proofs.HeldLemmas.{next_caveat, pass_of}

@@ -1,7 +1,6 @@
 -- The object holds the pass with the caveats so far.
 use Rattle.std.proofs.Common.{◌≡◌, take}
-use Rattle.pass_c.specs.Code.{number_of_form}
-use Rattle.pass_c.specs.Object.{held}
+use Rattle.pass_c.specs.{Code.number_of_form, Object.held}
 use Rattle.pass_c.proofs.object.PassObject.fill.Given as goal
 
 abbrev pub invariant-loop-caveat : goal.invariant-loop-caveat

@@ -1,6 +1,5 @@
 use Rattle.std.proofs.Common.{ℕ, List, take, map, ap, ◌∙◌}
-use Rattle.pass_caveats.specs.Fault.{first_fault_of}
-use Rattle.pass_caveats.specs.computed.CaveatOf.{caveat_of}
+use Rattle.pass_caveats.specs.{Fault.first_fault_of, computed.CaveatOf.caveat_of}
 use Rattle.pass_c.specs.Object.{held, pieces_of}
 use Rattle.pass_c.proofs.VerdictLemmas.{understood_as}
 use Rattle.pass_c.proofs.object.PassObject.first_fault.Goals as goal

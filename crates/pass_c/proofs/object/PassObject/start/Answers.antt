@@ -1,6 +1,5 @@
 use Rattle.std.proofs.Common.{arith, ap, ◌∙◌}
-use Rattle.pass_c.proofs.PieceLemmas.{written}
-use Rattle.pass_c.proofs.HeldLemmas.{held_start}
+use Rattle.pass_c.proofs.{HeldLemmas.held_start, PieceLemmas.written}
 use Rattle.pass_c.proofs.object.PassObject.start.Goals as goal
 
 pub returns-clause-value : goal.returns-clause-value

@@ -1,8 +1,7 @@
+use Rattle.pass_caveats.proofs.{CandidateLemmas.action_words, ChoiceLemmas.{reads_choice, no_choice, something_left, nothing_left}}
 use Rattle.pass_caveats.proofs.Common.{[], ◌∷◌, sym, ◌∙◌, refl}
 use Rattle.club_values.specs.Action.{action_text}
 use Rattle.pass_caveats.specs.Actions.{all_actions, has_action}
-use Rattle.pass_caveats.proofs.CandidateLemmas.{action_words}
-use Rattle.pass_caveats.proofs.ChoiceLemmas.{reads_choice, no_choice, something_left, nothing_left}
 use Rattle.pass_caveats.proofs.actions.Actions.read.Goals as goal
 
 pub returns-then-is_some : goal.returns-then-is_some

@@ -1,8 +1,7 @@
-use Rattle.pass_caveats.proofs.Common.{◌≡◌, true, sym, arith, AreNames, comma_parts}
-use Rattle.pass_caveats.proofs.PartLemmas.{joined-parts_of, some_part, names_are_parts}
-use Rattle.pass_caveats.proofs.names.Names.read.Goals as goal
+use Rattle.pass_caveats.proofs.{Common.{◌≡◌, true, sym, arith, AreNames, comma_parts}, PartLemmas.{joined-parts_of, some_part, names_are_parts}}
 use Rattle.pass_caveats.proofs.names.Names.read.Goals.{else-are_all_names-via-then-are_all_names+else-count_of_parts-le-MAX_NAMES}
 use Rattle.pass_caveats.proofs.names.Names.read.Goals.{else-are_all_names-via-else-are_all_names}
+use Rattle.pass_caveats.proofs.names.Names.read.Goals as goal
 
 pub invariant_of-result : goal.invariant_of-result
 invariant_of-result c =

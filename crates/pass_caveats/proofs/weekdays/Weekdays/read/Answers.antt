@@ -1,8 +1,7 @@
+use Rattle.pass_caveats.proofs.{CandidateLemmas.weekday_words, ChoiceLemmas.{reads_choice, no_choice, something_left, nothing_left}}
 use Rattle.pass_caveats.proofs.Common.{[], ◌∷◌, sym, ◌∙◌, refl}
 use Rattle.club_values.specs.Weekday.{weekdays}
 use Rattle.pass_caveats.specs.Weekdays.{weekday_text, has_weekday}
-use Rattle.pass_caveats.proofs.CandidateLemmas.{weekday_words}
-use Rattle.pass_caveats.proofs.ChoiceLemmas.{reads_choice, no_choice, something_left, nothing_left}
 use Rattle.pass_caveats.proofs.weekdays.Weekdays.read.Goals as goal
 
 pub returns-then-is_some : goal.returns-then-is_some

@@ -1,5 +1,4 @@
-use Rattle.pass_forms.proofs.Common.{◌≡◌, suc, arith, common_steps}
-use Rattle.pass_forms.proofs.CaveatRuns.{no_more, one_more}
+use Rattle.pass_forms.proofs.{CaveatRuns.{no_more, one_more}, Common.{◌≡◌, suc, arith, common_steps}}
 use Rattle.pass_forms.proofs.layout.Caveats.next.Goals as goal
 
 pub returns-in_err-self-clause-none : goal.returns-in_err-self-clause-none

@@ -1,5 +1,4 @@
-use Rattle.pass_forms.proofs.Common.{◌∙◌, length, refl, ap, sym, opening_of, IsReadAs}
-use Rattle.pass_forms.proofs.Collecting.{opens}
+use Rattle.pass_forms.proofs.{Collecting.opens, Common.{◌∙◌, length, refl, ap, sym, opening_of, IsReadAs}}
 use Rattle.pass_forms.proofs.layout.Fields.open.Goals as goal
 
 pub returns-clause-computed : goal.returns-clause-computed

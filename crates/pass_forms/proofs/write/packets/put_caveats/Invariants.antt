@@ -1,6 +1,5 @@
 -- What was put, with the packets of the caveats that are left, is the whole.
-use Rattle.pass_forms.proofs.Common.{◌≡◌, ◌++◌, caveat_packets}
-use Rattle.pass_forms.proofs.PutCaveats.{left_from}
+use Rattle.pass_forms.proofs.{Common.{◌≡◌, ◌++◌, caveat_packets}, PutCaveats.left_from}
 use Rattle.pass_forms.proofs.write.packets.put_caveats.Given as goal
 
 abbrev pub invariant-loop-caveat : goal.invariant-loop-caveat

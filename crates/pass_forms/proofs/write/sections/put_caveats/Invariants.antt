@@ -1,6 +1,5 @@
 -- What was put, with the sections of the caveats that are left, is the whole.
-use Rattle.pass_forms.proofs.Common.{◌≡◌, ◌++◌, caveat_section}
-use Rattle.pass_forms.proofs.PutCaveats.{left_from}
+use Rattle.pass_forms.proofs.{Common.{◌≡◌, ◌++◌, caveat_section}, PutCaveats.left_from}
 use Rattle.pass_forms.proofs.write.sections.put_caveats.Given as goal
 
 abbrev pub invariant-loop-caveat : goal.invariant-loop-caveat

@@ -1,5 +1,4 @@
-use Rattle.std.proofs.Common.{inr}
-use Rattle.std.proofs.lemmas.Result.{err_from_is_err_and}
+use Rattle.std.proofs.{Common.inr, lemmas.Result.err_from_is_err_and}
 use Rattle.passtool_commands.proofs.RunLemmas.{begun, failed, performed}
 use Rattle.passtool_commands.proofs.command.Command.perform.Goals as goal
 
