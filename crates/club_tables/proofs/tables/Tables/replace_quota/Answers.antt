@@ -11,8 +11,8 @@ returns-clause-makes g c =
     changes c.suiting_changes_keep_sound.ensures (ReplaceQuota c.args.member.now c.args.quota) within (returns-clause-commits g c within)
     (λ is_open trees may. g.met.S.Store.settled c.write_one.new.self.store trees is_open may)
 
-pub returns-then-quota-clause-makes : goal.returns-then-quota-clause-makes
-returns-then-quota-clause-makes g c =
+pub returns-then-from-gt-MAX_QUOTA-clause-makes : goal.returns-then-from-gt-MAX_QUOTA-clause-makes
+returns-then-from-gt-MAX_QUOTA-clause-makes g c =
     refuses (ReplaceQuota c.args.member.now c.args.quota)
     (λ low. let none : ⊥ = omega arith in none)
     (quota_if_fits c.args.member.now c.args.quota) c.args.self.now
