@@ -65,7 +65,8 @@ impl Scene for AtOnce<'_> {
     }
 }
 
-fn append(rt: &impl Abort, rows: &mut Vec<Happens>, more: &[Happens]) {
+/// Adds rows at the end.
+pub(crate) fn append(rt: &impl Abort, rows: &mut Vec<Happens>, more: &[Happens]) {
     for row in more {
         push(rt, rows, *row);
     }

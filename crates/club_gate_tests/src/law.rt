@@ -1,10 +1,11 @@
 //! Lists of events from an empty database, a request after one, and the files that one leaves.
 
+use crate::at_once::append;
 use crate::expect::expect_eq;
 use crate::happens::{Happens, events, expect_replies};
 use crate::known::SIGNED;
 use crate::values::at;
-use club_core::Request;
+use club_core::{Refusal, Request};
 use club_gate::{Desk, OfficeReply, Words};
 use club_store::Store;
 use club_values::Kind;
@@ -19,7 +20,7 @@ use test_kit::passes::{AMY_JSON, AMY_V1, AMY_V2};
 use test_kit::replies::{ACCOUNT_AFTER, BOOKED_7, NOT_VERIFIED};
 use test_kit::requests::{ACCOUNT, BOOK_7};
 use test_kit::roots::ROOT;
-use test_kit::{PlainCommand, PlainReply};
+use test_kit::{COURT_AT_18, COURT_AT_19, PlainCommand, PlainReply, PlainRequest};
 
 /// Four commands, a booking, its repeats in the two other forms, and the account, which was charged
 /// once.
@@ -42,6 +43,31 @@ fn books_once_in_three_forms(rt: HostRuntime) {
     let events = events(&rt, &BOOKS);
     let replies = run_from_nothing(rt.alloc(), events.as_slice()).expect(&rt, "replies");
     expect_replies(&rt, replies.as_slice(), &BOOKS);
+}
+
+const AT_19: PlainRequest = PlainRequest::Book(COURT_AT_19, 8, 0);
+
+/// The office closes a slot and opens it again, and sets a quota below the open bookings.
+static CORRECTS: [Happens; 9] = [
+    Happens::Commanded(PlainCommand::CloseSlot(COURT_AT_18), OfficeReply::Done),
+    Happens::Asked(AMY_V2, BOOK_7, PlainReply::Refused(Refusal::SlotClosed)),
+    Happens::Commanded(PlainCommand::OpenSlot(COURT_AT_18), OfficeReply::Done),
+    Happens::Asked(AMY_V2, BOOK_7, BOOKED_7),
+    Happens::Commanded(PlainCommand::OpenSlot(COURT_AT_18), OfficeReply::Done),
+    Happens::Commanded(PlainCommand::SetQuota("amy", 1), OfficeReply::Done),
+    Happens::Asked(AMY_V2, AT_19, PlainReply::Refused(Refusal::QuotaReached)),
+    Happens::Commanded(PlainCommand::SetQuota("amy", 5), OfficeReply::Done),
+    Happens::Asked(AMY_V2, ACCOUNT, ACCOUNT_AFTER),
+];
+
+#[test]
+fn corrects_among_requests(rt: HostRuntime) {
+    let mut rows = Vec::new(rt.alloc());
+    append(&rt, &mut rows, &BOOKS[..4]);
+    append(&rt, &mut rows, &CORRECTS);
+    let events = events(&rt, rows.as_slice());
+    let replies = run_from_nothing(rt.alloc(), events.as_slice()).expect(&rt, "replies");
+    expect_replies(&rt, replies.as_slice(), rows.as_slice());
 }
 
 /// Ends the test unless a request for the account after these events gets this reply.

@@ -36,7 +36,8 @@ pub(crate) struct Trial {
     /// The replies to these if nothing of the task was done, and if some of it was.
     pub first: &'static [&'static str],
     pub repeated: &'static [&'static str],
-    /// The number of the task's calls of the log, and of the database.
+    /// The number of the task's calls of the log, and of the database: for a commit 42 and 60, and
+    /// two and one for each page that it changes.
     pub calls: [u64; 2],
 }
 

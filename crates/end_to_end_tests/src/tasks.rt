@@ -127,7 +127,7 @@ static OPENS: Trial = Trial {
     again: &[OPEN_AT_19, CLOSE_THAT],
     first: &[DONE, EXISTS],
     repeated: &[DONE, EXISTS],
-    calls: [46, 62],
+    calls: [44, 61],
 };
 
 #[test]
@@ -144,7 +144,7 @@ static SETS_A_QUOTA: Trial = Trial {
     again: &[SET_QUOTA, Event::Asks(NOON, BOOK_7)],
     first: &[DONE, BOOKED_7],
     repeated: &[DONE, BOOKED_7],
-    calls: [46, 62],
+    calls: [44, 61],
 };
 
 #[test]

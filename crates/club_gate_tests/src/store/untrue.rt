@@ -8,8 +8,7 @@ use super::write::Write;
 use std::test::*;
 use test_kit::roots::{SECOND_ROOT, THIRD_ROOT};
 use test_kit::{
-    BOOKING_7, BOOKING_8, COURT, COURT_AT_18, COURT_AT_19, COURT_AT_22, PlainBooking, PlainSlot,
-    ROOM_AT_18,
+    BOOKING_7, BOOKING_8, COURT, COURT_AT_18, COURT_AT_19, PlainBooking, PlainSlot, ROOM_AT_18,
 };
 
 /// As it was on record, and as it is.
@@ -249,6 +248,12 @@ static QUOTAS: [Step; 9] = [
 fn a_quota_of_no_member(rt: HostRuntime) {
     plays_filled(&rt, &QUOTAS);
 }
+
+/// The court is shut at that hour.
+const COURT_AT_22: PlainSlot = PlainSlot {
+    hour: 22,
+    ..COURT_AT_18
+};
 
 /// A slot with a row, and one without.
 static CLOSES_TWICE: [Step; 14] = [
