@@ -6,7 +6,7 @@ use crate::expect::expect_eq;
 use crate::runs::{ROOM, Row, run_line};
 use std::test::Fail;
 
-static MEMBERS: [Row; 12] = [
+static MEMBERS: [Row; 17] = [
     Row("add-member", "cy 5", "0 done\n"),
     Row("add-member", "cy 99", "0 done\n"),
     Row("add-member", "cy 100", "1 refused: out of range"),
@@ -19,6 +19,11 @@ static MEMBERS: [Row; 12] = [
     Row("credit", "zed 0", "1 refused: out of range"),
     Row("credit", "zed 1", "1 refused: unknown"),
     Row("credit", "bea 1", "1 refused: out of range"),
+    Row("set-quota", "amy 0", "0 done\n"),
+    Row("set-quota", "amy 99", "0 done\n"),
+    Row("set-quota", "amy 100", "1 refused: out of range"),
+    Row("set-quota", "zed 100", "1 refused: out of range"),
+    Row("set-quota", "zed 99", "1 refused: unknown"),
 ];
 
 #[test]
@@ -60,7 +65,7 @@ fn facilities(rt: HostRuntime) -> Result<(), Fail> {
     expect_over_clubs(&rt, 1, &FACILITIES)
 }
 
-static SLOTS_AND_SHEETS: [Row; 13] = [
+static SLOTS_AND_SHEETS: [Row; 12] = [
     Row("close-slot", "court-1 2026-05-01 18", "0 done\n"),
     Row("close-slot", "court-2 2026-05-01 07", "1 refused: unknown"),
     Row(
@@ -79,11 +84,11 @@ static SLOTS_AND_SHEETS: [Row; 13] = [
         "court-1 2026-05-01 20",
         "1 refused: slot in use",
     ),
+    // It is closed, open, and booked.
+    Row("open-slot", "court-1 2026-05-01 19", "0 done\n"),
     Row("open-slot", "court-1 2026-05-01 18", "0 done\n"),
-    Row("open-slot", "court-1 2026-05-01 18", "0 done\n"),
+    Row("open-slot", "court-1 2026-05-01 20", "0 done\n"),
     Row("open-slot", "court-2 2026-05-01 18", "1 refused: unknown"),
-    Row("close-slot", "court-1 2026-05-01 18", "0 done\n"),
-    Row("close-slot", "court-1 2026-05-01 19", "1 refused: exists"),
     Row(
         "sheet",
         "2026-05-02",

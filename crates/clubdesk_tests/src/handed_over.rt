@@ -11,7 +11,7 @@ const SHEET: &str = "Day sheet 2026-05-02\nNo bookings.\n";
 /// has its count, a root, and its arguments, each with a byte after it.
 type Handed = (Row<'static>, ServerAnswer<'static>, usize);
 
-static HANDED: [Handed; 7] = [
+static HANDED: [Handed; 9] = [
     // 5, no root, clubdesk, add-member, club, amy, 5.
     (
         Row("add-member", "amy 5", "0 done\n"),
@@ -22,6 +22,17 @@ static HANDED: [Handed; 7] = [
         Row("add-member", "amy 5", "1 refused: exists"),
         Some((1, "refused: exists")),
         34,
+    ),
+    (
+        Row("set-quota", "amy 5", "0 done\n"),
+        Some((0, "done\n")),
+        33,
+    ),
+    // 6, no root, clubdesk, open-slot, club, court-1, 2026-05-01, 18.
+    (
+        Row("open-slot", "court-1 2026-05-01 18", "0 done\n"),
+        Some((0, "done\n")),
+        49,
     ),
     (
         Row(

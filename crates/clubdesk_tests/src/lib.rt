@@ -14,6 +14,8 @@ mod clubs;
 #[cfg(test)]
 mod commands;
 #[cfg(test)]
+mod corrections;
+#[cfg(test)]
 mod door;
 #[cfg(test)]
 mod ends;

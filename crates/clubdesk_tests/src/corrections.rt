@@ -1,0 +1,35 @@
+//! Corrections of the office, one after the other over a club in a file, and what is shown after
+//! them.
+
+use crate::runs::{Row, expect_rows, new_path, remove};
+use crate::servers::OFFICE;
+use std::test::Fail;
+
+static CORRECTIONS: [Row; 8] = [
+    Row("close-slot", "court-1 2026-05-01 18", "0 done\n"),
+    Row("open-slot", "court-1 2026-05-01 18", "0 done\n"),
+    Row("open-slot", "court-1 2026-05-01 18", "0 done\n"),
+    Row(
+        "show-slot",
+        "court-1 2026-05-01 18",
+        "0 facility court-1\nday 2026-05-01\nhour 18\nkind court\nprice 200\nplaces 4\n\
+        taken 0\nclosed no\n",
+    ),
+    Row("close-slot", "court-1 2026-05-01 18", "0 done\n"),
+    Row("close-slot", "court-1 2026-05-01 18", "1 refused: exists"),
+    Row("set-quota", "amy 99", "0 done\n"),
+    Row(
+        "show-account",
+        "amy-1 --at 2026-04-20T12:00",
+        "0 member amy\nbalance 10000\nquota 99\nopen 0\nspent 0\nrevoked no\nolder root none\n",
+    ),
+];
+
+#[test]
+fn shows_what_was_corrected(rt: HostRuntime) -> Result<(), Fail> {
+    let path = new_path(&rt, "corrections")?;
+    expect_rows(&rt, path.as_str(), &OFFICE)?;
+    expect_rows(&rt, path.as_str(), &CORRECTIONS)?;
+    remove(&rt, path.as_str());
+    Ok(())
+}
