@@ -32,12 +32,14 @@ ROOT, OTHER = "30313233343536373839616263646566", "ffeeddccbbaa99887766554433221
 COMMANDS = {
     "add-member amy 5": "INSERT INTO members VALUES ('amy', 0, 5, 0)",
     "credit amy 10000": "UPDATE members SET credited = credited + 10000",
+    "set-quota amy 8": "UPDATE members SET quota = 8",
     "add-facility court-1 court 4 200 8 22": "INSERT INTO facilities VALUES ('court-1', 'court', 4, 200, 8, 22)",
     f"add-key amy-1 amy {ROOT} --form v1": f"INSERT INTO keys VALUES ('amy-1', 'amy', x'{ROOT}', 0)",
     f"add-key amy-2 amy {ROOT}": f"INSERT INTO keys VALUES ('amy-2', 'amy', x'{ROOT}', 0)",
     f"rotate-key amy-1 {OTHER} 2026-05-01T18:00 --form json":
         f"UPDATE keys SET root = x'{OTHER}' WHERE name = 'amy-1'; INSERT INTO old_roots VALUES ('amy-1', x'{ROOT}', 29627640)",
     "close-slot court-1 2026-05-01 09": "INSERT INTO slots VALUES ('court-1', 20574, 9, 1, 0)",
+    "open-slot court-1 2026-05-01 09": "UPDATE slots SET closed = 0",
     "revoke-key amy-2": "UPDATE keys SET revoked = 1 WHERE name = 'amy-2'",
 }
 TABLES = ("desk", "members", "facilities", "keys", "old_roots", "slots", "bookings")
