@@ -8,7 +8,7 @@ the three that the page names; nor does what stands for a ghost. Each contract i
 Python (`tests/reference`), which mark what they show. Each step of a path in TOUR is cited by the one before it. Writes docs/AUDIT.md,
 unless it is asked to check.
 
-It reads the promises of docs/PROMISES.md, the clauses that carry them, and the definitions below these, by tests/definitions.py.
+It reads the promises of docs/PROMISES.md, the clauses that carry them, and the definitions below these, by tests/lib/definitions.py.
 
     tests/audit.py                  writes docs/AUDIT.md
     tests/audit.py --check          says whether it is current
@@ -29,6 +29,7 @@ from itertools import groupby
 from pathlib import Path
 
 sys.dont_write_bytecode = True
+sys.path.insert(0, str(Path(__file__).resolve().parent / "lib"))
 import shown
 from cited import Contracts, citations
 from definitions import COMPUTED, OF_SPECS, ROOT, Book, closure, owner_of
@@ -177,7 +178,7 @@ class Audit:
         known = {(it.crate, it.module.rsplit(".", 1)[-1], it.name) for file in self.book.specs.values() for it in file.definitions.values()}
         lost = [".".join(it) for it in self.marks if it not in known]
         if lost:
-            raise Fault(f"tests/shown.py: no definitions {' '.join(lost)}")
+            raise Fault(f"tests/lib/shown.py: no definitions {' '.join(lost)}")
         rows = closure([it for file in self.book.specs.values() if re.search(r"Example|Rotation", file.module)
                         for it in file.definitions.values() if it.kind in OF_SPECS])
         self.rows = {id(it) for it in rows}

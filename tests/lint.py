@@ -14,8 +14,8 @@ Prints each slip with its place; the status is 1 if there is one.
 - No proof uses a name that its crate's proofs/Common passes on.
 - The old text of an edit isn't in its file, or is in it twice; or a crate has two edits of one name.
 - The bytes that a planted fault changes are no longer in its file.
-- A word of the pages or of web/ is known neither to aspell nor to tests/words.txt.
-- A line that the change adds has a pattern of tests/prose.py, such as a sentence of more than 30 words.
+- A word of the pages or of web/ is known neither to aspell nor to tests/lib/words.txt.
+- A line that the change adds has a pattern of tests/lib/prose.py, such as a sentence of more than 30 words.
 - The subject of one of its commits has no area, or more than 60 letters.
 The change is what this clone has beyond the branch that it follows. Not part of the gate.
   tests/lint.py                  every crate, the pages, and the change
@@ -34,6 +34,7 @@ import sys
 from collections import defaultdict
 from pathlib import Path
 
+sys.path.insert(0, str(Path(__file__).resolve().parent / "lib"))
 import more_edits
 import planted
 import prose
@@ -189,7 +190,7 @@ def other_versions():
 
 def unnamed_scripts():
     pages = "".join(it.read_text(encoding="utf-8") for it in (Path("README.md"), Path("CONTRIBUTING.md"), *Path("docs").glob("*.md")))
-    for script in sorted([*Path("tests").glob("*.sh"), *Path("bin").iterdir(), *Path("deploy").iterdir()]):
+    for script in sorted([*Path("tests").rglob("*.sh"), *Path("bin").iterdir(), *Path("deploy").iterdir()]):
         if str(script) not in pages:
             yield f"no page names: {script}"
 

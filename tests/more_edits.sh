@@ -30,4 +30,4 @@
 # groups: proofs
 # minutes: 600
 here=$(CDPATH='' cd -P -- "$(dirname -- "$0")" && pwd)
-exec python3 "$here/more_edits.py" "$@"
+exec python3 "$here/lib/more_edits.py" "$@"

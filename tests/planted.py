@@ -6,8 +6,10 @@ $PROGRAM stands for it. The log of the failed test has some words, so that one t
 import os
 import shutil
 import subprocess
+import sys
 from pathlib import Path
 
+sys.path.insert(0, str(Path(__file__).resolve().parent / "lib"))
 import desk
 
 PROGRAMS = ("clubdesk", "passtool")
@@ -15,7 +17,7 @@ BY_HAND = "#!/bin/sh\n"
 # test: file, bytes, what stands for them, words of the log; the words of a test that has a shorter run. A test with several faults has a
 # line for each, TEST:FAULT.
 PLANTS = {
-    "beside": ("tests/beside_go/desk.go", '"left":', '"lost":', "booking: the replies differ", "10", "1", "100"),
+    "beside": ("tests/peers/beside_go/desk.go", '"left":', '"lost":', "booking: the replies differ", "10", "1", "100"),
     "bookings_survive_kill": ("clubdesk", BY_HAND, '[ "$1" != sheet ] || rm -f "$2-wal"; exec "$PROGRAM" "$@"', "'sheet "),
     "audit": ("docs/PROMISES.md", "`opens`", "`openz`", "no contract Tables::open: openz"),
     "builds_side_by_side": ("bin/proved", '[ ! -e "$out/build.started" ] || return 0', ":", "not ok 12 a build that is killed"),
@@ -23,20 +25,20 @@ PLANTS = {
     "client_survives": ("examples/client.py", "        self.file.flush()\n        os.fsync(self.file.fileno())\n", "",
                         "test_servers_and_clients_that_are_killed"),
     "clock_out_of_range": ("clubdesk", BY_HAND, '"$PROGRAM" "$@" || exit 0', "the server ended with status 0"),
-    "club_stays_whole": ("tests/club_stays_whole.py", "VALUES ('amy', 0, 5, 0)", "VALUES ('amy', 0, 4, 0)", "assert found in wanted"),
+    "club_stays_whole": ("tests/desk/club_stays_whole.py", "VALUES ('amy', 0, 5, 0)", "VALUES ('amy', 0, 4, 0)", "assert found in wanted"),
     "completions_hold": ("bin/completions", 'compgen -W "$values"', 'compgen -W ""', "test_completions[clubdesk-Bash]"),
     "demo_tells": ("bin/demo", 'kill "$server" 2>/dev/null', "true", "not ok 6 a signal"),
     "docs_hold-quick": ("docs/TOUR.md", "`is_signed_by`", "`is_sygned_by`", "is_sygned_by"),
-    "field_outlives_bytes": ("tests/field_outlives_bytes.bats", "'drop(held);'", "''", "not ok 1 a field of V1"),
+    "field_outlives_bytes": ("tests/peers/field_outlives_bytes.bats", "'drop(held);'", "''", "not ok 1 a field of V1"),
     "hostile-quick": ("clubdesk", "quota reached", "quota reachex", "quota reachex"),
     "jobs_hold": ("deploy/old_copies", "now - its_day < 14", "now - its_day < 13", "too few"),
     "lint": ("CHANGELOG.md", "## 0.1.0,", "## 0.1.1,", "another version"),
     "lint:spelling": ("docs/TOUR.md", "Where is the signature compared", "Where is the signatture compared", "misspelt: docs/TOUR.md"),
     "lint:plants": ("deploy/old_copies", "now - its_day < 14", "now - its_day < 15", "a planted fault doesn't apply: jobs_hold"),
-    "lint_tells": ("tests/prose.py", "exactly if", "exactlyif", "nothing is left.-exactly if]"),
-    "linters": ("tests/desk.py", "import errno\n", "import errno\nimport ast\n", "'ast' imported but unused"),
+    "lint_tells": ("tests/lib/prose.py", "exactly if", "exactlyif", "nothing is left.-exactly if]"),
+    "linters": ("tests/lib/desk.py", "import errno\n", "import errno\nimport ast\n", "'ast' imported but unused"),
     "man_pages": ("man/clubdesk.1", ".It Cm revoke-key Ar FILE KEY", ".It Cm revoke-key Ar FILE", "revoke-key KEY"),
-    "memory_after_commit": ("tests/refused_memory.c", 'O_APPEND, "send ");', 'O_APPEND, (seen++, "send "));', "allocations after the commit"),
+    "memory_after_commit": ("tests/lib/refused_memory.c", 'O_APPEND, "send ");', 'O_APPEND, (seen++, "send "));', "allocations after the commit"),
     "modules_hold": ("web/src/dates.mjs", '"mon", "tue"', '"tue", "mon"', "not ok"),
     "modules_hold:lists-doubt": ("web/src/state.mjs", '(stateOf(each) === "listed" && stateOf(entry) === "listed")', 'stateOf(each) === "listed"', "2 of 2"),
     "modules_hold:lists-doubt-points": ("web/src/record.mjs", "(!isOfLists || entry.listed !== undefined)", "true", "made up, 901"),
@@ -117,7 +119,7 @@ PLANTS = {
     "page_books:breaks-words": ("web/src/book.css", "  .day-bar h2 { order: -1; flex-basis: 100%; }\n", "", "words that are broken", ".", "large_letters"),
     "page_narrows": ("web/src/caveats.mjs", '[1-4][0-9])", (most)', '[1-5][0-9])", (most)', "understood otherwise"),
     "library_package": ("bindings/c/lend.c", '"kind = court"', '"kind = boat"', "/root/lend: wanted"),
-    "passes_beside": ("tests/passes_beside.c", "satisfy_exact(verifier, (const unsigned char *)CAVEATS[i]", "satisfy_exact(verifier, ROOT",
+    "passes_beside": ("tests/peers/passes_beside.c", "satisfy_exact(verifier, (const unsigned char *)CAVEATS[i]", "satisfy_exact(verifier, ROOT",
                       "libmacaroons failed", "1", "100"),
     "passes_from_c": ("include/clubpass.h", "CLUBPASS_DENIED = 11", "CLUBPASS_DENIED = 12", "not so: clubpass_first_fault"),
     "passes_from_python": ("bindings/python/clubpass/__init__.py", "3: ThirdParty, 4: TooMany", "3: TooMany, 4: TooMany", "'fault 4:')", "--count", "3000"),
@@ -126,13 +128,13 @@ PLANTS = {
     "passes_in_languages:nothing-was-spent": ("bindings/go/clubpass/clubpass.go", "spent: C.uint64_t(ask.Spent), ", "", "test_vectors[go]"),
     "passes_by_pymacaroons": ("clubdesk", "caveat denies", "caveat deniex", "caveat deniex"),
     "proxy_holds": ("deploy/nginx.conf", "limit_req_status 429;", "limit_req_status 503;", "were limited"),
-    "refused_memory": ("tests/refused_memory.c", "errno = ENOMEM;", "abort();", "(-6, "),
+    "refused_memory": ("tests/lib/refused_memory.c", "errno = ENOMEM;", "abort();", "(-6, "),
     "requests_of_pages": ("docs/CLIENT.md", '"refund":300', '"refund":301', "test_page[CLIENT.md]"),
     "running_holds": ("deploy/back_up", 'cp -- "$1-wal" "$work/copy-wal"', ":", "a copy: wanted and found"),
     "running_holds:full-disk": ("deploy/back_up", 'said=$(LC_ALL=C cp -- "$1" "$work/copy" 2>&1) || fail "$said"', 'cp -- "$1" "$work/copy" || :',
                                 "the lines of a refused copy"),
     "scenarios": ("clubdesk", "quota reached", "quota reachex", "quota reachex"),
-    "scenarios_beside": ("tests/beside_c/desk.c", "number used", "number usex", "number usex", "bookings"),
+    "scenarios_beside": ("tests/peers/beside_c/desk.c", "number used", "number usex", "number usex", "bookings"),
     "setup_holds:clubs-beside": ("deploy/clubdesk-setup", "is_beside(file, path) or is_beside(path, file)", "False", "-orders beside it: wanted"),
     "setup_holds": ("deploy/clubdesk-setup", "SITE=https://{domain}", "SITE=http://{domain}", "the configuration has SITE=https"),
     "small_desk": ("web/src/small_desk.mjs", "Math.floor(booking.charge / 2)", "Math.ceil(booking.charge / 2)", "assert one == other"),

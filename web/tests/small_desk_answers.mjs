@@ -1,4 +1,4 @@
-// Answers of the small desk, for tests/small_desk.py: reads a club, and then requests, each a line of JSON, and prints a reply for each.
+// Answers of the small desk, for tests/pages/small_desk.py: reads a club, and then requests, each a line of JSON, and prints a reply for each.
 import { createInterface } from "node:readline";
 import { SmallDesk } from "../src/small_desk.mjs";
 

@@ -1,6 +1,6 @@
 //! Commands of the office and the known booking if an allocation is refused.
-//! `tests/refused_memory_tests.py` refuses each in turn, and none after it: a call that is out of
-//! memory changes nothing, and a second call is answered.
+//! `tests/desk/refused_memory_tests.py` refuses each in turn, and none after it: a call that is out
+//! of memory changes nothing, and a second call is answered.
 
 use crate::counter::reply;
 use crate::expect::expect_eq;

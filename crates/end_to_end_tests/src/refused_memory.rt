@@ -1,5 +1,5 @@
-//! Exchanges in which an allocation is refused. `tests/refused_memory_tests.py` refuses each in
-//! turn, those of the fixture too. A test ends with out of memory if the refusal fell before or
+//! Exchanges in which an allocation is refused. `tests/desk/refused_memory_tests.py` refuses each
+//! in turn, those of the fixture too. A test ends with out of memory if the refusal fell before or
 //! after what it is about.
 
 use crate::ends::Taker;

@@ -1,6 +1,6 @@
 //! Passes that are read and written in each form if an allocation is refused.
-//! `tests/refused_memory_tests.py` refuses each in turn, and none after it: a second call is given
-//! what it asks for.
+//! `tests/desk/refused_memory_tests.py` refuses each in turn, and none after it: a second call is
+//! given what it asks for.
 
 use crate::any::{BARE, EXAMPLE, KNOWN};
 use crate::json::calls::{read_any, write_any};

@@ -1,6 +1,6 @@
-//! Openings of a store, and what it shows then. `tests/refused_memory_tests.py` refuses each of its
-//! allocations in turn, and none after it: an opening that is out of memory leaves the database as
-//! it was, and a second one opens it.
+//! Openings of a store, and what it shows then. `tests/desk/refused_memory_tests.py` refuses each
+//! of its allocations in turn, and none after it. An opening that is out of memory leaves the
+//! database as it was, and a second one opens it.
 
 use super::databases::{Contents, database, version};
 use super::files::{make_file, path_of, plays_in_file, remove};

@@ -1,0 +1,112 @@
+#!/usr/bin/env -S /usr/bin/python3 -B
+"""Tests with each allocation refused in turn: each call is right, or out of memory without a change.
+
+The tests read and write the known passes in each form, open a store in each way, and give each command of the office. They make the
+known booking through `Desk::ask`, `Desk::run` and `answer`.
+
+It fails if a test isn't there, fails with ample memory, or allocates nothing. Tests that are missing or older than their sources are
+proved and built first. Not part of the gate.
+
+Name tests that pass each fault on, or compare what they get with out of memory and with the right answer: one that expects
+another fault fails if memory is refused instead.
+  tests/desk/refused_memory_tests.py                                              the tests of the list below
+  tests/desk/refused_memory_tests.py club_gate_tests                                         those of one crate
+  tests/desk/refused_memory_tests.py club_gate_tests store::shown::shows_what_a_key_sees ..  any tests of a crate
+"""
+# groups: proofs
+# minutes: 600
+# wants: gcc libc6-dev
+
+import os
+import re
+import subprocess
+import sys
+import tempfile
+import time
+from pathlib import Path
+
+sys.path[:0] = [str(Path(__file__).resolve().parents[1] / it) for it in ("lib", "")]
+import desk
+from more_edits import crates_below
+
+OPENINGS = """store_in_memory empty_database tables_of_version_1 tables_without_the_index tables_of_version_2
+              new_file file_of_version_1 file_without_the_index file_of_version_2"""
+# Of each crate its tests; those without another module are in `refused_memory`.
+TESTS = {
+    "pass_forms_tests": "known_pass known_pass_without_its_caveat example",
+    "club_gate_tests": " ".join(["commands ask_in_v1 ask_in_v2 ask_in_json run_in_v1 run_in_v2 run_in_json",
+                                 *(f"store::refused_memory::{it}" for it in OPENINGS.split())]),
+    "end_to_end_tests": "exchange_in_v1 exchange_in_v2 exchange_in_json faults_of_bytes",
+    "club_http_tests": "bodies::refused_memory counted::refused_memory",
+}
+FAULT = r"([A-Za-z]+\()*((OutOf)?Memory|AllocError|AllocFailed \{ \.\. \}|Os \{ code: 12, kind: OutOfMemory, .*\})\)*"
+ROOM = tempfile.TemporaryDirectory(dir=desk.IN_MEMORY)
+
+
+def built(crate):
+    """The tests of a crate, proved and built if they are missing, or older than the sources that they are built from."""
+    if not (desk.ROOT / "crates" / crate / "src").is_dir():
+        sys.exit(f"there is no crate {crate}")
+    program, begun = desk.ROOT / "crates" / crate / "out" / f"{crate}_tests", time.time()
+    crates = (crate, *crates_below([crate]))
+    sources = [it for each in crates for part in ("src", "specs", "proofs") for it in (desk.ROOT / "crates" / each / part).rglob("*")]
+    if not program.exists() or any(it.stat().st_mtime > program.stat().st_mtime for it in [desk.ROOT / "crates.txt", *sources]):
+        print(f"{crate}: proving and building its tests first, which takes some minutes", file=sys.stderr)
+        ran = subprocess.run(["rt", "test", "--jobs", "1"], cwd=desk.ROOT / "crates" / crate, stdin=subprocess.DEVNULL, stdout=subprocess.PIPE,
+                             stderr=subprocess.STDOUT, text=True, check=False)
+        if ran.returncode:
+            sys.exit("\n".join([*ran.stdout.splitlines()[-20:], f"{crate}: its tests could not be proved and built, or failed"]))
+        if not program.exists():
+            sys.exit(f"{crate} has no tests")
+        os.utime(program, (begun, begun))  # an edit during the build is newer than the program, so the next call builds again
+    return program
+
+
+def ends_without_memory(output):
+    """Whether a test that failed ended with out of memory: what it passed on, or what it got in place of another value, is that fault and
+    nothing beside it, in an `Err` or the like. One that names the fault elsewhere, as what it had expected, failed otherwise."""
+    def has_line(head):
+        return any(re.fullmatch(head + FAULT, line) for line in output.splitlines())
+
+    return has_line("  left: ") and not has_line(" right: ") if re.search("^assertion ", output, re.MULTILINE) else has_line("([^:]+: )?")
+
+
+def refuse(crate, test, program):
+    """Runs a test with ample memory, and then with each of its allocations refused; how many there are."""
+    if f"{test}: test" not in subprocess.run([program, "--list"], capture_output=True, text=True, check=True).stdout.splitlines():
+        sys.exit(f"{crate} has no test {test}")
+
+    def run(**variables):
+        """The status and the output, in a folder of its own."""
+        with tempfile.TemporaryDirectory(dir=ROOM.name) as folder:
+            ran = subprocess.run([program, test], stdout=subprocess.PIPE, stderr=subprocess.STDOUT, text=True, errors="replace", timeout=60, check=False,
+                                 env={**os.environ, "TMPDIR": folder, **variables})
+        return ran.returncode, ran.stdout
+
+    status, output = run()
+    if status:
+        sys.exit(f"{output}{crate} {test} fails with ample memory")
+    found = desk.refused_in_turn(run, ROOM.name)
+    for number, (status, output) in enumerate(found, 1):
+        if status and not ends_without_memory(output):
+            sys.exit(f"status {status}\n{output}{crate} {test}: fails otherwise where allocation {number} is refused")
+    if not found:
+        sys.exit(f"{crate} {test}: no allocation was seen")
+    ended = sum(status != 0 for status, _ in found)
+    print(f"{crate} {test}: of {len(found)} allocations, refused in turn, {ended} ended the run, each with out of memory", flush=True)
+    return len(found)
+
+
+def main(crate=None, *tests):
+    if crate and not tests and crate not in TESTS:
+        sys.exit(f"the list has no test of {crate}")
+    listed = {crate: " ".join(tests) or TESTS[crate]} if crate else TESTS
+    counts = []
+    for name, words in listed.items():
+        program = built(name)
+        counts += [refuse(name, it if "::" in it else f"refused_memory::{it}", program) for it in words.split()]
+    print(f"{len(counts)} tests, {sum(counts)} allocations refused")
+
+
+with ROOM:
+    main(*sys.argv[1:])

@@ -1,0 +1,164 @@
+#!/usr/bin/env -S /usr/bin/python3 -B
+"""Compares the rows of the test crates with the scenarios: which facts a row states, and which of them no scenario states.
+
+A fact is a question, the state of the club that its answer depends on, and the answer. READERS has a reader for each table whose rows scenarios
+can state. STAYS has the reason why other rows stay in Rust. The last line printed has the counts. The status is 1 if a row that a scenario can
+state is missing from the files. Not part of the gate.
+
+    tests/desk/scenarios_count.py             prints the missing rows, and the counts
+    tests/desk/scenarios_count.py --leaves    also prints each table whose rows the files state, and how many of its rows stay
+    tests/desk/scenarios_count.py --stays     also prints how many rows stay for each reason
+"""
+
+import argparse
+import sys
+from collections import Counter, defaultdict
+from pathlib import Path
+
+sys.dont_write_bytecode = True
+sys.path[:0] = [str(Path(__file__).resolve().parents[1] / it) for it in ("lib", "")]
+import rust_tables
+import scenario_facts as facts
+import scenario_lines as lines
+import scenario_rows as rows
+from rust_tables import CRATES
+from scenario_rows import Differs
+
+TESTS = ("club_core_tests", "club_gate_tests", "club_http_tests", "end_to_end_tests", "clubdesk_tests", "command_line_tests", "pass_forms_tests")
+
+# ---- the reader of each table
+
+READERS = {
+    "club_gate_tests/long_json": {"TEXTS": lambda value: [rows.of_spaced(rows.join(it).decode()) for it in value]},
+    "club_http_tests/heads": {
+        "LIMITS": lambda value: [rows.decodes(rows.join(pieces), rows.want_of(want)) for pieces, want in value],
+        "LINE_ENDS": rows.of_bytes(lambda it: it.encode()),
+        "LINES": rows.of_bytes(lambda it: f"{it}\r\n{rows.PASS}\r\n".encode()),
+        "LENGTHS": rows.of_bytes(lambda it: f"GET /account HTTP/1.1\r\n{it}\r\n".encode()),
+        "PASSES": rows.of_carried, "NO_PASSES": rows.of_bytes(lambda it: f"GET /account HTTP/1.1\r\n{it}\r\n".encode())},
+    "club_http_tests/targets": {
+        "PATHS": rows.of_bytes(lambda method, path: f"{method} {path} HTTP/1.1\r\n{rows.PASS}\r\n".encode()),
+        "METHODS": rows.of_bytes(lambda method, path: f"{method} {path} HTTP/1.1\r\n{rows.PASS}\r\n".encode()),
+        "ORDER": rows.of_bytes(lambda it: it.encode())},
+    "club_http_tests/bodies": {
+        "LENGTHS": rows.of_bytes(lambda length, body: rows.with_body(body, length)), "BODIES": rows.of_bytes(rows.with_body),
+        "SPACES": rows.of_bytes(lambda spaces: rows.with_body(f'{{"guests":2{" " * spaces}}}')),
+        "LONGEST": lambda value: [rows.decodes(rows.join(value), ("book", ("court-1", 20574, 18), 7, 2))]},
+    "club_http_tests/replies": {"SERVED": rows.of_replies(), "REFUSED": rows.of_replies(), "NO_PASS": rows.of_replies("WWW-Authenticate: Bearer\r\n"),
+                                "BY_GET": rows.of_replies("Allow: GET\r\n"), "BY_PUT_OR_DELETE": rows.of_replies("Allow: PUT, DELETE\r\n")},
+    "end_to_end_tests/tasks": dict.fromkeys(("BOOKS", "EXCHANGES", "CANCELS", "BOOKS_AND_CANCELS", "ADDS_A_KEY", "CLOSES", "ROTATES",
+        "MAKES_TABLES", "MIGRATES",
+                                             "ADDS_THE_INDEX"), rows.of_crash),
+    "clubdesk_tests/commands": dict.fromkeys(("MEMBERS", "FACILITIES", "SLOTS_AND_SHEETS", "LOOKS", "KEYS", "PASSES_OF_KEYS"), rows.of_runs),
+}
+
+# Why the rows of a module stay where they are; what isn't read of a module above has a reason here, too.
+STAYS = {
+    "club_core_tests/caveats/values": "readers of values: names, days, moments, numbers",
+    "club_core_tests/caveats/allowed": "more points than requests can spend, and calls of their own",
+    "club_core_tests/rows": "readers of a row's columns", "club_core_tests/texts": "what values print",
+    "club_core_tests/decisions": "calls of their own: what a request is to caveats, and a slot that no club has",
+    "club_core_tests/commands": "the answer of a command that is done, by a call of its own",
+    "club_core_tests/reference/parts": "a member's part of a club, which only the plain machine has",
+    "club_gate_tests/store": "tables and statements, by their own calls; odd and older databases",
+    "club_gate_tests/readings": "counted calls of the store",
+    "club_gate_tests/commands": "counted calls of the store", "club_gate_tests/at_once": "events that are run at once",
+    "club_gate_tests/law": "runs from nothing, by the theorem's calls",
+    "club_gate_tests/long_runs": "events that are run at once", "club_gate_tests/long_sheet": "many bookings, in loops",
+    "club_gate_tests/refusals": "a store that fails", "club_gate_tests/refused_memory": "refused memory",
+    "club_gate_tests/passes": "the names of the forms", "club_gate_tests/values": "moments as numbers",
+    "club_http_tests/heads": "whether what has come is whole", "club_http_tests/bodies": "bytes after a request, in loops",
+    "club_http_tests/counted": "counted calls of readers and writers", "club_http_tests/server": "sockets, clocks, logs and the door",
+    "club_http_tests/replies": "room after a reply",
+    "end_to_end_tests/failing_ends": "readers and writers that fail, and cut input", "end_to_end_tests/refused_memory": "refused memory",
+    "end_to_end_tests/messages": "requests after a failure",
+    "end_to_end_tests/events": "the club that the crashes begin with", "end_to_end_tests/tables": "the statements that read the tables",
+    "end_to_end_tests/torn": "ways in which a write is torn", "end_to_end_tests/texts": "the answers of a disk that fails",
+    "clubdesk_tests": "runs of the program: the door, logs, clocks, odd files, input and refused output",
+    "clubdesk_tests/commands": "shapes of arguments",
+    "command_line_tests": "arguments of the programs, and passtool's reports", "pass_forms_tests": "readers and writers of passes",
+}
+
+
+def reason(module, name):
+    parts = module.split("/")
+    found = next((STAYS["/".join(parts[:it])] for it in range(len(parts), 0, -1) if "/".join(parts[:it]) in STAYS), None)
+    if found is None:
+        raise LookupError(f"{module}: {name} is neither read nor said to stay")
+    return found
+
+
+def modules():
+    """Yields each file of the test crates, with its tables."""
+    for crate in TESTS:
+        top = CRATES / crate / "src"
+        for path in sorted(top.rglob("*.rt")):
+            yield f"{crate}/{path.relative_to(top).with_suffix('')}", rust_tables.file_at(path)
+
+
+def read(reader, value, file):
+    """Returns the facts of each row, or the reason why the row stays."""
+    return reader(value, file) if "file" in reader.__code__.co_varnames[:reader.__code__.co_argcount] else reader(value)
+
+
+class Count:
+    """Counts the facts that the rows state, and those that the files state."""
+
+    def __init__(self):
+        self.said = defaultdict(list)
+        for path in lines.files():
+            for scenario in lines.read(path):
+                for fact in facts.facts_of(scenario):
+                    self.said[fact[:2]].append(fact)
+        self.rows, self.sayable, self.staying, self.missing, self.leaving = 0, set(), Counter(), [], {}
+
+    def is_said(self, fact):
+        return any(it.answer == fact.answer for it in self.said.get(fact[:2], ()))
+
+    def table(self, module, file, name):
+        value = file.value(name)
+        reader = READERS.get(module, {}).get(name)
+        if reader is None:
+            size = len(value) if isinstance(value, list) and not all(isinstance(it, int) and it < 256 for it in value) else 1
+            self.staying[reason(module, name)] += size
+            self.rows += size
+            return
+        found = read(reader, value, file)
+        self.rows += len(found)
+        self.leaving[module, name] = len(found), sum(isinstance(it, str) for it in found)
+        for number, row in enumerate(found):
+            if isinstance(row, str):
+                self.staying[row] += 1
+                continue
+            self.sayable |= set(row)
+            self.missing += [(module, name, number, it) for it in row if not self.is_said(it)]
+
+
+def main():
+    parser = argparse.ArgumentParser(description=__doc__.splitlines()[0])
+    parser.add_argument("--leaves", action="store_true", help="also prints the tables whose rows the files state")
+    parser.add_argument("--stays", action="store_true", help="also prints how many rows stay for each reason")
+    given = parser.parse_args()
+    count = Count()
+    for module, file in modules():
+        for name in file.statics():
+            try:
+                count.table(module, file, name)
+            except Differs as why:
+                print(f"{module} {name}: {why}")
+                raise
+    for module, name, number, fact in count.missing:
+        print(f"missing: {module} {name} {number}: {str(fact)[:300]}")
+    if given.leaves:
+        for (module, name), (size, staying) in count.leaving.items():
+            print(f"{module} {name}: {size} rows" + (f", of which {staying} stay" if staying else ""))
+    if given.stays:
+        print(*(f"{number:5} rows stay: {why}" for why, number in sorted(count.staying.items())), sep="\n")
+    in_files = sum(len(it) for it in count.said.values())
+    print(f"{count.rows} rows: {sum(count.staying.values())} stay, {count.rows - sum(count.staying.values())} say {len(count.sayable)} facts, "
+          f"of which {len({it[3] for it in count.missing})} are missing; the files say {in_files}, {len(count.said)} of them different")
+    return 1 if count.missing else 0
+
+
+if __name__ == "__main__":
+    sys.exit(main())

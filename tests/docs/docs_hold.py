@@ -1,0 +1,303 @@
+#!/usr/bin/env -S /usr/bin/python3 -B -m pytest -q -p no:cacheprovider
+"""The commands, outputs, links and names of the pages hold.
+
+Holds README.md, CONTRIBUTING.md, docs/, and the README.md of each crate against the repository.
+- Each ```console block is run, the blocks of a page one after the other in a folder of its own, with bin/ on the path: a line
+  that begins with `$ ` is a command, the lines after it are what it prints, on standard output or standard error. Empty lines
+  and spaces at the end of a line don't count, and another port may stand for 8080.
+- What else holds stands at each test below.
+Programs are proved and built by bin/proved if they have to be. Not part of the gate.
+  tests/docs/docs_hold.py                    every page
+  tests/docs/docs_hold.py -k DESK            the pages whose names have this word
+  tests/docs/docs_hold.py --no-commands ..   what wants no program of ours
+"""
+# groups: pages
+# groups: quick: --no-commands
+# wants: python3-pytest curl sqlite3 openssl gcc libc6-dev pkg-config golang-go nodejs
+
+import os
+import re
+import shlex
+import subprocess
+from pathlib import Path
+
+import pytest
+
+import desk
+
+os.chdir(desk.ROOT)
+PAGES = ["README.md", "CONTRIBUTING.md", *(str(it) for pattern in ("docs/*.md", "crates/*/README.md") for it in sorted(Path().glob(pattern)))]
+TEXTS = {page: Path(page).read_text(encoding="utf-8") for page in PAGES}
+CODE = {str(it): it.read_text(encoding="utf-8") for it in sorted(Path("crates").glob("*/**/*"))
+        if re.fullmatch(r"(?!.*/out/).*(/src/.*\.rt|/(specs|proofs)/.*\.antt|\.edit|/more-edits\.txt)", str(it))}
+WORD = re.compile(r"[^A-Za-z0-9_]+")
+each_page = pytest.mark.parametrize("page", PAGES)
+
+
+def blocks(page, language):
+    return re.findall(rf"^```{language}\n(.*?)^```", TEXTS[page], re.MULTILINE | re.DOTALL)
+
+
+def prose(page):
+    """The page without its blocks."""
+    return re.sub(r"^```.*?^```.*?\n", "", TEXTS[page], flags=re.MULTILINE | re.DOTALL)
+
+
+def ticked(text):
+    """What stands within backticks and has no space."""
+    return sorted(set(re.findall(r"`([^` \n]+)`", text)))
+
+
+# ---- what crates/ defines, each as (file, crate, name ..)
+
+
+def found(endings, pattern):
+    return {(file, file.split("/")[1], *it.groups()) for file, text in CODE.items() if file.endswith(endings) for it in re.finditer(pattern, text, re.MULTILINE)}
+
+
+def within(places, pattern):
+    """What a pattern finds in the text that ends each place."""
+    return {(*place, name) for *place, text in places for name in re.findall(pattern, text, re.MULTILINE)}
+
+
+HEAD = r"^ *(?:pub(?:\([a-z]+\))? )?(?:final )?(?:const )?(?:extern \"C\" )?"
+RECORD = r"^ *(?:pub )?record "
+FUNCTIONS = found(".rt", rf"{HEAD}fn (\w+)")
+CLAUSES = within(found(".rt", rf"(?s){HEAD}fn (\w+)(.*?)(?={HEAD}fn |\Z)"), r"^ *ensures ([a-z_0-9]+) ")
+FIELDS = within(found(".antt", rf"(?s){RECORD}(\S+)(.*?)(?={RECORD}|^[^ \n-]|\Z)"), r"^ +pub ([A-Za-z_0-9]+) :")
+ITEMS = FUNCTIONS.union(
+    found(".rt", rf"{HEAD}(?:(?:struct|enum|trait|type|mod|static|abbrev) |ghost (?=[A-Za-z_]+(?: =|:)))(\w+)"),
+    found(".rt", r"^ *(?:pub )?const ([A-Z]\w*)"), found(".rt", "^    pub ([a-z_]+): "), found(".rt", rf"{HEAD}([A-Z][A-Za-z]+)(?: \{{|\(|,|$)"),
+    found(".antt", r"^ *(?:pub )?(?:record|data) (\S+)"), found(".antt", r"^ *(?:abbrev |unfoldable )?(?:pub )?(\S+) +(?::|where)(?= |$)"))
+IN_FILE = {(it[0], it[-1]) for it in ITEMS | CLAUSES | FIELDS}
+CRATES = {crate for _, crate, _ in ITEMS}
+DEFINED = {it[1:] for it in ITEMS}
+CLAUSES = {it[1:] for it in CLAUSES}
+LIBRARIES = {word for line in Path("crates.txt").read_text(encoding="utf-8").splitlines() if line[:1] not in ("", "#") for word in line.replace(":", " ").split()}
+# Names of std that a crate's page has without its code having them.
+OF_STD = {"test_kit": {"expect"}}
+
+
+# ---- every page
+
+
+@each_page
+def test_quoted_lines_are_in_a_file(page):
+    """Each paragraph of a ```rust, ```antt or ```text block is in a file of crates/, but for how far it is indented."""
+    texts = [re.sub(r"^ +", "", text, flags=re.MULTILINE) for text in CODE.values()]
+    for language in ("rust", "antt", "text"):
+        for quote in (it for block in blocks(page, language) for it in re.split(r"\n\n+", re.sub(r"^ +", "", block, flags=re.MULTILINE))):
+            assert any(quote in text for text in texts), f"in no file of crates/:\n{quote}"
+
+
+def anchors(page):
+    """As they are made of headings: lower case, spaces as dashes, and of the other signs only `-` and `_`."""
+    text = re.sub(r"^```.*?^```.*?\n", "", Path(page).read_text(encoding="utf-8"), flags=re.MULTILINE | re.DOTALL)
+    return {re.sub(r"[^a-z0-9 _-]", "", it.lower()).replace(" ", "-") for it in re.findall(r"^#+ (.*)", text, re.MULTILINE)}
+
+
+@each_page
+def test_links_lead_to_pages_and_headings(page):
+    for link in re.findall(r"\]\(((?!https?:)[^)]+)\)", prose(page)):
+        path, _, heading = link.partition("#")
+        file = Path(page).parent / path if path else Path(page)
+        assert file.exists(), f"no file {link}"
+        assert not heading or heading in anchors(file), f"no heading {link}"
+
+
+@each_page
+def test_files_and_names_are_there(page):
+    """Each file that a page names is there, in a crate's page also each of its own folders, and each name `crate::..::name` or `Type::name` is
+    defined."""
+    words = ticked(prose(page))
+    scripts = [it for block in blocks(page, "sh") for it in re.findall(r"^(?:bin|tests|deploy)/[a-z_./]+", block, re.MULTILINE)]
+    for path in [*words, *scripts]:
+        if re.match(r"(crates|docs|tests|bin|deploy|man)/", path) and not re.search(r"[*<]|NAME|CRATE|(^|/)out(/|$)", path):
+            assert Path(path.split(":")[0]).exists(), f"no file {path}"
+        if page.startswith("crates/") and re.match(r"(src|specs|proofs|must-fail)/", path):
+            assert (Path(page).parent / path).exists(), f"no file {path}"
+    if page in ("docs/PROMISES.md", "docs/COMPUTED.md", "docs/AUDIT.md"):
+        return  # promises are named within their crate, and held below; the audit is made of the sources, and names calls of libraries
+    for word in words:
+        if re.fullmatch(r"[A-Za-z_]+(::[A-Za-z_0-9]+)+", word):
+            crate, *_, name = word.split("::")
+            assert (crate, name) in DEFINED if crate in CRATES else any(name == it for _, it in DEFINED), f"no {word}"
+
+
+@pytest.mark.parametrize("page", [it for it in PAGES if it.startswith("crates/")])
+def test_bare_names_of_a_crate(page):
+    """Each name without a path that a crate's page has is a word of its code, is defined by another crate, or is a crate, a library or a file of
+    its folder."""
+    folder = Path(page).parent
+    crate, names = folder.name, {name for _, name in DEFINED}
+    code = "\n".join(re.sub(r"//.*|^--.*", "", text, flags=re.MULTILINE) for file, text in CODE.items() if file.startswith(f"{folder}/"))
+    known = {*WORD.split(code), *names, *LIBRARIES, *OF_STD.get(crate, ())}
+    for word in ticked(prose(page)):
+        assert not re.fullmatch(r"[A-Za-z_][A-Za-z_0-9]*", word) or word in known or (folder / word).exists(), f"no {word}"
+
+
+@each_page
+def test_definitions_are_in_their_files(page):
+    """Each name of a list of definitions (`Definitions: NAME, .. in FILE; NAME, .. in FILE`) is in its file. One without a folder is in the folder
+    named last; a folder of specs/ stands for its files."""
+    for line in re.findall(r"Definitions?: (`.*)", prose(page)):
+        pieces, names, folder = line.split("`"), [], ""
+        for before, piece in zip(pieces[::2], pieces[1::2]):
+            if not before.endswith(" in "):
+                names.append(piece)
+                continue
+            place = piece if "/" in piece else f"{folder}/{piece}"
+            folder = re.sub(r"/[A-Za-z0-9_]*\.antt$", "", place)
+            for name in names:
+                assert any(name == it and (file == place or file.startswith(place + "/")) for file, it in IN_FILE), f"no definition {name} in {place}"
+            names = []
+        assert not names, f"no file of the definitions {names}"
+
+
+@each_page
+def test_passes_are_written_under_temporary_names(page):
+    """A command that prints a pass writes to no file but one whose name ends in .new (`> pass.new && mv pass.new pass`): the shell empties the
+    file before the command is refused."""
+    commands = [it for block in blocks(page, "console") for it in re.findall(r"^\$ (.*)", block, re.MULTILINE)]
+    for command in [*commands, *(line for block in blocks(page, "sh") for line in block.splitlines())]:
+        if re.search(r"(^|[ |])(passtool|clubdesk|office [a-z]+) (mint|narrow|convert|add-key|rotate-key) ", command):
+            assert not re.search(r">|[|] *tee ", re.sub(r'"[^"]*"|>&?[ ]*[^ ]*\.new', "", command)), command
+
+
+# ---- single pages
+
+
+def test_laws():
+    """README lists the laws of docs/PROMISES.md in the same order. Each ends in a link to them, whose text is a function and one of its clauses.
+    tests/audit.py holds the functions and clauses of docs/PROMISES.md."""
+    title = r"^\d+\. \*\*(.*?)\.\*\*"
+    laws = re.findall(title, TEXTS["docs/PROMISES.md"], re.MULTILINE)
+    rows = re.findall(title + r" .*\(\[`([^`]*)`: `([^`]*)`.*\]\(docs/PROMISES\.md#the-law-of-the-desk\)\)$", TEXTS["README.md"], re.MULTILINE)
+    assert [law for law, _, _ in rows] == laws
+    for _, function, clause in rows:
+        assert (function, clause) in {it[1:] for it in CLAUSES}, f"{function}: {clause}"
+
+
+def test_first_page_is_short():
+    assert len(TEXTS["README.md"].split()) < 900
+
+
+def test_layers():
+    """The table of docs/LAYERS.md is crates.txt: its layers (`# NAME: WHAT`) and its crates, in that order."""
+    crates, page = Path("crates.txt").read_text(encoding="utf-8"), TEXTS["docs/LAYERS.md"]
+    order = re.findall(r"^# ([^:\n]*):|^([a-z][a-z_0-9]*)[ :]", crates, re.MULTILINE)
+    assert re.findall(r"^\| \*\*([^*]*)\*\* \||^\| `([a-z_0-9]+)` \|", page, re.MULTILINE) == order
+
+
+def test_tour():
+    """Under each heading that asks, three to six steps, each `PATH`: `NAME`, .., where that file defines NAME, or has it as a word if it is
+    no file of code."""
+    questions = re.split(r"^## ", TEXTS["docs/TOUR.md"], flags=re.MULTILINE)[1:]
+    assert len(questions) == 24
+    for question in questions:
+        steps = re.findall(r"^\d+\. (.*)", question, re.MULTILINE)
+        assert 3 <= len(steps) <= 6, question
+        for step in steps:
+            path, name = re.match(r"`([^`]*)`: `([^`]*)`", step).groups()
+            assert (path, name.split("::")[-1]) in IN_FILE if path in CODE else name in Path(path).read_text(encoding="utf-8"), step
+
+
+def test_audit_is_made_of_the_sources():
+    """It is what tests/audit.py makes; no clause of a promise's function reaches a definition of specs/computed/, and each step of the tour's
+    paths through definitions is cited by the one before it."""
+    subprocess.run(["tests/audit.py", "--strict"], check=True, stdout=subprocess.DEVNULL)
+
+
+def test_table_of_scripts():
+    """It says of each what `tests/run --list` says, if a page of docs/ is no link."""
+    listed = subprocess.run(["tests/run", "--list"], check=True, capture_output=True, text=True).stdout
+    listed = re.sub(r"docs/([A-Z_]+)\.md", r"[\1](\1.md)", re.sub(r"docs/(vectors\.json|openapi\.yaml)", r"[\1](\1)", listed))
+    rows = [f"| `{name}` | {shown} |" for name, shown in re.findall(r"^(\S+) \([^)]*\): (.*)$", listed, re.MULTILINE)]
+    assert sorted(re.findall(r"^\| `tests/[a-z_0-9/]+\.(?:sh|py|bats)` \| [^|\n]* \|$", TEXTS["docs/TRUST.md"], re.MULTILINE)) == sorted(rows)
+
+
+def test_trust_names_each_crate():
+    for crate in re.findall(r"^([a-z][a-z_0-9]*)[ :]", Path("crates.txt").read_text(encoding="utf-8"), re.MULTILINE):
+        assert f"`{crate}`" in TEXTS["docs/TRUST.md"], crate
+
+
+def test_glossary_gives_words_of_code():
+    known = {word for text in CODE.values() for word in WORD.split(text)}
+    items = re.findall(r"^- \*\*.*", TEXTS["docs/GLOSSARY.md"], re.MULTILINE)
+    assert len(items) > 100
+    words = {it.split("::")[-1] for it in ticked("\n".join(items))}
+    assert not {it for it in words if re.fullmatch("[A-Za-z_0-9]+", it)} - known
+
+
+def test_each_decision_has_its_day_and_status():
+    """Each paragraph of docs/DECISIONS.md below a heading begins with the decision, and ends with the day on which it was written down and a
+    status."""
+    sections = re.split(r"^## .*\n", TEXTS["docs/DECISIONS.md"], flags=re.MULTILINE)[1:]
+    for paragraph in (it for section in sections for it in re.split(r"\n\n+", section.strip())):
+        assert re.fullmatch(r"\*\*.* \*20\d\d-\d\d-\d\d, (accepted|measured|stand-in)(, changed 20\d\d-\d\d-\d\d)?\*", paragraph), paragraph
+
+
+def test_index_names_each_page():
+    for page in PAGES:
+        assert not page.startswith("docs/") or page == "docs/INDEX.md" or f"({Path(page).name})" in TEXTS["docs/INDEX.md"], page
+
+
+@pytest.mark.parametrize("page", ["README.md", "docs/TRUST.md"])
+def test_logic_is_that_of_the_toolchain(page):
+    version = subprocess.run(["rt", "version"], check=True, capture_output=True, text=True).stdout
+    assert version.strip().rpartition(" logic ")[2] in TEXTS[page]
+
+
+# ---- commands
+
+
+def squeezed(text):
+    """Without carriage returns, spaces at the end of a line, and empty lines."""
+    return [line.rstrip(" ") for line in text.replace("\r", "").split("\n") if line.rstrip(" ")]
+
+
+def script_of(text):
+    """The commands of a page as a script that prints each before it runs it. `$?` is that of the command before. After a command that ends in
+    `&` the script waits until something more was printed."""
+    lines = ["trap 'kill $(jobs -p) 2>/dev/null' EXIT", 'again() { return "$1"; }']
+    for command in re.findall(r"^\$ (.*)", text, re.MULTILINE):
+        is_behind = command.endswith(" &")
+        lines += [f'ended=$?; printf "%s\\n" {shlex.quote("$ " + command)}', *(['printed=$(wc -c <"$OUT")'] if is_behind else []), 'again "$ended"', command]
+        if is_behind:
+            lines.append('for wait in $(seq 100); do [ "$(wc -c <"$OUT")" = "$printed" ] || break; sleep 0.1; done')
+    return "\n".join(lines)
+
+
+def free_port(number):
+    """One that nothing uses, nor used a moment ago."""
+    is_used = any(f":{number:04X} " in it.read_text() for it in (Path("/proc/net/tcp"), Path("/proc/net/tcp6")) if it.exists())
+    return free_port(number + 1) if is_used else number
+
+
+@pytest.mark.programs
+@pytest.mark.parametrize("page", [it for it in PAGES if blocks(it, "console")])
+def test_commands(page, tmp_path):
+    port = free_port(8080 + PAGES.index(page))
+    text = re.sub(r"(:|--port )8080", rf"\g<1>{port}", "\n".join(blocks(page, "console")))
+    room, out = tmp_path / "room", tmp_path / "out"
+    room.mkdir()
+    # A page's commands may be those of the repository's top.
+    for folder in ("bin", "deploy", "bindings"):
+        (room / folder).symlink_to(desk.ROOT / folder)
+    # Bodies of replies end without a line feed, which a terminal shows as a prompt after them.
+    (tmp_path / ".curlrc").write_text('silent\nshow-error\nnoproxy = "*"\nwrite-out = "\\n"\n')
+    for name, words in {"passtool": ["passtool", "--help"], "clubdesk": ["clubdesk", "--help"], "bin/library": ["library", tmp_path / "library"]}.items():
+        # It is built first, so that what its build prints isn't taken for what it prints, and its proof takes none of the page's time.
+        if name in text:
+            subprocess.run([f"bin/{words[0]}", *words[1:]], check=True, stdout=subprocess.DEVNULL)
+    with open(out, "wb") as printed:
+        subprocess.run(["sh", "-c", script_of(text)], cwd=room, stdin=subprocess.DEVNULL, stdout=printed, stderr=printed, timeout=600, check=False,
+                       env={**os.environ, "PATH": f"{desk.ROOT}/bin:{os.environ['PATH']}", "CURL_HOME": str(tmp_path), "OUT": str(out)})
+    assert squeezed(out.read_text(encoding="utf-8")) == squeezed(text)
+
+
+@pytest.mark.programs
+def test_what_readme_tries_unproved():
+    script = next(re.search(r"^cd crates.*?rt try.*?$", it, re.MULTILINE | re.DOTALL) for it in blocks("README.md", "sh") if "rt try" in it)[0]
+    tried = subprocess.run(["sh", "-c", script], capture_output=True, text=True, check=False)
+    assert tried.stdout == "signed\n" and tried.stderr.endswith("proved=no\n")

@@ -1,0 +1,30 @@
+#!/bin/sh
+# pyflakes, shellcheck, gofmt and go vet have nothing to say, or the reason is noted in place.
+#
+# The shell scripts and bats files of tests/, bin/ and deploy/ are read by shellcheck, the Python there, in examples/ and in bindings/ by pyflakes.
+# The Go of tests/, examples/ and bindings/ is read if Debian's Go is there. Not part of the gate.
+# groups: quick
+# wants: shellcheck pyflakes3
+set -eu
+cd "$(dirname -- "$0")/../.."
+
+# by_first_line PATTERN: the files whose first line says that they are of this language.
+by_first_line() {
+    find tests bin deploy -type f ! -path '*/out/*' -exec sh -c 'head -n 1 "$1" | grep -qE "$2" && echo "$1"' - {} "$1" \;
+}
+
+status=0
+# shellcheck disable=SC2046  # no name has a space
+shellcheck -x -P tests/lib $(by_first_line '^#!/bin/(ba)?sh') || status=1
+# A file of bats reads what bats sets, and a test ends at its first command that fails.
+shellcheck -x -P tests/lib -e SC2154,SC2164 tests/*/*.bats || status=1
+# shellcheck disable=SC2046
+pyflakes3 $(by_first_line 'python3') $(find tests examples deploy bindings -name '*.py') || status=1
+if command -v gofmt > /dev/null; then
+    spelled_otherwise=$(gofmt -l tests/peers/beside_go tests/peers/passes_from_c examples bindings)
+    [ -z "$spelled_otherwise" ] || { echo "gofmt: $spelled_otherwise"; status=1; }
+    if [ -d /usr/share/gocode/src/github.com/mattn/go-sqlite3 ] && [ -d /usr/share/gocode/src/gopkg.in/macaroon.v2 ]; then
+        (cd tests/peers/beside_go && GO111MODULE=off GOPATH=/usr/share/gocode go vet -tags libsqlite3 .) || status=1
+    fi
+fi
+exit $status

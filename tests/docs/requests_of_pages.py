@@ -1,0 +1,58 @@
+#!/usr/bin/env -S /usr/bin/python3 -B -m pytest -q -p no:cacheprovider
+"""The server answers each request in the tables of docs/HANDING_ON.md and docs/CLIENT.md as the page says.
+
+Runs the commands of a page's console blocks, and asks each request of its tables under the pass and at the moment of the table's head. The
+commands in front of a section's first table make the club, without bookings; the section's requests, and the commands behind them, meet a
+copy. Blocks with a server of their own are left to tests/docs/docs_hold.py. Not part of the gate.
+"""
+# groups: pages
+# wants: python3-pytest openssl
+
+import os
+import re
+import shutil
+import subprocess
+from collections import Counter
+
+import pytest
+
+import desk
+from conftest import Club
+from kinds import Row
+from reference import wire
+
+PART = re.compile(r"^```console\n(?P<block>[^`]*?)^```$|^(?P<section>##.*)|^\| (?P<under>Under `.*)|^\| (?P<asked>`(?:GET|PUT|DELETE|POST) .*)", re.MULTILINE)
+UNDER = re.compile(r"Under `([^`]+)` at (\S+) \|.*")
+ASKED = re.compile(r"`(\S+) (\S+)(?: -d ([^`]+))?` \| (\d+) `([^`]+)` \|")
+
+
+@pytest.mark.parametrize("name", ["HANDING_ON.md", "CLIENT.md"])
+def test_page(clubdesk, tmp_path, name):
+    made, copy, bin_folder = (tmp_path / it for it in ("made", "copy", "bin"))
+    made.mkdir()
+    bin_folder.mkdir()
+    for program in ("clubdesk", "passtool"):
+        (bin_folder / program).symlink_to(desk.program(program))
+    variables = {**os.environ, "PATH": f"{bin_folder}:{os.environ['PATH']}"}
+    place, asked = made, Counter()
+    for part in PART.finditer((desk.ROOT / "docs" / name).read_text(encoding="utf-8")):
+        text = part[part.lastgroup]
+        match part.lastgroup:
+            case "block":
+                for command in [] if "clubdesk serve" in text else re.findall(r"^\$ (.*)", text, re.MULTILINE):
+                    subprocess.run(["sh", "-c", command], cwd=place, check=True, stdin=subprocess.DEVNULL, env=variables)
+            case "section":
+                place = made
+            case "under":
+                key, moment = UNDER.fullmatch(text).groups()
+                if place == made:
+                    place = copy
+                    shutil.rmtree(copy, ignore_errors=True)
+                    shutil.copytree(made, copy)
+                row = Row(passed=(place / key).read_text().strip(), moment=moment)
+            case "asked":
+                method, path, body, status, reply = ASKED.fullmatch(text).groups()
+                wanted = wire.bytes_with(int(status), reply.encode())
+                Club(clubdesk, place / "club").play([row.but(method=method, path=path, body=body, wanted=wanted)])
+                asked[status == "200"] += 1
+    assert asked[True] and asked[False]

@@ -1,0 +1,80 @@
+#!/usr/bin/env -S /usr/bin/python3 -B
+"""Draws sentences at random, for a reader who didn't write them and marks those that need a second reading.
+
+A third is drawn from the docstrings and comments of the code, a third from the pages, and a third from the help. The help is the tables of
+commands, the manual pages, and the texts of the office and of web/. The same seed draws the same sentences of the same tree.
+
+    tests/docs/sentences.py                         forty sentences, seed 1
+    tests/docs/sentences.py --seed 7 --count 12     twelve with another seed
+    tests/docs/sentences.py --below docs/TOUR.md    of one file, or of the files below a folder; may be given several times
+    tests/docs/sentences.py --slips                 also prints what tests/lib/prose.py finds in each
+"""
+
+import argparse
+import random
+import re
+import sys
+from pathlib import Path
+
+sys.path[:0] = [str(Path(__file__).resolve().parents[1] / it) for it in ("lib", "")]
+import prose
+
+ROOT = Path(__file__).resolve().parents[2]
+KINDS = {
+    "code": re.compile(r"crates/[^/]+/(src|specs|proofs)/.*\.(rt|antt)|(tests|bin|deploy)/.*|web/src/.*\.mjs|examples/.*"),
+    "pages": re.compile(r"(README|CONTRIBUTING|CHANGELOG|SECURITY)\.md|docs/.*\.md|crates/[^/]+/README\.md"),
+    "help": re.compile(r"crates/(clubdesk_arguments|passtool_commands)/src/table\.rt|man/.*|deploy/club_office/texts\.py|web/src/words/en\.json"),
+}
+LEAST_WORDS = 5  # a shorter one is a name or a label
+
+
+def kind_of(file):
+    return next((kind for kind in ("help", "pages", "code") if KINDS[kind].fullmatch(file)), None)
+
+
+def all_sentences(below):
+    """Returns the sentences of each kind, as (file, line, sentence), in the order of the tree."""
+    found = {kind: [] for kind in KINDS}
+    for file in sorted(prose.git(ROOT, "ls-files").splitlines()):
+        kind = kind_of(file)
+        if not kind or not (ROOT / file).is_file() or (below and not any(file == it or file.startswith(it.rstrip("/") + "/") for it in below)):
+            continue
+        try:
+            text = (ROOT / file).read_text(encoding="utf-8")
+        except UnicodeDecodeError:
+            continue
+        for paragraph in prose.paragraphs(file, text):
+            for lines, sentence in prose.sentences(paragraph):
+                is_cut = file.startswith("man/") and not sentence.endswith(".")  # a request of mdoc follows
+                if len(re.findall(r"[A-Za-z]{2,}", sentence)) >= LEAST_WORDS and not is_cut:
+                    found[kind].append((file, min(lines), sentence))
+    return found
+
+
+def drawn(found, seed, count):
+    """Yields an equal share of each kind. If the count doesn't divide evenly, the first kinds get one more."""
+    dice, kinds = random.Random(seed), [it for it in found if found[it]]
+    for place, kind in enumerate(kinds):
+        share = count // len(kinds) + (place < count % len(kinds))
+        yield from ((kind, *it) for it in dice.sample(found[kind], min(share, len(found[kind]))))
+
+
+def main():
+    parser = argparse.ArgumentParser(usage="tests/docs/sentences.py [--seed N] [--count N] [--below PATH] [--slips]")
+    parser.add_argument("--seed", type=int, default=1)
+    parser.add_argument("--count", type=int, default=40)
+    parser.add_argument("--below", action="append", default=[], metavar="PATH")
+    parser.add_argument("--slips", action="store_true")
+    given = parser.parse_args()
+    found = all_sentences(given.below)
+    if not any(found.values()):
+        parser.error("no sentences below " + " ".join(given.below))
+    for number, (kind, file, line, sentence) in enumerate(drawn(found, given.seed, given.count), 1):
+        print(f"{number:2} {kind:5} {file}:{line}: {sentence.replace(prose.CODE, '`..`')}")
+        if given.slips:
+            for remedy in prose.remedies(sentence):
+                print(f"         {remedy}")
+    return 0
+
+
+sys.exit(main())

@@ -1,0 +1,39 @@
+# Read by the scripts in the folders next to its own that hold what a machine does against what is wanted, after serving.sh. `checks` counts.
+checks=0
+trap 'exit 1' INT TERM HUP
+
+fail() {
+    echo "$0: $1" >&2
+    exit 1
+}
+
+# same WHAT WANTED FOUND
+same() {
+    checks=$((checks + 1))
+    [ "$2" = "$3" ] || fail "$1: wanted and found
+$2
+$3"
+}
+
+# holds WHAT COMMAND..: it ends with status 0; what it prints is in `told`.
+holds() {
+    what=$1
+    shift
+    checks=$((checks + 1))
+    "$@" >told 2>&1 || fail "$what: $(tail -n 30 told)"
+}
+
+# soon SECONDS WHAT COMMAND..: it ends with status 0 within these; what it prints last is in `told`.
+soon() {
+    tries=$(($1 * 10))
+    what=$2
+    shift 2
+    until "$@" >told 2>&1; do
+        tries=$((tries - 1))
+        [ "$tries" -gt 0 ] || fail "$what: $(tail -n 30 told)"
+        sleep 0.1
+    done
+}
+
+# unsound FILE: what of a club's totals is off.
+unsound() { sqlite3 "$1" "$(PYTHONPATH=$here/../lib /usr/bin/python3 -B -c 'import desk; print(desk.SUMS)')"; }

@@ -1,0 +1,222 @@
+"""The built programs, for tests that talk to a server: where they are, a server that ends with its block, one exchange, a command.
+
+The programs are those of the variables CLUBDESK and PASSTOOL. One without a variable is proved and built first, if that isn't done."""
+
+import contextlib
+import errno
+import json
+import os
+import resource
+import shutil
+import signal
+import socket
+import sqlite3
+import subprocess
+import time
+from concurrent.futures import ThreadPoolExecutor
+from pathlib import Path
+
+TESTS = Path(__file__).resolve().parents[1]
+ROOT = TESTS.parent
+# Where files lie in memory, so that a sync costs nothing; None if there is no such folder.
+IN_MEMORY = "/dev/shm" if os.access("/dev/shm", os.W_OK) else None
+ANOTHER = 65_534  # the user `nobody`
+AS_ANOTHER = ("setpriv", f"--reuid={ANOTHER}", f"--regid={ANOTHER}", "--clear-groups")
+
+
+def program(name):
+    """The path of a program itself, so that a signal meets it and no shell."""
+    given = os.environ.get(name.upper())
+    if given:
+        return given
+    subprocess.run([ROOT / "bin" / name, "--help"], check=True, stdout=subprocess.DEVNULL)
+    return str(ROOT / "crates" / name / "out" / name)
+
+
+def library(name, folder):
+    """The path of a library of tests/lib, built, that is loaded before the C library."""
+    path = Path(folder, name)
+    if not path.exists():
+        subprocess.run(["cc", "-shared", "-fPIC", "-O1", "-o", path, TESTS / "lib" / f"{name}.c", "-ldl"], check=True)
+    return str(path)
+
+
+def refused_in_turn(run, folder, step=1):
+    """What `run` gives if one allocation of its program is refused, each in turn, or each so many. It runs the program with variables, first
+    to count them."""
+    counted, preload = Path(folder, "counted"), {"LD_PRELOAD": library("refused_memory", folder)}
+    run(ALLOCATIONS_COUNTED=str(counted), **preload)
+    with ThreadPoolExecutor(len(os.sched_getaffinity(0))) as pool:
+        return list(pool.map(lambda number: run(REFUSED_ALLOCATION=str(number), **preload), range(1, int(counted.read_text()) + 1, step)))
+
+
+def limit_files(size):
+    """Lets a file of this process have so many bytes; a write beyond them is a fault, and no signal."""
+    signal.signal(signal.SIGXFSZ, signal.SIG_IGN)
+    resource.setrlimit(resource.RLIMIT_FSIZE, (size, size))
+
+
+class Server:
+    """A server of `clubdesk` over a file, as a context manager: it listens at `port` once the block begins, and has ended after it.
+
+    `words` are further options; `by` is a command that runs it; `variables` further variables of its environment; `given` a file that it
+    reads; `file_limit` the bytes that a file of it may have. At the end of a block without an exception its status has to be `status`, unless it
+    was killed; one without a `count` is killed there. `log` has what it wrote on standard error, which is printed if the block ends with an
+    exception."""
+
+    killed_by = signal.SIGKILL
+
+    def __init__(self, desk, file, count, *words, variables=None, given="/dev/null", file_limit=None, status=0, port=0, by=()):
+        self.command = [*by, desk, "serve", str(file), "--port", str(port), "--count", str(count or 1_000_000), *words]
+        self.log = Path(f"{file}.log")
+        self.variables, self.given = {**os.environ, **(variables or {})}, given
+        self.limits = (lambda: limit_files(file_limit)) if file_limit else None
+        self.status, self.is_killed, self.is_endless = status, False, count is None
+
+    def __enter__(self):
+        with open(self.log, "ab") as log, open(self.given, "rb") as given:
+            self.process = subprocess.Popen(self.command, stdout=subprocess.PIPE, stderr=log, stdin=given,
+                                            env=self.variables, preexec_fn=self.limits, restore_signals=False)
+        line = self.process.stdout.readline().decode()
+        if not line.startswith("listening on 127.0.0.1:"):
+            raise AssertionError(f"no server: status {self.process.wait()}, {self.log.read_text()}")
+        self.port = int(line.rpartition(":")[2])
+        return self
+
+    def kill(self):
+        self.is_killed = True
+        self.process.send_signal(self.killed_by)
+        self.process.wait()
+
+    def __exit__(self, kind, _value, _trace):
+        if kind is not None:
+            print(self.log.read_text())
+        if (kind is not None or self.is_endless) and self.process.poll() is None:
+            self.kill()
+        status = self.process.wait(60)
+        self.process.stdout.close()
+        if kind is None and status != self.status and not self.is_killed:
+            raise AssertionError(f"the server ended with status {status}: {self.log.read_text()}")
+
+    def exchange(self, data):
+        return exchange(self.port, data)
+
+    def serves(self, *rows):
+        """The reply to each row of tests/lib/kinds.py is the one that it wants."""
+        for row in rows:
+            assert self.exchange(row.data) == row.wanted, row
+
+
+class Reply:
+    """The bytes of a reply, and its parts."""
+
+    def __init__(self, whole):
+        head, _, self.body = whole.decode().partition("\r\n\r\n")
+        line, *fields = head.split("\r\n")
+        self.whole, self.status = whole, int(line.split(" ")[1])
+        self.fields = dict(it.split(": ", 1) for it in fields)
+
+    @property
+    def value(self):
+        return json.loads(self.body)
+
+
+def free_port():
+    """A port that nobody listens at."""
+    with socket.create_server(("127.0.0.1", 0)) as probe:
+        return probe.getsockname()[1]
+
+
+def drip(client, data):
+    """Sends a byte a second, until the other end is gone."""
+    with contextlib.suppress(OSError):
+        for byte in data:
+            client.sendall(bytes([byte]))
+            time.sleep(1)
+
+
+def read(client):
+    """All that comes until the end."""
+    with client.makefile("rb") as come:
+        return come.read()
+
+
+def exchange(port, data, seconds=30):
+    """The bytes of the reply to bytes, after which the client says that no more come. None if the connection was lost."""
+    try:
+        with socket.create_connection(("127.0.0.1", port), seconds) as client:
+            client.sendall(data)
+            client.shutdown(socket.SHUT_WR)
+            return read(client)
+    except OSError as fault:
+        if isinstance(fault, ConnectionError) or fault.errno == errno.ENOTCONN:
+            return None
+        raise
+
+
+def command(desk, *words, text=None, **more):
+    """The status and the output of a command of `clubdesk`, and its line on standard error; `text` is its input."""
+    done = subprocess.run([desk, *map(str, words)], capture_output=True, input=text, text=True, check=False, **more)
+    return done.returncode, done.stdout, done.stderr
+
+
+def copy(file, to):
+    """Copies a database with the log that belongs to it."""
+    for ending in ("", "-wal"):
+        Path(f"{to}{ending}").unlink(missing_ok=True)
+        if Path(f"{file}{ending}").exists():
+            shutil.copy(f"{file}{ending}", f"{to}{ending}")
+
+
+@contextlib.contextmanager
+def opened(file, **how):
+    """A database, whose changes are committed and which is closed at the end of the block."""
+    with contextlib.closing(sqlite3.connect(file, **how)) as database, database:
+        yield database
+
+
+def rows(file, statement):
+    """The rows that a statement gives over a copy of the file."""
+    copy(file, f"{file}.copy")
+    with opened(f"{file}.copy") as database:
+        return database.execute(statement).fetchall()
+
+
+# docs/TABLES.md, an auditor's sums: each row of a file that isn't sound.
+SUMS = """
+SELECT 'used', name FROM members WHERE used <> (SELECT total(charge - refund) FROM bookings JOIN keys ON keys.name = pass_key WHERE member = members.name)
+UNION ALL SELECT 'taken', facility || day || ' ' || hour FROM slots s WHERE taken <> (SELECT total(guests + 1) FROM bookings b WHERE cancelled = 0
+    AND (b.facility, b.day, b.hour) = (s.facility, s.day, s.hour))
+UNION ALL SELECT 'no slot', pass_key || number FROM bookings b WHERE cancelled = 0 AND (facility, day, hour) NOT IN (SELECT facility, day, hour FROM slots)
+UNION ALL SELECT 'below 0', name FROM members WHERE used > credited
+UNION ALL SELECT 'foreign key', "table" FROM pragma_foreign_key_check
+UNION ALL SELECT 'integrity', integrity_check FROM pragma_integrity_check WHERE integrity_check <> 'ok'"""
+
+
+def unsound(file):
+    """What of a file's totals is off."""
+    return rows(file, SUMS)
+
+
+def add_past_bookings(file, count, root):
+    """Adds members x000 to x999, each with a key of its name, and so many bookings of theirs in `old-court`, two after another in a slot; the totals
+    are the sums."""
+    thousand = "WITH n(i) AS (SELECT 0 UNION ALL SELECT i + 1 FROM n WHERE i < 999)"
+    with opened(file) as database:
+        database.executescript(f"""BEGIN;
+            {thousand} INSERT INTO members SELECT printf('x%03d', i), 900000, 99, 0 FROM n;
+            {thousand} INSERT INTO keys SELECT printf('x%03d', i), printf('x%03d', i), x'{root}', 0 FROM n;
+            INSERT INTO facilities VALUES ('old-court', 'court', 50, 1, 0, 24);
+            WITH n(i) AS (SELECT 0 UNION ALL SELECT i + 1 FROM n WHERE i + 1 < {count}) INSERT INTO bookings
+                SELECT printf('x%03d', i % 1000), i / 1000 + 1, 'old-court', 10957 + i / 48, i / 2 % 24, 1, 2, 46, 0, 0 FROM n;
+            INSERT INTO slots SELECT facility, day, hour, 0, sum(guests + 1) FROM bookings WHERE facility = 'old-court' GROUP BY 1, 2, 3;
+            UPDATE members SET used = (SELECT coalesce(sum(charge - refund), 0) FROM bookings JOIN keys ON keys.name = pass_key WHERE member = members.name);
+            COMMIT""")
+
+
+def paced(whole, step, what):
+    """So many things in steps, of which each tenth is printed."""
+    for done in range(0, whole, step):
+        yield done
+        if (done + step) * 10 // whole > done * 10 // whole:
+            print(f"{done + step} of {whole} {what}", flush=True)

@@ -1,0 +1,354 @@
+#!/usr/bin/env python3
+"""Tries the edits of crates/NAME/must-fail/ and crates/NAME/more-edits.txt, and says how each is refused: see more_edits.sh.
+
+Most edits change the body of one function. What is proved of a function rests on its own body and the contracts of those that it calls, so
+one check tries edits of several functions. An edit is tried alone if its function has no verdict of its own then."""
+import os
+import re
+import shutil
+import subprocess
+import sys
+import tempfile
+from collections import Counter, defaultdict
+from contextlib import suppress
+from pathlib import Path
+from typing import NamedTuple
+
+ROOT = Path(__file__).resolve().parents[2]
+FOLDER, FILE = "must-fail", "more-edits.txt"
+WORDS = ("false", "goal", "names", "test", "proved", "limit", "bad")
+# The program whose tests are the files of its data folder.
+SCENARIOS = "scenarios"
+# The crate and the name of the test that an edit fails, if no contract refuses it.
+TEST = re.compile(r"^test: (\w+) ([\w:]+)$", re.MULTILINE)
+# What rattle says of a goal for which it found values, in the line of the goal or in that of the answer that is missing.
+FALSE = re.compile(r"the facts known there allow values at which this goal is false|may be false: the known facts allow")
+# What it says of a proof file that names what isn't there, and of what rests on that.
+NAMES = re.compile(r"has no field|is not in scope|has no `|was not admitted|no item `")
+# What goes on in the next line: the names that a record has are long.
+WRAPPED = re.compile(r"\n +(has no |is not in scope|was not admitted)")
+FAULT = re.compile(r"(?:note: )?(?:\./)?((?:src|specs|proofs)/\S+?):(\d+):\d+: (error: .*|it is not proved .*)")
+WANTED = re.compile(r"no proof: expected answers in (?:\./)?(\S+);")
+HEAD = re.compile(r"(?:pub )?([^\s:]+) : ")
+# The heads of a function and of a block that owns functions, as `rt fmt` leaves them.
+FUNCTION = re.compile(r"(?P<indent> {4})?(?:pub(?:\([^)]*\))? )?(?:const )?(?:extern \"C\" )?fn (?P<name>\w+)")
+BLOCK = re.compile(r"(?:impl(?:<.*?>)? |(?:pub(?:\([^)]*\))? )?trait )(?:(?:\w+::)*(?P<trait>\w+)(?:<.*?>)? for )?(?:\w+::)*(?P<type>\w+)")
+AT_ONCE = 10  # edits that one check tries at most
+# What it says where it meets a limit of its own, and gives no verdict.
+LIMIT = re.compile(r"antt ran out of (stack|the (steps|memory) that the check of one declaration may)|outgrew the memory limit|stopped at the step limit")
+
+
+class NoVerdict(Exception):
+    """The word for why nothing was tried, and a line that says so."""
+
+
+class Edit(NamedTuple):
+    """A wrong body: its name, where it stands (a folder or a file of the crate), and its lines."""
+    name: str
+    place: str
+    text: str
+
+
+def edits_of(crate):
+    """The edits of a crate: each file of its folder, and each part of its file that begins with `edit: NAME`."""
+    for path in sorted((crate / FOLDER).glob("*.edit")):
+        yield Edit(path.stem, FOLDER, path.read_text(encoding="utf-8"))
+    if (crate / FILE).exists():
+        for part in re.split(r"^edit: ", (crate / FILE).read_text(encoding="utf-8"), flags=re.MULTILINE)[1:]:
+            name, _, text = part.partition("\n")
+            yield Edit(name.strip(), FILE, text)
+
+
+def changes_of(edit):
+    """(path, old text, new text) of each change that an edit makes."""
+    for word, rest in re.findall(r"^(file|old|new): ?(.*)", edit.text, re.MULTILINE):
+        if word == "file":
+            path = rest.strip()
+        elif word == "old":
+            old = rest
+        else:
+            yield path, old, rest
+
+
+def edited_texts(crate, edit):
+    """The texts of the files that an edit changes, by their path in the crate, as `rt ci` applies it."""
+    texts = {}
+    for path, old, new in changes_of(edit):
+        text = texts[path] if path in texts else (crate / path).read_text(encoding="utf-8")
+        if text.count(old) != 1:
+            raise NoVerdict("bad", f"an old text is in {path} {text.count(old)} times")
+        texts[path] = text.replace(old, new)
+    return texts
+
+
+def function_at(path, text, offset):
+    """The function in whose body a place of a file is: its words in a path, and its first and last line. None outside of bodies."""
+    lines = text.split("\n")
+    place = text.count("\n", 0, offset)
+    first = next((it for it in range(place, -1, -1) if FUNCTION.match(lines[it])), None)
+    if first is None:
+        return None
+    head = FUNCTION.match(lines[first])
+    indent = head["indent"] or ""
+    begin = next((it for it in range(first, len(lines)) if lines[it] == indent + "{" or re.match(rf"{indent}\S.* {{$", lines[it])), len(lines))
+    last = next((it for it in range(begin, len(lines)) if lines[it] == indent + "}"), -1)
+    if not begin < place < last:
+        return None
+    words = [it for it in Path(path).with_suffix("").parts[1:] if it not in ("lib", "main", "mod")]
+    if indent:
+        owner = next(filter(None, (BLOCK.match(lines[it]) for it in range(first, -1, -1))), None)
+        if owner is None:
+            return None
+        words.append(owner["type"] + (owner["trait"] or ""))
+    return (*words, head["name"]), first + 1, last + 1
+
+
+def edited_function(crate, edit):
+    """The file and the one function in whose body an edit makes all its changes. None if there is no such function."""
+    found = set()
+    for path, old, _ in changes_of(edit):
+        text = (crate / path).read_text(encoding="utf-8")
+        is_code = path.startswith("src/") and text.count(old) == 1
+        found.add((path, function_at(path, text, text.index(old)) if is_code else None))
+    path, function = found.pop() if len(found) == 1 else (None, None)
+    return (path, function) if function else None
+
+
+def groups_of(crate, edits):
+    """The edits in groups: each edit of a group is of a function of its own, or alone."""
+    groups = []
+    for edit in edits:
+        place = edited_function(crate, edit)
+        open_one = next((it for it in groups if place and None not in it and place not in it and len(it) < AT_ONCE), None)
+        if open_one is None:
+            groups.append(open_one := {})
+        open_one[place] = edit
+    return groups
+
+
+def check(crate):
+    """The lines of a check of the crate, and whether it is proved."""
+    ran = subprocess.run(["rt", "check", "--jobs", "1"], cwd=crate, stdin=subprocess.DEVNULL, stdout=subprocess.PIPE,
+                         stderr=subprocess.STDOUT, text=True, errors="replace", check=False)
+    lines = WRAPPED.sub(r" \1", ran.stdout).split("\n")
+    reached = [line for line in lines if line.startswith("logic=")]
+    if reached:
+        return lines, reached[-1].startswith("logic=proved")
+    if limit := next(filter(LIMIT.search, lines), None):
+        raise NoVerdict("limit", limit)
+    raise NoVerdict("bad", next((line for line in lines if "error" in line), "its check did not end"))
+
+
+def faults_in(lines):
+    """Each line that tells a fault: its file, its line there, whether it is an error, and whether a name is missing."""
+    for line in lines:
+        if found := FAULT.match(line):
+            yield line, found[1], int(found[2]), found[3].startswith("error"), bool(NAMES.search(found[3]))
+
+
+def without_answers(crate, lines):
+    """The texts of proof files without the declarations at which these lines find names that aren't there, by their path."""
+    places = defaultdict(set)
+    for _, path, number, _, is_name in faults_in(lines):
+        if path.startswith("proofs/") and is_name:
+            places[path].add(number)
+    texts = {}
+    for path, numbers in places.items():
+        # A declaration begins with its signature, and goes on to the next one's.
+        kept, name, declarations = [], None, []
+        for number, line in enumerate((crate / path).read_text(encoding="utf-8").split("\n"), 1):
+            head = HEAD.match(line)
+            if head and head[1] != name:
+                name = head[1]
+                declarations.append([name, []])
+            elif line.startswith(("use ", "module ")):
+                name = None
+            (declarations[-1][1] if name else kept).append((number, line))
+        lost = [one for one in declarations if numbers & {number for number, _ in one[1]}]
+        left = [line for one in declarations if one not in lost for line in [*(text for _, text in one[1]), ""]]
+        # A `use` line that finds nothing takes the whole file with it.
+        texts[path] = "\n".join([text for _, text in kept] + left) if lost else ""
+    return texts
+
+
+def open_goal(lines, gone):
+    """The line of a goal that is open for another cause than a name that is gone: its answer is there, and fails; or no answer is
+    wanted from a proof file that lost some."""
+    failing = {line for line, path, _, is_error, is_name in faults_in(lines) if path.startswith("proofs/") and is_error and not is_name}
+    return next((line for line in lines if line in failing or (wanted := WANTED.search(line)) and wanted[1] not in gone), None)
+
+
+def lines_of(crate, path, function, lines):
+    """The lines of a check that are of this function. A method may stand in another file than its type, by whose module rt knows it."""
+    words, first, last = function
+    before, own = (r"(\w+/)*", words[-2:]) if words[-2:][0][0].isupper() else ("", words)
+    proofs, head = re.compile(f"proofs/{before}{'/'.join(own)}/"), re.compile(f"fn {crate.name}::{before.replace('/', '::')}{'::'.join(own)}:")
+    found = {line for line, where, number, _, _ in faults_in(lines) if proofs.match(where) or where == path and first <= number <= last}
+    return [line for line in lines if line in found or head.match(line)]
+
+
+class Trial:
+    """A crate of the copy, which is as it was between two tries."""
+
+    def __init__(self, crate):
+        self.crate = crate
+        self.was = {}
+
+    def put(self, texts):
+        for path, text in texts.items():
+            self.was.setdefault(path, (self.crate / path).read_text(encoding="utf-8"))
+            (self.crate / path).write_text(text, encoding="utf-8")
+
+    def restore(self):
+        for path, text in self.was.items():
+            (self.crate / path).write_text(text, encoding="utf-8")
+        self.was = {}
+
+    def verdicts(self, group):
+        """(edit, how it is refused, a line that says why) of each edit of a group."""
+        told = self.told_together(group) if len(group) > 1 else {}
+        for edit in group.values():
+            try:
+                word, line = told.get(edit) or self.verdict(edit)
+                if word == "proved" and (test := TEST.search(edit.text)):
+                    word, line = self.tested(edit, *test.groups())
+            except NoVerdict as it:
+                word, line = it.args
+            self.restore()
+            yield edit, word, line
+
+    def tested(self, edit, crate, test):
+        """Whether a test fails on an edit that no contract refuses, and its line. The tests run before any proof of theirs."""
+        self.restore()
+        self.put(edited_texts(self.crate, edit))
+        front, words = f"test {test} ...", ["--test", "--", test]
+        if crate == SCENARIOS:
+            front, words = f"{test}.txt:", ["--data", f"{test}.txt=data/{test}.txt"]
+        ran = subprocess.run(["rt", "try", *words], cwd=self.crate.parent / crate, stdin=subprocess.DEVNULL,
+                             stdout=subprocess.PIPE, stderr=subprocess.STDOUT, text=True, errors="replace", check=False)
+        line = next((line for line in ran.stdout.split("\n") if line.startswith(front)), None)
+        if line is None:
+            raise NoVerdict("bad", f"no test {crate} {test}: {ran.stdout.strip()[-100:]}")
+        return ("proved" if line.endswith((" ok", " lines")) else "test"), line
+
+    def told_together(self, group):
+        """What one check with all edits of a group tells of each function: a goal that is false or open, and no name that is missing."""
+        for edit in group.values():
+            with suppress(NoVerdict):
+                self.put(edited_texts(self.crate, edit))
+        lines = []
+        with suppress(NoVerdict):
+            lines, _ = check(self.crate)
+        self.restore()
+        told = {}
+        for (path, function), edit in group.items():
+            own = lines_of(self.crate, path, function, lines)
+            if any(is_name for *_, is_name in faults_in(own)):
+                continue
+            if false := next(filter(FALSE.search, own), None):
+                told[edit] = "false", false
+            elif left := open_goal(own, set()):
+                told[edit] = "goal", left
+        if not told and len(group) > 3:
+            # One of them stops the check.
+            items = list(group.items())
+            middle = len(items) // 2
+            told = self.told_together(dict(items[:middle])) | self.told_together(dict(items[middle:]))
+        return told
+
+    def verdict(self, edit):
+        """How an edit is refused, tried alone, and a line that says why."""
+        texts = edited_texts(self.crate, edit)
+        if not texts:
+            raise NoVerdict("bad", "it changes nothing")
+        self.put(texts)
+        lines, proved = check(self.crate)
+        if proved:
+            return "proved", "the crate is proved with this edit"
+        # a fault of the code or of the edited text itself: nothing was tried
+        for line, path, _, is_error, is_name in faults_in(lines):
+            if (path in texts or path.startswith("src/")) and is_error and is_name:
+                raise NoVerdict("bad", line)
+        gone = set()
+        # Answers that rest on one that went may lose their names next.
+        for _ in range(4):
+            if false := next(filter(FALSE.search, lines), None):
+                return "false", false
+            fewer = without_answers(self.crate, lines)
+            if not fewer:
+                break
+            gone |= set(fewer)
+            self.put(fewer)
+            lines, proved = check(self.crate)
+            if proved:
+                return "proved", "without the answers whose names it took away the crate is proved"
+        if left := open_goal(lines, gone):
+            return "goal", left
+        return "names", next((line for line in lines if FAULT.match(line)), lines[0])
+
+
+def link_or_copy(source, target):
+    try:
+        os.link(source, target)
+    except OSError:
+        shutil.copy2(source, target)
+
+
+def crates_below(names):
+    """The crates that these use, and those that they use in turn, by crates.txt."""
+    uses = {name: used.split() for name, used in re.findall(r"^(\w+)[^:#\n]*:([^#\n]*)", (ROOT / "crates.txt").read_text(encoding="utf-8"), re.MULTILINE)}
+    below, left = set(), list(names)
+    while left:
+        for used in uses.get(left.pop(), []):
+            if used in uses and used not in below:
+                below.add(used)
+                left.append(used)
+    return below
+
+
+def take_libraries(copy, names):
+    """The libraries that are built here serve in the copy: rt takes one for built while its sources are the same. No check writes to
+    those below the crates that are tried, so they are linked."""
+    below = crates_below(names) - set(names)
+    for crates, parts, copies in ((below, ("rlib",), link_or_copy), (names, ("rlib", "incremental"), shutil.copy2)):
+        for crate in crates:
+            for part in (Path("crates", crate, "out", it) for it in parts):
+                if (ROOT / part).is_dir():
+                    shutil.copytree(ROOT / part, copy / part, copy_function=copies)
+
+
+def try_crate(crate, wanted, counts):
+    """Tries the edits of a crate of the copy; if some are wanted, these alone."""
+    if not check(crate)[1]:
+        sys.exit(f"{crate.name}: not proved as it is")
+    trial = Trial(crate)
+    edits = [it for it in edits_of(crate) if not wanted or it.name in wanted]
+    for group in groups_of(crate, edits):
+        for edit, word, line in trial.verdicts(group):
+            counts[word] += 1
+            print(f"{word:6} {crate.name} {edit.name}: {line[:200]}", flush=True)
+
+
+def main(words):
+    wanted = defaultdict(set)
+    for name, _, edit in (word.partition("/") for word in words):
+        wanted[name] |= {edit} if edit else set()
+    names = sorted({it.parent.name for place in (FOLDER, FILE) for it in (ROOT / "crates").glob(f"*/{place}")})
+    lacking = [name for name in wanted if name not in names]
+    if lacking:
+        print(f"{lacking[0]}: no crate that has edits", file=sys.stderr)
+        return 2
+    counts = Counter()
+    with tempfile.TemporaryDirectory(prefix="more-edits-") as folder:
+        copy = Path(folder)
+        shutil.copytree(ROOT, copy, dirs_exist_ok=True, ignore=shutil.ignore_patterns("out", ".git"))
+        tried = [name for name in names if not wanted or name in wanted]
+        take_libraries(copy, tried)
+        for name in tried:
+            try_crate(copy / "crates" / name, wanted[name], counts)
+    print(", ".join(f"{counts[word]} {word}" for word in WORDS))
+    return 1 if counts["proved"] or counts["bad"] else 0
+
+
+if __name__ == "__main__":
+    sys.exit(main(sys.argv[1:]))

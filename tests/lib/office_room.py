@@ -1,0 +1,173 @@
+"""What the tests of the office share: a machine of their own, a manager of services, clerks, requests, and what a club's file has to be.
+
+A script that imports it is run once more in that machine (tests/lib/office_room.sh). A service is a server that is started again a second after each
+end, as deploy/clubdesk.service says it (Restart=always, RestartSec=1). Its process is named in the room's folder `services`, by which the
+room's systemctl ends it.
+"""
+
+import contextlib
+import http.client
+import os
+import signal
+import socket
+import subprocess
+import sys
+import threading
+import time
+from pathlib import Path
+
+import psutil
+
+from desk import SUMS, TESTS, free_port, opened, command
+
+if "OFFICE_ROOM" not in os.environ:
+    os.execv("/bin/sh", ["sh", str(TESTS / "lib" / "office_room.sh"), sys.executable, "-B", os.path.abspath(sys.argv[0]), *sys.argv[1:]])
+ROOM = Path(os.environ["ROOM"])
+HOME = Path("/var/lib/clubdesk")
+CLUB = HOME / "club"
+NOON = "2026-04-20T12:00"
+failures = []
+checks = 0
+
+
+def same(what, found, wanted):
+    """Notes a check; what is found has to be what is wanted."""
+    global checks
+    checks += 1
+    if found != wanted:
+        failures.append(what)
+        print(f"{what}: wanted and found\n{wanted!r}\n{found!r}", file=sys.stderr)
+
+
+def leave():
+    print(f"{checks} checks, {len(failures)} failed")
+    sys.exit(1 if failures else 0)
+
+
+def run_as(user, *line, given=None, folder=None):
+    """Runs a command as a user, in its home; its status, output and errors."""
+    return command("runuser", "-u", user, "--", *line, text=given, cwd=folder or f"/home/{user}")
+
+
+def office(*words, by="anna", given="", club="club"):
+    return run_as(by, "office", club, *words, given=given)
+
+
+def done(*words, by="anna", given=""):
+    """A command of the office that has to end with status 0; what it prints."""
+    status, out, errors = office(*words, by=by, given=given)
+    same(f"office {' '.join(words)}: status", (status, errors if status else ""), (0, ""))
+    return out
+
+
+def desk(command, *words):
+    """clubdesk itself at the club, as the desk's user: its status and its output."""
+    return run_as("clubdesk", "clubdesk", command, CLUB, *words, folder="/")[:2]
+
+
+class Service:
+    """A server that a manager starts again a second after each end."""
+
+    def __init__(self, port=0, at=NOON, club="club"):
+        self.port, self.is_wanted, self.starts = port or free_port(), True, 0
+        self.named = ROOM / "services" / f"clubdesk@{club}.service"
+        line = ["setpriv", "--reuid", "clubdesk", "--regid", "clubdesk", "--clear-groups", "clubdesk", "serve", HOME / club, "--port", str(self.port)]
+        self.keeper = threading.Thread(target=self.keep, args=([*line, "--count", "1000000", "--at", at, "--log"],), daemon=True)
+        self.keeper.start()
+        self.is_heard()
+
+    def keep(self, line):
+        while self.is_wanted:
+            with open(ROOM / "club.log", "ab") as log:
+                self.process = subprocess.Popen(line, stdout=log, stderr=log, cwd="/", umask=0o077)
+            self.starts += 1
+            self.named.write_text(str(self.process.pid))
+            self.process.wait()
+            time.sleep(1 if self.is_wanted else 0)
+
+    def is_heard(self):
+        """Whether somebody listens, within half a minute."""
+        for _ in range(1500):
+            with contextlib.suppress(OSError), socket.create_connection(("127.0.0.1", self.port), 5):
+                return True
+            time.sleep(0.02)
+        return False
+
+    def stop(self):
+        self.is_wanted = False
+        self.process.send_signal(signal.SIGTERM)
+        self.keeper.join()
+        self.named.unlink()
+
+    def answer(self, text, method, path, body=None):
+        """The status and the body of the reply under a pass, which is asked for until it comes, and comes whole."""
+        for _ in range(200):
+            with contextlib.closing(http.client.HTTPConnection("127.0.0.1", self.port, timeout=30)) as client:
+                with contextlib.suppress(OSError, http.client.HTTPException):
+                    client.request(method, path, body, {"Authorization": f"Bearer {text}"})
+                    reply = client.getresponse()
+                    found = reply.status, reply.read().decode()
+                    if found[0] < 500:
+                        return found
+            time.sleep(0.05)
+        raise RuntimeError(f"no reply to {method} {path} {body}")
+
+
+def begun(*words):
+    """A command of the office that goes on, in a session of its own."""
+    return subprocess.Popen(["runuser", "-u", "anna", "--", "office", "club", *words], stdin=subprocess.PIPE, stdout=subprocess.PIPE, stderr=subprocess.PIPE,
+                            text=True, cwd="/home/anna", start_new_session=True)
+
+
+def kill(command, chance=None):
+    """Kills a process with all that it started, of which sudo gives some a session of their own, or by chance one of them; waits for its end."""
+    with contextlib.suppress(psutil.NoSuchProcess):
+        first = psutil.Process(command.pid)
+        found = [first, *first.children(recursive=True)]
+        for it in [chance.choice(found)] if chance else found:
+            with contextlib.suppress(psutil.NoSuchProcess):
+                it.kill()
+    command.communicate()
+
+
+def killed_after(seconds, words, chance=None):
+    command = begun(*words)
+    time.sleep(seconds)
+    kill(command, chance)
+
+
+def copied():
+    """A copy of the club as it is, opened."""
+    copy = ROOM / "copied"
+    for _ in range(5):
+        copy.unlink(missing_ok=True)
+        made = subprocess.run(["/usr/lib/clubdesk/back_up", CLUB, copy], capture_output=True, text=True, check=False)
+        if made.returncode == 0:
+            return opened(copy)
+    raise RuntimeError(made.stderr)
+
+
+def rows(sql):
+    with copied() as database:
+        return database.execute(sql).fetchall()
+
+
+def whole(what):
+    """No total of the club is off."""
+    same(f"the totals after {what}", rows(SUMS), [])
+
+
+def everything():
+    """All rows of the club."""
+    with copied() as database:
+        return list(database.iterdump())
+
+
+def configure(**more):
+    lines = {"FILE": CLUB, "ZONE": "UTC0", "PORT": "8080", **more}
+    Path("/etc/clubdesk/club.conf").write_text("# A club.\n" + "".join(f"{key}={value}\n" for key, value in lines.items()), encoding="ascii")
+
+
+def mode(file):
+    """A file's owner and its mode."""
+    return f"{file.owner()} {file.stat().st_mode:o}"

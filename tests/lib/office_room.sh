@@ -1,0 +1,71 @@
+# Read by the tests of the office beside it: a machine of their own, of which nothing stays. In a mount namespace, folders are laid over
+# those of the machine; what bin/package packs of deploy/, web/ and the programs lies there as a package puts it; the clerk anna is made
+# by the lines of docs/RUNNING.md under "The clerks", ben is another one, and carl is none. `systemctl` knows one word, `kill`, and hands
+# it to a small manager of services (tests/lib/office_room.py). Wants root.
+# Before it is read, `room_net` may be not empty: then the room has a network of its own. If it is run itself, it runs the command that
+# stands behind its name, with ROOM as the room's folder.
+set -eu
+PATH=/usr/sbin:/sbin:$PATH
+[ "$(id -u)" = 0 ] || { echo "$0 wants root, for other users and folders of its own" >&2; exit 2; }
+if [ -z "${OFFICE_ROOM-}" ]; then
+    OFFICE_ROOM=yes exec unshare --mount ${room_net:+--net} --propagation private sh "$0" "$@"
+fi
+[ -z "${room_net-}" ] || ip link set lo up
+. "$(dirname -- "$0")/../lib/serving.sh"
+top=$(CDPATH='' cd -P -- "$here/../.." && pwd)
+
+chmod 755 "$work"
+# Its mounts end with its last process.
+room=/mnt
+mount -t tmpfs tmpfs "$room"
+
+# over FOLDER: what is written to it from now on lies in the room.
+over() {
+    called=$(echo "$1" | tr / _)
+    mkdir "$room/$called" "$room/$called.work"
+    mount -t overlay overlay -o "lowerdir=$1,upperdir=$room/$called,workdir=$room/$called.work" "$1"
+}
+for folder in /usr/bin /usr/lib /usr/share /etc /var/lib /home /root; do over "$folder"; done
+# For systemd's journal and what it keeps, and for copies of a club that are in use.
+for folder in /run/systemd /run/log /dev/shm; do
+    mkdir -p "$folder"
+    mount -t tmpfs tmpfs "$folder"
+done
+[ ! -d /var/log/journal ] || mount -t tmpfs tmpfs /var/log/journal
+rm -f /etc/sudoers.d/*
+systemd-sysusers "$top/deploy/clubdesk.sysusers" 2>/dev/null
+for user in ben carl; do useradd -m "$user"; done
+usermod -a -G office ben
+install -m 755 "$desk" /usr/bin/clubdesk
+install -m 755 "$tool" /usr/bin/passtool
+install -m 755 "$top/deploy/office" /usr/bin/office
+install -D -m 644 -t /usr/lib/clubdesk/club_office "$top"/deploy/club_office/*.py
+/usr/bin/python3 -m compileall -q /usr/lib/clubdesk/club_office
+install -m 440 "$top/deploy/office.sudoers" /etc/sudoers.d/clubdesk-office
+mkdir -p /usr/lib/clubdesk /usr/share/doc/clubdesk/examples /usr/share/clubdesk/web
+install -m 755 "$top/deploy/clubdesk-setup" /usr/bin/clubdesk-setup
+find "$top/deploy" -maxdepth 1 -type f -perm -100 ! -name office ! -name clubdesk-setup -exec install -m 755 -t /usr/lib/clubdesk {} +
+install -m 644 -t /usr/share/doc/clubdesk/examples "$top"/deploy/*.conf "$top/deploy/Caddyfile"
+find "$top/web" -maxdepth 1 -type f -exec install -m 644 -t /usr/share/clubdesk/web {} +
+
+# page_block HEADING: the lines of docs/RUNNING.md for root under this heading, but for those that install Debian's packages.
+page_block() {
+    awk -v heading="## $1" '
+        /^## / { here = $0 == heading; next }
+        here && /^```sh$/ { inside = 1; next }
+        /^```$/ { inside = 0 }
+        inside && !/^apt-get /' "$top/docs/RUNNING.md"
+}
+page_block 'The clerks' >"$room/clerks"
+[ -s "$room/clerks" ] || { echo "docs/RUNNING.md has no lines under 'The clerks'" >&2; exit 1; }
+(cd "$top" && sh -e "$room/clerks") >/dev/null
+install -d -m 755 /etc/clubdesk
+install -d -o clubdesk -g clubdesk -m 700 /var/lib/clubdesk
+mkdir "$room/services"
+cat >"$room/systemctl" <<SYSTEMCTL
+#!/bin/sh
+# \`kill UNIT\`: signals the server that the manager runs under this name.
+[ "\$1" = kill ] && [ -e "$room/services/\$2" ] && kill "\$(cat "$room/services/\$2")"
+SYSTEMCTL
+install -m 755 "$room/systemctl" /usr/bin/systemctl
+case $0 in */office_room.sh) ROOM=$room "$@" ;; esac

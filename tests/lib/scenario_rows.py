@@ -1,0 +1,215 @@
+"""Turns rows of the test crates into facts (tests/lib/scenario_facts.py). Each reader takes a table, as tests/lib/rust_tables.py reads it, and returns
+the facts of each row. For a row that no scenario can state it returns the reason. The rules in Python must agree with each row."""
+
+import rust_tables
+import scenario_facts as facts
+import scenario_lines as lines
+from reference import caveats, club as rules
+from rust_tables import CRATES
+from scenario_facts import Fact
+
+REFUSALS = ("BadRequest", "NoSuchPath", "MethodNotAllowed", "NoPass", "PassTooLong", "PassMalformed", "ThirdPartyCaveat", "TooManyCaveats",
+            "NotVerified", "KeyRevoked", "CaveatNotUnderstood", "CaveatDenies", "NumberUsed", "NoSuchFacility", "NoSuchBooking", "NotBookable",
+            "SlotClosed", "NoPlaces", "QuotaReached", "BalanceTooLow", "SlotHasBegun", "Unavailable")
+METHODS = {"Resource::Slot": "GET", "Resource::Account": "GET", "Resource::Booking": "PUT, DELETE"}
+KIND = {"Kind::Court": "court", "Kind::Boat": "boat", "Kind::Room": "room"}
+ROOT = bytes.fromhex(lines.FIRST_ROOT)
+NOON = caveats.moment_of("2026-04-20T12:00")
+
+
+def last(name):
+    return name.rpartition("::")[2]
+
+
+# ---- plain values of the test kit
+
+
+def slot_of(it):
+    return it.facility, it.day, it.hour
+
+
+def refusal_of(it):
+    return rules.Refused(REFUSALS.index(last(it.name)) + 1, it.values[0] if it.values and isinstance(it.values[0], int) else None)
+
+
+def methods_of(it):
+    return METHODS[it.values[0].name] if last(it.name) == "MethodNotAllowed" else None
+
+
+def account(member, balance, quota, opened, spent):
+    return "account", ("member", member), ("balance", balance), ("quota", quota), ("open", opened), ("spent", spent)
+
+
+def view(slot, kind, price, places, taken, closed):
+    return ("view", ("facility", slot[0]), ("day", slot[1]), ("hour", slot[2]), ("kind", kind), ("price", price), ("places", places),
+            ("taken", taken), ("closed", closed))
+
+
+def command_of(it):
+    """The words of a command, as the rules take them."""
+    name, values = last(it.name), it.values
+    return {"AddMember": lambda: ("add-member", *values), "Credit": lambda: ("credit", *values),
+            "AddFacility": lambda: ("add-facility", values[0], KIND[values[1].name], *values[2:]), "AddKey": lambda: ("add-key", values[0], values[1], bytes(values[2])),
+            "RevokeKey": lambda: ("revoke-key", *values), "RotateKey": lambda: ("rotate-key", values[0], bytes(values[1]), values[2]),
+            "CloseSlot": lambda: ("close-slot", *slot_of(values[0]))}[name]()
+
+
+# ---- the club that most tests begin with
+
+
+def fixture():
+    club = rules.Club()
+    kit = rust_tables.file_at(CRATES / "test_kit" / "src" / "commands.rt")
+    for it in kit.value("FIXTURE"):
+        club.command(command_of(it))
+    return club
+
+
+class Differs(Exception):
+    """A row whose answer differs from that of the rules."""
+
+
+DECISIONS = ("no pass", "holder", "caveats", "decision")
+
+
+def whole(club, data, moment, wanted, kinds):
+    """The facts of an exchange whose reply has these bytes."""
+    found = facts.exchange_facts(club, data, moment)
+    reply = next(it.asked[0] for it in found if it.kind == "reply")
+    if reply.encode() != wanted:
+        raise Differs(f"wanted {wanted}, the rules {reply}")
+    return [it for it in found if it.kind in kinds]
+
+
+# ---- commands of the office
+
+
+def club_of_files():
+    """The club of the runs over files: a closed slot, a booked one, and a member with the most points."""
+    club = rules.Club()
+    for words in (("add-member", "amy", 5), ("credit", "amy", 10_000), ("add-facility", "court-1", "court", 4, 200, 8, 22), ("add-key", "amy-1", "amy", ROOT),
+                  ("add-member", "bea", 5), ("close-slot", "court-1", 20574, 19)):
+        club.command(words)
+    club.members["bea"].credited = rules.MOST_POINTS
+    club.ask(lines.Pass("amy-1", ROOT.hex()).text("v2"), rules.Request("book", ("court-1", 20574, 20), 1, 0), NOON)
+    return club
+
+
+def of_runs(value):
+    """Rows of a command's words and what its run prints, each over that club."""
+    return [run_facts(club_of_files(), it) for it in value]
+
+
+def run_facts(club, row):
+    name, rest, ended = row.values
+    words, status, output = rest.split(" "), ended[0], ended[2:]
+    if name in ("show-account", "show-slot", "sheet"):
+        at = caveats.moment_of(words[2]) if "--at" in words else NOON
+        found = facts.listing_fact(club, lines.Listing(None, at, (name, *words[:3 if name == "show-slot" else 1]), None))
+        if "\n".join(found.answer) != output.removesuffix("\n"):
+            raise Differs(f"{rest}: {found}")
+        return [found]
+    form = words.pop() if "--form" in words else "v2"
+    words = [it for it in words if it != "--form"]
+    values = [lines.READERS[kind](it) for kind, it in zip(lines.COMMANDS[name], words)]
+    found = facts.command_facts(club, (name, *values), form)
+    answer = next(it.answer for it in found if it.kind == "command")
+    if (answer if status == "1" else "done") != (output if status == "1" else answer) or output.startswith(("Ag", "MD", "{")) and found[-1].answer != output.strip():
+        raise Differs(f"{name} {rest}: {found}")
+    return found
+
+
+# ---- listings
+
+
+def spelled(slot):
+    return slot[0], (caveats.EPOCH.fromordinal(caveats.EPOCH.toordinal() + slot[1])).isoformat(), f"{slot[2]:02d}"
+
+
+# ---- bytes
+
+
+def join(pieces):
+    return "".join(text * count for count, text in pieces).encode()
+
+
+def want_of(it):
+    """Returns the decoded request, or the refusal, that a row expects."""
+    name, values = last(it.name), it.values
+    slot = ("court-1", 20574, 18)
+    return {"View": lambda: ("view", slot, None, 0), "Book": lambda: ("book", slot, 7, values[0]), "Cancel": lambda: ("cancel", slot, values[0], 0),
+            "Account": lambda: ("account", None, None, 0), "Refused": lambda: (refusal_of(values[0]).fault, methods_of(values[0]))}[name]()
+
+
+def decodes(data, want):
+    if facts.decoded(data) != want:
+        raise Differs(f"{data}: {facts.decoded(data)}")
+    return [facts.bytes_fact(data, want)]
+
+
+def of_bytes(make):
+    return lambda value: [decodes(make(*it[:-1]), want_of(it[-1])) for it in value]
+
+
+PASS = "Authorization: Bearer x\r\n"
+PUT = "PUT /slots/court-1/2026-05-01/18/bookings/7 HTTP/1.1\r\n"
+
+
+def with_body(body, length=None):
+    return f"{PUT}{PASS}Content-Length: {len(body) if length is None else length}\r\n\r\n{body}".encode()
+
+
+def of_carried(value):
+    return [decodes(f"GET /account HTTP/1.1\r\n{fields}\r\n".encode(), ("account", None, None, 0)) for fields, _ in value]
+
+
+def of_replies(field=""):
+    def reader(value):
+        found = []
+        for row in value:
+            if len(row) == 3 and row[0].name == "ReplyFields::Account" and row[0].balance > rules.MOST_POINTS:
+                found.append("numbers beyond those of any club")
+                continue
+            status, length, body = ("200 OK", *row[1:]) if len(row) == 3 else row[1:]
+            text = f"HTTP/1.1 {status}\r\nContent-Type: application/json\r\nContent-Length: {length}\r\n{field}Connection: close\r\n\r\n{body}"
+            found.append([Fact("reply", (text,), len(text))])
+        return found
+    return reader
+
+
+# ---- texts of passes
+
+
+def text_fact(text, refusal=None):
+    club, request = fixture(), rules.Request("account")
+    before = facts.Before(club, text.encode(), request, NOON)
+    reply = club.ask(text.encode(), request, NOON)
+    if refusal is not None and reply.fault != refusal_of(refusal).fault:
+        raise Differs(f"{text[:60]}: {reply}")
+    return [facts.text_fact(club, text.encode(), NOON), *(it for it in before.facts(reply) if it.kind in DECISIONS)]
+
+
+def of_spaced(text):
+    return "a pass that ends in spaces, which no field of a request has" if text.endswith(" ") else text_fact(text)
+
+
+# ---- crashes
+
+
+def of_crash(value):
+    found = []
+    for event in value.task:
+        name, values = last(event.name), event.values
+        asked = facts.plain_bytes(values[1].encode()) if name != "Gives" else tuple(spelled_words(command_of(values[0])))
+        found.append([Fact("crash", (asked,), "whole or not at all")])
+    return found or ["a crash while the tables are made or changed: a scenario's club is there before"]
+
+
+def spelled_words(words):
+    kinds = ("name", *lines.COMMANDS[words[0]])
+    for kind, it in zip(kinds, words):
+        yield it.hex() if kind == "root" else spelled(("", it, 0))[1] if kind == "day" else f"{it:02d}" if kind == "hour" else moment_text(it) if kind == "moment" else str(it)
+
+
+def moment_text(at):
+    return f"{spelled(('', at // 1440, 0))[1]}T{at // 60 % 24:02d}:{at % 60:02d}"

@@ -1,0 +1,69 @@
+#!/usr/bin/env -S /usr/bin/python3 -B
+"""`office` as clerks use it: commands, lists, corrections, restores, and what a hostile clerk may try.
+
+Each is compared with the desk. So are what it refuses, passes and the book. Wants root, for a machine of its own (tests/lib/office_room.sh).
+
+The office's wrapper, deploy/office, as clerks use it who are not root: by the sudoers lines of deploy/office.sudoers, beside a server
+that a small manager of services runs. Its parts are:
+- office_orders.py: commands, looks and lists against the desk's replies; passes and their files; the book, in a file and in the journal;
+- office_corrections.py: corrections against show-account, the sheet and the totals; a copy in the club's place, also of a damaged file;
+- office_season.py: a season's points, closures, letters, persons, undo, and files of old years;
+- office_findings.py: forged lines, another's programs, a stopped terminal, a silent journal, a full memory or disk.
+Wants root, for a machine of its own (tests/lib/office_room.sh). Not part of the gate.
+  tests/office/office_holds.py [findings|season]    findings: what others may do, alone; season: a season's club, alone
+"""
+# groups: package root
+# wants: sudo sqlite3 openssl util-linux bsdutils iproute2 systemd python3-psutil
+
+import sys
+from pathlib import Path
+
+sys.path[:0] = [str(Path(__file__).resolve().parents[1] / it) for it in ("lib", "")]
+import office_corrections as corrections
+import office_findings as findings
+import office_orders as orders
+import office_season as season
+from office_room import Service, leave
+
+
+def of_a_season():
+    server, pages, lines_of, tomorrow = season.make_season_club()
+    season.for_callers(server, tomorrow)
+    season.for_hours(tomorrow)
+    season.in_use_of_persons(server, lines_of, tomorrow)
+    season.undone(server, tomorrow)
+    season.season(pages, tomorrow)
+    season.letters_and_records(tomorrow)
+    season.spare_passes(lines_of)
+    season.lists_as_they_are_written()
+    season.old_years(server)
+
+
+orders.manual()
+orders.before_there_is_a_club()
+orders.as_nobody_else()
+orders.commands_and_looks()
+amy, bob = orders.passes()
+part = sys.argv[1:]
+if part == ["findings"]:
+    findings.findings()
+    leave()
+if part == ["season"]:
+    of_a_season()
+    leave()
+server = Service()
+orders.looks(server, amy)
+orders.lists(server, amy, bob)
+corrections.corrections(server, amy, bob)
+corrections.tournament_and_rain(server, bob)
+corrections.member_leaves(server, bob)
+corrections.breaks_no_total(server)
+orders.takes_turns()
+corrections.booked_meanwhile(server)
+corrections.back_ups()
+orders.in_the_book()
+orders.in_the_journal()
+corrections.restores(server)
+findings.findings()
+of_a_season()
+leave()

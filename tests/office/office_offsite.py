@@ -1,0 +1,590 @@
+#!/usr/bin/env -S /usr/bin/python3 -B
+"""Each change of a club is in a copy elsewhere within a minute, and the copy brings a lost club back.
+
+The copies go by ssh or into a mounted folder, and are tested there. Wants root, for a machine of its own (tests/lib/office_room.sh).
+
+- Nothing is sent without a change. Copies are kept by the rule in Python. `copies` lists them, and `restore` takes one.
+- A host that is down, a cut transfer, a full disk there and a folder that isn't mounted are said and tried again, and health fails.
+- deploy/check_health asks by the public name, and reads the certificate's days. deploy/metrics counts requests and orders.
+- `clubdesk-setup --from` brings back the club, persons, a season's points, old years and clerks. A repeated lost booking is booked anew.
+Not part of the gate.
+"""
+# groups: package root faults
+# wants: sudo sqlite3 openssl util-linux bsdutils iproute2 systemd python3-psutil openssh-server openssh-client curl
+
+import contextlib
+import datetime
+import grp
+import http.client
+import http.server
+import io
+import os
+import random
+import re
+import shutil
+import socket
+import sqlite3
+import ssl
+import subprocess
+import sys
+import tarfile
+import threading
+import time
+from pathlib import Path
+
+import psutil
+
+# The room has a network of its own, so that its ports are nobody's.
+os.environ.setdefault("room_net", "yes")
+
+sys.path[:0] = [str(Path(__file__).resolve().parents[1] / it) for it in ("lib", "")]
+from office_room import CLUB, HOME, ROOM, Service, done, everything, leave, mode, office, run_as, same, whole
+
+AWAY = Path("/srv/away")
+FOLDER = AWAY / "clubs" / "club"
+CONF = Path("/etc/clubdesk")
+SITE = "desk.example.org"
+DAY = datetime.date.today() + datetime.timedelta(2)
+MINUTE = re.compile(r"20[0-9]{2}-[0-9]{2}-[0-9]{2}T[0-9]{6}Z")
+
+
+def configure(**more):
+    lines = {"FILE": CLUB, "ZONE": "UTC0", "PORT": server.port, "BACK_UPS": HOME / "back-ups", "TITLE": '"Our club"', "SITE": f"https://{SITE}",
+             "PAGES": "/srv/pages", "ZONE_NAME": "Etc/UTC", "TITLES": CONF / "club.titles", **more}
+    (CONF / "club.conf").write_text("".join(f"{key}={value}\n" for key, value in lines.items()), encoding="utf-8")
+
+
+class Sshd:
+    """ssh's own server for the user carl, whose home is on another disk."""
+
+    def __init__(self):
+        subprocess.run(["mount", "-t", "tmpfs", "-o", "size=40m", "tmpfs", AWAY.parent], check=True)
+        AWAY.mkdir()
+        subprocess.run(["usermod", "-p", "*", "-d", AWAY, "carl"], check=True)
+        keys, home = ROOM / "ssh", HOME / ".ssh"
+        keys.mkdir()
+        run("install", "-d", "-o", "clubdesk", "-g", "clubdesk", "-m", "700", home)
+        for owner, place in (("root", keys / "host"), ("clubdesk", home / "id_ed25519"), ("root", Path("/root/.ssh/id_ed25519"))):
+            if owner == "root":
+                place.parent.mkdir(mode=0o700, exist_ok=True)
+            place.unlink(missing_ok=True)
+            run("runuser", "-u", owner, "--", "ssh-keygen", "-q", "-t", "ed25519", "-N", "", "-f", place)
+        (AWAY / ".ssh").mkdir(mode=0o700)
+        (AWAY / ".ssh" / "authorized_keys").write_text("".join(Path(f"{it}.pub").read_text() for it in (home / "id_ed25519", "/root/.ssh/id_ed25519")))
+        run("chown", "-R", "carl:carl", AWAY)
+        (keys / "config").write_text(f"Port 2222\nListenAddress 127.0.0.1\nHostKey {keys}/host\nPidFile none\nUsePAM no\nPasswordAuthentication no\n"
+                                     "AuthorizedKeysFile .ssh/authorized_keys\n")
+        for place, owner in ((home, "clubdesk"), (Path("/root/.ssh"), "root")):
+            (place / "config").write_text("Host elsewhere\n    HostName 127.0.0.1\n    Port 2222\n    User carl\n    StrictHostKeyChecking accept-new\n")
+            (place / "config").chmod(0o600)
+            shutil.chown(place / "config", owner)
+        Path("/run/sshd").mkdir(mode=0o755, exist_ok=True)
+        self.process = None
+        self.start()
+
+    def start(self):
+        self.process = subprocess.Popen(["/usr/sbin/sshd", "-D", "-f", ROOM / "ssh" / "config"], stderr=subprocess.DEVNULL)
+        soon(10, lambda: socket.create_connection(("127.0.0.1", 2222), 1).close() or True)
+
+    def stop(self):
+        """Ends the server and its connections."""
+        for it in [*psutil.Process(self.process.pid).children(recursive=True), self.process]:
+            with contextlib.suppress(psutil.NoSuchProcess):
+                it.terminate()
+        self.process.wait()
+
+
+def run(*line):
+    subprocess.run(line, check=True, stdout=subprocess.DEVNULL)
+
+
+def soon(seconds, holds):
+    """Returns the value of `holds`, once it is true, within some seconds; its last value otherwise."""
+    end, found = time.monotonic() + seconds, None
+    while time.monotonic() < end:
+        with contextlib.suppress(OSError):
+            found = holds()
+            if found:
+                return found
+        time.sleep(0.1)
+    return found
+
+
+def copies():
+    """The names of the copies in the place, the oldest first."""
+    return sorted(it.name for it in FOLDER.iterdir() if MINUTE.fullmatch(it.name)) if FOLDER.exists() else []
+
+
+def once():
+    """One look of copy_offsite: its status, output and errors."""
+    return run_as("clubdesk", "/usr/lib/clubdesk/copy_offsite", "club", "--once", folder="/")
+
+
+def rows_of(path):
+    with contextlib.closing(sqlite3.connect(f"file:{path}?immutable=1", uri=True)) as db:
+        return [line for line in db.iterdump() if "INSERT" in line]
+
+
+def rows_now():
+    return [line for line in everything() if "INSERT" in line]
+
+
+class Keeper:
+    """copy_offsite as its service runs it."""
+
+    def __init__(self):
+        self.log = ROOM / "keeper"
+        with open(self.log, "wb") as log:
+            self.process = subprocess.Popen(["setpriv", "--reuid=clubdesk", "--regid=clubdesk", "--clear-groups", "/usr/lib/clubdesk/copy_offsite", "club"],
+                                            stdout=log, stderr=log, cwd="/")
+
+    def said(self):
+        return self.log.read_text(encoding="utf-8")
+
+    def stop(self):
+        self.process.terminate()
+        self.process.wait()
+
+
+def book(number, hour=10, guests=0):
+    return server.answer(amy, "PUT", f"/slots/court-1/{DAY}/{hour:02d}/bookings/{number}", f'{{"guests":{guests}}}')
+
+
+def make_club():
+    for words in ("add-facility court-1 court 50 1 0 24", "add-member amy 99", "credit amy 100000"):
+        done(*words.split())
+    return done("add-key", "amy-1", "amy").strip()
+
+
+# ---- By ssh.
+
+
+def within_a_minute(keeper):
+    """A booking is in a copy there within a minute; nothing is sent without a change."""
+    soon(30, copies)
+    for number in range(1, 4):
+        before, begun = copies(), time.monotonic()
+        same("a booking", book(number)[0], 200)
+        found = soon(60, lambda: [it for it in copies() if it not in before])
+        took = time.monotonic() - begun
+        same(f"booking {number} is there within a minute", bool(found) and took < 60, True)
+        same("as it is here", rows_of(FOLDER / copies()[-1]), rows_now())
+        print(f"a booking is there after {took:.1f} s")
+    same("modes there", {(it.owner(), f"{it.stat().st_mode:o}") for it in FOLDER.iterdir()}, {("carl", "100600")})
+    before = copies()
+    time.sleep(8)
+    same("nothing without a change", copies(), before)
+    same("the keeper goes on", keeper.process.poll(), None)
+    same("the state's mode", mode(HOME / "club-offsite"), "clubdesk 100600")
+
+
+def beside():
+    """The archive beside the newest copy: configuration, persons, reasons, points of a season, clerks; no more than that."""
+    given = '{"name": "Amy Möller", "mail": "amy@example.org", "telephone": "+49 1"}'
+    line = "sudo -n -u clubdesk /usr/bin/office --desk club set-person amy".split()
+    same("a person", run_as("anna", *line, given=given)[0], 0)
+    done("credit-all", "10", "--as", "season-1", "--yes")
+    done("close", str(DAY), "20-22", "court-1", "--why", "training", "--yes")
+
+    def packed():
+        newest = copies()[-1]
+        with tarfile.open(FOLDER / f"{newest}.tar") as archive:
+            return {it.name: archive.extractfile(it).read() for it in archive}
+
+    wanted = ["beside/book", "beside/people.csv", "beside/reasons", "beside/seasons", "clerks", "conf/club.conf", "conf/club.titles"]
+    found = soon(60, lambda: packed() if sorted(packed()) == wanted and b"amy@example.org" in packed()["beside/people.csv"] else None) or packed()
+    same("what goes with a copy", sorted(found), wanted)
+    same("the clerks", found["clerks"], b"anna\nben\n")
+    soon(30, lambda: len(list(FOLDER.glob("*.tar"))) == 1)
+    same("only with the newest", [it.name for it in FOLDER.glob("*.tar")], [f"{copies()[-1]}.tar"])
+    same("no person in a copy", [it for it in copies() if b"example.org" in (FOLDER / it).read_bytes()], [])
+
+
+def listed():
+    """`copies` lists those here and those there: age, size, whether tested, in both languages."""
+    same("a copy of the night", run_as("clubdesk", "/usr/lib/clubdesk/keep_copies", CLUB, HOME / "back-ups", folder="/")[0], 0)
+    found = [it.split(",") for it in done("copies", "--csv").splitlines()]
+    same("the heads", found[0], ["copy", "is", "bytes", "minutes", "tested"])
+    same("kinds", {it[1]: it[4] for it in found[1:]}, {"back-up": "opened", "before a correction": "whole", "off-site": "whole"})
+    newest = [it for it in found if it[1] == "off-site"][-1]
+    same("the newest there", (newest[0], int(newest[2]), int(newest[3]) < 3), (copies()[-1], (FOLDER / copies()[-1]).stat().st_size, True))
+    text = done("copies")
+    same("for people", (text.split()[:5], len(re.findall(r"off-site +[0-9]+ minutes +[0-9]+ +whole", text)) > 0), (["copy", "is", "age", "bytes", "tested"], True))
+    text = run_as("anna", "env", "LANG=de_DE.UTF-8", "office", "club", "copies")[1]
+    same("in German", (text.split()[:5], "außer Haus" in text, "geöffnet" in text), (["Kopie", "ist", "Alter", "Bytes", "geprüft"], True, True))
+
+
+def restored_from_there():
+    """A copy that is there alone is put in the club's place."""
+    wanted, name = rows_of(FOLDER / copies()[-1]), copies()[-1]
+    same("a booking after it", book(15, 15)[0], 200)
+    done("debit", "amy", "7", "--yes")
+    shown = done("restore", name, "--yes").splitlines()
+    same("what changes, and whom to tell", [it for it in shown if it[:5] in ("loses", "done", "To te", "    A")], [
+        f"loses court-1 {DAY} 15:00, 1 person, 1 points: amy-1 15, amy", "done", "To tell:", "    Amy Möller  amy@example.org  +49 1"])
+    same("the club of the copy", rows_now(), wanted)
+    soon(60, lambda: rows_of(FOLDER / copies()[-1]) == rows_now())
+    broken = FOLDER / copies()[0]
+    kept = broken.read_bytes()
+    broken.write_bytes(kept[:-1] + b"x")
+    found = office("restore", broken.name, "--yes")
+    same("a copy that was changed there", (found[0], "isn't what was sent there" in found[2]), (5, True))
+    broken.write_bytes(kept)
+    whole("a restore from there")
+
+
+def host_down(sshd, keeper):
+    """A host that is down is said once, tried again, and health fails; what was booked meanwhile is there once it is up."""
+    health(0)
+    sshd.stop()
+    book(20)
+    said = soon(40, lambda: "it is tried again" in keeper.said())
+    same("it is said", (said, "Connection refused" in keeper.said()), (True, True))
+    time.sleep(3)
+    same("health fails", "nothing is copied to elsewhere:clubs/club since" in health(1, PATIENCE="2"), True)
+    same("but not for a moment", health(0).startswith("well: "), True)
+    status, out, errors = office("copies")
+    same("copies of this machine are listed", (status, "opened" in out, "its copies aren't listed" in errors), (0, True, True))
+    status, _, errors = run_as("anna", "env", "LANG=de_DE.UTF-8", "office", "club", "restore", "2001-01-01T000000Z", "--yes")
+    same("a copy that isn't there", (status, "abgelehnt: es gibt keine Kopie" in errors), (1, True))
+    time.sleep(22)
+    same("said once", keeper.said().count("it is tried again"), 1)
+    before = copies()
+    sshd.start()
+    same("it is tried again", bool(soon(60, lambda: [it for it in copies() if it not in before])), True)
+    same("and what was booked meanwhile is there", soon(30, lambda: rows_of(FOLDER / copies()[-1]) == rows_now()), True)
+    same("which is said", soon(10, lambda: "takes copies again" in keeper.said()), True)
+    same("health is well", soon(40, lambda: health(None, PATIENCE="2").startswith("well: ")), True)
+
+
+def health(status, **more):
+    """check_health with the place, and with the site if there is one: its status has to be this one; what it says."""
+    line = ["env", *(f"{key}={value}" for key, value in {"CURL_CA_BUNDLE": f"{ROOM}/site.pem", **more}.items()), "/usr/lib/clubdesk/check_health", CLUB,
+            str(server.port), "", "", "elsewhere:clubs/club"]
+    found, out, errors = run_as("clubdesk", *line, folder="/")
+    if status is not None:
+        same(f"health {more}: {out}{errors}", found, status)
+    return out or errors
+
+
+def nobody_looks(keeper):
+    keeper.stop()
+    time.sleep(3)
+    same("nobody copies", "nobody copies to elsewhere:clubs/club since" in health(1, PATIENCE="2"), True)
+    state = (HOME / "club-offsite").read_bytes()
+    (HOME / "club-offsite").unlink()
+    same("nothing was copied", "nothing was copied to elsewhere:clubs/club yet" in health(1), True)
+    (HOME / "club-offsite").write_bytes(state)
+    shutil.chown(HOME / "club-offsite", "clubdesk", "clubdesk")
+
+
+def kept_by_rule():
+    """Of copies of each minute those are kept that the rule in Python says."""
+    chance, now, made = random.Random(7), datetime.datetime.now(datetime.timezone.utc), set(copies())
+    for back in range(0, 420):
+        for _ in range(chance.choice((0, 1, 3)) if back < 20 else chance.choice((0, 0, 0, 1))):
+            moment = now - datetime.timedelta(days=back, seconds=chance.randrange(3600, 80_000))
+            name = moment.strftime("%Y-%m-%dT%H%M%SZ")
+            if name not in made:
+                made.add(name)
+                (FOLDER / name).write_bytes(b"old")
+    (FOLDER / "notes").write_text("mine")
+    run("chown", "-R", "carl:carl", FOLDER)
+    book(30)
+    same("a copy", once()[0], 0)
+    made |= {copies()[-1]}
+    today = datetime.datetime.strptime(copies()[-1], "%Y-%m-%dT%H%M%SZ").date()
+
+    def day(name):
+        return datetime.date.fromisoformat(name[:10])
+
+    def group(name):
+        return name[:13] if (today - day(name)).days < 2 else name[:10]
+
+    newest = max(made)
+    last = {}
+    for name in sorted(made):
+        last[group(name)] = name
+    counted = [it for it in sorted(made) if group(it) == group(newest) or last[group(it)] == it]
+    monday = today - datetime.timedelta(today.weekday())
+    wanted = {it for it in counted if (today - day(it)).days < 14}
+    for back in range(8):
+        begin = monday - datetime.timedelta(7 * back)
+        wanted |= set([it for it in counted if begin <= day(it) < begin + datetime.timedelta(7)][:1])
+    for back in range(12):
+        year, month = divmod(today.year * 12 + today.month - 1 - back, 12)
+        wanted |= set([it for it in counted if it.startswith(f"{year}-{month + 1:02}-")][:1])
+    same("the copies that are kept", sorted(copies()), sorted(wanted))
+    same("other files stay", (FOLDER / "notes").read_text(), "mine")
+    listed_there = {line.split()[0] for line in (FOLDER / "tested").read_text().splitlines()}
+    same("the list of what was tested has no name that is gone", [it for it in listed_there if not (FOLDER / it).exists()], [])
+    found = {it.split(",")[4] for it in done("copies", "--csv").splitlines() if it.startswith(tuple(made - listed_there))}
+    same("what was never tested is said", found, {"no"})
+    for name in made - listed_there:
+        (FOLDER / name).unlink(missing_ok=True)
+
+
+def torn():
+    """A transfer that is cut, or changed on its way, gets no name."""
+    ssh = Path("/usr/bin/ssh")
+    whole_one = ROOM / "ssh-whole"
+    shutil.copy2(ssh, whole_one)
+    ROOM.chmod(0o755)
+    for what, script in (("cut", f'head -c 5000 | {whole_one} "$@"'), ("changed", f"tr SQL sql | {whole_one} \"$@\"")):
+        before = sorted(it.name for it in FOLDER.iterdir())
+        book(40 if what == "cut" else 41)
+        ssh.unlink()
+        ssh.write_text(f"#!/bin/sh\n{script}\n")
+        ssh.chmod(0o755)
+        status, _, errors = once()
+        same(f"a transfer that is {what}", (status, "what came there is not what was sent" in errors), (5, True))
+        same(f"{what}: what is there", sorted(it.name for it in FOLDER.iterdir()), before)
+        shutil.copy2(whole_one, ssh)
+    same("then it is there", (once()[0], rows_of(FOLDER / copies()[-1])), (0, rows_now()))
+
+
+def full_there():
+    """A full disk there takes no copy, leaves no half one, and is said."""
+    before = copies()
+    with open(AWAY / "fill", "wb", buffering=0) as fill, contextlib.suppress(OSError):
+        while True:
+            fill.write(bytes(4096))
+    book(50)
+    status, _, errors = once()
+    same("a full disk there", (status, "No space left" in errors, copies(), list(FOLDER.glob(".new.2*"))), (5, True, before, []))
+    (AWAY / "fill").unlink()
+    same("room again", (once()[0], rows_of(FOLDER / copies()[-1])), (0, rows_now()))
+
+
+# ---- A folder that is mounted.
+
+
+def mounted():
+    """A folder of another disk; one that isn't mounted is refused, as it would be lost with the club."""
+    place = Path("/var/lib/nas")
+    place.mkdir()
+    configure(OFFSITE=place)
+    status, _, errors = once()
+    same("a folder of the own disk, or of the machine's", (status, "is it mounted?" in errors), (5, True))
+    configure(OFFSITE="/var/lib/none")
+    same("none", (once()[0], "is it mounted?" in once()[2]), (5, True))
+    run("mount", "-t", "tmpfs", "-o", "uid=0,mode=777", "tmpfs", place)
+    configure(OFFSITE=place)
+    same("a mounted folder", once()[0], 0)
+    (name,) = [it.name for it in place.iterdir() if MINUTE.fullmatch(it.name)]
+    same("its copy", rows_of(place / name), rows_now())
+    for wrong in ("elsewhere", "-oProxyCommand=x:folder", "elsewhere:", "a b:c"):
+        configure(OFFSITE=wrong)
+        status, _, errors = once()
+        same(f"no place: {wrong}", (status, "is no HOST:FOLDER" in errors), (5, True))
+    configure()
+    same("no place at all", once()[0], 1)
+    configure(OFFSITE="elsewhere:clubs/club")
+    same("the other place again", once()[0], 0)
+
+
+# ---- The public name, and its certificate.
+
+
+class Site(http.server.BaseHTTPRequestHandler):
+    """The desk behind TLS."""
+
+    def do_GET(self):
+        client = http.client.HTTPConnection("127.0.0.1", server.port, timeout=10)
+        client.request("GET", self.path, headers={it: self.headers[it] for it in ("Authorization",) if self.headers[it]})
+        reply = client.getresponse()
+        body = reply.read()
+        self.send_response(reply.status)
+        self.send_header("Content-Length", str(len(body)))
+        self.end_headers()
+        self.wfile.write(body)
+
+    def log_message(self, *_):
+        pass
+
+
+@contextlib.contextmanager
+def site_for(days):
+    """The site, with a certificate that is good for some days."""
+    key, certificate = ROOM / "site.key", ROOM / "site.pem"
+    run("openssl", "req", "-x509", "-newkey", "ec", "-pkeyopt", "ec_paramgen_curve:P-256", "-nodes", "-days", str(days), "-subj", f"/CN={SITE}",
+        "-addext", f"subjectAltName=DNS:{SITE}", "-keyout", key, "-out", certificate)
+    certificate.chmod(0o644)
+    with http.server.ThreadingHTTPServer(("127.0.0.1", 443), Site) as it:
+        context = ssl.SSLContext(ssl.PROTOCOL_TLS_SERVER)
+        context.load_cert_chain(certificate, key)
+        it.socket = context.wrap_socket(it.socket, server_side=True)
+        threading.Thread(target=it.serve_forever, daemon=True).start()
+        yield
+        it.shutdown()
+
+
+def public_name():
+    Path("/etc/hosts").write_text(f"127.0.0.1 localhost {SITE}\n")
+
+    def asked(status, port=None):
+        line = ["env", f"CURL_CA_BUNDLE={ROOM}/site.pem", "/usr/lib/clubdesk/check_health", CLUB, str(port or server.port), CONF / "club.health", f"https://{SITE}"]
+        found, out, errors = run_as("clubdesk", *line, folder="/")
+        same(f"by the public name: {out}{errors}", found, status)
+        return out + errors
+
+    with site_for(40):
+        until = (datetime.datetime.now(datetime.timezone.utc) + datetime.timedelta(40)).date()
+        same("well", f"also at https://{SITE}, whose certificate is good until {until}" in asked(0), True)
+    with site_for(9):
+        until = (datetime.datetime.now(datetime.timezone.utc) + datetime.timedelta(9)).date()
+        same("nine days more", f"the certificate of {SITE} is good until {until}: it is to be renewed" in asked(1), True)
+    same("no site", f"the desk isn't well at https://{SITE}: curl: (7)" in asked(1), True)
+
+
+# ---- What is counted.
+
+
+def counted():
+    """deploy/metrics counts each line of the log once, and each order; what it writes is the text format."""
+    folder, journal = ROOM / "metrics", ROOM / "journalctl"
+    folder.mkdir()
+    shutil.chown(folder, "clubdesk")
+    lines = ROOM / "journal"
+    journal.write_text(f"""#!/bin/sh
+# The lines of a file as a journal of one service; a cursor is the number of lines that were read.
+case "$*" in *SYSLOG_IDENTIFIER*) echo '-- cursor: 0'; exit ;; esac
+from=$(wc -l <{lines})
+case "$*" in *--after-cursor=*) from=${{*##*--after-cursor=}}; from=${{from%% *}} ;; esac
+tail -n +$((from + 1)) {lines}
+echo "-- cursor: $(wc -l <{lines})"
+""")
+    journal.chmod(0o755)
+    line = "2026-04-20T12:00 PUT /slots/court-1/2026-05-01/18/bookings/7 {} {}\n"
+    lines.write_text(line.format(200, 1000))
+
+    def read():
+        words = ["env", f"JOURNALCTL={journal}", "/usr/lib/clubdesk/metrics", "club", folder]
+        status, _, errors = run_as("clubdesk", *words, folder="/")
+        same(f"metrics {errors}", status, 0)
+        text = (folder / "clubdesk_club.prom").read_text()
+        odd = [it for it in text.splitlines() if not re.fullmatch(r'# (HELP|TYPE) clubdesk_[a-z_]+ .*|clubdesk_[a-z_]+\{club="club"(,[a-z]+="[^"\\]*")*\} [0-9.+Inf]+', it)]
+        same("lines that are none", odd, [])
+        return dict(it.rsplit(" ", 1) for it in text.splitlines() if it[0] != "#")
+
+    first = read()
+    same("the first time nothing was counted", [it for it in first if "requests_total" in it], [])
+    with open(lines, "a", encoding="ascii") as more:
+        more.write(line.format(200, 3000) * 3 + line.format(409, 40_000) + "- - - - 7000000\n" + "listening on 127.0.0.1:8080\n")
+    orders = int(read()['clubdesk_orders_total{club="club",status="0"}'])
+    done("credit", "amy", "1")
+    office("credit", "nobody", "1")
+    found = read()
+    same("requests by their status", {it: found[it] for it in found if "requests_total" in it},
+         {'clubdesk_requests_total{club="club",status="-"}': "1", 'clubdesk_requests_total{club="club",status="200"}': "3", 'clubdesk_requests_total{club="club",status="409"}': "1"})
+    same("their time", [found[f'clubdesk_request_seconds{it}'] for it in ('_bucket{club="club",le="0.005"}', '_bucket{club="club",le="0.05"}', '_bucket{club="club",le="+Inf"}', '_count{club="club"}', '_sum{club="club"}')],
+         ["3", "4", "5", "5", "7.049"])
+    same("orders", int(found['clubdesk_orders_total{club="club",status="0"}']) - orders, 1)
+    same("a refused one", 'clubdesk_orders_total{club="club",status="1"}' in found, True)
+    version = run_as("clubdesk", "clubdesk", "--version", folder="/")[1].split()[1]
+    same("the version", found[f'clubdesk_info{{club="club",version="{version}"}}'], "1")
+    same("the size", found['clubdesk_file_bytes{club="club",file="club"}'], str(CLUB.stat().st_size))
+    same("ages", [int(found[f'clubdesk_copy_age_seconds{{club="club",place="{it}"}}']) < 600 for it in ("here", "off-site")], [True, True])
+    same("its mode", mode(folder / "clubdesk_club.prom"), "clubdesk 100644")
+    same("nothing else", [it.name for it in folder.iterdir()], ["clubdesk_club.prom"])
+
+
+# ---- The machine is gone.
+
+
+def brought_back():
+    """All that was on the machine is lost; the club serves again, and a repeated booking that was lost is booked anew."""
+    same("an old year", run_as("clubdesk", "/usr/lib/clubdesk/back_up", CLUB, HOME / "club-until-2025-12-31", folder="/")[0], 0)
+    (CONF / "club.health").write_text("pass")
+    run("chown", "root:clubdesk", CONF / "club.health")
+    (CONF / "club.health").chmod(0o640)
+    same("a last copy", once()[0], 0)
+    same("the old year is there", (FOLDER / "until-2025-12-31").read_bytes(), (HOME / "club-until-2025-12-31").read_bytes())
+    wanted, people = rows_now(), (HOME / "club-people.csv").read_bytes()
+    seasons, year = (HOME / "club-seasons").read_bytes(), {it.name: it.read_bytes() for it in HOME.glob("club-until-*")}
+    lost = book(99, 11, 3)
+    server.stop()
+    for folder in (HOME, CONF, Path("/srv/pages")):
+        for it in [it for it in folder.iterdir() if it.name != ".ssh"]:
+            shutil.rmtree(it) if it.is_dir() else it.unlink()
+    run("userdel", "-r", "ben")
+    line = ["clubdesk-setup", "--from", "elsewhere:clubs/club"]
+    status, _, errors = run_as("root", *line, "--copy", "2001-01-01T000000Z", folder="/")
+    same("no such copy", (status, "has no copy 2001-01-01T000000Z" in errors), (1, True))
+    same("nothing is made", (list(CONF.iterdir()), [it for it in HOME.iterdir() if it.name != ".ssh"]), ([], []))
+    begun = time.monotonic()
+    status, out, errors = run_as("root", *line, folder="/")
+    same(f"it is brought back: {errors}", status, 0)
+    print(f"brought back in {time.monotonic() - begun:.1f} s")
+    same("what is said", [it for it in (f"made  {CONF}/club.conf", f"made  {CLUB}, as it was at ", "made  the clerk ben") if it not in out], [])
+    same("the rows", rows_now(), wanted)
+    same("persons, the season, old years", ((HOME / "club-people.csv").read_bytes(), (HOME / "club-seasons").read_bytes(), {it.name: it.read_bytes() for it in HOME.glob("club-until-*")}),
+         (people, seasons, year))
+    same("modes", [mode(it) for it in (CLUB, HOME / "club-people.csv", CONF / "club.conf", CONF / "club.health")],
+         ["clubdesk 100600", "clubdesk 100600", "root 100644", "root 100640"])
+    same("the clerks", sorted(grp.getgrnam("office").gr_mem), ["anna", "ben"])
+    before = {it: it.stat().st_mtime_ns for it in [*CONF.iterdir(), *HOME.glob("club*")]}
+    status, out, _ = run_as("root", *line, folder="/")
+    same("again it changes nothing", (status, "made" in out, {it: it.stat().st_mtime_ns for it in before}), (0, False, before))
+    again = Service(server.port, at=f"{datetime.date.today()}T08:00")
+    same("what was lost is booked anew", again.answer(amy, "PUT", f"/slots/court-1/{DAY}/11/bookings/99", '{"guests":3}'), lost)
+    same("what wasn't is repeated", again.answer(amy, "PUT", f"/slots/court-1/{DAY}/10/bookings/1", '{"guests":0}')[0], 200)
+    same("the season's points aren't given twice", office("credit-all", "10", "--as", "season-1", "--yes")[0], 1)
+    whole("a club that was brought back")
+    again.stop()
+
+
+def hostile_archive():
+    """An archive with other names than a club's leaves nothing elsewhere."""
+    newest = copies()[-1]
+    kept = (FOLDER / f"{newest}.tar").read_bytes()
+    made = io.BytesIO()
+    with tarfile.open(fileobj=made, mode="w") as archive, tarfile.open(fileobj=io.BytesIO(kept)) as was:
+        for it in was:
+            archive.addfile(it, was.extractfile(it))
+        for name in ("/etc/evil", "../evil", "conf/../../evil", "conf/evil.sh", "beside/../evil", "titles/evil"):
+            about = tarfile.TarInfo(name)
+            about.size = 4
+            archive.addfile(about, io.BytesIO(b"evil"))
+        link = tarfile.TarInfo("conf/club.titles2")
+        link.type, link.linkname = tarfile.SYMTYPE, "/etc/shadow"
+        archive.addfile(link)
+    (FOLDER / f"{newest}.tar").write_bytes(made.getvalue())
+    for it in [*CONF.iterdir(), *HOME.glob("club*")]:
+        shutil.rmtree(it) if it.is_dir() else it.unlink()
+    same("an archive of others", run_as("root", "clubdesk-setup", "--from", "elsewhere:clubs/club", folder="/")[0], 0)
+    found = [str(it) for top in (Path("/etc"), Path("/srv"), HOME, Path("/")) for it in top.glob("**/evil*" if top != Path("/") else "evil*")]
+    same("nothing elsewhere", (found, sorted(it.name for it in CONF.iterdir())), ([], ["club.conf", "club.health", "club.titles"]))
+    (FOLDER / f"{newest}.tar").write_bytes(b"no archive")
+    for it in [*CONF.iterdir(), *HOME.glob("club*")]:
+        shutil.rmtree(it) if it.is_dir() else it.unlink()
+    status, _, errors = run_as("root", "clubdesk-setup", "--from", "elsewhere:clubs/club", folder="/")
+    same("an archive that is none", (status, "can't be read" in errors, "Traceback" in errors), (1, True, False))
+
+
+CONF.mkdir(exist_ok=True)
+sshd = Sshd()
+run("install", "-d", "-o", "clubdesk", "/srv/pages")
+(CONF / "club.titles").write_text("# titles\n")
+(CONF / "club.conf").write_text(f"FILE={CLUB}\nZONE=UTC0\nPORT=1\n")
+done("new")
+server = Service(at=f"{datetime.date.today()}T08:00")
+configure(OFFSITE="elsewhere:clubs/club")
+amy = make_club()
+keeper = Keeper()
+within_a_minute(keeper)
+beside()
+listed()
+restored_from_there()
+host_down(sshd, keeper)
+nobody_looks(keeper)
+kept_by_rule()
+torn()
+full_there()
+mounted()
+public_name()
+counted()
+brought_back()
+hostile_archive()
+sshd.stop()
+leave()

@@ -1,0 +1,177 @@
+#!/usr/bin/env bats
+# `bin/proved` builds what is stale and nothing else; an interrupted build leaves no program that counts.
+#
+# It goes by the sources' checksum, and two calls build once.
+#
+# Over four small crates and a stand-in for rt, which writes down when it begins and ends. Libraries are built side by side, as many as
+# PROVED_AT_ONCE says, each after those below it; an edit in the course of a build builds again; a build that is stopped ends each rt and
+# leaves no rooms; a program that was there half or was killed doesn't count either; what fails is shown, with status 125. Not part of the
+# gate.
+# groups: package
+# wants: bats
+
+# A clone that was built.
+setup() {
+    bats_require_minimum_version 1.5.0
+    cd "$BATS_TEST_TMPDIR"
+    mkdir -p clone/bin path rooms
+    for crate in low left right top; do mkdir -p "clone/crates/$crate/src" && echo "$crate" >"clone/crates/$crate/src/lib.rt"; done
+    printf 'low:\nleft: low\nright: low\ntop: left right\n' >clone/crates.txt
+    echo 'Handles allowed: none.' >clone/HANDLES
+    cp "$BATS_TEST_DIRNAME/../../bin/proved" "$BATS_TEST_DIRNAME/../../bin/build_program" clone/bin/
+    cat >path/rt <<'RT'
+#!/bin/sh
+crate=$(basename "$PWD")
+echo "begin $crate" >>"$WORK/calls"
+for below in $([ "$1" = run ] || sed -n "s/^$crate://p" ../../crates.txt); do
+    cmp -s "../$below/src/lib.rt" "../$below/out/rlib/stamp" || { echo "$crate: $below isn't built"; exit 1; }
+done
+[ "$crate" != "${FAILS-}" ] || { echo "$crate isn't proved"; exit 1; }
+mkdir -p out/rlib
+if [ "$1" = run ]; then
+    printf '#!/bin/sh\necho runs "$@"\n' >"out/$crate"
+    chmod +x "out/$crate"
+fi
+sleep "${TAKES:-0.3}"
+[ "$1" = run ] || cp src/lib.rt out/rlib/stamp
+echo "end $crate" >>"$WORK/calls"
+RT
+    chmod +x path/rt
+    export WORK=$PWD TMPDIR=$PWD/rooms PATH=$PWD/path:$PATH
+    PROVED_AT_ONCE=4 built 4
+    [ "$(most)" = 2 ]
+    [ "$(sed -n 1,2p calls | xargs)" = 'begin low end low' ]
+    [ "$(tail -n 2 calls | xargs)" = 'begin top end top' ]
+    [ "$(grep -c '^top: [a-z]* is proved ([0-9]* s), [0-3] left$' said)" = 4 ]
+}
+
+# built COUNT: the program runs, and rt is called for so many crates.
+built() {
+    : >calls
+    [ "$(clone/bin/proved top a 'b c' 2>said)" = 'runs a b c' ]
+    [ "$(grep -c begin calls) $(grep -c end calls)" = "$1 $1" ]
+    [ -z "$(ls rooms)" ]
+    [ ! -e clone/crates/top/out/build.started ]
+    for crate in low left right; do cmp "clone/crates/$crate/out/rlib/stamp" "clone/crates/$crate/src/lib.rt"; done
+}
+edit() {
+    sleep 0.05
+    echo more >>"clone/crates/$1/src/lib.rt"
+    : >calls
+}
+# most: how many rt ran at once.
+most() { awk '/begin/ { n++ } /end/ { n-- } n > m { m = n } END { print m }' calls; }
+# wait_for LINE: until rt has written this line.
+wait_for() {
+    for _ in $(seq 100); do ! grep -qx "$1" calls || return 0; sleep 0.1; done
+    return 1
+}
+proved_behind() { clone/bin/proved top "$@" >out 2>said 3>&- & }
+
+@test 'a second call builds nothing' {
+    built 0
+    [ ! -s said ]
+}
+
+@test 'one at a time, behind an edit' {
+    edit left
+    PROVED_AT_ONCE=1 built 4
+    [ "$(most)" = 1 ]
+}
+
+@test 'files that were touched, and an edit that was put back, build nothing' {
+    touch clone/crates.txt clone/crates/low/src/lib.rt
+    built 0
+    edit low
+    echo low >clone/crates/low/src/lib.rt
+    built 0
+    [ ! -s said ]
+    [ -z "$(find clone/crates/*/src -newer clone/crates/top/out/top)" ]
+}
+
+@test 'a file that is gone, and one that is new, build again' {
+    echo two >clone/crates/low/src/two.rt
+    built 4
+    sleep 0.05
+    rm clone/crates/low/src/two.rt
+    built 4
+}
+
+@test 'a crate that stands on one more builds again' {
+    sleep 0.05
+    sed -i 's/^right: low/right: low left/' clone/crates.txt
+    built 4
+}
+
+@test 'a program without a checksum is built again' {
+    rm clone/crates/top/out/build.sum
+    touch clone/crates/low/src/lib.rt
+    built 4
+}
+
+@test 'a number that is none' {
+    edit low
+    PROVED_AT_ONCE=none run ! clone/bin/proved top
+    [[ $output == *"PROVED_AT_ONCE is a number above 0, not 'none'"* ]]
+}
+
+@test 'an edit in the course of a build' {
+    edit low
+    proved_behind
+    wait_for 'begin left'
+    echo more >>clone/crates/left/src/lib.rt
+    wait "$!"
+    built 4
+}
+
+# stopped SIGNAL: ends each rt, and leaves no rooms and no program that counts as built.
+stopped() {
+    edit low
+    # A background command ignores INT.
+    TAKES=1 env --default-signal=INT clone/bin/proved top >out 2>said 3>&- &
+    wait_for 'begin low'
+    kill -s "$1" "$!"
+    status=0; wait "$!" || status=$?
+    [ "$status" != 0 ]
+    sleep 1.5
+    run ! grep end calls
+    [ -z "$(ls rooms)" ]
+    [ -e clone/crates/top/out/build.started ]
+    built 4
+}
+
+@test 'a build that is stopped by TERM' { stopped TERM; }
+@test 'a build that is stopped by INT' { stopped INT; }
+@test 'a build that is stopped by HUP' { stopped HUP; }
+
+@test 'a build that is killed, when the program is there and newer than its sources' {
+    edit low
+    TAKES=1 proved_behind
+    wait_for 'begin top'
+    sleep 0.3
+    kill -KILL "$!"
+    wait "$!" || :
+    sleep 1
+    [ "$(clone/crates/top/out/top)" = runs ]
+    [ -z "$(find clone/crates/*/src -newer clone/crates/top/out/top)" ]
+    rm -rf rooms/*
+    built 4
+}
+
+@test 'a crate that fails' {
+    edit right
+    FAILS=right run -125 clone/bin/proved top
+    [[ $output == *'top: right could not be proved and built; '*'/crates/top/out/build.log ends:'* ]]
+    [ "${lines[-1]}" = "right isn't proved" ]
+    built 4
+}
+
+@test 'two calls at once' {
+    edit low
+    proved_behind first
+    wait_for 'begin low'
+    [ "$(clone/bin/proved top second 2>waited)" = 'runs second' ]
+    wait "$!"
+    [ "$(cat out) $(grep -c begin calls)" = 'runs first 4' ]
+    grep -q '^top: waiting for the end of another build in ' waited
+}

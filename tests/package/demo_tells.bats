@@ -1,0 +1,91 @@
+#!/usr/bin/env bats
+# `bin/demo` prints tests/package/demo.told, and ends its server whatever happens.
+#
+# It installs missing `curl` and `sqlite3` or names them. It ends even a server that doesn't listen, and after a signal.
+#
+# When it can't continue it says why and exits, as root and as another user.
+# groups: pages
+# wants: bats curl sqlite3
+
+# Makes a folder with this machine's commands, without those that may be missing.
+setup() {
+    bats_require_minimum_version 1.5.0
+    load ../lib/serving.sh
+    cd "$BATS_TEST_TMPDIR"
+    some=$PWD/some
+    mkdir some
+    ln -s /usr/bin/* some/
+    set -o pipefail
+    rm -f some/curl some/sqlite3 some/apt-get some/id
+    CLUBDESK=$desk PASSTOOL=$tool
+    export CLUBDESK PASSTOOL
+}
+
+# put NAME: adds a command to that folder, from standard input. is_user NUMBER: sets the user's id.
+put() { cat >"some/$1" && chmod +x "some/$1"; }
+is_user() { echo "echo $1" | put id; }
+demo() { "$here/../../bin/demo"; }
+demo_of_some() { PATH=$some demo; }
+
+# says_what_is_missing: the demo prints nothing on standard output, and names the missing commands and the line to type.
+says_what_is_missing() {
+    run -1 --separate-stderr demo_of_some
+    [ -z "$output" ]
+    [ "$stderr" = 'demo: these commands are missing: curl sqlite3. Root installs them so: apt-get install curl sqlite3' ]
+}
+
+# Replaces the desk with one whose server records its process id and never listens.
+silent_desk() {
+    # shellcheck disable=SC2016 # another shell reads it
+    printf '#!/bin/sh\n[ "$1" = serve ] || exec %s "$@"\necho $$ >%s/server\nexec sleep 600\n' "$desk" "$PWD" >silent
+    chmod +x silent
+    CLUBDESK=$PWD/silent
+}
+# ended: waits until that server is gone.
+ended() { for _ in $(seq 20); do kill -0 "$(cat server)" 2>/dev/null || return 0; sleep 0.1; done; return 1; }
+
+@test 'with all commands' {
+    demo | cmp - "$here/demo.told"
+}
+
+@test 'root without apt-get' {
+    is_user 0
+    says_what_is_missing
+}
+
+@test 'another user than root, who does not call apt-get' {
+    is_user 1000
+    printf 'touch %s/called\n' "$PWD" | put apt-get
+    says_what_is_missing
+    [ ! -e called ]
+}
+
+@test 'an apt-get that knows its packages only after an update' {
+    is_user 0
+    put apt-get <<APT
+echo "\$*" >>$PWD/installs
+case "\$*" in
+    *update) touch $PWD/known ;;
+    *install*) [ -e $PWD/known ] && ln -s $(command -v curl) $(command -v sqlite3) $some/ ;;
+esac
+APT
+    demo_of_some | cmp - "$here/demo.told"
+    [ "$(grep -c 'install curl sqlite3$' installs)" = 2 ]
+}
+
+@test 'a server that does not listen' {
+    silent_desk
+    run ! --separate-stderr demo
+    [ "$stderr" = 'demo: the server does not listen' ]
+    ended
+}
+
+@test 'a signal' {
+    silent_desk
+    "$here/../../bin/demo" >told 2>said 3>&- &
+    for _ in $(seq 100); do [ ! -s server ] || break; sleep 0.1; done
+    kill "$!"
+    status=0; wait "$!" || status=$?
+    [ "$status" != 0 ]
+    ended
+}

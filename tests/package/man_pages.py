@@ -1,0 +1,57 @@
+#!/usr/bin/env -S /usr/bin/python3 -B -m pytest -q -p no:cacheprovider
+"""The manual pages are clean to `mandoc`, and have the commands, options and statuses of `--help`.
+
+They have no others. That of office is only held against `mandoc` here, and against its `--help` by tests/office/office_holds.py. It refers to
+the pages of sudo, which has to be there. Not part of the gate.
+"""
+# groups: package quick
+# wants: python3-pytest mandoc sudo
+
+import re
+import subprocess
+
+import pytest
+
+import desk
+from helps import names_of, options_of, printed, words_of
+
+MAN = desk.ROOT / "man"
+
+
+def by_help(program):
+    """Each command, with it each of its words, options and their values, and each status."""
+    top, found = printed(program, "--help"), {"help command"}
+    for command in names_of(top):
+        text = printed(program, "help", command) if command != "help" else ""
+        values = {f"--{name}": value for name, value in options_of(text).items() if name != "help"}
+        found |= {command, *(f"{command} {it}" for it in [*words_of(text), *values, *filter(None, values.values())])}
+    return found | {f"status {it}" for it in re.findall(r"^  ([0-9])  ", top.partition("Exit status:")[2], re.MULTILINE)}
+
+
+def listed(page, heading, item):
+    """What the items of a list of the page have after its first words."""
+    return re.findall(rf"^\.It {item}(.*)", re.search(rf"^{heading}\n(.*?)^\.El", page, re.MULTILINE | re.DOTALL)[1], re.MULTILINE)
+
+
+def by_page(page):
+    """The same of a page's lists of commands and statuses."""
+    found = {f"status {it}" for it in listed(page, r"\.Sh EXIT STATUS", "(?=[0-9])")}
+    for command, *words in map(str.split, listed(page, "The commands are:", "Cm ")):
+        found |= {command, *(f"{command} {'-' * (it[0] == '-')}{it}" for it in words if re.fullmatch("-.*|[A-Z]+|command", it))}
+    return found
+
+
+@pytest.mark.parametrize("name", ["clubdesk", "passtool"])
+def test_page_has_what_the_help_shows(name):
+    page = (MAN / f"{name}.1").read_text(encoding="utf-8")
+    found, wanted = by_page(page), by_help(desk.program(name))
+    assert len(wanted) > 20
+    assert sorted(found ^ wanted) == []
+    explained = {it.rpartition("Fl -")[2].split()[0] for it in listed(page, "The options are:", "") if "Fl -" in it}
+    assert explained - {"help", "version"} == {it.partition(" --")[2] for it in found if " --" in it}
+
+
+def test_mandoc_has_nothing_to_say():
+    """In the pages' folder, where they find one another. That the machine's own index of pages is old is nothing that these have to mend."""
+    said = subprocess.run(["mandoc", "-T", "lint", "clubdesk.1", "passtool.1", "office.1"], cwd=MAN, capture_output=True, text=True, check=False)
+    assert not [it for it in (said.stdout + said.stderr).splitlines() if "outdated mandoc.db" not in it]

@@ -1,0 +1,210 @@
+#!/bin/sh
+# The claims of docs/RUNNING.md hold of installations, units, copies and a full disk.
+#
+# Installations are whole or not at all, and units forbid no call of the desk.
+#
+# The units are tried by systemd's own tools. Wants root. Not part of the gate.
+# groups: pages package root
+# wants: curl sqlite3 openssl strace systemd util-linux tzdata
+set -eu
+. "$(dirname -- "$0")/../lib/serving.sh"
+[ "$(id -u)" = 0 ] || { echo "$0 wants root, for another user and a small disk" >&2; exit 2; }
+top=$(CDPATH='' cd -P -- "$here/../.." && pwd)
+PATH=/usr/sbin:/sbin:$PATH
+. "$here/../lib/checks.sh"
+disk=
+# stop: ends the server.
+stop() {
+    kill "$server"
+    wait "$server" 2>/dev/null || :
+    server=
+}
+leave_all() {
+    if [ -n "$disk" ]; then umount -l "$disk" 2>/dev/null || :; fi
+    leave
+}
+trap leave_all EXIT
+
+# asks METHOD PATH [BODY]: the reply to a request at $port under the pass in the file `pass`, its status after it.
+asks() {
+    curl -sS --max-time 20 --noproxy '*' -w ' %{http_code}\n' -X "$1" -H "Authorization: Bearer $(cat pass)" ${3:+-d "$3"} "http://127.0.0.1:$port/$2"
+}
+
+# A club of this name with a member of 10,000 points, a court with 50 places, and the pass in the file `pass`.
+make_club() {
+    for words in "add-member $1 amy 99" "credit $1 amy 10000" "add-facility $1 court-1 court 50 1 0 24"; do
+        # shellcheck disable=SC2086 # a command's words
+        "$desk" $words >told
+    done
+    "$desk" add-key "$1" amy-1 amy "$(openssl rand -hex 32)" >pass
+}
+
+export CLUBDESK="$desk" PASSTOOL="$tool"
+
+# ---- An installation.
+sums() { (cd "$1" && find . -type f -exec sha256sum {} + | sort -k 2); }
+"$top/bin/install" local >told
+for file in clubdesk passtool; do
+    cmp "$top/man/$file.1" "local/share/man/man1/$file.1"
+    [ "$(stat -c %a "local/bin/$file")" = 755 ] || fail "local/bin/$file has another mode"
+done
+version=$("$top/bin/version")
+same 'the installed programs' "clubdesk $version passtool $version" "$(local/bin/clubdesk --version) $(local/bin/passtool --version)"
+
+# refused WHAT WORDS..: the installation is refused with a line on standard error, and the folder `local` and its files stay.
+refused() {
+    what=$1
+    shift
+    sums local >before
+    if "$@" >told 2>said; then fail "$what: it installs"; fi
+    grep -q 'nothing was installed' said || fail "$what: $(cat said)"
+    sums local | cmp - before || fail "$what: it left something else"
+    checks=$((checks + 1))
+}
+echo old >local/bin/clubdesk
+chmod 755 "$work" local
+# Another user may not see the repository, so the script is copied; it looks at the folder first.
+cp "$top/bin/install" installing
+refused 'no leave to write' runuser -u nobody -- sh "$work/installing" "$work/local"
+refused 'no folder to make' runuser -u nobody -- sh "$work/installing" "$work/other"
+[ ! -e other ] || fail 'a refused installation made its folder'
+refused 'files that get too long' sh -c "ulimit -f 1000; '$top/bin/install' local 2>&1 | cat >&2; exit 1"
+mkdir local/share/man/man1/x && mv local/share/man/man1/passtool.1 local/share/man/man1/x && mv local/share/man/man1/x local/share/man/man1/passtool.1
+refused 'a folder at a name' "$top/bin/install" local
+rm -r local
+if sh -c "ulimit -f 1000; '$top/bin/install' local" >told 2>&1; then fail 'it installs'; fi
+[ ! -e local ] || fail 'a refused installation left its folders'
+"$top/bin/install" local >told
+
+# ---- The units: those that start something are whole, keep to themselves, and name what there is.
+mkdir units
+for file in "$top"/deploy/*.service "$top"/deploy/*.timer; do
+    sed "s,/usr/bin/clubdesk,$PWD/local/bin/clubdesk,; s,/usr/lib/clubdesk/,$top/deploy/,; s,/etc/clubdesk/,$PWD/," "$file" >"units/${file##*/}"
+done
+sed "s,/var/lib/clubdesk/club,$PWD/state/club," "$top/deploy/club.conf" >club.conf
+unit=units/clubdesk@.service
+exposure=
+for file in units/*; do
+    holds "$file" env SYSTEMD_UNIT_PATH="$PWD/units:" systemd-analyze verify --man=no "$(echo "$file" | sed 's/@/@club/')"
+    same "what is said of $file" '' "$(cat told)"
+    case $file in *report@* | *.timer) continue ;; esac
+    found=$(systemd-analyze security --offline=yes --no-pager "$file" | sed -n 's/.*exposure level for [^:]*: \([0-9.]*\).*/\1/p')
+    awk -v found="$found" 'BEGIN { exit !(found != "" && found < 1.5) }' || fail "the exposure of $file is $found"
+    exposure="$exposure $found"
+    checks=$((checks + 1))
+done
+
+# Its command, with the variables of the example but another port, for another user, with its mask, under strace: a club that isn't there
+# is made, a request is answered, and each call is one that the unit allows. Before it, the unit looks whether the club is there.
+# shellcheck source=/dev/null disable=SC2034 # its line has the variables of the configuration
+command=$(. ./club.conf; PORT=0; eval "echo $(sed -n 's/^ExecStart=//p' "$unit")" | sed 's/--count 1000000/--count 2/')
+mkdir -m 700 state
+chown nobody state
+mask=$(sed -n 's/^UMask=//p' "$unit")
+runuser -u nobody -- sh -c "umask $mask; exec strace -f -o state/calls $command" >listening 2>log &
+server=$!
+read -r line <listening
+port=${line##*:}
+same 'the unit' '{"fault":4,"text":"no pass"} 401' "$(curl -sS -w ' %{http_code}' "http://127.0.0.1:$port/account")"
+same 'the unit, again' '{"fault":2,"text":"no such path"} 404' "$(curl -sS -w ' %{http_code}' "http://127.0.0.1:$port/")"
+finish
+same 'the lines of its log' 2 "$(grep -cE '^20[0-9-]+T[0-9:]+ GET /[a-z]* 40[14] [0-9]+$' log)"
+same 'the modes of its files' '600 600' "$(stat -c %a state/club state/club-wal | xargs)"
+holds 'its calls' /usr/bin/python3 "$here/running_holds.py" "$unit" state/calls
+same "a zone's rule" CET-1CEST,M3.5.0,M10.5.0/3 "$(tail -n 1 /usr/share/zoneinfo/Europe/Berlin)"
+grep -qxF "ZONE=$(tail -n 1 /usr/share/zoneinfo/Europe/Berlin)" club.conf || fail 'the example has another zone'
+
+# ---- Copies while the club is written to: 900 bookings, each cancelled, in the course of which the desk copies its log into its file.
+make_club club
+serve club 100000 2026-04-20T12:00
+awk -v pass="$(cat pass)" -v port="$port" 'BEGIN { for (i = 1; i <= 900; i++) for (put = 1; put >= 0; put--) {
+    if (i > 1 || !put) print "next"
+    printf "request = %s\nheader = \"Authorization: Bearer %s\"\n", put ? "PUT" : "DELETE", pass
+    if (put) print "data = \"{\\\"guests\\\":0}\""
+    printf "write-out = \"\\n\"\nurl = http://127.0.0.1:%d/slots/court-1/2026-05-%02d/%02d/bookings/%d\n", port, 1 + i % 28, i % 24, i } }' >asked
+{ curl -sS -K asked >answered && touch answered.all; } &
+client=$!
+copies=0
+while [ ! -e answered.all ] && [ "$copies" -lt 500 ]; do
+    copies=$((copies + 1))
+    holds "copy $copies" "$top/deploy/back_up" club "copy.$copies"
+    [ ! -e "copy.$copies-wal" ] || fail "copy $copies has a log"
+    # The bookings are the first ones, all but the last of them cancelled, and the totals are their sums.
+    same "the bookings of copy $copies" 1 \
+        "$(sqlite3 "copy.$copies" 'SELECT count(*) = coalesce(max(number), 0) AND total(cancelled = 0) <= 1 FROM bookings')"
+    same "the totals of copy $copies" '' "$(unsound "copy.$copies")"
+    sqlite3 "copy.$copies" 'SELECT count(*) FROM bookings' >>counts
+done
+wait "$client" || { kill -0 "$server" || echo 'the server is gone' >&2; cat fault >&2; exit 1; }
+[ "$(grep -c '"refund":1}' answered)" = 900 ] || fail "$(grep -vc '"refund":1}\|"charge":1,' answered) requests were refused"
+[ "$(sort -un counts | wc -l)" -ge 3 ] || fail "the copies were made at one time: $(xargs <counts)"
+same 'a sheet meanwhile' 'Day sheet 2026-05-01' "$("$desk" sheet club 2026-05-01 2>&1 | head -n 1)"
+rm copy.*
+
+# ---- Restored: the same bytes, and what came after the copy is gone.
+first=slots/court-1/2026-06-01/10 second=slots/court-1/2026-06-01/11
+asks PUT $first/bookings/1001 '{"guests":4}' >told
+shown() { for path in account $first $second slots/court-1/2026-05-02/01; do asks GET "$path"; done; }
+shown >wanted
+"$top/deploy/back_up" club copy >told
+same 'a copy' 'backed up, with 901 bookings' "$(cat told)"
+asks PUT $second/bookings/1002 '{"guests":4}' >told
+stop
+# The same, if the desk copies its log into its file between the copies of the two.
+copy club racing
+mkdir path
+cat >path/cp <<CP
+#!/bin/sh
+$(command -v cp) "\$@"
+case "\$*" in
+    *racing*/copy) [ -e between ] || { touch between && "$desk" sheet racing 2026-05-01 >sheet; } ;;
+esac
+CP
+chmod +x path/cp
+same 'a copy that the desk gets between' 'backed up, with 902 bookings' "$(PATH=$PWD/path:$PATH "$top/deploy/back_up" racing raced)"
+[ -s sheet ] || fail 'nothing got between'
+mv club lost
+mv club-wal lost-wal
+cp copy club
+serve club 100 2026-04-20T12:00
+same 'what is restored' "$(cat wanted)" "$(shown)"
+same 'a repeat' '{"booking":"amy-1/1001","charge":5,"left":45} 200' "$(asks PUT $first/bookings/1001 '{"guests":4}')"
+same 'what came after' '{"fault":15,"text":"no such booking"} 404' "$(asks DELETE $second/bookings/1002)"
+stop
+ln club second
+same 'a hard link' 'storage failed' "$("$desk" sheet club 2026-05-01 2>&1 || :)"
+rm second
+mv lost club
+mv lost-wal club-wal
+same 'the file that was put away, with its log' 1 "$("$desk" sheet club 2026-06-01 | grep -c ' 1002 ')"
+printf broken >bad
+if "$top/deploy/back_up" bad copy.bad >told 2>said; then fail 'a broken file is copied'; fi
+[ ! -e copy.bad ] || fail 'a copy of a broken file is left'
+
+# ---- A full disk: nothing is booked, and what changes nothing is answered. Once there is room, all goes on.
+disk=$work/disk
+mkdir "$disk"
+mount -t tmpfs -o size=700k tmpfs "$disk" || { disk=; fail 'no small disk could be made'; }
+make_club "$disk/club"
+serve "$disk/club" 1000 2026-04-20T12:00
+asks PUT slots/court-1/2026-05-01/10/bookings/1 '{"guests":0}' >told
+dd if=/dev/zero of="$disk/fill" bs=1k 2>/dev/null || :
+number=1
+while grep -q '"charge"' told && [ "$number" -lt 90 ]; do
+    number=$((number + 1))
+    asks PUT "slots/court-1/2026-05-02/$((10 + number % 10))/bookings/$number" '{"guests":0}' >told
+done
+same 'a full disk' '{"fault":22,"text":"unavailable"} 503' "$(cat told)"
+same 'the account' "{\"member\":\"amy\",\"balance\":$((10001 - number)),\"quota\":99,\"open\":$((number - 1)),\"spent\":$((number - 1))} 200" \
+    "$(asks GET account)"
+same 'a booking' '{"fault":22,"text":"unavailable"} 503' "$(asks PUT slots/court-1/2026-05-04/10/bookings/99 '{"guests":0}')"
+# A copy isn't tried again and again there, and says so in a line.
+begun=$(date +%s)
+if "$top/deploy/back_up" "$disk/club" "$disk/copy" >told 2>said; then fail 'a full disk takes a copy'; fi
+same 'the lines of a refused copy' 1 "$(wc -l <said)"
+[ $(($(date +%s) - begun)) -lt 5 ] || fail "a copy to a full disk takes $(($(date +%s) - begun)) s"
+same 'what it leaves' '' "$(find "$disk" -name '.back_up*' -o -name copy)"
+rm "$disk/fill"
+same 'room again' '{"booking":"amy-1/99","charge":1,"left":49} 200' "$(asks PUT slots/court-1/2026-05-04/10/bookings/99 '{"guests":0}')"
+stop
+echo "$checks checks of running the desk passed, $copies copies while it was written to, the units' exposure$exposure"

@@ -1,0 +1,13 @@
+#!/bin/sh
+# The pages are those that `bin/pages` makes of web/src, and the modules pass their tests.
+#
+# These are the tests of web/tests, by Node's runner.
+#
+# Not part of the gate.
+# groups: browser quick
+# wants: nodejs
+set -eu
+cd "$(dirname -- "$0")/../.."
+bin/pages --check
+for module in web/src/*.mjs web/tests/*.mjs; do node --check "$module"; done
+exec node --test web/tests/

@@ -1,0 +1,144 @@
+#!/usr/bin/env -S /usr/bin/python3 -B
+"""The desks in C and in Go of `tests/peers/beside.py` give the stated answers to the scenarios' lines that they know.
+
+They know views, bookings and accounts, under passes in V2 with four kinds of caveats.
+
+A scenario is played up to the first line that they don't know, such as a cancellation. `clubdesk` carries out commands and listings, over the
+same file. The desk in C writes the same bytes as ours. The desk in Go writes the lines of a head in another order, and is left out if Go is
+missing. Not part of the gate.
+
+    tests/peers/scenarios_beside.py [FILE ..]
+"""
+# groups: programs
+# wants: gcc libc6-dev libsqlite3-dev nettle-dev golang-go golang-github-mattn-go-sqlite3-dev golang-gopkg-macaroon.v2-dev
+
+import os
+import re
+import shutil
+import signal
+import subprocess
+import sys
+import tempfile
+from pathlib import Path
+
+sys.dont_write_bytecode = True
+sys.path[:0] = [str(Path(__file__).resolve().parents[1] / it) for it in ("lib", "desk", "")]
+import desk as programs
+import scenario_lines as lines
+from reference import caveats, passes, wire
+from scenario_lines import Crash, Fault, Reopen, Request
+from scenario_players import Difference, Programs, compare, runs
+from scenarios import whole
+
+KNOWN_CAVEATS = (b"guests <= ", b"until < ", b"spend <= ", b"actions = ")
+KNOWN_FAULTS = {4, 9, 10, 11, 12, 13, 14, 16, 17, 18, 19, 20}
+STATEMENTS = "KEY OLDER_ROOT MEMBER FACILITY SLOT BOOKING COSTS_UNDER_KEY OPEN ADD_BOOKING ADD_TAKEN CHARGE".split()
+
+
+def knows(event):
+    """Tells whether the desks know what a line asks."""
+    if not isinstance(event, Request):
+        return not isinstance(event, Crash) and not (isinstance(event, Reopen) and event.version)
+    try:
+        text, request = wire.decoded(event.data("v2"))
+        given = passes.read(text)
+    except (wire.NotDecoded, passes.NoPass):
+        return False
+    fault = re.match(rb'\{"fault":(\d+)', event.reply.body)
+    is_plain = event.pieces[0].endswith(b" HTTP/1.1\r\nHost: club\r\n") and passes.text_of(given, "v2") == text
+    return (is_plain and request.action != "cancel" and (not fault or int(fault[1]) in KNOWN_FAULTS)
+            and all(it.startswith(KNOWN_CAVEATS) and caveats.test_of(it) or it == b"shoe = red" for it in given.caveats))
+
+
+def known(scenario):
+    """Returns the events before the first one that the desks don't know."""
+    for number, event in enumerate(scenario.events):
+        if not knows(event):
+            return scenario.events[:number]
+    return scenario.events
+
+
+class Server(programs.Server):
+    """A server that isn't ours, with its own command line."""
+
+    killed_by = signal.SIGTERM
+
+    def __init__(self, words, file, moment, statements):
+        super().__init__(words[0], file, None, given=statements)
+        self.command = [*words, str(file), str(moment)]
+
+
+class Beside(Programs):
+    """Plays requests by another desk, and commands by `clubdesk`, over the same file."""
+
+    def __init__(self, desk, folder, words, statements, has_order):
+        super().__init__(desk, folder)
+        self.words, self.statements, self.has_order = words, statements, has_order
+
+    def play(self, scenario, form):
+        with tempfile.TemporaryDirectory(dir=self.folder) as folder:
+            self.file, self.form = Path(folder, "club"), form
+            programs.copy(self.made(scenario), self.file)
+            for run in runs(known(scenario)):
+                if isinstance(run[0], Request):
+                    self.serve(run)
+                else:
+                    self.happens(run[0])
+
+    def serve(self, requests):
+        with Server(self.words, self.file, requests[0].moment, self.statements) as server:
+            for it in requests:
+                found = server.exchange(it.data(self.form))
+                compare(it, *((it.reply.data, found) if self.has_order else (in_order(it.reply.data), in_order(found))))
+
+
+def in_order(reply):
+    """Sorts the lines of a reply's head, and drops those that only another server adds."""
+    head, _, body = reply.partition(b"\r\n\r\n")
+    return b"\r\n".join([*sorted(it for it in head.split(b"\r\n") if not it.startswith((b"Date: ", b"Server: "))), body])
+
+
+def statements(folder):
+    """Writes our SQL statements that the desks prepare into a file, one a line."""
+    source = (programs.ROOT / "crates" / "club_tables" / "src" / "texts.rt").read_text(encoding="utf-8")
+    texts = dict(re.findall(r'const (\w+): &str = "(.*?)";', source, re.DOTALL))
+    path = Path(folder, "statements")
+    path.write_text("".join(re.sub(r"\\\n *", "", texts[name]) + "\n" for name in STATEMENTS), encoding="utf-8")
+    return path
+
+
+def desks(folder):
+    """Builds the desks. Yields the name of each, its command line, and whether its heads are in our order."""
+    in_c, in_go = Path(folder, "desk_in_c"), Path(folder, "desk_in_go")
+    subprocess.run(["cc", "-O2", "-o", in_c, programs.TESTS / "peers" / "beside_c" / "desk.c", "-lsqlite3", "-lnettle"], check=True)
+    yield "C", [str(in_c)], True
+    if shutil.which("go"):
+        subprocess.run(["go", "build", "-tags", "libsqlite3", "-o", in_go, "."], check=True, cwd=programs.TESTS / "peers" / "beside_go",
+                       env={**os.environ, "GO111MODULE": "off", "GOPATH": "/usr/share/gocode", "GOCACHE": str(Path(folder, "cache"))})
+        yield "Go", [str(in_go)], False
+    else:
+        print("no Go here: its desk isn't played")
+
+
+def main():
+    scenarios = [it for path in lines.files(sys.argv[1:]) for it in whole(path)]
+    count, faults = sum(isinstance(event, Request) for it in scenarios for event in known(it)), []
+    clubdesk = programs.program("clubdesk")
+    with tempfile.TemporaryDirectory(dir=programs.IN_MEMORY) as folder:
+        for name, words, has_order in desks(folder):
+            player = Beside(clubdesk, folder, words, statements(folder), has_order)
+            for it in scenarios:
+                try:
+                    player.play(it, "v2")
+                except Difference as fault:
+                    faults.append(f"{name}: {fault}")
+            print(f"the desk in {name}: {count} requests that it knows")
+    print(*faults, sep="\n", end="\n" if faults else "")
+    return 1 if faults else 0
+
+
+if __name__ == "__main__":
+    try:
+        sys.exit(main())
+    except Fault as it:
+        sys.exit(str(it))
