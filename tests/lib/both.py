@@ -4,7 +4,8 @@ import desk as programs
 from reference import caveats, club as rules, passes, wire
 
 # The kinds of the values of a command that aren't words or numbers as they are.
-KINDS_OF_VALUES = {"add-key": ("word", "word", "root"), "rotate-key": ("word", "root", "moment"), "close-slot": ("word", "day", "hour"), "open-slot": ("word", "day", "hour")}
+KINDS_OF_VALUES = {"add-key": ("word", "word", "root"), "rotate-key": ("word", "root", "moment"), "close-slot": ("word", "day", "hour"),
+                   "open-slot": ("word", "day", "hour")}
 
 
 def expect(what, found, wanted):

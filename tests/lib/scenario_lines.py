@@ -17,9 +17,12 @@ ESCAPES = {"r": b"\r", "n": b"\n", "t": b"\t", "\\": b"\\"}
 AGAIN = "anywhere in the next line; then the same line again"
 REFUSALS = ("exists", "unknown", "out of range", "slot in use")
 # The kinds of each command's values. OF_KEYS has the commands that print a key's pass, with the place of the root among the values.
-COMMANDS = {"add-member": ("name", "number"), "credit": ("name", "number"), "set-quota": ("name", "number"), "add-facility": ("name", "kind", "number", "number", "number", "number"),
-            "add-key": ("name", "name", "root"), "revoke-key": ("name",), "rotate-key": ("name", "root", "moment"),
-            "close-slot": ("name", "day", "hour"), "open-slot": ("name", "day", "hour")}
+COMMANDS = {
+    "add-member": ("name", "number"), "credit": ("name", "number"), "set-quota": ("name", "number"),
+    "add-facility": ("name", "kind", "number", "number", "number", "number"),
+    "add-key": ("name", "name", "root"), "revoke-key": ("name",), "rotate-key": ("name", "root", "moment"),
+    "close-slot": ("name", "day", "hour"), "open-slot": ("name", "day", "hour"),
+}
 OF_KEYS = {"add-key": 2, "rotate-key": 1}
 
 

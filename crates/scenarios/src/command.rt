@@ -90,6 +90,10 @@ impl<'a> Values<'a> {
                 member: self.name()?,
                 points: self.number()?,
             },
+            "set-quota" => Command::SetQuota {
+                member: self.name()?,
+                quota: self.number()?,
+            },
             "add-facility" => self.facility()?,
             "add-key" => Command::AddKey {
                 name: self.name()?,
@@ -103,6 +107,7 @@ impl<'a> Values<'a> {
                 until: self.moment()?,
             },
             "close-slot" => Command::CloseSlot(self.slot()?),
+            "open-slot" => Command::OpenSlot(self.slot()?),
             _ => return Err(Fault::Rule(NO_COMMAND)),
         })
     }
