@@ -4,7 +4,7 @@ use crate::expect::{expect_eq, expect_reply};
 use crate::reference::answers::Answer;
 use crate::reference::messages::{AMY, AMY_CHANGED, BOB, Event, EventReply, Step};
 use crate::reference::play::{fixture_club, plays};
-use club_core::SlotUse;
+use club_core::{Refusal, SlotUse};
 use club_reference::Club;
 use club_values::{Name, Slot};
 use std::alloc::Global;
@@ -16,7 +16,7 @@ use test_kit::replies::{
 };
 use test_kit::requests::{ACCOUNT, BOOK_2, BOOK_7, CANCEL_7};
 use test_kit::roots::{ROOT, SECOND_ROOT};
-use test_kit::{COURT_AT_18, PlainCommand, minutes};
+use test_kit::{COURT_AT_18, PlainCommand, PlainReply, minutes};
 
 fn amy(rt: &impl Abort) -> Name {
     Name::read(b"amy").expect(rt, "a name")
@@ -129,6 +129,55 @@ fn rotates_the_key_of_another(rt: HostRuntime) {
     others_hold(&rt, &club, None, NOTHING);
     plays(&rt, &mut club, &AFTER_ROTATION);
     plays_alone(&rt, &mut part, NOTHING, &AFTER_ROTATION);
+}
+
+const MARKED_CLOSED: SlotUse = SlotUse {
+    taken: 0,
+    closed: true,
+};
+
+static CLOSES: [Step; 1] = [Step::Gives(PlainCommand::CloseSlot(COURT_AT_18), Answer::Done)];
+
+static OPENS: [Step; 1] = [Step::Gives(PlainCommand::OpenSlot(COURT_AT_18), Answer::Done)];
+
+static CLOSED_TO_AMY: [Step; 1] = [Step::Asks(
+    NOON,
+    AMY,
+    BOOK_7,
+    PlainReply::Refused(Refusal::SlotClosed),
+)];
+
+/// A part sees a closed slot, and one that is opened again, by what is held of it.
+#[test]
+fn opens_a_slot_for_all(rt: HostRuntime) {
+    let mut club = fixture_club(&rt);
+    let mut part = amys_part(&rt, &club);
+    plays(&rt, &mut club, &CLOSES);
+    others_hold(&rt, &club, COURT_AT_18.slot(), MARKED_CLOSED);
+    plays_alone(&rt, &mut part, MARKED_CLOSED, &CLOSED_TO_AMY);
+    plays(&rt, &mut club, &OPENS);
+    others_hold(&rt, &club, COURT_AT_18.slot(), NOTHING);
+    plays_alone(&rt, &mut part, NOTHING, &AMY_BOOKS);
+}
+
+/// A quota without a booking, and then with one.
+static QUOTAS: [Step; 4] = [
+    Step::Gives(PlainCommand::SetQuota("amy", 0), Answer::Done),
+    Step::Asks(
+        NOON,
+        AMY,
+        BOOK_7,
+        PlainReply::Refused(Refusal::QuotaReached),
+    ),
+    Step::Gives(PlainCommand::SetQuota("amy", 1), Answer::Done),
+    Step::Asks(NOON, AMY, BOOK_7, BOOKED_7),
+];
+
+#[test]
+fn a_part_has_its_members_quota(rt: HostRuntime) {
+    let mut club = fixture_club(&rt);
+    plays_alone(&rt, &mut amys_part(&rt, &club), NOTHING, &QUOTAS);
+    plays(&rt, &mut club, &QUOTAS);
 }
 
 static AMY_BOOKS: [Step; 1] = [Step::Asks(NOON, AMY, BOOK_7, BOOKED_7)];
