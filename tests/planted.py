@@ -47,6 +47,7 @@ PLANTS = {
     "machine_lives": ("deploy/Caddyfile", "respond @large 413", "respond @large 414", "a large body: wanted and found"),
     "narrowing_elsewhere": ("examples/narrow.mjs", "signature = await hmac(signature, data)", "await hmac(signature, data)", "'Node.js, v2'"),
     "office_asks": ("deploy/club_office/reading.py", "(place - today.weekday()) % 7)", "(place - today.weekday()) % 7 + 7)", "the day '"),
+    "office_by_commands": ("deploy/club_office/by_commands.py", "held=[turn.file]", "held=[]", "waits for its command: wanted"),
     "office_beside_desk": ("clubdesk", BY_HAND, '[ "$1" != close-slot ] || { echo done; exit; }; exec "$PROGRAM" "$@"', "closed no"),
     "office_beside_desk:removed": ("clubdesk", BY_HAND, '[ "$1" != serve ] || ln -f "$2" "$2.kept"; exec "$PROGRAM" "$@"', "test_file_that_is_gone",
                                    "-k", "is_gone"),

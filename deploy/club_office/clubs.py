@@ -165,10 +165,15 @@ def refuse_to_come(words):
         raise refusal("at is to come", at=moment_text(words.at), now=moment_text(clock()))
 
 
+def run_clubdesk(club, command, words, options=(), root=None, held=()):
+    """Runs a command of clubdesk over the club's file, and returns its end. `held` are descriptors that it keeps open until then."""
+    line = [program("CLUBDESK", "clubdesk"), command, *options, "--", club.file, *words]
+    return subprocess.run(line, input=root, capture_output=True, check=False, stdin=None if root is not None else subprocess.DEVNULL, pass_fds=held)
+
+
 def clubdesk(club, command, words, options=(), root=None):
     """Runs a command of clubdesk over the club's file; its status and what it prints."""
-    line = [program("CLUBDESK", "clubdesk"), command, *options, "--", club.file, *words]
-    done = subprocess.run(line, input=root, capture_output=True, check=False, stdin=None if root is not None else subprocess.DEVNULL)
+    done = run_clubdesk(club, command, words, options, root)
     for said in done.stderr.decode(errors="backslashreplace").splitlines():
         print(in_language(said), file=sys.stderr, flush=True)
     return done.returncode, f"{say('done')}\n".encode() if done.stdout == b"done\n" else done.stdout

@@ -10,7 +10,7 @@ import sqlite3
 import subprocess
 import sys
 
-from club_office import lists, outputs, people, phoning, plans
+from club_office import by_commands, lists, outputs, people, phoning, plans
 from club_office.book import Turn, give_order
 from club_office.closures import reason
 from club_office.clubs import club_named, clubdesk, desk_user, ended_by_itself, forget_environment, now_of, program, show, wants_file
@@ -339,12 +339,12 @@ def at_desk(given):
         return 0
     if words.command == "new-year":
         return correct(club, words, lambda db, found, now: plans.plan_new_year(db, found, now, club))
+    if words.command in by_commands.CORRECTIONS:
+        return by_commands.correct(club, words, command.does, lambda: keep_outputs(club, words))
     if command.kind == CORRECTION:
         status = correct(club, words, command.does or (lambda db, _words, _now: plan_undo(db, club)))
-        if status == 0 and words.command == "close" and words.why:
-            outputs.keep_reasons(club, words)
-        if status == 0 and words.command in ("set-facility", "close", "reopen-slot", "undo"):
-            outputs.page_again(club)
+        if status == 0:
+            keep_outputs(club, words)
         return status
     if command.kind == DESK:
         status = command.does(club, words)
@@ -352,6 +352,14 @@ def at_desk(given):
             outputs.page_again(club)
         return status
     raise fault(USAGE, "clerk's side", command=words.command)
+
+
+def keep_outputs(club, words):
+    """Writes the files beside the club that a correction changes: the reasons of closed slots, and the page's list."""
+    if words.command == "close" and words.why:
+        outputs.keep_reasons(club, words)
+    if words.command in ("set-facility", "close", "reopen-slot", "undo"):
+        outputs.page_again(club)
 
 
 def order_pass(club, words):

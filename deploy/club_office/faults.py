@@ -24,6 +24,15 @@ def refusal(text, /, **values):
     return Fault(REFUSED, say("refused", why=why), why)
 
 
+class NothingLeft(Fault):
+    """A refusal since all is done already. An order that was broken off, and is given again, has then come to its end."""
+
+
+def nothing_left(text, /, **values):
+    why = say(text, **values)
+    return NothingLeft(REFUSED, say("refused", why=why), why)
+
+
 def bad_value(text, /, **values):
     what = say(text, **values)
     return Fault(BAD_VALUE, say("bad value", what=what), what)

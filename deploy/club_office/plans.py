@@ -2,7 +2,7 @@
 
 import collections
 
-from club_office.faults import USAGE, fault, refusal
+from club_office.faults import USAGE, fault, nothing_left, refusal
 from club_office.lists import wants_row
 from club_office.texts import say
 from club_office.values import MOST_CHARGE, MOST_NUMBER, date_of
@@ -11,13 +11,19 @@ from club_office.values import MOST_CHARGE, MOST_NUMBER, date_of
 # The weekday of the first day, 1970-01-01, from Monday on.
 THURSDAY = 3
 Booking = collections.namedtuple("Booking", "key number facility day hour guests charge member")
+# A command of clubdesk, and what it does to the rows of the club.
+Order = collections.namedtuple("Order", "words edits")
+# A row of a table by its key, with other values for some columns, and amounts to add to others.
+Edit = collections.namedtuple("Edit", "table key sets adds", defaults=({}, {}))
 
 
 class Plan:
-    """What a correction does: the lines that the clerk is shown, and statements with their values and how many rows each changes."""
+    """A correction: the lines that the clerk is shown, and the commands of clubdesk that do it. A correction that wants the file has
+    statements, with their values and how many rows each changes."""
 
     def __init__(self):
         self.lines = []
+        self.orders = []
         self.changes = []
         # Queries whose rows are the same before and after.
         self.keeps = []
@@ -43,6 +49,9 @@ class Plan:
             parts += [say(text if count > 1 else text + " one", count=count)] if count else []
         return [*self.lines, say("in all", what=", ".join(parts))]
 
+    def order(self, words, *edits):
+        self.orders.append(Order([str(it) for it in words], edits))
+
     def change(self, rows, sql, *values):
         self.changes.append((rows, sql, values))
 
@@ -62,6 +71,11 @@ class Plan:
 
 def slot_text(facility, day, hour):
     return f"{facility} {date_of(day)} {hour:02d}:00"
+
+
+def slot_words(facility, day, hour):
+    """A slot, as clubdesk's commands take it."""
+    return [facility, date_of(day), f"{hour:02d}"]
 
 
 def persons_text(booking):
@@ -88,7 +102,7 @@ def plan_quota(db, words, _now):
     plan = Plan()
     (before,) = db.execute("SELECT quota FROM members WHERE name = ?", [words.member]).fetchone()
     plan.tell("quota of", member=words.member, before=before, then=words.quota)
-    plan.change(1, "UPDATE members SET quota = ? WHERE name = ?", words.quota, words.member)
+    plan.order(["set-quota", words.member, words.quota], Edit("members", (words.member,), {"quota": words.quota}))
     return plan
 
 
@@ -147,10 +161,10 @@ def plan_reopen(db, words, _now):
         (closed,) = db.execute("SELECT coalesce(max(closed), 0) FROM slots WHERE facility = ? AND day = ? AND hour = ?", where).fetchone()
         if closed:
             plan.tell("opens", slot=slot_text(*where))
-            plan.change(1, "UPDATE slots SET closed = 0 WHERE facility = ? AND day = ? AND hour = ? AND closed = 1", *where)
+            plan.order(["open-slot", *slot_words(*where)], Edit("slots", where, {"closed": 0}))
             plan.opened += 1
-    if not plan.changes:
-        raise refusal("not closed" if end == begin + 1 else "none closed", slot=slot_text(words.facility, words.day, begin))
+    if not plan.orders:
+        raise nothing_left("not closed" if end == begin + 1 else "none closed", slot=slot_text(words.facility, words.day, begin))
     return plan
 
 

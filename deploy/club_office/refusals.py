@@ -67,6 +67,10 @@ REFUSALS = {
         "the order ended with status {status}, but the book can't be written: {fault}",
         "der Befehl endete mit Status {status}, aber das Buch lässt sich nicht schreiben: {fault}",
     ),
+    "command undone": (
+        "{order}: {said}. Give the order again: what is done isn't done twice",
+        "{order}: {said}. Gib den Befehl noch einmal: was getan ist, geschieht nicht zweimal",
+    ),
     "order failed": ("{order}: status {status}", "{order}: Status {status}"),
     "journal unread": ("the journal can't be read: {fault}", "das Journal lässt sich nicht lesen: {fault}"),
     # Names.

@@ -146,6 +146,10 @@ TEXTS = {
     ),
     "closes": ("closes {slot}", "sperrt {slot}"),
     "opens": ("opens {slot} again", "öffnet {slot} wieder"),
+    "was done": (
+        "this was broken off on {moment}, and is done: nothing is left to do",
+        "das brach am {moment} ab und ist erledigt: es bleibt nichts zu tun",
+    ),
     "quota of": ("quota of {member}: {before}, then {then}", "Buchungen zugleich von {member}: {before}, dann {then}"),
     "balance of": ("balance of {member}: {before}, then {then}", "Punktestand von {member}: {before}, dann {then}"),
     "price of": (

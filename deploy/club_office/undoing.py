@@ -1,19 +1,24 @@
-"""Undo of the last correction: what it changed, row by row, is kept beside the club, and put back if nobody has touched these rows since."""
+"""The last correction: what it changes, row by row, is kept beside the club from before it begins. So `undo` puts the rows back that nobody has
+touched since, and a correction that was broken off goes on where it was."""
 
 import contextlib
 import json
 import os
 import time
 
-from club_office.copies import address
+from club_office.copies import address, synced
 from club_office.faults import refusal
 from club_office.plans import Plan
 from club_office.texts import say
 
 TABLES = ("members", "facilities", "keys", "slots", "bookings", "old_roots")
+# The first columns of these tables are the key; of other tables the first one is.
+KEYS = {"slots": 3, "bookings": 2}
 # More rows than these are no correction of a clerk's hand. A new year keeps a file of its own, and an undo is none.
 MOST_ROWS = 5_000
 NOT_UNDONE = "new-year"
+# Options that say how a correction is given, and not what it is.
+NOT_MEANT = ("--yes", "--mail")
 
 
 def undo_of(club):
@@ -46,6 +51,28 @@ def rows_changed(db):
     return found
 
 
+def row_of(db, table, key):
+    """The row of a key, with its rowid before it; None if there is none."""
+    columns = columns_of(db, table)[: KEYS.get(table, 1)]
+    return db.execute(f"SELECT rowid, * FROM {table} WHERE {' AND '.join(f'{it} = ?' for it in columns)}", key).fetchone()
+
+
+def rows_edited(db, edits):
+    """The rows of a copy that the edits of commands change, as `rows_changed` has them. A slot that has no row yet has no rowid."""
+    found = {}
+    for it in edits:
+        columns, place = columns_of(db, it.table), (it.table, *it.key)
+        if place not in found:
+            row = row_of(db, it.table, it.key)
+            found[place] = [it.table, row and row[0], row and list(row[1:]), list(row[1:]) if row else [*it.key, 0, 0]]
+        row = found[place][3]
+        for column, value in it.sets.items():
+            row[columns.index(column)] = value
+        for column, value in it.adds.items():
+            row[columns.index(column)] += value
+    return [[table, rowid, was and [plain(it) for it in was], [plain(it) for it in is_now]] for table, rowid, was, is_now in found.values() if was != is_now]
+
+
 def attach_before(db, copy):
     """Attaches the copy of before a correction, which nobody changes."""
     db.execute("ATTACH ? AS before", [address(copy, "ro") + "&immutable=1"])
@@ -65,32 +92,96 @@ def write_undo(club, db, words):
     if words.command == NOT_UNDONE or len(rows) > MOST_ROWS:
         forget_undo(club)
         return
+    write(club, record_of(words, rows, True)).close()
+
+
+# ---- A correction that is under way, command by command: a line with its record, and further lines with what became of it.
+
+DONE = "done"
+
+
+def record_of(words, rows, is_done):
+    return {"moment": time.strftime("%Y-%m-%d %H:%M"), "words": words.given, "rows": rows, "is_done": is_done}
+
+
+def write(club, record):
+    """Writes a record in place of the last one, and returns its file, for further lines."""
     made = undo_of(club) + ".new"
-    with open(made, "w", encoding="ascii") as file:
-        json.dump({"moment": time.strftime("%Y-%m-%d %H:%M"), "words": words.given, "rows": rows}, file)
-        file.flush()
-        os.fsync(file.fileno())
+    file = open(made, "w", encoding="ascii")
+    add(file, json.dumps(record))
     os.rename(made, undo_of(club))
+    synced(os.path.dirname(club.file))
+    return file
 
 
-def read_undo(club):
-    try:
-        with open(undo_of(club), encoding="ascii") as file:
-            return json.load(file)
-    except (FileNotFoundError, ValueError):
-        raise refusal("no undo", club=club.name) from None
+def add(file, line):
+    """Adds a line to a record, also if it is that of the last correction no more."""
+    file.write(line + "\n")
+    file.flush()
+    os.fsync(file.fileno())
+
+
+def read(club):
+    """The record of the last correction; None if there is none, or it can't be read."""
+    with contextlib.suppress(FileNotFoundError, ValueError), open(undo_of(club), encoding="ascii") as file:
+        record, *more = file.read().split("\n")
+        record = json.loads(record)
+        return {**record, "is_done": record.get("is_done", True) or DONE in more}
+    return None
+
+
+def meant(words):
+    """The words of a correction but for how it is given: with a question or without one, at which moment."""
+    found, is_value = [], False
+    for it in words:
+        if not is_value and it not in NOT_MEANT and not it.startswith("--at"):
+            found.append(it)
+        is_value = it == "--at"
+    return found
+
+
+def broken_off(club, words):
+    """The record of this very correction, if it was begun and didn't come to its end; else None."""
+    record = read(club)
+    return record if record and not record["is_done"] and meant(record["words"]) == meant(words.given) else None
+
+
+def begin(club, words, rows, left):
+    """Keeps what a correction is about to do, and returns the file of its record. `left` is the record of an earlier run: the rows that it
+    changed are undone as well."""
+    every = {row_place(it): it for it in (left or {}).get("rows") or []}
+    for it in rows:
+        was = every.get(row_place(it), it)
+        every[row_place(it)] = [*was[:3], it[3]]
+    return write(club, record_of(words, list(every.values()) if len(every) <= MOST_ROWS else None, False))
+
+
+def row_place(row):
+    """The name of a row: its key, or its rowid where the key may change."""
+    table, rowid, was, is_now = row
+    return (table, *(was or is_now)[: KEYS[table]]) if table in KEYS else (table, rowid)
+
+
+# ---- An undo.
 
 
 def plan_undo(db, club):
-    """Puts the rows of the last correction back, each only if it is as the correction left it."""
-    it = read_undo(club)
+    """Puts the rows of the last correction back, each only if it is as the correction left it, or, of one that was broken off, as it was."""
+    it = read(club)
+    if not it or it["rows"] is None:
+        raise refusal("no undo", club=club.name)
     plan = Plan()
     plan.tell("undoes", moment=it["moment"], words=" ".join(it["words"]))
     # References are tested at the end of the transaction.
     plan.change(-1, "PRAGMA defer_foreign_keys = ON")
     for table, rowid, was, is_now in it["rows"]:
+        if rowid is None:  # it had no row before
+            rowid = (row_of(db, table, is_now[: KEYS[table]]) or [None])[0]
         found = db.execute(f"SELECT * FROM {table} WHERE rowid = ?", [rowid]).fetchone()
-        if (None if found is None else [plain(value) for value in found]) != is_now:
+        found = None if found is None else [plain(value) for value in found]
+        if found == was and not it["is_done"]:
+            continue
+        if found != is_now:
             raise refusal("touched since", row=row_text(table, is_now or was), club=club.name)
         columns = columns_of(db, table)
         if was is None:
@@ -102,6 +193,8 @@ def plan_undo(db, club):
             plan.change(1, f"UPDATE {table} SET {', '.join(f'{name} = ?' for name in columns)} WHERE rowid = ?", *map(value_of, was), rowid)
         plan.undone += 1
         plan.tell("puts back" if was is not None else "takes away", row=row_text(table, was or is_now))
+    if not plan.undone:
+        raise refusal("no undo", club=club.name)
     return plan
 
 
