@@ -3,7 +3,7 @@
 
 Each is killed before and after each program that it runs, and while its output isn't taken. Then the same order is given again: the club is
 as one order makes it, and the book has both. A command that outlives its order holds the next one up. The rows of a copy of before each, and
-what `undo` puts back, are compared. Wants root, for a machine of its own (tests/office_room.sh). Not part of the gate.
+what `undo` puts back, are compared. Wants root, for a machine of its own (tests/lib/office_room.sh). Not part of the gate.
 """
 # groups: package faults root
 # wants: sudo sqlite3 openssl util-linux bsdutils iproute2 systemd python3-psutil
