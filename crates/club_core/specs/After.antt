@@ -1,14 +1,20 @@
 -- The club after a change (ours).
-use Rattle.std.specs.{Prelude.{ℕ, ◌+◌, ◌==◌, ◌&&◌, ◌||◌, not, Bool, List, [], ◌∷◌, ◌++◌, map, filter, Some, if◌then◌else◌}, Str.bytes_eq}
+use Rattle.std.specs.{Prelude.{ℕ, ◌+◌, ◌-◌, ◌==◌, ◌&&◌, ◌||◌, not, Bool, List, [], ◌∷◌, ◌++◌, map, filter, Some, if◌then◌else◌}, Str.bytes_eq}
 use Rattle.club_values.specs.declared.slot.Slot.{Slot}
 use Rattle.club_rows.specs.{Booking.same_slot, declared.{booking.Booking.Booking, key.{Key.Key, OlderRoot.OlderRoot}, member.Member.Member}}
-use Rattle.club_core.specs.{Club.Club, Sums.is_under, declared.change.Change.{Change, TheVariants.{InsertMember, AddCredit, InsertFacility, InsertKey}}}
-use Rattle.club_core.specs.declared.change.Change.TheVariants.{MarkRevoked, ReplaceRoot, MarkClosed, MarkOpen, ReplaceQuota, InsertBooking, MarkCancelled}
+use Rattle.club_core.specs.{Club.Club, Sums.is_under, declared.change.Change.{Change, TheVariants.{InsertMember, AddCredit, TakeCredit, InsertFacility}}}
+use Rattle.club_core.specs.declared.change.Change.TheVariants.{InsertKey, MarkRevoked, ReplaceRoot, MarkClosed, MarkOpen, ReplaceQuota, InsertBooking}
+use Rattle.club_core.specs.declared.change.Change.TheVariants.{MarkCancelled}
 
 -- a member's row after points for a member of this name
 abbrev pub credited_member : List ℕ → ℕ → Member → Member
 credited_member name points member =
     record member { credited = if bytes_eq member.name name then member.credited + points else member.credited }
+
+-- a member's row after points were taken from a member of this name
+abbrev pub debited_member : List ℕ → ℕ → Member → Member
+debited_member name points member =
+    record member { credited = if bytes_eq member.name name then member.credited - points else member.credited }
 
 -- a member's row after another quota for a member of this name
 abbrev pub member_with_quota : List ℕ → ℕ → Member → Member
@@ -47,6 +53,7 @@ closed_but slot closed = filter (λ (other : Slot). not (same_slot other slot)) 
 abbrev pub after : Change → Club → Club
 after (InsertMember member) club = record club { members = club.members ++ member ∷ [] }
 after (AddCredit name points) club = record club { members = map (credited_member name points) club.members }
+after (TakeCredit name points) club = record club { members = map (debited_member name points) club.members }
 after (ReplaceQuota name quota) club = record club { members = map (member_with_quota name quota) club.members }
 after (InsertFacility facility) club = record club { facilities = club.facilities ++ facility ∷ [] }
 after (InsertKey key) club = record club { keys = club.keys ++ key ∷ [] }

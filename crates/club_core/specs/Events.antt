@@ -1,9 +1,8 @@
 -- The limits of an event's values (ours).
 use Rattle.club_values.specs.{Moment.IsMoment, Name.IsName}
 use Rattle.club_rows.specs.{Limits.{IsBookingNumber, IsGuests, IsRoot}, Rows.IsSlot}
-use Rattle.club_core.specs.{Run.{Event, Asked, Commanded}, declared.command.Command.Command}
-use Rattle.club_core.specs.declared.command.Command.TheVariants.{AddMember, Credit, AddFacility, AddKey, RevokeKey, RotateKey, CloseSlot, OpenSlot, SetQuota}
-use Rattle.club_core.specs.declared.request.Request.{Request}
+use Rattle.club_core.specs.{Run.{Event, Asked, Commanded}, declared.command.Command.{Command, TheVariants.{AddMember, Credit, Debit, AddFacility, AddKey}}}
+use Rattle.club_core.specs.declared.{command.Command.TheVariants.{RevokeKey, RotateKey, CloseSlot, OpenSlot, SetQuota}, request.Request.Request}
 use Rattle.club_core.specs.declared.request.Request.TheVariants as asked
 
 abbrev pub IsRequest : Request → Type 0
@@ -16,6 +15,7 @@ IsRequest asked.Account = Unit {0}
 abbrev pub IsCommand : Command → Type 0
 IsCommand (AddMember name quota) = IsName name
 IsCommand (Credit member points) = IsName member
+IsCommand (Debit member points) = IsName member
 IsCommand (SetQuota member quota) = IsName member
 IsCommand (AddFacility name kind places price opens shuts) = IsName name
 IsCommand (AddKey name member root) = IsName name × IsName member × IsRoot root

@@ -1,42 +1,52 @@
 -- The commands of the office (ours). The first line that fits refuses the command.
-use Rattle.std.specs.Prelude.{ℕ, ◌+◌, ◌==◌, ◌&&◌, ◌||◌, not, Bool, false, List, [], ◌∷◌, nat_lt, nat_le, is_some, Option, Some, None, Result, Ok, Err}
-use Rattle.std.specs.Str.{bytes_eq}
+use Rattle.std.specs.{Prelude.{ℕ, ◌+◌, ◌&&◌, not, Bool, false, List, [], ◌∷◌, nat_lt, nat_le, is_some, Option, Some, None, Result, Ok, Err}, Str.bytes_eq}
 use Rattle.club_values.specs.declared.slot.Slot.{Slot}
 use Rattle.club_rows.specs.{Facility.is_open_at, Limits.{credited_limit, quota_limit, places_limit, price_limit, shutting_limit}}
 use Rattle.club_rows.specs.declared.{facility.Facility.Facility, key.Key.Key, member.Member.Member}
-use Rattle.club_core.specs.{Basis.slot_use, Club.{Club, member_named, facility_named, key_named}, Lines.{line_if, first_of}, declared.change.Change.Change}
-use Rattle.club_core.specs.declared.change.Change.TheVariants.{InsertMember, AddCredit, InsertFacility, InsertKey, MarkRevoked, ReplaceRoot, MarkClosed}
-use Rattle.club_core.specs.declared.{change.Change.TheVariants.{MarkOpen, ReplaceQuota}, command.Command.Command}
-use Rattle.club_core.specs.declared.command.Command.TheVariants.{AddMember, Credit, AddFacility, AddKey, RevokeKey, RotateKey, CloseSlot, OpenSlot, SetQuota}
-use Rattle.club_core.specs.declared.command.OfficeFault.{OfficeFault, TheVariants.{Exists, Unknown, OutOfRange, SlotInUse}}
-use Rattle.club_core.specs.declared.{command_view.CommandView.CommandView, slot_use.SlotUse.SlotUse}
+use Rattle.club_core.specs.{Basis.{account_named, slot_use}, Club.{Club, member_named, facility_named, key_named}, Lines.{line_if, first_of}}
+use Rattle.club_core.specs.declared.{account.MemberAccount.MemberAccount, change.Change.{Change, TheVariants.{InsertMember, AddCredit, TakeCredit}}}
+use Rattle.club_core.specs.declared.change.Change.TheVariants.{InsertFacility, InsertKey, MarkRevoked, ReplaceRoot, MarkClosed, MarkOpen, ReplaceQuota}
+use Rattle.club_core.specs.declared.command.Command.{Command, TheVariants.{AddMember, Credit, Debit, AddFacility, AddKey, RevokeKey, RotateKey, CloseSlot}}
+use Rattle.club_core.specs.declared.command.{Command.TheVariants.{OpenSlot, SetQuota}, OfficeFault.OfficeFault}
+use Rattle.club_core.specs.declared.{command.OfficeFault.TheVariants.{Exists, Unknown, OutOfRange, SlotInUse}, command_view.CommandView.CommandView}
+use Rattle.club_core.specs.declared.slot_use.SlotUse.{SlotUse}
 
--- a view with these rows and no slot
+-- a view with these rows alone
 abbrev pub rows_seen : Option Member → Option Key → Option Facility → CommandView
 rows_seen member key facility =
-    record { member = member; key = key; facility = facility; slot = record { taken = 0; closed = false } }
+    record { member = member; account = None; key = key; facility = facility; slot = record { taken = 0; closed = false } }
 
--- the rows that decide a command: those it names, and how much of its slot is taken
+-- what decides a command: the rows that it names, the balance that it takes points of, and how much of its slot is taken
 abbrev pub command_view : Club → Command → CommandView
 command_view club (AddMember name quota) = rows_seen (member_named name club) None None
 command_view club (Credit name points) = rows_seen (member_named name club) None None
+command_view club (Debit name points) = record (rows_seen None None None) { account = account_named name club }
 command_view club (SetQuota name quota) = rows_seen (member_named name club) None None
 command_view club (AddFacility name kind places price opens shuts) = rows_seen None None (facility_named name club)
 command_view club (AddKey name member root) = rows_seen (member_named member club) (key_named name club) None
 command_view club (RevokeKey name) = rows_seen None (key_named name club) None
 command_view club (RotateKey name root until) = rows_seen None (key_named name club) None
-command_view club (CloseSlot slot) =
-    record { member = None; key = None; facility = facility_named slot.facility club; slot = slot_use club slot }
+command_view club (CloseSlot slot) = record (rows_seen None None (facility_named slot.facility club)) { slot = slot_use club slot }
 command_view club (OpenSlot slot) = rows_seen None None (facility_named slot.facility club)
 
--- the most points of one credit
+-- the most points of one credit or debit
 abbrev pub points_limit : ℕ
 points_limit = 1_000_000
+
+-- the points are within the limits of a credit or a debit: 1 to 1,000,000
+abbrev pub are_points : ℕ → Bool
+are_points points = nat_le 1 points && nat_le points points_limit
 
 abbrev pub credit_verdict : List ℕ → ℕ → Option Member → Result Change OfficeFault
 credit_verdict name points None = Err Unknown
 credit_verdict name points (Some member) =
     first_of (line_if (nat_lt credited_limit (member.credited + points)) (Err OutOfRange) ∷ []) (Ok (AddCredit name points))
+
+-- a debit takes points of the balance: of what was credited, less what the member's bookings cost
+abbrev pub debit_verdict : List ℕ → ℕ → Option MemberAccount → Result Change OfficeFault
+debit_verdict name points None = Err Unknown
+debit_verdict name points (Some account) =
+    first_of (line_if (nat_lt account.balance points) (Err OutOfRange) ∷ []) (Ok (TakeCredit name points))
 
 -- the numbers are within the limits of a facility: at least one place, and it opens before it shuts
 abbrev pub are_limits : ℕ → ℕ → ℕ → ℕ → Bool
@@ -66,8 +76,12 @@ command_verdict view (AddMember name quota) =
     (Ok (InsertMember (record { name = name; credited = 0; quota = quota })))
 command_verdict view (Credit name points) =
     first_of
-    (line_if (points == 0 || nat_lt points_limit points) (Err OutOfRange) ∷ [])
+    (line_if (not (are_points points)) (Err OutOfRange) ∷ [])
     (credit_verdict name points view.member)
+command_verdict view (Debit name points) =
+    first_of
+    (line_if (not (are_points points)) (Err OutOfRange) ∷ [])
+    (debit_verdict name points view.account)
 command_verdict view (SetQuota name quota) =
     first_of
     (line_if (nat_lt quota_limit quota) (Err OutOfRange) ∷ line_if (not (is_some view.member)) (Err Unknown) ∷ [])

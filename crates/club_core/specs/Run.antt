@@ -1,10 +1,9 @@
 -- The club as a state machine: its steps, and its runs over lists of events (ours).
 use Rattle.std.specs.Prelude.{ℕ, List, [], ◌∷◌, Option, Some, None, Result, Ok, Err}
 use Rattle.club_core.specs.{After.after, Answer.verdict_in, Club.Club, Office.office_verdict, Pass.Words, declared.change.Change.Change}
-use Rattle.club_core.specs.declared.command.Command.{Command}
-use Rattle.club_core.specs.declared.command.Command.TheVariants.{AddMember, Credit, AddFacility, AddKey, RevokeKey, RotateKey, CloseSlot, OpenSlot, SetQuota}
-use Rattle.club_core.specs.declared.{command.{OfficeAnswer.{OfficeAnswer, TheVariants.{Done, NewKey, NotDone}}, OfficeFault.OfficeFault}, reply.Reply.Reply}
-use Rattle.club_core.specs.declared.verdict.Verdict.{Verdict}
+use Rattle.club_core.specs.declared.command.Command.{Command, TheVariants.{AddMember, Credit, Debit, AddFacility, AddKey, RevokeKey, RotateKey, CloseSlot}}
+use Rattle.club_core.specs.declared.command.{Command.TheVariants.{OpenSlot, SetQuota}, OfficeAnswer.{OfficeAnswer, TheVariants.{Done, NewKey, NotDone}}}
+use Rattle.club_core.specs.declared.{command.OfficeFault.OfficeFault, reply.Reply.Reply, verdict.Verdict.Verdict}
 
 -- a request at a moment, or a command of the office
 pub data Event : Type 0 where
@@ -34,6 +33,7 @@ after_change (Some change) club = after change club
 abbrev pub done_answer : Command → OfficeAnswer
 done_answer (AddMember name quota) = Done
 done_answer (Credit member points) = Done
+done_answer (Debit member points) = Done
 done_answer (SetQuota member quota) = Done
 done_answer (AddFacility name kind places price opens shuts) = Done
 done_answer (AddKey name member root) = NewKey name root

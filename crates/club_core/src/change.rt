@@ -12,6 +12,11 @@ pub enum Change {
         member: Name,
         points: u32,
     },
+    /// Takes points from what a member was credited, at most all of it.
+    TakeCredit {
+        member: Name,
+        points: u32,
+    },
     /// Gives a member another quota.
     ReplaceQuota {
         member: Name,

@@ -8,7 +8,7 @@ use club_values::{Kind, Moment, Name, Slot};
 use std::error::Error;
 use std::fmt;
 
-/// The most points of one credit.
+/// The most points of one credit or debit.
 pub const MAX_POINTS: u32 = 1_000_000;
 
 /// A command of the office.
@@ -19,6 +19,11 @@ pub enum Command {
         quota: u32,
     },
     Credit {
+        member: Name,
+        points: u32,
+    },
+    /// Takes points of a member's balance: a credit that was too much.
+    Debit {
         member: Name,
         points: u32,
     },
@@ -96,6 +101,7 @@ impl Command {
         match self {
             Command::AddMember { name, .. }
             | Command::Credit { member: name, .. }
+            | Command::Debit { member: name, .. }
             | Command::SetQuota { member: name, .. }
             | Command::AddFacility { name, .. }
             | Command::RevokeKey { name } => {

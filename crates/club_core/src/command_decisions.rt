@@ -3,7 +3,7 @@
 ghost use Rattle.std.specs.Prelude.{◌≡◌, not, nat_lt};
 ghost use Rattle.club_rows.specs.Limits.{quota_limit};
 ghost use Rattle.club_core.specs.declared.command.Command.TheVariants as commands;
-ghost use Rattle.club_core.specs.Office.{are_limits, command_verdict};
+ghost use Rattle.club_core.specs.Office.{are_limits, are_points, command_verdict};
 
 use crate::change::Change;
 use crate::command::{Command, MAX_POINTS, OfficeFault};
@@ -36,10 +36,17 @@ fn add_member(view: &CommandView, name: &Name, quota: u32) -> Result<Change, Off
     }))
 }
 
+/// Whether the points are within the limits of a credit or a debit.
+fn are_points(points: u32) -> bool
+    ensures { result ≡ are_points points }
+{
+    1 <= points && points <= MAX_POINTS
+}
+
 fn credit(view: &CommandView, name: &Name, points: u32) -> Result<Change, OfficeFault>
     ensures { result ≡ command_verdict view.now (commands.Credit name.now points) }
 {
-    if points == 0 || points > MAX_POINTS {
+    if !are_points(points) {
         return Err(OfficeFault::OutOfRange);
     }
     let Some(member) = &view.member else {
@@ -49,6 +56,24 @@ fn credit(view: &CommandView, name: &Name, points: u32) -> Result<Change, Office
         return Err(OfficeFault::OutOfRange);
     }
     Ok(Change::AddCredit {
+        member: *name,
+        points,
+    })
+}
+
+fn debit(view: &CommandView, name: &Name, points: u32) -> Result<Change, OfficeFault>
+    ensures { result ≡ command_verdict view.now (commands.Debit name.now points) }
+{
+    if !are_points(points) {
+        return Err(OfficeFault::OutOfRange);
+    }
+    let Some(account) = &view.account else {
+        return Err(OfficeFault::Unknown);
+    };
+    if points > account.balance {
+        return Err(OfficeFault::OutOfRange);
+    }
+    Ok(Change::TakeCredit {
         member: *name,
         points,
     })
@@ -189,16 +214,18 @@ fn open_slot(view: &CommandView, slot: &Slot) -> Result<Change, OfficeFault>
 ///
 /// # Errors
 ///
-/// `OutOfRange` if a number is outside its limits, the hour outside the opening hours, or the
-/// credit would take the member's points above their limit; `Unknown` if the command's member, key
-/// or facility doesn't exist; `Exists` if the new name is taken, the key has the root already, or
-/// the slot is closed already; `SlotInUse` if the slot has bookings.
+/// `OutOfRange` if a number is outside its limits, the hour outside the opening hours, the credit
+/// would take the member's points above their limit, or the debit is more than the balance;
+/// `Unknown` if the command's member, key or facility doesn't exist; `Exists` if the new name is
+/// taken, the key has the root already, or the slot is closed already; `SlotInUse` if the slot has
+/// bookings.
 pub fn decide_command(view: &CommandView, command: &Command) -> Result<Change, OfficeFault>
     ensures { result ≡ command_verdict view.now command.now }
 {
     match command {
         Command::AddMember { name, quota } => add_member(view, name, *quota),
         Command::Credit { member, points } => credit(view, member, *points),
+        Command::Debit { member, points } => debit(view, member, *points),
         Command::SetQuota { member, quota } => set_quota(view, member, *quota),
         Command::AddFacility {
             name,

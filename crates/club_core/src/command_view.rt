@@ -1,13 +1,17 @@
 //! The rows that decide a command of the office.
 
+use crate::account::MemberAccount;
 use crate::slot_use::SlotUse;
 use club_rows::{Facility, Key, Member};
 
-/// The rows that decide a command: those it names, and how much of its slot is taken. A row that
-/// the command doesn't name is `None`; without a slot nothing is taken.
+/// What decides a command: the rows that it names, the balance that it takes points of, and how
+/// much of its slot is taken. What the command doesn't need is `None`; without a slot nothing is
+/// taken.
 #[derive(Clone, Copy, Debug, PartialEq, Eq)]
 pub struct CommandView {
     pub member: Option<Member>,
+    /// The member that is debited, with its balance.
+    pub account: Option<MemberAccount>,
     pub key: Option<Key>,
     pub facility: Option<Facility>,
     pub slot: SlotUse,
