@@ -2,3 +2,4 @@ pub mod ViewLemmas
 pub mod SheetOrder
 pub mod SheetText
 pub mod AnswerLemmas
+pub mod MostTakenLemmas

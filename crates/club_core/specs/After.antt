@@ -1,10 +1,11 @@
 -- The club after a change (ours).
 use Rattle.std.specs.{Prelude.{ℕ, ◌+◌, ◌-◌, ◌==◌, ◌&&◌, ◌||◌, not, Bool, List, [], ◌∷◌, ◌++◌, map, filter, Some, if◌then◌else◌}, Str.bytes_eq}
 use Rattle.club_values.specs.declared.slot.Slot.{Slot}
-use Rattle.club_rows.specs.{Booking.same_slot, declared.{booking.Booking.Booking, key.{Key.Key, OlderRoot.OlderRoot}, member.Member.Member}}
+use Rattle.club_rows.specs.{Booking.same_slot, declared.{booking.Booking.Booking, facility.Facility.Facility, key.{Key.Key, OlderRoot.OlderRoot}}}
+use Rattle.club_rows.specs.declared.member.Member.{Member}
 use Rattle.club_core.specs.{Club.Club, Sums.is_under, declared.change.Change.{Change, TheVariants.{InsertMember, AddCredit, TakeCredit, InsertFacility}}}
-use Rattle.club_core.specs.declared.change.Change.TheVariants.{InsertKey, MarkRevoked, ReplaceRoot, MarkClosed, MarkOpen, ReplaceQuota, InsertBooking}
-use Rattle.club_core.specs.declared.change.Change.TheVariants.{MarkCancelled}
+use Rattle.club_core.specs.declared.change.Change.TheVariants.{ReplaceNumbers, InsertKey, MarkRevoked, ReplaceRoot, MarkClosed, MarkOpen, ReplaceQuota}
+use Rattle.club_core.specs.declared.change.Change.TheVariants.{InsertBooking, MarkCancelled}
 
 -- a member's row after points for a member of this name
 abbrev pub credited_member : List ℕ → ℕ → Member → Member
@@ -19,6 +20,15 @@ debited_member name points member =
 -- a member's row after another quota for a member of this name
 abbrev pub member_with_quota : List ℕ → ℕ → Member → Member
 member_with_quota name quota member = record member { quota = if bytes_eq member.name name then quota else member.quota }
+
+-- a facility's row after other places, another price and other hours for a facility of this name; its kind stays
+abbrev pub facility_with_numbers : List ℕ → ℕ → ℕ → ℕ → ℕ → Facility → Facility
+facility_with_numbers name places price opens shuts facility = record facility {
+  places = if bytes_eq facility.name name then places else facility.places;
+  price = if bytes_eq facility.name name then price else facility.price;
+  opens = if bytes_eq facility.name name then opens else facility.opens;
+  shuts = if bytes_eq facility.name name then shuts else facility.shuts;
+}
 
 -- a key's row after the key of this name was revoked
 abbrev pub revoked_key : List ℕ → Key → Key
@@ -56,6 +66,8 @@ after (AddCredit name points) club = record club { members = map (credited_membe
 after (TakeCredit name points) club = record club { members = map (debited_member name points) club.members }
 after (ReplaceQuota name quota) club = record club { members = map (member_with_quota name quota) club.members }
 after (InsertFacility facility) club = record club { facilities = club.facilities ++ facility ∷ [] }
+after (ReplaceNumbers name places price opens shuts) club =
+    record club { facilities = map (facility_with_numbers name places price opens shuts) club.facilities }
 after (InsertKey key) club = record club { keys = club.keys ++ key ∷ [] }
 after (MarkRevoked name) club = record club { keys = map (revoked_key name) club.keys }
 after (ReplaceRoot name former root until) club = record club { keys = map (rotated_key name root until) club.keys }

@@ -1,8 +1,8 @@
 -- The limits of an event's values (ours).
 use Rattle.club_values.specs.{Moment.IsMoment, Name.IsName}
 use Rattle.club_rows.specs.{Limits.{IsBookingNumber, IsGuests, IsRoot}, Rows.IsSlot}
-use Rattle.club_core.specs.{Run.{Event, Asked, Commanded}, declared.command.Command.{Command, TheVariants.{AddMember, Credit, Debit, AddFacility, AddKey}}}
-use Rattle.club_core.specs.declared.{command.Command.TheVariants.{RevokeKey, RotateKey, CloseSlot, OpenSlot, SetQuota}, request.Request.Request}
+use Rattle.club_core.specs.{Run.{Event, Asked, Commanded}, declared.command.Command.{Command, TheVariants.{AddMember, Credit, Debit, AddFacility, SetFacility}}}
+use Rattle.club_core.specs.declared.{command.Command.TheVariants.{AddKey, RevokeKey, RotateKey, CloseSlot, OpenSlot, SetQuota}, request.Request.Request}
 use Rattle.club_core.specs.declared.request.Request.TheVariants as asked
 
 abbrev pub IsRequest : Request → Type 0
@@ -18,6 +18,7 @@ IsCommand (Credit member points) = IsName member
 IsCommand (Debit member points) = IsName member
 IsCommand (SetQuota member quota) = IsName member
 IsCommand (AddFacility name kind places price opens shuts) = IsName name
+IsCommand (SetFacility name places price opens shuts) = IsName name
 IsCommand (AddKey name member root) = IsName name × IsName member × IsRoot root
 IsCommand (RevokeKey name) = IsName name
 IsCommand (RotateKey name root until) = IsName name × IsRoot root × IsMoment until

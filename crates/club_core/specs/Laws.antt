@@ -1,8 +1,9 @@
 -- Laws of the definitions.
-use Rattle.std.specs.Prelude.{◌≡◌, ◌↔◌, ℕ, IsTrue, List, Contains, Option, Some, None, option_map}
-use Rattle.club_rows.specs.declared.key.Key.{Key}
+use Rattle.std.specs.Prelude.{◌≡◌, ◌↔◌, ◌⊎◌, ℕ, ◌≤◌, IsTrue, List, Contains, Option, Some, None, option_map}
+use Rattle.club_values.specs.declared.slot.Slot.{Slot}
+use Rattle.club_rows.specs.declared.{booking.Booking.Booking, key.Key.Key}
 use Rattle.club_core.specs.{Answer.answer_by_basis, Basis.{Basis, basis_of, key_of, view_in, view_of}, Club.{Club, IsSound, bookings_of}}
-use Rattle.club_core.specs.{Pass.{Pass, IsSignedUnder, Words, is_signed_under}, Sheet.IsSheet, Sums.{booking_under, spent_under}}
+use Rattle.club_core.specs.{Pass.{Pass, IsSignedUnder, Words, is_signed_under}, Sheet.IsSheet, Sums.{booking_under, most_taken_in, spent_under, taken_in}}
 use Rattle.club_core.specs.declared.{refusal.Refusal.Refusal, reply.Reply.TheVariants.Refused, verdict.Verdict.Verdict}
 
 -- a refusal changes nothing
@@ -33,6 +34,14 @@ pub record HasOwnBookings (club : Club) (key : Key) : Type 0 where
 
 abbrev pub OwnBookings : Type 0
 OwnBookings = (club : Club) (key : Key) → Contains club.keys key → HasOwnBookings club key
+
+-- no slot of the facility has more persons than these, and some slot of it has as many, or there are none
+pub record IsMostTaken (facility : List ℕ) (bookings : List Booking) (most : ℕ) : Type 0 where
+  pub bound : (slot : Slot) → slot.facility ≡ facility → taken_in slot bookings ≤ most
+  pub reached : (most ≡ 0) ⊎ ((slot : Slot) × (slot.facility ≡ facility) × (taken_in slot bookings ≡ most))
+
+abbrev pub MostTaken : Type 0
+MostTaken = (facility : List ℕ) (bookings : List Booking) → IsMostTaken facility bookings (most_taken_in facility bookings)
 
 -- a sound club has a sheet for each day
 abbrev pub SomeSheet : Type 0

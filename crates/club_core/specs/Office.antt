@@ -4,25 +4,28 @@ use Rattle.club_values.specs.declared.slot.Slot.{Slot}
 use Rattle.club_rows.specs.{Facility.is_open_at, Limits.{credited_limit, quota_limit, places_limit, price_limit, shutting_limit}}
 use Rattle.club_rows.specs.declared.{facility.Facility.Facility, key.Key.Key, member.Member.Member}
 use Rattle.club_core.specs.{Basis.{account_named, slot_use}, Club.{Club, member_named, facility_named, key_named}, Lines.{line_if, first_of}}
-use Rattle.club_core.specs.declared.{account.MemberAccount.MemberAccount, change.Change.{Change, TheVariants.{InsertMember, AddCredit, TakeCredit}}}
-use Rattle.club_core.specs.declared.change.Change.TheVariants.{InsertFacility, InsertKey, MarkRevoked, ReplaceRoot, MarkClosed, MarkOpen, ReplaceQuota}
-use Rattle.club_core.specs.declared.command.Command.{Command, TheVariants.{AddMember, Credit, Debit, AddFacility, AddKey, RevokeKey, RotateKey, CloseSlot}}
-use Rattle.club_core.specs.declared.command.{Command.TheVariants.{OpenSlot, SetQuota}, OfficeFault.OfficeFault}
-use Rattle.club_core.specs.declared.{command.OfficeFault.TheVariants.{Exists, Unknown, OutOfRange, SlotInUse}, command_view.CommandView.CommandView}
-use Rattle.club_core.specs.declared.slot_use.SlotUse.{SlotUse}
+use Rattle.club_core.specs.{Sums.most_taken_in, declared.{account.MemberAccount.MemberAccount, change.Change.{Change, TheVariants.{InsertMember, AddCredit}}}}
+use Rattle.club_core.specs.declared.change.Change.TheVariants.{TakeCredit, InsertFacility, ReplaceNumbers, InsertKey, MarkRevoked, ReplaceRoot, MarkClosed}
+use Rattle.club_core.specs.declared.{change.Change.TheVariants.{MarkOpen, ReplaceQuota}, command.Command.{Command, TheVariants.{AddMember, Credit, Debit}}}
+use Rattle.club_core.specs.declared.command.Command.TheVariants.{AddFacility, SetFacility, AddKey, RevokeKey, RotateKey, CloseSlot, OpenSlot, SetQuota}
+use Rattle.club_core.specs.declared.command.OfficeFault.{OfficeFault, TheVariants.{Exists, Unknown, OutOfRange, SlotInUse}}
+use Rattle.club_core.specs.declared.{command_view.CommandView.CommandView, slot_use.SlotUse.SlotUse}
 
 -- a view with these rows alone
 abbrev pub rows_seen : Option Member → Option Key → Option Facility → CommandView
 rows_seen member key facility =
-    record { member = member; account = None; key = key; facility = facility; slot = record { taken = 0; closed = false } }
+    record { member = member; account = None; key = key; facility = facility; slot = record { taken = 0; closed = false }; most_taken = 0 }
 
--- what decides a command: the rows that it names, the balance that it takes points of, and how much of its slot is taken
+-- what decides a command: the rows that it names, the balance that it takes points of, how much of its slot is taken, and the most that is taken of a
+-- slot of a facility with new numbers
 abbrev pub command_view : Club → Command → CommandView
 command_view club (AddMember name quota) = rows_seen (member_named name club) None None
 command_view club (Credit name points) = rows_seen (member_named name club) None None
 command_view club (Debit name points) = record (rows_seen None None None) { account = account_named name club }
 command_view club (SetQuota name quota) = rows_seen (member_named name club) None None
 command_view club (AddFacility name kind places price opens shuts) = rows_seen None None (facility_named name club)
+command_view club (SetFacility name places price opens shuts) =
+    record (rows_seen None None (facility_named name club)) { most_taken = most_taken_in name club.bookings }
 command_view club (AddKey name member root) = rows_seen (member_named member club) (key_named name club) None
 command_view club (RevokeKey name) = rows_seen None (key_named name club) None
 command_view club (RotateKey name root until) = rows_seen None (key_named name club) None
@@ -90,6 +93,13 @@ command_verdict view (AddFacility name kind places price opens shuts) =
     first_of
     (line_if (not (are_limits places price opens shuts)) (Err OutOfRange) ∷ line_if (is_some view.facility) (Err Exists) ∷ [])
     (Ok (InsertFacility (record { name = name; kind = kind; places = places; price = price; opens = opens; shuts = shuts })))
+command_verdict view (SetFacility name places price opens shuts) =
+    first_of
+    (line_if (not (are_limits places price opens shuts)) (Err OutOfRange)
+    ∷ line_if (not (is_some view.facility)) (Err Unknown)
+    ∷ line_if (nat_lt places view.most_taken) (Err SlotInUse)
+    ∷ [])
+    (Ok (ReplaceNumbers name places price opens shuts))
 command_verdict view (AddKey name member root) =
     first_of
     (line_if (not (is_some view.member)) (Err Unknown) ∷ line_if (is_some view.key) (Err Exists) ∷ [])

@@ -1,9 +1,10 @@
 -- The club as a state machine: its steps, and its runs over lists of events (ours).
 use Rattle.std.specs.Prelude.{ℕ, List, [], ◌∷◌, Option, Some, None, Result, Ok, Err}
 use Rattle.club_core.specs.{After.after, Answer.verdict_in, Club.Club, Office.office_verdict, Pass.Words, declared.change.Change.Change}
-use Rattle.club_core.specs.declared.command.Command.{Command, TheVariants.{AddMember, Credit, Debit, AddFacility, AddKey, RevokeKey, RotateKey, CloseSlot}}
-use Rattle.club_core.specs.declared.command.{Command.TheVariants.{OpenSlot, SetQuota}, OfficeAnswer.{OfficeAnswer, TheVariants.{Done, NewKey, NotDone}}}
-use Rattle.club_core.specs.declared.{command.OfficeFault.OfficeFault, reply.Reply.Reply, verdict.Verdict.Verdict}
+use Rattle.club_core.specs.declared.command.Command.{Command, TheVariants.{AddMember, Credit, Debit, AddFacility, SetFacility, AddKey, RevokeKey, RotateKey}}
+use Rattle.club_core.specs.declared.command.{Command.TheVariants.{CloseSlot, OpenSlot, SetQuota}, OfficeAnswer.OfficeAnswer}
+use Rattle.club_core.specs.declared.{command.{OfficeAnswer.TheVariants.{Done, NewKey, NotDone}, OfficeFault.OfficeFault}, reply.Reply.Reply}
+use Rattle.club_core.specs.declared.verdict.Verdict.{Verdict}
 
 -- a request at a moment, or a command of the office
 pub data Event : Type 0 where
@@ -36,6 +37,7 @@ done_answer (Credit member points) = Done
 done_answer (Debit member points) = Done
 done_answer (SetQuota member quota) = Done
 done_answer (AddFacility name kind places price opens shuts) = Done
+done_answer (SetFacility name places price opens shuts) = Done
 done_answer (AddKey name member root) = NewKey name root
 done_answer (RevokeKey name) = Done
 done_answer (RotateKey name root until) = NewKey name root

@@ -5,8 +5,8 @@ use Rattle.club_values.specs.declared.slot.Slot.{Slot}
 use Rattle.club_rows.specs.declared.{booking.Booking.Booking, member.Member.Member}
 use Rattle.club_core.specs.{After.after, Answer.answer_by_basis, Basis.{Basis, basis_of, slot_use_by}, Club.{Club, keys_of, is_key_of, bookings_of}}
 use Rattle.club_core.specs.{Office.office_verdict, Pass.Words, Request.request_slot, Run.{Event, Asked, Commanded, step, after_change}}
-use Rattle.club_core.specs.declared.change.Change.{Change, TheVariants.{InsertMember, AddCredit, TakeCredit, InsertFacility, InsertKey, MarkRevoked}}
-use Rattle.club_core.specs.declared.change.Change.TheVariants.{ReplaceRoot, MarkClosed, MarkOpen, ReplaceQuota, InsertBooking, MarkCancelled}
+use Rattle.club_core.specs.declared.change.Change.{Change, TheVariants.{InsertMember, AddCredit, TakeCredit, InsertFacility, ReplaceNumbers, InsertKey}}
+use Rattle.club_core.specs.declared.change.Change.TheVariants.{MarkRevoked, ReplaceRoot, MarkClosed, MarkOpen, ReplaceQuota, InsertBooking, MarkCancelled}
 use Rattle.club_core.specs.declared.{command.OfficeFault.OfficeFault, reply.Reply.Reply, slot_use.SlotUse.SlotUse, verdict.Verdict.Verdict}
 
 abbrev pub bookings_of_others : List ℕ → Club → List Booking
@@ -21,13 +21,14 @@ pub data OwnEvent : Type 0 where
   OwnAsk : (words : Words) (moment : ℕ) (others : SlotUse) → OwnEvent
   OwnChange : (change : Change) → OwnEvent
 
--- whether a command changes the member's part: the member, its credits, debits, quota and keys, and each new facility
+-- whether a command changes the member's part: the member, its credits, debits, quota and keys, each new facility, and each facility's new numbers
 abbrev pub is_own : List ℕ → Club → Change → Bool
 is_own name club (InsertMember member) = bytes_eq member.name name
 is_own name club (AddCredit member points) = bytes_eq member name
 is_own name club (TakeCredit member points) = bytes_eq member name
 is_own name club (ReplaceQuota member quota) = bytes_eq member name
 is_own name club (InsertFacility facility) = true
+is_own name club (ReplaceNumbers facility places price opens shuts) = true
 is_own name club (InsertKey key) = bytes_eq key.member name
 is_own name club (MarkRevoked key) = is_key_of name club key
 is_own name club (ReplaceRoot key former root until) = is_key_of name club key

@@ -2,8 +2,8 @@
 use Rattle.std.specs.Prelude.{◌≡◌, ℕ, ◌≤◌, false, List, [], ◌∷◌, Option, Some, None, Result, IfOk, MatchResult}
 use Rattle.club_rows.specs.declared.{booking.Booking.Booking, facility.Facility.Facility, key.Key.Key, member.Member.Member}
 use Rattle.club_core.specs.{After.after, Club.{Club, IsSound, key_named, member_named, facility_named}, Sums.booking_under, declared.change.Change.Change}
-use Rattle.club_core.specs.declared.change.Change.TheVariants.{AddCredit, TakeCredit, InsertKey, MarkRevoked, ReplaceRoot, MarkOpen, ReplaceQuota}
-use Rattle.club_core.specs.declared.{change.Change.TheVariants.{InsertBooking, MarkCancelled}, store.StoreFault.StoreFault}
+use Rattle.club_core.specs.declared.change.Change.TheVariants.{AddCredit, TakeCredit, ReplaceNumbers, InsertKey, MarkRevoked, ReplaceRoot, MarkOpen}
+use Rattle.club_core.specs.declared.{change.Change.TheVariants.{ReplaceQuota, InsertBooking, MarkCancelled}, store.StoreFault.StoreFault}
 
 -- there is a member of this name
 abbrev pub HasMember : List ℕ → Club → Type 0
@@ -33,13 +33,14 @@ HasRoot key root club = (row : Key) × (key_named key club ≡ Some row) × (row
 abbrev pub IsToCancel : Booking → Club → Type 0
 IsToCancel booking club = (booking_under booking.key booking.number club.bookings ≡ Some booking) × (booking.cancelled ≡ false)
 
--- what a change says of the club's rows is true: the member or the key that it names is there, points are taken from what was credited, the facility of
--- a slot that is opened is there, a new key has no older root, the former root is the key's, the member is that of the booking's key, and the booking to be
--- cancelled is on record as it is given
+-- what a change says of the club's rows is true: the member or the key that it names is there, points are taken from what was credited, the facility with
+-- new numbers or of a slot that is opened is there, a new key has no older root, the former root is the key's, the member is that of the booking's key, and
+-- the booking to be cancelled is on record as it is given
 abbrev pub IsTrueOf : Change → Club → Type 0
 IsTrueOf (AddCredit name points) club = HasMember name club
 IsTrueOf (TakeCredit name points) club = HasCredited name points club
 IsTrueOf (ReplaceQuota name quota) club = HasMember name club
+IsTrueOf (ReplaceNumbers name places price opens shuts) club = HasFacility name club
 IsTrueOf (InsertKey key) club = key.older ≡ None
 IsTrueOf (MarkRevoked name) club = HasKey name club
 IsTrueOf (ReplaceRoot key former root until) club = HasRoot key former club

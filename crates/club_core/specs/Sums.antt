@@ -1,5 +1,5 @@
 -- Sums over bookings (ours).
-use Rattle.std.specs.{Prelude.{ℕ, ◌-◌, ◌==◌, ◌&&◌, not, Bool, List, length, nat_lt, filter, find, sum_by, Option}, Str.bytes_eq}
+use Rattle.std.specs.{Prelude.{ℕ, ◌-◌, ◌==◌, ◌&&◌, not, Bool, List, length, nat_lt, filter, find, fold, max, sum_by, Option}, Str.bytes_eq}
 use Rattle.club_values.specs.{Slot.start_of, declared.slot.Slot.Slot}
 use Rattle.club_rows.specs.{Booking.{same_slot, persons_of}, declared.{booking.Booking.Booking, member.Member.Member}}
 
@@ -10,6 +10,14 @@ is_in slot booking = not booking.cancelled && same_slot booking.slot slot
 -- the persons who booked the slot
 abbrev pub taken_in : Slot → List Booking → ℕ
 taken_in slot bookings = sum_by persons_of (filter (is_in slot) bookings)
+
+-- whether a booking is of a slot of the facility of this name
+abbrev pub is_at : List ℕ → Booking → Bool
+is_at facility booking = bytes_eq booking.slot.facility facility
+
+-- the most persons in a slot of the facility, over the slots of all its bookings; 0 if it has none
+abbrev pub most_taken_in : List ℕ → List Booking → ℕ
+most_taken_in facility bookings = fold (λ most booking. max most (taken_in booking.slot bookings)) 0 (filter (is_at facility) bookings)
 
 -- what a booking has cost
 abbrev pub cost_of : Booking → ℕ

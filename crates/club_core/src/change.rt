@@ -23,6 +23,14 @@ pub enum Change {
         quota: u8,
     },
     InsertFacility(Facility),
+    /// Gives a facility that is there other places, another price and other hours.
+    ReplaceNumbers {
+        facility: Name,
+        places: u8,
+        price: u16,
+        opens: u8,
+        shuts: u8,
+    },
     InsertKey(Key),
     MarkRevoked {
         key: Name,

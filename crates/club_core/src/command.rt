@@ -40,6 +40,15 @@ pub enum Command {
         opens: u32,
         shuts: u32,
     },
+    /// New numbers for a facility: its kind stays, and each booking keeps its slot, charge and
+    /// places left.
+    SetFacility {
+        name: Name,
+        places: u32,
+        price: u32,
+        opens: u32,
+        shuts: u32,
+    },
     AddKey {
         name: Name,
         member: Name,
@@ -69,7 +78,7 @@ pub enum OfficeFault {
     Unknown,
     /// A number is outside its limits, or an hour outside the opening hours.
     OutOfRange,
-    /// The slot has bookings.
+    /// The slot has bookings, or a slot of the facility has more persons than the new places.
     SlotInUse,
 }
 
@@ -104,6 +113,7 @@ impl Command {
             | Command::Debit { member: name, .. }
             | Command::SetQuota { member: name, .. }
             | Command::AddFacility { name, .. }
+            | Command::SetFacility { name, .. }
             | Command::RevokeKey { name } => {
                 let _name = name.as_bytes();
             }

@@ -129,6 +129,35 @@ fn add_facility(
     }))
 }
 
+fn set_facility(
+    view: &CommandView,
+    name: &Name,
+    places: u32,
+    price: u32,
+    opens: u32,
+    shuts: u32,
+) -> Result<Change, OfficeFault>
+    ensures { result
+        ≡ command_verdict view.now (commands.SetFacility name.now places price opens shuts) }
+{
+    if !are_limits(places, price, opens, shuts) {
+        return Err(OfficeFault::OutOfRange);
+    }
+    if view.facility.is_none() {
+        return Err(OfficeFault::Unknown);
+    }
+    if view.most_taken > places {
+        return Err(OfficeFault::SlotInUse);
+    }
+    Ok(Change::ReplaceNumbers {
+        facility: *name,
+        places: places as u8,
+        price: price as u16,
+        opens: opens as u8,
+        shuts: shuts as u8,
+    })
+}
+
 fn add_key(
     view: &CommandView,
     name: &Name,
@@ -218,7 +247,7 @@ fn open_slot(view: &CommandView, slot: &Slot) -> Result<Change, OfficeFault>
 /// would take the member's points above their limit, or the debit is more than the balance;
 /// `Unknown` if the command's member, key or facility doesn't exist; `Exists` if the new name is
 /// taken, the key has the root already, or the slot is closed already; `SlotInUse` if the slot has
-/// bookings.
+/// bookings, or a slot of the facility has more persons than its new places.
 pub fn decide_command(view: &CommandView, command: &Command) -> Result<Change, OfficeFault>
     ensures { result ≡ command_verdict view.now command.now }
 {
@@ -235,6 +264,13 @@ pub fn decide_command(view: &CommandView, command: &Command) -> Result<Change, O
             opens,
             shuts,
         } => add_facility(view, name, *kind, *places, *price, *opens, *shuts),
+        Command::SetFacility {
+            name,
+            places,
+            price,
+            opens,
+            shuts,
+        } => set_facility(view, name, *places, *price, *opens, *shuts),
         Command::AddKey { name, member, root } => add_key(view, name, member, root),
         Command::RevokeKey { name } => revoke_key(view, name),
         Command::RotateKey { name, root, until } => rotate_key(view, name, root, *until),

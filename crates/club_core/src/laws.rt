@@ -3,7 +3,8 @@
 ghost use Rattle.club_core.specs.Examples.{BooksAndCancels, RepeatsAfterACancellation, ClosesASlot};
 ghost use Rattle.club_core.specs.Examples.{OpensASlot, SetsAQuota, KeepsASpendLimit};
 ghost use Rattle.club_core.specs.Laws.{RefusalsChangeNothing, ViewsDecide, TestsTheSignature};
-ghost use Rattle.club_core.specs.{Laws.{OwnBookings, OneSheet, SomeSheet}, Looks.LooksNoFurther};
+ghost use Rattle.club_core.specs.Laws.{OwnBookings, MostTaken, OneSheet, SomeSheet};
+ghost use Rattle.club_core.specs.Looks.{LooksNoFurther};
 
 /// A member books, sees the account, and cancels.
 pub fn books_and_cancels()
@@ -62,6 +63,12 @@ pub fn tests_the_signature()
 /// A member's bookings hold all that its key spent, and what the key booked under each number.
 pub fn own_bookings_suffice()
     ensures { OwnBookings }
+{}
+
+/// The most that is taken of a facility's slots bounds each of them, and one of them reaches it.
+#[tactic(auto, using(crate::proofs::MostTakenLemmas::most_taken))]
+pub fn most_taken_is_reached()
+    ensures { MostTaken }
 {}
 
 /// A sound club has exactly one sheet for each day.

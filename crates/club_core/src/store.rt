@@ -40,8 +40,8 @@ pub trait ClubStore {
     ghost use Rattle.club_core.specs.Basis.{account_named, slot_use};
     ghost use Rattle.club_core.specs.Club.{Club, IsSound, bookings_of, facility_named, key_named};
     ghost use Rattle.club_core.specs.{KeyParts.older_root_of, Sheet.AreRowsOf};
-    ghost use Rattle.club_core.specs.Store.{Changes, ReadsStore};
-    ghost use Rattle.club_core.specs.Sums.{booking_under, count_to_come, spent_under};
+    ghost use Rattle.club_core.specs.{Store.{Changes, ReadsStore}, Sums.booking_under};
+    ghost use Rattle.club_core.specs.Sums.{count_to_come, most_taken_in, spent_under};
     ghost use Rattle.club_core.specs.declared.{change.Change.Change, store.StoreFault.StoreFault};
     ghost use Rattle.club_rows.specs.Key.{row_of_key};
 
@@ -74,6 +74,12 @@ pub trait ClubStore {
     fn slot(&mut self, slot: &Slot) -> Result<SlotUse, StoreFault>
         ensures { ReadsStore disk_is_clean represents fails self.old self.new result
             (λ club found. found ≡ slot_use club slot.now) };
+
+    /// The most persons in a slot of the facility of this name, of whatever day: 0 if nobody booked
+    /// one.
+    fn most_taken(&mut self, facility: &Name) -> Result<u32, StoreFault>
+        ensures { ReadsStore disk_is_clean represents fails self.old self.new result
+            (λ club most. most ≡ most_taken_in facility.now club.bookings) };
 
     /// The booking of a key under a number; `None` if there is none.
     fn booking(&mut self, key: &Name, number: BookingNumber) -> Result<Option<Booking>, StoreFault>
