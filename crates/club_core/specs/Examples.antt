@@ -3,7 +3,7 @@ use Rattle.std.specs.Prelude.{◌≡◌, ℕ, true, List, [], ◌∷◌, Option,
 use Rattle.club_values.specs.declared.{kind.Kind.TheVariants.Court, slot.Slot.Slot}
 use Rattle.pass_caveats.specs.declared.caveat.Caveat.{Caveat, TheVariants.Spend}
 use Rattle.club_core.specs.{Club.{Club, empty_club}, Run.{Event, Asked, Commanded, replies_of, club_after, EventReply, ToMember, ToOffice}}
-use Rattle.club_core.specs.declared.command.Command.TheVariants.{AddMember, Credit, AddFacility, AddKey, CloseSlot, OpenSlot, SetQuota}
+use Rattle.club_core.specs.declared.command.Command.TheVariants.{AddMember, Credit, Debit, AddFacility, AddKey, CloseSlot, OpenSlot, SetQuota}
 use Rattle.club_core.specs.declared.command.{OfficeAnswer.TheVariants.{Done, NotDone}, OfficeFault.TheVariants.{Exists, Unknown, OutOfRange, SlotInUse}}
 use Rattle.club_core.specs.declared.{reply.Reply.TheVariants.{Booked, Cancelled, AccountShown, Refused}, request.Request.Request}
 use Rattle.club_core.specs.declared.refusal.Refusal.TheVariants as refusals
@@ -110,6 +110,35 @@ OpensASlot =
     ∷ ToOffice Done
     ∷ served_booking 8 200 0
     ∷ ToMember (Refused refusals.SlotClosed)
+    ∷ ToOffice (NotDone Unknown)
+    ∷ []
+
+-- a debit takes points of the balance, and never points that bookings cost
+abbrev pub DebitsAMember : Type 0
+DebitsAMember =
+    replies_of opened_club
+    (ask (asked.Book (slot_at 18) 7 2) noon
+    ∷ Commanded (Debit (codes "amy") 9_401)
+    ∷ Commanded (Debit (codes "amy") 9_400)
+    ∷ ask asked.Account noon
+    ∷ ask (asked.Book (slot_at 19) 8 0) noon
+    ∷ ask (asked.Cancel (slot_at 18) 7) noon
+    ∷ Commanded (Debit (codes "amy") 1)
+    ∷ ask asked.Account noon
+    ∷ Commanded (Debit (codes "amy") 0)
+    ∷ Commanded (Debit (codes "bob") 1_000_001)
+    ∷ Commanded (Debit (codes "bob") 1)
+    ∷ [])
+    ≡ served_booking 7 600 1
+    ∷ ToOffice (NotDone OutOfRange)
+    ∷ ToOffice Done
+    ∷ account 0 1 600
+    ∷ ToMember (Refused refusals.BalanceTooLow)
+    ∷ served_cancellation 7 600
+    ∷ ToOffice Done
+    ∷ account 599 0 0
+    ∷ ToOffice (NotDone OutOfRange)
+    ∷ ToOffice (NotDone OutOfRange)
     ∷ ToOffice (NotDone Unknown)
     ∷ []
 

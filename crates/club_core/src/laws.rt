@@ -1,7 +1,7 @@
 //! Laws of the definitions, each the contract of a function that does nothing.
 
 ghost use Rattle.club_core.specs.Examples.{BooksAndCancels, RepeatsAfterACancellation, ClosesASlot};
-ghost use Rattle.club_core.specs.Examples.{OpensASlot, SetsAQuota, KeepsASpendLimit};
+ghost use Rattle.club_core.specs.Examples.{OpensASlot, DebitsAMember, SetsAQuota, KeepsASpendLimit};
 ghost use Rattle.club_core.specs.Laws.{RefusalsChangeNothing, ViewsDecide, TestsTheSignature};
 ghost use Rattle.club_core.specs.Laws.{OwnBookings, MostTaken, OneSheet, SomeSheet};
 ghost use Rattle.club_core.specs.Looks.{LooksNoFurther};
@@ -24,6 +24,11 @@ pub fn closes_a_slot()
 /// A closed slot can be opened and booked again; an open one stays as it is.
 pub fn opens_a_slot()
     ensures { OpensASlot }
+{}
+
+/// A debit takes points of the balance, and never points that bookings cost.
+pub fn debits_a_member()
+    ensures { DebitsAMember }
 {}
 
 /// Another quota holds for the next booking, and bookings above it stay.
