@@ -1,11 +1,11 @@
 -- Worked runs from the empty club (ours).
-use Rattle.std.specs.Prelude.{◌≡◌, ℕ, true, List, [], ◌∷◌, Option, Some, Ok, replicate, codes}
+use Rattle.std.specs.Prelude.{◌≡◌, ℕ, true, false, List, [], ◌∷◌, Option, Some, Ok, replicate, codes}
 use Rattle.club_values.specs.declared.{kind.Kind.TheVariants.Court, slot.Slot.Slot}
 use Rattle.pass_caveats.specs.declared.caveat.Caveat.{Caveat, TheVariants.Spend}
 use Rattle.club_core.specs.{Club.{Club, empty_club}, Run.{Event, Asked, Commanded, replies_of, club_after, EventReply, ToMember, ToOffice}}
-use Rattle.club_core.specs.declared.command.Command.TheVariants.{AddMember, Credit, Debit, AddFacility, AddKey, CloseSlot, OpenSlot, SetQuota}
+use Rattle.club_core.specs.declared.command.Command.TheVariants.{AddMember, Credit, Debit, AddFacility, SetFacility, AddKey, CloseSlot, OpenSlot, SetQuota}
 use Rattle.club_core.specs.declared.command.{OfficeAnswer.TheVariants.{Done, NotDone}, OfficeFault.TheVariants.{Exists, Unknown, OutOfRange, SlotInUse}}
-use Rattle.club_core.specs.declared.{reply.Reply.TheVariants.{Booked, Cancelled, AccountShown, Refused}, request.Request.Request}
+use Rattle.club_core.specs.declared.{reply.Reply.TheVariants.{Booked, SlotShown, Cancelled, AccountShown, Refused}, request.Request.Request}
 use Rattle.club_core.specs.declared.refusal.Refusal.TheVariants as refusals
 use Rattle.club_core.specs.declared.request.Request.TheVariants as asked
 
@@ -163,6 +163,39 @@ SetsAQuota =
     ∷ ToMember (Refused refusals.QuotaReached)
     ∷ ToOffice Done
     ∷ served_booking 9 200 3
+    ∷ ToOffice (NotDone OutOfRange)
+    ∷ ToOffice (NotDone Unknown)
+    ∷ []
+
+-- new numbers hold for the next booking; what is booked keeps its charge, its places left and its hour, and each slot its places
+abbrev pub SetsAFacility : Type 0
+SetsAFacility =
+    replies_of opened_club
+    (ask (asked.Book (slot_at 18) 7 2) noon
+    ∷ Commanded (SetFacility (codes "court-1") 2 300 19 23)
+    ∷ Commanded (SetFacility (codes "court-1") 3 300 19 23)
+    ∷ ask (asked.View (slot_at 18)) noon
+    ∷ ask (asked.Book (slot_at 18) 7 2) noon
+    ∷ ask (asked.Book (slot_at 18) 8 0) noon
+    ∷ ask (asked.Book (slot_at 22) 9 0) noon
+    ∷ ask (asked.Cancel (slot_at 18) 7) noon
+    ∷ Commanded (SetFacility (codes "court-1") 1 0 0 24)
+    ∷ ask asked.Account noon
+    ∷ Commanded (SetFacility (codes "court-1") 51 0 0 24)
+    ∷ Commanded (SetFacility (codes "court-2") 0 0 0 24)
+    ∷ Commanded (SetFacility (codes "court-2") 1 0 0 24)
+    ∷ [])
+    ≡ served_booking 7 600 1
+    ∷ ToOffice (NotDone SlotInUse)
+    ∷ ToOffice Done
+    ∷ ToMember (SlotShown (slot_at 18) Court 300 3 3 false)
+    ∷ served_booking 7 600 1
+    ∷ ToMember (Refused refusals.NotBookable)
+    ∷ served_booking 9 300 2
+    ∷ served_cancellation 7 600
+    ∷ ToOffice Done
+    ∷ account 9_700 1 300
+    ∷ ToOffice (NotDone OutOfRange)
     ∷ ToOffice (NotDone OutOfRange)
     ∷ ToOffice (NotDone Unknown)
     ∷ []

@@ -4,9 +4,9 @@ use crate::account::MemberAccount;
 use crate::slot_use::SlotUse;
 use club_rows::{Facility, Key, Member};
 
-/// What decides a command: the rows that it names, the balance that it takes points of, how much of
-/// its slot is taken, and the most that is taken of a slot of a facility with new numbers. What the
-/// command doesn't need is `None` or 0; without a slot nothing is taken.
+/// What decides a command: the rows that it names, the balance that a debit takes points of, how
+/// much of its slot is taken, and for new numbers the most persons in a slot of the facility. What
+/// the command doesn't need is `None` or 0; without a slot nothing is taken.
 #[derive(Clone, Copy, Debug, PartialEq, Eq)]
 pub struct CommandView {
     pub member: Option<Member>,

@@ -1,10 +1,10 @@
 //! Laws of the definitions, each the contract of a function that does nothing.
 
 ghost use Rattle.club_core.specs.Examples.{BooksAndCancels, RepeatsAfterACancellation, ClosesASlot};
-ghost use Rattle.club_core.specs.Examples.{OpensASlot, DebitsAMember, SetsAQuota, KeepsASpendLimit};
-ghost use Rattle.club_core.specs.Laws.{RefusalsChangeNothing, ViewsDecide, TestsTheSignature};
-ghost use Rattle.club_core.specs.Laws.{OwnBookings, MostTaken, OneSheet, SomeSheet};
-ghost use Rattle.club_core.specs.Looks.{LooksNoFurther};
+ghost use Rattle.club_core.specs.Examples.{OpensASlot, DebitsAMember, SetsAQuota, SetsAFacility};
+ghost use Rattle.club_core.specs.{Examples.KeepsASpendLimit, Laws.RefusalsChangeNothing};
+ghost use Rattle.club_core.specs.Laws.{ViewsDecide, TestsTheSignature, OwnBookings, MostTaken};
+ghost use Rattle.club_core.specs.{Laws.{OneSheet, SomeSheet}, Looks.LooksNoFurther};
 
 /// A member books, sees the account, and cancels.
 pub fn books_and_cancels()
@@ -34,6 +34,11 @@ pub fn debits_a_member()
 /// Another quota holds for the next booking, and bookings above it stay.
 pub fn sets_a_quota()
     ensures { SetsAQuota }
+{}
+
+/// New numbers of a facility hold for the next booking; what is booked stays as it is.
+pub fn sets_a_facility()
+    ensures { SetsAFacility }
 {}
 
 /// Under a spend limit, refunded points can be spent again.
