@@ -16,8 +16,7 @@ abbrev pub rows_seen : Option Member → Option Key → Option Facility → Comm
 rows_seen member key facility =
     record { member = member; account = None; key = key; facility = facility; slot = record { taken = 0; closed = false }; most_taken = 0 }
 
--- what decides a command: the rows that it names, the balance that a debit takes points of, how much of its slot is taken, and for new numbers the most
--- persons in a slot of the facility
+-- the rows that a command names, and the figures that it needs: the balance of a debit, the use of a slot, the most persons in a facility's slot
 abbrev pub command_view : Club → Command → CommandView
 command_view club (AddMember name quota) = rows_seen (member_named name club) None None
 command_view club (Credit name points) = rows_seen (member_named name club) None None

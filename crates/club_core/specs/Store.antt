@@ -33,9 +33,8 @@ HasRoot key root club = (row : Key) × (key_named key club ≡ Some row) × (row
 abbrev pub IsToCancel : Booking → Club → Type 0
 IsToCancel booking club = (booking_under booking.key booking.number club.bookings ≡ Some booking) × (booking.cancelled ≡ false)
 
--- what a change says of the club's rows is true: the member or the key that it names is there, points are taken from what was credited, the facility with
--- new numbers or of a slot that is opened is there, a new key has no older root, the former root is the key's, the member is that of the booking's key, and
--- the booking to be cancelled is on record as it is given
+-- A change is true of a club's rows: the member, key or facility that it changes is there, and points are taken from what was credited. A new key has no
+-- older root, and the former root is the key's. The member is that of the booking's key. The booking to be cancelled is on record as it is given.
 abbrev pub IsTrueOf : Change → Club → Type 0
 IsTrueOf (AddCredit name points) club = HasMember name club
 IsTrueOf (TakeCredit name points) club = HasCredited name points club

@@ -243,11 +243,12 @@ fn open_slot(view: &CommandView, slot: &Slot) -> Result<Change, OfficeFault>
 ///
 /// # Errors
 ///
-/// `OutOfRange` if a number is outside its limits, the hour outside the opening hours, the credit
-/// would take the member's points above their limit, or the debit is more than the balance;
-/// `Unknown` if the command's member, key or facility doesn't exist; `Exists` if the new name is
-/// taken, the key has the root already, or the slot is closed already; `SlotInUse` if the slot has
-/// bookings, or a slot of the facility has more persons than its new places.
+/// - `OutOfRange`: a number or an hour is outside its limits, a credit would take the member's
+///   points above their limit, or a debit is more than the balance.
+/// - `Unknown`: the command's member, key or facility doesn't exist.
+/// - `Exists`: the new name is taken, the key has the root already, or the slot is closed already.
+/// - `SlotInUse`: the slot has bookings, or a slot of the facility has more persons than its new
+///   places.
 pub fn decide_command(view: &CommandView, command: &Command) -> Result<Change, OfficeFault>
     ensures { result ≡ command_verdict view.now command.now }
 {
