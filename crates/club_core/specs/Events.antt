@@ -2,7 +2,8 @@
 use Rattle.club_values.specs.{Moment.IsMoment, Name.IsName}
 use Rattle.club_rows.specs.{Limits.{IsBookingNumber, IsGuests, IsRoot}, Rows.IsSlot}
 use Rattle.club_core.specs.{Run.{Event, Asked, Commanded}, declared.command.Command.{Command, TheVariants.{AddMember, Credit, Debit, AddFacility, SetFacility}}}
-use Rattle.club_core.specs.declared.{command.Command.TheVariants.{AddKey, RevokeKey, RotateKey, CloseSlot, OpenSlot, SetQuota}, request.Request.Request}
+use Rattle.club_core.specs.declared.command.Command.TheVariants.{AddKey, RevokeKey, RotateKey, CancelBooking, CloseSlot, OpenSlot, SetQuota}
+use Rattle.club_core.specs.declared.request.Request.{Request}
 use Rattle.club_core.specs.declared.request.Request.TheVariants as asked
 
 abbrev pub IsRequest : Request → Type 0
@@ -22,6 +23,7 @@ IsCommand (SetFacility name places price opens shuts) = IsName name
 IsCommand (AddKey name member root) = IsName name × IsName member × IsRoot root
 IsCommand (RevokeKey name) = IsName name
 IsCommand (RotateKey name root until) = IsName name × IsRoot root × IsMoment until
+IsCommand (CancelBooking key number) = IsName key × IsBookingNumber number
 IsCommand (CloseSlot slot) = IsSlot slot
 IsCommand (OpenSlot slot) = IsSlot slot
 

@@ -2,19 +2,20 @@
 use Rattle.std.specs.{Prelude.{ℕ, ◌+◌, ◌&&◌, not, Bool, false, List, [], ◌∷◌, nat_lt, nat_le, is_some, Option, Some, None, Result, Ok, Err}, Str.bytes_eq}
 use Rattle.club_values.specs.declared.slot.Slot.{Slot}
 use Rattle.club_rows.specs.{Facility.is_open_at, Limits.{credited_limit, quota_limit, places_limit, price_limit, shutting_limit}}
-use Rattle.club_rows.specs.declared.{facility.Facility.Facility, key.Key.Key, member.Member.Member}
+use Rattle.club_rows.specs.declared.{booking.Booking.Booking, facility.Facility.Facility, key.Key.Key, member.Member.Member}
 use Rattle.club_core.specs.{Basis.{account_named, slot_use}, Club.{Club, member_named, facility_named, key_named}, Lines.{line_if, first_of}}
-use Rattle.club_core.specs.{Sums.most_taken_in, declared.{account.MemberAccount.MemberAccount, change.Change.{Change, TheVariants.{InsertMember, AddCredit}}}}
-use Rattle.club_core.specs.declared.change.Change.TheVariants.{TakeCredit, InsertFacility, ReplaceNumbers, InsertKey, MarkRevoked, ReplaceRoot, MarkClosed}
-use Rattle.club_core.specs.declared.{change.Change.TheVariants.{MarkOpen, ReplaceQuota}, command.Command.{Command, TheVariants.{AddMember, Credit, Debit}}}
-use Rattle.club_core.specs.declared.command.Command.TheVariants.{AddFacility, SetFacility, AddKey, RevokeKey, RotateKey, CloseSlot, OpenSlot, SetQuota}
-use Rattle.club_core.specs.declared.command.OfficeFault.{OfficeFault, TheVariants.{Exists, Unknown, OutOfRange, SlotInUse}}
-use Rattle.club_core.specs.declared.{command_view.CommandView.CommandView, slot_use.SlotUse.SlotUse}
+use Rattle.club_core.specs.{Sums.{booking_under, most_taken_in}, declared.{account.MemberAccount.MemberAccount, change.Change.Change}}
+use Rattle.club_core.specs.declared.change.Change.TheVariants.{InsertMember, AddCredit, TakeCredit, InsertFacility, ReplaceNumbers, InsertKey, MarkRevoked}
+use Rattle.club_core.specs.declared.{change.Change.TheVariants.{ReplaceRoot, MarkClosed, MarkOpen, MarkCancelled, ReplaceQuota}, command.Command.Command}
+use Rattle.club_core.specs.declared.command.Command.TheVariants.{AddMember, Credit, Debit, AddFacility, SetFacility, AddKey, RevokeKey, RotateKey}
+use Rattle.club_core.specs.declared.command.{Command.TheVariants.{CancelBooking, CloseSlot, OpenSlot, SetQuota}, OfficeFault.OfficeFault}
+use Rattle.club_core.specs.declared.{command.OfficeFault.TheVariants.{Exists, Unknown, OutOfRange, SlotInUse}, command_view.CommandView.CommandView}
+use Rattle.club_core.specs.declared.slot_use.SlotUse.{SlotUse}
 
 -- a view with these rows alone
 abbrev pub rows_seen : Option Member → Option Key → Option Facility → CommandView
 rows_seen member key facility =
-    record { member = member; account = None; key = key; facility = facility; slot = record { taken = 0; closed = false }; most_taken = 0 }
+    record { member = member; account = None; key = key; facility = facility; slot = record { taken = 0; closed = false }; most_taken = 0; booking = None }
 
 -- the rows that a command names, and the figures that it needs: the balance of a debit, the use of a slot, the most persons in a facility's slot
 abbrev pub command_view : Club → Command → CommandView
@@ -28,6 +29,8 @@ command_view club (SetFacility name places price opens shuts) =
 command_view club (AddKey name member root) = rows_seen (member_named member club) (key_named name club) None
 command_view club (RevokeKey name) = rows_seen None (key_named name club) None
 command_view club (RotateKey name root until) = rows_seen None (key_named name club) None
+command_view club (CancelBooking key number) =
+    record (rows_seen None (key_named key club) None) { booking = booking_under key number club.bookings }
 command_view club (CloseSlot slot) = record (rows_seen None None (facility_named slot.facility club)) { slot = slot_use club slot }
 command_view club (OpenSlot slot) = rows_seen None None (facility_named slot.facility club)
 
@@ -39,28 +42,34 @@ points_limit = 1_000_000
 abbrev pub are_points : ℕ → Bool
 are_points points = nat_le 1 points && nat_le points points_limit
 
-abbrev pub credit_verdict : List ℕ → ℕ → Option Member → Result Change OfficeFault
+abbrev pub credit_verdict : List ℕ → ℕ → Option Member → Result (Option Change) OfficeFault
 credit_verdict name points None = Err Unknown
 credit_verdict name points (Some member) =
-    first_of (line_if (nat_lt credited_limit (member.credited + points)) (Err OutOfRange) ∷ []) (Ok (AddCredit name points))
+    first_of (line_if (nat_lt credited_limit (member.credited + points)) (Err OutOfRange) ∷ []) (Ok (Some (AddCredit name points)))
 
 -- a debit takes points of the balance: of what was credited, less what the member's bookings cost
-abbrev pub debit_verdict : List ℕ → ℕ → Option MemberAccount → Result Change OfficeFault
+abbrev pub debit_verdict : List ℕ → ℕ → Option MemberAccount → Result (Option Change) OfficeFault
 debit_verdict name points None = Err Unknown
 debit_verdict name points (Some account) =
-    first_of (line_if (nat_lt account.balance points) (Err OutOfRange) ∷ []) (Ok (TakeCredit name points))
+    first_of (line_if (nat_lt account.balance points) (Err OutOfRange) ∷ []) (Ok (Some (TakeCredit name points)))
 
 -- the numbers are within the limits of a facility: at least one place, and it opens before it shuts
 abbrev pub are_limits : ℕ → ℕ → ℕ → ℕ → Bool
 are_limits places price opens shuts =
     nat_le 1 places && nat_le places places_limit && nat_le price price_limit && nat_lt opens shuts && nat_le shuts shutting_limit
 
-abbrev pub rotate_verdict : List ℕ → List ℕ → ℕ → Option Key → Result Change OfficeFault
+abbrev pub rotate_verdict : List ℕ → List ℕ → ℕ → Option Key → Result (Option Change) OfficeFault
 rotate_verdict name root until None = Err Unknown
 rotate_verdict name root until (Some key) =
-    first_of (line_if (bytes_eq key.root root) (Err Exists) ∷ []) (Ok (ReplaceRoot name key.root root until))
+    first_of (line_if (bytes_eq key.root root) (Err Exists) ∷ []) (Ok (Some (ReplaceRoot name key.root root until)))
 
-abbrev pub close_verdict : SlotUse → Slot → Option Facility → Result Change OfficeFault
+-- the office cancels with the whole charge as refund; a cancelled booking stays as it is
+abbrev pub office_cancel_verdict : Option Key → Option Booking → Result (Option Change) OfficeFault
+office_cancel_verdict (Some key) (Some booking) =
+    first_of (line_if booking.cancelled (Ok None) ∷ []) (Ok (Some (MarkCancelled booking key.member booking.charge)))
+office_cancel_verdict key booking = Err Unknown
+
+abbrev pub close_verdict : SlotUse → Slot → Option Facility → Result (Option Change) OfficeFault
 close_verdict held slot None = Err Unknown
 close_verdict held slot (Some facility) =
     first_of
@@ -68,14 +77,14 @@ close_verdict held slot (Some facility) =
     ∷ line_if held.closed (Err Exists)
     ∷ line_if (nat_lt 0 held.taken) (Err SlotInUse)
     ∷ [])
-    (Ok (MarkClosed slot))
+    (Ok (Some (MarkClosed slot)))
 
--- the change that a command makes, or why it is refused
-abbrev pub command_verdict : CommandView → Command → Result Change OfficeFault
+-- the change that a command makes, or none if there is nothing left to change; or why it is refused
+abbrev pub command_verdict : CommandView → Command → Result (Option Change) OfficeFault
 command_verdict view (AddMember name quota) =
     first_of
     (line_if (nat_lt quota_limit quota) (Err OutOfRange) ∷ line_if (is_some view.member) (Err Exists) ∷ [])
-    (Ok (InsertMember (record { name = name; credited = 0; quota = quota })))
+    (Ok (Some (InsertMember (record { name = name; credited = 0; quota = quota }))))
 command_verdict view (Credit name points) =
     first_of
     (line_if (not (are_points points)) (Err OutOfRange) ∷ [])
@@ -87,27 +96,28 @@ command_verdict view (Debit name points) =
 command_verdict view (SetQuota name quota) =
     first_of
     (line_if (nat_lt quota_limit quota) (Err OutOfRange) ∷ line_if (not (is_some view.member)) (Err Unknown) ∷ [])
-    (Ok (ReplaceQuota name quota))
+    (Ok (Some (ReplaceQuota name quota)))
 command_verdict view (AddFacility name kind places price opens shuts) =
     first_of
     (line_if (not (are_limits places price opens shuts)) (Err OutOfRange) ∷ line_if (is_some view.facility) (Err Exists) ∷ [])
-    (Ok (InsertFacility (record { name = name; kind = kind; places = places; price = price; opens = opens; shuts = shuts })))
+    (Ok (Some (InsertFacility (record { name = name; kind = kind; places = places; price = price; opens = opens; shuts = shuts }))))
 command_verdict view (SetFacility name places price opens shuts) =
     first_of
     (line_if (not (are_limits places price opens shuts)) (Err OutOfRange)
     ∷ line_if (not (is_some view.facility)) (Err Unknown)
     ∷ line_if (nat_lt places view.most_taken) (Err SlotInUse)
     ∷ [])
-    (Ok (ReplaceNumbers name places price opens shuts))
+    (Ok (Some (ReplaceNumbers name places price opens shuts)))
 command_verdict view (AddKey name member root) =
     first_of
     (line_if (not (is_some view.member)) (Err Unknown) ∷ line_if (is_some view.key) (Err Exists) ∷ [])
-    (Ok (InsertKey (record { name = name; member = member; root = root; older = None; revoked = false })))
-command_verdict view (RevokeKey name) = first_of (line_if (not (is_some view.key)) (Err Unknown) ∷ []) (Ok (MarkRevoked name))
+    (Ok (Some (InsertKey (record { name = name; member = member; root = root; older = None; revoked = false }))))
+command_verdict view (RevokeKey name) = first_of (line_if (not (is_some view.key)) (Err Unknown) ∷ []) (Ok (Some (MarkRevoked name)))
 command_verdict view (RotateKey name root until) = rotate_verdict name root until view.key
+command_verdict view (CancelBooking key number) = office_cancel_verdict view.key view.booking
 command_verdict view (CloseSlot slot) = close_verdict view.slot slot view.facility
-command_verdict view (OpenSlot slot) = first_of (line_if (not (is_some view.facility)) (Err Unknown) ∷ []) (Ok (MarkOpen slot))
+command_verdict view (OpenSlot slot) = first_of (line_if (not (is_some view.facility)) (Err Unknown) ∷ []) (Ok (Some (MarkOpen slot)))
 
 -- the same in a club
-abbrev pub office_verdict : Club → Command → Result Change OfficeFault
+abbrev pub office_verdict : Club → Command → Result (Option Change) OfficeFault
 office_verdict club command = command_verdict (command_view club command) command

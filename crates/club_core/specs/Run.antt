@@ -2,7 +2,7 @@
 use Rattle.std.specs.Prelude.{ℕ, List, [], ◌∷◌, Option, Some, None, Result, Ok, Err}
 use Rattle.club_core.specs.{After.after, Answer.verdict_in, Club.Club, Office.office_verdict, Pass.Words, declared.change.Change.Change}
 use Rattle.club_core.specs.declared.command.Command.{Command, TheVariants.{AddMember, Credit, Debit, AddFacility, SetFacility, AddKey, RevokeKey, RotateKey}}
-use Rattle.club_core.specs.declared.command.{Command.TheVariants.{CloseSlot, OpenSlot, SetQuota}, OfficeAnswer.OfficeAnswer}
+use Rattle.club_core.specs.declared.command.{Command.TheVariants.{CancelBooking, CloseSlot, OpenSlot, SetQuota}, OfficeAnswer.OfficeAnswer}
 use Rattle.club_core.specs.declared.{command.{OfficeAnswer.TheVariants.{Done, NewKey, NotDone}, OfficeFault.OfficeFault}, reply.Reply.Reply}
 use Rattle.club_core.specs.declared.verdict.Verdict.{Verdict}
 
@@ -41,13 +41,14 @@ done_answer (SetFacility name places price opens shuts) = Done
 done_answer (AddKey name member root) = NewKey name root
 done_answer (RevokeKey name) = Done
 done_answer (RotateKey name root until) = NewKey name root
+done_answer (CancelBooking key number) = Done
 done_answer (CloseSlot slot) = Done
 done_answer (OpenSlot slot) = Done
 
--- a refused command leaves the club unchanged
-abbrev pub command_outcome : Club → Command → Result Change OfficeFault → Outcome
+-- a refused command leaves the club unchanged; so does one that finds nothing left to change, and is done
+abbrev pub command_outcome : Club → Command → Result (Option Change) OfficeFault → Outcome
 command_outcome club command (Err fault) = record { reply = ToOffice (NotDone fault); club = club }
-command_outcome club command (Ok change) = record { reply = ToOffice (done_answer command); club = after change club }
+command_outcome club command (Ok change) = record { reply = ToOffice (done_answer command); club = after_change change club }
 
 abbrev pub verdict_outcome : Club → Verdict → Outcome
 verdict_outcome club verdict = record { reply = ToMember verdict.reply; club = after_change verdict.change club }

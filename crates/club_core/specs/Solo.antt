@@ -21,7 +21,8 @@ pub data OwnEvent : Type 0 where
   OwnAsk : (words : Words) (moment : ℕ) (others : SlotUse) → OwnEvent
   OwnChange : (change : Change) → OwnEvent
 
--- whether a command changes the member's part: the member, its credits, debits, quota and keys, each new facility, and each facility's new numbers
+-- whether a command changes the member's part: the member, its credits, debits, quota and keys, the cancellation of its bookings,
+-- each new facility, and each facility's new numbers
 abbrev pub is_own : List ℕ → Club → Change → Bool
 is_own name club (InsertMember member) = bytes_eq member.name name
 is_own name club (AddCredit member points) = bytes_eq member name
@@ -35,11 +36,12 @@ is_own name club (ReplaceRoot key former root until) = is_key_of name club key
 is_own name club (MarkClosed slot) = false
 is_own name club (MarkOpen slot) = false
 is_own name club (InsertBooking booking member) = false
-is_own name club (MarkCancelled booking member refund) = false
+is_own name club (MarkCancelled booking member refund) = is_key_of name club booking.key
 
-abbrev pub own_change : List ℕ → Club → Result Change OfficeFault → List OwnEvent
+abbrev pub own_change : List ℕ → Club → Result (Option Change) OfficeFault → List OwnEvent
 own_change name club (Err fault) = []
-own_change name club (Ok change) = if is_own name club change then OwnChange change ∷ [] else []
+own_change name club (Ok None) = []
+own_change name club (Ok (Some change)) = if is_own name club change then OwnChange change ∷ [] else []
 
 -- a request is the member's if it names one of the member's keys
 abbrev pub own_ask : List ℕ → Club → Words → ℕ → Option Basis → List OwnEvent

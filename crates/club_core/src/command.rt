@@ -3,7 +3,7 @@
 ghost use Rattle.std.specs.Prelude.{◌≡◌};
 
 use crate::request::slot_within;
-use club_rows::Root;
+use club_rows::{BookingNumber, Root};
 use club_values::{Kind, Moment, Name, Slot};
 use std::error::Error;
 use std::fmt;
@@ -64,6 +64,12 @@ pub enum Command {
         root: Root,
         until: Moment,
     },
+    /// Cancels the booking of a key under a number, whenever its slot begins or began, and refunds
+    /// its whole charge. A cancelled one stays as it is. The key may be revoked.
+    CancelBooking {
+        key: Name,
+        number: BookingNumber,
+    },
     CloseSlot(Slot),
     /// Opens a slot that was closed. An open one stays as it is.
     OpenSlot(Slot),
@@ -74,7 +80,7 @@ pub enum Command {
 pub enum OfficeFault {
     /// The new name is taken, the key has the root already, or the slot is closed already.
     Exists,
-    /// No member, key or facility has the name.
+    /// No member, key or facility has the name, or the key has no booking of the number.
     Unknown,
     /// A number is outside its limits, or an hour outside the opening hours.
     OutOfRange,
@@ -126,6 +132,10 @@ impl Command {
                 let _name = name.as_bytes();
                 let _root = root.as_bytes();
                 let _until = until.number();
+            }
+            Command::CancelBooking { key, number } => {
+                let _key = key.as_bytes();
+                let _number = number.get();
             }
             Command::CloseSlot(slot) | Command::OpenSlot(slot) => slot_within(slot),
         }

@@ -4,6 +4,7 @@ ghost use Rattle.std.specs.Prelude.{◌≡◌, not, nat_lt};
 ghost use Rattle.club_rows.specs.Limits.{quota_limit};
 ghost use Rattle.club_core.specs.declared.command.Command.TheVariants as commands;
 ghost use Rattle.club_core.specs.Office.{are_limits, are_points, command_verdict};
+ghost use Rattle.club_core.specs.Office.{office_cancel_verdict};
 
 use crate::change::Change;
 use crate::command::{Command, MAX_POINTS, OfficeFault};
@@ -20,7 +21,7 @@ fn is_quota(quota: u32) -> bool
     quota <= MAX_QUOTA
 }
 
-fn add_member(view: &CommandView, name: &Name, quota: u32) -> Result<Change, OfficeFault>
+fn add_member(view: &CommandView, name: &Name, quota: u32) -> Result<Option<Change>, OfficeFault>
     ensures { result ≡ command_verdict view.now (commands.AddMember name.now quota) }
 {
     if !is_quota(quota) {
@@ -29,11 +30,11 @@ fn add_member(view: &CommandView, name: &Name, quota: u32) -> Result<Change, Off
     if view.member.is_some() {
         return Err(OfficeFault::Exists);
     }
-    Ok(Change::InsertMember(Member {
+    Ok(Some(Change::InsertMember(Member {
         name: *name,
         credited: 0,
         quota: quota as u8,
-    }))
+    })))
 }
 
 /// Whether the points are within the limits of a credit or a debit.
@@ -43,7 +44,7 @@ fn are_points(points: u32) -> bool
     1 <= points && points <= MAX_POINTS
 }
 
-fn credit(view: &CommandView, name: &Name, points: u32) -> Result<Change, OfficeFault>
+fn credit(view: &CommandView, name: &Name, points: u32) -> Result<Option<Change>, OfficeFault>
     ensures { result ≡ command_verdict view.now (commands.Credit name.now points) }
 {
     if !are_points(points) {
@@ -55,13 +56,13 @@ fn credit(view: &CommandView, name: &Name, points: u32) -> Result<Change, Office
     if u64::from(member.credited) + u64::from(points) > u64::from(MAX_CREDITED) {
         return Err(OfficeFault::OutOfRange);
     }
-    Ok(Change::AddCredit {
+    Ok(Some(Change::AddCredit {
         member: *name,
         points,
-    })
+    }))
 }
 
-fn debit(view: &CommandView, name: &Name, points: u32) -> Result<Change, OfficeFault>
+fn debit(view: &CommandView, name: &Name, points: u32) -> Result<Option<Change>, OfficeFault>
     ensures { result ≡ command_verdict view.now (commands.Debit name.now points) }
 {
     if !are_points(points) {
@@ -73,13 +74,13 @@ fn debit(view: &CommandView, name: &Name, points: u32) -> Result<Change, OfficeF
     if points > account.balance {
         return Err(OfficeFault::OutOfRange);
     }
-    Ok(Change::TakeCredit {
+    Ok(Some(Change::TakeCredit {
         member: *name,
         points,
-    })
+    }))
 }
 
-fn set_quota(view: &CommandView, name: &Name, quota: u32) -> Result<Change, OfficeFault>
+fn set_quota(view: &CommandView, name: &Name, quota: u32) -> Result<Option<Change>, OfficeFault>
     ensures { result ≡ command_verdict view.now (commands.SetQuota name.now quota) }
 {
     if !is_quota(quota) {
@@ -88,10 +89,10 @@ fn set_quota(view: &CommandView, name: &Name, quota: u32) -> Result<Change, Offi
     if view.member.is_none() {
         return Err(OfficeFault::Unknown);
     }
-    Ok(Change::ReplaceQuota {
+    Ok(Some(Change::ReplaceQuota {
         member: *name,
         quota: quota as u8,
-    })
+    }))
 }
 
 /// Whether the numbers are within the limits of a facility.
@@ -109,7 +110,7 @@ fn add_facility(
     price: u32,
     opens: u32,
     shuts: u32,
-) -> Result<Change, OfficeFault>
+) -> Result<Option<Change>, OfficeFault>
     ensures { result
         ≡ command_verdict view.now (commands.AddFacility name.now kind places price opens shuts) }
 {
@@ -119,14 +120,14 @@ fn add_facility(
     if view.facility.is_some() {
         return Err(OfficeFault::Exists);
     }
-    Ok(Change::InsertFacility(Facility {
+    Ok(Some(Change::InsertFacility(Facility {
         name: *name,
         kind,
         places: places as u8,
         price: price as u16,
         opens: opens as u8,
         shuts: shuts as u8,
-    }))
+    })))
 }
 
 fn set_facility(
@@ -136,7 +137,7 @@ fn set_facility(
     price: u32,
     opens: u32,
     shuts: u32,
-) -> Result<Change, OfficeFault>
+) -> Result<Option<Change>, OfficeFault>
     ensures { result
         ≡ command_verdict view.now (commands.SetFacility name.now places price opens shuts) }
 {
@@ -149,13 +150,13 @@ fn set_facility(
     if view.most_taken > places {
         return Err(OfficeFault::SlotInUse);
     }
-    Ok(Change::ReplaceNumbers {
+    Ok(Some(Change::ReplaceNumbers {
         facility: *name,
         places: places as u8,
         price: price as u16,
         opens: opens as u8,
         shuts: shuts as u8,
-    })
+    }))
 }
 
 fn add_key(
@@ -163,7 +164,7 @@ fn add_key(
     name: &Name,
     member: &Name,
     root: &Root,
-) -> Result<Change, OfficeFault>
+) -> Result<Option<Change>, OfficeFault>
     ensures { result ≡ command_verdict view.now (commands.AddKey name.now member.now root.now) }
 {
     if view.member.is_none() {
@@ -172,22 +173,22 @@ fn add_key(
     if view.key.is_some() {
         return Err(OfficeFault::Exists);
     }
-    Ok(Change::InsertKey(Key {
+    Ok(Some(Change::InsertKey(Key {
         name: *name,
         member: *member,
         root: *root,
         older: None,
         revoked: false,
-    }))
+    })))
 }
 
-fn revoke_key(view: &CommandView, name: &Name) -> Result<Change, OfficeFault>
+fn revoke_key(view: &CommandView, name: &Name) -> Result<Option<Change>, OfficeFault>
     ensures { result ≡ command_verdict view.now (commands.RevokeKey name.now) }
 {
     if view.key.is_none() {
         return Err(OfficeFault::Unknown);
     }
-    Ok(Change::MarkRevoked { key: *name })
+    Ok(Some(Change::MarkRevoked { key: *name }))
 }
 
 fn rotate_key(
@@ -195,7 +196,7 @@ fn rotate_key(
     name: &Name,
     root: &Root,
     until: Moment,
-) -> Result<Change, OfficeFault>
+) -> Result<Option<Change>, OfficeFault>
     ensures { result ≡ command_verdict view.now (commands.RotateKey name.now root.now until) }
 {
     let Some(key) = &view.key else {
@@ -204,15 +205,31 @@ fn rotate_key(
     if key.root == *root {
         return Err(OfficeFault::Exists);
     }
-    Ok(Change::ReplaceRoot {
+    Ok(Some(Change::ReplaceRoot {
         key: *name,
         former: key.root,
         root: *root,
         until,
-    })
+    }))
 }
 
-fn close_slot(view: &CommandView, slot: &Slot) -> Result<Change, OfficeFault>
+fn cancel_booking(view: &CommandView) -> Result<Option<Change>, OfficeFault>
+    ensures { result ≡ office_cancel_verdict view.now.key view.now.booking }
+{
+    let (Some(key), Some(booking)) = (&view.key, &view.booking) else {
+        return Err(OfficeFault::Unknown);
+    };
+    if booking.cancelled {
+        return Ok(None);
+    }
+    Ok(Some(Change::MarkCancelled {
+        booking: *booking,
+        member: key.member,
+        refund: booking.charge,
+    }))
+}
+
+fn close_slot(view: &CommandView, slot: &Slot) -> Result<Option<Change>, OfficeFault>
     ensures { result ≡ command_verdict view.now (commands.CloseSlot slot.now) }
 {
     let Some(facility) = &view.facility else {
@@ -227,29 +244,29 @@ fn close_slot(view: &CommandView, slot: &Slot) -> Result<Change, OfficeFault>
     if view.slot.taken > 0 {
         return Err(OfficeFault::SlotInUse);
     }
-    Ok(Change::MarkClosed(*slot))
+    Ok(Some(Change::MarkClosed(*slot)))
 }
 
-fn open_slot(view: &CommandView, slot: &Slot) -> Result<Change, OfficeFault>
+fn open_slot(view: &CommandView, slot: &Slot) -> Result<Option<Change>, OfficeFault>
     ensures { result ≡ command_verdict view.now (commands.OpenSlot slot.now) }
 {
     if view.facility.is_none() {
         return Err(OfficeFault::Unknown);
     }
-    Ok(Change::MarkOpen(*slot))
+    Ok(Some(Change::MarkOpen(*slot)))
 }
 
-/// The change that a command makes, by its view.
+/// The change that a command makes, by its view. `None` if there is nothing left to change.
 ///
 /// # Errors
 ///
 /// - `OutOfRange`: a number or an hour is outside its limits, a credit would take the member's
 ///   points above their limit, or a debit is more than the balance.
-/// - `Unknown`: the command's member, key or facility doesn't exist.
+/// - `Unknown`: the command's member, key, facility or booking doesn't exist.
 /// - `Exists`: the new name is taken, the key has the root already, or the slot is closed already.
 /// - `SlotInUse`: the slot has bookings, or a slot of the facility has more persons than its new
 ///   places.
-pub fn decide_command(view: &CommandView, command: &Command) -> Result<Change, OfficeFault>
+pub fn decide_command(view: &CommandView, command: &Command) -> Result<Option<Change>, OfficeFault>
     ensures { result ≡ command_verdict view.now command.now }
 {
     match command {
@@ -275,6 +292,7 @@ pub fn decide_command(view: &CommandView, command: &Command) -> Result<Change, O
         Command::AddKey { name, member, root } => add_key(view, name, member, root),
         Command::RevokeKey { name } => revoke_key(view, name),
         Command::RotateKey { name, root, until } => rotate_key(view, name, root, *until),
+        Command::CancelBooking { .. } => cancel_booking(view),
         Command::CloseSlot(slot) => close_slot(view, slot),
         Command::OpenSlot(slot) => open_slot(view, slot),
     }

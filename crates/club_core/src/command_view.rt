@@ -2,7 +2,7 @@
 
 use crate::account::MemberAccount;
 use crate::slot_use::SlotUse;
-use club_rows::{Facility, Key, Member};
+use club_rows::{Booking, Facility, Key, Member};
 
 /// The rows that decide a command, and the figures. A field that the command doesn't read is `None`
 /// or 0; without a slot nothing is taken.
@@ -16,4 +16,6 @@ pub struct CommandView {
     pub slot: SlotUse,
     /// The most persons in a slot of the facility, for new numbers.
     pub most_taken: u32,
+    /// The booking that is cancelled.
+    pub booking: Option<Booking>,
 }
