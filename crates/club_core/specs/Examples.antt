@@ -3,8 +3,9 @@ use Rattle.std.specs.Prelude.{◌≡◌, ℕ, true, false, List, [], ◌∷◌, 
 use Rattle.club_values.specs.declared.{kind.Kind.TheVariants.Court, slot.Slot.Slot}
 use Rattle.pass_caveats.specs.declared.caveat.Caveat.{Caveat, TheVariants.Spend}
 use Rattle.club_core.specs.{Club.{Club, empty_club}, Run.{Event, Asked, Commanded, replies_of, club_after, EventReply, ToMember, ToOffice}}
-use Rattle.club_core.specs.declared.command.Command.TheVariants.{AddMember, Credit, Debit, AddFacility, SetFacility, AddKey, CloseSlot, OpenSlot, SetQuota}
-use Rattle.club_core.specs.declared.command.{OfficeAnswer.TheVariants.{Done, NotDone}, OfficeFault.TheVariants.{Exists, Unknown, OutOfRange, SlotInUse}}
+use Rattle.club_core.specs.declared.command.Command.TheVariants.{AddMember, Credit, Debit, AddFacility, SetFacility, AddKey, RevokeKey, CancelBooking}
+use Rattle.club_core.specs.declared.command.{Command.TheVariants.{CloseSlot, OpenSlot, SetQuota}, OfficeAnswer.TheVariants.{Done, NotDone}}
+use Rattle.club_core.specs.declared.command.OfficeFault.TheVariants.{Exists, Unknown, OutOfRange, SlotInUse}
 use Rattle.club_core.specs.declared.{reply.Reply.TheVariants.{Booked, SlotShown, Cancelled, AccountShown, Refused}, request.Request.Request}
 use Rattle.club_core.specs.declared.refusal.Refusal.TheVariants as refusals
 use Rattle.club_core.specs.declared.request.Request.TheVariants as asked
@@ -28,9 +29,12 @@ opened_club = club_after empty_club opening
 abbrev pub slot_at : ℕ → Slot
 slot_at hour = record { facility = codes "court-1"; day = 20574; hour = hour }
 
--- 2026-04-20T12:00, and a minute after the slot at 18 has begun
+-- 2026-04-20T12:00, an hour before the slot at 18 begins, and a minute after
 abbrev pub noon : ℕ
 noon = 29_611_440
+
+abbrev pub soon : ℕ
+soon = 29_627_580
 
 abbrev pub late : ℕ
 late = 29_627_641
@@ -199,6 +203,58 @@ SetsAFacility =
     ∷ ToOffice (NotDone OutOfRange)
     ∷ ToOffice (NotDone Unknown)
     ∷ []
+
+-- the office cancels with the whole charge as refund, also once the slot has begun; a repeat and a cancellation after it get what is on record
+abbrev pub CancelsForAMember : Type 0
+CancelsForAMember =
+    replies_of opened_club
+    (ask (asked.Book (slot_at 18) 7 2) noon
+    ∷ ask (asked.Cancel (slot_at 18) 7) late
+    ∷ Commanded (CancelBooking (codes "amy-1") 7)
+    ∷ ask asked.Account late
+    ∷ ask (asked.Book (slot_at 18) 7 2) late
+    ∷ ask (asked.Cancel (slot_at 18) 7) late
+    ∷ Commanded (CancelBooking (codes "amy-1") 7)
+    ∷ ask asked.Account late
+    ∷ ask (asked.Book (slot_at 18) 8 3) noon
+    ∷ Commanded (CancelBooking (codes "amy-1") 9)
+    ∷ Commanded (CancelBooking (codes "amy-2") 7)
+    ∷ [])
+    ≡ served_booking 7 600 1
+    ∷ ToMember (Refused refusals.SlotHasBegun)
+    ∷ ToOffice Done
+    ∷ account 10_000 0 0
+    ∷ served_booking 7 600 1
+    ∷ served_cancellation 7 600
+    ∷ ToOffice Done
+    ∷ account 10_000 0 0
+    ∷ served_booking 8 800 0
+    ∷ ToOffice (NotDone Unknown)
+    ∷ ToOffice (NotDone Unknown)
+    ∷ []
+
+-- a booking that its member cancelled keeps its refund
+abbrev pub KeepsARefund : Type 0
+KeepsARefund =
+    replies_of opened_club
+    (ask (asked.Book (slot_at 18) 7 2) noon
+    ∷ ask (asked.Cancel (slot_at 18) 7) soon
+    ∷ Commanded (CancelBooking (codes "amy-1") 7)
+    ∷ ask asked.Account noon
+    ∷ [])
+    ≡ served_booking 7 600 1 ∷ served_cancellation 7 300 ∷ ToOffice Done ∷ account 9_700 0 300 ∷ []
+
+-- the office cancels a booking of a revoked key, and its places are free
+abbrev pub CancelsUnderARevokedKey : Type 0
+CancelsUnderARevokedKey =
+    replies_of opened_club
+    (ask (asked.Book (slot_at 18) 7 2) noon
+    ∷ Commanded (RevokeKey (codes "amy-1"))
+    ∷ Commanded (CloseSlot (slot_at 18))
+    ∷ Commanded (CancelBooking (codes "amy-1") 7)
+    ∷ Commanded (CloseSlot (slot_at 18))
+    ∷ [])
+    ≡ served_booking 7 600 1 ∷ ToOffice Done ∷ ToOffice (NotDone SlotInUse) ∷ ToOffice Done ∷ ToOffice Done ∷ []
 
 -- a pass that may spend 600 points may spend them again after a refund
 abbrev pub KeepsASpendLimit : Type 0

@@ -2,7 +2,8 @@
 
 ghost use Rattle.club_core.specs.Examples.{BooksAndCancels, RepeatsAfterACancellation, ClosesASlot};
 ghost use Rattle.club_core.specs.Examples.{OpensASlot, DebitsAMember, SetsAQuota, SetsAFacility};
-ghost use Rattle.club_core.specs.{Examples.KeepsASpendLimit, Laws.RefusalsChangeNothing};
+ghost use Rattle.club_core.specs.Examples.{KeepsASpendLimit, CancelsForAMember, KeepsARefund};
+ghost use Rattle.club_core.specs.{Examples.CancelsUnderARevokedKey, Laws.RefusalsChangeNothing};
 ghost use Rattle.club_core.specs.Laws.{ViewsDecide, TestsTheSignature, OwnBookings, MostTaken};
 ghost use Rattle.club_core.specs.{Laws.{OneSheet, SomeSheet}, Looks.LooksNoFurther};
 
@@ -39,6 +40,21 @@ pub fn sets_a_quota()
 /// New numbers of a facility hold for the next booking; what is booked stays as it is.
 pub fn sets_a_facility()
     ensures { SetsAFacility }
+{}
+
+/// The office cancels with the whole charge as refund, also once the slot has begun.
+pub fn cancels_for_a_member()
+    ensures { CancelsForAMember }
+{}
+
+/// A booking that its member cancelled keeps its refund.
+pub fn keeps_a_refund()
+    ensures { KeepsARefund }
+{}
+
+/// The office cancels a booking of a revoked key, and its places are free.
+pub fn cancels_under_a_revoked_key()
+    ensures { CancelsUnderARevokedKey }
 {}
 
 /// Under a spend limit, refunded points can be spent again.
