@@ -1,11 +1,11 @@
 -- The ways in which a request is answered and a command is decided, each with what it rests on.
-use Rattle.club_laws.proofs.Common.{◌≡◌, ℕ, ◌+◌, ◌-◌, true, false, Option, Some, None, Ok, refl, ◌∙◌, arith, List, ◌≤◌, Err, bytes_eq-Decides, Result, ◌&&◌}
-use Rattle.club_laws.proofs.Common.{◌==◌, nat_lt, bytes_eq, Slot, Member, Facility, Key, Booking, Verdict, Reply, Booked, Cancelled, Refused, Request}
-use Rattle.club_laws.proofs.Common.{same_slot, refund_at, Pass, Words, Club, facility_named, is_key_of, bookings_of, is_closed, key_named, member_named}
-use Rattle.club_laws.proofs.Common.{taken_in, balance_of, booking_under, Basis, basis_of, view_of, state_of, key_of, answer_to, verdict_in, request_slot}
-use Rattle.club_laws.proofs.Common.{Change, InsertMember, AddCredit, InsertFacility, InsertKey, MarkRevoked, ReplaceRoot, MarkClosed, MarkOpen, ReplaceQuota}
-use Rattle.club_laws.proofs.Common.{Command, AddMember, Credit, AddFacility, AddKey, RevokeKey, RotateKey, CloseSlot, OpenSlot, SetQuota, OfficeFault}
-use Rattle.club_laws.proofs.Common.{office_verdict, are_limits}
+use Rattle.club_laws.proofs.Common.{Debit, TakeCredit, ◌≡◌, ℕ, ◌+◌, ◌-◌, true, false, Option, Some, None, Ok, refl, ◌∙◌, arith, List, ◌≤◌, Err}
+use Rattle.club_laws.proofs.Common.{bytes_eq-Decides, Result, ◌&&◌, ◌==◌, nat_lt, bytes_eq, Slot, Member, Facility, Key, Booking, Verdict, Reply, Booked}
+use Rattle.club_laws.proofs.Common.{Cancelled, Refused, Request, same_slot, refund_at, Pass, Words, Club, facility_named, is_key_of, bookings_of, is_closed}
+use Rattle.club_laws.proofs.Common.{key_named, member_named, taken_in, balance_of, booking_under, Basis, basis_of, view_of, state_of, key_of, answer_to}
+use Rattle.club_laws.proofs.Common.{verdict_in, request_slot, Change, InsertMember, AddCredit, InsertFacility, InsertKey, MarkRevoked, ReplaceRoot, MarkClosed}
+use Rattle.club_laws.proofs.Common.{MarkOpen, ReplaceQuota, Command, AddMember, Credit, AddFacility, AddKey, RevokeKey, RotateKey, CloseSlot, OpenSlot}
+use Rattle.club_laws.proofs.Common.{SetQuota, OfficeFault, office_verdict, are_limits}
 use Rattle.club_laws.proofs.FoundRows.{is_numbered, numbered, found_passes, found_is_there, find-filter, any_passes, any-filter, named}
 use Rattle.club_rows.specs.Facility.{charge_of}
 use Rattle.club_core.specs.declared.pass_fault.PassFault.{PassFault}
@@ -127,6 +127,8 @@ module _ (P : Verdict → Type 0) (club : Club) (words : Words) (moment : ℕ) (
 abbrev pub CommandRestsOn : Club → Command → Type 0
 CommandRestsOn club (AddMember name quota) = (quota ≤ 99) × (member_named name club ≡ None)
 CommandRestsOn club (Credit name points) = (member : Member) × (member_named name club ≡ Some member) × (member.credited + points ≤ 999_999_999)
+CommandRestsOn club (Debit name points) =
+    (member : Member) × (member_named name club ≡ Some member) × (points ≤ balance_of member (bookings_of member.name club))
 CommandRestsOn club (SetQuota name quota) = (quota ≤ 99) × (member : Member) × (member_named name club ≡ Some member)
 CommandRestsOn club (AddFacility name kind places price opens shuts) = (are_limits places price opens shuts ≡ true) × (facility_named name club ≡ None)
 CommandRestsOn club (AddKey name member root) = (owner : Member) × (member_named member club ≡ Some owner) × (key_named name club ≡ None)
@@ -139,6 +141,7 @@ CommandRestsOn club (OpenSlot slot) = (facility : Facility) × (facility_named s
 abbrev pub change_of : (club : Club) (command : Command) → CommandRestsOn club command → Change
 change_of club (AddMember name quota) r = InsertMember (record { name = name; credited = 0; quota = quota })
 change_of club (Credit name points) r = AddCredit name points
+change_of club (Debit name points) r = TakeCredit name points
 change_of club (SetQuota name quota) r = ReplaceQuota name quota
 change_of club (AddFacility name kind places price opens shuts) r =
     InsertFacility (record { name = name; kind = kind; places = places; price = price; opens = opens; shuts = shuts })
@@ -154,6 +157,9 @@ module _ (P : Result Change OfficeFault → Type 0) (club : Club) (fails : (faul
       let ok = λ (few : quota ≤ 99) (new : member_named name club ≡ None). done (few, new) in grind (arith, nat_tests, fails)
   command_cases (Credit name points) done =
       let ok = λ (m : Member) (found : member_named name club ≡ Some m) (few : m.credited + points ≤ 999_999_999). done (m, found, few) in
+      grind (arith, nat_tests, fails)
+  command_cases (Debit name points) done =
+      let ok = λ (m : Member) (found : member_named name club ≡ Some m) (enough : points ≤ balance_of m (bookings_of m.name club)). done (m, found, enough) in
       grind (arith, nat_tests, fails)
   command_cases (SetQuota name quota) done =
       let ok = λ (few : quota ≤ 99) (m : Member) (found : member_named name club ≡ Some m). done (few, m, found) in grind (arith, nat_tests, fails)

@@ -1,11 +1,11 @@
 -- A member's keys and credit, computed from a run's events and replies.
-use Rattle.club_laws.proofs.{AnswerCases.{answer_cases, command_cases, CommandRestsOn, change_of}, Common.{◌≡◌, ℕ, ◌+◌, Bool, true, false, cond, List, [], ◌∷◌}}
-use Rattle.club_laws.proofs.Common.{map, Option, Some, None, arith, bytes_eq-Decides, Result, ◌||◌, find, is_some, bytes_eq, list_any, list_any-append}
-use Rattle.club_laws.proofs.Common.{find-append, Member, after, ToOffice, done_answer, Verdict, Change, Command, AddMember, Credit, SetQuota, AddKey, RevokeKey}
-use Rattle.club_laws.proofs.Common.{RotateKey, OfficeFault, Words, Club, member_named, is_key_of, verdict_in, credited_member, revoked_key, rotated_key, Event}
-use Rattle.club_laws.proofs.Common.{Asked, Commanded, step, after_change, command_outcome, replies_of, club_after, member_with_quota}
-use Rattle.club_laws.proofs.MemberParts.{is_key_of-added, is_key_of-edited}
-use Rattle.club_laws.specs.Points.{key_given, keys_given, credit_accepted, credits_accepted}
+use Rattle.club_laws.proofs.{AnswerCases.{answer_cases, command_cases, CommandRestsOn, change_of}, Common.{debited_member, Debit, ◌≤◌, ◌≡◌, ℕ, ◌+◌, Bool, true}}
+use Rattle.club_laws.proofs.Common.{false, cond, List, [], ◌∷◌, map, Option, Some, None, arith, bytes_eq-Decides, Result, ◌||◌, find, is_some, bytes_eq}
+use Rattle.club_laws.proofs.Common.{list_any, list_any-append, find-append, Member, after, ToOffice, done_answer, Verdict, Change, Command, AddMember, Credit}
+use Rattle.club_laws.proofs.Common.{SetQuota, AddKey, RevokeKey, RotateKey, OfficeFault, Words, Club, member_named, is_key_of, verdict_in, credited_member}
+use Rattle.club_laws.proofs.Common.{revoked_key, rotated_key, Event, Asked, Commanded, step, after_change, command_outcome, replies_of, club_after}
+use Rattle.club_laws.proofs.{Common.member_with_quota, MemberParts.{is_key_of-added, is_key_of-edited}}
+use Rattle.club_laws.specs.Points.{key_given, keys_given, credit_accepted, credits_accepted, debit_accepted, debits_accepted}
 
 -- requests change only bookings
 pub record KeepsPeople (club new : Club) : Type 0 where
@@ -63,6 +63,18 @@ credit_grown name other points (m ∷ members) known =
     let both = bytes_eq-Decides other name in
     grind (arith, credit_grown name other points members)
 
+-- a debit of no more than the credit takes its points, of the member that it names
+credit_taken : (name other : List ℕ) (points : ℕ) (members : List Member)
+    → (bytes_eq other name ≡ true → points ≤ credit_of (find (λ (m : Member). bytes_eq m.name name) members))
+    → credit_of (find (λ (m : Member). bytes_eq m.name name) (map (debited_member other points) members)) + cond (bytes_eq other name) points 0
+    ≡ credit_of (find (λ (m : Member). bytes_eq m.name name) members)
+credit_taken name other points [] enough = grind arith
+credit_taken name other points (m ∷ members) enough =
+    let here = bytes_eq-Decides m.name name in
+    let theirs = bytes_eq-Decides m.name other in
+    let both = bytes_eq-Decides other name in
+    grind (arith, credit_taken name other points members)
+
 -- another quota credits nobody
 credit_kept : (name other : List ℕ) (quota : ℕ) (members : List Member)
     → credit_of (find (λ (m : Member). bytes_eq m.name name) (map (member_with_quota other quota) members))
@@ -71,27 +83,34 @@ credit_kept name other quota [] = grind arith
 credit_kept name other quota (m ∷ members) = grind (arith, credit_kept name other quota members)
 
 module _ (name : List ℕ) where
-  credit_of_step : (club : Club) (event : Event) → credit_of (member_named name (step club event).club)
+  credit_of_step : (club : Club) (event : Event) → credit_of (member_named name (step club event).club) + debit_accepted name event (step club event).reply
       ≡ credit_of (member_named name club) + credit_accepted name event (step club event).reply
   credit_of_step club (Asked words moment) = let kept = (answer_keeps club words moment).members in grind arith
   credit_of_step club (Commanded command) =
       command_cases (λ (v : Result Change OfficeFault). credit_of (member_named name (command_outcome club command v).club)
+      + debit_accepted name (Commanded command) (command_outcome club command v).reply
       ≡ credit_of (member_named name club) + credit_accepted name (Commanded command) (command_outcome club command v).reply) club (λ fault. grind arith)
       command (credited command)
     where
       credited : (c : Command) (r : CommandRestsOn club c) → credit_of (member_named name (after (change_of club c r) club))
+          + debit_accepted name (Commanded c) (ToOffice (done_answer c))
           ≡ credit_of (member_named name club) + credit_accepted name (Commanded c) (ToOffice (done_answer c))
       credited (AddMember other quota) r =
           let new : Member = record { name = other; credited = 0; quota = quota } in
           grind (arith, find-append (λ (m : Member). bytes_eq m.name name) club.members (new ∷ []))
       credited (Credit other points) r =
-          credit_grown name other points club.members (λ e. let known = r.1 in grind (arith, bytes_eq-Decides other name))
+          let grown = credit_grown name other points club.members (λ e. let known = r.1 in grind (arith, bytes_eq-Decides other name)) in
+          omega arith
+      credited (Debit other points) r =
+          let taken = credit_taken name other points club.members (λ e.
+          let known = r.1 in let enough = r.2 in grind (arith, bytes_eq-Decides other name)) in
+          omega arith
       credited (SetQuota other quota) r = grind (arith, credit_kept name other quota club.members)
       credited c r = grind arith
 
-  -- a member's credit after a run is that before and what the run credited
+  -- a member's credit after a run, and what the run debited, is that before and what the run credited
   pub credit_of_run : (club : Club) (events : List Event) → credit_of (member_named name (club_after club events))
-      ≡ credit_of (member_named name club) + credits_accepted name events (replies_of club events)
+      + debits_accepted name events (replies_of club events) ≡ credit_of (member_named name club) + credits_accepted name events (replies_of club events)
   credit_of_run club [] = omega arith
   credit_of_run club (event ∷ events) =
       let next = step club event in

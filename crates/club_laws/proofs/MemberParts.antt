@@ -1,14 +1,14 @@
 -- Whose keys are, and a member's part: what each kind of change makes of them.
-use Rattle.club_laws.proofs.{AnswerCases.{answer_cases, written, CommandRestsOn, change_of, command_cases}, Common.{◌≡◌, ◌≢◌, ℕ, Bool, true, List, [], ◌∷◌}}
-use Rattle.club_laws.proofs.Common.{◌++◌, get_or, map, Option, Some, sym, ◌∙◌, arith, false, cond, filter, None, All, Contains, append-nil, refl, find}
-use Rattle.club_laws.proofs.Common.{AllPairs, Result, bytes_eq-Decides, ◌&&◌, ◌||◌, bytes_eq, list_any, list_any-append, Any-from_list_any, Key, Booking, Club}
-use Rattle.club_laws.proofs.Common.{key_named, is_key_of, bookings_of, keys_of, IsSound, Contains-push, All-contains, filter-append, All-push, All-map, Member}
-use Rattle.club_laws.proofs.Common.{Change, InsertMember, AddCredit, InsertFacility, InsertKey, MarkRevoked, ReplaceRoot, MarkClosed, MarkOpen, ReplaceQuota}
-use Rattle.club_laws.proofs.Common.{InsertBooking, MarkCancelled, after, credited_member, revoked_key, rotated_key, cancelled_booking, map-map, Verdict}
-use Rattle.club_laws.proofs.Common.{Command, AddKey, RevokeKey, RotateKey, OfficeFault, Event, Asked, Commanded, step, after_change, command_outcome}
-use Rattle.club_laws.proofs.{Common.member_with_quota, FilteredRows.{filter_same, filter_fixed, fixed_where_none, filter-map}, FoundRows.AllPairs-head}
-use Rattle.club_laws.proofs.FoundRows.{AllPairs-tail, any-filter, any-map, fresh_differs, only_named, none_named, other_bytes, AllPairs-map, still_there}
-use Rattle.club_laws.proofs.FoundRows.{named_there}
+use Rattle.club_laws.proofs.{AnswerCases.{answer_cases, written, CommandRestsOn, change_of, command_cases}, Common.{debited_member, TakeCredit, ◌≡◌, ◌≢◌, ℕ}}
+use Rattle.club_laws.proofs.Common.{Bool, true, List, [], ◌∷◌, ◌++◌, get_or, map, Option, Some, sym, ◌∙◌, arith, false, cond, filter, None, All, Contains}
+use Rattle.club_laws.proofs.Common.{append-nil, refl, find, AllPairs, Result, bytes_eq-Decides, ◌&&◌, ◌||◌, bytes_eq, list_any, list_any-append}
+use Rattle.club_laws.proofs.Common.{Any-from_list_any, Key, Booking, Club, key_named, is_key_of, bookings_of, keys_of, IsSound, Contains-push, All-contains}
+use Rattle.club_laws.proofs.Common.{filter-append, All-push, All-map, Member, Change, InsertMember, AddCredit, InsertFacility, InsertKey, MarkRevoked}
+use Rattle.club_laws.proofs.Common.{ReplaceRoot, MarkClosed, MarkOpen, ReplaceQuota, InsertBooking, MarkCancelled, after, credited_member, revoked_key}
+use Rattle.club_laws.proofs.Common.{rotated_key, cancelled_booking, map-map, Verdict, Command, AddKey, RevokeKey, RotateKey, OfficeFault, Event, Asked}
+use Rattle.club_laws.proofs.Common.{Commanded, step, after_change, command_outcome, member_with_quota}
+use Rattle.club_laws.proofs.{FilteredRows.{filter_same, filter_fixed, fixed_where_none, filter-map}, FoundRows.{AllPairs-head, AllPairs-tail, any-filter}}
+use Rattle.club_laws.proofs.FoundRows.{any-map, fresh_differs, only_named, none_named, other_bytes, AllPairs-map, still_there, named_there}
 use Rattle.std.proofs.{Common.bytes_eq, lemmas.List.Quantifiers.all_pairs_push}
 use Rattle.club_rows.specs.declared.key.OlderRoot.{OlderRoot}
 use Rattle.club_core.specs.Solo.{part_of}
@@ -98,6 +98,24 @@ key_edited root older is_revoked name club other same =
     let fixed = fixed_where_none (has_name other) edit same (keys_of name club) in
     grind (arith, filter-map edit (is_owned name) club.keys)
 
+-- an edit of a member's row that keeps its name
+abbrev pub edited_member : (Member → ℕ) → (Member → ℕ) → Member → Member
+edited_member credited quota member = record member { credited = credited member; quota = quota member }
+
+-- an edit of the rows of one name
+member_edited : (credited quota : Member → ℕ) (name : List ℕ) (club : Club) (other : List ℕ)
+    → ((member : Member) → bytes_eq member.name other ≡ false → edited_member credited quota member ≡ member)
+    → part_of name (record club { members = map (edited_member credited quota) club.members })
+    ≡ cond (bytes_eq other name) (record (part_of name club) { members = map (edited_member credited quota) (filter (is_named name) club.members) })
+    (part_of name club)
+member_edited credited quota name club other same =
+    let edit = edited_member credited quota in
+    let members = filter (is_named name) club.members in
+    let fixed : bytes_eq other name ≡ false → map edit members ≡ members =
+    λ e. filter_fixed (is_named name) edit (λ member f.
+    same member (grind (arith, bytes_eq-Decides member.name name, bytes_eq-Decides member.name other))) club.members in
+    grind (arith, filter-map edit (is_named name) club.members)
+
 -- a key that is new has a new name
 abbrev pub IsFresh : Club → Change → Type 0
 IsFresh club (InsertKey key) = key_named key.name club ≡ None
@@ -109,17 +127,11 @@ pub part_changed : (name : List ℕ) (club : Club) (change : Change) → HasKnow
 part_changed name club (InsertMember member) known fresh =
     grind (arith, filter-append (is_named name) club.members (member ∷ []), append-nil (filter (is_named name) club.members))
 part_changed name club (AddCredit other points) known fresh =
-    let edit = credited_member other points in
-    let members = filter (is_named name) club.members in
-    let fixed : bytes_eq other name ≡ false → map edit members ≡ members =
-    λ e. filter_fixed (is_named name) edit (λ member f. grind (arith, bytes_eq-Decides member.name name, bytes_eq-Decides member.name other)) club.members in
-    grind (arith, filter-map edit (is_named name) club.members)
+    member_edited (λ member. (credited_member other points member).credited) (λ member. member.quota) name club other (λ member e. grind arith)
+part_changed name club (TakeCredit other points) known fresh =
+    member_edited (λ member. (debited_member other points member).credited) (λ member. member.quota) name club other (λ member e. grind arith)
 part_changed name club (ReplaceQuota other quota) known fresh =
-    let edit = member_with_quota other quota in
-    let members = filter (is_named name) club.members in
-    let fixed : bytes_eq other name ≡ false → map edit members ≡ members =
-    λ e. filter_fixed (is_named name) edit (λ member f. grind (arith, bytes_eq-Decides member.name name, bytes_eq-Decides member.name other)) club.members in
-    grind (arith, filter-map edit (is_named name) club.members)
+    member_edited (λ member. member.credited) (λ member. (member_with_quota other quota member).quota) name club other (λ member e. grind arith)
 part_changed name club (InsertFacility facility) known fresh = refl
 part_changed name club (InsertKey key) known fresh =
     let bookings = bookings_of-added name club key (none_named (λ (k : Key). k.name) key.name club.keys fresh) known in

@@ -12,9 +12,9 @@ use Rattle.club_laws.proofs.FoundRows.{AreApart, found_is_there, none_found, any
 use Rattle.club_laws.proofs.FoundRows.{self_numbered, numbered_back, numbered, only_numbered, found_by_own, named, none_named}
 use Rattle.club_laws.proofs.{MemberAccounts.{is_among, keys_of_run, credit_of, credit_of_run}, SoundSteps.{nobody_in, sound_step, sound_run}}
 use Rattle.std.proofs.lemmas.List.{Filters.sum_by-filter_both, Sums.sum_by-cons}
-use Rattle.club_laws.specs.{Conservation.{ConservesPoints, SoundClubsHavePlaces, NeverOverbooks}, Points.{Entry, is_entry_of, firsts, charge_of_reply}}
-use Rattle.club_laws.specs.Points.{refund_of_reply, charges_of_replies, refunds_of_replies, keys_given, credits_accepted, total_under}
-use Rattle.club_laws.specs.Spending.{AccountsShowWhatIsUsed, SpendsWithinItsMember}
+use Rattle.club_laws.specs.{Conservation.{ConservesPoints, ConservesWithoutDebits, IsNoDebit, SoundClubsHavePlaces, NeverOverbooks}, Points.Entry}
+use Rattle.club_laws.specs.Points.{is_entry_of, firsts, charge_of_reply, refund_of_reply, charges_of_replies, refunds_of_replies, keys_given, credits_accepted}
+use Rattle.club_laws.specs.{Points.{debit_accepted, debits_accepted, total_under}, Spending.{AccountsShowWhatIsUsed, SpendsWithinItsMember}}
 use Rattle.club_rows.specs.Rows.{IsBooking}
 use Rattle.club_core.specs.declared.command.OfficeAnswer.{OfficeAnswer, TheVariants.NotDone}
 
@@ -279,12 +279,32 @@ conserved events name member h e =
     let all_refunds = all_count keys (has_cancelled []) (refunds_of_replies replies) (λ key number. refl) in
     let parts = cost_and_refund (filter (λ (b : Booking). p b.key) club.bookings)
     (All-filter (λ (b : Booking). p b.key) IsBooking club.bookings s.rows.bookings) in
-    let credit : member.credited ≡ 0 + credits_accepted member.name events replies = sym (ap credit_of found) ∙ credit_of_run member.name empty_club events in
+    let credit : member.credited + debits_accepted member.name events replies ≡ 0 + credits_accepted member.name events replies =
+    sym (ap (λ (m : Option Member). credit_of m + debits_accepted member.name events replies) found) ∙ credit_of_run member.name empty_club events in
     let costs : sum_by cost_of (bookings_of member.name club) ≡ sum_by cost_of (filter (λ (b : Booking). p b.key) club.bookings) =
     ap (λ (bookings : List Booking). sum_by cost_of bookings) own in
     let covered : sum_by cost_of (bookings_of member.name club) ≤ member.credited =
     at_found (λ (m : Member). sum_by cost_of (bookings_of m.name club) ≤ m.credited) (λ (m : Member). bytes_eq m.name name) club.members member s.balances e in
     record { balance_adds_up = omega arith; coverage = covered }
+
+-- without a debit in the list, none is accepted
+no_debits : (name : List ℕ) (events : List Event) (replies : List EventReply) → All IsNoDebit events → debits_accepted name events replies ≡ 0
+no_debits name [] replies h = grind arith
+no_debits name (event ∷ events) [] h = grind arith
+no_debits name (event ∷ events) (reply ∷ replies) h = omega (
+  arith,
+  here event reply (All-head IsNoDebit event events h),
+  no_debits name events replies (All-tail IsNoDebit event events h),
+)
+  where
+    here : (event : Event) (reply : EventReply) → IsNoDebit event → debit_accepted name event reply ≡ 0
+    here event reply h = grind arith
+
+pub conserved_without_debits : ConservesWithoutDebits
+conserved_without_debits events name member h without e =
+    let all = (conserved events name member h e).balance_adds_up in
+    let none = no_debits member.name events (replies_of empty_club events) without in
+    omega arith
 
 -- who booked a slot of a sound club has a place in it
 pub has_places : SoundClubsHavePlaces

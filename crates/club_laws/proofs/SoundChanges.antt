@@ -1,12 +1,12 @@
 -- A change whose values are within their limits, and which leaves what the club's rows allow, keeps the club sound.
-use Rattle.club_laws.proofs.Common.{◌≡◌, ◌≢◌, ℕ, ◌≤◌, false, true, List, [], ◌∷◌, ◌++◌, get_or, map, arith, All, Contains, sum_by, All-push, All-map, map-map}
-use Rattle.club_laws.proofs.Common.{both_ways, Slot, Member, Facility, Key, Booking, persons_of, same_slot, cost_of, is_in, taken_in, credited_member}
-use Rattle.club_laws.proofs.Common.{revoked_key, rotated_key, after, is_marked, cancelled_booking, Club, is_key_of, bookings_of, IsSound, bytes_eq-Decides}
-use Rattle.club_laws.proofs.Common.{InsertMember, AddCredit, InsertFacility, InsertKey, MarkRevoked, ReplaceRoot, MarkClosed, MarkOpen, ReplaceQuota}
-use Rattle.club_laws.proofs.{Common.{InsertBooking, MarkCancelled, Some, subst, sym, key_named}, FilteredRows.{sum_one_more, sum_no_more}}
-use Rattle.club_laws.proofs.FoundRows.{AllPairs-map, All-each, still_there, still_all, named, named_there, only_named, only_numbered, none_passes, same_slots}
-use Rattle.club_laws.proofs.{FoundRows.{slots_same, AreApart}, MemberParts.{bookings_of-added, owner}}
-use Rattle.club_laws.proofs.SoundSteps.{nothing_booked, nobody_in, sound_edited, sound_opened, sound_quota, rotated_row, cancelled_row, costs_no_more}
+use Rattle.club_laws.proofs.Common.{TakeCredit, ◌≡◌, ◌≢◌, ℕ, ◌≤◌, false, true, List, [], ◌∷◌, ◌++◌, get_or, map, arith, All, Contains, sum_by, All-push}
+use Rattle.club_laws.proofs.Common.{All-map, both_ways, Slot, Member, Facility, Key, Booking, persons_of, same_slot, cost_of, is_in, taken_in, revoked_key}
+use Rattle.club_laws.proofs.Common.{rotated_key, after, is_marked, cancelled_booking, Club, is_key_of, bookings_of, IsSound, bytes_eq-Decides, InsertMember}
+use Rattle.club_laws.proofs.Common.{AddCredit, InsertFacility, InsertKey, MarkRevoked, ReplaceRoot, MarkClosed, MarkOpen, ReplaceQuota, InsertBooking}
+use Rattle.club_laws.proofs.{Common.{MarkCancelled, Some, subst, sym, key_named}, FilteredRows.{sum_one_more, sum_no_more}, FoundRows.{AllPairs-map, All-each}}
+use Rattle.club_laws.proofs.FoundRows.{still_there, still_all, named, named_there, only_named, only_numbered, none_passes, same_slots, slots_same, AreApart}
+use Rattle.club_laws.proofs.{MemberParts.{bookings_of-added, owner}, SoundSteps.{sound_credit, sound_debit, nothing_booked, nobody_in, sound_edited}}
+use Rattle.club_laws.proofs.SoundSteps.{sound_opened, sound_quota, rotated_row, cancelled_row, costs_no_more}
 use Rattle.std.proofs.lemmas.{Bool.Decides.nat_tests, List.Quantifiers.all_pairs_push}
 use Rattle.club_rows.specs.Rows.{IsMember, IsFacility, IsKey, IsSlot, IsBooking}
 use Rattle.club_laws.specs.SoundRuns.{Suits, SuitingChangesKeepSound}
@@ -86,21 +86,8 @@ sound_after club (InsertMember member) s h =
     let balances = All-push (λ (m : Member). sum_by cost_of (bookings_of m.name club) ≤ m.credited) club.members member s.balances
     (nothing_booked club member s.references h.1) in
     assumption
-sound_after club (AddCredit name points) s h =
-    let edit = credited_member name points in
-    let few = h.2 in
-    let limits = All-map IsMember edit club.members (λ k d short.
-    let row = s.rows.members k d short in
-    let is = only_named (λ (m : Member). m.name) name club.members h.0 s.unique.members h.1 k d short in
-    let kept = row.credited in
-    record { name = row.name; credited = grind arith; quota = row.quota }) in
-    let names = AllPairs-map edit (λ (a : Member) (b : Member). a.name ≢ b.name) (λ (a : Member) (b : Member). a.name ≢ b.name) (λ a b h. h) club.members
-    s.unique.members in
-    let known = still_all (λ (m : Member). m.name) club.members (map edit club.members) (λ (k : Key). k.member) club.keys
-    (λ n h. rw (map-map (λ (m : Member). m.name) edit club.members) h) s.references.keys in
-    let balances = All-map (λ (m : Member). sum_by cost_of (bookings_of m.name club) ≤ m.credited) edit club.members
-    (λ k d short. let before = s.balances k d short in grind arith) in
-    assumption
+sound_after club (AddCredit name points) s h = sound_credit club name points h.0 h.1 h.2 s
+sound_after club (TakeCredit name points) s h = sound_debit club name points h.0 h.1 h.2 s
 sound_after club (ReplaceQuota name quota) s h = sound_quota club name quota h s
 sound_after club (InsertFacility facility) s h =
     let fresh = h.1 in

@@ -1,16 +1,16 @@
 -- Steps and runs keep a sound club, and each change fits.
-use Rattle.club_laws.proofs.{AnswerCases.{CommandRestsOn, change_of, Knows, Books, Cancels, written, answer_cases, command_cases}, Common.{None, ◌≡◌, ◌≢◌, ℕ}}
-use Rattle.club_laws.proofs.Common.{◌≤◌, Bool, false, List, [], ◌∷◌, ◌++◌, get_or, map, ap, arith, ◌+◌, true, cond, All, subst, Option, Some, Ok, Err, Contains}
-use Rattle.club_laws.proofs.Common.{IfSome, sum_by, ◌||◌, Result, bytes_eq, All-push, All-map, All-head, All-tail, map-map, cond_both, both_ways, Slot, Member}
-use Rattle.club_laws.proofs.Common.{Facility, Key, Booking, persons_of, same_slot, refund_at, cost_of, is_in, taken_in, credited_member, revoked_key}
-use Rattle.club_laws.proofs.Common.{good_until, rotated_key, after, is_marked, cancelled_booking, Club, keys_of, is_key_of, bookings_of, IsSound, HasReferences}
-use Rattle.club_laws.proofs.Common.{Command, AddMember, Credit, AddFacility, AddKey, RevokeKey, RotateKey, CloseSlot, OpenSlot, SetQuota, IsCommand, IsRequest}
-use Rattle.club_laws.proofs.Common.{IsEvent, bytes_eq-Decides, Verdict, Words, verdict_in, after_change, Asked, Commanded, step, command_outcome, Change}
-use Rattle.club_laws.proofs.Common.{OfficeFault, office_verdict, MarkOpen, ReplaceQuota, member_with_quota, All-filter, not}
-use Rattle.club_laws.proofs.{FilteredRows.{filter_none, sum_one_more, sum_no_more}, FoundRows.{AreApart, AllPairs-map, All-each, fresh_differs, still_there}}
-use Rattle.club_laws.proofs.FoundRows.{still_all, none_named, named_there, only_named, none_passes, same_slots, at_found, none_found, slots_same, is_numbered}
-use Rattle.club_laws.proofs.FoundRows.{only_numbered, found_by_own, found_passes, numbered}
-use Rattle.club_laws.proofs.MemberParts.{edited, bookings_of-added, bookings_of-edited, owner}
+use Rattle.club_laws.proofs.{AnswerCases.{CommandRestsOn, change_of, Knows, Books, Cancels, written, answer_cases, command_cases}, Common.{AddCredit, Debit}}
+use Rattle.club_laws.proofs.Common.{TakeCredit, debited_member, member_named, None, ◌≡◌, ◌≢◌, ℕ, ◌≤◌, Bool, false, List, [], ◌∷◌, ◌++◌, get_or, map, ap, arith}
+use Rattle.club_laws.proofs.Common.{◌+◌, true, cond, All, subst, Option, Some, Ok, Err, Contains, IfSome, sum_by, ◌||◌, Result, bytes_eq, All-push, All-map}
+use Rattle.club_laws.proofs.Common.{All-head, All-tail, map-map, cond_both, both_ways, Slot, Member, Facility, Key, Booking, persons_of, same_slot, refund_at}
+use Rattle.club_laws.proofs.Common.{cost_of, is_in, taken_in, credited_member, revoked_key, good_until, rotated_key, after, is_marked, cancelled_booking, Club}
+use Rattle.club_laws.proofs.Common.{keys_of, is_key_of, bookings_of, IsSound, HasReferences, Command, AddMember, Credit, AddFacility, AddKey, RevokeKey}
+use Rattle.club_laws.proofs.Common.{RotateKey, CloseSlot, OpenSlot, SetQuota, IsCommand, IsRequest, IsEvent, bytes_eq-Decides, Verdict, Words, verdict_in}
+use Rattle.club_laws.proofs.Common.{after_change, Asked, Commanded, step, command_outcome, Change, OfficeFault, office_verdict, MarkOpen, ReplaceQuota}
+use Rattle.club_laws.proofs.{Common.{member_with_quota, All-filter, not}, FilteredRows.{filter_none, sum_one_more, sum_no_more}, FoundRows.AreApart}
+use Rattle.club_laws.proofs.FoundRows.{AllPairs-map, All-each, fresh_differs, still_there, still_all, none_named, named_there, only_named, none_passes}
+use Rattle.club_laws.proofs.FoundRows.{same_slots, at_found, none_found, slots_same, is_numbered, only_numbered, found_by_own, found_passes, numbered}
+use Rattle.club_laws.proofs.MemberParts.{edited_member, edited, bookings_of-added, bookings_of-edited, owner}
 use Rattle.std.proofs.lemmas.{Bool.Decides.nat_tests, List.{Kept.AllPairs-filter, Quantifiers.all_pairs_push}, Nat.mul-le}
 use Rattle.club_rows.specs.{Limits.IsRoot, Rows.{IsMember, IsFacility, IsOlderRoot, IsKey, IsSlot, IsBooking}, declared.key.OlderRoot.OlderRoot}
 use Rattle.club_values.specs.Moment.{IsMoment}
@@ -59,20 +59,57 @@ rotated_row name root until key new moment row =
     (λ _. record { root = row.root; until = moment }) (λ _. row.older) in
     assumption
 
--- another quota of a member
-pub sound_quota : (club : Club) (name : List ℕ) (quota : ℕ) → quota ≤ 99 → IsSound club → IsSound (after (ReplaceQuota name quota) club)
-sound_quota club name quota few s =
-    let edit = member_with_quota name quota in
-    let limits = All-map IsMember edit club.members (λ k d short.
-    let row = s.rows.members k d short in
-    let kept = row.quota in
-    record { name = row.name; credited = row.credited; quota = grind arith }) in
+-- an edit of the members' rows within their limits, that keeps names and the points that bookings cost
+pub sound_members : (credited quota : Member → ℕ) (club : Club) → IsSound club → All IsMember (map (edited_member credited quota) club.members)
+    → All (λ (m : Member). sum_by cost_of (bookings_of m.name club) ≤ credited m) club.members
+    → IsSound (record club { members = map (edited_member credited quota) club.members })
+sound_members credited quota club s limits enough =
+    let edit = edited_member credited quota in
     let names = AllPairs-map edit (λ (a : Member) (b : Member). a.name ≢ b.name) (λ (a : Member) (b : Member). a.name ≢ b.name) (λ a b h. h) club.members
     s.unique.members in
     let known = still_all (λ (m : Member). m.name) club.members (map edit club.members) (λ (k : Key). k.member) club.keys
     (λ n h. rw (map-map (λ (m : Member). m.name) edit club.members) h) s.references.keys in
-    let balances = All-map (λ (m : Member). sum_by cost_of (bookings_of m.name club) ≤ m.credited) edit club.members (λ k d short. s.balances k d short) in
+    let balances = All-map (λ (m : Member). sum_by cost_of (bookings_of m.name club) ≤ m.credited) edit club.members enough in
     assumption
+
+-- points for a member, up to the most
+pub sound_credit : (club : Club) (name : List ℕ) (points : ℕ) (member : Member) → member_named name club ≡ Some member
+    → member.credited + points ≤ 999_999_999 → IsSound club → IsSound (after (AddCredit name points) club)
+sound_credit club name points member found few s =
+    let edit = credited_member name points in
+    sound_members (λ m. (edit m).credited) (λ m. m.quota) club s
+    (All-map IsMember edit club.members (λ k d short.
+    let row = s.rows.members k d short in
+    let is = only_named (λ (m : Member). m.name) name club.members member s.unique.members found k d short in
+    let kept = row.credited in
+    record { name = row.name; credited = grind arith; quota = row.quota }))
+    (λ k d short. let before = s.balances k d short in grind arith)
+
+-- points taken of a member, of those that its bookings leave
+pub sound_debit : (club : Club) (name : List ℕ) (points : ℕ) (member : Member) → member_named name club ≡ Some member
+    → sum_by cost_of (bookings_of member.name club) + points ≤ member.credited → IsSound club → IsSound (after (TakeCredit name points) club)
+sound_debit club name points member found enough s =
+    let edit = debited_member name points in
+    sound_members (λ m. (edit m).credited) (λ m. m.quota) club s
+    (All-map IsMember edit club.members (λ k d short.
+    let row = s.rows.members k d short in
+    let kept = row.credited in
+    record { name = row.name; credited = grind arith; quota = row.quota }))
+    (λ k d short.
+    let before = s.balances k d short in
+    let is = only_named (λ (m : Member). m.name) name club.members member s.unique.members found k d short in
+    grind arith)
+
+-- another quota of a member
+pub sound_quota : (club : Club) (name : List ℕ) (quota : ℕ) → quota ≤ 99 → IsSound club → IsSound (after (ReplaceQuota name quota) club)
+sound_quota club name quota few s =
+    let edit = member_with_quota name quota in
+    sound_members (λ m. m.credited) (λ m. (edit m).quota) club s
+    (All-map IsMember edit club.members (λ k d short.
+    let row = s.rows.members k d short in
+    let kept = row.quota in
+    record { name = row.name; credited = row.credited; quota = grind arith }))
+    (λ k d short. s.balances k d short)
 
 -- a slot that is open again
 pub sound_opened : (club : Club) (slot : Slot) → IsSound club → IsSound (after (MarkOpen slot) club)
@@ -96,21 +133,12 @@ sound_command club s (AddMember name quota) c r =
     let balances = All-push (λ (m : Member). sum_by cost_of (bookings_of m.name club) ≤ m.credited) club.members member s.balances
     (nothing_booked club member s.references fresh) in
     assumption
-sound_command club s (Credit name points) c r =
-    let edit = credited_member name points in
-    let few = r.2 in
-    let limits = All-map IsMember edit club.members (λ k d short.
-    let row = s.rows.members k d short in
-    let is = only_named (λ (m : Member). m.name) name club.members r.0 s.unique.members r.1 k d short in
-    let kept = row.credited in
-    record { name = row.name; credited = grind arith; quota = row.quota }) in
-    let names = AllPairs-map edit (λ (a : Member) (b : Member). a.name ≢ b.name) (λ (a : Member) (b : Member). a.name ≢ b.name) (λ a b h. h) club.members
-    s.unique.members in
-    let known = still_all (λ (m : Member). m.name) club.members (map edit club.members) (λ (k : Key). k.member) club.keys
-    (λ n h. rw (map-map (λ (m : Member). m.name) edit club.members) h) s.references.keys in
-    let balances = All-map (λ (m : Member). sum_by cost_of (bookings_of m.name club) ≤ m.credited) edit club.members
-    (λ k d short. let before = s.balances k d short in grind arith) in
-    assumption
+sound_command club s (Credit name points) c r = sound_credit club name points r.0 r.1 r.2 s
+sound_command club s (Debit name points) c r =
+    let before = at_found (λ (m : Member). sum_by cost_of (bookings_of m.name club) ≤ m.credited) (λ (m : Member). bytes_eq m.name name) club.members r.0
+    s.balances r.1 in
+    let enough = r.2 in
+    sound_debit club name points r.0 r.1 (omega arith) s
 sound_command club s (SetQuota name quota) c r = sound_quota club name quota r.0 s
 sound_command club s (AddFacility name kind places price opens shuts) c r =
     let facility : Facility = record { name = name; kind = kind; places = places; price = price; opens = opens; shuts = shuts } in

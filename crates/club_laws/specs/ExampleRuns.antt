@@ -2,9 +2,10 @@
 use Rattle.std.specs.Prelude.{◌≡◌, ℕ, true, List, [], ◌∷◌, ◌++◌, Some, Ok, codes}
 use Rattle.pass_caveats.specs.declared.caveat.Caveat.TheVariants.{Spend}
 use Rattle.club_core.specs.{Acceptance.IsAcceptedIn, Club.empty_club, Examples.{opening, opened_club, slot_at, noon, late, ask}, Pass.Words}
-use Rattle.club_core.specs.{Run.{Event, replies_of, club_after, EventReply}, declared.reply.Reply.TheVariants.Booked}
+use Rattle.club_core.specs.{Run.{Event, Commanded, replies_of, club_after, EventReply}, declared.command.Command.TheVariants.Debit}
+use Rattle.club_core.specs.declared.reply.Reply.TheVariants.{Booked}
 use Rattle.club_core.specs.declared.request.Request.TheVariants as asked
-use Rattle.club_laws.specs.{Points.{keys_given, credits_accepted, charges_of_replies, refunds_of_replies, total_under}, Repeats.WasServed}
+use Rattle.club_laws.specs.{Points.{keys_given, credits_accepted, debits_accepted, charges_of_replies, refunds_of_replies, total_under}, Repeats.WasServed}
 
 -- twelve hours before the slot at 18 begins
 abbrev pub at_six : ℕ
@@ -31,6 +32,15 @@ pub record AreFigures (events : List Event) (replies : List EventReply) (charged
 -- 600 and 200 points charged, 10,000 credited, and half of 600 refunded
 abbrev pub CountsEachOnce : Type 0
 CountsEachOnce = AreFigures some_events (replies_of empty_club some_events) 800 10_000 300
+
+-- two debits after it, of 400 and of 9,101 points; the second is above the balance
+abbrev pub debited_events : List Event
+debited_events = some_events ++ Commanded (Debit (codes "amy") 400) ∷ Commanded (Debit (codes "amy") 9_101) ∷ []
+
+-- 400 points debited, and all else as before
+pub record CountsADebit : Type 0 where
+  pub figures : AreFigures debited_events (replies_of empty_club debited_events) 800 10_000 300
+  pub debits : debits_accepted (codes "amy") debited_events (replies_of empty_club debited_events) ≡ 400
 
 -- a booking, then its cancellation
 abbrev pub booked_then_cancelled : List Event

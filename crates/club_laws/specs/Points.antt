@@ -1,6 +1,6 @@
 -- Points in a run, computed from its events and replies alone, without the tables (ours).
 use Rattle.std.specs.{List.list_any, Prelude.{ℕ, ◌+◌, ◌==◌, ◌&&◌, not, Bool, List, [], ◌∷◌, ◌++◌, filter, flat_map, sum_by, if◌then◌else◌}, Str.bytes_eq}
-use Rattle.club_core.specs.{Run.{Event, Commanded, EventReply, ToMember, ToOffice}, declared.command.Command.TheVariants.{Credit, AddKey}}
+use Rattle.club_core.specs.{Run.{Event, Commanded, EventReply, ToMember, ToOffice}, declared.command.Command.TheVariants.{Credit, Debit, AddKey}}
 use Rattle.club_core.specs.declared.{command.OfficeAnswer.TheVariants.{Done, NewKey}, reply.Reply.TheVariants.{Booked, Cancelled}}
 
 -- points in a reply, with the key and the number of the booking
@@ -50,6 +50,15 @@ credit_accepted member event reply = 0
 abbrev pub credits_accepted : List ℕ → List Event → List EventReply → ℕ
 credits_accepted member (event ∷ events) (reply ∷ replies) = credit_accepted member event reply + credits_accepted member events replies
 credits_accepted member events replies = 0
+
+-- the points that the office took of a member's credit; none in a list without a debit
+abbrev pub debit_accepted : List ℕ → Event → EventReply → ℕ
+debit_accepted member (Commanded (Debit name points)) (ToOffice Done) = if bytes_eq name member then points else 0
+debit_accepted member event reply = 0
+
+abbrev pub debits_accepted : List ℕ → List Event → List EventReply → ℕ
+debits_accepted member (event ∷ events) (reply ∷ replies) = debit_accepted member event reply + debits_accepted member events replies
+debits_accepted member events replies = 0
 
 -- the points of the first entries under these keys
 abbrev pub total_under : List (List ℕ) → List Entry → ℕ

@@ -2,7 +2,8 @@
 use Rattle.std.specs.Prelude.{◌≡◌, true, List, [], ◌∷◌, ◌++◌, Some, Ok, codes}
 use Rattle.club_core.specs.{Club.empty_club, Examples.{opening, root, slot_at, noon, ask, served_booking, account, served_cancellation}}
 use Rattle.club_core.specs.Run.{Event, Asked, Commanded, replies_of, EventReply}
-use Rattle.club_core.specs.declared.{command.Command.TheVariants.{AddMember, Credit, AddKey, RevokeKey, CloseSlot, OpenSlot, SetQuota}, request.Request.Request}
+use Rattle.club_core.specs.declared.command.Command.TheVariants.{AddMember, Credit, Debit, AddKey, RevokeKey, CloseSlot, OpenSlot, SetQuota}
+use Rattle.club_core.specs.declared.request.Request.{Request}
 use Rattle.club_core.specs.declared.request.Request.TheVariants as asked
 use Rattle.club_laws.specs.SoloLaw.{replies_to}
 
@@ -25,8 +26,8 @@ amy_alone =
 abbrev pub AnswersAmyAlone : Type 0
 AnswersAmyAlone = replies_to_amy amy_alone ≡ served_booking 7 600 1 ∷ account 9_400 1 600 ∷ served_cancellation 7 600 ∷ []
 
--- the same if bob books other slots and hers, under her number too, leaves hers, is credited, gets a quota and a key, and has one revoked, and the office
--- closes another slot and opens it again
+-- The same beside bob. He books other slots and hers, under her number too, and leaves hers. He is credited and debited, gets a quota and a key, and has
+-- one revoked. The office closes another slot and opens it again.
 abbrev pub amy_among_others : List Event
 amy_among_others =
     opening
@@ -39,6 +40,7 @@ amy_among_others =
     ∷ ask_of_bob (asked.Book (slot_at 19) 8 0)
     ∷ ask_of_bob (asked.Cancel (slot_at 17) 7)
     ∷ Commanded (Credit (codes "bob") 5)
+    ∷ Commanded (Debit (codes "bob") 3)
     ∷ Commanded (SetQuota (codes "bob") 4)
     ∷ ask asked.Account noon
     ∷ Commanded (AddKey (codes "bob-2") (codes "bob") root)

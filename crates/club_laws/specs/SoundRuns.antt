@@ -6,8 +6,8 @@ use Rattle.club_rows.specs.declared.{booking.Booking.Booking, facility.Facility.
 use Rattle.club_core.specs.{After.after, Answer.verdict_in, Club.{Club, empty_club, IsSound, bookings_of, is_closed, member_named, facility_named, key_named}}
 use Rattle.club_core.specs.{Events.IsEvent, Office.office_verdict, Run.{Event, Asked, Commanded, step, club_after}, Store.FitsClub}
 use Rattle.club_core.specs.{Sums.{booking_under, cost_of, taken_in}, declared.change.Change.{Change, TheVariants.{InsertMember, AddCredit, InsertFacility}}}
-use Rattle.club_core.specs.declared.change.Change.TheVariants.{InsertKey, MarkRevoked, ReplaceRoot, MarkClosed, MarkOpen, ReplaceQuota, InsertBooking}
-use Rattle.club_core.specs.declared.change.Change.TheVariants.{MarkCancelled}
+use Rattle.club_core.specs.declared.change.Change.TheVariants.{InsertKey, MarkRevoked, ReplaceRoot, MarkClosed, MarkOpen, ReplaceQuota, TakeCredit}
+use Rattle.club_core.specs.declared.change.Change.TheVariants.{InsertBooking, MarkCancelled}
 
 -- the club that a run begins with
 abbrev pub EmptyIsSound : Type 0
@@ -44,11 +44,13 @@ pub record SuitsBooking (booking : Booking) (club : Club) : Type 0 where
   pub located : facility_named booking.slot.facility club ≡ Some facility
   pub placed : taken_in booking.slot (club.bookings ++ booking ∷ []) ≤ facility.places
 
--- A change that suits a club: its values are within their limits, a new name is free, each name that a new row refers to is that of a row, a member is
--- credited no more than the most, a booking fits, and a refund is at most the charge of a booking on record.
+-- A change that suits a club: its values are within their limits, a new name is free, and what a new row refers to is on record. A member is credited
+-- no more than the most, and keeps the points that its bookings cost. A booking fits, and a refund is at most the charge of a booking on record.
 abbrev pub Suits : Change → Club → Type 0
 Suits (InsertMember member) club = IsMember member × All (λ (other : Member). other.name ≢ member.name) club.members
 Suits (AddCredit name points) club = (member : Member) × (member_named name club ≡ Some member) × (member.credited + points ≤ credited_limit)
+Suits (TakeCredit name points) club =
+    (member : Member) × (member_named name club ≡ Some member) × (sum_by cost_of (bookings_of member.name club) + points ≤ member.credited)
 Suits (ReplaceQuota name quota) club = quota ≤ quota_limit
 Suits (InsertFacility facility) club = IsFacility facility × All (λ (other : Facility). other.name ≢ facility.name) club.facilities
 Suits (InsertKey key) club =

@@ -1,17 +1,29 @@
 //! Points are neither made nor lost, and no slot is overbooked.
 
-ghost use Rattle.club_laws.specs.Conservation.{ConservesPoints, NeverOverbooks};
-ghost use Rattle.club_laws.specs.{Conservation.SoundClubsHavePlaces, ExampleRuns.CountsEachOnce};
+ghost use Rattle.club_laws.specs.Conservation.{ConservesPoints, ConservesWithoutDebits};
+ghost use Rattle.club_laws.specs.Conservation.{NeverOverbooks, SoundClubsHavePlaces};
+ghost use Rattle.club_laws.specs.ExampleRuns.{CountsADebit, CountsEachOnce};
 
 /// A charge and a refund count once, however often a reply repeats them.
 pub fn counts_each_once()
     ensures { CountsEachOnce }
 {}
 
-/// A member's balance and its charges add up to its credits and its refunds, and no balance is
-/// below 0.
+/// A debit counts if the office was told that it was done.
+pub fn counts_a_debit()
+    ensures { CountsADebit }
+{}
+
+/// A member's balance, its debits and its charges add up to its credits and its refunds, and no
+/// balance is below 0.
 pub fn conserves_points()
     ensures { ConservesPoints }
+{}
+
+/// Without debits, a member's balance and its charges add up to its credits and its refunds.
+#[tactic(auto, using(crate::proofs::PointRuns::conserved_without_debits))]
+pub fn conserves_without_debits()
+    ensures { ConservesWithoutDebits }
 {}
 
 /// A slot has a place for each person who booked it.
