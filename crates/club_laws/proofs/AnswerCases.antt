@@ -1,14 +1,14 @@
 -- The ways in which a request is answered and a command is decided, each with what it rests on.
-use Rattle.club_laws.proofs.Common.{Debit, TakeCredit, ◌≡◌, ℕ, ◌+◌, ◌-◌, true, false, Option, Some, None, Ok, refl, ◌∙◌, arith, List, ◌≤◌, Err}
-use Rattle.club_laws.proofs.Common.{bytes_eq-Decides, Result, ◌&&◌, ◌==◌, nat_lt, bytes_eq, Slot, Member, Facility, Key, Booking, Verdict, Reply, Booked}
-use Rattle.club_laws.proofs.Common.{Cancelled, Refused, Request, same_slot, refund_at, Pass, Words, Club, facility_named, is_key_of, bookings_of, is_closed}
-use Rattle.club_laws.proofs.Common.{key_named, member_named, taken_in, balance_of, booking_under, Basis, basis_of, view_of, state_of, key_of, answer_to}
-use Rattle.club_laws.proofs.Common.{verdict_in, request_slot, Change, InsertMember, AddCredit, InsertFacility, InsertKey, MarkRevoked, ReplaceRoot, MarkClosed}
-use Rattle.club_laws.proofs.Common.{MarkOpen, ReplaceQuota, Command, AddMember, Credit, AddFacility, AddKey, RevokeKey, RotateKey, CloseSlot, OpenSlot}
-use Rattle.club_laws.proofs.Common.{SetQuota, OfficeFault, office_verdict, are_limits}
+use Rattle.club_core.specs.{Sums.most_taken_in, declared.pass_fault.PassFault.PassFault}
+use Rattle.club_laws.proofs.Common.{SetFacility, ReplaceNumbers, Debit, TakeCredit, ◌≡◌, ℕ, ◌+◌, ◌-◌, true, false, Option, Some, None, Ok, refl, ◌∙◌, arith}
+use Rattle.club_laws.proofs.Common.{List, ◌≤◌, Err, bytes_eq-Decides, Result, ◌&&◌, ◌==◌, nat_lt, bytes_eq, Slot, Member, Facility, Key, Booking, Verdict}
+use Rattle.club_laws.proofs.Common.{Reply, Booked, Cancelled, Refused, Request, same_slot, refund_at, Pass, Words, Club, facility_named, is_key_of, bookings_of}
+use Rattle.club_laws.proofs.Common.{is_closed, key_named, member_named, taken_in, balance_of, booking_under, Basis, basis_of, view_of, state_of, key_of}
+use Rattle.club_laws.proofs.Common.{answer_to, verdict_in, request_slot, Change, InsertMember, AddCredit, InsertFacility, InsertKey, MarkRevoked, ReplaceRoot}
+use Rattle.club_laws.proofs.Common.{MarkClosed, MarkOpen, ReplaceQuota, Command, AddMember, Credit, AddFacility, AddKey, RevokeKey, RotateKey, CloseSlot}
+use Rattle.club_laws.proofs.Common.{OpenSlot, SetQuota, OfficeFault, office_verdict, are_limits}
 use Rattle.club_laws.proofs.FoundRows.{is_numbered, numbered, found_passes, found_is_there, find-filter, any_passes, any-filter, named}
 use Rattle.club_rows.specs.Facility.{charge_of}
-use Rattle.club_core.specs.declared.pass_fault.PassFault.{PassFault}
 use Rattle.std.proofs.lemmas.Bool.Decides.{nat_tests}
 use Rattle.club_core.specs.declared.refusal.Refusal.TheVariants as refusals
 use Rattle.club_core.specs.declared.request.Request.TheVariants as asked
@@ -131,6 +131,9 @@ CommandRestsOn club (Debit name points) =
     (member : Member) × (member_named name club ≡ Some member) × (points ≤ balance_of member (bookings_of member.name club))
 CommandRestsOn club (SetQuota name quota) = (quota ≤ 99) × (member : Member) × (member_named name club ≡ Some member)
 CommandRestsOn club (AddFacility name kind places price opens shuts) = (are_limits places price opens shuts ≡ true) × (facility_named name club ≡ None)
+CommandRestsOn club (SetFacility name places price opens shuts) =
+    (are_limits places price opens shuts ≡ true) × (facility : Facility) × (facility_named name club ≡ Some facility)
+    × (most_taken_in name club.bookings ≤ places)
 CommandRestsOn club (AddKey name member root) = (owner : Member) × (member_named member club ≡ Some owner) × (key_named name club ≡ None)
 CommandRestsOn club (RevokeKey name) = (key : Key) × (key_named name club ≡ Some key)
 CommandRestsOn club (RotateKey name root until) = (key : Key) × (key_named name club ≡ Some key)
@@ -145,6 +148,7 @@ change_of club (Debit name points) r = TakeCredit name points
 change_of club (SetQuota name quota) r = ReplaceQuota name quota
 change_of club (AddFacility name kind places price opens shuts) r =
     InsertFacility (record { name = name; kind = kind; places = places; price = price; opens = opens; shuts = shuts })
+change_of club (SetFacility name places price opens shuts) r = ReplaceNumbers name places price opens shuts
 change_of club (AddKey name member root) r = InsertKey (record { name = name; member = member; root = root; older = None; revoked = false })
 change_of club (RevokeKey name) r = MarkRevoked name
 change_of club (RotateKey name root until) r = ReplaceRoot name r.0.root root until
@@ -165,6 +169,10 @@ module _ (P : Result Change OfficeFault → Type 0) (club : Club) (fails : (faul
       let ok = λ (few : quota ≤ 99) (m : Member) (found : member_named name club ≡ Some m). done (few, m, found) in grind (arith, nat_tests, fails)
   command_cases (AddFacility name kind places price opens shuts) done =
       let ok = λ (fit : are_limits places price opens shuts ≡ true) (new : facility_named name club ≡ None). done (fit, new) in grind (arith, fails)
+  command_cases (SetFacility name places price opens shuts) done =
+      let ok = λ (fit : are_limits places price opens shuts ≡ true) (f : Facility) (found : facility_named name club ≡ Some f)
+      (room : most_taken_in name club.bookings ≤ places). done (fit, f, found, room) in
+      grind (arith, nat_tests, fails)
   command_cases (AddKey name member root) done =
       let ok = λ (m : Member) (found : member_named member club ≡ Some m) (new : key_named name club ≡ None). done (m, found, new) in grind (arith, fails)
   command_cases (RevokeKey name) done = let ok = λ (k : Key) (found : key_named name club ≡ Some k). done (k, found) in grind (arith, fails)

@@ -8,7 +8,7 @@ pub use Rattle.std.proofs.lemmas.{List.{Elements.All-filter, Folds.{find-append,
 pub use Rattle.std.proofs.lemmas.Slice.Eq.{bytes_eq-Decides}
 pub use Rattle.std.specs.{List.list_any, Str.bytes_eq}
 pub use Rattle.club_core.specs.{Acceptance.{IsAllowedBy, IsAcceptedIn, IsServed, IsAcceptedPass, IsEntitled}, After.{after, revoked_key, rotated_key}}
-pub use Rattle.club_core.specs.After.{cancelled_booking, credited_member, debited_member, member_with_quota, good_until, is_marked}
+pub use Rattle.club_core.specs.After.{cancelled_booking, credited_member, debited_member, member_with_quota, facility_with_numbers, good_until, is_marked}
 pub use Rattle.club_core.specs.Answer.{verdict_in, answer_to, ask_of, form_refusal, answer_by_basis}
 pub use Rattle.club_core.specs.{Basis.{Basis, basis_of, view_of, key_of, state_of, club_account, SlotState}, Club.{Club, is_key_of, bookings_of, key_named}}
 pub use Rattle.club_core.specs.Club.{member_named, keys_of, IsSound, facility_named, empty_club, is_closed, HasReferences}
@@ -17,9 +17,9 @@ pub use Rattle.club_core.specs.{Pass.{Words, Pass, is_signed_under}, Request.{re
 pub use Rattle.club_core.specs.Run.{command_outcome, club_after, replies_of, ToMember, EventReply, ToOffice, done_answer, Outcome, Response, verdict_outcome}
 pub use Rattle.club_core.specs.{Sums.{taken_in, booking_under, is_under, cost_of, is_in, balance_of}, declared.change.Change.{Change, TheVariants.InsertKey}}
 pub use Rattle.club_core.specs.declared.change.Change.TheVariants.{MarkRevoked, ReplaceRoot, InsertBooking, MarkCancelled, InsertMember, AddCredit}
-pub use Rattle.club_core.specs.declared.{change.Change.TheVariants.{InsertFacility, MarkClosed, MarkOpen, ReplaceQuota, TakeCredit}, command.Command.Command}
-pub use Rattle.club_core.specs.declared.command.Command.TheVariants.{RevokeKey, AddKey, RotateKey, AddMember, Credit, AddFacility, CloseSlot, OpenSlot}
-pub use Rattle.club_core.specs.declared.{command.{Command.TheVariants.{SetQuota, Debit}, OfficeFault.OfficeFault}, reply.Reply.Reply}
+pub use Rattle.club_core.specs.declared.change.Change.TheVariants.{InsertFacility, MarkClosed, MarkOpen, ReplaceQuota, TakeCredit, ReplaceNumbers}
+pub use Rattle.club_core.specs.declared.command.Command.{Command, TheVariants.{RevokeKey, AddKey, RotateKey, AddMember, Credit, AddFacility, CloseSlot}}
+pub use Rattle.club_core.specs.declared.{command.{Command.TheVariants.{OpenSlot, SetQuota, Debit, SetFacility}, OfficeFault.OfficeFault}, reply.Reply.Reply}
 pub use Rattle.club_core.specs.declared.{reply.Reply.TheVariants.{Booked, Cancelled, Refused}, request.Request.Request, verdict.Verdict.Verdict}
 pub use Rattle.club_rows.specs.{Booking.{refund_at, same_slot, persons_of}, declared.{booking.Booking.Booking, facility.Facility.Facility, key.Key.Key}}
 pub use Rattle.club_rows.specs.declared.member.Member.{Member}

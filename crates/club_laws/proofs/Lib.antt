@@ -10,5 +10,6 @@ pub mod ServedPasses
 pub mod FailedEvents
 pub mod SoloRuns
 pub mod FilteredRows
+pub mod MostTaken
 pub mod MemberParts
 pub mod SoundChanges

@@ -1,7 +1,7 @@
 -- Whose keys are, and a member's part: what each kind of change makes of them.
-use Rattle.club_laws.proofs.{AnswerCases.{answer_cases, written, CommandRestsOn, change_of, command_cases}, Common.{debited_member, TakeCredit, ◌≡◌, ◌≢◌, ℕ}}
-use Rattle.club_laws.proofs.Common.{Bool, true, List, [], ◌∷◌, ◌++◌, get_or, map, Option, Some, sym, ◌∙◌, arith, false, cond, filter, None, All, Contains}
-use Rattle.club_laws.proofs.Common.{append-nil, refl, find, AllPairs, Result, bytes_eq-Decides, ◌&&◌, ◌||◌, bytes_eq, list_any, list_any-append}
+use Rattle.club_laws.proofs.{AnswerCases.{answer_cases, written, CommandRestsOn, change_of, command_cases}, Common.{ReplaceNumbers, debited_member, TakeCredit}}
+use Rattle.club_laws.proofs.Common.{◌≡◌, ◌≢◌, ℕ, Bool, true, List, [], ◌∷◌, ◌++◌, get_or, map, Option, Some, sym, ◌∙◌, arith, false, cond, filter, None, All}
+use Rattle.club_laws.proofs.Common.{Contains, append-nil, refl, find, AllPairs, Result, bytes_eq-Decides, ◌&&◌, ◌||◌, bytes_eq, list_any, list_any-append}
 use Rattle.club_laws.proofs.Common.{Any-from_list_any, Key, Booking, Club, key_named, is_key_of, bookings_of, keys_of, IsSound, Contains-push, All-contains}
 use Rattle.club_laws.proofs.Common.{filter-append, All-push, All-map, Member, Change, InsertMember, AddCredit, InsertFacility, InsertKey, MarkRevoked}
 use Rattle.club_laws.proofs.Common.{ReplaceRoot, MarkClosed, MarkOpen, ReplaceQuota, InsertBooking, MarkCancelled, after, credited_member, revoked_key}
@@ -133,6 +133,7 @@ part_changed name club (TakeCredit other points) known fresh =
 part_changed name club (ReplaceQuota other quota) known fresh =
     member_edited (λ member. member.credited) (λ member. (member_with_quota other quota member).quota) name club other (λ member e. grind arith)
 part_changed name club (InsertFacility facility) known fresh = refl
+part_changed name club (ReplaceNumbers facility places price opens shuts) known fresh = refl
 part_changed name club (InsertKey key) known fresh =
     let bookings = bookings_of-added name club key (none_named (λ (k : Key). k.name) key.name club.keys fresh) known in
     grind (arith, filter-append (is_owned name) club.keys (key ∷ []), append-nil (keys_of name club))

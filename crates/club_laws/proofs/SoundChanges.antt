@@ -1,12 +1,12 @@
 -- A change whose values are within their limits, and which leaves what the club's rows allow, keeps the club sound.
-use Rattle.club_laws.proofs.Common.{TakeCredit, ◌≡◌, ◌≢◌, ℕ, ◌≤◌, false, true, List, [], ◌∷◌, ◌++◌, get_or, map, arith, All, Contains, sum_by, All-push}
-use Rattle.club_laws.proofs.Common.{All-map, both_ways, Slot, Member, Facility, Key, Booking, persons_of, same_slot, cost_of, is_in, taken_in, revoked_key}
-use Rattle.club_laws.proofs.Common.{rotated_key, after, is_marked, cancelled_booking, Club, is_key_of, bookings_of, IsSound, bytes_eq-Decides, InsertMember}
-use Rattle.club_laws.proofs.Common.{AddCredit, InsertFacility, InsertKey, MarkRevoked, ReplaceRoot, MarkClosed, MarkOpen, ReplaceQuota, InsertBooking}
-use Rattle.club_laws.proofs.{Common.{MarkCancelled, Some, subst, sym, key_named}, FilteredRows.{sum_one_more, sum_no_more}, FoundRows.{AllPairs-map, All-each}}
-use Rattle.club_laws.proofs.FoundRows.{still_there, still_all, named, named_there, only_named, only_numbered, none_passes, same_slots, slots_same, AreApart}
-use Rattle.club_laws.proofs.{MemberParts.{bookings_of-added, owner}, SoundSteps.{sound_credit, sound_debit, nothing_booked, nobody_in, sound_edited}}
-use Rattle.club_laws.proofs.SoundSteps.{sound_opened, sound_quota, rotated_row, cancelled_row, costs_no_more}
+use Rattle.club_laws.proofs.Common.{ReplaceNumbers, TakeCredit, ◌≡◌, ◌≢◌, ℕ, ◌≤◌, false, true, List, [], ◌∷◌, ◌++◌, get_or, map, arith, All, Contains, sum_by}
+use Rattle.club_laws.proofs.Common.{All-push, All-map, both_ways, Slot, Member, Facility, Key, Booking, persons_of, same_slot, cost_of, is_in, taken_in}
+use Rattle.club_laws.proofs.Common.{revoked_key, rotated_key, after, is_marked, cancelled_booking, Club, is_key_of, bookings_of, IsSound, bytes_eq-Decides}
+use Rattle.club_laws.proofs.Common.{InsertMember, AddCredit, InsertFacility, InsertKey, MarkRevoked, ReplaceRoot, MarkClosed, MarkOpen, ReplaceQuota}
+use Rattle.club_laws.proofs.{Common.{InsertBooking, MarkCancelled, Some, subst, sym, key_named}, FilteredRows.{sum_one_more, sum_no_more}}
+use Rattle.club_laws.proofs.FoundRows.{AllPairs-map, All-each, still_there, still_all, named, named_there, only_named, only_numbered, none_passes, same_slots}
+use Rattle.club_laws.proofs.{FoundRows.{slots_same, AreApart}, MemberParts.{bookings_of-added, owner}, SoundSteps.{sound_numbers, sound_credit, sound_debit}}
+use Rattle.club_laws.proofs.SoundSteps.{nothing_booked, nobody_in, sound_edited, sound_opened, sound_quota, rotated_row, cancelled_row, costs_no_more}
 use Rattle.std.proofs.lemmas.{Bool.Decides.nat_tests, List.Quantifiers.all_pairs_push}
 use Rattle.club_rows.specs.Rows.{IsMember, IsFacility, IsKey, IsSlot, IsBooking}
 use Rattle.club_laws.specs.SoundRuns.{Suits, SuitingChangesKeepSound}
@@ -101,6 +101,7 @@ sound_after club (InsertFacility facility) s h =
     let places = All-push (λ (other : Facility). (slot : Slot) → slot.facility ≡ other.name → taken_in slot club.bookings ≤ other.places)
     club.facilities facility s.places (λ slot at. let none = nobody_in club slot s.references (rw (← at) at fresh) in omega arith) in
     assumption
+sound_after club (ReplaceNumbers name places price opens shuts) s h = sound_numbers club name places price opens shuts h.0 h.1 s
 sound_after club (InsertKey key) s h =
     let new : Club = record club { keys = club.keys ++ key ∷ [] } in
     let fresh = h.1 in

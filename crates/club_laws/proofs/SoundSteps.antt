@@ -1,16 +1,17 @@
 -- Steps and runs keep a sound club, and each change fits.
-use Rattle.club_laws.proofs.{AnswerCases.{CommandRestsOn, change_of, Knows, Books, Cancels, written, answer_cases, command_cases}, Common.{AddCredit, Debit}}
-use Rattle.club_laws.proofs.Common.{TakeCredit, debited_member, member_named, None, ◌≡◌, ◌≢◌, ℕ, ◌≤◌, Bool, false, List, [], ◌∷◌, ◌++◌, get_or, map, ap, arith}
-use Rattle.club_laws.proofs.Common.{◌+◌, true, cond, All, subst, Option, Some, Ok, Err, Contains, IfSome, sum_by, ◌||◌, Result, bytes_eq, All-push, All-map}
-use Rattle.club_laws.proofs.Common.{All-head, All-tail, map-map, cond_both, both_ways, Slot, Member, Facility, Key, Booking, persons_of, same_slot, refund_at}
-use Rattle.club_laws.proofs.Common.{cost_of, is_in, taken_in, credited_member, revoked_key, good_until, rotated_key, after, is_marked, cancelled_booking, Club}
-use Rattle.club_laws.proofs.Common.{keys_of, is_key_of, bookings_of, IsSound, HasReferences, Command, AddMember, Credit, AddFacility, AddKey, RevokeKey}
-use Rattle.club_laws.proofs.Common.{RotateKey, CloseSlot, OpenSlot, SetQuota, IsCommand, IsRequest, IsEvent, bytes_eq-Decides, Verdict, Words, verdict_in}
-use Rattle.club_laws.proofs.Common.{after_change, Asked, Commanded, step, command_outcome, Change, OfficeFault, office_verdict, MarkOpen, ReplaceQuota}
-use Rattle.club_laws.proofs.{Common.{member_with_quota, All-filter, not}, FilteredRows.{filter_none, sum_one_more, sum_no_more}, FoundRows.AreApart}
-use Rattle.club_laws.proofs.FoundRows.{AllPairs-map, All-each, fresh_differs, still_there, still_all, none_named, named_there, only_named, none_passes}
-use Rattle.club_laws.proofs.FoundRows.{same_slots, at_found, none_found, slots_same, is_numbered, only_numbered, found_by_own, found_passes, numbered}
-use Rattle.club_laws.proofs.MemberParts.{edited_member, edited, bookings_of-added, bookings_of-edited, owner}
+use Rattle.club_laws.proofs.{AnswerCases.{CommandRestsOn, change_of, Knows, Books, Cancels, written, answer_cases, command_cases}, Common.SetFacility}
+use Rattle.club_laws.proofs.Common.{ReplaceNumbers, facility_with_numbers, are_limits, AddCredit, Debit, TakeCredit, debited_member, member_named, None, ◌≡◌}
+use Rattle.club_laws.proofs.Common.{◌≢◌, ℕ, ◌≤◌, Bool, false, List, [], ◌∷◌, ◌++◌, get_or, map, ap, arith, ◌+◌, true, cond, All, subst, Option, Some, Ok, Err}
+use Rattle.club_laws.proofs.Common.{Contains, IfSome, sum_by, ◌||◌, Result, bytes_eq, All-push, All-map, All-head, All-tail, map-map, cond_both, both_ways}
+use Rattle.club_laws.proofs.Common.{Slot, Member, Facility, Key, Booking, persons_of, same_slot, refund_at, cost_of, is_in, taken_in, credited_member}
+use Rattle.club_laws.proofs.Common.{revoked_key, good_until, rotated_key, after, is_marked, cancelled_booking, Club, keys_of, is_key_of, bookings_of, IsSound}
+use Rattle.club_laws.proofs.Common.{HasReferences, Command, AddMember, Credit, AddFacility, AddKey, RevokeKey, RotateKey, CloseSlot, OpenSlot, SetQuota}
+use Rattle.club_laws.proofs.Common.{IsCommand, IsRequest, IsEvent, bytes_eq-Decides, Verdict, Words, verdict_in, after_change, Asked, Commanded, step}
+use Rattle.club_laws.proofs.Common.{command_outcome, Change, OfficeFault, office_verdict, MarkOpen, ReplaceQuota, member_with_quota, All-filter, not}
+use Rattle.club_laws.proofs.{FilteredRows.{filter_none, sum_one_more, sum_no_more}, FoundRows.{AreApart, AllPairs-map, All-each, fresh_differs, still_there}}
+use Rattle.club_laws.proofs.FoundRows.{still_all, none_named, named_there, only_named, none_passes, same_slots, at_found, none_found, slots_same, is_numbered}
+use Rattle.club_laws.proofs.FoundRows.{only_numbered, found_by_own, found_passes, numbered}
+use Rattle.club_laws.proofs.{MemberParts.{edited_member, edited, bookings_of-added, bookings_of-edited, owner}, MostTaken.at_most}
 use Rattle.std.proofs.lemmas.{Bool.Decides.nat_tests, List.{Kept.AllPairs-filter, Quantifiers.all_pairs_push}, Nat.mul-le}
 use Rattle.club_rows.specs.{Limits.IsRoot, Rows.{IsMember, IsFacility, IsOlderRoot, IsKey, IsSlot, IsBooking}, declared.key.OlderRoot.OlderRoot}
 use Rattle.club_values.specs.Moment.{IsMoment}
@@ -111,6 +112,30 @@ sound_quota club name quota few s =
     record { name = row.name; credited = row.credited; quota = grind arith }))
     (λ k d short. s.balances k d short)
 
+-- other numbers of a facility, which has a place for each person in each of its slots
+pub sound_numbers : (club : Club) (name : List ℕ) (places price opens shuts : ℕ) → are_limits places price opens shuts ≡ true
+    → ((slot : Slot) → slot.facility ≡ name → taken_in slot club.bookings ≤ places) → IsSound club
+    → IsSound (after (ReplaceNumbers name places price opens shuts) club)
+sound_numbers club name places price opens shuts fit room s =
+    let edit = facility_with_numbers name places price opens shuts in
+    let limits = All-map IsFacility edit club.facilities (λ k d short.
+    let row = s.rows.facilities k d short in grind (arith, nat_tests)) in
+    let names = AllPairs-map edit (λ (a : Facility) (b : Facility). a.name ≢ b.name) (λ (a : Facility) (b : Facility). a.name ≢ b.name) (λ a b h. h)
+    club.facilities s.unique.facilities in
+    let still : (n : List ℕ) → Contains (map (λ (f : Facility). f.name) club.facilities) n
+    → Contains (map (λ (f : Facility). f.name) (map edit club.facilities)) n =
+    λ n h. rw (map-map (λ (f : Facility). f.name) edit club.facilities) h in
+    let booked = still_all (λ (f : Facility). f.name) club.facilities (map edit club.facilities) (λ (b : Booking). b.slot.facility) club.bookings still
+    s.references.facilities in
+    let closed = still_all (λ (f : Facility). f.name) club.facilities (map edit club.facilities) (λ (slot : Slot). slot.facility) club.closed still
+    s.references.closed in
+    let places = All-map (λ (f : Facility). (slot : Slot) → slot.facility ≡ f.name → taken_in slot club.bookings ≤ f.places) edit club.facilities
+    (λ k d short slot at.
+    let before = s.places k d short slot at in
+    let now = room slot in
+    grind (arith, bytes_eq-Decides (get_or club.facilities k d).name name)) in
+    assumption
+
 -- a slot that is open again
 pub sound_opened : (club : Club) (slot : Slot) → IsSound club → IsSound (after (MarkOpen slot) club)
 sound_opened club slot s =
@@ -155,6 +180,9 @@ sound_command club s (AddFacility name kind places price opens shuts) c r =
     let places = All-push (λ (other : Facility). (slot : Slot) → slot.facility ≡ other.name → taken_in slot club.bookings ≤ other.places)
     club.facilities facility s.places (λ slot at. let none = nobody_in club slot s.references (rw (← at) at fresh) in omega arith) in
     assumption
+sound_command club s (SetFacility name places price opens shuts) c r =
+    sound_numbers club name places price opens shuts r.0
+    (λ slot at. let most = at_most name club.bookings slot at in let few = r.3 in omega arith) s
 sound_command club s (AddKey name member root) c r =
     let key : Key = record { name = name; member = member; root = root; older = None; revoked = false } in
     let new : Club = record club { keys = club.keys ++ key ∷ [] } in

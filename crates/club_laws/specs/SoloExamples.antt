@@ -2,7 +2,7 @@
 use Rattle.std.specs.Prelude.{◌≡◌, true, List, [], ◌∷◌, ◌++◌, Some, Ok, codes}
 use Rattle.club_core.specs.{Club.empty_club, Examples.{opening, root, slot_at, noon, ask, served_booking, account, served_cancellation}}
 use Rattle.club_core.specs.Run.{Event, Asked, Commanded, replies_of, EventReply}
-use Rattle.club_core.specs.declared.command.Command.TheVariants.{AddMember, Credit, Debit, AddKey, RevokeKey, CloseSlot, OpenSlot, SetQuota}
+use Rattle.club_core.specs.declared.command.Command.TheVariants.{AddMember, Credit, Debit, SetFacility, AddKey, RevokeKey, CloseSlot, OpenSlot, SetQuota}
 use Rattle.club_core.specs.declared.request.Request.{Request}
 use Rattle.club_core.specs.declared.request.Request.TheVariants as asked
 use Rattle.club_laws.specs.SoloLaw.{replies_to}
@@ -66,3 +66,18 @@ ShowsAmyATakenPlace =
     ∷ ask (asked.Cancel (slot_at 18) 7) noon
     ∷ [])
     ≡ served_booking 7 600 0 ∷ account 9_400 1 600 ∷ served_cancellation 7 600 ∷ []
+
+-- new places and another price reach her with her next booking; what she booked before keeps its charge and its places left
+abbrev pub ShowsAmyNewNumbers : Type 0
+ShowsAmyNewNumbers =
+    replies_to_amy
+    (opening
+    ++ bob_joins
+    ++ ask_of_bob (asked.Book (slot_at 17) 7 3)
+    ∷ ask (asked.Book (slot_at 18) 7 2) noon
+    ∷ Commanded (SetFacility (codes "court-1") 5 300 8 22)
+    ∷ ask (asked.Book (slot_at 18) 7 2) noon
+    ∷ ask (asked.Book (slot_at 19) 8 0) noon
+    ∷ ask asked.Account noon
+    ∷ [])
+    ≡ served_booking 7 600 1 ∷ served_booking 7 600 1 ∷ served_booking 8 300 4 ∷ account 9_100 2 900 ∷ []

@@ -1,13 +1,13 @@
 -- Every club that a run reaches is sound, and each change fits (ours).
-use Rattle.std.specs.Prelude.{◌≡◌, ◌≢◌, ◌+◌, ◌≤◌, false, List, [], ◌∷◌, ◌++◌, map, sum_by, All, Contains, Some, Ok}
-use Rattle.club_values.specs.Moment.{IsMoment}
+use Rattle.std.specs.Prelude.{◌≡◌, ◌≢◌, ◌+◌, ◌≤◌, true, false, List, [], ◌∷◌, ◌++◌, map, sum_by, All, Contains, Some, Ok}
+use Rattle.club_values.specs.{Moment.IsMoment, declared.slot.Slot.Slot}
 use Rattle.club_rows.specs.{Limits.{credited_limit, quota_limit, IsRoot}, Rows.{IsMember, IsFacility, IsKey, IsSlot, IsBooking}}
 use Rattle.club_rows.specs.declared.{booking.Booking.Booking, facility.Facility.Facility, key.Key.Key, member.Member.Member}
 use Rattle.club_core.specs.{After.after, Answer.verdict_in, Club.{Club, empty_club, IsSound, bookings_of, is_closed, member_named, facility_named, key_named}}
-use Rattle.club_core.specs.{Events.IsEvent, Office.office_verdict, Run.{Event, Asked, Commanded, step, club_after}, Store.FitsClub}
+use Rattle.club_core.specs.{Events.IsEvent, Office.{are_limits, office_verdict}, Run.{Event, Asked, Commanded, step, club_after}, Store.FitsClub}
 use Rattle.club_core.specs.{Sums.{booking_under, cost_of, taken_in}, declared.change.Change.{Change, TheVariants.{InsertMember, AddCredit, InsertFacility}}}
 use Rattle.club_core.specs.declared.change.Change.TheVariants.{InsertKey, MarkRevoked, ReplaceRoot, MarkClosed, MarkOpen, ReplaceQuota, TakeCredit}
-use Rattle.club_core.specs.declared.change.Change.TheVariants.{InsertBooking, MarkCancelled}
+use Rattle.club_core.specs.declared.change.Change.TheVariants.{ReplaceNumbers, InsertBooking, MarkCancelled}
 
 -- the club that a run begins with
 abbrev pub EmptyIsSound : Type 0
@@ -46,6 +46,7 @@ pub record SuitsBooking (booking : Booking) (club : Club) : Type 0 where
 
 -- A change that suits a club: its values are within their limits, a new name is free, and what a new row refers to is on record. A member is credited
 -- no more than the most, and keeps the points that its bookings cost. A booking fits, and a refund is at most the charge of a booking on record.
+-- New numbers of a facility leave a place for each person in each of its slots.
 abbrev pub Suits : Change → Club → Type 0
 Suits (InsertMember member) club = IsMember member × All (λ (other : Member). other.name ≢ member.name) club.members
 Suits (AddCredit name points) club = (member : Member) × (member_named name club ≡ Some member) × (member.credited + points ≤ credited_limit)
@@ -53,6 +54,8 @@ Suits (TakeCredit name points) club =
     (member : Member) × (member_named name club ≡ Some member) × (sum_by cost_of (bookings_of member.name club) + points ≤ member.credited)
 Suits (ReplaceQuota name quota) club = quota ≤ quota_limit
 Suits (InsertFacility facility) club = IsFacility facility × All (λ (other : Facility). other.name ≢ facility.name) club.facilities
+Suits (ReplaceNumbers name places price opens shuts) club =
+    (are_limits places price opens shuts ≡ true) × ((slot : Slot) → slot.facility ≡ name → taken_in slot club.bookings ≤ places)
 Suits (InsertKey key) club =
     IsKey key × All (λ (other : Key). other.name ≢ key.name) club.keys × Contains (map (λ (m : Member). m.name) club.members) key.member
 Suits (MarkRevoked name) club = Unit {0}

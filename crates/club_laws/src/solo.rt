@@ -1,7 +1,7 @@
 //! A member's replies in a run are those of a machine that holds the member's part alone.
 
 ghost use Rattle.club_laws.specs.SoloExamples.{AnswersAmyAlone, AnswersAmyAmongOthers};
-ghost use Rattle.club_laws.specs.SoloExamples.{ShowsAmyATakenPlace};
+ghost use Rattle.club_laws.specs.SoloExamples.{ShowsAmyATakenPlace, ShowsAmyNewNumbers};
 ghost use Rattle.club_laws.specs.SoloLaw.{EndsWithThePart, SoloLaw, SoloLawOfTwo};
 
 /// The replies to a member's requests follow from the member's part and own events alone.
@@ -37,4 +37,9 @@ pub fn answers_amy_among_others()
 /// If another has a place in the slot, one place fewer is left, and all else is the same.
 pub fn shows_amy_a_taken_place()
     ensures { ShowsAmyATakenPlace }
+{}
+
+/// A facility's new numbers hold for the member's next booking, and leave those before as they are.
+pub fn shows_amy_new_numbers()
+    ensures { ShowsAmyNewNumbers }
 {}
