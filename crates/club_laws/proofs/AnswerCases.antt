@@ -1,13 +1,13 @@
 -- The ways in which a request is answered and a command is decided, each with what it rests on.
-use Rattle.club_core.specs.{Sums.most_taken_in, declared.pass_fault.PassFault.PassFault}
-use Rattle.club_laws.proofs.Common.{SetFacility, ReplaceNumbers, Debit, TakeCredit, ◌≡◌, ℕ, ◌+◌, ◌-◌, true, false, Option, Some, None, Ok, refl, ◌∙◌, arith}
-use Rattle.club_laws.proofs.Common.{List, ◌≤◌, Err, bytes_eq-Decides, Result, ◌&&◌, ◌==◌, nat_lt, bytes_eq, Slot, Member, Facility, Key, Booking, Verdict}
-use Rattle.club_laws.proofs.Common.{Reply, Booked, Cancelled, Refused, Request, same_slot, refund_at, Pass, Words, Club, facility_named, is_key_of, bookings_of}
-use Rattle.club_laws.proofs.Common.{is_closed, key_named, member_named, taken_in, balance_of, booking_under, Basis, basis_of, view_of, state_of, key_of}
-use Rattle.club_laws.proofs.Common.{answer_to, verdict_in, request_slot, Change, InsertMember, AddCredit, InsertFacility, InsertKey, MarkRevoked, ReplaceRoot}
-use Rattle.club_laws.proofs.Common.{MarkClosed, MarkOpen, ReplaceQuota, Command, AddMember, Credit, AddFacility, AddKey, RevokeKey, RotateKey, CloseSlot}
-use Rattle.club_laws.proofs.Common.{OpenSlot, SetQuota, OfficeFault, office_verdict, are_limits}
+use Rattle.club_laws.proofs.Common.{CancelBooking, MarkCancelled, SetFacility, ReplaceNumbers, Debit, TakeCredit, ◌≡◌, ℕ, ◌+◌, ◌-◌, true, false, Option, Some}
+use Rattle.club_laws.proofs.Common.{None, Ok, refl, ◌∙◌, arith, List, ◌≤◌, Err, bytes_eq-Decides, Result, ◌&&◌, ◌==◌, nat_lt, bytes_eq, Slot, Member, Facility}
+use Rattle.club_laws.proofs.Common.{Key, Booking, Verdict, Reply, Booked, Cancelled, Refused, Request, same_slot, refund_at, Pass, Words, Club, facility_named}
+use Rattle.club_laws.proofs.Common.{is_key_of, bookings_of, is_closed, key_named, member_named, taken_in, balance_of, booking_under, Basis, basis_of, view_of}
+use Rattle.club_laws.proofs.Common.{state_of, key_of, answer_to, verdict_in, request_slot, Change, InsertMember, AddCredit, InsertFacility, InsertKey}
+use Rattle.club_laws.proofs.Common.{MarkRevoked, ReplaceRoot, MarkClosed, MarkOpen, ReplaceQuota, Command, AddMember, Credit, AddFacility, AddKey, RevokeKey}
+use Rattle.club_laws.proofs.Common.{RotateKey, CloseSlot, OpenSlot, SetQuota, OfficeFault, office_verdict, are_limits}
 use Rattle.club_laws.proofs.FoundRows.{is_numbered, numbered, found_passes, found_is_there, find-filter, any_passes, any-filter, named}
+use Rattle.club_core.specs.{Sums.most_taken_in, declared.pass_fault.PassFault.PassFault}
 use Rattle.club_rows.specs.Facility.{charge_of}
 use Rattle.std.proofs.lemmas.Bool.Decides.{nat_tests}
 use Rattle.club_core.specs.declared.refusal.Refusal.TheVariants as refusals
@@ -137,10 +137,18 @@ CommandRestsOn club (SetFacility name places price opens shuts) =
 CommandRestsOn club (AddKey name member root) = (owner : Member) × (member_named member club ≡ Some owner) × (key_named name club ≡ None)
 CommandRestsOn club (RevokeKey name) = (key : Key) × (key_named name club ≡ Some key)
 CommandRestsOn club (RotateKey name root until) = (key : Key) × (key_named name club ≡ Some key)
+CommandRestsOn club (CancelBooking key number) =
+    (row : Key) × (key_named key club ≡ Some row) × (booking : Booking) × (booking_under key number club.bookings ≡ Some booking)
+    × (booking.cancelled ≡ false)
 CommandRestsOn club (CloseSlot slot) = (facility : Facility) × (facility_named slot.facility club ≡ Some facility) × (is_closed slot club ≡ false)
 CommandRestsOn club (OpenSlot slot) = (facility : Facility) × (facility_named slot.facility club ≡ Some facility)
 
--- the change that such a command makes
+-- what a command rests on that is done, but finds nothing left to change: the cancellation of a cancelled booking
+abbrev pub FindsNothing : Club → Command → Type 0
+FindsNothing club (CancelBooking key number) = (booking : Booking) × (booking_under key number club.bookings ≡ Some booking) × (booking.cancelled ≡ true)
+FindsNothing club command = ⊥
+
+-- the change that a command makes which is carried out
 abbrev pub change_of : (club : Club) (command : Command) → CommandRestsOn club command → Change
 change_of club (AddMember name quota) r = InsertMember (record { name = name; credited = 0; quota = quota })
 change_of club (Credit name points) r = AddCredit name points
@@ -152,33 +160,41 @@ change_of club (SetFacility name places price opens shuts) r = ReplaceNumbers na
 change_of club (AddKey name member root) r = InsertKey (record { name = name; member = member; root = root; older = None; revoked = false })
 change_of club (RevokeKey name) r = MarkRevoked name
 change_of club (RotateKey name root until) r = ReplaceRoot name r.0.root root until
+change_of club (CancelBooking key number) r = MarkCancelled r.2 r.0.member r.2.charge
 change_of club (CloseSlot slot) r = MarkClosed slot
 change_of club (OpenSlot slot) r = MarkOpen slot
 
-module _ (P : Result Change OfficeFault → Type 0) (club : Club) (fails : (fault : OfficeFault) → P (Err fault)) where
-  pub command_cases : (command : Command) → ((r : CommandRestsOn club command) → P (Ok (change_of club command r))) → P (office_verdict club command)
-  command_cases (AddMember name quota) done =
+module _ (P : Result (Option Change) OfficeFault → Type 0) (club : Club) (fails : (fault : OfficeFault) → P (Err fault)) where
+  pub command_cases : (command : Command) → (FindsNothing club command → P (Ok None))
+      → ((r : CommandRestsOn club command) → P (Ok (Some (change_of club command r)))) → P (office_verdict club command)
+  command_cases (AddMember name quota) stays done =
       let ok = λ (few : quota ≤ 99) (new : member_named name club ≡ None). done (few, new) in grind (arith, nat_tests, fails)
-  command_cases (Credit name points) done =
+  command_cases (Credit name points) stays done =
       let ok = λ (m : Member) (found : member_named name club ≡ Some m) (few : m.credited + points ≤ 999_999_999). done (m, found, few) in
       grind (arith, nat_tests, fails)
-  command_cases (Debit name points) done =
+  command_cases (Debit name points) stays done =
       let ok = λ (m : Member) (found : member_named name club ≡ Some m) (enough : points ≤ balance_of m (bookings_of m.name club)). done (m, found, enough) in
       grind (arith, nat_tests, fails)
-  command_cases (SetQuota name quota) done =
+  command_cases (SetQuota name quota) stays done =
       let ok = λ (few : quota ≤ 99) (m : Member) (found : member_named name club ≡ Some m). done (few, m, found) in grind (arith, nat_tests, fails)
-  command_cases (AddFacility name kind places price opens shuts) done =
+  command_cases (AddFacility name kind places price opens shuts) stays done =
       let ok = λ (fit : are_limits places price opens shuts ≡ true) (new : facility_named name club ≡ None). done (fit, new) in grind (arith, fails)
-  command_cases (SetFacility name places price opens shuts) done =
+  command_cases (SetFacility name places price opens shuts) stays done =
       let ok = λ (fit : are_limits places price opens shuts ≡ true) (f : Facility) (found : facility_named name club ≡ Some f)
       (room : most_taken_in name club.bookings ≤ places). done (fit, f, found, room) in
       grind (arith, nat_tests, fails)
-  command_cases (AddKey name member root) done =
+  command_cases (AddKey name member root) stays done =
       let ok = λ (m : Member) (found : member_named member club ≡ Some m) (new : key_named name club ≡ None). done (m, found, new) in grind (arith, fails)
-  command_cases (RevokeKey name) done = let ok = λ (k : Key) (found : key_named name club ≡ Some k). done (k, found) in grind (arith, fails)
-  command_cases (RotateKey name root until) done = let ok = λ (k : Key) (found : key_named name club ≡ Some k). done (k, found) in grind (arith, fails)
-  command_cases (CloseSlot slot) done =
+  command_cases (RevokeKey name) stays done = let ok = λ (k : Key) (found : key_named name club ≡ Some k). done (k, found) in grind (arith, fails)
+  command_cases (RotateKey name root until) stays done = let ok = λ (k : Key) (found : key_named name club ≡ Some k). done (k, found) in grind (arith, fails)
+  command_cases (CancelBooking key number) stays done =
+      let ok = λ (row : Key) (known : key_named key club ≡ Some row) (booking : Booking) (found : booking_under key number club.bookings ≡ Some booking)
+      (live : booking.cancelled ≡ false). done (row, known, booking, found, live) in
+      let again = λ (booking : Booking) (found : booking_under key number club.bookings ≡ Some booking) (before : booking.cancelled ≡ true).
+      stays (booking, found, before) in
+      grind (arith, fails)
+  command_cases (CloseSlot slot) stays done =
       let ok = λ (f : Facility) (found : facility_named slot.facility club ≡ Some f) (new : is_closed slot club ≡ false). done (f, found, new) in
       grind (arith, fails)
-  command_cases (OpenSlot slot) done =
+  command_cases (OpenSlot slot) stays done =
       let ok = λ (f : Facility) (found : facility_named slot.facility club ≡ Some f). done (f, found) in grind (arith, fails)

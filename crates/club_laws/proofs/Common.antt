@@ -1,7 +1,7 @@
 -- The names that most proofs here cite, passed on from one place. Declares nothing.
 pub use Rattle.std.proofs.Common.{◌≡◌, Some, List, [], ◌∷◌, ℕ, true, false, refl, arith, None, ◌++◌, Option, Result, All, ◌∙◌, ap, ◌+◌, ◌&&◌, Bool, map, sym}
 pub use Rattle.std.proofs.Common.{cond, Ok, filter, ◌||◌, option_map, find, ◌≤◌, Err, ◌==◌, ◌≢◌, get_or, subst, AllPairs, Contains, not, sum_by, ◌-◌, inl}
-pub use Rattle.std.proofs.Common.{nat_lt, length, append_assoc, suc, is_some, append-nil, flat_map, MatchOption, IfSome, codes}
+pub use Rattle.std.proofs.Common.{nat_lt, length, append_assoc, suc, is_some, append-nil, MatchOption, IfSome, codes}
 pub use Rattle.std.proofs.lemmas.{Bool.{false_from_ne_true, both_ways, cond_both}, List.Elements.{All-head, All-tail, All-nil, All-cons, All-map, filter_agree}}
 pub use Rattle.std.proofs.lemmas.List.Elements.{filter-append, All-contains, Contains-push, All-push, Contains-append_left, Contains-append_right, All-weaker}
 pub use Rattle.std.proofs.lemmas.{List.{Elements.All-filter, Folds.{find-append, list_any-append, list_any_at, Any-from_list_any, list_any_none}}, Simd.map-map}
@@ -19,8 +19,8 @@ pub use Rattle.club_core.specs.{Sums.{taken_in, booking_under, is_under, cost_of
 pub use Rattle.club_core.specs.declared.change.Change.TheVariants.{MarkRevoked, ReplaceRoot, InsertBooking, MarkCancelled, InsertMember, AddCredit}
 pub use Rattle.club_core.specs.declared.change.Change.TheVariants.{InsertFacility, MarkClosed, MarkOpen, ReplaceQuota, TakeCredit, ReplaceNumbers}
 pub use Rattle.club_core.specs.declared.command.Command.{Command, TheVariants.{RevokeKey, AddKey, RotateKey, AddMember, Credit, AddFacility, CloseSlot}}
-pub use Rattle.club_core.specs.declared.{command.{Command.TheVariants.{OpenSlot, SetQuota, Debit, SetFacility}, OfficeFault.OfficeFault}, reply.Reply.Reply}
-pub use Rattle.club_core.specs.declared.{reply.Reply.TheVariants.{Booked, Cancelled, Refused}, request.Request.Request, verdict.Verdict.Verdict}
+pub use Rattle.club_core.specs.declared.command.{Command.TheVariants.{OpenSlot, SetQuota, Debit, SetFacility, CancelBooking}, OfficeFault.OfficeFault}
+pub use Rattle.club_core.specs.declared.{reply.Reply.{Reply, TheVariants.{Booked, Cancelled, Refused}}, request.Request.Request, verdict.Verdict.Verdict}
 pub use Rattle.club_rows.specs.{Booking.{refund_at, same_slot, persons_of}, declared.{booking.Booking.Booking, facility.Facility.Facility, key.Key.Key}}
 pub use Rattle.club_rows.specs.declared.member.Member.{Member}
 pub use Rattle.club_values.specs.declared.slot.Slot.{Slot}

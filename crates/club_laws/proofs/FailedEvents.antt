@@ -1,13 +1,13 @@
 -- Runs in which events failed: these are left out, one by one, so the laws hold of them too. The machine itself never fails.
-use Rattle.club_laws.proofs.{AnswerCases.answer_cases, Common.{◌≡◌, ◌≢◌, ℕ, false, arith, inl, [], ◌∷◌, refl, List, ◌++◌, length, append_assoc, Refused}}
-use Rattle.club_laws.proofs.Common.{Verdict, verdict_in, Club, empty_club, Words, Event, Asked, Commanded, step, ToMember, Response, All-nil, All-cons}
+use Rattle.club_laws.proofs.{AnswerCases.answer_cases, Common.{Cancelled, ◌≡◌, ◌≢◌, ℕ, false, arith, inl, [], ◌∷◌, refl, List, ◌++◌, length, append_assoc}}
+use Rattle.club_laws.proofs.Common.{Refused, Verdict, verdict_in, Club, empty_club, Words, Event, Asked, Commanded, step, ToMember, Response, All-nil, All-cons}
 use Rattle.club_laws.proofs.{Common.{All-head, All-tail, IsEvent, TestsTheSet, Reply, TestsTheSignature}, KeptByRuns.club_after-append}
-use Rattle.club_laws.proofs.{PointRuns.{conserved, has_room}, RepeatAnswers.step_of_repeat, SoundSteps.sound_run}
-use Rattle.club_core.specs.declared.{command.OfficeAnswer.OfficeAnswer, refusal.Refusal.TheVariants.Unavailable}
+use Rattle.club_laws.proofs.{PointRuns.{conserved, has_room}, RepeatAnswers.{cancelled_by_record, step_of_repeat}, SoundSteps.sound_run}
 use Rattle.club_laws.specs.Failed.{is_unavailable, CutsRuns, JoinsRuns, LeavesEvents, LeavesOutFailed, RunsWithoutFailures, Presentation, present_reply}
-use Rattle.club_laws.specs.{Failed.{has_failed, answered_events, IsStep, IsRun}, Repeats.{IsBookedOrCancelled, WasServed}}
-use Rattle.club_laws.specs.RunsWithFailures.{ConservesWithFailures, PlacesWithFailures, SoundWithFailures, RepeatsWithFailures, RepeatsAfterOneMore}
-use Rattle.club_laws.specs.RunsWithFailures.{WasReturned}
+use Rattle.club_laws.specs.{Failed.{has_failed, answered_events, IsStep, IsRun}, Repeats.{refund_by_office, IsBookedOrCancelled, WasServed}}
+use Rattle.club_laws.specs.RunsWithFailures.{CancellationsWithFailures, ConservesWithFailures, PlacesWithFailures, SoundWithFailures, RepeatsWithFailures}
+use Rattle.club_laws.specs.RunsWithFailures.{RepeatsAfterOneMore, WasReturned}
+use Rattle.club_core.specs.declared.{command.OfficeAnswer.OfficeAnswer, refusal.Refusal.TheVariants.Unavailable}
 
 pub answers_requests : (club : Club) (words : Words) (moment : ℕ) → is_unavailable (verdict_in club words moment).reply ≡ false
 answers_requests club words moment = answer_cases (λ (v : Verdict). is_unavailable v.reply ≡ false) club words moment (grind arith)
@@ -126,6 +126,16 @@ repeat_with_failures set signature presentation club last history rest before si
     let left = (run_of_answered presentation club parts.now history before parts.first).left in
     let served = served_in_machine_run presentation club parts.now history before words reply parts.first was in
     let again = step_of_repeat set signature club (answered_events presentation history before) words moment reply served accepted in
+    let one = repeat_of_step presentation parts.now parts.second.0 words moment returned reply (rw (← left) at again) parts.second.1 in
+    (one.0, join presentation club last history rest before since (record { now = parts.now; first = parts.first; second = rw one.1 at parts.second.2 }))
+
+pub cancelled_with_failures : TestsTheSet → TestsTheSignature → {O : Type 0} → CancellationsWithFailures O
+cancelled_with_failures set signature presentation club last history rest before since words moment returned key number booking beside run was named asks
+    accepted =
+    let reply = Cancelled key number (refund_by_office booking) in
+    let parts = cut presentation club last history (Asked words moment ∷ rest) before (returned ∷ since) beside run in
+    let left = (run_of_answered presentation club parts.now history before parts.first).left in
+    let again = cancelled_by_record set signature club (answered_events presentation history before) words moment key number booking was named asks accepted in
     let one = repeat_of_step presentation parts.now parts.second.0 words moment returned reply (rw (← left) at again) parts.second.1 in
     (one.0, join presentation club last history rest before since (record { now = parts.now; first = parts.first; second = rw one.1 at parts.second.2 }))
 

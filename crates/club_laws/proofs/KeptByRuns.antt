@@ -11,9 +11,9 @@ module _ (P : Club → Type 0) (kept : (club : Club) (change : Change) → P clu
   kept_by_step club (Asked words moment) h = kept_by_change club (verdict_in club words moment).change h
   kept_by_step club (Commanded command) h = go (office_verdict club command)
     where
-      go : (verdict : Result Change OfficeFault) → P (command_outcome club command verdict).club
+      go : (verdict : Result (Option Change) OfficeFault) → P (command_outcome club command verdict).club
       go (Err fault) = h
-      go (Ok change) = kept club change h
+      go (Ok change) = kept_by_change club change h
 
   pub kept_by_run : (club : Club) (events : List Event) → P club → P (club_after club events)
   kept_by_run club [] h = h

@@ -5,11 +5,13 @@ pub mod AnswerCases
 pub mod SoundSteps
 pub mod RepeatAnswers
 pub mod MemberAccounts
+pub mod PointMoves
 pub mod PointRuns
 pub mod ServedPasses
 pub mod FailedEvents
 pub mod SoloRuns
 pub mod FilteredRows
 pub mod MostTaken
+pub mod FirstCharges
 pub mod MemberParts
 pub mod SoundChanges

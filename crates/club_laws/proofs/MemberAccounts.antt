@@ -1,10 +1,10 @@
 -- A member's keys and credit, computed from a run's events and replies.
-use Rattle.club_laws.proofs.{AnswerCases.{answer_cases, command_cases, CommandRestsOn, change_of}, Common.{debited_member, Debit, ◌≤◌, ◌≡◌, ℕ, ◌+◌, Bool, true}}
-use Rattle.club_laws.proofs.Common.{false, cond, List, [], ◌∷◌, map, Option, Some, None, arith, bytes_eq-Decides, Result, ◌||◌, find, is_some, bytes_eq}
-use Rattle.club_laws.proofs.Common.{list_any, list_any-append, find-append, Member, after, ToOffice, done_answer, Verdict, Change, Command, AddMember, Credit}
-use Rattle.club_laws.proofs.Common.{SetQuota, AddKey, RevokeKey, RotateKey, OfficeFault, Words, Club, member_named, is_key_of, verdict_in, credited_member}
-use Rattle.club_laws.proofs.Common.{revoked_key, rotated_key, Event, Asked, Commanded, step, after_change, command_outcome, replies_of, club_after}
-use Rattle.club_laws.proofs.{Common.member_with_quota, MemberParts.{is_key_of-added, is_key_of-edited}}
+use Rattle.club_laws.proofs.{AnswerCases.{FindsNothing, answer_cases, command_cases, CommandRestsOn, change_of}, Common.{CancelBooking, debited_member, Debit}}
+use Rattle.club_laws.proofs.Common.{◌≤◌, ◌≡◌, ℕ, ◌+◌, Bool, true, false, cond, List, [], ◌∷◌, map, Option, Some, None, arith, bytes_eq-Decides, Result, ◌||◌}
+use Rattle.club_laws.proofs.Common.{find, is_some, bytes_eq, list_any, list_any-append, find-append, Member, after, ToOffice, done_answer, Verdict, Change}
+use Rattle.club_laws.proofs.Common.{Command, AddMember, Credit, SetQuota, AddKey, RevokeKey, RotateKey, OfficeFault, Words, Club, member_named, is_key_of}
+use Rattle.club_laws.proofs.Common.{verdict_in, credited_member, revoked_key, rotated_key, Event, Asked, Commanded, step, after_change, command_outcome}
+use Rattle.club_laws.proofs.{Common.{replies_of, club_after, member_with_quota}, MemberParts.{is_key_of-added, is_key_of-edited}}
 use Rattle.club_laws.specs.Points.{key_given, keys_given, credit_accepted, credits_accepted, debit_accepted, debits_accepted}
 
 -- requests change only bookings
@@ -23,9 +23,15 @@ module _ (member : List ℕ) where
       ≡ (is_key_of member club key || is_among (key_given member event (step club event).reply) key)
   keys_of_step club key (Asked words moment) = let kept = (answer_keeps club words moment).keys in grind arith
   keys_of_step club key (Commanded command) =
-      command_cases (λ (v : Result Change OfficeFault). is_key_of member (command_outcome club command v).club key ≡ (is_key_of member club key
-      || is_among (key_given member (Commanded command) (command_outcome club command v).reply) key)) club (λ fault. grind arith) command (given command)
+      command_cases (λ (v : Result (Option Change) OfficeFault). is_key_of member (command_outcome club command v).club key ≡ (is_key_of member club key
+      || is_among (key_given member (Commanded command) (command_outcome club command v).reply) key)) club (λ fault. grind arith) command
+      (unchanged command) (given command)
     where
+      unchanged : (c : Command) → FindsNothing club c
+          → is_key_of member club key ≡ (is_key_of member club key || is_among (key_given member (Commanded c) (ToOffice (done_answer c))) key)
+      unchanged (CancelBooking name number) s = grind arith
+      unchanged c s = absurd s
+
       given : (c : Command) (r : CommandRestsOn club c) → is_key_of member (after (change_of club c r) club) key
           ≡ (is_key_of member club key || is_among (key_given member (Commanded c) (ToOffice (done_answer c))) key)
       given (AddKey name owner root) r =
@@ -87,11 +93,16 @@ module _ (name : List ℕ) where
       ≡ credit_of (member_named name club) + credit_accepted name event (step club event).reply
   credit_of_step club (Asked words moment) = let kept = (answer_keeps club words moment).members in grind arith
   credit_of_step club (Commanded command) =
-      command_cases (λ (v : Result Change OfficeFault). credit_of (member_named name (command_outcome club command v).club)
+      command_cases (λ (v : Result (Option Change) OfficeFault). credit_of (member_named name (command_outcome club command v).club)
       + debit_accepted name (Commanded command) (command_outcome club command v).reply
       ≡ credit_of (member_named name club) + credit_accepted name (Commanded command) (command_outcome club command v).reply) club (λ fault. grind arith)
-      command (credited command)
+      command (unchanged command) (credited command)
     where
+      unchanged : (c : Command) → FindsNothing club c → credit_of (member_named name club) + debit_accepted name (Commanded c) (ToOffice (done_answer c))
+          ≡ credit_of (member_named name club) + credit_accepted name (Commanded c) (ToOffice (done_answer c))
+      unchanged (CancelBooking key number) s = omega arith
+      unchanged c s = absurd s
+
       credited : (c : Command) (r : CommandRestsOn club c) → credit_of (member_named name (after (change_of club c r) club))
           + debit_accepted name (Commanded c) (ToOffice (done_answer c))
           ≡ credit_of (member_named name club) + credit_accepted name (Commanded c) (ToOffice (done_answer c))

@@ -1,12 +1,12 @@
 -- Whose keys are, and a member's part: what each kind of change makes of them.
-use Rattle.club_laws.proofs.{AnswerCases.{answer_cases, written, CommandRestsOn, change_of, command_cases}, Common.{ReplaceNumbers, debited_member, TakeCredit}}
-use Rattle.club_laws.proofs.Common.{◌≡◌, ◌≢◌, ℕ, Bool, true, List, [], ◌∷◌, ◌++◌, get_or, map, Option, Some, sym, ◌∙◌, arith, false, cond, filter, None, All}
-use Rattle.club_laws.proofs.Common.{Contains, append-nil, refl, find, AllPairs, Result, bytes_eq-Decides, ◌&&◌, ◌||◌, bytes_eq, list_any, list_any-append}
-use Rattle.club_laws.proofs.Common.{Any-from_list_any, Key, Booking, Club, key_named, is_key_of, bookings_of, keys_of, IsSound, Contains-push, All-contains}
-use Rattle.club_laws.proofs.Common.{filter-append, All-push, All-map, Member, Change, InsertMember, AddCredit, InsertFacility, InsertKey, MarkRevoked}
-use Rattle.club_laws.proofs.Common.{ReplaceRoot, MarkClosed, MarkOpen, ReplaceQuota, InsertBooking, MarkCancelled, after, credited_member, revoked_key}
-use Rattle.club_laws.proofs.Common.{rotated_key, cancelled_booking, map-map, Verdict, Command, AddKey, RevokeKey, RotateKey, OfficeFault, Event, Asked}
-use Rattle.club_laws.proofs.Common.{Commanded, step, after_change, command_outcome, member_with_quota}
+use Rattle.club_laws.proofs.{AnswerCases.{answer_cases, written, CommandRestsOn, change_of, command_cases}, Common.{CancelBooking, ReplaceNumbers}}
+use Rattle.club_laws.proofs.Common.{debited_member, TakeCredit, ◌≡◌, ◌≢◌, ℕ, Bool, true, List, [], ◌∷◌, ◌++◌, get_or, map, Option, Some, sym, ◌∙◌, arith, false}
+use Rattle.club_laws.proofs.Common.{cond, filter, None, All, Contains, append-nil, refl, find, AllPairs, Result, bytes_eq-Decides, ◌&&◌, ◌||◌, bytes_eq}
+use Rattle.club_laws.proofs.Common.{list_any, list_any-append, Any-from_list_any, Key, Booking, Club, key_named, is_key_of, bookings_of, keys_of, IsSound}
+use Rattle.club_laws.proofs.Common.{Contains-push, All-contains, filter-append, All-push, All-map, Member, Change, InsertMember, AddCredit, InsertFacility}
+use Rattle.club_laws.proofs.Common.{InsertKey, MarkRevoked, ReplaceRoot, MarkClosed, MarkOpen, ReplaceQuota, InsertBooking, MarkCancelled, after}
+use Rattle.club_laws.proofs.Common.{credited_member, revoked_key, rotated_key, cancelled_booking, map-map, Verdict, Command, AddKey, RevokeKey, RotateKey}
+use Rattle.club_laws.proofs.Common.{OfficeFault, Event, Asked, Commanded, step, after_change, command_outcome, member_with_quota}
 use Rattle.club_laws.proofs.{FilteredRows.{filter_same, filter_fixed, fixed_where_none, filter-map}, FoundRows.{AllPairs-head, AllPairs-tail, any-filter}}
 use Rattle.club_laws.proofs.FoundRows.{any-map, fresh_differs, only_named, none_named, other_bytes, AllPairs-map, still_there, named_there}
 use Rattle.std.proofs.{Common.bytes_eq, lemmas.List.Quantifiers.all_pairs_push}
@@ -185,7 +185,8 @@ keyed_step club (Asked words moment) keyed =
           record { unique = keyed.unique; known = All-map Known (cancelled_booking booking.key booking.number _) club.bookings keyed.known };
     })
 keyed_step club (Commanded command) keyed =
-    command_cases (λ (v : Result Change OfficeFault). IsKeyed (command_outcome club command v).club) club (λ fault. keyed) command (given command)
+    command_cases (λ (v : Result (Option Change) OfficeFault). IsKeyed (command_outcome club command v).club) club (λ fault. keyed) command (λ s. keyed)
+    (given command)
   where
     given : (c : Command) (r : CommandRestsOn club c) → IsKeyed (after (change_of club c r) club)
     given (AddKey name member root) r =
@@ -197,6 +198,9 @@ keyed_step club (Commanded command) keyed =
     given (RevokeKey name) r = keyed_edited (λ key. key.root) (λ key. key.older) (λ key. (revoked_key name key).revoked) club keyed
     given (RotateKey name root until) r =
         keyed_edited (λ key. (rotated_key name root until key).root) (λ key. (rotated_key name root until key).older) (λ key. key.revoked) club keyed
+    given (CancelBooking name number) r =
+        let Known : Booking → Type 0 = λ b. Contains (map (λ (k : Key). k.name) club.keys) b.key in
+        record { unique = keyed.unique; known = All-map Known (cancelled_booking r.2.key r.2.number r.2.charge) club.bookings keyed.known }
     given c r = assumption
 
 -- a key that was added to a club with unique names had a new name

@@ -1,13 +1,14 @@
 -- What was served is on record, stays there, and answers each repeat.
-use Rattle.club_laws.proofs.{AnswerCases.{written, answer_cases, Knows, own_booking, known_rows, whole_basis}, Common.{◌≡◌, ℕ, true, List, [], ◌∷◌, Some, refl}}
-use Rattle.club_laws.proofs.Common.{arith, find, ap, option_map, ◌∙◌, ◌++◌, sym, Member, ◌&&◌, ◌==◌, Key, Booking, Verdict, Change, InsertBooking}
-use Rattle.club_laws.proofs.Common.{MarkCancelled, Reply, Booked, Cancelled, Request, same_slot, refund_at, booking_under, Words, Club, key_of, Basis, basis_of}
-use Rattle.club_laws.proofs.Common.{view_of, verdict_in, after, cancelled_booking, Event, after_change, club_after, Asked, Outcome, step, verdict_outcome}
-use Rattle.club_laws.proofs.Common.{replies_of, ToMember, request_number, TestsTheSet, TestsTheSignature, IsAcceptedIn}
-use Rattle.club_laws.proofs.FoundRows.{found_before, found_last, find-map, is_numbered, same_slots, self_numbered}
+use Rattle.club_laws.proofs.{AnswerCases.{command_cases, written, answer_cases, Knows, own_booking, known_rows, whole_basis}, Common.{Option, Commanded}}
+use Rattle.club_laws.proofs.Common.{CancelBooking, ToOffice, Result, OfficeFault, command_outcome, map, true, ◌≡◌, ℕ, List, [], ◌∷◌, Some, refl, arith, find}
+use Rattle.club_laws.proofs.Common.{ap, option_map, ◌∙◌, ◌++◌, sym, Member, ◌&&◌, ◌==◌, Key, Booking, Verdict, Change, InsertBooking, MarkCancelled, Reply}
+use Rattle.club_laws.proofs.Common.{Booked, Cancelled, Request, same_slot, refund_at, booking_under, Words, Club, key_of, Basis, basis_of, view_of, verdict_in}
+use Rattle.club_laws.proofs.Common.{after, cancelled_booking, Event, after_change, club_after, Asked, Outcome, step, verdict_outcome, replies_of, ToMember}
+use Rattle.club_laws.proofs.Common.{request_number, TestsTheSet, TestsTheSignature, IsAcceptedIn}
+use Rattle.club_laws.proofs.FoundRows.{numbered, found_passes, found_before, found_last, find-map, is_numbered, same_slots, self_numbered}
 use Rattle.club_laws.proofs.{KeptByRuns.{kept_by_run, club_after-append, replies_of-append}, ServedPasses.accepted_under}
-use Rattle.club_laws.specs.Repeats.{IsBookedOrCancelled, RepeatsReturnTheSame, RepeatsMayBeLeftOut, WasServed}
-use Rattle.club_core.specs.declared.view.View.{View}
+use Rattle.club_core.specs.declared.{command.OfficeAnswer.TheVariants.Done, view.View.View}
+use Rattle.club_laws.specs.Repeats.{CancellationsReturnTheRecord, refund_by_office, IsBookedOrCancelled, RepeatsReturnTheSame, RepeatsMayBeLeftOut, WasServed}
 use Rattle.club_core.specs.declared.request.Request.TheVariants as asked
 use Rattle.club_core.specs.Verdict as verdicts
 
@@ -158,3 +159,56 @@ left_out set signature club history words moment reply rest w a =
           club_after-append club history (Asked words moment ∷ rest)
           ∙ (ap (λ (outcome : Outcome). club_after outcome.club rest) again ∙ sym (club_after-append club history rest));
     }
+
+-- ---- a cancellation after the office's gets what is on record
+
+-- the office's cancellation leaves the booking cancelled, with its whole charge or its earlier refund
+recorded_by_office : (club : Club) (words : Words) (key : List ℕ) (number : ℕ) (booking : Booking) → key_of words.pass ≡ Some key
+    → words.request ≡ asked.Cancel booking.slot number → booking_under key number club.bookings ≡ Some booking
+    → (step club (Commanded (CancelBooking key number))).reply ≡ ToOffice Done
+    → IsRecorded (step club (Commanded (CancelBooking key number))).club.bookings words (Cancelled key number (refund_by_office booking))
+recorded_by_office club words key number booking named asks found =
+    command_cases (λ (v : Result (Option Change) OfficeFault). (command_outcome club (CancelBooking key number) v).reply ≡ ToOffice Done
+    → IsRecorded (command_outcome club (CancelBooking key number) v).club.bookings words (Cancelled key number (refund_by_office booking))) club
+    (λ fault returned. absurd (cc)) (CancelBooking key number)
+    (λ n returned.
+    let before : booking.cancelled ≡ true = let there = n.1 in let was = n.2 in grind arith in
+    let key_is = it.0 in
+    let number_is = it.1 in
+    on_record club.bookings booking found (rw asks (grind (arith, same_slots booking.slot))))
+    (λ r returned.
+    let is : r.2 ≡ booking = let there = r.3 in cc in
+    let mark = cancelled_booking r.2.key r.2.number r.2.charge in
+    let live = r.4 in
+    let key_is = it.0 in
+    let number_is = it.1 in
+    on_record (map mark club.bookings) (mark booking) (find-map (is_numbered key number) mark (λ b. refl) club.bookings ∙ ap (option_map mark) found)
+    (rw asks (grind (arith, same_slots booking.slot, self_numbered booking))))
+  where
+    it : (booking.key ≡ key) × (booking.number ≡ number)
+    it = numbered key number booking (found_passes (is_numbered key number) club.bookings booking found)
+
+    on_record : (bookings : List Booking) (row : Booking) → booking_under key number bookings ≡ Some row
+        → IsAgain row words.request (Cancelled key number (refund_by_office booking))
+        → IsRecorded bookings words (Cancelled key number (refund_by_office booking))
+    on_record bookings row there again = record {
+      key = key;
+      key_name = named;
+      number = number;
+      number_is = ap request_number asks;
+      booking = row;
+      found = there;
+      again = again;
+    }
+
+pub cancelled_by_record : TestsTheSet → TestsTheSignature → CancellationsReturnTheRecord
+cancelled_by_record set signature club history words moment key number booking w named asks a =
+    let start = club_after club w.front in
+    let then = (step start (Commanded (CancelBooking key number))).club in
+    let reply = Cancelled key number (refund_by_office booking) in
+    let first = recorded_by_office start words key number booking named asks w.found w.reply_is in
+    let later : IsRecorded (club_after then w.rest).bookings words reply = stays_on_record then w.rest words reply first in
+    let end : club_after club history ≡ club_after then w.rest =
+    rw w.place (club_after-append club w.front (Commanded (CancelBooking key number) ∷ w.rest))
+    in
+    step_by_record set signature (club_after club history) words moment reply (rw end later) a

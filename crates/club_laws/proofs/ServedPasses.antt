@@ -135,8 +135,9 @@ stays_revoked name club change h = h
 now_revoked : (club : Club) (name : List ℕ) → (step club (Commanded (RevokeKey name))).reply ≡ ToOffice Done
     → IsRevoked name (step club (Commanded (RevokeKey name))).club
 now_revoked club name =
-    command_cases (λ (v : Result Change OfficeFault). (command_outcome club (RevokeKey name) v).reply ≡ ToOffice Done
+    command_cases (λ (v : Result (Option Change) OfficeFault). (command_outcome club (RevokeKey name) v).reply ≡ ToOffice Done
     → IsRevoked name (command_outcome club (RevokeKey name) v).club) club (λ fault returned. absurd (cc)) (RevokeKey name)
+    (λ s. absurd s)
     (λ r returned.
     let known = r.1 in grind (arith, find-map (has_name name) (revoked_key name) (λ k. refl) club.keys, found_passes (has_name name) club.keys r.0))
 

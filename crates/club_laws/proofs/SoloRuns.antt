@@ -110,8 +110,8 @@ module _ (name : List ℕ) (club : Club) (keyed : IsKeyed club) where
   command_follows : (command : Command) → Follows (part_of name club) (own_change name club (office_verdict club command))
       (command_outcome club command (office_verdict club command)).reply (part_of name (command_outcome club command (office_verdict club command)).club)
   command_follows command =
-      command_cases (λ (v : Result Change OfficeFault). Follows (part_of name club) (own_change name club v) (command_outcome club command v).reply
-      (part_of name (command_outcome club command v).club)) club (λ fault. refl) command
+      command_cases (λ (v : Result (Option Change) OfficeFault). Follows (part_of name club) (own_change name club v) (command_outcome club command v).reply
+      (part_of name (command_outcome club command v).club)) club (λ fault. refl) command (λ s. refl)
       (λ r.
       let fresh : IsFresh club (change_of club command r) = grind arith in
       let changed = part_changed name club (change_of club command r) keyed.known fresh in

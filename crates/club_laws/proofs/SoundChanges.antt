@@ -1,12 +1,12 @@
 -- A change whose values are within their limits, and which leaves what the club's rows allow, keeps the club sound.
 use Rattle.club_laws.proofs.Common.{ReplaceNumbers, TakeCredit, ◌≡◌, ◌≢◌, ℕ, ◌≤◌, false, true, List, [], ◌∷◌, ◌++◌, get_or, map, arith, All, Contains, sum_by}
 use Rattle.club_laws.proofs.Common.{All-push, All-map, both_ways, Slot, Member, Facility, Key, Booking, persons_of, same_slot, cost_of, is_in, taken_in}
-use Rattle.club_laws.proofs.Common.{revoked_key, rotated_key, after, is_marked, cancelled_booking, Club, is_key_of, bookings_of, IsSound, bytes_eq-Decides}
-use Rattle.club_laws.proofs.Common.{InsertMember, AddCredit, InsertFacility, InsertKey, MarkRevoked, ReplaceRoot, MarkClosed, MarkOpen, ReplaceQuota}
-use Rattle.club_laws.proofs.{Common.{InsertBooking, MarkCancelled, Some, subst, sym, key_named}, FilteredRows.{sum_one_more, sum_no_more}}
-use Rattle.club_laws.proofs.FoundRows.{AllPairs-map, All-each, still_there, still_all, named, named_there, only_named, only_numbered, none_passes, same_slots}
-use Rattle.club_laws.proofs.{FoundRows.{slots_same, AreApart}, MemberParts.{bookings_of-added, owner}, SoundSteps.{sound_numbers, sound_credit, sound_debit}}
-use Rattle.club_laws.proofs.SoundSteps.{nothing_booked, nobody_in, sound_edited, sound_opened, sound_quota, rotated_row, cancelled_row, costs_no_more}
+use Rattle.club_laws.proofs.Common.{revoked_key, rotated_key, after, Club, is_key_of, bookings_of, IsSound, bytes_eq-Decides, InsertMember, AddCredit}
+use Rattle.club_laws.proofs.Common.{InsertFacility, InsertKey, MarkRevoked, ReplaceRoot, MarkClosed, MarkOpen, ReplaceQuota, InsertBooking, MarkCancelled, Some}
+use Rattle.club_laws.proofs.{Common.{subst, sym, key_named}, FilteredRows.sum_one_more}
+use Rattle.club_laws.proofs.FoundRows.{All-each, still_there, still_all, named, named_there, only_named, none_passes, same_slots, slots_same, AreApart}
+use Rattle.club_laws.proofs.{MemberParts.{bookings_of-added, owner}, SoundSteps.{sound_marked, sound_numbers, sound_credit, sound_debit, nothing_booked}}
+use Rattle.club_laws.proofs.SoundSteps.{nobody_in, sound_edited, sound_opened, sound_quota, rotated_row}
 use Rattle.std.proofs.lemmas.{Bool.Decides.nat_tests, List.Quantifiers.all_pairs_push}
 use Rattle.club_rows.specs.Rows.{IsMember, IsFacility, IsKey, IsSlot, IsBooking}
 use Rattle.club_laws.specs.SoundRuns.{Suits, SuitingChangesKeepSound}
@@ -42,38 +42,6 @@ booked_sound club s booking member h =
     let room = h.placed in
     let before = s.places i d short at of in
     grind (arith, nat_tests, sum_one_more persons_of (is_in at) club.bookings booking, bytes_eq-Decides other.name booking.slot.facility)
-    in
-    assumption
-
-cancelled_sound : (club : Club) → IsSound club → (booking : Booking) (member : List ℕ) (refund : ℕ) → Suits (MarkCancelled booking member refund) club
-    → IsSound (after (MarkCancelled booking member refund) club)
-cancelled_sound club s booking member refund h =
-    let mark = cancelled_booking booking.key booking.number refund in
-    let new : Club = record club { bookings = map mark club.bookings } in
-    let only = only_numbered booking.key booking.number club.bookings booking s.unique.bookings h.0 in
-    let few = h.1 in
-    let small : All (λ (other : Booking). is_marked booking.key booking.number other ≡ true → refund ≤ other.charge) club.bookings =
-    λ i d short. let is = only i d short in grind arith in
-    let limits = All-map IsBooking mark club.bookings (λ i d short.
-    cancelled_row booking.key booking.number refund (get_or club.bookings i d) (s.rows.bookings i d short) (small i d short)) in
-    let names = AllPairs-map mark AreApart AreApart (λ a b h. h) club.bookings s.unique.bookings in
-    let known = All-map (λ (b : Booking). Contains (map (λ (k : Key). k.name) club.keys) b.key) mark club.bookings s.references.bookings in
-    let located = All-map (λ (b : Booking). Contains (map (λ (g : Facility). g.name) club.facilities) b.slot.facility) mark club.bookings
-    s.references.facilities in
-    let balances : All (λ (m : Member). sum_by cost_of (bookings_of m.name new) ≤ m.credited) club.members =
-    λ i d short.
-    let before = s.balances i d short in
-    omega (
-      arith,
-      sum_no_more cost_of (λ (b : Booking). is_key_of (get_or club.members i d).name club b.key) mark club.bookings
-          (λ j e less.
-          let cost = costs_no_more booking.key booking.number refund (get_or club.bookings j e) (s.rows.bookings j e less) (small j e less) in grind arith),
-    )
-    in
-    let places : All (λ (f : Facility). (slot : Slot) → slot.facility ≡ f.name → taken_in slot new.bookings ≤ f.places) club.facilities =
-    λ i d short at of.
-    let before = s.places i d short at of in
-    omega (arith, sum_no_more persons_of (is_in at) mark club.bookings (λ j e less. grind arith))
     in
     assumption
 
@@ -129,4 +97,4 @@ sound_after club (MarkClosed slot) s h =
     assumption
 sound_after club (MarkOpen slot) s h = sound_opened club slot s
 sound_after club (InsertBooking booking member) s h = booked_sound club s booking member h
-sound_after club (MarkCancelled booking member refund) s h = cancelled_sound club s booking member refund h
+sound_after club (MarkCancelled booking member refund) s h = sound_marked club booking member refund h.0 h.1 s

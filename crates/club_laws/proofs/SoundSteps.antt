@@ -1,16 +1,16 @@
 -- Steps and runs keep a sound club, and each change fits.
-use Rattle.club_laws.proofs.{AnswerCases.{CommandRestsOn, change_of, Knows, Books, Cancels, written, answer_cases, command_cases}, Common.SetFacility}
-use Rattle.club_laws.proofs.Common.{ReplaceNumbers, facility_with_numbers, are_limits, AddCredit, Debit, TakeCredit, debited_member, member_named, None, ◌≡◌}
-use Rattle.club_laws.proofs.Common.{◌≢◌, ℕ, ◌≤◌, Bool, false, List, [], ◌∷◌, ◌++◌, get_or, map, ap, arith, ◌+◌, true, cond, All, subst, Option, Some, Ok, Err}
-use Rattle.club_laws.proofs.Common.{Contains, IfSome, sum_by, ◌||◌, Result, bytes_eq, All-push, All-map, All-head, All-tail, map-map, cond_both, both_ways}
-use Rattle.club_laws.proofs.Common.{Slot, Member, Facility, Key, Booking, persons_of, same_slot, refund_at, cost_of, is_in, taken_in, credited_member}
-use Rattle.club_laws.proofs.Common.{revoked_key, good_until, rotated_key, after, is_marked, cancelled_booking, Club, keys_of, is_key_of, bookings_of, IsSound}
-use Rattle.club_laws.proofs.Common.{HasReferences, Command, AddMember, Credit, AddFacility, AddKey, RevokeKey, RotateKey, CloseSlot, OpenSlot, SetQuota}
-use Rattle.club_laws.proofs.Common.{IsCommand, IsRequest, IsEvent, bytes_eq-Decides, Verdict, Words, verdict_in, after_change, Asked, Commanded, step}
-use Rattle.club_laws.proofs.Common.{command_outcome, Change, OfficeFault, office_verdict, MarkOpen, ReplaceQuota, member_with_quota, All-filter, not}
-use Rattle.club_laws.proofs.{FilteredRows.{filter_none, sum_one_more, sum_no_more}, FoundRows.{AreApart, AllPairs-map, All-each, fresh_differs, still_there}}
-use Rattle.club_laws.proofs.FoundRows.{still_all, none_named, named_there, only_named, none_passes, same_slots, at_found, none_found, slots_same, is_numbered}
-use Rattle.club_laws.proofs.FoundRows.{only_numbered, found_by_own, found_passes, numbered}
+use Rattle.club_laws.proofs.{AnswerCases.{CommandRestsOn, change_of, Knows, Books, Cancels, written, answer_cases, command_cases}, Common.CancelBooking}
+use Rattle.club_laws.proofs.Common.{MarkCancelled, booking_under, SetFacility, ReplaceNumbers, facility_with_numbers, are_limits, AddCredit, Debit, TakeCredit}
+use Rattle.club_laws.proofs.Common.{debited_member, member_named, None, ◌≡◌, ◌≢◌, ℕ, ◌≤◌, Bool, false, List, [], ◌∷◌, ◌++◌, get_or, map, ap, arith, ◌+◌, true}
+use Rattle.club_laws.proofs.Common.{cond, All, subst, Option, Some, Ok, Err, Contains, IfSome, sum_by, ◌||◌, Result, bytes_eq, All-push, All-map, All-head}
+use Rattle.club_laws.proofs.Common.{All-tail, map-map, cond_both, both_ways, Slot, Member, Facility, Key, Booking, persons_of, same_slot, refund_at, cost_of}
+use Rattle.club_laws.proofs.Common.{is_in, taken_in, credited_member, revoked_key, good_until, rotated_key, after, is_marked, cancelled_booking, Club, keys_of}
+use Rattle.club_laws.proofs.Common.{is_key_of, bookings_of, IsSound, HasReferences, Command, AddMember, Credit, AddFacility, AddKey, RevokeKey, RotateKey}
+use Rattle.club_laws.proofs.Common.{CloseSlot, OpenSlot, SetQuota, IsCommand, IsRequest, IsEvent, bytes_eq-Decides, Verdict, Words, verdict_in, after_change}
+use Rattle.club_laws.proofs.Common.{Asked, Commanded, step, command_outcome, Change, OfficeFault, office_verdict, MarkOpen, ReplaceQuota, member_with_quota}
+use Rattle.club_laws.proofs.{Common.{All-filter, not}, FilteredRows.{filter_none, sum_one_more, sum_no_more}, FoundRows.{AreApart, AllPairs-map, All-each}}
+use Rattle.club_laws.proofs.FoundRows.{fresh_differs, still_there, still_all, none_named, named_there, only_named, none_passes, same_slots, at_found}
+use Rattle.club_laws.proofs.FoundRows.{none_found, slots_same, is_numbered, only_numbered, found_by_own, found_passes, numbered}
 use Rattle.club_laws.proofs.{MemberParts.{edited_member, edited, bookings_of-added, bookings_of-edited, owner}, MostTaken.at_most}
 use Rattle.std.proofs.lemmas.{Bool.Decides.nat_tests, List.{Kept.AllPairs-filter, Quantifiers.all_pairs_push}, Nat.mul-le}
 use Rattle.club_rows.specs.{Limits.IsRoot, Rows.{IsMember, IsFacility, IsOlderRoot, IsKey, IsSlot, IsBooking}, declared.key.OlderRoot.OlderRoot}
@@ -146,6 +146,53 @@ sound_opened club slot s =
     s.references.closed in
     assumption
 
+-- a row that was marked, or is unchanged
+module _ (key : List ℕ) (number refund : ℕ) (booking : Booking) (row : IsBooking booking) (small : is_marked key number booking ≡ true
+    → refund ≤ booking.charge) where
+  pub cancelled_row : IsBooking (cancelled_booking key number refund booking)
+  cancelled_row =
+      let given = row.refund in
+      let none = row.kept in
+      let few : cond (is_marked key number booking) refund booking.refund ≤ booking.charge = grind arith in
+      let kept : (booking.cancelled || is_marked key number booking) ≡ false → cond (is_marked key number booking) refund booking.refund ≡ 0 = grind arith in
+      assumption
+
+  pub costs_no_more : cost_of (cancelled_booking key number refund booking) ≤ cost_of booking
+  costs_no_more = let none = row.kept in grind arith
+
+-- a booking that is marked cancelled, with a refund of at most its charge
+pub sound_marked : (club : Club) (booking : Booking) (member : List ℕ) (refund : ℕ)
+    → booking_under booking.key booking.number club.bookings ≡ Some booking → refund ≤ booking.charge → IsSound club
+    → IsSound (after (MarkCancelled booking member refund) club)
+sound_marked club booking member refund found few s =
+    let mark = cancelled_booking booking.key booking.number refund in
+    let new : Club = record club { bookings = map mark club.bookings } in
+    let only = only_numbered booking.key booking.number club.bookings booking s.unique.bookings found in
+    let small : All (λ (other : Booking). is_marked booking.key booking.number other ≡ true → refund ≤ other.charge) club.bookings =
+    λ i d short. let is = only i d short in grind arith in
+    let limits = All-map IsBooking mark club.bookings (λ i d short.
+    cancelled_row booking.key booking.number refund (get_or club.bookings i d) (s.rows.bookings i d short) (small i d short)) in
+    let names = AllPairs-map mark AreApart AreApart (λ a b h. h) club.bookings s.unique.bookings in
+    let known = All-map (λ (b : Booking). Contains (map (λ (k : Key). k.name) club.keys) b.key) mark club.bookings s.references.bookings in
+    let located = All-map (λ (b : Booking). Contains (map (λ (g : Facility). g.name) club.facilities) b.slot.facility) mark club.bookings
+    s.references.facilities in
+    let balances : All (λ (m : Member). sum_by cost_of (bookings_of m.name new) ≤ m.credited) club.members =
+    λ i d short.
+    let before = s.balances i d short in
+    omega (
+      arith,
+      sum_no_more cost_of (λ (b : Booking). is_key_of (get_or club.members i d).name club b.key) mark club.bookings
+          (λ j e less.
+          let cost = costs_no_more booking.key booking.number refund (get_or club.bookings j e) (s.rows.bookings j e less) (small j e less) in grind arith),
+    )
+    in
+    let places : All (λ (f : Facility). (slot : Slot) → slot.facility ≡ f.name → taken_in slot new.bookings ≤ f.places) club.facilities =
+    λ i d short at of.
+    let before = s.places i d short at of in
+    omega (arith, sum_no_more persons_of (is_in at) mark club.bookings (λ j e less. grind arith))
+    in
+    assumption
+
 -- what a command makes of a sound club
 pub sound_command : (club : Club) → IsSound club → (c : Command) → IsCommand c → (r : CommandRestsOn club c) → IsSound (after (change_of club c r) club)
 sound_command club s (AddMember name quota) c r =
@@ -202,6 +249,8 @@ sound_command club s (RevokeKey name) c r =
 sound_command club s (RotateKey name root until) c r =
     sound_edited (λ key. (rotated_key name root until key).root) (λ key. (rotated_key name root until key).older) (λ key. key.revoked) club s
     (All-map IsKey (rotated_key name root until) club.keys (λ k d short. rotated_row name root until _ c.1 c.2 (s.rows.keys k d short)))
+sound_command club s (CancelBooking key number) c r =
+    sound_marked club r.2 r.0.member r.2.charge (found_by_own key number r.2 club.bookings r.3) (omega arith) s
 sound_command club s (CloseSlot slot) c r =
     let fresh = All-each (λ (other : Slot). same_slot other slot ≡ false) (λ (other : Slot). other ≢ slot) club.closed
     (λ other f h. both_ways (same_slot other slot) f (rw h (same_slots slot))) (none_passes (λ (other : Slot). same_slot other slot) club.closed r.2) in
@@ -213,20 +262,6 @@ sound_command club s (CloseSlot slot) c r =
 sound_command club s (OpenSlot slot) c r = sound_opened club slot s
 
 -- ---- a club stays sound under bookings and cancellations
-
--- a row that was marked, or is unchanged
-module _ (key : List ℕ) (number refund : ℕ) (booking : Booking) (row : IsBooking booking) (small : is_marked key number booking ≡ true
-    → refund ≤ booking.charge) where
-  pub cancelled_row : IsBooking (cancelled_booking key number refund booking)
-  cancelled_row =
-      let given = row.refund in
-      let none = row.kept in
-      let few : cond (is_marked key number booking) refund booking.refund ≤ booking.charge = grind arith in
-      let kept : (booking.cancelled || is_marked key number booking) ≡ false → cond (is_marked key number booking) refund booking.refund ≡ 0 = grind arith in
-      assumption
-
-  pub costs_no_more : cost_of (cancelled_booking key number refund booking) ≤ cost_of booking
-  costs_no_more = let none = row.kept in grind arith
 
 module _ (club : Club) (s : IsSound club) (words : Words) (key : Key) (member : Member) (k : Knows club words key member) where
   row_of_booking : (slot : Slot) (number guests : ℕ) (facility : Facility) → IsRequest (asked.Book slot number guests)
@@ -274,37 +309,9 @@ module _ (club : Club) (s : IsSound club) (words : Words) (key : Key) (member : 
       assumption
 
   sound_cancellation : (slot : Slot) (number moment : ℕ) (booking : Booking) → Cancels club key slot number booking
-      → IsSound (record club { bookings = map (cancelled_booking booking.key booking.number (refund_at booking moment)) club.bookings })
+      → IsSound (after (MarkCancelled booking key.member (refund_at booking moment)) club)
   sound_cancellation slot number moment booking c =
-      let refund = refund_at booking moment in
-      let mark = cancelled_booking booking.key booking.number refund in
-      let new : Club = record club { bookings = map mark club.bookings } in
-      let only = only_numbered booking.key booking.number club.bookings booking s.unique.bookings
-      (found_by_own key.name number booking club.bookings c.found) in
-      let small : All (λ (other : Booking). is_marked booking.key booking.number other ≡ true → refund ≤ other.charge) club.bookings =
-      λ i d short. let is = only i d short in grind arith in
-      let limits = All-map IsBooking mark club.bookings (λ i d short.
-      cancelled_row booking.key booking.number refund (get_or club.bookings i d) (s.rows.bookings i d short) (small i d short)) in
-      let names = AllPairs-map mark AreApart AreApart (λ a b h. h) club.bookings s.unique.bookings in
-      let known = All-map (λ (b : Booking). Contains (map (λ (k : Key). k.name) club.keys) b.key) mark club.bookings s.references.bookings in
-      let located = All-map (λ (b : Booking). Contains (map (λ (g : Facility). g.name) club.facilities) b.slot.facility) mark club.bookings
-      s.references.facilities in
-      let balances : All (λ (member : Member). sum_by cost_of (bookings_of member.name new) ≤ member.credited) club.members =
-      λ i d short.
-      let before = s.balances i d short in
-      omega (
-        arith,
-        sum_no_more cost_of (λ (b : Booking). is_key_of (get_or club.members i d).name club b.key) mark club.bookings
-            (λ j e less.
-            let cost = costs_no_more booking.key booking.number refund (get_or club.bookings j e) (s.rows.bookings j e less) (small j e less) in grind arith),
-      )
-      in
-      let places : All (λ (facility : Facility). (slot : Slot) → slot.facility ≡ facility.name → taken_in slot new.bookings ≤ facility.places) club.facilities =
-      λ i d short at of.
-      let before = s.places i d short at of in
-      omega (arith, sum_no_more persons_of (is_in at) mark club.bookings (λ j e less. grind arith))
-      in
-      assumption
+      sound_marked club booking key.member (refund_at booking moment) (found_by_own key.name number booking club.bookings c.found) (grind arith) s
 
 pub sound_answer : (club : Club) (words : Words) (moment : ℕ) → IsSound club → IsRequest words.request
     → IsSound (after_change (verdict_in club words moment).change club)
@@ -322,7 +329,8 @@ sound_answer club words moment s r =
 pub sound_step : StepsKeepSound
 sound_step club (Asked words moment) s e = sound_answer club words moment s e
 sound_step club (Commanded command) s e =
-    command_cases (λ (v : Result Change OfficeFault). IsSound (command_outcome club command v).club) club (λ fault. s) command (sound_command club s command e)
+    command_cases (λ (v : Result (Option Change) OfficeFault). IsSound (command_outcome club command v).club) club (λ fault. s) command
+    (λ _. s) (sound_command club s command e)
 
 pub sound_run : RunsKeepSound
 sound_run club [] s h = s
@@ -333,16 +341,25 @@ abbrev IsTrueIfAny : Club → Option Change → Type 0
 IsTrueIfAny club None = Unit {0}
 IsTrueIfAny club (Some change) = IsTrueOf change club
 
-abbrev IsTrueIfOk : Club → Result Change OfficeFault → Type 0
+abbrev IsTrueIfOk : Club → Result (Option Change) OfficeFault → Type 0
 IsTrueIfOk club (Err fault) = Unit {0}
-IsTrueIfOk club (Ok change) = IsTrueOf change club
+IsTrueIfOk club (Ok change) = IsTrueIfAny club change
 
 true_answer : (club : Club) (words : Words) (moment : ℕ) → IsTrueIfAny club (verdict_in club words moment).change
 true_answer club words moment =
     answer_cases (λ (v : Verdict). IsTrueIfAny club v.change) club words moment (grind (arith, numbered, found_passes, found_by_own))
 
 true_command : (club : Club) (command : Command) → IsTrueIfOk club (office_verdict club command)
-true_command club command = command_cases (IsTrueIfOk club) club (λ fault. tt) command (λ r. grind arith)
+true_command club command = command_cases (IsTrueIfOk club) club (λ fault. tt) command (λ s. tt) (carries command)
+  where
+    carries : (c : Command) (r : CommandRestsOn club c) → IsTrueOf (change_of club c r) club
+    carries (CancelBooking key number) r =
+        let known = r.1 in
+        let live = r.4 in
+        let own = found_by_own key number r.2 club.bookings r.3 in
+        let named = numbered key number r.2 (found_passes (is_numbered key number) club.bookings r.2 r.3) in
+        grind arith
+    carries c r = grind arith
 
 pub fits_event : ChangesFit
 fits_event club (Asked words moment) change s e is = record {

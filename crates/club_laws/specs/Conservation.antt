@@ -4,17 +4,17 @@ use Rattle.club_values.specs.declared.slot.Slot.{Slot}
 use Rattle.club_rows.specs.declared.{facility.Facility.Facility, member.Member.Member}
 use Rattle.club_core.specs.{Club.{Club, empty_club, member_named, facility_named, bookings_of, IsSound}, Events.IsEvent}
 use Rattle.club_core.specs.{Run.{Event, Commanded, replies_of, club_after, EventReply}, Sums.{cost_of, balance_of, taken_in}}
-use Rattle.club_core.specs.declared.command.Command.TheVariants.{Debit}
-use Rattle.club_laws.specs.Points.{keys_given, credits_accepted, debits_accepted, charges_of_replies, refunds_of_replies, total_under}
+use Rattle.club_core.specs.declared.command.Command.TheVariants.{Debit, CancelBooking}
+use Rattle.club_laws.specs.Points.{keys_given, credits_accepted, debits_accepted, charges_of_replies, refunds_given, refunds_of_replies, total_under}
 
--- The member's balance, its debits and the first charge of each booking of its keys add up to its credits and the first refund of each booking.
--- Without debits this says the same of balance, charges, credits and refunds: the debits are 0. Its bookings never cost more than it was credited and
--- not debited, so its balance is never below 0.
+-- The member's balance, its debits and the first charge of each booking add up to its credits and to what was first given back of each booking. That is
+-- the refund of a served cancellation, or the whole charge if the office cancelled before. In a list without these two commands the debits are 0, and the
+-- refunds in the replies are what was given back. Its bookings never cost more than its credit, so its balance is never below 0.
 pub record IsConserved (club : Club) (events : List Event) (replies : List EventReply) (member : Member) : Type 0 where
   pub balance_adds_up :
       balance_of member (bookings_of member.name club) + debits_accepted member.name events replies
       + total_under (keys_given member.name events replies) (charges_of_replies replies)
-      ≡ credits_accepted member.name events replies + total_under (keys_given member.name events replies) (refunds_of_replies replies)
+      ≡ credits_accepted member.name events replies + total_under (keys_given member.name events replies) (refunds_given events replies)
   pub coverage : sum_by cost_of (bookings_of member.name club) ≤ member.credited
 
 abbrev pub ConservesPoints : Type 0
@@ -23,15 +23,16 @@ ConservesPoints =
     → member_named name (club_after empty_club events) ≡ Some member
     → IsConserved (club_after empty_club events) events (replies_of empty_club events) member
 
--- an event that is no debit
-abbrev pub IsNoDebit : Event → Type 0
-IsNoDebit (Commanded (Debit name points)) = ⊥
-IsNoDebit event = Unit {0}
+-- an event that is neither a debit nor a cancellation by the office
+abbrev pub IsNoCorrection : Event → Type 0
+IsNoCorrection (Commanded (Debit name points)) = ⊥
+IsNoCorrection (Commanded (CancelBooking key number)) = ⊥
+IsNoCorrection event = Unit {0}
 
--- so over a list without debits, balance and charges add up to credits and refunds
-abbrev pub ConservesWithoutDebits : Type 0
-ConservesWithoutDebits =
-    (events : List Event) (name : List ℕ) (member : Member) → All IsEvent events → All IsNoDebit events
+-- so over a list without debits and cancellations by the office, balance and charges add up to credits and the first refund of each booking
+abbrev pub ConservesWithoutCorrections : Type 0
+ConservesWithoutCorrections =
+    (events : List Event) (name : List ℕ) (member : Member) → All IsEvent events → All IsNoCorrection events
     → member_named name (club_after empty_club events) ≡ Some member
     → let replies = replies_of empty_club events in
     let keys = keys_given member.name events replies in

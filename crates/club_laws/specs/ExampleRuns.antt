@@ -1,11 +1,12 @@
 -- Example runs on which the definitions of points and repeats compute (ours).
+use Rattle.club_core.specs.{Acceptance.IsAcceptedIn, Club.empty_club}
+use Rattle.club_core.specs.{Examples.{served_cancellation, served_booking, opening, opened_club, slot_at, noon, late, ask}, Pass.Words}
+use Rattle.club_core.specs.{Run.{ToOffice, Event, Commanded, replies_of, club_after, EventReply}, declared.command.Command.TheVariants.{Debit, CancelBooking}}
+use Rattle.club_core.specs.declared.{command.OfficeAnswer.TheVariants.Done, reply.Reply.TheVariants.Booked}
 use Rattle.std.specs.Prelude.{◌≡◌, ℕ, true, List, [], ◌∷◌, ◌++◌, Some, Ok, codes}
 use Rattle.pass_caveats.specs.declared.caveat.Caveat.TheVariants.{Spend}
-use Rattle.club_core.specs.{Acceptance.IsAcceptedIn, Club.empty_club, Examples.{opening, opened_club, slot_at, noon, late, ask}, Pass.Words}
-use Rattle.club_core.specs.{Run.{Event, Commanded, replies_of, club_after, EventReply}, declared.command.Command.TheVariants.Debit}
-use Rattle.club_core.specs.declared.reply.Reply.TheVariants.{Booked}
 use Rattle.club_core.specs.declared.request.Request.TheVariants as asked
-use Rattle.club_laws.specs.{Points.{keys_given, credits_accepted, debits_accepted, charges_of_replies, refunds_of_replies, total_under}, Repeats.WasServed}
+use Rattle.club_laws.specs.{Points.{keys_given, credits_accepted, debits_accepted, charges_of_replies, refunds_given, total_under}, Repeats.WasServed}
 
 -- twelve hours before the slot at 18 begins
 abbrev pub at_six : ℕ
@@ -27,7 +28,7 @@ some_events =
 pub record AreFigures (events : List Event) (replies : List EventReply) (charged credited refunded : ℕ) : Type 0 where
   pub charges : total_under (keys_given (codes "amy") events replies) (charges_of_replies replies) ≡ charged
   pub credits : credits_accepted (codes "amy") events replies ≡ credited
-  pub refunds : total_under (keys_given (codes "amy") events replies) (refunds_of_replies replies) ≡ refunded
+  pub refunds : total_under (keys_given (codes "amy") events replies) (refunds_given events replies) ≡ refunded
 
 -- 600 and 200 points charged, 10,000 credited, and half of 600 refunded
 abbrev pub CountsEachOnce : Type 0
@@ -41,6 +42,27 @@ debited_events = some_events ++ Commanded (Debit (codes "amy") 400) ∷ Commande
 pub record CountsADebit : Type 0 where
   pub figures : AreFigures debited_events (replies_of empty_club debited_events) 800 10_000 300
   pub debits : debits_accepted (codes "amy") debited_events (replies_of empty_club debited_events) ≡ 400
+
+-- the office cancels the booking at 19, and that at 18 again, which gives nothing more back; the member cancels that at 19, too, and repeats it
+abbrev pub cancelled_events : List Event
+cancelled_events =
+    some_events
+    ++ Commanded (CancelBooking (codes "amy-1") 8)
+    ∷ Commanded (CancelBooking (codes "amy-1") 7)
+    ∷ ask (asked.Cancel (slot_at 19) 8) late
+    ∷ ask (asked.Book (slot_at 19) 8 0) late
+    ∷ []
+
+-- the whole 200 points of it are given back, beside half of 600
+abbrev pub CountsACancellationOnce : Type 0
+CountsACancellationOnce = AreFigures cancelled_events (replies_of empty_club cancelled_events) 800 10_000 500
+
+-- its repeats get the recorded refund and the first reply
+abbrev pub RepeatsAfterTheOffice : Type 0
+RepeatsAfterTheOffice =
+    replies_of (club_after empty_club some_events)
+    (Commanded (CancelBooking (codes "amy-1") 8) ∷ ask (asked.Cancel (slot_at 19) 8) late ∷ ask (asked.Book (slot_at 19) 8 0) late ∷ [])
+    ≡ ToOffice Done ∷ served_cancellation 8 200 ∷ served_booking 8 200 3 ∷ []
 
 -- a booking, then its cancellation
 abbrev pub booked_then_cancelled : List Event

@@ -2,12 +2,11 @@
 use Rattle.std.specs.Prelude.{◌≡◌, ℕ, ◌+◌, Bool, List, [], if◌then◌else◌, Some}
 use Rattle.club_values.specs.declared.slot.Slot.{Slot}
 use Rattle.club_core.specs.{After.after, Club.{Club, IsSound, is_key_of}, Run.{Event, step}, Solo.{outside, is_own, own_part, part_of}, Sums.taken_in}
-use Rattle.club_core.specs.declared.change.Change.{Change, TheVariants.{InsertBooking, MarkCancelled}}
+use Rattle.club_core.specs.declared.change.Change.{Change, TheVariants.InsertBooking}
 
--- whether a change is made in the member's part: the member's own changes, and the bookings and cancellations under its keys
+-- whether a change is made in the member's part: the member's own changes, and the bookings under its keys
 abbrev pub is_of_part : List ℕ → Club → Change → Bool
 is_of_part name club (InsertBooking booking member) = is_key_of name club booking.key
-is_of_part name club (MarkCancelled booking member refund) = is_key_of name club booking.key
 is_of_part name club change = is_own name club change
 
 -- the member's part after a change of the club: changed by the same change, or unchanged

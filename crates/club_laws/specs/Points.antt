@@ -1,6 +1,6 @@
 -- Points in a run, computed from its events and replies alone, without the tables (ours).
 use Rattle.std.specs.{List.list_any, Prelude.{ℕ, ◌+◌, ◌==◌, ◌&&◌, not, Bool, List, [], ◌∷◌, ◌++◌, filter, flat_map, sum_by, if◌then◌else◌}, Str.bytes_eq}
-use Rattle.club_core.specs.{Run.{Event, Commanded, EventReply, ToMember, ToOffice}, declared.command.Command.TheVariants.{Credit, Debit, AddKey}}
+use Rattle.club_core.specs.{Run.{Event, Commanded, EventReply, ToMember, ToOffice}, declared.command.Command.TheVariants.{Credit, Debit, AddKey, CancelBooking}}
 use Rattle.club_core.specs.declared.{command.OfficeAnswer.TheVariants.{Done, NewKey}, reply.Reply.TheVariants.{Booked, Cancelled}}
 
 -- points in a reply, with the key and the number of the booking
@@ -25,6 +25,11 @@ charge_of_reply reply = []
 abbrev pub charges_of_replies : List EventReply → List Entry
 charges_of_replies replies = flat_map charge_of_reply replies
 
+-- the first charge told of a booking, and 0 if there is none
+abbrev pub charge_told : List ℕ → ℕ → List Entry → ℕ
+charge_told key number [] = 0
+charge_told key number (entry ∷ entries) = if is_entry_of key number entry then entry.points else charge_told key number entries
+
 -- the refund in the reply to a served cancellation
 abbrev pub refund_of_reply : EventReply → List Entry
 refund_of_reply (ToMember (Cancelled key number refund)) = record { key = key; number = number; points = refund } ∷ []
@@ -32,6 +37,20 @@ refund_of_reply reply = []
 
 abbrev pub refunds_of_replies : List EventReply → List Entry
 refunds_of_replies replies = flat_map refund_of_reply replies
+
+-- what an event gave back of a booking: the refund in the reply to a served cancellation, or the first of these charges if the office cancelled it
+abbrev pub refund_given : List Entry → Event → EventReply → List Entry
+refund_given charges (Commanded (CancelBooking key number)) (ToOffice Done) =
+    record { key = key; number = number; points = charge_told key number charges } ∷ []
+refund_given charges event reply = refund_of_reply reply
+
+abbrev pub refunds_by : List Entry → List Event → List EventReply → List Entry
+refunds_by charges (event ∷ events) (reply ∷ replies) = refund_given charges event reply ++ refunds_by charges events replies
+refunds_by charges events replies = []
+
+-- what a run gave back of bookings, in order; without a cancellation by the office, the refunds in its replies
+abbrev pub refunds_given : List Event → List EventReply → List Entry
+refunds_given events replies = refunds_by (charges_of_replies replies) events replies
 
 -- the keys that a member was given
 abbrev pub key_given : List ℕ → Event → EventReply → List (List ℕ)

@@ -1,8 +1,11 @@
 -- A served booking or cancellation takes place once (ours).
-use Rattle.std.specs.Prelude.{◌≡◌, ℕ, List, ◌∷◌, ◌++◌}
+use Rattle.club_rows.specs.declared.booking.Booking.{Booking}
 use Rattle.club_core.specs.{Acceptance.IsAcceptedIn, Basis.key_of, Club.Club, Pass.Words}
-use Rattle.club_core.specs.{Run.{Event, Asked, step, replies_of, club_after, EventReply, ToMember}, declared.reply.Reply.Reply}
+use Rattle.club_core.specs.{Run.{Commanded, ToOffice, Event, Asked, step, replies_of, club_after, EventReply, ToMember}, Sums.booking_under}
+use Rattle.club_core.specs.declared.{command.{Command.TheVariants.CancelBooking, OfficeAnswer.TheVariants.Done}, reply.Reply.Reply}
 use Rattle.club_core.specs.declared.reply.Reply.TheVariants.{Booked, Cancelled}
+use Rattle.std.specs.Prelude.{Some, if◌then◌else◌, ◌≡◌, ℕ, List, ◌∷◌, ◌++◌}
+use Rattle.club_core.specs.declared.request.Request.TheVariants as asked
 
 -- a reply to a booking or a cancellation that was served
 abbrev pub IsBookedOrCancelled : Reply → Type 0
@@ -42,3 +45,26 @@ RepeatsMayBeLeftOut =
     → WasServed club history words reply
     → IsAcceptedIn (club_after club history) words moment
     → MayBeLeftOut club history (Asked words moment) rest (ToMember reply)
+
+-- the office cancelled a booking within the history, when it was on record as this
+pub record WasCancelled (club : Club) (history : List Event) (key : List ℕ) (number : ℕ) (booking : Booking) : Type 0 where
+  pub front : List Event
+  pub rest : List Event
+  pub place : history ≡ front ++ Commanded (CancelBooking key number) ∷ rest
+  pub reply_is : (step (club_after club front) (Commanded (CancelBooking key number))).reply ≡ ToOffice Done
+  pub found : booking_under key number (club_after club front).bookings ≡ Some booking
+
+-- the refund on record after it: the whole charge, or the earlier refund of a booking that was cancelled before
+abbrev pub refund_by_office : Booking → ℕ
+refund_by_office booking = if booking.cancelled then booking.refund else booking.charge
+
+-- an accepted cancellation of this booking after it gets the recorded refund and changes nothing, whatever happened since and whatever the moment
+abbrev pub CancellationsReturnTheRecord : Type 0
+CancellationsReturnTheRecord =
+    (club : Club) (history : List Event) (words : Words) (moment : ℕ) (key : List ℕ) (number : ℕ) (booking : Booking)
+    → WasCancelled club history key number booking
+    → key_of words.pass ≡ Some key
+    → words.request ≡ asked.Cancel booking.slot number
+    → IsAcceptedIn (club_after club history) words moment
+    → step (club_after club history) (Asked words moment)
+    ≡ record { reply = ToMember (Cancelled key number (refund_by_office booking)); club = club_after club history }

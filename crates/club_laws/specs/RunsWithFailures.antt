@@ -1,12 +1,13 @@
 -- The laws over runs in which some events failed, as statements about the responses (ours). Failed events are left out.
-use Rattle.std.specs.Prelude.{◌≡◌, ℕ, IsFalse, List, ◌∷◌, ◌++◌, length, map, All, Some}
-use Rattle.club_values.specs.declared.slot.Slot.{Slot}
-use Rattle.club_rows.specs.declared.member.Member.{Member}
 use Rattle.club_core.specs.{Acceptance.IsAcceptedIn, Basis.key_of, Club.{Club, empty_club, member_named, IsSound}, Events.IsEvent, Pass.Words}
 use Rattle.club_core.specs.{Run.{Event, Asked, step, replies_of, club_after, ToMember, Response}, Solo.{own_events, part_of, solo_replies}}
-use Rattle.club_core.specs.declared.reply.Reply.{Reply}
+use Rattle.club_core.specs.declared.reply.Reply.{Reply, TheVariants.Cancelled}
+use Rattle.club_rows.specs.declared.{booking.Booking.Booking, member.Member.Member}
 use Rattle.club_laws.specs.{Conservation.{IsConserved, HasPlaces}, Failed.{Presentation, has_failed, IsRun, answered_events, answers}}
-use Rattle.club_laws.specs.{Repeats.IsBookedOrCancelled, SoloLaw.replies_to}
+use Rattle.club_laws.specs.{Repeats.{WasCancelled, refund_by_office, IsBookedOrCancelled}, SoloLaw.replies_to}
+use Rattle.std.specs.Prelude.{◌≡◌, ℕ, IsFalse, List, ◌∷◌, ◌++◌, length, map, All, Some}
+use Rattle.club_values.specs.declared.slot.Slot.{Slot}
+use Rattle.club_core.specs.declared.request.Request.TheVariants as asked
 
 -- the club at the end is sound
 abbrev pub SoundWithFailures : Type 0 → Type 0
@@ -60,6 +61,21 @@ RepeatsWithFailures O =
     → WasReturned history before words reply
     → IsAcceptedIn (club_after club (answered_events presentation history before)) words moment
     → (IsFalse (has_failed presentation (Asked words moment) returned) → returned ≡ ToMember reply)
+    × IsRun presentation club (history ++ rest) (before ++ since) last
+
+-- if the office cancelled a booking, a later cancellation gets the recorded refund, unless it fails; without it, all other responses and the club at the
+-- end are the same
+abbrev pub CancellationsWithFailures : Type 0 → Type 0
+CancellationsWithFailures O =
+    (presentation : Presentation O) (club last : Club) (history rest : List Event) (before since : List (Response O))
+    (words : Words) (moment : ℕ) (returned : Response O) (key : List ℕ) (number : ℕ) (booking : Booking)
+    → length before ≡ length history
+    → IsRun presentation club (history ++ Asked words moment ∷ rest) (before ++ returned ∷ since) last
+    → WasCancelled club (answered_events presentation history before) key number booking
+    → key_of words.pass ≡ Some key
+    → words.request ≡ asked.Cancel booking.slot number
+    → IsAcceptedIn (club_after club (answered_events presentation history before)) words moment
+    → (IsFalse (has_failed presentation (Asked words moment) returned) → returned ≡ ToMember (Cancelled key number (refund_by_office booking)))
     × IsRun presentation club (history ++ rest) (before ++ since) last
 
 -- in this club an accepted repeat of each served request gets the same reply, and changes nothing

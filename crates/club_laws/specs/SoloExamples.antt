@@ -1,9 +1,9 @@
 -- Example runs from the empty club, which compute: one member's requests, alone and among those of another (ours).
+use Rattle.club_core.specs.{Club.empty_club, Examples.{opening, root, slot_at, noon, late, ask, served_booking, account, served_cancellation}}
+use Rattle.club_core.specs.{Run.{Event, Asked, Commanded, replies_of, EventReply, ToMember}, declared.command.Command.TheVariants.{AddMember, Credit, Debit}}
+use Rattle.club_core.specs.declared.command.Command.TheVariants.{SetFacility, CancelBooking, AddKey, RevokeKey, CloseSlot, OpenSlot, SetQuota}
+use Rattle.club_core.specs.declared.{refusal.Refusal.TheVariants.NoPlaces, reply.Reply.TheVariants.Refused, request.Request.Request}
 use Rattle.std.specs.Prelude.{◌≡◌, true, List, [], ◌∷◌, ◌++◌, Some, Ok, codes}
-use Rattle.club_core.specs.{Club.empty_club, Examples.{opening, root, slot_at, noon, ask, served_booking, account, served_cancellation}}
-use Rattle.club_core.specs.Run.{Event, Asked, Commanded, replies_of, EventReply}
-use Rattle.club_core.specs.declared.command.Command.TheVariants.{AddMember, Credit, Debit, SetFacility, AddKey, RevokeKey, CloseSlot, OpenSlot, SetQuota}
-use Rattle.club_core.specs.declared.request.Request.{Request}
 use Rattle.club_core.specs.declared.request.Request.TheVariants as asked
 use Rattle.club_laws.specs.SoloLaw.{replies_to}
 
@@ -27,7 +27,7 @@ abbrev pub AnswersAmyAlone : Type 0
 AnswersAmyAlone = replies_to_amy amy_alone ≡ served_booking 7 600 1 ∷ account 9_400 1 600 ∷ served_cancellation 7 600 ∷ []
 
 -- The same beside bob. He books other slots and hers, under her number too, and leaves hers. He is credited and debited, gets a quota and a key, and has
--- one revoked. The office closes another slot and opens it again.
+-- one revoked. The office cancels a booking of his, and closes another slot and opens it again.
 abbrev pub amy_among_others : List Event
 amy_among_others =
     opening
@@ -46,6 +46,7 @@ amy_among_others =
     ∷ Commanded (AddKey (codes "bob-2") (codes "bob") root)
     ∷ Commanded (RevokeKey (codes "bob-1"))
     ∷ Commanded (OpenSlot (slot_at 8))
+    ∷ Commanded (CancelBooking (codes "bob-1") 8)
     ∷ ask_of_bob asked.Account
     ∷ ask (asked.Cancel (slot_at 18) 7) noon
     ∷ []
@@ -66,6 +67,28 @@ ShowsAmyATakenPlace =
     ∷ ask (asked.Cancel (slot_at 18) 7) noon
     ∷ [])
     ≡ served_booking 7 600 0 ∷ account 9_400 1 600 ∷ served_cancellation 7 600 ∷ []
+
+-- if the office cancels bob's booking in her slot and then hers, she sees his places free, her points back, and the recorded replies
+abbrev pub ShowsAmyHerCancellation : Type 0
+ShowsAmyHerCancellation =
+    replies_to_amy
+    (opening
+    ++ bob_joins
+    ++ ask_of_bob (asked.Book (slot_at 18) 7 3)
+    ∷ ask (asked.Book (slot_at 18) 7 2) noon
+    ∷ Commanded (CancelBooking (codes "bob-1") 7)
+    ∷ ask (asked.Book (slot_at 18) 7 2) noon
+    ∷ Commanded (CancelBooking (codes "amy-1") 7)
+    ∷ ask asked.Account noon
+    ∷ ask (asked.Cancel (slot_at 18) 7) late
+    ∷ ask (asked.Book (slot_at 18) 7 2) late
+    ∷ [])
+    ≡ ToMember (Refused NoPlaces)
+    ∷ served_booking 7 600 1
+    ∷ account 10_000 0 0
+    ∷ served_cancellation 7 600
+    ∷ served_booking 7 600 1
+    ∷ []
 
 -- new places and another price reach her with her next booking; what she booked before keeps its charge and its places left
 abbrev pub ShowsAmyNewNumbers : Type 0

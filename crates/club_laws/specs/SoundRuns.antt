@@ -20,7 +20,7 @@ StepsKeepSound = (club : Club) (event : Event) → IsSound club → IsEvent even
 -- the change that an event makes of a club
 abbrev pub IsChangeBy : Club → Event → Change → Type 0
 IsChangeBy club (Asked words moment) change = (verdict_in club words moment).change ≡ Some change
-IsChangeBy club (Commanded command) change = office_verdict club command ≡ Ok change
+IsChangeBy club (Commanded command) change = office_verdict club command ≡ Ok (Some change)
 
 -- such a change fits the club, if the club is sound: the rows that it carries are the club's, and it leaves a sound club
 abbrev pub ChangesFit : Type 0

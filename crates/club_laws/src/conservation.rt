@@ -1,8 +1,9 @@
 //! Points are neither made nor lost, and no slot is overbooked.
 
-ghost use Rattle.club_laws.specs.Conservation.{ConservesPoints, ConservesWithoutDebits};
+ghost use Rattle.club_laws.specs.Conservation.{ConservesPoints, ConservesWithoutCorrections};
 ghost use Rattle.club_laws.specs.Conservation.{NeverOverbooks, SoundClubsHavePlaces};
-ghost use Rattle.club_laws.specs.ExampleRuns.{CountsADebit, CountsEachOnce};
+ghost use Rattle.club_laws.specs.ExampleRuns.{CountsACancellationOnce, CountsADebit};
+ghost use Rattle.club_laws.specs.ExampleRuns.{CountsEachOnce};
 
 /// A charge and a refund count once, however often a reply repeats them.
 pub fn counts_each_once()
@@ -14,16 +15,23 @@ pub fn counts_a_debit()
     ensures { CountsADebit }
 {}
 
+/// A cancellation by the office gives the whole charge back once, and nothing if the member
+/// cancelled before.
+pub fn counts_a_cancellation_once()
+    ensures { CountsACancellationOnce }
+{}
+
 /// A member's balance, its debits and its charges add up to its credits and its refunds, and no
-/// balance is below 0.
+/// balance is below 0. A booking that the office cancelled first is refunded whole.
 pub fn conserves_points()
     ensures { ConservesPoints }
 {}
 
-/// Without debits, a member's balance and its charges add up to its credits and its refunds.
-#[tactic(auto, using(crate::proofs::PointRuns::conserved_without_debits))]
-pub fn conserves_without_debits()
-    ensures { ConservesWithoutDebits }
+/// Without debits and cancellations by the office, a member's balance and its charges add up to its
+/// credits and the refunds that it was told.
+#[tactic(auto, using(crate::proofs::PointRuns::conserved_without_corrections))]
+pub fn conserves_without_corrections()
+    ensures { ConservesWithoutCorrections }
 {}
 
 /// A slot has a place for each person who booked it.

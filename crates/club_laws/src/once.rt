@@ -1,7 +1,8 @@
 //! A served booking or cancellation takes place once.
 
-ghost use Rattle.club_laws.specs.ExampleRuns.{AcceptsARepeat};
-ghost use Rattle.club_laws.specs.Repeats.{RepeatsReturnTheSame, RepeatsMayBeLeftOut};
+ghost use Rattle.club_laws.specs.ExampleRuns.{AcceptsARepeat, RepeatsAfterTheOffice};
+ghost use Rattle.club_laws.specs.Repeats.{CancellationsReturnTheRecord, RepeatsMayBeLeftOut};
+ghost use Rattle.club_laws.specs.Repeats.{RepeatsReturnTheSame};
 
 use club_core::laws::tests_the_signature;
 use pass_caveats::laws::tests_the_set;
@@ -26,4 +27,18 @@ pub fn repeats_may_be_left_out()
 /// nothing. The repeat is accepted.
 pub fn accepts_a_repeat()
     ensures { AcceptsARepeat }
+{}
+
+/// A cancellation of a booking that the office cancelled gets the recorded refund, and changes
+/// nothing.
+pub fn cancellations_return_the_record()
+    ensures { CancellationsReturnTheRecord }
+{
+    tests_the_set();
+    tests_the_signature();
+}
+
+/// An example: a booking is cancelled and repeated after the office cancelled it.
+pub fn repeats_after_the_office()
+    ensures { RepeatsAfterTheOffice }
 {}

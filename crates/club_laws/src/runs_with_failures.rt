@@ -1,6 +1,7 @@
 //! The laws over runs in which some events failed, as statements about the responses. `O` is the
 //! type of a desk's answers to the office.
 
+ghost use Rattle.club_laws.specs.RunsWithFailures.{CancellationsWithFailures};
 ghost use Rattle.club_laws.specs.RunsWithFailures.{ConservesWithFailures, PlacesWithFailures};
 ghost use Rattle.club_laws.specs.RunsWithFailures.{SoloLawWithFailures, SoloLawOfTwoWithFailures};
 ghost use Rattle.club_laws.specs.RunsWithFailures.{SoundWithFailures, RepeatsAfterOneMore};
@@ -29,6 +30,15 @@ pub fn never_overbooks<O>()
 /// A repeat of a served booking or cancellation gets the first response, and may be left out.
 pub fn repeats_return_the_same<O>()
     ensures { RepeatsWithFailures O }
+{
+    tests_the_set();
+    tests_the_signature();
+}
+
+/// A cancellation of a booking that the office cancelled gets the recorded refund, and may be left
+/// out.
+pub fn cancellations_return_the_record<O>()
+    ensures { CancellationsWithFailures O }
 {
     tests_the_set();
     tests_the_signature();

@@ -1,7 +1,8 @@
 //! A member's replies in a run are those of a machine that holds the member's part alone.
 
 ghost use Rattle.club_laws.specs.SoloExamples.{AnswersAmyAlone, AnswersAmyAmongOthers};
-ghost use Rattle.club_laws.specs.SoloExamples.{ShowsAmyATakenPlace, ShowsAmyNewNumbers};
+ghost use Rattle.club_laws.specs.SoloExamples.{ShowsAmyATakenPlace, ShowsAmyHerCancellation};
+ghost use Rattle.club_laws.specs.SoloExamples.{ShowsAmyNewNumbers};
 ghost use Rattle.club_laws.specs.SoloLaw.{EndsWithThePart, SoloLaw, SoloLawOfTwo};
 
 /// The replies to a member's requests follow from the member's part and own events alone.
@@ -42,4 +43,9 @@ pub fn shows_amy_a_taken_place()
 /// A facility's new numbers hold for the member's next booking, and leave those before as they are.
 pub fn shows_amy_new_numbers()
     ensures { ShowsAmyNewNumbers }
+{}
+
+/// The office cancels another's booking and the member's own: the places and the points come back.
+pub fn shows_amy_her_cancellation()
+    ensures { ShowsAmyHerCancellation }
 {}
