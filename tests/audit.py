@@ -200,7 +200,7 @@ class Audit:
                 runs[-1][1] = number
             else:
                 runs.append([number, number])
-        return ", ".join(str(a) if a == b else f"{a}-{b}" for a, b in runs)
+        return ",".join(str(a) if a == b else f"{a}-{b}" for a, b in runs)
 
     def summary(self):
         yield "| Promise | Clause | Definitions | Lines | Computing | Types |"
@@ -246,12 +246,10 @@ class Audit:
 
     def faults(self):
         cited = self.first_computed()
-        yield "| Computing definition | File | Cited by |"
-        yield "|---|---|---|"
         for it in self.computed():
             if id(it) in cited:
                 names = ", ".join(name if " " in name else f"`{name}`" for name in sorted(cited[id(it)]))
-                yield f"| `{it.name}` | `{it.file}` | {names} |"
+                yield f"- `{it.name}` in `{it.file}`, by {names}"
 
     def further_faults(self):
         """The computing definitions that only such ones cite, by their files."""
@@ -259,22 +257,24 @@ class Audit:
         for it in self.computed():
             if id(it) not in cited:
                 by_file[it.file].append(f"`{it.name}`")
-        yield "| In | Computing definitions below those |"
-        yield "|---|---|"
-        for file, names in by_file.items():
-            yield f"| `{file}` | {', '.join(names)} |"
+        return "; ".join(f"{', '.join(names)} in `{file}`" for file, names in by_file.items())
 
     def definitions_of(self, crate):
-        """The definitions of a crate by their files. Neighbours with the same promises and mark share an item."""
+        """The definitions of a crate by their files. Neighbours with the same promises and mark share an item; a single one follows its file."""
         listed = [it for it in self.every.values() if it.crate == crate and it.kind in OF_SPECS and not it.is_computed]
         for file in in_reading_order(self.book, [self.book.specs[module] for module in {it.module for it in listed}]):
             own = sorted((it for it in listed if it.module == file.module), key=lambda it: it.line)
             gist = re.sub(r" \([^)]*(\)|$)", "", re.match(r".*?[^A-Z0-9][.:](?= |$)|.*", file.head)[0]).rstrip(".:")
             source = source_of(" ".join([file.head, *(it.comment for it in own)]))
             source = "" if source == "ours" else f" [{source}]"
-            yield f"**`{file.path.relative_to(ROOT)}`** ({sum(it.lines for it in own)}): {gist}{source}\n"
-            for (numbers, mark), group in groupby(own, lambda it: (self.numbers(it), self.mark(it))):
-                yield f"- {numbers}{mark and ', ' + mark}: " + ", ".join(f"`{it.name}`" for it in group)
+            groups = [(numbers + (mark and " " + mark), ", ".join(f"`{it.name}`" for it in group))
+                      for (numbers, mark), group in groupby(own, lambda it: (self.numbers(it), self.mark(it)))]
+            head = f"**`{file.path.relative_to(ROOT)}`** ({sum(it.lines for it in own)}): {gist}{source}"
+            if len(groups) == 1:
+                yield f"{head}. {groups[0][0]}: {groups[0][1]}"
+            else:
+                yield head + "\n"
+                yield from (f"- {numbers}: {names}" for numbers, names in groups)
             yield ""
 
     def types(self):
@@ -294,8 +294,9 @@ class Audit:
             stands = []
             for of, file, value, below in self.book.standing_for(it):
                 below = [it for it in below if it.kind in OF_SPECS]
-                counts = f" ({len(below)}, {sum(it.is_computed for it in below)} computing)" if below else ""
-                stands.append(f"of `{of}` in `{file.path.relative_to(ROOT)}`: `{' '.join(value.split())}`{counts}")
+                computing = sum(it.is_computed for it in below)
+                counts = f" ({len(below)}" + (f", {computing} computing)" if computing else ")") if below else ""
+                stands.append(f"`{of}`, `{file.path.relative_to(ROOT)}`: `{' '.join(value.split())}`{counts}")
             yield f"| `{it.name}`, `{it.file}` | {self.numbers(it)} | {'; '.join(stands)} |"
 
     # ---- what is trusted beside them
@@ -373,7 +374,7 @@ class Audit:
             "\n".join(self.faults()),
         ]
         if len(computed) > len(self.first_computed()):
-            sections += ["The others are below those:", "\n".join(self.further_faults())]
+            sections.append(f"The others are below those: {self.further_faults()}.")
         return sections
 
     def page(self):
