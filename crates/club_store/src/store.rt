@@ -14,7 +14,7 @@ ghost use Rattle.club_core.specs.declared.change.Change.TheVariants.{InsertMembe
 ghost use Rattle.club_core.specs.declared.change.Change.TheVariants.{InsertFacility, InsertKey};
 ghost use Rattle.club_core.specs.declared.change.Change.TheVariants.{MarkRevoked, ReplaceRoot};
 ghost use Rattle.club_core.specs.declared.change.Change.TheVariants.{MarkClosed, MarkOpen};
-ghost use Rattle.club_core.specs.declared.change.Change.TheVariants.{ReplaceQuota};
+ghost use Rattle.club_core.specs.declared.change.Change.TheVariants.{TakeCredit, ReplaceQuota};
 ghost use Rattle.club_rows.specs.Rows.{IsMember, IsFacility, IsKey, IsBooking};
 ghost use Rattle.club_store.specs.Crash.{LeavesOneOf, IsOpenedOn, RepresentsOne};
 ghost use Rattle.club_store.specs.{Limits.HasLimits, Opening.{FailsFrom, IsHandedBack}};
@@ -352,6 +352,7 @@ impl<S: Alter> Store<S> {
         match change {
             Change::InsertMember(member) => self.insert_member(member),
             Change::AddCredit { member, points } => self.add_credit(member, *points),
+            Change::TakeCredit { member, points } => self.take_credit(member, *points),
             Change::ReplaceQuota { member, quota } => self.replace_quota(member, *quota),
             Change::InsertFacility(facility) => self.insert_facility(facility),
             Change::InsertKey(key) => self.insert_key(key),
@@ -403,6 +404,14 @@ impl<S: Alter> Store<S> {
         ensures makes { ChangesClub S.Store (AddCredit member.now points) self.old self.new result }
     {
         self.tables.add_credit(member, points)
+    }
+
+    /// Takes points back that a member was credited, in one transaction. Fails as `apply`.
+    pub fn take_credit(&mut self, member: &Name, points: u32) -> Result<(), StoreFault>
+        ensures makes { ChangesClub S.Store (TakeCredit member.now points)
+            self.old self.new result }
+    {
+        self.tables.take_credit(member, points)
     }
 
     /// Gives a member another quota, in one transaction. Fails as `apply`.

@@ -16,12 +16,12 @@ pub use Rattle.std.proofs.lemmas.{Result.{IfErr-weaker, on_err_weaker, IfOk-weak
 pub use Rattle.std.specs.{Cmp.{unsigned_Decides, IsTotalOrder, int_cmp_is, Equal-is}, List.{AllByRecursion, list_any, list_all, AllZip, filter_map}}
 pub use Rattle.std.specs.{Option.{option_or, option_to_list}, Ordering.{is_gt, is_eq, ordering_reverse, int_cmp, on, then_cmp, ordering_then, is_ge, is_lt}}
 pub use Rattle.std.specs.{Prelude.unwrap_or, Str.bytes_eq}
-pub use Rattle.club_core.specs.{After.{credited_member, after, cancelled_booking, revoked_key, rotated_key, good_until, is_marked}, Basis.slot_use}
-pub use Rattle.club_core.specs.Club.{Club, IsSound, is_key_of, key_named, member_named, facility_named, is_closed, empty_club, bookings_of}
+pub use Rattle.club_core.specs.After.{credited_member, after, cancelled_booking, revoked_key, rotated_key, good_until, is_marked, debited_member}
+pub use Rattle.club_core.specs.{Basis.slot_use, Club.{Club, IsSound, is_key_of, key_named, member_named, facility_named, is_closed, empty_club, bookings_of}}
 pub use Rattle.club_core.specs.{KeyParts.older_root_of, Store.{IsOwnedBy, IsTrueOf, IsToCancel, FitsClub, HasRoot}}
 pub use Rattle.club_core.specs.Sums.{booking_under, cost_of, taken_in, is_in, is_under, is_to_come, count_to_come}
 pub use Rattle.club_core.specs.declared.change.Change.TheVariants.{InsertMember, AddCredit, InsertFacility, InsertKey, MarkRevoked, ReplaceRoot, MarkClosed}
-pub use Rattle.club_core.specs.declared.{change.Change.TheVariants.{MarkOpen, ReplaceQuota, InsertBooking, MarkCancelled}, slot_use.SlotUse.SlotUse}
+pub use Rattle.club_core.specs.declared.{change.Change.TheVariants.{MarkOpen, ReplaceQuota, InsertBooking, MarkCancelled, TakeCredit}, slot_use.SlotUse.SlotUse}
 pub use Rattle.club_core.specs.declared.store.StoreFault.{StoreFault}
 pub use Rattle.club_rows.specs.{Booking.{same_slot, persons_of}, Columns.truth, Rows.{IsBooking, IsMember, IsFacility}, declared.booking.Booking.Booking}
 pub use Rattle.club_rows.specs.declared.{facility.Facility.Facility, key.{Key.Key, OlderRoot.OlderRoot}, member.Member.Member}
@@ -42,7 +42,7 @@ unfoldable pub use Rattle.sqlite.specs.{Listing.{understood, listing_schema}, St
 pub use Rattle.sqlite_rules.proofs.ListLemmas.{all_has, has_kept, has_filtered, has_last, has_contained, has_found, contains_had, all_from}
 pub use Rattle.sqlite_rules.specs.{Action.{works, work_by, pairs, deed_for}, Edit.{taken_by, id_in}, Keys.{conflicts, AreConflicts}, Lists.Has}
 pub use Rattle.sqlite_schema.specs.declared.schema.Keys.TheVariants.{Enforced}
-pub use Rattle.sqlite_sql.specs.{Ops.{is_true, from_truth}, declared.ops.{ArithOp.TheVariants.{Add, Mul}, BinaryOp.TheVariants.{Compare, Arith}}}
+pub use Rattle.sqlite_sql.specs.{Ops.{is_true, from_truth}, declared.ops.{ArithOp.TheVariants.{Add, Sub, Mul}, BinaryOp.TheVariants.{Compare, Arith}}}
 pub use Rattle.sqlite_sql.specs.declared.ops.CompareOp.TheVariants.{Eq, Gt, Ge}
 unfoldable pub use Rattle.sqlite_sql.specs.Ops.{binary}
 unfoldable pub use Rattle.sqlite_tied.specs.Compute.{everything}
@@ -75,4 +75,4 @@ pub use Rattle.club_tables.specs.declared.texts.TheConstants.{DROP_BOOKINGS_BY_K
 pub use Rattle.club_tables.specs.declared.texts.TheConstants.{OPEN_SLOT, SET_QUOTA, ADD_TAKEN, PUT_OLDER_ROOT, CANCEL_BOOKING, ADD_CREDIT, REVOKE_KEY, SET_ROOT}
 pub use Rattle.club_tables.specs.declared.texts.TheConstants.{MAKE_MEMBERS, MAKE_FACILITIES, MAKE_KEYS, MAKE_SLOTS, MAKE_BOOKINGS, MAKE_KEYS_BY_MEMBER}
 pub use Rattle.club_tables.specs.declared.texts.TheConstants.{MAKE_OLD_ROOTS, MAKE_BOOKINGS_BY_KEY, ADD_VERSION, SET_VERSION, DAY, KEY, MEMBER, FACILITY, SLOT}
-pub use Rattle.club_tables.specs.declared.texts.TheConstants.{BOOKING, COSTS_UNDER_KEY, OPEN}
+pub use Rattle.club_tables.specs.declared.texts.TheConstants.{BOOKING, COSTS_UNDER_KEY, OPEN, TAKE_CREDIT}

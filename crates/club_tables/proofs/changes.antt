@@ -4,6 +4,7 @@ pub mod AddLemmas
 pub mod ChangeLemmas
 pub mod ChargeLemmas
 pub mod CancelLemmas
+pub mod DebitLemmas
 pub mod StoredLemmas
 pub mod ObeyLemmas
 pub mod FoundLemmas

@@ -5,9 +5,9 @@ use Rattle.club_values.specs.declared.slot.Slot.{Slot}
 use Rattle.club_rows.specs.{Booking.persons_of, declared.{booking.Booking.Booking, facility.Facility.Facility, key.{Key.Key, OlderRoot.OlderRoot}}}
 use Rattle.club_rows.specs.declared.member.Member.{Member}
 use Rattle.club_core.specs.{Sums.cost_of, declared.change.Change.{Change, TheVariants.{InsertMember, AddCredit, InsertFacility, InsertKey, MarkRevoked}}}
-use Rattle.club_core.specs.declared.change.Change.TheVariants.{ReplaceRoot, MarkClosed, MarkOpen, ReplaceQuota, InsertBooking, MarkCancelled}
+use Rattle.club_core.specs.declared.change.Change.TheVariants.{TakeCredit, ReplaceRoot, MarkClosed, MarkOpen, ReplaceQuota, InsertBooking, MarkCancelled}
 use Rattle.club_tables.specs.{Columns.{whole, facility_values, key_values, older_root_values, booking_values, name_values}, Stored.persons_taken}
-use Rattle.club_tables.specs.{Transaction.BoundStatement, declared.texts.TheConstants.{ADD_MEMBER, ADD_CREDIT, ADD_FACILITY, ADD_KEY, REVOKE_KEY}}
+use Rattle.club_tables.specs.{Transaction.BoundStatement, declared.texts.TheConstants.{ADD_MEMBER, ADD_CREDIT, TAKE_CREDIT, ADD_FACILITY, ADD_KEY, REVOKE_KEY}}
 use Rattle.club_tables.specs.declared.texts.TheConstants.{PUT_OLDER_ROOT, SET_ROOT, CLOSE_SLOT, OPEN_SLOT, SET_QUOTA, ADD_BOOKING, CANCEL_BOOKING, CHARGE}
 use Rattle.club_tables.specs.declared.texts.TheConstants.{ADD_USED, ADD_TAKEN}
 
@@ -17,6 +17,9 @@ adding_member member = (ADD_MEMBER.now, Text member.name ∷ whole member.credit
 
 abbrev pub adding_credit : List ℕ → ℕ → List BoundStatement
 adding_credit member points = (ADD_CREDIT.now, Text member ∷ whole points ∷ []) ∷ []
+
+abbrev pub taking_credit : List ℕ → ℕ → List BoundStatement
+taking_credit member points = (TAKE_CREDIT.now, Text member ∷ whole points ∷ []) ∷ []
 
 abbrev pub giving_quota : List ℕ → ℕ → List BoundStatement
 giving_quota member quota = (SET_QUOTA.now, Text member ∷ whole quota ∷ []) ∷ []
@@ -75,6 +78,7 @@ cancelling booking member refund =
 abbrev pub statements_of : Change → List BoundStatement
 statements_of (InsertMember member) = adding_member member
 statements_of (AddCredit member points) = adding_credit member points
+statements_of (TakeCredit member points) = taking_credit member points
 statements_of (ReplaceQuota member quota) = giving_quota member quota
 statements_of (InsertFacility facility) = adding_facility facility
 statements_of (InsertKey key) = adding_key key

@@ -2,7 +2,7 @@
 use Rattle.std.specs.Prelude.{◌≡◌, ◌⊎◌, ℕ, ◌<◌, ◌≤◌, ◌^◌, List, ◌∷◌, All, None, Result, IfErr, OnErr}
 use Rattle.sqlite.specs.{Held.{Held, state}, State.{HasCleanDisk, Survives}, Store.Ghosts}
 use Rattle.club_core.specs.{Club.{Club, IsSound}, Store.{Changes, FitsClub, KeepsClub, Returns}, declared.change.Change.{Change, TheVariants.InsertMember}}
-use Rattle.club_core.specs.declared.change.Change.TheVariants.{AddCredit, InsertFacility, InsertKey, MarkRevoked, ReplaceRoot, MarkClosed, MarkOpen}
+use Rattle.club_core.specs.declared.change.Change.TheVariants.{AddCredit, TakeCredit, InsertFacility, InsertKey, MarkRevoked, ReplaceRoot, MarkClosed, MarkOpen}
 use Rattle.club_core.specs.declared.{change.Change.TheVariants.{ReplaceQuota, InsertBooking, MarkCancelled}, store.StoreFault.{StoreFault, TheVariants.Storage}}
 use Rattle.club_values.specs.Moment.{IsMoment}
 use Rattle.club_rows.specs.{Limits.{IsRoot, quota_limit}, Rows.{IsMember, IsFacility, IsKey, IsSlot, IsBooking}}
@@ -44,6 +44,7 @@ pub record IsRunFault {S : Type 0} (g : Ghosts S) (fewest : ℕ) (statements : L
 abbrev pub InLimits : Change → Type 0
 InLimits (InsertMember member) = IsMember member
 InLimits (AddCredit name points) = points < 2 ^ 32
+InLimits (TakeCredit name points) = points < 2 ^ 32
 InLimits (ReplaceQuota name quota) = quota ≤ quota_limit
 InLimits (InsertFacility facility) = IsFacility facility
 InLimits (InsertKey key) = IsKey key × (key.older ≡ None)

@@ -112,6 +112,12 @@ pub(crate) const ADD_CREDIT: &str = "\
     SET credited = credited + ?2 \
     WHERE name = ?1 AND credited + ?2 <= 999999999";
 
+/// Takes points back that a member was credited, if the member's bookings leave them.
+pub(crate) const TAKE_CREDIT: &str = "\
+    UPDATE members \
+    SET credited = credited - ?2 \
+    WHERE name = ?1 AND used + ?2 <= credited";
+
 /// Sets the most bookings that a member may have open.
 pub(crate) const SET_QUOTA: &str = "UPDATE members SET quota = ?2 WHERE name = ?1";
 

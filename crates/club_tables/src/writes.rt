@@ -5,15 +5,15 @@ ghost use Rattle.club_rows.specs.{Limits.quota_limit, Rows.{IsMember, IsFacility
 ghost use Rattle.sqlite.specs.Values.{bound};
 ghost use Rattle.club_core.specs.declared.change.Change.TheVariants.{InsertMember, InsertFacility};
 ghost use Rattle.club_core.specs.declared.change.Change.TheVariants.{InsertKey, InsertBooking};
-ghost use Rattle.club_core.specs.declared.change.Change.TheVariants.{AddCredit, ReplaceQuota};
-ghost use Rattle.club_core.specs.declared.change.Change.TheVariants.{MarkRevoked, ReplaceRoot};
-ghost use Rattle.club_core.specs.declared.change.Change.TheVariants.{MarkClosed, MarkOpen};
-ghost use Rattle.club_core.specs.declared.change.Change.TheVariants.{MarkCancelled};
+ghost use Rattle.club_core.specs.declared.change.Change.TheVariants.{AddCredit, TakeCredit};
+ghost use Rattle.club_core.specs.declared.change.Change.TheVariants.{ReplaceQuota, MarkRevoked};
+ghost use Rattle.club_core.specs.declared.change.Change.TheVariants.{ReplaceRoot, MarkClosed};
+ghost use Rattle.club_core.specs.declared.change.Change.TheVariants.{MarkOpen, MarkCancelled};
 ghost use Rattle.club_tables.specs.ChangeStatements.{adding_member, adding_facility, adding_key};
-ghost use Rattle.club_tables.specs.ChangeStatements.{adding_credit, giving_quota, revoking};
-ghost use Rattle.club_tables.specs.ChangeStatements.{closing, reopening, rotating, replacing_root};
-ghost use Rattle.club_tables.specs.ChangeStatements.{booking_with, cancelling_with, adding_booking};
-ghost use Rattle.club_tables.specs.{ChangeStatements.cancelling, Fault.Commits};
+ghost use Rattle.club_tables.specs.ChangeStatements.{adding_credit, taking_credit, giving_quota};
+ghost use Rattle.club_tables.specs.ChangeStatements.{revoking, closing, reopening, rotating};
+ghost use Rattle.club_tables.specs.ChangeStatements.{replacing_root, booking_with, cancelling_with};
+ghost use Rattle.club_tables.specs.{ChangeStatements.{adding_booking, cancelling}, Fault.Commits};
 ghost use Rattle.club_tables.specs.ReadsAndChanges.{ChangesClub};
 
 use crate::limits::{is_booking, is_facility, is_member, key_within, rotation_within, slot_within};
@@ -93,6 +93,18 @@ impl<S: Alter> Tables<S> {
     {
         suiting_changes_keep_sound();
         self.write_one(texts::ADD_CREDIT, &params::of_credit(member, points))
+    }
+
+    /// Takes points back that a member was credited. Fails, and changes nothing, if the member
+    /// isn't there, or its bookings leave fewer points.
+    pub fn take_credit(&mut self, member: &Name, points: u32) -> Result<(), StoreFault>
+        ensures commits { Commits S.Store 1 (taking_credit member.now points)
+            self.old self.new result }
+        ensures makes { ChangesClub S.Store (TakeCredit member.now points)
+            self.old self.new result }
+    {
+        suiting_changes_keep_sound();
+        self.write_one(texts::TAKE_CREDIT, &params::of_credit(member, points))
     }
 
     /// Gives a member another quota. Fails, and changes nothing, if the quota is out of its limits,

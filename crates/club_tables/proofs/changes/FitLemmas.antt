@@ -5,9 +5,10 @@ use Rattle.club_tables.proofs.Common.{nat_le, nat_tests, AllByRecursion, All-fro
 use Rattle.club_tables.proofs.Common.{map-map, Ghosts, Held, state, Database, HoldsClub, Ran, Club, Member, Facility, Key, Booking, Slot, SlotRow, SlotUse}
 use Rattle.club_tables.proofs.Common.{MemberRow, IsMember, InLimits, InsertMember, AddCredit, InsertFacility, InsertKey, MarkRevoked, ReplaceRoot, MarkClosed}
 use Rattle.club_tables.proofs.Common.{MarkOpen, ReplaceQuota, InsertBooking, MarkCancelled, member_row, member_named, facility_named, same_slot, cost_of}
-use Rattle.club_tables.proofs.Common.{taken_in, used_by, statements_of, FitsClub, row_of}
+use Rattle.club_tables.proofs.Common.{taken_in, used_by, statements_of, FitsClub, row_of, TakeCredit}
 use Rattle.club_tables.proofs.changes.AddLemmas.{new_row, close_use, take_use, member_put, facility_put, key_put, slot_closed, slot_was_open, each_weaker}
-use Rattle.club_tables.proofs.changes.{ChangeLemmas.{credit_found, whole_to}, FoundLemmas.{slot_placed, the_named}}
+use Rattle.club_tables.proofs.changes.{ChangeLemmas.{credit_found, whole_to}, DebitLemmas.{debit_found, enough_left, leaves}}
+use Rattle.club_tables.proofs.changes.FoundLemmas.{slot_placed, the_named}
 use Rattle.club_tables.proofs.changes.ObeyLemmas.{members_apart, facilities_apart, keys_apart, key_members, slot_facilities}
 use Rattle.club_tables.proofs.changes.PlanLemmas.{start, is_true, booked_by, adds, filled_use, member_of, members_once}
 use Rattle.club_tables.proofs.{lists.{KeyedRows.{put_slot, slot_once, same_itself}, OwnerLemmas.all_last}, queries.{KeyLemmas.same_slots, MemberLemmas.total}}
@@ -128,6 +129,11 @@ module _ {S : Type 0} (g : Ghosts S) (old : Held S) (club : Club) (tables : Hold
       let few = credited name row.0 m.0 m.1 m.2 in
       let low = rw (total row.0.member.credited points (omega (arith, few, within)), whole_to (row.0.member.credited + points) 999_999_999) at row.2 in
       (m.0, m.1, subst (λ (r : MemberRow). r.member.credited + points ≤ credited_limit) m.2 (at_most (row.0.member.credited + points) 999_999_999 low))
+  suits db (TakeCredit name points) within ran =
+      let t = ran.turns in
+      let row = debit_found tables.rows (members_once g old club tables) name points (start g old club tables) (state g t.0) t.1 tables.holds_rows t.2 t.4 in
+      let m = member_of g old club tables name row.0 row.1 in
+      (m.0, m.1, enough_left club tables.sound name points m.0 m.1 within (subst (λ (r : MemberRow). leaves points r ≡ true) m.2 row.2))
   suits db (ReplaceQuota name quota) within ran = within
   suits db (InsertFacility facility) within ran =
       let t = ran.turns in

@@ -9,12 +9,14 @@ use Rattle.club_tables.proofs.Common.{persons_of, IsBooking, Booking, Facility, 
 use Rattle.club_tables.proofs.Common.{whole, name_values, FailsInTurn, Rows, member_row, used_by, persons_taken, IsStoredAs, HoldsClub, HoldsRows, Ran}
 use Rattle.club_tables.proofs.Common.{transaction_start, BoundStatement, RanInTurn, MemberRow, ADD_USED, InLimits, ADD_TAKEN, CANCEL_BOOKING, SlotRow}
 use Rattle.club_tables.proofs.Common.{AllByRecursion, Has, has_found, has_contained, ◌&&◌, ◌==◌, false, list_any, unwrap_or, stored_slot_use, no_slot_use}
-use Rattle.club_tables.proofs.{Common.{row_of, nat_le, nat_tests, unsigned_Decides, cancelling_with, is_closed}, changes.AddLemmas.{take_use, booking_put}}
-use Rattle.club_tables.proofs.changes.AddLemmas.{member_put, facility_put, key_put, slot_taken, slot_closed, slot_opened, open_use, older_represents, put_older}
+use Rattle.club_tables.proofs.{Common.{row_of, nat_le, nat_tests, unsigned_Decides, cancelling_with, is_closed, TakeCredit}, changes.AddLemmas.take_use}
+use Rattle.club_tables.proofs.changes.AddLemmas.{booking_put, member_put, facility_put, key_put, slot_taken, slot_closed, slot_opened, open_use}
+use Rattle.club_tables.proofs.changes.AddLemmas.{older_represents, put_older}
 use Rattle.club_tables.proofs.changes.CancelLemmas.{booking_cancelled, cancel_found, there, used_back, taken_back, mapped_holds, used_less, taken_less}
 use Rattle.club_tables.proofs.changes.ChangeLemmas.{credit_found, whole_to, owner_found, AreKeysOnce, StoresKey, name_of, member_used, AreNamedOnce, used_row}
 use Rattle.club_tables.proofs.changes.ChangeLemmas.{StoresMember, one_found, member_credited, member_given, quota_found, root_found, key_revoked, revoke_finds}
 use Rattle.club_tables.proofs.changes.{ChangeLemmas.root_set, ChargeLemmas.{Charged, charge_found, member_charged}}
+use Rattle.club_tables.proofs.changes.DebitLemmas.{debit_found, enough_left, leaves, enough_if_fits, credited_little, member_debited, debit_stored}
 use Rattle.club_tables.proofs.changes.FoundLemmas.{contains_mapped, minus, few_taken, put_there, few_persons, facility_there, slot_placed, still_open}
 use Rattle.club_tables.proofs.changes.{ObeyLemmas.{bookings_apart, booking_facilities}, StoredLemmas.{taken_more, member_stored, credit_stored}}
 use Rattle.club_tables.proofs.changes.StoredLemmas.{facility_stored, key_stored, revoke_stored, rotate_stored, close_stored, open_stored, quota_stored}
@@ -147,6 +149,12 @@ module _ {S : Type 0} (g : Ghosts S) (old : Held S) (club : Club) (tables : Hold
       let t = ran.turns in
       let row = credit_found tables.rows members_once name points start (state g t.0) t.1 tables.holds_rows t.2 t.4 in
       let m = member_of name row.0 row.1 in (m.0, m.1)
+  is_true db (TakeCredit name points) within ran =
+      let t = ran.turns in
+      let row = debit_found tables.rows members_once name points start (state g t.0) t.1 tables.holds_rows t.2 t.4 in
+      let m = member_of name row.0 row.1 in
+      let left = enough_left club tables.sound name points m.0 m.1 within (subst (λ (r : MemberRow). leaves points r ≡ true) m.2 row.2) in
+      (m.0, m.1, omega (arith, left))
   is_true db (ReplaceQuota name quota) within ran =
       let t = ran.turns in
       let row = quota_found tables.rows members_once name quota start (state g t.0) t.1 tables.holds_rows t.2 t.4 in
@@ -351,6 +359,12 @@ module _ {S : Type 0} (g : Ghosts S) (old : Held S) (club : Club) (tables : Hold
       one_step _ (member_credited tables.rows members_once name points (member_row club m) (stored_member name m fits.carries.1)
       (total m.credited points (omega (arith, low))) (let small : nat_le (m.credited + points) 999_999_999 ≡ true = grind (arith, nat_tests) in small))
       (credit_stored club tables.rows tables.storage name points)
+  plan (TakeCredit name points) fits =
+      let m = fits.carries.0 in
+      let enough = enough_if_fits club tables.sound name points m fits.carries.1 fits fits.carries.2 in
+      let low = credited_little club tables.sound name points m fits.carries.1 in
+      one_step _ (member_debited tables.rows members_once name points (member_row club m) (stored_member name m fits.carries.1) enough (omega (arith, low)))
+      (debit_stored club tables.rows tables.storage name points)
   plan (ReplaceQuota name quota) fits =
       one_step _ (member_given tables.rows members_once name quota (member_row club fits.carries.0) (stored_member name fits.carries.0 fits.carries.1))
       (quota_stored club tables.rows tables.storage name quota)
