@@ -33,6 +33,10 @@ impl<S: Alter> ClubStore for Store<S> {
         Store::slot(self, slot)
     }
 
+    fn most_taken(&mut self, facility: &Name) -> Result<u32, StoreFault> {
+        Store::most_taken(self, facility)
+    }
+
     fn booking(
         &mut self,
         key: &Name,

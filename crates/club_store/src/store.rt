@@ -9,12 +9,13 @@ ghost use Rattle.club_core.specs.Basis.{account_named, key_view_in, slot_use, st
 ghost use Rattle.club_core.specs.Club.{Club, bookings_of, empty_club, key_named, member_named};
 ghost use Rattle.club_core.specs.{Club.facility_named, Request.{request_number, request_slot}};
 ghost use Rattle.club_core.specs.Sheet.{AreRowsOf};
-ghost use Rattle.club_core.specs.Sums.{booking_under, count_to_come, spent_under};
+ghost use Rattle.club_core.specs.Sums.{booking_under, count_to_come, most_taken_in, spent_under};
 ghost use Rattle.club_core.specs.declared.change.Change.TheVariants.{InsertMember, AddCredit};
 ghost use Rattle.club_core.specs.declared.change.Change.TheVariants.{InsertFacility, InsertKey};
 ghost use Rattle.club_core.specs.declared.change.Change.TheVariants.{MarkRevoked, ReplaceRoot};
 ghost use Rattle.club_core.specs.declared.change.Change.TheVariants.{MarkClosed, MarkOpen};
-ghost use Rattle.club_core.specs.declared.change.Change.TheVariants.{TakeCredit, ReplaceQuota};
+ghost use Rattle.club_core.specs.declared.change.Change.TheVariants.{TakeCredit, ReplaceNumbers};
+ghost use Rattle.club_core.specs.declared.change.Change.TheVariants.{ReplaceQuota};
 ghost use Rattle.club_rows.specs.Rows.{IsMember, IsFacility, IsKey, IsBooking};
 ghost use Rattle.club_store.specs.Crash.{LeavesOneOf, IsOpenedOn, RepresentsOne};
 ghost use Rattle.club_store.specs.{Limits.HasLimits, Opening.{FailsFrom, IsHandedBack}};
@@ -237,6 +238,15 @@ impl<S: Alter> Store<S> {
         self.tables.facility(name)
     }
 
+    /// The most persons in a slot of the facility of this name, of whatever day: 0 if nobody booked
+    /// one.
+    pub fn most_taken(&mut self, facility: &Name) -> Result<u32, StoreFault>
+        ensures reads { ReadsClub S.Store self.old self.new result
+            (λ club most. most ≡ most_taken_in facility.now club.bookings) }
+    {
+        self.tables.most_taken(facility)
+    }
+
     /// The use of a slot: the persons who booked it, and whether it is closed.
     pub fn slot(&mut self, slot: &Slot) -> Result<SlotUse, StoreFault>
         ensures reads { ReadsClub S.Store self.old self.new result
@@ -355,6 +365,13 @@ impl<S: Alter> Store<S> {
             Change::TakeCredit { member, points } => self.take_credit(member, *points),
             Change::ReplaceQuota { member, quota } => self.replace_quota(member, *quota),
             Change::InsertFacility(facility) => self.insert_facility(facility),
+            Change::ReplaceNumbers {
+                facility,
+                places,
+                price,
+                opens,
+                shuts,
+            } => self.replace_numbers(facility, *places, *price, *opens, *shuts),
             Change::InsertKey(key) => self.insert_key(key),
             Change::MarkRevoked { key } => self.revoke_key(key),
             Change::ReplaceRoot {
@@ -427,6 +444,22 @@ impl<S: Alter> Store<S> {
         ensures makes { ChangesClub S.Store (InsertFacility facility.now) self.old self.new result }
     {
         self.tables.insert_facility(facility)
+    }
+
+    /// Gives a facility other numbers, in one transaction. Fails as `apply`.
+    pub fn replace_numbers(
+        &mut self,
+        facility: &Name,
+        places: u8,
+        price: u16,
+        opens: u8,
+        shuts: u8,
+    ) -> Result<(), StoreFault>
+        ensures makes { ChangesClub S.Store
+            (ReplaceNumbers facility.now places price opens shuts) self.old self.new result }
+    {
+        self.tables
+            .replace_numbers(facility, places, price, opens, shuts)
     }
 
     /// Inserts a key, in one transaction. Fails as `apply`, and with `Storage` if the key has an

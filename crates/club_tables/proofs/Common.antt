@@ -15,14 +15,15 @@ pub use Rattle.std.proofs.lemmas.List.{Sorted.{IsPermutation-cons, IsPermutation
 pub use Rattle.std.proofs.lemmas.{Result.{IfErr-weaker, on_err_weaker, IfOk-weaker, on_ok_weaker}, Slice.Eq.bytes_eq-Decides}
 pub use Rattle.std.specs.{Cmp.{unsigned_Decides, IsTotalOrder, int_cmp_is, Equal-is}, List.{AllByRecursion, list_any, list_all, AllZip, filter_map}}
 pub use Rattle.std.specs.{Option.{option_or, option_to_list}, Ordering.{is_gt, is_eq, ordering_reverse, int_cmp, on, then_cmp, ordering_then, is_ge, is_lt}}
-pub use Rattle.std.specs.{Prelude.unwrap_or, Str.bytes_eq}
+pub use Rattle.std.specs.{Prelude.{unwrap_or, max}, Str.bytes_eq}
 pub use Rattle.club_core.specs.After.{credited_member, after, cancelled_booking, revoked_key, rotated_key, good_until, is_marked, debited_member}
-pub use Rattle.club_core.specs.{Basis.slot_use, Club.{Club, IsSound, is_key_of, key_named, member_named, facility_named, is_closed, empty_club, bookings_of}}
+pub use Rattle.club_core.specs.{After.facility_with_numbers, Basis.slot_use}
+pub use Rattle.club_core.specs.Club.{Club, IsSound, is_key_of, key_named, member_named, facility_named, is_closed, empty_club, bookings_of}
 pub use Rattle.club_core.specs.{KeyParts.older_root_of, Store.{IsOwnedBy, IsTrueOf, IsToCancel, FitsClub, HasRoot}}
-pub use Rattle.club_core.specs.Sums.{booking_under, cost_of, taken_in, is_in, is_under, is_to_come, count_to_come}
+pub use Rattle.club_core.specs.Sums.{booking_under, cost_of, taken_in, is_in, is_under, is_to_come, count_to_come, is_at, most_taken_in}
 pub use Rattle.club_core.specs.declared.change.Change.TheVariants.{InsertMember, AddCredit, InsertFacility, InsertKey, MarkRevoked, ReplaceRoot, MarkClosed}
-pub use Rattle.club_core.specs.declared.{change.Change.TheVariants.{MarkOpen, ReplaceQuota, InsertBooking, MarkCancelled, TakeCredit}, slot_use.SlotUse.SlotUse}
-pub use Rattle.club_core.specs.declared.store.StoreFault.{StoreFault}
+pub use Rattle.club_core.specs.declared.change.Change.TheVariants.{MarkOpen, ReplaceQuota, InsertBooking, MarkCancelled, TakeCredit, ReplaceNumbers}
+pub use Rattle.club_core.specs.declared.{slot_use.SlotUse.SlotUse, store.StoreFault.StoreFault}
 pub use Rattle.club_rows.specs.{Booking.{same_slot, persons_of}, Columns.truth, Rows.{IsBooking, IsMember, IsFacility}, declared.booking.Booking.Booking}
 pub use Rattle.club_rows.specs.declared.{facility.Facility.Facility, key.{Key.Key, OlderRoot.OlderRoot}, member.Member.Member}
 pub use Rattle.club_values.specs.declared.slot.Slot.{Slot}
@@ -42,9 +43,9 @@ unfoldable pub use Rattle.sqlite.specs.{Listing.{understood, listing_schema}, St
 pub use Rattle.sqlite_rules.proofs.ListLemmas.{all_has, has_kept, has_filtered, has_last, has_contained, has_found, contains_had, all_from}
 pub use Rattle.sqlite_rules.specs.{Action.{works, work_by, pairs, deed_for}, Edit.{taken_by, id_in}, Keys.{conflicts, AreConflicts}, Lists.Has}
 pub use Rattle.sqlite_schema.specs.declared.schema.Keys.TheVariants.{Enforced}
-pub use Rattle.sqlite_sql.specs.{Ops.{is_true, from_truth}, declared.ops.{ArithOp.TheVariants.{Add, Sub, Mul}, BinaryOp.TheVariants.{Compare, Arith}}}
-pub use Rattle.sqlite_sql.specs.declared.ops.CompareOp.TheVariants.{Eq, Gt, Ge}
-unfoldable pub use Rattle.sqlite_sql.specs.Ops.{binary}
+pub use Rattle.sqlite_sql.specs.{Ops.{is_true, from_truth}, Term.op1, declared.ops.{ArithOp.TheVariants.{Add, Sub, Mul}, BinaryOp.TheVariants.{Compare, Arith}}}
+pub use Rattle.sqlite_sql.specs.declared.ops.{CompareOp.TheVariants.{Eq, Gt, Ge}, UnaryOp.TheVariants.Not}
+unfoldable pub use Rattle.sqlite_sql.specs.Ops.{binary, unary}
 unfoldable pub use Rattle.sqlite_tied.specs.Compute.{everything}
 pub use Rattle.sqlite_trees.proofs.ListLemmas.{map-map, filter-map, all_weaker, map-flat_map, filter-filter, all_from_map, ascending-map, all-map, flat_map-map}
 pub use Rattle.sqlite_trees.proofs.ListLemmas.{flat_map_same_on, ascending-filter, all_of, pull_back, all-permutation, along_permutation, filter_all}
@@ -54,7 +55,7 @@ pub use Rattle.sqlite_value.specs.{Keys.ascending, declared.{keys.Collation.TheV
 unfoldable pub use Rattle.sqlite_value.specs.Keys.{first_key}
 pub use Rattle.club_tables.specs.Answers.{IsAfterReadings, IsFirst, IsBookingNamed, reading_statement, IsUse, IsBookingIn, AreCosts, FailsAtReading}
 pub use Rattle.club_tables.specs.Answers.{FailsToRead, IsReadFault, Reading, CanRead, OfBooking, OfDay, OfFacility, OfKey, IsKeyIn, OfMember, OfOlderRoot}
-pub use Rattle.club_tables.specs.Answers.{OfOpen, IsCount, OfSlot, OfCosts}
+pub use Rattle.club_tables.specs.Answers.{OfOpen, IsCount, OfSlot, OfCosts, OfTaken, IsTakenRow, IsMostIn, most_in}
 pub use Rattle.club_tables.specs.ChangeStatements.{used_values, statements_of, cancelling_with, adding_booking, cancelling, AreStatementsOf}
 pub use Rattle.club_tables.specs.Columns.{booking_values, key_values, member_values, facility_values, version_values, name_values, slot_values}
 pub use Rattle.club_tables.specs.Columns.{older_root_values, HasValues, use_values, older_values, cost_in, IsCostRow, cost_values, IsCostIn, flag, whole_in}
@@ -75,4 +76,4 @@ pub use Rattle.club_tables.specs.declared.texts.TheConstants.{DROP_BOOKINGS_BY_K
 pub use Rattle.club_tables.specs.declared.texts.TheConstants.{OPEN_SLOT, SET_QUOTA, ADD_TAKEN, PUT_OLDER_ROOT, CANCEL_BOOKING, ADD_CREDIT, REVOKE_KEY, SET_ROOT}
 pub use Rattle.club_tables.specs.declared.texts.TheConstants.{MAKE_MEMBERS, MAKE_FACILITIES, MAKE_KEYS, MAKE_SLOTS, MAKE_BOOKINGS, MAKE_KEYS_BY_MEMBER}
 pub use Rattle.club_tables.specs.declared.texts.TheConstants.{MAKE_OLD_ROOTS, MAKE_BOOKINGS_BY_KEY, ADD_VERSION, SET_VERSION, DAY, KEY, MEMBER, FACILITY, SLOT}
-pub use Rattle.club_tables.specs.declared.texts.TheConstants.{BOOKING, COSTS_UNDER_KEY, OPEN, TAKE_CREDIT}
+pub use Rattle.club_tables.specs.declared.texts.TheConstants.{BOOKING, COSTS_UNDER_KEY, OPEN, TAKE_CREDIT, SET_NUMBERS, TAKEN}

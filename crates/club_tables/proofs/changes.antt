@@ -5,9 +5,11 @@ pub mod ChangeLemmas
 pub mod ChargeLemmas
 pub mod CancelLemmas
 pub mod DebitLemmas
+pub mod NumberLemmas
 pub mod StoredLemmas
 pub mod ObeyLemmas
 pub mod FoundLemmas
+pub mod InTurnLemmas
 pub mod PlanLemmas
 pub mod FitLemmas
 pub mod WriteLemmas

@@ -6,3 +6,4 @@ pub mod PutRows
 pub mod KeyedRows
 pub mod OwnerLemmas
 pub mod SumLemmas
+pub mod TakenRows

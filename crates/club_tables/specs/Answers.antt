@@ -1,15 +1,15 @@
 -- What the rows of a query are decoded to, whatever the tables hold, and why a read fails (ours).
-use Rattle.std.specs.Prelude.{◌≡◌, ◌⊎◌, ℕ, ◌<◌, ◌≤◌, ◌^◌, ◌/◌, List, [], ◌∷◌, length, sum_by, All, Option, None, Result, IfOk, IfErr, IsSomeAnd}
-use Rattle.sqlite_value.specs.{Order.Row, declared.value.Value.TheVariants.Text}
+use Rattle.club_tables.specs.Columns.{whole_in, whole, HasValues, IsCostRow, cost_in, key_values, older_root_values, member_values, facility_values}
+use Rattle.club_tables.specs.{Columns.{booking_values, name_values, use_values}, Fault.FailsToAsk, Sheet.AreBookings, Stored.{IsMemberRow, no_slot_use}}
+use Rattle.club_tables.specs.{Transaction.{BoundStatement, Asked, IsUntouched}, declared.row.MemberRow.MemberRow}
+use Rattle.club_tables.specs.declared.texts.TheConstants.{TAKEN, KEY, OLDER_ROOT, MEMBER, FACILITY, SLOT, BOOKING, COSTS_UNDER_KEY, DAY, OPEN}
+use Rattle.sqlite_value.specs.{Order.{column, Row}, declared.value.Value.TheVariants.Text}
+use Rattle.std.specs.Prelude.{fold, max, ◌≡◌, ◌⊎◌, ℕ, ◌<◌, ◌≤◌, ◌^◌, ◌/◌, List, [], ◌∷◌, length, sum_by, All, Option, None, Result, IfOk, IfErr, IsSomeAnd}
 use Rattle.sqlite.specs.{Held.{Held, state}, State.HasCleanDisk, Store.Ghosts}
 use Rattle.club_values.specs.{Moment.minutes_a_day, declared.slot.Slot.Slot}
 use Rattle.club_rows.specs.{Key.key_of_row, Limits.places_limit, Rows.{IsFacility, IsKeyRow, IsOlderRoot, IsBooking}, declared.booking.Booking.Booking}
 use Rattle.club_rows.specs.declared.{facility.Facility.Facility, key.{KeyRow.KeyRow, OlderRoot.OlderRoot}}
 use Rattle.club_core.specs.declared.{slot_use.SlotUse.SlotUse, store.StoreFault.{StoreFault, TheVariants.{Memory, Storage}}}
-use Rattle.club_tables.specs.Columns.{whole, HasValues, IsCostRow, cost_in, key_values, older_root_values, member_values, facility_values, booking_values}
-use Rattle.club_tables.specs.{Columns.{name_values, use_values}, Fault.FailsToAsk, Sheet.AreBookings, Stored.{IsMemberRow, no_slot_use}}
-use Rattle.club_tables.specs.{Transaction.{BoundStatement, Asked, IsUntouched}, declared.row.MemberRow.MemberRow}
-use Rattle.club_tables.specs.declared.texts.TheConstants.{KEY, OLDER_ROOT, MEMBER, FACILITY, SLOT, BOOKING, COSTS_UNDER_KEY, DAY, OPEN}
 
 -- the row decodes to a value: the value is within its limits, and the row has its columns
 abbrev pub IsKeyIn : Row → KeyRow → Type 0
@@ -49,6 +49,17 @@ IsUse (row ∷ other ∷ rows) found = ⊥
 abbrev pub AreCosts : List Row → ℕ → Type 0
 AreCosts rows cost = All IsCostRow rows × (cost ≡ sum_by cost_in rows) × (cost < 2 ^ 64)
 
+-- the persons of a row of `taken`: at most as many as a facility has places
+abbrev pub IsTakenRow : Row → Type 0
+IsTakenRow row = (taken : ℕ) × (taken ≤ places_limit) × (column row 0 ≡ whole taken)
+
+-- the most persons of rows of `taken`; 0 without rows
+abbrev pub most_in : List Row → ℕ
+most_in rows = fold (λ most row. max most (whole_in (column row 0))) 0 rows
+
+abbrev pub IsMostIn : List Row → ℕ → Type 0
+IsMostIn rows most = All IsTakenRow rows × (most ≡ most_in rows)
+
 -- how many rows there are
 abbrev pub IsCount : List Row → ℕ → Type 0
 IsCount rows count = count ≡ length rows
@@ -81,6 +92,7 @@ pub data Reading : Type 0 where
   OfSlot : (slot : Slot) → Reading
   OfBooking : (key : List ℕ) (number : ℕ) → Reading
   OfCosts : (key : List ℕ) → Reading
+  OfTaken : (facility : List ℕ) → Reading
   OfDay : (day : ℕ) → Reading
   OfOpen : (member : List ℕ) (moment : ℕ) → Reading
 
@@ -93,6 +105,7 @@ reading_statement (OfFacility name) = (FACILITY.now, Text name ∷ [])
 reading_statement (OfSlot slot) = (SLOT.now, name_values slot)
 reading_statement (OfBooking key number) = (BOOKING.now, Text key ∷ whole number ∷ [])
 reading_statement (OfCosts key) = (COSTS_UNDER_KEY.now, Text key ∷ [])
+reading_statement (OfTaken facility) = (TAKEN.now, Text facility ∷ [])
 reading_statement (OfDay day) = (DAY.now, whole day ∷ [])
 reading_statement (OfOpen member moment) = (OPEN.now, Text member ∷ whole moment ∷ whole (moment / minutes_a_day) ∷ [])
 
@@ -105,6 +118,7 @@ CanRead (OfFacility name) rows = (found : Option Facility) × IsFirst IsFacility
 CanRead (OfSlot slot) rows = (found : SlotUse) × IsUse rows found
 CanRead (OfBooking key number) rows = (found : Option Booking) × IsFirst (IsBookingNamed key number) rows found
 CanRead (OfCosts key) rows = (cost : ℕ) × AreCosts rows cost
+CanRead (OfTaken facility) rows = (most : ℕ) × IsMostIn rows most
 CanRead (OfDay day) rows = (bookings : List Booking) × AreBookings rows bookings
 CanRead (OfOpen member moment) rows = (count : ℕ) × IsCount rows count
 

@@ -5,11 +5,12 @@ use Rattle.club_values.specs.declared.slot.Slot.{Slot}
 use Rattle.club_rows.specs.{Booking.persons_of, declared.{booking.Booking.Booking, facility.Facility.Facility, key.{Key.Key, OlderRoot.OlderRoot}}}
 use Rattle.club_rows.specs.declared.member.Member.{Member}
 use Rattle.club_core.specs.{Sums.cost_of, declared.change.Change.{Change, TheVariants.{InsertMember, AddCredit, InsertFacility, InsertKey, MarkRevoked}}}
-use Rattle.club_core.specs.declared.change.Change.TheVariants.{TakeCredit, ReplaceRoot, MarkClosed, MarkOpen, ReplaceQuota, InsertBooking, MarkCancelled}
+use Rattle.club_core.specs.declared.change.Change.TheVariants.{TakeCredit, ReplaceNumbers, ReplaceRoot, MarkClosed, MarkOpen, ReplaceQuota, InsertBooking}
+use Rattle.club_core.specs.declared.change.Change.TheVariants.{MarkCancelled}
 use Rattle.club_tables.specs.{Columns.{whole, facility_values, key_values, older_root_values, booking_values, name_values}, Stored.persons_taken}
-use Rattle.club_tables.specs.{Transaction.BoundStatement, declared.texts.TheConstants.{ADD_MEMBER, ADD_CREDIT, TAKE_CREDIT, ADD_FACILITY, ADD_KEY, REVOKE_KEY}}
-use Rattle.club_tables.specs.declared.texts.TheConstants.{PUT_OLDER_ROOT, SET_ROOT, CLOSE_SLOT, OPEN_SLOT, SET_QUOTA, ADD_BOOKING, CANCEL_BOOKING, CHARGE}
-use Rattle.club_tables.specs.declared.texts.TheConstants.{ADD_USED, ADD_TAKEN}
+use Rattle.club_tables.specs.{Transaction.BoundStatement, declared.texts.TheConstants.{ADD_MEMBER, ADD_CREDIT, TAKE_CREDIT, SET_NUMBERS, ADD_FACILITY, ADD_KEY}}
+use Rattle.club_tables.specs.declared.texts.TheConstants.{REVOKE_KEY, PUT_OLDER_ROOT, SET_ROOT, CLOSE_SLOT, OPEN_SLOT, SET_QUOTA, ADD_BOOKING, CANCEL_BOOKING}
+use Rattle.club_tables.specs.declared.texts.TheConstants.{CHARGE, ADD_USED, ADD_TAKEN}
 
 -- a member, whose bookings have cost nothing
 abbrev pub adding_member : Member → List BoundStatement
@@ -26,6 +27,13 @@ giving_quota member quota = (SET_QUOTA.now, Text member ∷ whole quota ∷ []) 
 
 abbrev pub adding_facility : Facility → List BoundStatement
 adding_facility facility = (ADD_FACILITY.now, facility_values facility) ∷ []
+
+-- a facility, and the numbers that it gets
+abbrev pub numbers_values : List ℕ → ℕ → ℕ → ℕ → ℕ → Row
+numbers_values facility places price opens shuts = Text facility ∷ whole places ∷ whole price ∷ whole opens ∷ whole shuts ∷ []
+
+abbrev pub giving_numbers : List ℕ → ℕ → ℕ → ℕ → ℕ → List BoundStatement
+giving_numbers facility places price opens shuts = (SET_NUMBERS.now, numbers_values facility places price opens shuts) ∷ []
 
 abbrev pub adding_key : Key → List BoundStatement
 adding_key key = (ADD_KEY.now, key_values key) ∷ []
@@ -81,6 +89,7 @@ statements_of (AddCredit member points) = adding_credit member points
 statements_of (TakeCredit member points) = taking_credit member points
 statements_of (ReplaceQuota member quota) = giving_quota member quota
 statements_of (InsertFacility facility) = adding_facility facility
+statements_of (ReplaceNumbers facility places price opens shuts) = giving_numbers facility places price opens shuts
 statements_of (InsertKey key) = adding_key key
 statements_of (MarkRevoked key) = revoking key
 statements_of (ReplaceRoot key former root until) = replacing_root key root (record { root = former; until = until })

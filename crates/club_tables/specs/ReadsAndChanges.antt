@@ -1,9 +1,10 @@
 -- Which club a connection represents, and what reads and changes promise of it (ours).
-use Rattle.std.specs.Prelude.{◌≡◌, ◌⊎◌, ℕ, ◌<◌, ◌≤◌, ◌^◌, List, ◌∷◌, All, None, Result, IfErr, OnErr}
+use Rattle.std.specs.Prelude.{◌≡◌, ◌⊎◌, ℕ, ◌<◌, ◌≤◌, ◌^◌, List, ◌∷◌, All, None, Result, IfErr, OnErr, true}
 use Rattle.sqlite.specs.{Held.{Held, state}, State.{HasCleanDisk, Survives}, Store.Ghosts}
-use Rattle.club_core.specs.{Club.{Club, IsSound}, Store.{Changes, FitsClub, KeepsClub, Returns}, declared.change.Change.{Change, TheVariants.InsertMember}}
-use Rattle.club_core.specs.declared.change.Change.TheVariants.{AddCredit, TakeCredit, InsertFacility, InsertKey, MarkRevoked, ReplaceRoot, MarkClosed, MarkOpen}
-use Rattle.club_core.specs.declared.{change.Change.TheVariants.{ReplaceQuota, InsertBooking, MarkCancelled}, store.StoreFault.{StoreFault, TheVariants.Storage}}
+use Rattle.club_core.specs.{Club.{Club, IsSound}, Office.are_limits, Store.{Changes, FitsClub, KeepsClub, Returns}, declared.change.Change.Change}
+use Rattle.club_core.specs.declared.change.Change.TheVariants.{InsertMember, AddCredit, TakeCredit, ReplaceNumbers, InsertFacility, InsertKey, MarkRevoked}
+use Rattle.club_core.specs.declared.change.Change.TheVariants.{ReplaceRoot, MarkClosed, MarkOpen, ReplaceQuota, InsertBooking, MarkCancelled}
+use Rattle.club_core.specs.declared.store.StoreFault.{StoreFault, TheVariants.Storage}
 use Rattle.club_values.specs.Moment.{IsMoment}
 use Rattle.club_rows.specs.{Limits.{IsRoot, quota_limit}, Rows.{IsMember, IsFacility, IsKey, IsSlot, IsBooking}}
 use Rattle.club_tables.specs.{Answers.{IsAfterReadings, IsReadFault}, ChangeStatements.{AreStatementsOf, statements_of}, Fault.FailsToRun}
@@ -47,6 +48,7 @@ InLimits (AddCredit name points) = points < 2 ^ 32
 InLimits (TakeCredit name points) = points < 2 ^ 32
 InLimits (ReplaceQuota name quota) = quota ≤ quota_limit
 InLimits (InsertFacility facility) = IsFacility facility
+InLimits (ReplaceNumbers name places price opens shuts) = are_limits places price opens shuts ≡ true
 InLimits (InsertKey key) = IsKey key × (key.older ≡ None)
 InLimits (MarkRevoked name) = Unit {0}
 InLimits (ReplaceRoot key former root until) = IsRoot root × IsMoment until

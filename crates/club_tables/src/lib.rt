@@ -3,6 +3,7 @@
 #![tactic(auto)]
 
 mod limits;
+mod most;
 mod open;
 mod params;
 mod reads;

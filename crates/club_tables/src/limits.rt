@@ -3,6 +3,7 @@
 ghost use Rattle.std.specs.Prelude.{◌≡◌, ◌≤◌, true, false};
 ghost use Rattle.club_rows.specs.Limits.{IsRoot};
 ghost use Rattle.club_rows.specs.Rows.{IsMember, IsFacility, IsKey, IsSlot, IsBooking};
+ghost use Rattle.club_core.specs.Office.{are_limits};
 ghost use Rattle.club_values.specs.Moment.{IsMoment};
 
 use crate::params::Rotation;
@@ -33,6 +34,17 @@ pub(crate) fn is_facility(facility: &Facility) -> bool
         && u32::from(facility.price) <= MAX_PRICE
         && facility.opens < facility.shuts
         && u32::from(facility.shuts) <= LAST_HOUR
+}
+
+/// Whether the numbers are within the limits of a facility.
+pub(crate) fn are_numbers(places: u8, price: u16, opens: u8, shuts: u8) -> bool
+    ensures { result ≡ are_limits places price opens shuts }
+{
+    1 <= places
+        && u32::from(places) <= MAX_PLACES
+        && u32::from(price) <= MAX_PRICE
+        && opens < shuts
+        && u32::from(shuts) <= LAST_HOUR
 }
 
 /// The values of a key, by their types.

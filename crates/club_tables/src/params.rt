@@ -8,8 +8,8 @@ ghost use Rattle.sqlite_value.specs.declared.value.Value.TheVariants.{Blob as Bl
 ghost use Rattle.club_values.specs.Moment.{minutes_a_day};
 ghost use Rattle.club_rows.specs.{Booking.persons_of, Columns.truth};
 ghost use Rattle.club_core.specs.Sums.{cost_of};
-ghost use Rattle.club_tables.specs.{ChangeStatements.charge_values, Columns.whole};
-ghost use Rattle.club_tables.specs.Columns.{facility_values, key_values, older_root_values};
+ghost use Rattle.club_tables.specs.ChangeStatements.{charge_values, numbers_values};
+ghost use Rattle.club_tables.specs.Columns.{whole, facility_values, key_values, older_root_values};
 ghost use Rattle.club_tables.specs.{Columns.{booking_values, name_values}, Stored.persons_taken};
 
 use club_rows::{Booking, Facility, Key, Member, OlderRoot, Root};
@@ -46,6 +46,25 @@ pub(crate) fn of_facility(facility: &Facility) -> [ValueRef<'_>; 6]
         ValueRef::Int(i64::from(facility.price)),
         ValueRef::Int(i64::from(facility.opens)),
         ValueRef::Int(i64::from(facility.shuts)),
+    ]
+}
+
+/// A facility, and the numbers that it gets.
+pub(crate) fn of_numbers(
+    facility: &Name,
+    places: u8,
+    price: u16,
+    opens: u8,
+    shuts: u8,
+) -> [ValueRef<'_>; 5]
+    ensures { bound result ≡ numbers_values facility.now places price opens shuts }
+{
+    [
+        ValueRef::Text(facility.as_bytes()),
+        ValueRef::Int(i64::from(places)),
+        ValueRef::Int(i64::from(price)),
+        ValueRef::Int(i64::from(opens)),
+        ValueRef::Int(i64::from(shuts)),
     ]
 }
 

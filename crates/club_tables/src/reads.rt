@@ -9,13 +9,13 @@ ghost use Rattle.club_rows.specs.Rows.{IsFacility, IsKeyRow, IsOlderRoot, IsBook
 ghost use Rattle.club_core.specs.Basis.{slot_use};
 ghost use Rattle.club_core.specs.Club.{bookings_of, key_named, member_named, facility_named};
 ghost use Rattle.club_core.specs.{KeyParts.older_root_of, Sheet.AreRowsOf};
-ghost use Rattle.club_core.specs.Sums.{booking_under, count_to_come, spent_under};
+ghost use Rattle.club_core.specs.Sums.{booking_under, count_to_come, most_taken_in, spent_under};
 ghost use Rattle.club_tables.specs.Answers.{Answers, FailsAtReading, IsFirst, IsKeyIn};
 ghost use Rattle.club_tables.specs.Answers.{IsOlderRootIn, IsMemberIn, IsFacilityIn};
-ghost use Rattle.club_tables.specs.Answers.{IsBookingNamed, IsUse, AreCosts, IsCount};
+ghost use Rattle.club_tables.specs.Answers.{IsBookingNamed, IsUse, AreCosts, IsCount, IsMostIn};
 ghost use Rattle.club_tables.specs.Answers.{reading_statement, OfKey, OfOlderRoot, OfMember};
 ghost use Rattle.club_tables.specs.Answers.{OfFacility, OfSlot, OfBooking, OfCosts, OfDay, OfOpen};
-ghost use Rattle.club_tables.specs.{ReadsAndChanges.ReadsClub, Sheet.AreBookings};
+ghost use Rattle.club_tables.specs.{Answers.OfTaken, ReadsAndChanges.ReadsClub, Sheet.AreBookings};
 ghost use Rattle.club_tables.specs.{Stored.{IsMemberRow, member_row}, Transaction.{Asked, IsKept}};
 ghost use Rattle.club_tables.specs.declared.texts.TheConstants.{DAY};
 
@@ -114,6 +114,17 @@ impl<S: Alter> Tables<S> {
             (reading_statement (OfSlot slot.now)) IsUse self.old self.new result }
     {
         self.answer(texts::SLOT, &of_slot(slot))
+    }
+
+    /// The most persons in a slot of the facility of this name, of whatever day: 0 if nobody booked
+    /// one.
+    pub fn most_taken(&mut self, facility: &Name) -> Result<u32, StoreFault>
+        ensures reads { ReadsClub S.Store self.old self.new result
+            (λ club most. most ≡ most_taken_in facility.now club.bookings) }
+        ensures gives { Answers S.Store (reading_statement (OfTaken facility.now)) IsMostIn
+            self.old self.new result }
+    {
+        self.answer(texts::TAKEN, &[ValueRef::Text(facility.as_bytes())])
     }
 
     /// The booking of a key with a number; `None` if there is none. A row of another booking is a

@@ -97,6 +97,9 @@ pub(crate) const SLOT: &str = "\
     FROM slots \
     WHERE facility = ?1 AND day = ?2 AND hour = ?3";
 
+/// The persons of each slot of a facility that was booked or closed.
+pub(crate) const TAKEN: &str = "SELECT taken FROM slots WHERE facility = ?1";
+
 pub(crate) const BOOKING: &str = "\
     SELECT pass_key, number, facility, day, hour, guests, charge, remains, cancelled, refund \
     FROM bookings \
@@ -143,6 +146,13 @@ pub(crate) const ADD_USED: &str = "\
 pub(crate) const ADD_FACILITY: &str = "\
     INSERT INTO facilities (name, kind, places, price, opens, shuts) \
     VALUES (?1, ?2, ?3, ?4, ?5, ?6)";
+
+/// Gives a facility other numbers, if none of its slots has more persons than these places.
+pub(crate) const SET_NUMBERS: &str = "\
+    UPDATE facilities \
+    SET places = ?2, price = ?3, opens = ?4, shuts = ?5 \
+    WHERE name = ?1 \
+    AND NOT EXISTS (SELECT 1 FROM slots WHERE slots.facility = ?1 AND slots.taken > ?2)";
 
 pub(crate) const ADD_KEY: &str = "\
     INSERT INTO keys (name, member, root, revoked) \

@@ -1,22 +1,26 @@
 //! Writes the changes of a club, each in a transaction of its own.
 
-ghost use Rattle.std.specs.Prelude.{◌≡◌, ◌≤◌, [], ◌∷◌, None, Err};
+ghost use Rattle.std.specs.Prelude.{◌≡◌, ◌≤◌, [], ◌∷◌, None, Err, true, false};
 ghost use Rattle.club_rows.specs.{Limits.quota_limit, Rows.{IsMember, IsFacility, IsBooking}};
-ghost use Rattle.sqlite.specs.Values.{bound};
+ghost use Rattle.club_core.specs.Office.{are_limits};
 ghost use Rattle.club_core.specs.declared.change.Change.TheVariants.{InsertMember, InsertFacility};
 ghost use Rattle.club_core.specs.declared.change.Change.TheVariants.{InsertKey, InsertBooking};
 ghost use Rattle.club_core.specs.declared.change.Change.TheVariants.{AddCredit, TakeCredit};
-ghost use Rattle.club_core.specs.declared.change.Change.TheVariants.{ReplaceQuota, MarkRevoked};
-ghost use Rattle.club_core.specs.declared.change.Change.TheVariants.{ReplaceRoot, MarkClosed};
-ghost use Rattle.club_core.specs.declared.change.Change.TheVariants.{MarkOpen, MarkCancelled};
+ghost use Rattle.club_core.specs.declared.change.Change.TheVariants.{ReplaceNumbers, ReplaceQuota};
+ghost use Rattle.club_core.specs.declared.change.Change.TheVariants.{MarkRevoked, ReplaceRoot};
+ghost use Rattle.club_core.specs.declared.change.Change.TheVariants.{MarkClosed, MarkOpen};
+ghost use Rattle.club_core.specs.declared.change.Change.TheVariants.{MarkCancelled};
+ghost use Rattle.sqlite.specs.Values.{bound};
 ghost use Rattle.club_tables.specs.ChangeStatements.{adding_member, adding_facility, adding_key};
-ghost use Rattle.club_tables.specs.ChangeStatements.{adding_credit, taking_credit, giving_quota};
-ghost use Rattle.club_tables.specs.ChangeStatements.{revoking, closing, reopening, rotating};
-ghost use Rattle.club_tables.specs.ChangeStatements.{replacing_root, booking_with, cancelling_with};
-ghost use Rattle.club_tables.specs.{ChangeStatements.{adding_booking, cancelling}, Fault.Commits};
-ghost use Rattle.club_tables.specs.ReadsAndChanges.{ChangesClub};
+ghost use Rattle.club_tables.specs.ChangeStatements.{adding_credit, taking_credit, giving_numbers};
+ghost use Rattle.club_tables.specs.ChangeStatements.{giving_quota, revoking, closing, reopening};
+ghost use Rattle.club_tables.specs.ChangeStatements.{rotating, replacing_root, booking_with};
+ghost use Rattle.club_tables.specs.ChangeStatements.{cancelling_with, adding_booking, cancelling};
+ghost use Rattle.club_tables.specs.{Fault.Commits, ReadsAndChanges.ChangesClub};
 
-use crate::limits::{is_booking, is_facility, is_member, key_within, rotation_within, slot_within};
+use crate::limits::{
+    are_numbers, is_booking, is_facility, is_member, key_within, rotation_within, slot_within,
+};
 use crate::params::Rotation;
 use crate::tables::Tables;
 use crate::transaction::Statement;
@@ -67,6 +71,32 @@ impl<S: Alter> Tables<S> {
             return Err(StoreFault::Storage);
         }
         self.write_one(texts::ADD_FACILITY, &params::of_facility(facility))
+    }
+
+    /// Gives a facility other numbers. Fails, and changes nothing, if one is out of its limits, the
+    /// facility isn't there, or one of its slots has more persons than these places.
+    pub fn replace_numbers(
+        &mut self,
+        facility: &Name,
+        places: u8,
+        price: u16,
+        opens: u8,
+        shuts: u8,
+    ) -> Result<(), StoreFault>
+        ensures commits { are_limits places price opens shuts ≡ true
+            → Commits S.Store 1 (giving_numbers facility.now places price opens shuts)
+            self.old self.new result }
+        ensures out { are_limits places price opens shuts ≡ false
+            → (result ≡ Err StoreFault.Storage) × (self.new ≡ self.old) }
+        ensures makes { ChangesClub S.Store
+            (ReplaceNumbers facility.now places price opens shuts) self.old self.new result }
+    {
+        suiting_changes_keep_sound();
+        if !are_numbers(places, price, opens, shuts) {
+            return Err(StoreFault::Storage);
+        }
+        let numbers = params::of_numbers(facility, places, price, opens, shuts);
+        self.write_one(texts::SET_NUMBERS, &numbers)
     }
 
     /// Inserts a key. Fails, and changes nothing, if the key has an older root, there is a key of

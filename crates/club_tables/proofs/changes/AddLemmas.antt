@@ -74,7 +74,7 @@ member_put rows member =
 
 -- ---- facilities
 
-abbrev facility_table : Table
+abbrev pub facility_table : Table
 facility_table = record facilities_table { tree = facilities_tree }
 
 facility_means : Means club_schema ADD_FACILITY.now (Insert 2 (Values (lit Null ∷ col 0 0 ∷ col 0 1 ∷ col 0 2 ∷ col 0 3 ∷ col 0 4 ∷ col 0 5 ∷ []) 7))

@@ -5,14 +5,14 @@ use Rattle.club_tables.proofs.Common.{nat_le, nat_tests, AllByRecursion, All-fro
 use Rattle.club_tables.proofs.Common.{map-map, Ghosts, Held, state, Database, HoldsClub, Ran, Club, Member, Facility, Key, Booking, Slot, SlotRow, SlotUse}
 use Rattle.club_tables.proofs.Common.{MemberRow, IsMember, InLimits, InsertMember, AddCredit, InsertFacility, InsertKey, MarkRevoked, ReplaceRoot, MarkClosed}
 use Rattle.club_tables.proofs.Common.{MarkOpen, ReplaceQuota, InsertBooking, MarkCancelled, member_row, member_named, facility_named, same_slot, cost_of}
-use Rattle.club_tables.proofs.Common.{taken_in, used_by, statements_of, FitsClub, row_of, TakeCredit}
+use Rattle.club_tables.proofs.Common.{taken_in, used_by, statements_of, FitsClub, row_of, TakeCredit, ReplaceNumbers}
 use Rattle.club_tables.proofs.changes.AddLemmas.{new_row, close_use, take_use, member_put, facility_put, key_put, slot_closed, slot_was_open, each_weaker}
 use Rattle.club_tables.proofs.changes.{ChangeLemmas.{credit_found, whole_to}, DebitLemmas.{debit_found, enough_left, leaves}}
-use Rattle.club_tables.proofs.changes.FoundLemmas.{slot_placed, the_named}
+use Rattle.club_tables.proofs.changes.{FoundLemmas.{slot_placed, the_named}, NumberLemmas.{numbers_found, few_by_rows}}
 use Rattle.club_tables.proofs.changes.ObeyLemmas.{members_apart, facilities_apart, keys_apart, key_members, slot_facilities}
-use Rattle.club_tables.proofs.changes.PlanLemmas.{start, is_true, booked_by, adds, filled_use, member_of, members_once}
-use Rattle.club_tables.proofs.{lists.{KeyedRows.{put_slot, slot_once, same_itself}, OwnerLemmas.all_last}, queries.{KeyLemmas.same_slots, MemberLemmas.total}}
-use Rattle.club_tables.proofs.statements.{PassLemmas.found, SelectLemmas.{apart_from_pairs, one_passes, find_first, only}}
+use Rattle.club_tables.proofs.changes.PlanLemmas.{start, is_true, booked_by, adds, filled_use, member_of, members_once, facilities_once}
+use Rattle.club_tables.proofs.{lists.{KeyedRows.{put_slot, slot_once, same_itself}, OwnerLemmas.all_last, TakenRows.the_slot}, queries.KeyLemmas.same_slots}
+use Rattle.club_tables.proofs.{queries.MemberLemmas.total, statements.{PassLemmas.found, SelectLemmas.{apart_from_pairs, one_passes, find_first, only}}}
 use Rattle.club_rows.specs.Limits.{credited_limit}
 use Rattle.club_core.specs.declared.change.Change.{Change}
 use Rattle.club_laws.specs.SoundRuns.{Suits, SuitsBooking, SuitingChangesKeepSound}
@@ -33,16 +33,6 @@ unnumbered booking bookings apart =
     let number = (unsigned_Decides booking.number b.number).1 (sym same.1) in
     let both : (bytes_eq booking.key b.key && booking.number == b.number) ≡ true = rw (key, number) refl in
     true≢false (sym both ∙ other)) bookings apart)
-
--- the one row of a slot
-the_slot : (slot : Slot) (rows : List SlotRow) (x : SlotRow) → AllPairs (λ (a : SlotRow) (b : SlotRow). a.slot ≢ b.slot) rows → Has rows x → x.slot ≡ slot
-    → row_of slot rows ≡ Some x
-the_slot slot rows x once has same =
-    let is_of : SlotRow → Bool = λ row. same_slot row.slot slot in
-    let R : SlotRow → SlotRow → Type 0 = λ a b. a.slot ≢ b.slot in
-    let low = one_passes R is_of rows (λ a b p q apart. apart (same_slots a.slot slot p ∙ sym (same_slots b.slot slot q))) (apart_from_pairs R rows once) in
-    find_first is_of rows ∙ ap (λ ys. slice_get ys 0) (only (filter is_of rows) x low
-    (has_kept is_of rows x has (ap (λ s. same_slot s slot) same ∙ same_itself slot)))
 
 at_most : (m n : ℕ) → nat_le m n ≡ true → m ≤ n
 at_most m n h = grind (arith, nat_tests)
@@ -141,6 +131,11 @@ module _ {S : Type 0} (g : Ghosts S) (old : Held S) (club : Club) (tables : Hold
       let apart = subst (λ fs. AllByRecursion (λ (y : Facility). bytes_eq facility.name y.name ≡ false) fs) tables.storage.facilities
       (facilities_apart put.0 tables.rows.facilities facility refl) in
       (within, unnamed (λ (f : Facility). f.name) facility.name club.facilities apart)
+  suits db (ReplaceNumbers name places price opens shuts) within ran =
+      let t = ran.turns in
+      let it = numbers_found tables.rows (facilities_once g old club tables) name places price opens shuts (start g old club tables) (state g t.0) t.1
+      tables.holds_rows t.2 t.4 in
+      (within, few_by_rows club tables.rows tables.storage name places it.2)
   suits db (InsertKey key) within ran =
       let t = ran.turns in
       let put = key_put tables.rows key (start g old club tables) (state g t.0) t.1 tables.holds_rows t.2 in

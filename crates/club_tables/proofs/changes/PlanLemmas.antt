@@ -9,8 +9,8 @@ use Rattle.club_tables.proofs.Common.{persons_of, IsBooking, Booking, Facility, 
 use Rattle.club_tables.proofs.Common.{whole, name_values, FailsInTurn, Rows, member_row, used_by, persons_taken, IsStoredAs, HoldsClub, HoldsRows, Ran}
 use Rattle.club_tables.proofs.Common.{transaction_start, BoundStatement, RanInTurn, MemberRow, ADD_USED, InLimits, ADD_TAKEN, CANCEL_BOOKING, SlotRow}
 use Rattle.club_tables.proofs.Common.{AllByRecursion, Has, has_found, has_contained, ◌&&◌, ◌==◌, false, list_any, unwrap_or, stored_slot_use, no_slot_use}
-use Rattle.club_tables.proofs.{Common.{row_of, nat_le, nat_tests, unsigned_Decides, cancelling_with, is_closed, TakeCredit}, changes.AddLemmas.take_use}
-use Rattle.club_tables.proofs.changes.AddLemmas.{booking_put, member_put, facility_put, key_put, slot_taken, slot_closed, slot_opened, open_use}
+use Rattle.club_tables.proofs.Common.{row_of, nat_le, nat_tests, unsigned_Decides, cancelling_with, is_closed, TakeCredit, ReplaceNumbers, AllPairs}
+use Rattle.club_tables.proofs.changes.AddLemmas.{take_use, booking_put, member_put, facility_put, key_put, slot_taken, slot_closed, slot_opened, open_use}
 use Rattle.club_tables.proofs.changes.AddLemmas.{older_represents, put_older}
 use Rattle.club_tables.proofs.changes.CancelLemmas.{booking_cancelled, cancel_found, there, used_back, taken_back, mapped_holds, used_less, taken_less}
 use Rattle.club_tables.proofs.changes.ChangeLemmas.{credit_found, whole_to, owner_found, AreKeysOnce, StoresKey, name_of, member_used, AreNamedOnce, used_row}
@@ -18,6 +18,8 @@ use Rattle.club_tables.proofs.changes.ChangeLemmas.{StoresMember, one_found, mem
 use Rattle.club_tables.proofs.changes.{ChangeLemmas.root_set, ChargeLemmas.{Charged, charge_found, member_charged}}
 use Rattle.club_tables.proofs.changes.DebitLemmas.{debit_found, enough_left, leaves, enough_if_fits, credited_little, member_debited, debit_stored}
 use Rattle.club_tables.proofs.changes.FoundLemmas.{contains_mapped, minus, few_taken, put_there, few_persons, facility_there, slot_placed, still_open}
+use Rattle.club_tables.proofs.changes.InTurnLemmas.{GoThrough, left_by}
+use Rattle.club_tables.proofs.changes.NumberLemmas.{numbers_found, few_in_rows, few_if_fits, facility_renumbered, numbers_stored}
 use Rattle.club_tables.proofs.changes.{ObeyLemmas.{bookings_apart, booking_facilities}, StoredLemmas.{taken_more, member_stored, credit_stored}}
 use Rattle.club_tables.proofs.changes.StoredLemmas.{facility_stored, key_stored, revoke_stored, rotate_stored, close_stored, open_stored, quota_stored}
 use Rattle.club_tables.proofs.{changes.StoredLemmas.{used_more, bookings_stored}, lists.KeyedRows.{put_slot, use_put, changed, not_same, same_itself}}
@@ -27,43 +29,15 @@ use Rattle.club_tables.proofs.statements.SelectLemmas.{apart_from_pairs, pairs_m
 use Rattle.club_core.specs.declared.change.Change.{Change}
 use Rattle.club_rows.specs.Limits.{credited_limit}
 
--- ---- statements in turn
-
-module _ {S : Type 0} (g : Ghosts S) where
-  abbrev Moves : BoundStatement → Rows → Rows → Type 0
-  Moves statement rows next =
-      (old new : Held S) (count : ℕ) → HoldsRows (state g old).now rows → Executes statement.0 statement.1 (state g old) (state g new) (Ok count)
-      → HoldsRows (state g new).now next × (1 ≤ count)
-
-  -- each writes a row, from these rows to the last
-  abbrev pub GoThrough : List BoundStatement → Rows → Rows → Type 0
-  GoThrough [] rows last = rows ≡ last
-  GoThrough (statement ∷ more) rows last = (next : Rows) × Moves statement rows next × GoThrough more next last
-
-  left_by : (all : List BoundStatement) (rows last : Rows) → GoThrough all rows last → (old new : Held S) → HoldsRows (state g old).now rows
-      → RanInTurn g 1 all old new → HoldsRows (state g new).now last
-  left_by [] rows last same old new holds ran = subst (HoldsRows (state g new).now) same (subst (λ h. HoldsRows (state g h).now rows) (sym ran) holds)
-  left_by (statement ∷ more) rows last through old new holds ran =
-      left_by more through.0 last through.2 ran.0 new (through.1 old ran.0 ran.1 holds ran.2).0 ran.3
-
-  -- fewer rows than one: none of the statements
-  pub less_in_turn : (all : List BoundStatement) (old new : Held S) (fault : StoreFault)
-      → (IsTrue (state g old).is_open → (rows : Rows) × (last : Rows) × HoldsRows (state g old).now rows × GoThrough all rows last)
-      → FailsInTurn g 1 all old new fault → FailsInTurn g 0 all old new fault
-  less_in_turn [] old new fault through failed = failed
-  less_in_turn (statement ∷ more) old new fault through (inl (inl refused)) = inl (inl refused)
-  less_in_turn (statement ∷ more) old new fault through (inl (inr short)) = search rules
-  less_in_turn (statement ∷ more) old new fault through (inr ran) =
-      let it = through ran.5 in
-      let next = it.3.1 old ran.0 ran.1 it.2 ran.2 in
-      inr (ran.0, ran.1, ran.2, less_in_turn more ran.0 new fault (λ opened. (it.3.0, it.1, next.0, it.3.2)) ran.3, omega arith, ran.5)
-
 module _ {S : Type 0} (g : Ghosts S) (old : Held S) (club : Club) (tables : HoldsClub (state g old).now club) where
   pub keys_once : AreKeysOnce tables.rows.keys
   keys_once = subst AreKeysOnce (sym tables.storage.keys) tables.sound.unique.keys
 
   pub bookings_once : AreBookingsOnce tables.rows.bookings
   bookings_once = subst AreBookingsOnce (sym tables.storage.bookings) tables.sound.unique.bookings
+
+  pub facilities_once : AllPairs (λ (a : Facility) (b : Facility). a.name ≢ b.name) tables.rows.facilities
+  facilities_once = subst (AllPairs (λ (a : Facility) (b : Facility). a.name ≢ b.name)) (sym tables.storage.facilities) tables.sound.unique.facilities
 
   pub members_once : AreNamedOnce tables.rows.members
   members_once = subst AreNamedOnce (sym tables.storage.members)
@@ -145,6 +119,10 @@ module _ {S : Type 0} (g : Ghosts S) (old : Held S) (club : Club) (tables : Hold
   is_true db (InsertMember member) within ran = tt
   is_true db (InsertFacility facility) within ran = tt
   is_true db (InsertKey key) within ran = within.1
+  is_true db (ReplaceNumbers name places price opens shuts) within ran =
+      let t = ran.turns in
+      let it = numbers_found tables.rows facilities_once name places price opens shuts start (state g t.0) t.1 tables.holds_rows t.2 t.4 in
+      (it.0, subst (λ fs. find (λ (f : Facility). bytes_eq f.name name) fs ≡ Some it.0) tables.storage.facilities it.1)
   is_true db (AddCredit name points) within ran =
       let t = ran.turns in
       let row = credit_found tables.rows members_once name points start (state g t.0) t.1 tables.holds_rows t.2 t.4 in
@@ -348,6 +326,11 @@ module _ {S : Type 0} (g : Ghosts S) (old : Held S) (club : Club) (tables : Hold
   pub plan : (change : Change) → FitsClub change club → LeaveRows (statements_of change) (after change club)
   plan (InsertMember member) fits = one_step _ (member_put tables.rows member) (member_stored club tables.rows tables.storage tables.sound member fits.sound)
   plan (InsertFacility facility) fits = one_step _ (facility_put tables.rows facility) (facility_stored club tables.rows tables.storage facility)
+  plan (ReplaceNumbers name places price opens shuts) fits =
+      let is = subst (λ fs. find (λ (f : Facility). bytes_eq f.name name) fs ≡ Some fits.carries.0) (sym tables.storage.facilities) fits.carries.1 in
+      let roomy = few_in_rows club tables.rows tables.storage name places (few_if_fits club name places price opens shuts fits) in
+      one_step _ (facility_renumbered tables.rows facilities_once name places price opens shuts fits.carries.0 is roomy)
+      (numbers_stored club tables.rows tables.storage name places price opens shuts)
   plan (InsertKey key) fits =
       one_step _ (key_put tables.rows key) (key_stored club tables.rows tables.storage tables.sound key fits.carries fits.sound)
   plan (AddCredit name points) fits =

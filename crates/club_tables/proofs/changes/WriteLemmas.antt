@@ -5,7 +5,7 @@ use Rattle.club_tables.proofs.Common.{StoreFault, HoldsClub, IsLeftOf, Represent
 use Rattle.club_tables.proofs.Common.{IsKept, transaction_start, Commits, FailsToRun, AreStatementsOf, statements_of, ℕ, ◌≤◌, ◌++◌, true, if◌then◌else◌}
 use Rattle.club_tables.proofs.Common.{recursion_from_All, Member, Facility, Key, Booking, IsMember, IsFacility, IsBooking, InsertMember, InsertFacility}
 use Rattle.club_tables.proofs.Common.{InsertKey, InsertBooking, MarkCancelled, cancelled_booking, is_marked, ReplaceQuota, bytes_eq}
-use Rattle.club_tables.proofs.changes.{CancelLemmas.mapped_holds, FitLemmas.fits_if_ran, PlanLemmas.{plan, made, less_in_turn}}
+use Rattle.club_tables.proofs.changes.{CancelLemmas.mapped_holds, FitLemmas.fits_if_ran, InTurnLemmas.less_in_turn, PlanLemmas.{plan, made}}
 use Rattle.club_tables.proofs.crashes.{RepresentsLemmas.represents_by, SurviveLemmas.{may_commit, kept_when_idle, commits_nothing, survives_itself}}
 use Rattle.club_tables.proofs.{lists.OwnerLemmas.all_last, opening.OpenLemmas.{IsSettled, settles}, queries.{KeyLemmas.is_numbered, ReadLemmas.at_once}}
 use Rattle.club_tables.proofs.statements.PassLemmas.{found}

@@ -31,7 +31,7 @@ open_tests = under_it ∷ is_given 2 0 ∷ is_uncancelled ∷ begins_later ∷ f
 -- ---- numbers
 
 -- `>` of two whole numbers
-whole_above : (m n : ℕ) → is_true (binary (Compare Gt Binary) (Int (pos m)) (Int (pos n))) ≡ nat_lt n m
+pub whole_above : (m n : ℕ) → is_true (binary (Compare Gt Binary) (Int (pos m)) (Int (pos n))) ≡ nat_lt n m
 unfolding binary
 whole_above m n =
     let same : is_gt (int_cmp (pos m) (pos n)) ≡ nat_lt n m = grind (arith, nat_tests) in from_truth_is _ ∙ ap is_gt (value_cmp-Int (pos m) (pos n)) ∙ same

@@ -1,0 +1,162 @@
+-- The statement that gives a facility other numbers: the tables after it, and how they store the rows of the club after the change.
+use Rattle.club_tables.proofs.Common.{rules, ◌≡◌, ◌≢◌, ◌≤◌, ◌<◌, ℕ, pos, min, Bool, true, false, not, ◌&&◌, None, Option, Some, List, [], ◌∷◌, length, map}
+use Rattle.club_tables.proofs.Common.{refl, sym, ap, ◌∙◌, subst, find, filter, list_all, option_map, unwrap_or, bytes_eq, bytes_eq-Decides, and_parts}
+use Rattle.club_tables.proofs.Common.{everything, Int, Text, Binary, Compare, Eq, binary, Row, Term, col, op2, holds, Query, inner, end, counted, Update}
+use Rattle.club_tables.proofs.Common.{understood, Club, is_true, club_schema, whole, facility_values, slot_values, select, is_given, Rows, IsStoredAs}
+use Rattle.club_tables.proofs.Common.{facilities_tree, slots_tree, nat_tests, arith, AllByRecursion, AllPairs, Has, Facility, Slot, SlotRow, SlotUse, same_slot}
+use Rattle.club_tables.proofs.Common.{taken_in, row_of, stored_slot_use, no_slot_use, IsSound, FitsClub, after, ReplaceNumbers, facility_with_numbers}
+use Rattle.club_tables.proofs.Common.{SET_NUMBERS, op1, unary, Not, facility_named, from_truth, value_cmp-Int, int_cmp, nat_lt, is_gt, cast_row, ℤ, Contains}
+use Rattle.club_tables.proofs.{Common.{contains_had, inl, inr, true≢false, all_from, if◌then◌else◌, IsFacility}, changes.AddLemmas.facility_table}
+use Rattle.club_tables.proofs.changes.{CancelLemmas.mapped_holds, ChangeLemmas.{WhenRan, FindsOne, one_found, one_changed}}
+use Rattle.club_tables.proofs.{lists.TakenRows.{row_taken, slot_taken_by}, queries.{KeyLemmas.{both_tests, one_named}, MemberLemmas.whole_above}}
+use Rattle.club_tables.proofs.statements.InsertLemmas.{cast_int}
+use Rattle.club_tables.proofs.statements.JoinLemmas.{is_counted, counted_some, passes, shown, with_count, answered_counted, counts_elements}
+use Rattle.club_tables.proofs.statements.{MeansLemmas.{Means, on_facilities, Steps}, PassLemmas.{contains_counts, each_row, found, Implies}}
+use Rattle.club_tables.proofs.statements.{SelectLemmas.{text_equal, none_pass}, UpdateLemmas.{Updates, updates}}
+use Rattle.club_rows.specs.Limits.{places_limit, price_limit, shutting_limit}
+use Rattle.club_core.specs.Office.{are_limits}
+use Rattle.club_tables.specs.ChangeStatements.{numbers_values}
+use Rattle.sqlite_sql.specs.declared.ops.CompareOp.TheVariants.{Gt}
+
+abbrev numbers_terms : List Term
+numbers_terms = col 1 0 ∷ col 1 0 ∷ col 1 1 ∷ col 1 2 ∷ col 0 1 ∷ col 0 2 ∷ col 0 3 ∷ col 0 4 ∷ []
+
+abbrev crowd_tests : List Term
+crowd_tests = op2 (Compare Eq Binary) (col 2 1) (col 0 0) ∷ op2 (Compare Gt Binary) (col 2 5) (col 0 1) ∷ []
+
+abbrev numbers_tests : List Term
+numbers_tests = is_given 1 0 ∷ op1 Not (col 2 0) ∷ []
+
+abbrev numbers_query : Query
+numbers_query = select (inner facilities_tree (counted 1 (inner slots_tree end) crowd_tests end)) numbers_tests numbers_terms
+
+numbers_means : Means club_schema SET_NUMBERS.now (Update 2 (record { lets = []; body = numbers_query }))
+unfolding understood everything
+numbers_means = record { is = refl; plain = (refl, refl) }
+
+-- NOT EXISTS
+none_counted : {X : Type 0} (xs : List X) → is_true (unary Not (Int (pos (min 1 (length xs))))) ≡ not (is_counted (length xs))
+unfolding unary
+none_counted [] = refl
+none_counted (x ∷ xs) = let one : min 1 (length (x ∷ xs)) ≡ 1 = omega arith in rw one refl
+
+casts_facility : (id : ℤ) (f : Facility) → cast_row facility_table (Int id ∷ facility_values f) ≡ Int id ∷ facility_values f
+casts_facility id f = simp cast_int
+
+-- a slot of the facility that has more persons than these places
+abbrev pub crowds : List ℕ → ℕ → SlotRow → Bool
+crowds name places row = bytes_eq row.slot.facility name && nat_lt places row.held.taken
+
+-- some slot of it has
+abbrev pub is_crowded : List ℕ → ℕ → List SlotRow → Bool
+is_crowded name places slots = is_counted (length (filter (crowds name places) slots))
+
+module _ (rows : Rows) (once : AllPairs (λ (a : Facility) (b : Facility). a.name ≢ b.name) rows.facilities) (name : List ℕ) (places price opens shuts : ℕ) where
+  abbrev is_named : Facility → Bool
+  is_named f = bytes_eq f.name name
+
+  abbrev params : Row
+  params = numbers_values name places price opens shuts
+
+  abbrev is_renumbered : Facility → Bool
+  is_renumbered f = is_named f && not (is_crowded name places rows.slots)
+
+  numbers_finds : WhenRan (SET_NUMBERS.now, params) rows (λ old new count. FindsOne facility_values is_renumbered is_named rows.facilities
+      (shown params crowd_tests numbers_tests numbers_terms (old.now.trees slots_tree)) old new facility_table count)
+  numbers_finds old new count holds_rows ran =
+      let others = old.now.trees slots_tree in
+      let before = old.now.trees facilities_tree in
+      let hit = passes params crowd_tests numbers_tests numbers_terms others in
+      let put : Updates old new facility_table numbers_query params count = updates numbers_means facility_table refl holds_rows.schema ran in
+      let hits = each_row facility_values hit is_renumbered (λ id f.
+      let as_row : Row = Int id ∷ facility_values f in
+      ap (λ n. list_all (holds (with_count params crowd_tests numbers_tests numbers_terms n as_row)) numbers_tests)
+      (counts_elements params crowd_tests numbers_tests numbers_terms slot_values (crowds name places)
+      (λ id row s. both_tests _ _ _ _ (text_equal s.slot.facility name) (whole_above s.held.taken places)) others rows.slots holds_rows.held.slots as_row)
+      ∙ both_tests _ _ _ _ (text_equal f.name name) (none_counted (filter (crowds name places) rows.slots))) before rows.facilities
+      holds_rows.held.facilities.same in
+      let answer = answered_counted params crowd_tests numbers_tests numbers_terms facilities_tree slots_tree
+      (record { schema = club_schema; trees = old.now.trees }) put.rows put.answers in
+      let wide : Implies is_renumbered is_named = λ f passes. (and_parts (is_named f) _ passes).0 in
+      let low = one_named (λ (f : Facility). f.name) name rows.facilities once in
+      search rules
+
+  -- the facility is there, and none of its slots has more persons, if a row is written
+  pub numbers_found : WhenRan (SET_NUMBERS.now, params) rows (λ old new count. 1 ≤ count → (f : Facility)
+      × (find is_named rows.facilities ≡ Some f) × (not (is_crowded name places rows.slots) ≡ true))
+  numbers_found old new count holds_rows ran some =
+      let one = one_found (numbers_finds old new count holds_rows ran) some in
+      (one.0, one.1, (and_parts (is_named one.0) _ one.2).1)
+
+  pub facility_renumbered : (f : Facility) → find is_named rows.facilities ≡ Some f → not (is_crowded name places rows.slots) ≡ true
+      → Steps (SET_NUMBERS.now, params) rows (record rows { facilities = map (facility_with_numbers name places price opens shuts) rows.facilities })
+  facility_renumbered f is roomy old new count holds_rows ran =
+      one_changed (numbers_finds old new count holds_rows ran) f is (rw ((found is_named rows.facilities f is).1, roomy) refl)
+      (facility_with_numbers name places price opens shuts) (λ f fails. rw fails refl) (λ id passes. rw passes refl) casts_facility
+      (λ wrote held. on_facilities holds_rows wrote held)
+
+-- ---- the persons of the facility's slots
+
+module _ (club : Club) (rows : Rows) (stored : IsStoredAs club rows) (name : List ℕ) (places : ℕ) where
+  -- no slot has more, if no row has
+  pub few_by_rows : not (is_crowded name places rows.slots) ≡ true → (slot : Slot) → slot.facility ≡ name → taken_in slot club.bookings ≤ places
+  few_by_rows roomy slot of = elim (slot_taken_by club rows stored slot) [
+    | inl none ↦ omega (arith, none)
+    | inr it ↦ by it.0 it.1 ((bytes_eq-Decides it.0.slot.facility name).1 (ap (λ (s : Slot). s.facility) it.2 ∙ of)) it.3 (nat_lt places it.0.held.taken) refl
+  ]
+    where
+      by : (row : SlotRow) → Has rows.slots row → bytes_eq row.slot.facility name ≡ true → row.held.taken ≡ taken_in slot club.bookings
+          → (more : Bool) → nat_lt places row.held.taken ≡ more → taken_in slot club.bookings ≤ places
+      by row has named taken true more =
+          let passes : crowds name places row ≡ true = rw (named, more) refl in
+          let some = contains_counts (crowds name places) rows.slots row (contains_had rows.slots row has) passes in
+          absurd (true≢false (sym roomy ∙ ap not (counted_some (filter (crowds name places) rows.slots) some)))
+      by row has named taken false few = grind (arith, nat_tests)
+
+  -- no row has more, if no slot has
+  pub few_in_rows : ((slot : Slot) → slot.facility ≡ name → taken_in slot club.bookings ≤ places) → not (is_crowded name places rows.slots) ≡ true
+  few_in_rows few =
+      let none : filter (crowds name places) rows.slots ≡ [] =
+      none_pass (crowds name places) rows.slots (all_from (λ (row : SlotRow). crowds name places row ≡ false) rows.slots (λ row has.
+      by row has (bytes_eq row.slot.facility name) refl)) in
+      rw none refl
+    where
+      by : (row : SlotRow) → Has rows.slots row → (b : Bool) → bytes_eq row.slot.facility name ≡ b → (b && nat_lt places row.held.taken) ≡ false
+      by row has false other = refl
+      by row has true named =
+          let taken = row_taken club rows stored row has in
+          let low = few row.slot ((bytes_eq-Decides row.slot.facility name).0 named) in
+          grind (arith, nat_tests)
+
+-- what a change that fits says of the numbers, and of the persons
+module _ (club : Club) (name : List ℕ) (places price opens shuts : ℕ) (fits : FitsClub (ReplaceNumbers name places price opens shuts) club) where
+  abbrev facility : Facility
+  facility = fits.carries.0
+
+  abbrev edit : Facility → Facility
+  edit = facility_with_numbers name places price opens shuts
+
+  there : Contains club.facilities facility × (bytes_eq facility.name name ≡ true)
+  there = found (λ (f : Facility). bytes_eq f.name name) club.facilities facility fits.carries.1
+
+  pub few_if_fits : (slot : Slot) → slot.facility ≡ name → taken_in slot club.bookings ≤ places
+  few_if_fits slot of =
+      let low = mapped_holds (λ (f : Facility). (s : Slot) → s.facility ≡ f.name → taken_in s club.bookings ≤ f.places) edit club.facilities facility
+      fits.sound.places there.0 slot (of ∙ sym ((bytes_eq-Decides facility.name name).0 there.1)) in
+      subst (λ b. taken_in slot club.bookings ≤ (if b then places else facility.places)) there.1 low
+
+  pub numbers_if_fits : are_limits places price opens shuts ≡ true
+  numbers_if_fits =
+      let row = mapped_holds IsFacility edit club.facilities facility fits.sound.rows.facilities there.0 in
+      let some = subst (λ b. 1 ≤ (if b then places else facility.places)) there.1 row.some_places in
+      let few = subst (λ b. (if b then places else facility.places) ≤ places_limit) there.1 row.few_places in
+      let low = subst (λ b. (if b then price else facility.price) ≤ price_limit) there.1 row.price in
+      let in_order = subst (λ b. (if b then opens else facility.opens) < (if b then shuts else facility.shuts)) there.1 row.opens in
+      let in_time = subst (λ b. (if b then shuts else facility.shuts) ≤ shutting_limit) there.1 row.shuts in
+      grind (arith, nat_tests)
+
+pub numbers_stored : (club : Club) (rows : Rows) → IsStoredAs club rows → (name : List ℕ) (places price opens shuts : ℕ)
+    → IsStoredAs (after (ReplaceNumbers name places price opens shuts) club)
+    (record rows { facilities = map (facility_with_numbers name places price opens shuts) rows.facilities })
+numbers_stored club rows stored name places price opens shuts =
+    let facilities = ap (map (facility_with_numbers name places price opens shuts)) stored.facilities in search rules

@@ -1,0 +1,37 @@
+-- The persons of a slot, as its row has them.
+use Rattle.club_tables.proofs.Common.{◌≡◌, ◌≢◌, ◌⊎◌, ℕ, Bool, true, None, Option, Some, List, [], ◌∷◌, refl, sym, ap, ◌∙◌, inl, inr, filter, option_map}
+use Rattle.club_tables.proofs.Common.{unwrap_or, slice_get, AllPairs, Has, has_kept, has_contained, Club, Slot, SlotRow, SlotUse, same_slot, taken_in, row_of}
+use Rattle.club_tables.proofs.{Common.{no_slot_use, Rows, IsStoredAs}, lists.KeyedRows.same_itself, queries.KeyLemmas.same_slots, statements.PassLemmas.found}
+use Rattle.club_tables.proofs.statements.SelectLemmas.{apart_from_pairs, find_first, only, one_passes}
+
+-- the one row of a slot
+pub the_slot : (slot : Slot) (rows : List SlotRow) (x : SlotRow) → AllPairs (λ (a : SlotRow) (b : SlotRow). a.slot ≢ b.slot) rows → Has rows x → x.slot ≡ slot
+    → row_of slot rows ≡ Some x
+the_slot slot rows x once has same =
+    let is_of : SlotRow → Bool = λ row. same_slot row.slot slot in
+    let R : SlotRow → SlotRow → Type 0 = λ a b. a.slot ≢ b.slot in
+    let low = one_passes R is_of rows (λ a b p q apart. apart (same_slots a.slot slot p ∙ sym (same_slots b.slot slot q))) (apart_from_pairs R rows once) in
+    find_first is_of rows ∙ ap (λ ys. slice_get ys 0) (only (filter is_of rows) x low
+    (has_kept is_of rows x has (ap (λ s. same_slot s slot) same ∙ same_itself slot)))
+
+module _ (club : Club) (rows : Rows) (stored : IsStoredAs club rows) where
+  taken_by : (slot : Slot) (o : Option SlotRow) → row_of slot rows.slots ≡ o
+      → (unwrap_or (option_map (λ (row : SlotRow). row.held) o) no_slot_use).taken ≡ taken_in slot club.bookings
+  taken_by slot o is =
+      ap (λ p. (unwrap_or (option_map (λ (row : SlotRow). row.held) p) no_slot_use).taken) (sym is) ∙ ap (λ (u : SlotUse). u.taken) (stored.slots slot)
+
+  -- a row has the persons of its slot
+  pub row_taken : (row : SlotRow) → Has rows.slots row → row.held.taken ≡ taken_in row.slot club.bookings
+  row_taken row has = taken_by row.slot (Some row) (the_slot row.slot rows.slots row stored.once has refl)
+
+  -- nobody is in a slot, or its row has its persons
+  pub slot_taken_by : (slot : Slot) → (0 ≡ taken_in slot club.bookings)
+      ⊎ ((row : SlotRow) × Has rows.slots row × (row.slot ≡ slot) × (row.held.taken ≡ taken_in slot club.bookings))
+  slot_taken_by slot = by (row_of slot rows.slots) refl
+    where
+      by : (o : Option SlotRow) → row_of slot rows.slots ≡ o → (0 ≡ taken_in slot club.bookings)
+          ⊎ ((row : SlotRow) × Has rows.slots row × (row.slot ≡ slot) × (row.held.taken ≡ taken_in slot club.bookings))
+      by None is = inl (taken_by slot None is)
+      by (Some row) is =
+          let here = found (λ (r : SlotRow). same_slot r.slot slot) rows.slots row is in
+          inr (row, has_contained rows.slots row here.0, same_slots row.slot slot here.1, taken_by slot (Some row) is)
