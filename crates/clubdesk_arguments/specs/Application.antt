@@ -5,7 +5,7 @@ use Rattle.command_line.specs.{Application.{as_required, flag_named, form_or_v2,
 use Rattle.clubdesk_arguments.specs.declared.table.CommandName.{CommandName, TheVariants.{AddMember, Credit, SetQuota, AddFacility, AddKey, RevokeKey}}
 use Rattle.clubdesk_arguments.specs.declared.table.CommandName.TheVariants.{RotateKey, CloseSlot, OpenSlot, Sheet, Serve, ShowAccount, ShowSlot}
 
--- positional arguments that must be given, of which the first is the file
+-- positional arguments that must be given; the first is the file
 abbrev pub positionals_over_file : List Text → List Rule
 positionals_over_file names = map (λ name. as_required (positional_named name)) (codes "FILE" ∷ names)
 

@@ -1,4 +1,4 @@
--- What the arguments ask for (ours).
+-- The jobs that arguments ask for (ours).
 use Rattle.std.specs.{Borrow.Bor, Option.{ok_or, unwrap_or}}
 use Rattle.std.specs.Prelude.{◌≡◌, ℕ, Bool, true, false, List, Option, Some, None, option_map, option_and_then, Result, Ok, Err, codes}
 use Rattle.clap.specs.Words.{Row, Text, first_of}

@@ -1,4 +1,4 @@
--- How the texts of the club's values are read (ours).
+-- Readers of the texts of the club's values (ours).
 use Rattle.std.specs.Prelude.{◌≡◌, ◌↔◌, ℕ, List, Option, Some}
 use Rattle.club_values.specs.{Day.SpellsDay, Hour.SpellsHour, Kind.kind_text, Moment.SpellsMoment, Name.IsName, declared.kind.Kind.Kind}
 
@@ -10,7 +10,7 @@ pub record Readers : Type 0 where
   pub hour : List ℕ → Option ℕ
   pub moment : List ℕ → Option ℕ
 
--- Each returns a value exactly if the text spells it. So all such readers return the same.
+-- Each returns a value if and only if the text spells it. So all such readers return the same.
 pub record ReadExactly (read : Readers) : Type 0 where
   pub names : (text name : List ℕ) → (read.name text ≡ Some name) ↔ (IsName text × (name ≡ text))
   pub kinds : (text : List ℕ) (kind : Kind) → (read.kind text ≡ Some kind) ↔ (text ≡ kind_text kind)

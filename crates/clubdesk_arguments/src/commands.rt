@@ -1,4 +1,4 @@
-//! The work of each command, from the values that its arguments spell.
+//! The work of each command, from the values of its arguments.
 
 ghost use Rattle.std.specs.Prelude.{◌≡◌, option_map};
 ghost use Rattle.clap.specs.Words.{found_of, rows_of};
@@ -22,7 +22,7 @@ use std::alloc::Global;
 ///
 /// # Errors
 ///
-/// As the job, of which `clap` found the command.
+/// The same as `Job::read`.
 pub fn work_of<'a>(
     alloc: Global,
     name: CommandName,

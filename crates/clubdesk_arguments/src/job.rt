@@ -18,13 +18,13 @@ impl<'a> command_line::Job<'a> for Job<'a> {
 
     ghost Reads = { ReadsValues };
 
-    /// The job over the file that the arguments name. A root has to be given once; then a form is
-    /// checked, then the other values.
+    /// Returns the job over the file that the arguments name. Checks first that a root is given
+    /// once, then the form, then the other values.
     ///
     /// # Errors
     ///
-    /// `Refused` if a root is given twice or not at all, or a form is none of the three; `BadValue`
-    /// if an argument spells no value of its place; `Memory` only if memory was refused.
+    /// `Refused` if a root is given twice or not at all, or the form is unknown. `BadValue` if
+    /// another argument is invalid. `Memory` only if memory was refused.
     fn read(
         alloc: Global,
         name: CommandName,

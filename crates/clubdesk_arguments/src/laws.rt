@@ -15,7 +15,7 @@ pub fn ask_for_one_job()
     arguments_ask_once::<Job<'static>>();
 }
 
-/// The computed readers return a value exactly if the text spells it.
+/// The computed readers return a value if and only if the text spells it.
 pub(crate) fn readers_are_exact()
     ensures { ReadExactly text_readers }
 {

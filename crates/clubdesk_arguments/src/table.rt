@@ -27,61 +27,66 @@ pub enum CommandName {
 const STATUSES: &str = "Exit status:
   0  done
   1  refused: exists, unknown, out of range, or slot in use
-  2  the words
-  3  a word or a root from standard input that spells no value of its place
+  2  usage error
+  3  invalid argument, or invalid root on standard input
   4  out of memory
   5  storage failed
-  6  serve, show-account: the clock doesn't stand in the years 2000 to 2099
+  6  serve, show-account: the clock shows no minute from 2000 to 2099
   7  input or output failed
-  8  no answer from the server that was handed the order
-  9  nothing was done: the server didn't get the order whole";
+  8  no answer from the server: the command was done or not
+  9  nothing was done: the server didn't get the whole command";
 
-const ADD_MEMBER_HELP: &str = "FILE is the database; it is made where it isn't there.
-QUOTA is the most bookings that the member has open at once, 0 to 99.
+const ADD_MEMBER_HELP: &str =
+    "FILE is the club's database, created if missing. QUOTA is the most bookings
+that the member may have open at once, 0 to 99. A new member has no points.
 
 Example:
   clubdesk add-member club.db amy 5";
 
-const CREDIT_HELP: &str = "POINTS are 1 to 1000000; a member is credited at most 999999999.
+const CREDIT_HELP: &str =
+    "POINTS are 1 to 1000000. The credits of a member are at most 999999999 in all.
 
 Example:
   clubdesk credit club.db amy 10000";
 
 const SET_QUOTA_HELP: &str =
-    "QUOTA is the most bookings that the member has open at once, 0 to 99. Bookings
-above it stay.
+    "QUOTA is the most bookings that the member may have open at once, 0 to 99.
+Open bookings above it stay.
 
 Example:
   clubdesk set-quota club.db amy 8";
 
-const ADD_FACILITY_HELP: &str = "KIND is court, boat or room; PLACES 1 to 50; PRICE the points of
-one place for an hour, 0 to 9999; it OPENS and SHUTS at full hours, 0 to 24.
+const ADD_FACILITY_HELP: &str =
+    "KIND is court, boat or room. PLACES are 1 to 50. PRICE is the points for one
+place and one hour, 0 to 9999. The facility OPENS and SHUTS at full hours, 0 to
+24.
 
 Example:
   clubdesk add-facility club.db court-1 court 4 200 8 22";
 
-const ADD_KEY_HELP: &str =
-    "ROOT is the key's root, 16 to 64 bytes in hexadecimal. Other users may see a
-word in the list of processes: with --root-stdin it is read from standard input.
-The pass of the key is printed.
+const ADD_KEY_HELP: &str = "Prints the pass of the key. ROOT is the key's secret, 16 to 64 bytes in
+hexadecimal. Other users may see an argument in the list of processes, so leave
+ROOT out and give --root-stdin, which reads it from standard input.
 
 Example:
   openssl rand -hex 32 | clubdesk add-key club.db amy-1 amy --root-stdin";
 
-const REVOKE_KEY_HELP: &str = "No pass of a revoked key is served any more.
+const REVOKE_KEY_HELP: &str = "Passes of a revoked key are no longer served.
 
 Example:
   clubdesk revoke-key club.db amy-1";
 
 const ROTATE_KEY_HELP: &str =
-    "ROOT is the key's new root; with --root-stdin it is read from standard input,
-and the words are FILE KEY MOMENT. Passes under the root that the key has are
-served until MOMENT, and not from it on. The new pass is printed.
+    "Prints the new pass. ROOT is the key's new root. With --root-stdin it is read
+from standard input, and the arguments are FILE KEY MOMENT. Passes under the
+former root are served before MOMENT, then no longer.
 
 Example:
   openssl rand -hex 32 | clubdesk rotate-key club.db amy-1 2026-05-01T00:00 --root-stdin";
 
-const CLOSE_SLOT_HELP: &str = "HOUR has two digits, 00 to 23.
+const CLOSE_SLOT_HELP: &str =
+    "The slot can't be booked any more. A slot that somebody booked isn't closed.
+HOUR has two digits, 00 to 23.
 
 Example:
   clubdesk close-slot club.db court-1 2026-05-01 18";
@@ -92,27 +97,29 @@ HOUR has two digits, 00 to 23.
 Example:
   clubdesk open-slot club.db court-1 2026-05-01 18";
 
-const SHEET_HELP: &str = "Example:
+const SHEET_HELP: &str = "DAY is a date, from 2000-01-01 to 2099-12-31.
+
+Example:
   clubdesk sheet club.db 2026-05-01";
 
-const SERVE_HELP: &str = "Serves connections to 127.0.0.1 one after the other, and ends after the
-last of them. A client that sends slowly, or doesn't take its reply, holds up
-those behind it for SECONDS at most, once for its request and once for its reply,
-and is then cut off.
+const SERVE_HELP: &str =
+    "Serves N connections to 127.0.0.1, one after the other, then ends. A client
+may take SECONDS to send its request, and as long again to read its reply. A
+slower client is cut off.
 
 Example:
   clubdesk serve club.db --port 8080 --count 1000 --zone CET-1CEST,M3.5.0,M10.5.0/3";
 
 const SHOW_ACCOUNT_HELP: &str =
-    "Prints the account of the key at the moment, as the desk shows it: member,
-balance, quota, open bookings and points spent; whether the key is revoked; and
-until when it has an older root. No root is printed.
+    "Prints the account that the desk shows to the key: member, balance, quota, open
+bookings and points spent. Then it says whether the key is revoked, and until
+when its older root is good. No root is printed.
 
 Example:
   clubdesk show-account club.db amy-1 --zone CET-1CEST,M3.5.0,M10.5.0/3";
 
 const SHOW_SLOT_HELP: &str =
-    "Prints the slot as the desk shows it to every key: kind, price, places, how many
+    "Prints the slot that the desk shows to every key: kind, price, places, how many
 are taken, and whether it is closed. HOUR has two digits, 00 to 23.
 
 Example:
@@ -130,16 +137,13 @@ const DAY: Argument = Argument::NeededPositional("DAY");
 
 const HOUR: Argument = Argument::NeededPositional("HOUR");
 
-const ROOT_BY_INPUT: Argument = Argument::Flag(
-    "root-stdin",
-    "Reads ROOT from standard input, in place of the word",
-);
+const ROOT_BY_INPUT: Argument = Argument::Flag("root-stdin", "Reads ROOT from standard input");
 
 const FORM: Argument = Argument::Or("form", "FORM", "v1, v2 or json", "v2");
 
 const ZONE: Argument = Argument::Or("zone", "RULE", "The clock's zone, a POSIX rule", "UTC0");
 
-const AT: Argument = Argument::Value("at", "MOMENT", "A moment in place of the clock's");
+const AT: Argument = Argument::Value("at", "MOMENT", "The moment, instead of the clock's");
 
 const SLOT: &[Argument] = &[FILE, FACILITY, DAY, HOUR];
 
@@ -174,17 +178,17 @@ const ROTATE_KEY_ARGUMENTS: &[Argument] = &[
 
 const SERVE_ARGUMENTS: &[Argument] = &[
     FILE,
-    Argument::Needed("port", "P", "The port, to 65535; 0 for any that is free"),
-    Argument::Needed("count", "N", "How many connections, 1 to 1000000"),
+    Argument::Needed("port", "P", "The port, at most 65535; 0 for any free one"),
+    Argument::Needed("count", "N", "The number of connections, 1 to 1000000"),
     ZONE,
     AT,
     Argument::Or(
         "patience",
         "SECONDS",
-        "For request, reply and rest: 1 to 3600",
+        "For request, reply and rest, 1 to 3600 each",
         "10",
     ),
-    Argument::Flag("log", "Tells each connection in a line on standard error"),
+    Argument::Flag("log", "Logs each connection in a line on standard error"),
 ];
 
 /// The program.

@@ -1,4 +1,4 @@
-//! What arguments ask for.
+//! Jobs of the program, as arguments ask for them.
 
 use club_clock::Clock;
 use club_core::Command;
@@ -16,9 +16,9 @@ pub enum Task<'a> {
     Key(KeyCommand, Root),
     /// The day sheet of a day.
     Sheet(Day),
-    /// What the desk shows of a key's account, at the moment of the clock.
+    /// The account that the desk shows to a key, at the moment of the clock.
     ShowAccount { key: Name, clock: Clock<'a> },
-    /// What the desk shows of a slot.
+    /// A slot as the desk shows it.
     ShowSlot(Slot),
 }
 
@@ -30,12 +30,12 @@ pub struct KeyCommand {
     pub form: Form,
 }
 
-/// What becomes of a key that is given a root.
+/// The change of a key that gets a root.
 #[derive(Drop)]
 pub enum KeyChange {
-    /// It is added, for a member.
+    /// The key is added, for a member.
     Add { member: Name },
-    /// The root that it has is good until the moment.
+    /// Its former root is good until the moment.
     Rotate { until: Moment },
 }
 
@@ -46,24 +46,24 @@ pub struct Service<'a> {
     pub port: u16,
     /// The number of connections to serve, 1 to 1,000,000.
     pub count: u32,
-    /// Where the moments come from.
+    /// The source of the moments.
     pub clock: Clock<'a>,
-    /// How many seconds a client may take to send its request, and to read its reply, 1 to 3,600.
+    /// The seconds that a client may take to send its request, and to read its reply, 1 to 3,600.
     pub patience: u32,
-    /// Whether the log notes each connection.
+    /// Whether each connection is logged.
     pub log: bool,
 }
 
-/// What is done over a database.
+/// Work over a database.
 #[derive(Drop)]
 pub enum Work<'a> {
     Office(Task<'a>),
-    /// A key's command, whose root is read from the input.
+    /// A key's command whose root comes from the input.
     Rootless(KeyCommand),
     Serve(Service<'a>),
 }
 
-/// What is done, and the file of its database.
+/// Work, and the file of its database.
 #[derive(Drop)]
 pub struct Job<'a> {
     pub file: &'a str,

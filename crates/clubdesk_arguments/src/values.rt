@@ -1,4 +1,4 @@
-//! The values that arguments spell, beside those of the club's own texts.
+//! The values of arguments, except those with a text of the club's own.
 
 ghost use Rattle.std.specs.Prelude.{◌≡◌};
 ghost use Rattle.clubdesk_arguments.specs.Values as spec;
@@ -6,13 +6,13 @@ ghost use Rattle.clubdesk_arguments.specs.Values as spec;
 use club_rows::Root;
 use club_values::digits::read_digits;
 
-/// The most connections that are served.
+/// The most connections that a server takes.
 pub const MAX_CONNECTIONS: u32 = 1_000_000;
 
-/// The most seconds of a limit of time.
+/// The most seconds of a timeout.
 pub const MAX_PATIENCE: u32 = 3_600;
 
-/// The number of 1 to 9 decimal digits.
+/// Reads a number of 1 to 9 decimal digits.
 #[tactic(auto, unfolding(crate::specs::Values::parse_number))]
 pub fn parse_number(text: &str) -> Option<u32>
     ensures { result ≡ spec.parse_number text.now }
@@ -20,7 +20,7 @@ pub fn parse_number(text: &str) -> Option<u32>
     read_digits(text.as_bytes())
 }
 
-/// The port of TCP that a number is, up to 65,535.
+/// Reads a port of TCP, at most 65,535.
 pub fn port_of(text: &str) -> Option<u16>
     ensures { result ≡ spec.port_of text.now }
 {
@@ -28,7 +28,7 @@ pub fn port_of(text: &str) -> Option<u16>
     u16::try_from(number).ok()
 }
 
-/// A number of connections, 1 to 1,000,000.
+/// Reads a number of connections, 1 to 1,000,000.
 pub fn count_of(text: &str) -> Option<u32>
     ensures { result ≡ spec.count_of text.now }
 {
@@ -39,7 +39,7 @@ pub fn count_of(text: &str) -> Option<u32>
     Some(number)
 }
 
-/// How many seconds a limit of time has, 1 to 3,600.
+/// Reads the seconds of a timeout, 1 to 3,600.
 pub fn patience_of(text: &str) -> Option<u32>
     ensures { result ≡ spec.patience_of text.now }
 {
@@ -50,7 +50,7 @@ pub fn patience_of(text: &str) -> Option<u32>
     Some(number)
 }
 
-/// The root of 16 to 64 bytes that a text spells in hexadecimal, in either case of letters.
+/// Reads a root of 16 to 64 bytes in hexadecimal, in either case of letters.
 pub fn root_of(text: &str) -> Option<Root>
     ensures { result ≡ spec.key_root_of text.now }
 {

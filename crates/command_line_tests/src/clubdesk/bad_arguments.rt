@@ -243,3 +243,36 @@ fn help(rt: HostRuntime) {
         expect_help(&rt, line);
     }
 }
+
+static COMMANDS: [&str; 13] = [
+    "add-member",
+    "credit",
+    "set-quota",
+    "add-facility",
+    "add-key",
+    "revoke-key",
+    "rotate-key",
+    "close-slot",
+    "open-slot",
+    "sheet",
+    "serve",
+    "show-account",
+    "show-slot",
+];
+
+// The help of a command has an example of it.
+fn expect_example(rt: &(impl Abort + AllocGlobal), command: &str) {
+    let text = help_of(rt, &["clubdesk", command, "--help"]);
+    let example = format!(in rt.alloc(); "\n  clubdesk {command} club.db ").expect(rt, "memory");
+    let piped = format!(in rt.alloc(); " | clubdesk {command} club.db ").expect(rt, "memory");
+    let shown = text.as_str();
+    let has_one = shown.contains(example.as_str()) || shown.contains(piped.as_str());
+    assert!(rt; has_one, "{text}");
+}
+
+#[test]
+fn examples(rt: HostRuntime) {
+    for command in &COMMANDS {
+        expect_example(&rt, command);
+    }
+}
