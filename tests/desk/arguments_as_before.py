@@ -26,6 +26,7 @@ FOLDER = "."
 WORDS = {
     "add-member": ([FOLDER, "amy", "5"], ["", "Amy", "5x"]),
     "credit": ([FOLDER, "amy", "10000"], ["", "amy!", "1.0"]),
+    "debit": ([FOLDER, "amy", "500"], ["", "amy!", "1.0"]),
     "set-quota": ([FOLDER, "amy", "5"], ["", "amy!", "5x"]),
     "add-facility": ([FOLDER, "court-1", "court", "4", "200", "8", "22"], ["", "court 1", "Court", "x", "+1", "", "1000000000"]),
     "add-key": ([FOLDER, "amy-1", "amy", KEY_ROOT], ["", "K", "BOB", "0g"]),

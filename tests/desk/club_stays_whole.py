@@ -32,6 +32,7 @@ ROOT, OTHER = "30313233343536373839616263646566", "ffeeddccbbaa99887766554433221
 COMMANDS = {
     "add-member amy 5": "INSERT INTO members VALUES ('amy', 0, 5, 0)",
     "credit amy 10000": "UPDATE members SET credited = credited + 10000",
+    "debit amy 500": "UPDATE members SET credited = credited - 500",
     "set-quota amy 8": "UPDATE members SET quota = 8",
     "add-facility court-1 court 4 200 8 22": "INSERT INTO facilities VALUES ('court-1', 'court', 4, 200, 8, 22)",
     f"add-key amy-1 amy {ROOT} --form v1": f"INSERT INTO keys VALUES ('amy-1', 'amy', x'{ROOT}', 0)",

@@ -2,7 +2,7 @@
 use Rattle.std.specs.Prelude.{List, [], ◌∷◌, ◌++◌, map, codes}
 use Rattle.clap.specs.Words.{Rule, Text}
 use Rattle.command_line.specs.{Application.{as_required, flag_named, form_or_v2, option_named, positional_named, with_default}, Table.Table}
-use Rattle.clubdesk_arguments.specs.declared.table.CommandName.{CommandName, TheVariants.{AddMember, Credit, SetQuota, AddFacility, AddKey, RevokeKey}}
+use Rattle.clubdesk_arguments.specs.declared.table.CommandName.{CommandName, TheVariants.{AddMember, Credit, Debit, SetQuota, AddFacility, AddKey, RevokeKey}}
 use Rattle.clubdesk_arguments.specs.declared.table.CommandName.TheVariants.{RotateKey, CloseSlot, OpenSlot, Sheet, Serve, ShowAccount, ShowSlot}
 
 -- positional arguments that must be given; the first is the file
@@ -46,6 +46,7 @@ clubdesk = record {
   entries =
       record { command = AddMember; name = codes "add-member"; rules = positionals_over_file (codes "NAME" ∷ codes "QUOTA" ∷ []) }
       ∷ record { command = Credit; name = codes "credit"; rules = positionals_over_file (codes "MEMBER" ∷ codes "POINTS" ∷ []) }
+      ∷ record { command = Debit; name = codes "debit"; rules = positionals_over_file (codes "MEMBER" ∷ codes "POINTS" ∷ []) }
       ∷ record { command = SetQuota; name = codes "set-quota"; rules = positionals_over_file (codes "MEMBER" ∷ codes "QUOTA" ∷ []) }
       ∷ record {
         command = AddFacility;

@@ -84,6 +84,12 @@ module _ (read : Readers) where
     points ← number_value (codes "POINTS") rows
     Some (Office (Give (office.Credit member points)))
 
+  abbrev pub debit_of : List Row → Option Work
+  debit_of rows = do
+    member ← name_value (codes "MEMBER") rows
+    points ← number_value (codes "POINTS") rows
+    Some (Office (Give (office.Debit member points)))
+
   abbrev pub set_quota_of : List Row → Option Work
   set_quota_of rows = do
     member ← name_value (codes "MEMBER") rows
@@ -171,6 +177,7 @@ module _ (read : Readers) where
   abbrev pub work_named : CommandName → List Row → Result Work (Refusal Unit)
   work_named command.AddMember rows = unless_bad (add_member_of rows)
   work_named command.Credit rows = unless_bad (credit_of rows)
+  work_named command.Debit rows = unless_bad (debit_of rows)
   work_named command.SetQuota rows = unless_bad (set_quota_of rows)
   work_named command.AddFacility rows = unless_bad (add_facility_of rows)
   work_named command.AddKey rows = of_root_and_form rows add_key_of (root_and_form_in (first_of (codes "ROOT") rows) rows)

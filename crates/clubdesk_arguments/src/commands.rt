@@ -34,6 +34,7 @@ pub fn work_of<'a>(
     match name {
         CommandName::AddMember => or_bad_value(add_member(arguments)),
         CommandName::Credit => or_bad_value(credit(arguments)),
+        CommandName::Debit => or_bad_value(debit(arguments)),
         CommandName::SetQuota => or_bad_value(set_quota(arguments)),
         CommandName::AddFacility => or_bad_value(add_facility(arguments)),
         CommandName::AddKey => match root_and_form(alloc, arguments, given(arguments, "ROOT")) {
@@ -70,6 +71,16 @@ fn credit<'a>(arguments: &ArgMatches<'a>) -> Option<Work<'a>>
     let member = name_of(arguments, "MEMBER")?;
     let points = number_at(arguments, "POINTS")?;
     Some(Work::Office(Task::Give(Command::Credit { member, points })))
+}
+
+// `debit FILE MEMBER POINTS`
+fn debit<'a>(arguments: &ArgMatches<'a>) -> Option<Work<'a>>
+    ensures { result ≡ spec.debit_of text_readers (rows_of (found_of arguments.now)) }
+{
+    Some(Work::Office(Task::Give(Command::Debit {
+        member: name_of(arguments, "MEMBER")?,
+        points: number_at(arguments, "POINTS")?,
+    })))
 }
 
 // `set-quota FILE MEMBER QUOTA`

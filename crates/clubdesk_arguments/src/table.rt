@@ -11,6 +11,7 @@ use std::alloc::{AllocError, Global};
 pub enum CommandName {
     AddMember,
     Credit,
+    Debit,
     SetQuota,
     AddFacility,
     AddKey,
@@ -48,6 +49,13 @@ const CREDIT_HELP: &str =
 
 Example:
   clubdesk credit club.db amy 10000";
+
+const DEBIT_HELP: &str =
+    "Takes points back that the member was credited with. POINTS are 1 to 1000000,
+and at most the member's balance.
+
+Example:
+  clubdesk debit club.db amy 500";
 
 const SET_QUOTA_HELP: &str =
     "QUOTA is the most bookings that the member may have open at once, 0 to 99.
@@ -209,6 +217,17 @@ static CLUBDESK: Program<CommandName> = Program {
             name: "credit",
             about: "Credits a member with points",
             help: CREDIT_HELP,
+            arguments: &[
+                FILE,
+                Argument::NeededPositional("MEMBER"),
+                Argument::NeededPositional("POINTS"),
+            ],
+        },
+        Row {
+            command: CommandName::Debit,
+            name: "debit",
+            about: "Takes points from a member",
+            help: DEBIT_HELP,
             arguments: &[
                 FILE,
                 Argument::NeededPositional("MEMBER"),

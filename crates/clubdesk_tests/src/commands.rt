@@ -26,6 +26,23 @@ static MEMBERS: [Row; 17] = [
     Row("set-quota", "zed 99", "1 refused: unknown"),
 ];
 
+// Amy has 10,000 points, and booked for 200.
+static DEBITS: [Row; 8] = [
+    Row("debit", "amy 1", "0 done\n"),
+    Row("debit", "amy 9800", "0 done\n"),
+    Row("debit", "amy 9801", "1 refused: out of range"),
+    Row("debit", "amy 0", "1 refused: out of range"),
+    Row("debit", "bea 1000000", "0 done\n"),
+    Row("debit", "bea 1000001", "1 refused: out of range"),
+    Row("debit", "zed 0", "1 refused: out of range"),
+    Row("debit", "zed 1", "1 refused: unknown"),
+];
+
+#[test]
+fn debits(rt: HostRuntime) -> Result<(), Fail> {
+    expect_over_clubs(&rt, 1, &DEBITS)
+}
+
 #[test]
 fn members(rt: HostRuntime) -> Result<(), Fail> {
     expect_over_clubs(&rt, 1, &MEMBERS)

@@ -5,7 +5,7 @@ use crate::runs::{Row, expect_rows, new_path, remove};
 use crate::servers::OFFICE;
 use std::test::Fail;
 
-static CORRECTIONS: [Row; 8] = [
+static CORRECTIONS: [Row; 11] = [
     Row("close-slot", "court-1 2026-05-01 18", "0 done\n"),
     Row("open-slot", "court-1 2026-05-01 18", "0 done\n"),
     Row("open-slot", "court-1 2026-05-01 18", "0 done\n"),
@@ -22,6 +22,13 @@ static CORRECTIONS: [Row; 8] = [
         "show-account",
         "amy-1 --at 2026-04-20T12:00",
         "0 member amy\nbalance 10000\nquota 99\nopen 0\nspent 0\nrevoked no\nolder root none\n",
+    ),
+    Row("debit", "amy 2500", "0 done\n"),
+    Row("debit", "amy 7501", "1 refused: out of range"),
+    Row(
+        "show-account",
+        "amy-1 --at 2026-04-20T12:00",
+        "0 member amy\nbalance 7500\nquota 99\nopen 0\nspent 0\nrevoked no\nolder root none\n",
     ),
 ];
 

@@ -11,7 +11,7 @@ const SHEET: &str = "Day sheet 2026-05-02\nNo bookings.\n";
 /// has its count, a root, and its arguments, each with a byte after it.
 type Handed = (Row<'static>, ServerAnswer<'static>, usize);
 
-static HANDED: [Handed; 9] = [
+static HANDED: [Handed; 10] = [
     // 5, no root, clubdesk, add-member, club, amy, 5.
     (
         Row("add-member", "amy 5", "0 done\n"),
@@ -23,6 +23,7 @@ static HANDED: [Handed; 9] = [
         Some((1, "refused: exists")),
         34,
     ),
+    (Row("debit", "amy 5", "0 done\n"), Some((0, "done\n")), 29),
     (
         Row("set-quota", "amy 5", "0 done\n"),
         Some((0, "done\n")),

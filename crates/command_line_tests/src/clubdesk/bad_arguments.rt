@@ -33,7 +33,7 @@ fn expect_refused(rt: &(impl Abort + AllocGlobal), lines: &[&str], end: &End) {
     }
 }
 
-static BAD_VALUES: [&str; 53] = [
+static BAD_VALUES: [&str; 56] = [
     "add-member|F|Amy|5",
     "add-member|F||5",
     "add-member|F|amybobcydideeveflogushalfi|5",
@@ -44,6 +44,9 @@ static BAD_VALUES: [&str; 53] = [
     "add-member|F|amy|1000000000",
     "add-member|F|amy|0000000005",
     "credit|F|amy!|1",
+    "debit|F|amy!|1",
+    "debit|F|amy|1.0",
+    "debit|F|amy|1000000000",
     "set-quota|F|amy!|1",
     "set-quota|F|amy|-",
     "credit|F|amy|1.0",
@@ -153,7 +156,7 @@ fn bad_forms(rt: HostRuntime) {
     }
 }
 
-static BAD_ARGUMENTS: [&str; 36] = [
+static BAD_ARGUMENTS: [&str; 38] = [
     "frob",
     "help|frob",
     "add-member|--version",
@@ -164,6 +167,8 @@ static BAD_ARGUMENTS: [&str; 36] = [
     "add-member|F|amy|-5",
     "add-member|F|amy|5|--form|v1",
     "credit|F",
+    "debit|F|amy",
+    "debit|F|amy|-1",
     "set-quota|F|amy",
     "add-facility|F|court-1|court|4|200|8",
     "add-key|F|k|bob",
@@ -244,9 +249,10 @@ fn help(rt: HostRuntime) {
     }
 }
 
-static COMMANDS: [&str; 13] = [
+static COMMANDS: [&str; 14] = [
     "add-member",
     "credit",
+    "debit",
     "set-quota",
     "add-facility",
     "add-key",

@@ -104,7 +104,7 @@ pub(super) fn expect_asked(rt: &(impl Abort + AllocGlobal), line: &str, file: &s
 }
 
 /// Lines, and what they ask for over the file `F`.
-static TASKS: [(&str, &str); 35] = [
+static TASKS: [(&str, &str); 38] = [
     (
         "add-member|F|amy|5",
         "AddMember { name: \"amy\", quota: 5 }",
@@ -113,6 +113,7 @@ static TASKS: [(&str, &str); 35] = [
         "credit|F|amy|10000",
         "Credit { member: \"amy\", points: 10000 }",
     ),
+    ("debit|F|amy|500", "Debit { member: \"amy\", points: 500 }"),
     (
         "add-facility|F|court-1|court|4|200|8|22",
         "AddFacility { name: \"court-1\", kind: Court, places: 4, price: 200, opens: 8, shuts: 22 }",
@@ -138,6 +139,11 @@ static TASKS: [(&str, &str); 35] = [
     (
         "set-quota|F|amy|100",
         "SetQuota { member: \"amy\", quota: 100 }",
+    ),
+    ("debit|F|amy|0", "Debit { member: \"amy\", points: 0 }"),
+    (
+        "debit|F|amy|999999999",
+        "Debit { member: \"amy\", points: 999999999 }",
     ),
     ("credit|F|amy|0", "Credit { member: \"amy\", points: 0 }"),
     (
