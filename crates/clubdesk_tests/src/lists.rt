@@ -124,6 +124,12 @@ fn asking_bytes(rt: &(impl Abort + Alloc<A = Global>), asking: &Asking) -> Vec<u
     bytes.expect(rt, "memory")
 }
 
+// The command line of a command about a slot.
+fn slot_line(alloc: Global, name: &str, slot: &Slot) -> Result<String, AllocError> {
+    let (facility, day, hour) = (slot.facility, slot.day, slot.hour);
+    format!(in alloc; "clubdesk {name} club {facility} {day} {hour}")
+}
+
 // The command line of a command. A new key's root is read from standard input.
 fn command_line(
     alloc: Global,
@@ -136,6 +142,9 @@ fn command_line(
         }
         (PlainCommand::Credit(member, points), _) => {
             format!(in alloc; "clubdesk credit club {member} {points}")
+        }
+        (PlainCommand::Debit(member, points), _) => {
+            format!(in alloc; "clubdesk debit club {member} {points}")
         }
         (PlainCommand::SetQuota(member, quota), _) => {
             format!(in alloc; "clubdesk set-quota club {member} {quota}")
@@ -152,14 +161,8 @@ fn command_line(
             let root = root_text(root);
             format!(in alloc; "clubdesk rotate-key club {key} {root} {until}")
         }
-        (_, Command::CloseSlot(slot)) => {
-            let (facility, day, hour) = (slot.facility, slot.day, slot.hour);
-            format!(in alloc; "clubdesk close-slot club {facility} {day} {hour}")
-        }
-        (_, Command::OpenSlot(slot)) => {
-            let (facility, day, hour) = (slot.facility, slot.day, slot.hour);
-            format!(in alloc; "clubdesk open-slot club {facility} {day} {hour}")
-        }
+        (_, Command::CloseSlot(slot)) => slot_line(alloc, "close-slot", slot),
+        (_, Command::OpenSlot(slot)) => slot_line(alloc, "open-slot", slot),
         _ => Ok(String::new(alloc)),
     }
 }
