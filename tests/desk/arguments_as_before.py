@@ -29,6 +29,7 @@ WORDS = {
     "debit": ([FOLDER, "amy", "500"], ["", "amy!", "1.0"]),
     "set-quota": ([FOLDER, "amy", "5"], ["", "amy!", "5x"]),
     "add-facility": ([FOLDER, "court-1", "court", "4", "200", "8", "22"], ["", "court 1", "Court", "x", "+1", "", "1000000000"]),
+    "set-facility": ([FOLDER, "court-1", "4", "250", "8", "21"], ["", "court 1", "x", "+1", "", "1000000000"]),
     "add-key": ([FOLDER, "amy-1", "amy", KEY_ROOT], ["", "K", "BOB", "0g"]),
     "revoke-key": ([FOLDER, "amy-1"], ["", "amy_1"]),
     "rotate-key": ([FOLDER, "amy-1", KEY_ROOT, "2026-05-01T00:00"], ["", "K", "00", "never"]),

@@ -35,6 +35,7 @@ COMMANDS = {
     "debit amy 500": "UPDATE members SET credited = credited - 500",
     "set-quota amy 8": "UPDATE members SET quota = 8",
     "add-facility court-1 court 4 200 8 22": "INSERT INTO facilities VALUES ('court-1', 'court', 4, 200, 8, 22)",
+    "set-facility court-1 2 250 7 23": "UPDATE facilities SET places = 2, price = 250, opens = 7, shuts = 23",
     f"add-key amy-1 amy {ROOT} --form v1": f"INSERT INTO keys VALUES ('amy-1', 'amy', x'{ROOT}', 0)",
     f"add-key amy-2 amy {ROOT}": f"INSERT INTO keys VALUES ('amy-2', 'amy', x'{ROOT}', 0)",
     f"rotate-key amy-1 {OTHER} 2026-05-01T18:00 --form json":

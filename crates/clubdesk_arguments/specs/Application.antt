@@ -2,8 +2,8 @@
 use Rattle.std.specs.Prelude.{List, [], ◌∷◌, ◌++◌, map, codes}
 use Rattle.clap.specs.Words.{Rule, Text}
 use Rattle.command_line.specs.{Application.{as_required, flag_named, form_or_v2, option_named, positional_named, with_default}, Table.Table}
-use Rattle.clubdesk_arguments.specs.declared.table.CommandName.{CommandName, TheVariants.{AddMember, Credit, Debit, SetQuota, AddFacility, AddKey, RevokeKey}}
-use Rattle.clubdesk_arguments.specs.declared.table.CommandName.TheVariants.{RotateKey, CloseSlot, OpenSlot, Sheet, Serve, ShowAccount, ShowSlot}
+use Rattle.clubdesk_arguments.specs.declared.table.CommandName.{CommandName, TheVariants.{AddMember, Credit, Debit, SetQuota, AddFacility, SetFacility, AddKey}}
+use Rattle.clubdesk_arguments.specs.declared.table.CommandName.TheVariants.{RevokeKey, RotateKey, CloseSlot, OpenSlot, Sheet, Serve, ShowAccount, ShowSlot}
 
 -- positional arguments that must be given; the first is the file
 abbrev pub positionals_over_file : List Text → List Rule
@@ -52,6 +52,11 @@ clubdesk = record {
         command = AddFacility;
         name = codes "add-facility";
         rules = positionals_over_file (codes "NAME" ∷ codes "KIND" ∷ codes "PLACES" ∷ codes "PRICE" ∷ codes "OPENS" ∷ codes "SHUTS" ∷ []);
+      }
+      ∷ record {
+        command = SetFacility;
+        name = codes "set-facility";
+        rules = positionals_over_file (codes "NAME" ∷ codes "PLACES" ∷ codes "PRICE" ∷ codes "OPENS" ∷ codes "SHUTS" ∷ []);
       }
       ∷ record {
         command = AddKey;

@@ -106,6 +106,15 @@ module _ (read : Readers) where
     shuts ← number_value (codes "SHUTS") rows
     Some (Office (Give (office.AddFacility name of_kind places price opens shuts)))
 
+  abbrev pub set_facility_of : List Row → Option Work
+  set_facility_of rows = do
+    name ← name_value (codes "NAME") rows
+    places ← number_value (codes "PLACES") rows
+    price ← number_value (codes "PRICE") rows
+    opens ← number_value (codes "OPENS") rows
+    shuts ← number_value (codes "SHUTS") rows
+    Some (Office (Give (office.SetFacility name places price opens shuts)))
+
   abbrev pub add_key_of : Option Text → Form → List Row → Option Work
   add_key_of root form rows = do
     key ← name_value (codes "KEY") rows
@@ -180,6 +189,7 @@ module _ (read : Readers) where
   work_named command.Debit rows = unless_bad (debit_of rows)
   work_named command.SetQuota rows = unless_bad (set_quota_of rows)
   work_named command.AddFacility rows = unless_bad (add_facility_of rows)
+  work_named command.SetFacility rows = unless_bad (set_facility_of rows)
   work_named command.AddKey rows = of_root_and_form rows add_key_of (root_and_form_in (first_of (codes "ROOT") rows) rows)
   work_named command.RevokeKey rows = unless_bad (revoke_key_of rows)
   work_named command.RotateKey rows = of_root_and_form rows rotate_key_of (root_and_form_in (rotation_root_in rows) rows)

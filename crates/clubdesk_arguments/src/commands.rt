@@ -37,6 +37,7 @@ pub fn work_of<'a>(
         CommandName::Debit => or_bad_value(debit(arguments)),
         CommandName::SetQuota => or_bad_value(set_quota(arguments)),
         CommandName::AddFacility => or_bad_value(add_facility(arguments)),
+        CommandName::SetFacility => or_bad_value(set_facility(arguments)),
         CommandName::AddKey => match root_and_form(alloc, arguments, given(arguments, "ROOT")) {
             Ok((root, form)) => or_bad_value(add_key(arguments, root, form)),
             Err(fault) => Err(fault),
@@ -109,6 +110,19 @@ fn add_facility<'a>(arguments: &ArgMatches<'a>) -> Option<Work<'a>>
         price,
         opens,
         shuts,
+    })))
+}
+
+// `set-facility FILE NAME PLACES PRICE OPENS SHUTS`
+fn set_facility<'a>(arguments: &ArgMatches<'a>) -> Option<Work<'a>>
+    ensures { result ≡ spec.set_facility_of text_readers (rows_of (found_of arguments.now)) }
+{
+    Some(Work::Office(Task::Give(Command::SetFacility {
+        name: name_of(arguments, "NAME")?,
+        places: number_at(arguments, "PLACES")?,
+        price: number_at(arguments, "PRICE")?,
+        opens: number_at(arguments, "OPENS")?,
+        shuts: number_at(arguments, "SHUTS")?,
     })))
 }
 

@@ -14,6 +14,7 @@ pub enum CommandName {
     Debit,
     SetQuota,
     AddFacility,
+    SetFacility,
     AddKey,
     RevokeKey,
     RotateKey,
@@ -71,6 +72,14 @@ place and one hour, 0 to 9999. The facility OPENS and SHUTS at full hours, 0 to
 
 Example:
   clubdesk add-facility club.db court-1 court 4 200 8 22";
+
+const SET_FACILITY_HELP: &str =
+    "PLACES are 1 to 50. PRICE is the points for one place and one hour, 0 to 9999.
+The facility OPENS and SHUTS at full hours, 0 to 24. No slot may have more
+persons than PLACES. The kind stays, and bookings keep their charge and hour.
+
+Example:
+  clubdesk set-facility club.db court-1 4 250 8 21";
 
 const ADD_KEY_HELP: &str = "Prints the pass of the key. ROOT is the key's secret, 16 to 64 bytes in
 hexadecimal. Other users may see an argument in the list of processes, so leave
@@ -165,6 +174,15 @@ const FACILITY_ARGUMENTS: &[Argument] = &[
     Argument::NeededPositional("SHUTS"),
 ];
 
+const SET_FACILITY_ARGUMENTS: &[Argument] = &[
+    FILE,
+    NAME,
+    Argument::NeededPositional("PLACES"),
+    Argument::NeededPositional("PRICE"),
+    Argument::NeededPositional("OPENS"),
+    Argument::NeededPositional("SHUTS"),
+];
+
 const ADD_KEY_ARGUMENTS: &[Argument] = &[
     FILE,
     KEY,
@@ -251,6 +269,13 @@ static CLUBDESK: Program<CommandName> = Program {
             about: "Adds a facility",
             help: ADD_FACILITY_HELP,
             arguments: FACILITY_ARGUMENTS,
+        },
+        Row {
+            command: CommandName::SetFacility,
+            name: "set-facility",
+            about: "Gives a facility other places, price and hours",
+            help: SET_FACILITY_HELP,
+            arguments: SET_FACILITY_ARGUMENTS,
         },
         Row {
             command: CommandName::AddKey,

@@ -82,6 +82,47 @@ fn facilities(rt: HostRuntime) -> Result<(), Fail> {
     expect_over_clubs(&rt, 1, &FACILITIES)
 }
 
+static FACILITIES_CHANGED: [Row; 9] = [
+    Row("set-facility", "court-1 1 0 0 24", "0 done\n"),
+    Row("set-facility", "court-1 50 9999 9 10", "0 done\n"),
+    Row(
+        "set-facility",
+        "court-1 0 200 8 22",
+        "1 refused: out of range",
+    ),
+    Row(
+        "set-facility",
+        "court-1 51 200 8 22",
+        "1 refused: out of range",
+    ),
+    Row(
+        "set-facility",
+        "court-1 4 10000 8 22",
+        "1 refused: out of range",
+    ),
+    Row(
+        "set-facility",
+        "court-1 4 200 8 8",
+        "1 refused: out of range",
+    ),
+    Row(
+        "set-facility",
+        "court-1 4 200 8 25",
+        "1 refused: out of range",
+    ),
+    Row(
+        "set-facility",
+        "court-2 4 200 8 25",
+        "1 refused: out of range",
+    ),
+    Row("set-facility", "court-2 4 200 8 22", "1 refused: unknown"),
+];
+
+#[test]
+fn facilities_changed(rt: HostRuntime) -> Result<(), Fail> {
+    expect_over_clubs(&rt, 1, &FACILITIES_CHANGED)
+}
+
 static SLOTS_AND_SHEETS: [Row; 12] = [
     Row("close-slot", "court-1 2026-05-01 18", "0 done\n"),
     Row("close-slot", "court-2 2026-05-01 07", "1 refused: unknown"),

@@ -33,7 +33,7 @@ fn expect_refused(rt: &(impl Abort + AllocGlobal), lines: &[&str], end: &End) {
     }
 }
 
-static BAD_VALUES: [&str; 56] = [
+static BAD_VALUES: [&str; 61] = [
     "add-member|F|Amy|5",
     "add-member|F||5",
     "add-member|F|amybobcydideeveflogushalfi|5",
@@ -56,6 +56,11 @@ static BAD_VALUES: [&str; 56] = [
     "add-facility|F|court-1|court|4|x|8|22",
     "add-facility|F|court-1|court|4|200|x|22",
     "add-facility|F|court-1|court|4|200|8|x",
+    "set-facility|F|court 1|4|200|8|22",
+    "set-facility|F|court-1|court|200|8|22",
+    "set-facility|F|court-1|4|x|8|22",
+    "set-facility|F|court-1|4|200|x|22",
+    "set-facility|F|court-1|4|200|8|x",
     "revoke-key|F|amy_1",
     "close-slot|F|court-1|2026-02-29|18",
     "close-slot|F|court-1|2026-05-01|24",
@@ -156,7 +161,7 @@ fn bad_forms(rt: HostRuntime) {
     }
 }
 
-static BAD_ARGUMENTS: [&str; 38] = [
+static BAD_ARGUMENTS: [&str; 40] = [
     "frob",
     "help|frob",
     "add-member|--version",
@@ -171,6 +176,8 @@ static BAD_ARGUMENTS: [&str; 38] = [
     "debit|F|amy|-1",
     "set-quota|F|amy",
     "add-facility|F|court-1|court|4|200|8",
+    "set-facility|F|court-1|4|200|8",
+    "set-facility|F|court-1|court|4|200|8|22",
     "add-key|F|k|bob",
     "add-key|F|k|bob|000102030405060708090a0b0c0d0e0f|--form",
     "add-key|F|k|bob|000102030405060708090a0b0c0d0e0f|--form|v1|--form|v2",
@@ -249,12 +256,13 @@ fn help(rt: HostRuntime) {
     }
 }
 
-static COMMANDS: [&str; 14] = [
+static COMMANDS: [&str; 15] = [
     "add-member",
     "credit",
     "debit",
     "set-quota",
     "add-facility",
+    "set-facility",
     "add-key",
     "revoke-key",
     "rotate-key",

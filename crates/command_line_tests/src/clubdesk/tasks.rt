@@ -104,7 +104,7 @@ pub(super) fn expect_asked(rt: &(impl Abort + AllocGlobal), line: &str, file: &s
 }
 
 /// Lines, and what they ask for over the file `F`.
-static TASKS: [(&str, &str); 38] = [
+static TASKS: [(&str, &str); 40] = [
     (
         "add-member|F|amy|5",
         "AddMember { name: \"amy\", quota: 5 }",
@@ -121,6 +121,14 @@ static TASKS: [(&str, &str); 38] = [
     (
         "add-facility|F|b|boat|1|0|0|24",
         "AddFacility { name: \"b\", kind: Boat, places: 1, price: 0, opens: 0, shuts: 24 }",
+    ),
+    (
+        "set-facility|F|court-1|4|250|8|21",
+        "SetFacility { name: \"court-1\", places: 4, price: 250, opens: 8, shuts: 21 }",
+    ),
+    (
+        "set-facility|F|b|51|10000|9|8",
+        "SetFacility { name: \"b\", places: 51, price: 10000, opens: 9, shuts: 8 }",
     ),
     ("revoke-key|F|amy-1", "RevokeKey { name: \"amy-1\" }"),
     (
