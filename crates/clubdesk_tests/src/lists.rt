@@ -153,6 +153,9 @@ fn command_line(
             format!(in alloc;
                 "clubdesk add-facility club {facility} {kind} {places} {price} {opens} {shuts}"
             ),
+        (PlainCommand::SetFacility(facility, places, price, opens, shuts), _) => format!(in alloc;
+            "clubdesk set-facility club {facility} {places} {price} {opens} {shuts}"
+        ),
         (PlainCommand::AddKey(key, member, _), _) => {
             format!(in alloc; "clubdesk add-key club {key} {member} --root-stdin")
         }
