@@ -35,6 +35,7 @@ WORDS = {
     "rotate-key": ([FOLDER, "amy-1", KEY_ROOT, "2026-05-01T00:00"], ["", "K", "00", "never"]),
     "close-slot": ([FOLDER, "court-1", "2026-05-01", "18"], ["", "Court", "2026-02-29", "24"]),
     "open-slot": ([FOLDER, "court-1", "2026-05-01", "18"], ["", "Court", "2026-02-29", "24"]),
+    "cancel-booking": ([FOLDER, "amy-1", "7"], ["", "Amy-1", "x"]),
     "sheet": ([FOLDER, "2026-05-01"], ["", "1999-12-31"]),
     "serve": ([FOLDER], [""]),
     "show-account": ([FOLDER, "amy-1"], ["", "Amy-1"]),

@@ -3,7 +3,8 @@ use Rattle.std.specs.Prelude.{List, [], ◌∷◌, ◌++◌, map, codes}
 use Rattle.clap.specs.Words.{Rule, Text}
 use Rattle.command_line.specs.{Application.{as_required, flag_named, form_or_v2, option_named, positional_named, with_default}, Table.Table}
 use Rattle.clubdesk_arguments.specs.declared.table.CommandName.{CommandName, TheVariants.{AddMember, Credit, Debit, SetQuota, AddFacility, SetFacility, AddKey}}
-use Rattle.clubdesk_arguments.specs.declared.table.CommandName.TheVariants.{RevokeKey, RotateKey, CloseSlot, OpenSlot, Sheet, Serve, ShowAccount, ShowSlot}
+use Rattle.clubdesk_arguments.specs.declared.table.CommandName.TheVariants.{RevokeKey, RotateKey, CloseSlot, OpenSlot, CancelBooking, Sheet, Serve, ShowAccount}
+use Rattle.clubdesk_arguments.specs.declared.table.CommandName.TheVariants.{ShowSlot}
 
 -- positional arguments that must be given; the first is the file
 abbrev pub positionals_over_file : List Text → List Rule
@@ -71,6 +72,7 @@ clubdesk = record {
       }
       ∷ record { command = CloseSlot; name = codes "close-slot"; rules = slot_positionals }
       ∷ record { command = OpenSlot; name = codes "open-slot"; rules = slot_positionals }
+      ∷ record { command = CancelBooking; name = codes "cancel-booking"; rules = positionals_over_file (codes "KEY" ∷ codes "NUMBER" ∷ []) }
       ∷ record { command = Sheet; name = codes "sheet"; rules = positionals_over_file (codes "DAY" ∷ []) }
       ∷ record {
         command = Serve;

@@ -9,8 +9,8 @@ use Rattle.club_values.specs.declared.slot.Slot.{Slot}
 use Rattle.club_core.specs.declared.command.Command.TheVariants as office
 use Rattle.pass_forms.specs.declared.form.Form.{Form}
 use Rattle.clubdesk_arguments.specs.{Application.clubdesk, JobModel.JobModel, Readers.{ReadExactly, Readers}}
-use Rattle.clubdesk_arguments.specs.{Values.{count_of, parse_number, patience_of, port_of, key_root_of}, declared.table.CommandName.CommandName}
-use Rattle.clubdesk_arguments.specs.declared.task.{KeyChange.TheVariants.{Add, Rotate}, KeyCommand.KeyCommand}
+use Rattle.clubdesk_arguments.specs.Values.{booking_number_of, count_of, parse_number, patience_of, port_of, key_root_of}
+use Rattle.clubdesk_arguments.specs.declared.{table.CommandName.CommandName, task.{KeyChange.TheVariants.{Add, Rotate}, KeyCommand.KeyCommand}}
 use Rattle.clubdesk_arguments.specs.declared.task.{Task.TheVariants.{Give, Key, Sheet, ShowAccount, ShowSlot}, Work.Work}
 use Rattle.clubdesk_arguments.specs.declared.task.Work.TheVariants.{Office, Rootless, Serve}
 use Rattle.club_clock.specs.{Zone.zone_of, declared.clock.Clock.{Clock, TheVariants.{Fixed, InZone}}}
@@ -149,6 +149,12 @@ module _ (read : Readers) where
     slot ← slot_in rows
     Some (Office (Give (office.OpenSlot slot)))
 
+  abbrev pub cancel_booking_of : List Row → Option Work
+  cancel_booking_of rows = do
+    key ← name_value (codes "KEY") rows
+    number ← booking_number_of (value_in (codes "NUMBER") rows)
+    Some (Office (Give (office.CancelBooking key number)))
+
   abbrev pub sheet_of : List Row → Option Work
   sheet_of rows = do
     day ← read.day (value_in (codes "DAY") rows)
@@ -195,6 +201,7 @@ module _ (read : Readers) where
   work_named command.RotateKey rows = of_root_and_form rows rotate_key_of (root_and_form_in (rotation_root_in rows) rows)
   work_named command.CloseSlot rows = unless_bad (close_slot_of rows)
   work_named command.OpenSlot rows = unless_bad (open_slot_of rows)
+  work_named command.CancelBooking rows = unless_bad (cancel_booking_of rows)
   work_named command.Sheet rows = unless_bad (sheet_of rows)
   work_named command.Serve rows = unless_bad (serve_of rows)
   work_named command.ShowAccount rows = unless_bad (show_account_of rows)

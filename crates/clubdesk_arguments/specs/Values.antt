@@ -2,7 +2,7 @@
 use Rattle.std.specs.Prelude.{ℕ, ◌&&◌, List, length, nat_le, if◌then◌else◌, Option, Some, None, option_and_then}
 use Rattle.command_line.specs.Root.{root_of}
 use Rattle.club_values.specs.Number.{number_of_digits}
-use Rattle.club_rows.specs.Limits.{max_root_len, min_root_len}
+use Rattle.club_rows.specs.Limits.{booking_number_limit, max_root_len, min_root_len}
 
 -- 1 to 9 decimal digits
 unfoldable pub parse_number : List ℕ → Option ℕ
@@ -19,6 +19,10 @@ port_of text = where_between 0 65_535 (parse_number text)
 -- a number of connections, 1 to 1,000,000
 abbrev pub count_of : List ℕ → Option ℕ
 count_of text = where_between 1 1_000_000 (parse_number text)
+
+-- the number of a booking, 1 to 999,999,999
+abbrev pub booking_number_of : List ℕ → Option ℕ
+booking_number_of text = where_between 1 booking_number_limit (parse_number text)
 
 -- a limit of time, 1 to 3,600 seconds
 abbrev pub patience_of : List ℕ → Option ℕ

@@ -9,7 +9,7 @@ ghost use Rattle.command_line.specs.Job.{Answers};
 use crate::options::{given, name_of, number_at, root_and_form, rotation_moment, rotation_root};
 use crate::table::CommandName;
 use crate::task::{KeyChange, KeyCommand, Service, Task, Work};
-use crate::values::{count_of, patience_of, port_of, root_of};
+use crate::values::{booking_number_of, count_of, patience_of, port_of, root_of};
 use clap::ArgMatches;
 use club_clock::{Clock, Zone};
 use club_core::Command;
@@ -49,6 +49,7 @@ pub fn work_of<'a>(
         },
         CommandName::CloseSlot => or_bad_value(close_slot(arguments)),
         CommandName::OpenSlot => or_bad_value(open_slot(arguments)),
+        CommandName::CancelBooking => or_bad_value(cancel_booking(arguments)),
         CommandName::Sheet => or_bad_value(sheet(arguments)),
         CommandName::Serve => or_bad_value(serve(arguments)),
         CommandName::ShowAccount => or_bad_value(show_account(arguments)),
@@ -185,6 +186,16 @@ fn open_slot<'a>(arguments: &ArgMatches<'a>) -> Option<Work<'a>>
 {
     let slot = slot_of(arguments)?;
     Some(Work::Office(Task::Give(Command::OpenSlot(slot))))
+}
+
+// `cancel-booking FILE KEY NUMBER`
+fn cancel_booking<'a>(arguments: &ArgMatches<'a>) -> Option<Work<'a>>
+    ensures { result ≡ spec.cancel_booking_of text_readers (rows_of (found_of arguments.now)) }
+{
+    Some(Work::Office(Task::Give(Command::CancelBooking {
+        key: name_of(arguments, "KEY")?,
+        number: booking_number_of(value_of(arguments, "NUMBER"))?,
+    })))
 }
 
 // `sheet FILE DAY`

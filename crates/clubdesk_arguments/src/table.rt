@@ -20,6 +20,7 @@ pub enum CommandName {
     RotateKey,
     CloseSlot,
     OpenSlot,
+    CancelBooking,
     Sheet,
     Serve,
     ShowAccount,
@@ -113,6 +114,14 @@ HOUR has two digits, 00 to 23.
 
 Example:
   clubdesk open-slot club.db court-1 2026-05-01 18";
+
+const CANCEL_BOOKING_HELP: &str =
+    "NUMBER is the booking's number, 1 to 999999999. The whole charge is refunded,
+whenever the slot begins or began, also of a revoked key. A booking that is
+cancelled stays as it is.
+
+Example:
+  clubdesk cancel-booking club.db amy-1 7";
 
 const SHEET_HELP: &str = "DAY is a date, from 2000-01-01 to 2099-12-31.
 
@@ -311,6 +320,13 @@ static CLUBDESK: Program<CommandName> = Program {
             about: "Opens a slot that was closed",
             help: OPEN_SLOT_HELP,
             arguments: SLOT,
+        },
+        Row {
+            command: CommandName::CancelBooking,
+            name: "cancel-booking",
+            about: "Cancels a booking of a key",
+            help: CANCEL_BOOKING_HELP,
+            arguments: &[FILE, KEY, Argument::NeededPositional("NUMBER")],
         },
         Row {
             command: CommandName::Sheet,

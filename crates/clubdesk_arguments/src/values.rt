@@ -3,7 +3,7 @@
 ghost use Rattle.std.specs.Prelude.{◌≡◌};
 ghost use Rattle.clubdesk_arguments.specs.Values as spec;
 
-use club_rows::Root;
+use club_rows::{BookingNumber, Root};
 use club_values::digits::read_digits;
 
 /// The most connections that a server takes.
@@ -37,6 +37,15 @@ pub fn count_of(text: &str) -> Option<u32>
         return None;
     }
     Some(number)
+}
+
+/// Reads the number of a booking, 1 to 999,999,999.
+#[tactic(auto, using(crate::proofs::ValueLemmas::number_made))]
+pub fn booking_number_of(text: &str) -> Option<BookingNumber>
+    ensures { result ≡ spec.booking_number_of text.now }
+{
+    let number = parse_number(text)?;
+    BookingNumber::new(number)
 }
 
 /// Reads the seconds of a timeout, 1 to 3,600.

@@ -166,6 +166,18 @@ fn slots_and_sheets(rt: HostRuntime) -> Result<(), Fail> {
     expect_over_clubs(&rt, 1, &SLOTS_AND_SHEETS)
 }
 
+static CANCELLATIONS: [Row; 4] = [
+    Row("cancel-booking", "amy-1 1", "0 done\n"),
+    Row("cancel-booking", "amy-1 2", "1 refused: unknown"),
+    Row("cancel-booking", "amy-2 1", "1 refused: unknown"),
+    Row("cancel-booking", "amy 1", "1 refused: unknown"),
+];
+
+#[test]
+fn cancellations(rt: HostRuntime) -> Result<(), Fail> {
+    expect_over_clubs(&rt, 1, &CANCELLATIONS)
+}
+
 // Amy booked one place of court-1 at 20 for 200 points.
 static LOOKS: [Row; 8] = [
     Row(

@@ -33,7 +33,7 @@ fn expect_refused(rt: &(impl Abort + AllocGlobal), lines: &[&str], end: &End) {
     }
 }
 
-static BAD_VALUES: [&str; 61] = [
+static BAD_VALUES: [&str; 65] = [
     "add-member|F|Amy|5",
     "add-member|F||5",
     "add-member|F|amybobcydideeveflogushalfi|5",
@@ -68,6 +68,10 @@ static BAD_VALUES: [&str; 61] = [
     "close-slot|F|Court-1|2026-05-01|18",
     "open-slot|F|court-1|2026-05-01|24",
     "open-slot|F|court-1|2026-02-29|18",
+    "cancel-booking|F|Amy-1|7",
+    "cancel-booking|F|amy-1|seven",
+    "cancel-booking|F|amy-1|0",
+    "cancel-booking|F|amy-1|1000000000",
     "sheet|F|1999-12-31",
     "sheet|F|2100-01-01",
     "sheet|F|2026-5-1",
@@ -161,7 +165,7 @@ fn bad_forms(rt: HostRuntime) {
     }
 }
 
-static BAD_ARGUMENTS: [&str; 40] = [
+static BAD_ARGUMENTS: [&str; 42] = [
     "frob",
     "help|frob",
     "add-member|--version",
@@ -185,6 +189,8 @@ static BAD_ARGUMENTS: [&str; 40] = [
     "rotate-key|F|k|000102030405060708090a0b0c0d0e0f",
     "close-slot|F|court-1|2026-05-01",
     "open-slot|F|court-1|2026-05-01",
+    "cancel-booking|F|amy-1",
+    "cancel-booking|F|amy-1|7|8",
     "sheet|F",
     "sheet",
     "serve|F",
@@ -256,7 +262,7 @@ fn help(rt: HostRuntime) {
     }
 }
 
-static COMMANDS: [&str; 15] = [
+static COMMANDS: [&str; 16] = [
     "add-member",
     "credit",
     "debit",
@@ -268,6 +274,7 @@ static COMMANDS: [&str; 15] = [
     "rotate-key",
     "close-slot",
     "open-slot",
+    "cancel-booking",
     "sheet",
     "serve",
     "show-account",

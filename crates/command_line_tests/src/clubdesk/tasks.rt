@@ -104,7 +104,7 @@ pub(super) fn expect_asked(rt: &(impl Abort + AllocGlobal), line: &str, file: &s
 }
 
 /// Lines, and what they ask for over the file `F`.
-static TASKS: [(&str, &str); 40] = [
+static TASKS: [(&str, &str); 43] = [
     (
         "add-member|F|amy|5",
         "AddMember { name: \"amy\", quota: 5 }",
@@ -138,6 +138,18 @@ static TASKS: [(&str, &str); 40] = [
     (
         "open-slot|F|court-1|2026-05-01|18",
         "OpenSlot(Slot { facility: \"court-1\", day: Day { number: 20574 }, hour: Hour { number: 18 } })",
+    ),
+    (
+        "cancel-booking|F|amy-1|7",
+        "CancelBooking { key: \"amy-1\", number: BookingNumber { number: 7 } }",
+    ),
+    (
+        "cancel-booking|F|amy-1|000000001",
+        "CancelBooking { key: \"amy-1\", number: BookingNumber { number: 1 } }",
+    ),
+    (
+        "cancel-booking|F|amy-1|999999999",
+        "CancelBooking { key: \"amy-1\", number: BookingNumber { number: 999999999 } }",
     ),
     (
         "set-quota|F|amy|8",
