@@ -162,6 +162,7 @@ impl<S: ClubStore> Desk<S> {
     {
         let mut view = CommandView {
             member: None,
+            account: None,
             key: None,
             facility: None,
             slot: SlotUse {
@@ -175,6 +176,7 @@ impl<S: ClubStore> Desk<S> {
             | Command::SetQuota { member: name, .. } => {
                 view.member = self.member(name)?;
             }
+            Command::Debit { member, .. } => view.account = self.store.account(member)?,
             Command::AddFacility { name, .. } => view.facility = self.store.facility(name)?,
             Command::AddKey { name, member, .. } => {
                 view.member = self.member(member)?;

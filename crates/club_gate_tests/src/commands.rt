@@ -24,7 +24,7 @@ const NOWHERE: PlainSlot = PlainSlot {
 };
 
 // The fixture has amy with the key `amy-1`, and `court-1`.
-static DONE: [Row; 9] = [
+static DONE: [Row; 10] = [
     (
         PlainCommand::AddMember("cy", 1),
         None,
@@ -32,6 +32,11 @@ static DONE: [Row; 9] = [
     ),
     (
         PlainCommand::Credit("amy", 1),
+        None,
+        &[Call::Account, Call::Change],
+    ),
+    (
+        PlainCommand::Debit("amy", 1),
         None,
         &[Call::Account, Call::Change],
     ),
@@ -73,7 +78,7 @@ static DONE: [Row; 9] = [
 ];
 
 // A command that is refused changes nothing.
-static REFUSED: [Row; 9] = [
+static REFUSED: [Row; 11] = [
     (
         PlainCommand::AddMember("amy", 1),
         Some(OfficeFault::Exists),
@@ -82,6 +87,17 @@ static REFUSED: [Row; 9] = [
     (
         PlainCommand::Credit("cy", 1),
         Some(OfficeFault::Unknown),
+        &[Call::Account],
+    ),
+    (
+        PlainCommand::Debit("cy", 1),
+        Some(OfficeFault::Unknown),
+        &[Call::Account],
+    ),
+    // A point more than amy's balance.
+    (
+        PlainCommand::Debit("amy", 10_001),
+        Some(OfficeFault::OutOfRange),
         &[Call::Account],
     ),
     (

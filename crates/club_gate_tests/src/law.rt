@@ -5,8 +5,8 @@ use crate::expect::expect_eq;
 use crate::happens::{Happens, events, expect_replies};
 use crate::known::SIGNED;
 use crate::values::at;
-use club_core::{Refusal, Request};
-use club_gate::{Desk, OfficeReply, Words};
+use club_core::{OfficeFault, Refusal, Request};
+use club_gate::{Desk, Fault, OfficeReply, Words};
 use club_store::Store;
 use club_values::Kind;
 use desk_theorem::{reply_from_nothing, run_and_leave, run_from_nothing};
@@ -47,8 +47,11 @@ fn books_once_in_three_forms(rt: HostRuntime) {
 
 const AT_19: PlainRequest = PlainRequest::Book(COURT_AT_19, 8, 0);
 
-/// The office closes a slot and opens it again, and sets a quota below the open bookings.
-static CORRECTS: [Happens; 9] = [
+const OUT_OF_RANGE: OfficeReply = OfficeReply::Refused(Fault::Refused(OfficeFault::OutOfRange));
+
+/// The office closes a slot and opens it again, sets a quota at the open bookings, and takes back
+/// what they leave.
+static CORRECTS: [Happens; 13] = [
     Happens::Commanded(PlainCommand::CloseSlot(COURT_AT_18), OfficeReply::Done),
     Happens::Asked(AMY_V2, BOOK_7, PlainReply::Refused(Refusal::SlotClosed)),
     Happens::Commanded(PlainCommand::OpenSlot(COURT_AT_18), OfficeReply::Done),
@@ -58,6 +61,10 @@ static CORRECTS: [Happens; 9] = [
     Happens::Asked(AMY_V2, AT_19, PlainReply::Refused(Refusal::QuotaReached)),
     Happens::Commanded(PlainCommand::SetQuota("amy", 5), OfficeReply::Done),
     Happens::Asked(AMY_V2, ACCOUNT, ACCOUNT_AFTER),
+    Happens::Commanded(PlainCommand::Debit("amy", 9_401), OUT_OF_RANGE),
+    Happens::Commanded(PlainCommand::Debit("amy", 9_300), OfficeReply::Done),
+    Happens::Asked(AMY_V2, AT_19, PlainReply::Refused(Refusal::BalanceTooLow)),
+    Happens::Asked(AMY_V2, ACCOUNT, PlainReply::AccountShown(100, 1, 600)),
 ];
 
 #[test]

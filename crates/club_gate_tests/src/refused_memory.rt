@@ -99,7 +99,8 @@ static FIXTURE: [(PlainCommand, OfficeReply); 4] = [
 ];
 
 /// The older root is good for long, so amy's pass still shows what the key sees.
-static COMMANDS: [(PlainCommand, OfficeReply); 6] = [
+static COMMANDS: [(PlainCommand, OfficeReply); 7] = [
+    (PlainCommand::Debit("amy", 1), DONE),
     (PlainCommand::SetQuota("amy", 4), DONE),
     (PlainCommand::CloseSlot(AT_19), DONE),
     (PlainCommand::OpenSlot(AT_19), DONE),

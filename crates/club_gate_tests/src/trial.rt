@@ -193,6 +193,7 @@ impl<S: ClubStore> Trial<S> {
         match *plain {
             PlainCommand::AddMember(member, _)
             | PlainCommand::Credit(member, _)
+            | PlainCommand::Debit(member, _)
             | PlainCommand::SetQuota(member, _)
             | PlainCommand::AddKey(_, member, _) => member == AMY,
             PlainCommand::AddFacility(..) => true,

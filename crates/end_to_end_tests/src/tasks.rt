@@ -2,7 +2,7 @@
 
 use crate::crash::{Beginning, Trial};
 use crate::events::Event;
-use crate::texts::{AMY_1_ANEW, AMY_2, DONE, EXISTS};
+use crate::texts::{AMY_1_ANEW, AMY_2, DONE, EXISTS, OUT_OF_RANGE};
 use std::test::*;
 use test_kit::exchanges::{
     ACCOUNT, BALANCE_9099, BALANCE_9400, BALANCE_10000, BOOK_7, BOOK_8, BOOKED_7, BOOKED_8,
@@ -133,6 +133,23 @@ static OPENS: Trial = Trial {
 #[test]
 fn opens_a_slot_or_not(rt: HostRuntime) {
     OPENS.holds(&rt);
+}
+
+/// Of all that the booking leaves, so that a second debit is refused.
+const DEBIT: Event = Event::Gives(PlainCommand::Debit("amy", 9_400));
+
+static DEBITS: Trial = Trial {
+    beginning: Beginning::Made(&[Event::Asks(NOON, BOOK_7)]),
+    task: &[DEBIT],
+    again: &[DEBIT, Event::Asks(NOON, BOOK_7)],
+    first: &[DONE, BOOKED_7],
+    repeated: &[OUT_OF_RANGE, BOOKED_7],
+    calls: [44, 61],
+};
+
+#[test]
+fn debits_a_member_or_not(rt: HostRuntime) {
+    DEBITS.holds(&rt);
 }
 
 const SET_QUOTA: Event = Event::Gives(PlainCommand::SetQuota("amy", 1));

@@ -9,6 +9,8 @@ pub(crate) const DONE: &str = "done";
 
 pub(crate) const EXISTS: &str = "exists";
 
+pub(crate) const OUT_OF_RANGE: &str = "out of range";
+
 /// Signatures of passes: of `amy-1` under its second root, and of `amy-2` under the first one.
 pub(crate) const AMY_1_ANEW: &str =
     "282157e98ba6978eaa38d39a5cb77c35d49c30717746181eaf66e9bc38691e8f";

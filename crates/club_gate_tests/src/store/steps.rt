@@ -209,6 +209,7 @@ fn make<S: Alter>(store: &mut Store<S>, change: &Change) -> Result<(), StoreFaul
     match change {
         Change::InsertMember(member) => store.insert_member(member),
         Change::AddCredit { member, points } => store.add_credit(member, *points),
+        Change::TakeCredit { member, points } => store.take_credit(member, *points),
         Change::ReplaceQuota { member, quota } => store.replace_quota(member, *quota),
         Change::InsertFacility(facility) => store.insert_facility(facility),
         Change::InsertKey(key) => store.insert_key(key),

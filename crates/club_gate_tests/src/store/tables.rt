@@ -98,6 +98,7 @@ impl<S: Alter> Played<S> {
         match change {
             Change::InsertMember(member) => tables.insert_member(member),
             Change::AddCredit { member, points } => tables.add_credit(member, *points),
+            Change::TakeCredit { member, points } => tables.take_credit(member, *points),
             Change::ReplaceQuota { member, quota } => tables.replace_quota(member, *quota),
             Change::InsertFacility(facility) => tables.insert_facility(facility),
             Change::InsertKey(key) => tables.insert_key(key),

@@ -231,6 +231,26 @@ fn a_booking_beyond_the_places_or_the_balance(rt: HostRuntime) {
     plays_filled(&rt, &BEYOND);
 }
 
+/// From an unknown member; more than was credited; a point more than the 600 of the booking leave;
+/// and what they leave.
+static DEBITS: [Step; 10] = [
+    Step::Writes(Write::Ben(500)),
+    Step::Refuses(Write::Debit("cy", 1)),
+    Step::Refuses(Write::Debit("amy", 10_001)),
+    Step::Refuses(Write::Debit("amy", 9_401)),
+    Step::Refuses(Write::Debit("ben", 501)),
+    Step::Expects(Expected::Member("amy", Some((10_000, 600)))),
+    Step::Writes(Write::Debit("amy", 9_400)),
+    Step::Expects(Expected::Member("amy", Some((600, 600)))),
+    Step::Refuses(Write::Debit("amy", 1)),
+    Step::Expects(Expected::Member("ben", Some((500, 0)))),
+];
+
+#[test]
+fn a_debit_below_the_bookings(rt: HostRuntime) {
+    plays_filled(&rt, &DEBITS);
+}
+
 /// A quota beyond its limit, and one of an unknown member; then those of the limits.
 static QUOTAS: [Step; 9] = [
     Step::Writes(Write::Ben(0)),

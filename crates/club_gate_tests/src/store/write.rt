@@ -15,6 +15,8 @@ pub(crate) enum Write {
     Ben(u32),
     /// So many points for amy.
     Credit(u32),
+    /// Takes these points from a member.
+    Debit(&'static str, u32),
     Facility(PlainFacility),
     Key(Kept),
     /// Revokes `amy-1`.
@@ -76,6 +78,10 @@ pub(crate) fn change(rt: &impl Abort, write: &Write) -> Change {
         Write::Member(credited) => Change::InsertMember(member(rt, *credited)),
         Write::Ben(credited) => Change::InsertMember(member_of(rt, "ben", *credited)),
         Write::Credit(points) => credit_change(rt, *points),
+        Write::Debit(member, points) => Change::TakeCredit {
+            member: name(rt, member),
+            points: *points,
+        },
         Write::Facility(place) => Change::InsertFacility(facility(rt, place)),
         Write::Key(kept) => Change::InsertKey(key(rt, kept)),
         Write::Revoke => revoke_change(rt),
