@@ -169,6 +169,7 @@ impl<S: ClubStore> Desk<S> {
                 taken: 0,
                 closed: false,
             },
+            most_taken: 0,
         };
         match command {
             Command::AddMember { name, .. }
@@ -178,6 +179,10 @@ impl<S: ClubStore> Desk<S> {
             }
             Command::Debit { member, .. } => view.account = self.store.account(member)?,
             Command::AddFacility { name, .. } => view.facility = self.store.facility(name)?,
+            Command::SetFacility { name, .. } => {
+                view.facility = self.store.facility(name)?;
+                view.most_taken = self.store.most_taken(name)?;
+            }
             Command::AddKey { name, member, .. } => {
                 view.member = self.member(member)?;
                 view.key = self.key(name)?;

@@ -24,7 +24,7 @@ const NOWHERE: PlainSlot = PlainSlot {
 };
 
 // The fixture has amy with the key `amy-1`, and `court-1`.
-static DONE: [Row; 10] = [
+static DONE: [Row; 11] = [
     (
         PlainCommand::AddMember("cy", 1),
         None,
@@ -49,6 +49,11 @@ static DONE: [Row; 10] = [
         PlainCommand::AddFacility("boat-1", Kind::Boat, 2, 100, 8, 20),
         None,
         &[Call::Facility, Call::Change],
+    ),
+    (
+        PlainCommand::SetFacility("court-1", 1, 0, 0, 24),
+        None,
+        &[Call::Facility, Call::MostTaken, Call::Change],
     ),
     (
         PlainCommand::AddKey("amy-2", "amy", ROOT),
@@ -78,7 +83,7 @@ static DONE: [Row; 10] = [
 ];
 
 // A command that is refused changes nothing.
-static REFUSED: [Row; 11] = [
+static REFUSED: [Row; 12] = [
     (
         PlainCommand::AddMember("amy", 1),
         Some(OfficeFault::Exists),
@@ -109,6 +114,11 @@ static REFUSED: [Row; 11] = [
         PlainCommand::AddFacility("court-1", Kind::Boat, 2, 100, 8, 20),
         Some(OfficeFault::Exists),
         &[Call::Facility],
+    ),
+    (
+        PlainCommand::SetFacility("court-9", 2, 100, 8, 20),
+        Some(OfficeFault::Unknown),
+        &[Call::Facility, Call::MostTaken],
     ),
     (
         PlainCommand::AddKey("amy-1", "amy", ROOT),

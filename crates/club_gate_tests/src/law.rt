@@ -49,9 +49,11 @@ const AT_19: PlainRequest = PlainRequest::Book(COURT_AT_19, 8, 0);
 
 const OUT_OF_RANGE: OfficeReply = OfficeReply::Refused(Fault::Refused(OfficeFault::OutOfRange));
 
+const SLOT_IN_USE: OfficeReply = OfficeReply::Refused(Fault::Refused(OfficeFault::SlotInUse));
+
 /// The office closes a slot and opens it again, sets a quota at the open bookings, and takes back
-/// what they leave.
-static CORRECTS: [Happens; 13] = [
+/// what they leave. Then the court gets as many places as are taken, and another price.
+static CORRECTS: [Happens; 17] = [
     Happens::Commanded(PlainCommand::CloseSlot(COURT_AT_18), OfficeReply::Done),
     Happens::Asked(AMY_V2, BOOK_7, PlainReply::Refused(Refusal::SlotClosed)),
     Happens::Commanded(PlainCommand::OpenSlot(COURT_AT_18), OfficeReply::Done),
@@ -65,6 +67,16 @@ static CORRECTS: [Happens; 13] = [
     Happens::Commanded(PlainCommand::Debit("amy", 9_300), OfficeReply::Done),
     Happens::Asked(AMY_V2, AT_19, PlainReply::Refused(Refusal::BalanceTooLow)),
     Happens::Asked(AMY_V2, ACCOUNT, PlainReply::AccountShown(100, 1, 600)),
+    Happens::Commanded(
+        PlainCommand::SetFacility("court-1", 2, 0, 9, 20),
+        SLOT_IN_USE,
+    ),
+    Happens::Commanded(
+        PlainCommand::SetFacility("court-1", 3, 100, 9, 20),
+        OfficeReply::Done,
+    ),
+    Happens::Asked(AMY_V2, AT_19, PlainReply::Booked("amy-1", 8, 100, 2)),
+    Happens::Asked(AMY_V2, BOOK_7, BOOKED_7),
 ];
 
 #[test]

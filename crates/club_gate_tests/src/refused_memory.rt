@@ -99,7 +99,8 @@ static FIXTURE: [(PlainCommand, OfficeReply); 4] = [
 ];
 
 /// The older root is good for long, so amy's pass still shows what the key sees.
-static COMMANDS: [(PlainCommand, OfficeReply); 7] = [
+static COMMANDS: [(PlainCommand, OfficeReply); 8] = [
+    (PlainCommand::SetFacility("court-1", 3, 100, 9, 20), DONE),
     (PlainCommand::Debit("amy", 1), DONE),
     (PlainCommand::SetQuota("amy", 4), DONE),
     (PlainCommand::CloseSlot(AT_19), DONE),

@@ -40,6 +40,7 @@ pub(crate) enum Call {
     OlderRoot,
     Record,
     Facility,
+    MostTaken,
     Slot,
     Account,
     OpenCount,
@@ -164,6 +165,12 @@ impl<S: ClubStore> ClubStore for Refusing<S> {
         count(&mut self.asked.facilities);
         self.count_call(Call::Facility)?;
         self.store.facility(name)
+    }
+
+    fn most_taken(&mut self, facility: &Name) -> Result<u32, StoreFault> {
+        count(&mut self.asked.others);
+        self.count_call(Call::MostTaken)?;
+        self.store.most_taken(facility)
     }
 
     fn slot(&mut self, slot: &Slot) -> Result<SlotUse, StoreFault> {

@@ -196,7 +196,7 @@ impl<S: ClubStore> Trial<S> {
             | PlainCommand::Debit(member, _)
             | PlainCommand::SetQuota(member, _)
             | PlainCommand::AddKey(_, member, _) => member == AMY,
-            PlainCommand::AddFacility(..) => true,
+            PlainCommand::AddFacility(..) | PlainCommand::SetFacility(..) => true,
             PlainCommand::RevokeKey(key) | PlainCommand::RotateKey(key, _, _) => self.is_own_key(
                 key,
             ),

@@ -152,6 +152,23 @@ fn debits_a_member_or_not(rt: HostRuntime) {
     DEBITS.holds(&rt);
 }
 
+/// As many places as persons in a slot.
+const SET_FACILITY: Event = Event::Gives(PlainCommand::SetFacility("court-1", 3, 100, 9, 20));
+
+static SETS_A_FACILITY: Trial = Trial {
+    beginning: Beginning::Made(&[Event::Asks(NOON, BOOK_7)]),
+    task: &[SET_FACILITY],
+    again: &[SET_FACILITY, Event::Asks(NOON, BOOK_7)],
+    first: &[DONE, BOOKED_7],
+    repeated: &[DONE, BOOKED_7],
+    calls: [44, 61],
+};
+
+#[test]
+fn sets_a_facility_whole_or_not_at_all(rt: HostRuntime) {
+    SETS_A_FACILITY.holds(&rt);
+}
+
 const SET_QUOTA: Event = Event::Gives(PlainCommand::SetQuota("amy", 1));
 
 /// Below the open bookings, which stay.

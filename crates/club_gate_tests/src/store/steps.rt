@@ -212,6 +212,13 @@ fn make<S: Alter>(store: &mut Store<S>, change: &Change) -> Result<(), StoreFaul
         Change::TakeCredit { member, points } => store.take_credit(member, *points),
         Change::ReplaceQuota { member, quota } => store.replace_quota(member, *quota),
         Change::InsertFacility(facility) => store.insert_facility(facility),
+        Change::ReplaceNumbers {
+            facility,
+            places,
+            price,
+            opens,
+            shuts,
+        } => store.replace_numbers(facility, *places, *price, *opens, *shuts),
         Change::InsertKey(key) => store.insert_key(key),
         Change::MarkRevoked { key } => store.revoke_key(key),
         Change::ReplaceRoot {

@@ -42,6 +42,8 @@ pub(crate) enum Expected {
     OlderRoot(&'static str, Option<Older>),
     /// So many persons in a slot, which is closed or isn't.
     Slot(PlainSlot, u32, bool),
+    /// The most persons in a slot of a facility.
+    MostTaken(&'static str, u32),
     /// The booking of `amy-1` with a number.
     Booking(u32, Option<PlainBooking>),
     /// The only booking of a day; `None` if there is none.
@@ -101,6 +103,13 @@ impl<S: Alter> Played<S> {
             Change::TakeCredit { member, points } => tables.take_credit(member, *points),
             Change::ReplaceQuota { member, quota } => tables.replace_quota(member, *quota),
             Change::InsertFacility(facility) => tables.insert_facility(facility),
+            Change::ReplaceNumbers {
+                facility,
+                places,
+                price,
+                opens,
+                shuts,
+            } => tables.replace_numbers(facility, *places, *price, *opens, *shuts),
             Change::InsertKey(key) => tables.insert_key(key),
             Change::MarkRevoked { key } => tables.revoke_key(key),
             Change::ReplaceRoot {
@@ -132,6 +141,9 @@ impl<S: Alter> Played<S> {
             Expected::Key(key, kept) => self.expects_key(rt, key, kept),
             Expected::OlderRoot(key, older) => self.expects_older_root(rt, key, older),
             Expected::Slot(at, taken, closed) => self.expects_slot(rt, at, *taken, *closed),
+            Expected::MostTaken(facility, persons) => {
+                self.expects_most_taken(rt, facility, *persons)
+            }
             Expected::Booking(number, booked) => self.expects_booking(rt, *number, booked),
             Expected::Day(date, booked) => self.expects_day(rt, date, booked),
             Expected::Spent(key, points) => self.expects_spent(rt, key, *points),
@@ -174,6 +186,11 @@ impl<S: Alter> Played<S> {
     fn expects_slot(&mut self, rt: &impl Abort, at: &PlainSlot, taken: u32, closed: bool) {
         let found = self.tables.slot(&slot(rt, at));
         expect_eq(rt, &found, &Ok(SlotUse { taken, closed }));
+    }
+
+    fn expects_most_taken(&mut self, rt: &impl Abort, facility: &str, persons: u32) {
+        let found = self.tables.most_taken(&name(rt, facility));
+        expect_eq(rt, &found, &Ok(persons));
     }
 
     fn expects_booking(&mut self, rt: &impl Abort, booking: u32, booked: &Option<PlainBooking>) {

@@ -8,7 +8,8 @@ use super::write::Write;
 use std::test::*;
 use test_kit::roots::{SECOND_ROOT, THIRD_ROOT};
 use test_kit::{
-    BOOKING_7, BOOKING_8, COURT, COURT_AT_18, COURT_AT_19, PlainBooking, PlainSlot, ROOM_AT_18,
+    BOOKING_7, BOOKING_8, COURT, COURT_AT_18, COURT_AT_19, PlainBooking, PlainFacility, PlainSlot,
+    ROOM_AT_18,
 };
 
 /// As it was on record, and as it is.
@@ -249,6 +250,44 @@ static DEBITS: [Step; 10] = [
 #[test]
 fn a_debit_below_the_bookings(rt: HostRuntime) {
     plays_filled(&rt, &DEBITS);
+}
+
+/// Of an unknown facility; each number beyond its limit, and a place less than a slot has persons.
+/// Then numbers at their limits, with as many places as that, and another kind stays.
+static NUMBERS: [Step; 15] = [
+    Step::Refuses(Write::Numbers("court-9", 4, 200, 8, 22)),
+    Step::Refuses(Write::Numbers("court-1", 51, 200, 8, 22)),
+    Step::Refuses(Write::Numbers("court-1", 4, 10_000, 8, 22)),
+    Step::Refuses(Write::Numbers("court-1", 4, 200, 22, 22)),
+    Step::Refuses(Write::Numbers("court-1", 4, 200, 8, 25)),
+    Step::Refuses(Write::Numbers("court-1", 2, 200, 8, 22)),
+    Step::Expects(Expected::Facility("court-1", Some(COURT))),
+    Step::Expects(Expected::MostTaken("court-1", 3)),
+    Step::Writes(Write::Numbers("court-1", 3, 0, 8, 22)),
+    Step::Expects(Expected::Facility("court-1", Some(FREE_COURT))),
+    Step::Writes(Write::Cancel(BOOKING_7, 300)),
+    Step::Expects(Expected::MostTaken("court-1", 0)),
+    Step::Refuses(Write::Numbers("court-1", 0, 200, 8, 22)),
+    Step::Writes(Write::Numbers("court-1", 1, 9_999, 8, 22)),
+    Step::Expects(Expected::Facility("court-1", Some(DEAR_COURT))),
+];
+
+/// The court with three places that cost nothing, and with one that costs the most.
+const FREE_COURT: PlainFacility = PlainFacility {
+    places: 3,
+    price: 0,
+    ..COURT
+};
+
+const DEAR_COURT: PlainFacility = PlainFacility {
+    places: 1,
+    price: 9_999,
+    ..COURT
+};
+
+#[test]
+fn numbers_below_what_is_taken(rt: HostRuntime) {
+    plays_filled(&rt, &NUMBERS);
 }
 
 /// A quota beyond its limit, and one of an unknown member; then those of the limits.

@@ -18,6 +18,8 @@ pub(crate) enum Write {
     /// Takes these points from a member.
     Debit(&'static str, u32),
     Facility(PlainFacility),
+    /// The numbers of a facility: its places, price and hours.
+    Numbers(&'static str, u8, u16, u8, u8),
     Key(Kept),
     /// Revokes `amy-1`.
     Revoke,
@@ -83,6 +85,13 @@ pub(crate) fn change(rt: &impl Abort, write: &Write) -> Change {
             points: *points,
         },
         Write::Facility(place) => Change::InsertFacility(facility(rt, place)),
+        Write::Numbers(facility, places, price, opens, shuts) => Change::ReplaceNumbers {
+            facility: name(rt, facility),
+            places: *places,
+            price: *price,
+            opens: *opens,
+            shuts: *shuts,
+        },
         Write::Key(kept) => Change::InsertKey(key(rt, kept)),
         Write::Revoke => revoke_change(rt),
         Write::Rotate(key, former, to) => rotate_change(rt, key, former, to),
