@@ -13,9 +13,9 @@ pub use Rattle.club_core.specs.Basis.{basis_under, view_of, account_named, Basis
 pub use Rattle.club_core.specs.{Club.{Club, IsSound, key_named, bookings_of, member_named, empty_club, facility_named}, Events.IsEvent, Office.office_verdict}
 pub use Rattle.club_core.specs.Pass.{Words, Pass, is_signed_under, IsSignedUnder}
 pub use Rattle.club_core.specs.Run.{Commanded, Asked, after_change, Event, command_outcome, step, replies_of, done_answer, ToMember, ToOffice}
-pub use Rattle.club_core.specs.{Store.{IsRead, KeepsClub, ReadsStore, FitsClub}, Sums.{spent_under, booking_under, count_to_come, cost_of}}
-pub use Rattle.club_core.specs.declared.{change.Change.Change, refusal.Refusal.TheVariants.{Unavailable, KeyRevoked, NotVerified}, reply.Reply.Reply}
-pub use Rattle.club_core.specs.declared.{request.Request.Request, store.StoreFault.StoreFault, verdict.Verdict.Verdict, view.View.View}
+pub use Rattle.club_core.specs.{Store.{IsRead, KeepsClub, ReadsStore}, Sums.{spent_under, booking_under, count_to_come, cost_of}, declared.change.Change.Change}
+pub use Rattle.club_core.specs.declared.{refusal.Refusal.TheVariants.{Unavailable, KeyRevoked, NotVerified}, reply.Reply.Reply, request.Request.Request}
+pub use Rattle.club_core.specs.declared.{store.StoreFault.StoreFault, verdict.Verdict.Verdict, view.View.View}
 pub use Rattle.club_laws.specs.Failed.{IsRun, has_failed, IsStep, LeavesOutFailed, is_unavailable, NeverUnavailable}
 pub use Rattle.club_laws.specs.SingleRequest.{words_with, DependsOnTheBasisAlone, MoreCaveatsNeverOpenMore, RefusesWithoutABasis, ServesOnlyTheEntitled}
 pub use Rattle.club_rows.specs.{Key.{row_of_key, key_of_row, older_root_at}, declared.key.{Key.Key, KeyRow.KeyRow}}

@@ -11,8 +11,8 @@ kept_by : (club : Club) (event : Event) → change_of club event ≡ None → (s
 kept_by club (Asked words moment) h = ap (λ (change : Option Change). after_change change club) h
 kept_by club (Commanded command) h = go (office_verdict club command) h
   where
-    go : (verdict : Result Change OfficeFault) → change_by verdict ≡ None → (command_outcome club command verdict).club ≡ club
-    go (Ok change) e = absurd (cc)
+    go : (verdict : Result (Option Change) OfficeFault) → change_by verdict ≡ None → (command_outcome club command verdict).club ≡ club
+    go (Ok change) e = ap (λ (made : Option Change). after_change made club) e
     go (Err fault) e = refl
 
 -- a run, and one step after it

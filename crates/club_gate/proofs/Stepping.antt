@@ -4,7 +4,7 @@ use Rattle.club_gate.proofs.Common.{Change, Unavailable, Reply, Request, StoreFa
 use Rattle.club_gate.proofs.Common.{Commanded, after_change, done_answer, ToMember, ToOffice, is_unavailable, NeverUnavailable, IsRead, decoded_words}
 use Rattle.club_gate.proofs.Common.{AreWordsOf, Decodes, DecidesOrFails, FailsAt, FitsIfAny, HasFailed, IsAnsweredBy, IsDecidedBy, IsRefusedBy, Steps}
 use Rattle.club_gate.proofs.{Common.{others_after, answer_or_fault, is_failure, reply_or_unavailable, office_reply_of, unavailable}, Decoding.words_are}
-use Rattle.club_core.specs.{After.after, declared.{command.{Command.{Command, TheVariants.AddKey}, OfficeAnswer.OfficeAnswer}, reply.Reply.TheVariants.Refused}}
+use Rattle.club_core.specs.declared.{command.{Command.{Command, TheVariants.AddKey}, OfficeAnswer.OfficeAnswer}, reply.Reply.TheVariants.Refused}
 use Rattle.club_laws.specs.SoundRuns.{ChangesFit}
 
 -- a command that is done is no failure
@@ -23,6 +23,12 @@ reply_fails (Err fault) h = refl
 other_reply : (reply : Reply) → reply ≢ unavailable → is_unavailable reply ≡ false
 other_reply (Refused Unavailable) h = absurd (h refl)
 other_reply reply h = refl
+
+-- the change of a command that was decided fits
+pub command_fits : ChangesFit → (club : Club) (command : Command) (change : Option Change) → IsSound club → IsEvent (Commanded command)
+    → office_verdict club command ≡ Ok change → FitsIfAny change club
+command_fits fits club command None sound event is = tt
+command_fits fits club command (Some change) sound event is = fits club (Commanded command) change sound event is
 
 -- the change of a request that was decided fits
 pub ask_fits : ChangesFit → (club : Club) (words : Words) (moment : ℕ) (verdict : Verdict) → IsSound club
@@ -55,14 +61,14 @@ fails_at_its_words Fails old new club text request moment fault law bytes failed
     rw (← words_are law text request words bytes are) failed
 
 module _ {S : Type 0} (Represents : S → Club → List Club → Type 0) (new : S) (club : Club) (others : List Club) where
-  pub command_done : (command : Command) (change : Change) → office_verdict club command ≡ Ok change
-      → Represents new (after change club) []
+  pub command_done : (command : Command) (change : Option Change) → office_verdict club command ≡ Ok change
+      → Represents new (after_change change club) (others_after change others)
       → IsAnsweredBy Represents new club others (Commanded command) (ToOffice (office_reply_of (done_answer command)))
   command_done command change e represents =
       record { success = done_is_no_failure command; reply = rw e refl; represents = rw e represents }
 
-  pub command_failed : (command : Command) (change : Change) (result : Result OfficeAnswer StoreFault) → IsErr result
-      → office_verdict club command ≡ Ok change → Represents new club (after change club ∷ others)
+  pub command_failed : (command : Command) (change : Option Change) (result : Result OfficeAnswer StoreFault) → IsErr result
+      → office_verdict club command ≡ Ok change → Represents new club (after_change change club ∷ others)
       → IsRefusedBy Represents new club others (Commanded command) (ToOffice (answer_or_fault result))
   command_failed command change result err e represents = record { failure = answer_fails result err; represents = inr (rw e represents) }
 

@@ -13,8 +13,8 @@ use Rattle.club_gate.specs.declared.fault.Fault.TheVariants as faults
 abbrev pub OfItsClub : {S : Type 0} → (S → Type 0) → (S → Club → List Club → Type 0) → S → S → (Club → Type 0) → Type 0
 OfItsClub IsClean Represents old new IsSo = IsClean new → (club : Club) (others : List Club) → Represents old club others → IsSo club
 
-abbrev pub change_by : Result Change OfficeFault → Option Change
-change_by (Ok change) = Some change
+abbrev pub change_by : Result (Option Change) OfficeFault → Option Change
+change_by (Ok change) = change
 change_by (Err fault) = None
 
 -- the change that an event makes of a club, if any

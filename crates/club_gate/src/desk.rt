@@ -5,8 +5,8 @@ ghost use Rattle.base64.specs.GeneralPurpose.{IsBytes};
 ghost use Rattle.pass_forms.specs.declared.fault.FormFault.{FormFault};
 ghost use Rattle.pass_json.specs.{AnyForm.IsAnyReading, computed.AnyForm.reading};
 ghost use Rattle.club_core.specs.{Answer.form_refusal, Club.{Club, key_named, member_named}};
-ghost use Rattle.club_core.specs.{Office.command_view, Pass.Words, Run.ToOffice, Sheet.IsSheet};
-ghost use Rattle.club_core.specs.Store.{KeepsClub, ReadsStore, Returns};
+ghost use Rattle.club_core.specs.{Office.{command_view, rows_seen}, Pass.Words, Run.ToOffice};
+ghost use Rattle.club_core.specs.{Sheet.IsSheet, Store.{KeepsClub, ReadsStore, Returns}};
 ghost use Rattle.club_core.specs.declared.reply.Reply.TheVariants.{Refused};
 ghost use Rattle.club_core.specs.Run as machine;
 ghost use Rattle.club_gate.specs.{DecodedPass.{AreWordsOf, fault_of}, Desk.DecidesOrFails};
@@ -62,6 +62,24 @@ pub(crate) fn are_bytes(text: &[u8])
     ensures { IsBytes text.now }
 {
     let _text = text;
+}
+
+/// A view in which there is no row, and nothing is taken.
+fn nothing_seen() -> CommandView
+    ensures { result ≡ rows_seen None None None }
+{
+    CommandView {
+        member: None,
+        account: None,
+        key: None,
+        facility: None,
+        slot: SlotUse {
+            taken: 0,
+            closed: false,
+        },
+        most_taken: 0,
+        booking: None,
+    }
 }
 
 impl<S: ClubStore> Desk<S> {
@@ -160,17 +178,7 @@ impl<S: ClubStore> Desk<S> {
         ensures { ReadsStore S.disk_is_clean S.represents S.fails self.old self.new result
             (λ club view. view ≡ command_view club command.now) }
     {
-        let mut view = CommandView {
-            member: None,
-            account: None,
-            key: None,
-            facility: None,
-            slot: SlotUse {
-                taken: 0,
-                closed: false,
-            },
-            most_taken: 0,
-        };
+        let mut view = nothing_seen();
         match command {
             Command::AddMember { name, .. }
             | Command::Credit { member: name, .. }
@@ -189,6 +197,10 @@ impl<S: ClubStore> Desk<S> {
             }
             Command::RevokeKey { name } | Command::RotateKey { name, .. } => {
                 view.key = self.key(name)?;
+            }
+            Command::CancelBooking { key, number } => {
+                view.key = self.key(key)?;
+                view.booking = self.store.booking(key, *number)?;
             }
             Command::OpenSlot(slot) => view.facility = self.store.facility(&slot.facility)?,
             Command::CloseSlot(slot) => {
@@ -214,7 +226,7 @@ impl<S: ClubStore> Desk<S> {
         let view = self.command_view(command)?;
         match decide_command(&view, command) {
             Ok(change) => {
-                self.settle(Some(change))?;
+                self.settle(change)?;
                 Ok(OfficeAnswer::done(command))
             }
             Err(fault) => Ok(OfficeAnswer::NotDone(fault)),

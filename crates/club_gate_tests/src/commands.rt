@@ -1,19 +1,21 @@
 //! What the desk asks of its store for a command of the office, call by call: what the command
 //! depends on, and then its change. The commit is the last call.
 
-use crate::counter::furnish;
+use crate::counter::{furnish, reply};
 use crate::expect::{expect_eq, expect_row};
 use crate::refusing::{Call, Order, Refusing};
 use crate::scene::{Scene, play};
-use club_core::{ClubStore, OfficeFault};
+use club_core::{ClubStore, OfficeFault, Reply};
 use club_gate::{Desk, Fault, OfficeReply};
 use club_values::Kind;
 use std::alloc::Global;
 use std::process::Abort;
 use std::test::*;
-use test_kit::minutes::UNTIL;
+use test_kit::minutes::{NOON, UNTIL};
+use test_kit::passes::AMY_V2;
+use test_kit::requests::{BOOK_7, BOOK_8};
 use test_kit::roots::{ROOT, SECOND_ROOT};
-use test_kit::{COURT_AT_18, PlainCommand, PlainSlot};
+use test_kit::{COURT_AT_18, PlainCommand, PlainRequest, PlainSlot};
 
 /// A command, whether it is carried out or why not, and the calls of the store in their order.
 type Row = (PlainCommand, Option<OfficeFault>, &'static [Call]);
@@ -147,15 +149,47 @@ static REFUSED: [Row; 12] = [
     ),
 ];
 
-/// The answer to a command at the desk of the fixture, the order of the store's calls for it, and
+/// Amy has booked `court-1` under the numbers 7 and 8, and cancelled 8. A command that finds
+/// nothing to do is done without a change.
+static CANCELLED: [Row; 4] = [
+    (
+        PlainCommand::CancelBooking("amy-1", 7),
+        None,
+        &[Call::Key, Call::OlderRoot, Call::Record, Call::Change],
+    ),
+    (
+        PlainCommand::CancelBooking("amy-1", 8),
+        None,
+        &[Call::Key, Call::OlderRoot, Call::Record],
+    ),
+    (
+        PlainCommand::CancelBooking("amy-1", 9),
+        Some(OfficeFault::Unknown),
+        &[Call::Key, Call::OlderRoot, Call::Record],
+    ),
+    (
+        PlainCommand::CancelBooking("amy-9", 7),
+        Some(OfficeFault::Unknown),
+        &[Call::Key, Call::Record],
+    ),
+];
+
+/// Books both, and cancels the second.
+fn book<S: ClubStore>(rt: &impl Abort, desk: &mut Desk<S>) {
+    for asked in &[BOOK_7, BOOK_8, PlainRequest::Cancel(COURT_AT_18, 8)] {
+        let served = reply(rt, desk, NOON, AMY_V2.as_bytes(), asked);
+        expect_eq(rt, &matches!(served, Reply::Refused(_)), &false);
+    }
+}
+
+/// The answer to a command at a desk, the order of the store's calls for it, and
 /// how many there were.
 fn answer_and_order<S: ClubStore + Drop>(
     rt: &(impl Abort + Alloc<A = Global>),
     desk: Desk<S>,
     plain: &PlainCommand,
 ) -> (OfficeReply, Order, u32) {
-    let store = furnish(rt, desk).into_store();
-    let mut desk = Desk::new(rt.alloc(), Refusing::never(store));
+    let mut desk = Desk::new(rt.alloc(), Refusing::never(desk.into_store()));
     let answer = desk.office(&plain.command().expect(rt, "a command"));
     let store = desk.into_store();
     (answer, store.order, store.calls)
@@ -177,9 +211,10 @@ fn fault_of(answer: &OfficeReply) -> Option<OfficeFault> {
     }
 }
 
-/// A row over a desk of the fixture.
+/// A row over a desk of the fixture, with amy's bookings or without them.
 #[derive(Clone, Copy)]
 struct Commanded<'a> {
+    is_booked: bool,
     place: usize,
     row: &'a Row,
 }
@@ -187,6 +222,10 @@ struct Commanded<'a> {
 impl Scene for Commanded<'_> {
     fn play<S: ClubStore + Drop>(&self, rt: &(impl Abort + Alloc<A = Global>), desk: Desk<S>) {
         let (plain, fault, want) = self.row;
+        let mut desk = furnish(rt, desk);
+        if self.is_booked {
+            book(rt, &mut desk);
+        }
         let (answer, order, calls) = answer_and_order(rt, desk, plain);
         expect_row(rt, self.place, &fault_of(&answer), fault);
         let is_refused = matches!(answer, OfficeReply::Refused(_));
@@ -195,18 +234,28 @@ impl Scene for Commanded<'_> {
     }
 }
 
-fn are_called(rt: &(impl Abort + Alloc<A = Global>), rows: &[Row]) {
+fn are_called(rt: &(impl Abort + Alloc<A = Global>), is_booked: bool, rows: &[Row]) {
     for (place, row) in rows.iter().enumerate() {
-        play(rt, &Commanded { place, row });
+        let commanded = Commanded {
+            is_booked,
+            place,
+            row,
+        };
+        play(rt, &commanded);
     }
 }
 
 #[test]
 fn the_change_of_a_command_is_the_last_call(rt: HostRuntime) {
-    are_called(&rt, &DONE);
+    are_called(&rt, false, &DONE);
 }
 
 #[test]
 fn a_refused_command_only_reads(rt: HostRuntime) {
-    are_called(&rt, &REFUSED);
+    are_called(&rt, false, &REFUSED);
+}
+
+#[test]
+fn a_cancellation_reads_its_key_and_its_record(rt: HostRuntime) {
+    are_called(&rt, true, &CANCELLED);
 }

@@ -17,8 +17,8 @@ use std::process::Abort;
 use std::test::*;
 use test_kit::minutes::NOON;
 use test_kit::passes::{AMY_JSON, AMY_V1, AMY_V2};
-use test_kit::replies::{ACCOUNT_AFTER, BOOKED_7, NOT_VERIFIED};
-use test_kit::requests::{ACCOUNT, BOOK_7};
+use test_kit::replies::{ACCOUNT_AFTER, BOOKED_7, CANCELLED_7, NOT_VERIFIED};
+use test_kit::requests::{ACCOUNT, BOOK_7, CANCEL_7};
 use test_kit::roots::ROOT;
 use test_kit::{COURT_AT_18, COURT_AT_19, PlainCommand, PlainReply, PlainRequest};
 
@@ -52,8 +52,9 @@ const OUT_OF_RANGE: OfficeReply = OfficeReply::Refused(Fault::Refused(OfficeFaul
 const SLOT_IN_USE: OfficeReply = OfficeReply::Refused(Fault::Refused(OfficeFault::SlotInUse));
 
 /// The office closes a slot and opens it again, sets a quota at the open bookings, and takes back
-/// what they leave. Then the court gets as many places as are taken, and another price.
-static CORRECTS: [Happens; 17] = [
+/// what they leave. Then the court gets as many places as are taken, and another price. At last a
+/// booking is cancelled for amy, twice.
+static CORRECTS: [Happens; 21] = [
     Happens::Commanded(PlainCommand::CloseSlot(COURT_AT_18), OfficeReply::Done),
     Happens::Asked(AMY_V2, BOOK_7, PlainReply::Refused(Refusal::SlotClosed)),
     Happens::Commanded(PlainCommand::OpenSlot(COURT_AT_18), OfficeReply::Done),
@@ -77,6 +78,10 @@ static CORRECTS: [Happens; 17] = [
     ),
     Happens::Asked(AMY_V2, AT_19, PlainReply::Booked("amy-1", 8, 100, 2)),
     Happens::Asked(AMY_V2, BOOK_7, BOOKED_7),
+    Happens::Commanded(PlainCommand::CancelBooking("amy-1", 7), OfficeReply::Done),
+    Happens::Commanded(PlainCommand::CancelBooking("amy-1", 7), OfficeReply::Done),
+    Happens::Asked(AMY_V2, CANCEL_7, CANCELLED_7),
+    Happens::Asked(AMY_V2, ACCOUNT, PlainReply::AccountShown(600, 1, 100)),
 ];
 
 #[test]

@@ -98,11 +98,12 @@ static FIXTURE: [(PlainCommand, OfficeReply); 4] = [
     ),
 ];
 
-/// The older root is good for long, so amy's pass still shows what the key sees.
-static COMMANDS: [(PlainCommand, OfficeReply); 8] = [
+/// Amy has booked. The older root is good for long, so her pass still shows what the key sees.
+static COMMANDS: [(PlainCommand, OfficeReply); 9] = [
     (PlainCommand::SetFacility("court-1", 3, 100, 9, 20), DONE),
     (PlainCommand::Debit("amy", 1), DONE),
     (PlainCommand::SetQuota("amy", 4), DONE),
+    (PlainCommand::CancelBooking("amy-1", 7), DONE),
     (PlainCommand::CloseSlot(AT_19), DONE),
     (PlainCommand::OpenSlot(AT_19), DONE),
     (PlainCommand::CloseSlot(AT_19), DONE),
@@ -127,6 +128,7 @@ static REVOKED: [(PlainCommand, OfficeReply); 2] = [
 
 fn carries_out_commands<S: ClubStore>(rt: &impl Abort, desk: &mut Desk<S>) {
     expect_replied(rt, desk, AMY_V2, &ACCOUNT, &ACCOUNT_BEFORE);
+    books(rt, desk, AMY_V2);
     expect_answers(rt, desk, &COMMANDS);
     expect_answers(rt, desk, &REVOKED);
     expect_replied(rt, desk, AMY_V2, &ACCOUNT, &KEY_REVOKED);

@@ -197,9 +197,9 @@ impl<S: ClubStore> Trial<S> {
             | PlainCommand::SetQuota(member, _)
             | PlainCommand::AddKey(_, member, _) => member == AMY,
             PlainCommand::AddFacility(..) | PlainCommand::SetFacility(..) => true,
-            PlainCommand::RevokeKey(key) | PlainCommand::RotateKey(key, _, _) => self.is_own_key(
-                key,
-            ),
+            PlainCommand::RevokeKey(key)
+            | PlainCommand::RotateKey(key, _, _)
+            | PlainCommand::CancelBooking(key, _) => self.is_own_key(key),
             PlainCommand::CloseSlot(_) | PlainCommand::OpenSlot(_) => false,
         }
     }

@@ -169,6 +169,28 @@ fn sets_a_facility_whole_or_not_at_all(rt: HostRuntime) {
     SETS_A_FACILITY.holds(&rt);
 }
 
+const CANCEL_BOOKING: Event = Event::Gives(PlainCommand::CancelBooking("amy-1", 7));
+
+/// A second one finds nothing to do, and the member's own gets the whole charge.
+static CANCELS_FOR_A_MEMBER: Trial = Trial {
+    beginning: Beginning::Made(&[Event::Asks(NOON, BOOK_7)]),
+    task: &[CANCEL_BOOKING],
+    again: &[
+        CANCEL_BOOKING,
+        Event::Asks(NOON, CANCEL_7),
+        Event::Asks(NOON, BOOK_7),
+        Event::Asks(NOON, ACCOUNT),
+    ],
+    first: &[DONE, CANCELLED_7, BOOKED_7, BALANCE_10000],
+    repeated: &[DONE, CANCELLED_7, BOOKED_7, BALANCE_10000],
+    calls: [50, 64],
+};
+
+#[test]
+fn cancels_for_a_member_whole_or_not_at_all(rt: HostRuntime) {
+    CANCELS_FOR_A_MEMBER.holds(&rt);
+}
+
 const SET_QUOTA: Event = Event::Gives(PlainCommand::SetQuota("amy", 1));
 
 /// Below the open bookings, which stay.

@@ -1,5 +1,5 @@
-use Rattle.club_gate.proofs.Common.{◌≡◌, List, Ok, inl, inr, sym, All-head, Club, IsSound, office_verdict, Commanded, FitsClub}
-use Rattle.club_gate.proofs.{Stepping.{command_done, command_failed}, desk.Desk.answer_to.Goals.After-settle}
+use Rattle.club_gate.proofs.Common.{◌≡◌, List, Ok, inl, inr, sym, All-head, Club, IsSound, office_verdict, FitsIfAny}
+use Rattle.club_gate.proofs.{Stepping.{command_done, command_failed, command_fits}, desk.Desk.answer_to.Goals.After-settle}
 use Rattle.club_gate.proofs.desk.Desk.answer_to.Given as given
 use Rattle.club_gate.proofs.desk.Desk.answer_to.Goals as goal
 
@@ -7,14 +7,14 @@ use Rattle.club_gate.proofs.desk.Desk.answer_to.Goals as goal
 decided : (g : given.Over) (c : After-settle g) → g.S.ClubStore.disk_is_clean c.settle.new.self → (club : Club) (others : List Club)
     → g.S.ClubStore.represents c.args.self.now club others
     → (office_verdict club c.args.command.now ≡ Ok c.in-Ok.change) × g.S.ClubStore.represents c.command_view.new.self club others
-    × FitsClub c.in-Ok.change club
+    × FitsIfAny c.in-Ok.change club
 decided g c was_clean club others represents =
     let before = c.settle.ensures.was_clean was_clean in
     let is = sym (rw (c.in_ok-view.ensures.returned before club others represents) at c.in-Ok.ensures) in
     let sound = All-head IsSound club others (g.met.S.ClubStore.sound c.args.self.now club others represents) in (
       is,
       c.command_view.ensures.kept before club others represents,
-      c.changes_fit.ensures club (Commanded c.args.command.now) c.in-Ok.change sound c.within.ensures is,
+      command_fits c.changes_fit.ensures club c.args.command.now c.in-Ok.change sound c.within.ensures is,
     )
 
 pub returns-in_err-settle-in-Ok-clause-steps : goal.returns-in_err-settle-in-Ok-clause-steps
