@@ -17,7 +17,7 @@ It reads the promises of docs/PROMISES.md, the clauses that carry them, and the 
     tests/audit.py --below NAME     what there is to read below one definition, or below all clauses of a function (Desk::ask), in reading
                                     order
 """
-# groups: quick: --strict
+# pytestmark = [mark.quick("--strict")]
 
 import argparse
 import difflib

@@ -1,7 +1,9 @@
 """What the tests share that pytest runs: the programs, clubs in files, a server of its own for each request, and what it answers.
 
-Files lie in memory, where a sync costs nothing."""
+Files are in memory, where a sync costs nothing. With `--scripts` pytest imports no file of Python: each program of tests/ is one test, which
+tests/lib/scripts.py runs. tests/run calls it so."""
 
+import json
 import shutil
 import tempfile
 
@@ -9,22 +11,99 @@ import pytest
 
 import desk
 import kinds
+import scripts
 from desk import Reply
 
 
 def pytest_addoption(parser):
-    parser.addoption("--no-commands", action="store_const", const="not programs", dest="markexpr", help="what wants no program of ours")
+    parser.addoption("--no-commands", action="store_const", const="not built", dest="markexpr", help="what needs no program of ours")
+    parser.addoption("--scripts", metavar="NAME,..", help="runs these programs of tests/, each as one test; 'all' for all")
+    parser.addoption("--planted", action="store_true", help="the same with a fault for each, on which it has to fail")
+    parser.addoption("--built", action="store_true", help="skips a program whose needs aren't built")
 
 
 def pytest_configure(config):
-    config.addinivalue_line("filterwarnings", "ignore::DeprecationWarning")
-    config.addinivalue_line("markers", "programs: wants the built programs")
-    if config.option.basetemp is None:
+    if config.option.scripts:
+        config.results = scripts.Results()
+    elif config.option.basetemp is None:
         config.option.basetemp = tempfile.mkdtemp(dir=desk.IN_MEMORY)
 
 
 def pytest_unconfigure(config):
-    shutil.rmtree(config.option.basetemp)
+    if not config.option.scripts:
+        shutil.rmtree(config.option.basetemp)
+
+
+# ---- programs as tests
+
+
+class Script(pytest.Item):
+    """A run of a program of tests/, with its marks."""
+
+    def __init__(self, *, test, **more):
+        super().__init__(**more)
+        self.test = test
+        for name in [*test.groups, *test.marks]:
+            self.add_marker(getattr(pytest.mark, name))
+        self.add_marker(pytest.mark.timeout(test.seconds))
+
+    def runtest(self):
+        options = self.config.option
+        try:
+            found = scripts.run(self.test, options.built, self.config.pluginmanager.hasplugin("timeout"))
+        except pytest.fail.Exception:
+            found = {"result": "failed", "status": scripts.TOOK_TOO_LONG, "seconds": self.test.seconds, "last": "ended by pytest-timeout"}
+        self.user_properties.append(("found", found))
+        if found["result"] != "passed":
+            {"failed": pytest.fail, "skipped": pytest.skip}[found["result"]](found["last"])
+
+    def repr_failure(self, excinfo, style=None):
+        return str(excinfo.value)
+
+
+class ScriptFile(pytest.File):
+    """A program of tests/ with its runs."""
+
+    def collect(self):
+        asked = self.config.option.scripts.split(",")
+        every = scripts.planted_tests() if self.config.option.planted else scripts.tests_of(self.path)
+        yield from (Script.from_parent(self, name=it.name, test=it) for it in every if it.path == self.path and (asked == ["all"] or it.name in asked))
+
+
+def pytest_collect_file(file_path, parent):
+    if parent.config.option.scripts and file_path.suffix in (".bats", ".py", ".sh") and scripts.head_of(file_path)[1]:
+        return ScriptFile.from_parent(parent, path=file_path)
+    return None
+
+
+def pytest_runtest_logreport(report):
+    """Also where a worker ended before its test: then the report has no result."""
+    config = report_to.get("config")
+    found = dict(report.user_properties).get("found")
+    if config and (found and report.when == "call" or not found and report.failed):
+        name = report.nodeid.rpartition("::")[2]
+        config.results.add(name, found or {"result": "failed", "status": 1, "seconds": 0, "last": str(report.longrepr)})
+
+
+report_to = {}
+
+
+def pytest_sessionstart(session):
+    if session.config.option.scripts and not hasattr(session.config, "workerinput"):
+        report_to["config"] = session.config
+
+
+def pytest_collectreport(report):
+    if report.failed and report_to:
+        print(report.longreprtext)
+
+
+def pytest_sessionfinish(session):
+    if report_to:
+        (scripts.OUT / "session.json").write_text(json.dumps(session.config.results.all), encoding="utf-8")
+
+
+# ---- clubs and servers
 
 
 class Club:

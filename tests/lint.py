@@ -17,13 +17,12 @@ Prints each slip with its place; the status is 1 if there is one.
 - A word of the pages or of web/ is known neither to aspell nor to tests/lib/words.txt.
 - A line that the change adds has a pattern of tests/lib/prose.py, such as a sentence of more than 30 words.
 - The subject of one of its commits has no area, or more than 60 letters.
-The change is what this clone has beyond the branch that it follows. Not part of the gate.
+The change is what this clone has beyond the branch that it follows.
   tests/lint.py                  every crate, the pages, and the change
   tests/lint.py club_core ..     these crates, and what the change adds to them
   tests/lint.py --since COMMIT   the same for the lines and commits since a commit
 """
-# groups: quick
-# wants: aspell aspell-en aspell-de
+# pytestmark = [mark.quick, mark.wants("aspell aspell-en aspell-de")]
 
 import argparse
 import os

@@ -27,7 +27,6 @@
 # Refused by meaning are `false`, `goal` and `test`. Of the first two only `false` is shown: the check seldom finds values that break an
 # equation of lists or a bound on a product, so most wrong bodies are `goal`, though their goals are false too. `goal` says that this proof
 # fails, and no tactic finds another one.
-# groups: proofs
-# minutes: 600
+# pytestmark = [mark.proofs, mark.timeout(36000)]
 here=$(CDPATH='' cd -P -- "$(dirname -- "$0")" && pwd)
 exec python3 "$here/lib/more_edits.py" "$@"

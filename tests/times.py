@@ -7,10 +7,9 @@ status is the gate's.
   tests/times.py                 the whole gate
   tests/times.py club_core ..    `rt ci club_core ..`: these crates, and those below them
 Times are read from /proc once a second, so a process counts up to a second less than it took; running the programs and tests
-isn't counted. Seconds vary by a quarter with what else the machine does. Not part of the gate.
+isn't counted. Seconds vary by a quarter with what else the machine does.
 """
-# groups: proofs alone
-# minutes: 600
+# pytestmark = [mark.proofs, mark.alone, mark.timeout(36000)]
 
 import os
 import re

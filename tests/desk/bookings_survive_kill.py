@@ -4,10 +4,8 @@
 The same requests then get the same replies.
 
 They are killed at times drawn by a fixed seed. sqlite3, the day sheets and GETs find each acknowledged booking; the one under way may be
-there too, whole. The totals are the sums. At the end all 200 bookings are there, once. Not part of the gate. ROUNDS=N kills N servers.
+there too, whole. The totals are the sums. At the end all 200 bookings are there, once. ROUNDS=N kills N servers.
 """
-# groups: faults
-# wants: python3-pytest
 
 import os
 import random
@@ -20,6 +18,8 @@ import desk
 from both import Both, expect, spelled_day
 from kinds import ACCOUNT, NOON, ONE, ROOT, TWO, Row, key_pass, text
 from reference import caveats, wire
+
+pytestmark = [pytest.mark.faults, pytest.mark.needs("clubdesk")]
 
 ROUNDS = int(os.environ.get("ROUNDS", "20"))
 MOMENT, MAY = caveats.moment_of(NOON), caveats.day_of("2026-05-01")

@@ -5,11 +5,9 @@ The server is killed and started again 100 times. Nothing that was acknowledged 
 
 Every fifth time the client is killed too. It books slots, each asked for once, and cancels most of them. At the end the file has each
 booking once: those on the client's record, with the charges, places and refunds that were acknowledged, and no others. The totals are the
-sums. Then each command of client.py is called, with what it prints, and the proxy fails in several ways. Not part of the gate. KILLS=N kills
+sums. Then each command of client.py is called, with what it prints, and the proxy fails in several ways. KILLS=N kills
 N servers.
 """
-# groups: programs faults
-# wants: python3-pytest
 
 import multiprocessing
 import os
@@ -28,6 +26,8 @@ from kinds import ROOT
 
 sys.path.insert(0, str(desk.ROOT / "examples"))
 from client import Client, NoReply, Record
+
+pytestmark = [pytest.mark.programs, pytest.mark.faults, pytest.mark.needs("clubdesk")]
 
 KILLS = int(os.environ.get("KILLS", "100"))
 KEYS = range(8)

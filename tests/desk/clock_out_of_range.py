@@ -5,10 +5,8 @@ It serves at moments of the club, and else ends with status 6, unchanged.
 
 The clock is also beyond those years, and the zones are three. If it shows a moment of the club's, each client has its reply. If it
 shows none, or can't be read, the first client has no byte, and a second one isn't waited for. The server ends with its line, and the
-club is as it was. Not part of the gate.
+club is as it was.
 """
-# groups: faults
-# wants: python3-pytest gcc libc6-dev
 
 from datetime import datetime, timezone
 
@@ -16,6 +14,8 @@ import pytest
 
 import desk
 from kinds import account
+
+pytestmark = [pytest.mark.faults, pytest.mark.needs("clubdesk"), pytest.mark.wants("gcc libc6-dev")]
 
 CENTRAL, WESTERN = "CET-1CEST,M3.5.0,M10.5.0/3", "EST5"
 

@@ -8,10 +8,8 @@ Then sqlite3 finds the file sound, and clubdesk reads it.
 - Each allocation is refused in turn: the command ends with status 4, or 2 if clap met the refusal, or as with ample memory.
 - The file may grow to so many blocks alone: the command ends with status 5, or as with ample storage.
 - The command is killed after so many milliseconds.
-Not part of the gate. STEP=N refuses each Nth allocation alone, which is faster.
+STEP=N refuses each Nth allocation alone, which is faster.
 """
-# groups: faults
-# wants: python3-pytest gcc libc6-dev
 
 import contextlib
 import hashlib
@@ -25,6 +23,8 @@ from pathlib import Path
 import pytest
 
 import desk
+
+pytestmark = [pytest.mark.faults, pytest.mark.needs("clubdesk"), pytest.mark.wants("gcc libc6-dev")]
 
 STEP = int(os.environ.get("STEP", "1"))
 ROOT, OTHER = "30313233343536373839616263646566", "ffeeddccbbaa99887766554433221100"

@@ -10,9 +10,7 @@ another, each at a moment of its own, and the office gives its commands between 
 
     tests/desk/hostile.py [--seed N] [--count M] [--plant FAULT | --self-test]
 """
-# groups: programs
-# groups: quick: --count 5000
-# groups: programs: --self-test
+# pytestmark = [mark.programs, mark.quick("--count", "5000"), mark.programs("--self-test"), mark.needs("clubdesk")]
 
 import argparse
 import random

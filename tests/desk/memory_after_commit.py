@@ -6,14 +6,14 @@ It takes six bookings and three cancellations in a file, under passes in V1, V2 
 A refused allocation that the server passes over would change no byte, so no test over bytes can see one. The commit is the last call that
 syncs the file before the reply is sent.
 """
-# groups: faults
-# wants: python3-pytest gcc libc6-dev
 
 import pytest
 
 from conftest import Reply
 from kinds import AMY, ONE, book, cancel, slot, text
 from reference import passes
+
+pytestmark = [pytest.mark.faults, pytest.mark.needs("clubdesk"), pytest.mark.wants("gcc libc6-dev")]
 
 
 @pytest.mark.parametrize("form", passes.FORMS)

@@ -6,10 +6,8 @@ So they are with kills, slow clients, stale doors and moved files. Prints how lo
 The processes are real, and sqlite3 finds the totals to be the sums once the server is stopped. Then come 20 kills of servers and of
 commands, and a client that is silent next to one that sends a byte a second. Tried are also a door that is stale or taken, a second
 server, links to the file and its folder, and a file that is moved, replaced or removed. So are another user, the modes of the files, and
-the lines of commands. Times are those of one run, also at 300,000 bookings, with a server without commands. Not part of the gate.
+the lines of commands. Times are those of one run, also at 300,000 bookings, with a server without commands.
 """
-# groups: programs faults
-# wants: python3-pytest sqlite3 util-linux
 
 import contextlib
 import os
@@ -31,6 +29,8 @@ import pytest
 import desk
 from conftest import Club
 from kinds import ACCOUNT, NOON, ROOT, TWO, book, booked, cancel, key_pass, slot, text, view
+
+pytestmark = [pytest.mark.programs, pytest.mark.faults, pytest.mark.needs("clubdesk passtool"), pytest.mark.wants("sqlite3 util-linux")]
 
 PASSES = {place: text(key_pass(f"k{place}")) for place in range(1, 5)}
 DONE, FAILED = (0, "done\n", ""), (5, "", "storage failed\n")

@@ -7,10 +7,8 @@ Commands: cut at each byte, of 70,000 bytes, with a wrong count, with
 arguments that are no UTF-8, of no name, and of `serve`. Senders: gone before they are greeted, silent, or taking no answer. Servers: they don't
 greet or answer, are stopped for longer than a limit, or end before they greet. Then 50 commands at once, and root's command at another user's
 desk. Doors: a stale one of root's, one of a stranger, one behind a link, in a folder that a server can't write, and on a full disk. Root is
-wanted for other users and disks. Not part of the gate.
+wanted for other users and disks.
 """
-# groups: faults
-# wants: python3-pytest sqlite3
 
 import contextlib
 import os
@@ -26,6 +24,8 @@ import pytest
 
 import desk
 import kinds
+
+pytestmark = [pytest.mark.faults, pytest.mark.needs("clubdesk"), pytest.mark.wants("sqlite3")]
 
 
 def command_bytes(*words, root="", count=None):

@@ -2,11 +2,7 @@
 """Each command of `passtool`, with each allocation refused in turn, is right or out of memory.
 
 It runs in each form. It ends with status 4 and no output, or as if nothing had been refused.
-
-Not part of the gate.
 """
-# groups: faults
-# wants: python3-pytest gcc libc6-dev
 
 import os
 import subprocess
@@ -16,6 +12,8 @@ import pytest
 import desk
 from kinds import ROOT, key_pass, text
 from reference import passes
+
+pytestmark = [pytest.mark.faults, pytest.mark.needs("passtool"), pytest.mark.wants("gcc libc6-dev")]
 
 CAVEATS = ("kind = court", "guests <= 2")
 COMMANDS = [("mint", "--root", ROOT, "--id", "key:amy-1", "--location", "club-desk", "--form", "FORM", *CAVEATS), ("show",),

@@ -5,7 +5,7 @@ The tests read and write the known passes in each form, open a store in each way
 known booking through `Desk::ask`, `Desk::run` and `answer`.
 
 It fails if a test isn't there, fails with ample memory, or allocates nothing. Tests that are missing or older than their sources are
-proved and built first. Not part of the gate.
+proved and built first.
 
 Name tests that pass each fault on, or compare what they get with out of memory and with the right answer: one that expects
 another fault fails if memory is refused instead.
@@ -13,9 +13,7 @@ another fault fails if memory is refused instead.
   tests/desk/refused_memory_tests.py club_gate_tests                                         those of one crate
   tests/desk/refused_memory_tests.py club_gate_tests store::shown::shows_what_a_key_sees ..  any tests of a crate
 """
-# groups: proofs
-# minutes: 600
-# wants: gcc libc6-dev
+# pytestmark = [mark.proofs, mark.timeout(36000), mark.wants("gcc libc6-dev")]
 
 import os
 import re

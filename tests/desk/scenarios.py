@@ -12,8 +12,7 @@ The self-test has odd files for all of these.
     tests/desk/scenarios.py --fill FILE                             prints the file, and fills in missing answers by the rules in Python
     tests/desk/scenarios.py --counts                                writes how many clubs and lines each file has into crates/scenarios/stdout
 """
-# groups: programs quick
-# groups: programs: --self-test
+# pytestmark = [mark.programs, mark.quick, mark.programs("--self-test"), mark.needs("clubdesk")]
 
 import argparse
 import os

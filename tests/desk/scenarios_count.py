@@ -3,7 +3,7 @@
 
 A fact is a question, the state of the club that its answer depends on, and the answer. READERS has a reader for each table whose rows scenarios
 can state. STAYS has the reason why other rows stay in Rust. The last line printed has the counts. The status is 1 if a row that a scenario can
-state is missing from the files. Not part of the gate.
+state is missing from the files.
 
     tests/desk/scenarios_count.py             prints the missing rows, and the counts
     tests/desk/scenarios_count.py --leaves    also prints each table whose rows the files state, and how many of its rows stay

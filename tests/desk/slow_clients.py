@@ -6,12 +6,10 @@ The clients behind a slow one get their replies. The others send far more than a
 The server has a patience of two seconds. One client sends nothing, one begins its request, one sends a byte a second, one never reads its
 reply, and one stays after its request. Then come 1,000 requests with 1 to 100,000 bytes after them, and 1,000 heads of 100,000 bytes,
 half of them in two pieces. Then come 200 requests in three, four and six pieces each, by a length and by chunks, and 100 while the server
-is stopped and goes on. Not part of the gate.
+is stopped and goes on.
 
 Clients send all before they read, as Python's do: one whose send fails gives up.
 """
-# groups: faults
-# wants: python3-pytest
 
 import os
 import signal
@@ -22,6 +20,8 @@ import pytest
 
 import desk
 from kinds import Row, account, slot
+
+pytestmark = [pytest.mark.faults, pytest.mark.needs("clubdesk")]
 
 PATIENCE, COUNT = 2, 1000
 REQUEST = account().data

@@ -3,11 +3,9 @@
 
 Files that hold no club, and rows out of their limits, are a fault of storage.
 
-With the columns, keys, references and limits of docs/TABLES.md. What sqlite3 changes within them, clubdesk shows; a file that is refused
-stays as it was, byte for byte. Not part of the gate.
+With the columns, keys, references and limits of docs/TABLES.md. clubdesk shows changes by sqlite3 within them. A file that is refused stays as
+it was, byte for byte.
 """
-# groups: programs
-# wants: python3-pytest sqlite3
 
 import re
 import shutil
@@ -18,6 +16,8 @@ import pytest
 import desk
 from conftest import Club
 from kinds import ACCOUNT, ONE, ROOM, THREE, book, booked, cancel, key_pass, command, shown, slot, text, view
+
+pytestmark = [pytest.mark.programs, pytest.mark.needs("clubdesk"), pytest.mark.wants("sqlite3")]
 
 DAY = "2026-05-01"
 RUNNING = (desk.ROOT / "docs" / "RUNNING.md").read_text(encoding="utf-8")

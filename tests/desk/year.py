@@ -10,9 +10,7 @@ request again, and a command is given again: the reply is the reference's, wheth
 
     tests/desk/year.py [--seed N] [--days N] [--requests N] [--self-test]
 """
-# groups: programs
-# groups: quick: --days 20
-# groups: programs: --self-test
+# pytestmark = [mark.programs, mark.quick("--days", "20"), mark.programs("--self-test"), mark.needs("clubdesk")]
 
 import argparse
 import os

@@ -6,14 +6,11 @@ Holds README.md, CONTRIBUTING.md, docs/, and the README.md of each crate against
   that begins with `$ ` is a command, the lines after it are what it prints, on standard output or standard error. Empty lines
   and spaces at the end of a line don't count, and another port may stand for 8080.
 - What else holds stands at each test below.
-Programs are proved and built by bin/proved if they have to be. Not part of the gate.
+Programs are proved and built by bin/proved if they have to be.
   tests/docs/docs_hold.py                    every page
   tests/docs/docs_hold.py -k DESK            the pages whose names have this word
   tests/docs/docs_hold.py --no-commands ..   what wants no program of ours
 """
-# groups: pages
-# groups: quick: --no-commands
-# wants: python3-pytest curl sqlite3 openssl gcc libc6-dev pkg-config golang-go nodejs
 
 import os
 import re
@@ -24,6 +21,9 @@ from pathlib import Path
 import pytest
 
 import desk
+
+pytestmark = [pytest.mark.pages, pytest.mark.quick("--no-commands", wants="", needs=""), pytest.mark.needs("clubdesk passtool"),
+    pytest.mark.wants("curl sqlite3 openssl gcc libc6-dev pkg-config golang-go nodejs")]
 
 os.chdir(desk.ROOT)
 PAGES = ["README.md", "CONTRIBUTING.md", *(str(it) for pattern in ("docs/*.md", "crates/*/README.md") for it in sorted(Path().glob(pattern)))]
@@ -274,7 +274,7 @@ def free_port(number):
     return free_port(number + 1) if is_used else number
 
 
-@pytest.mark.programs
+@pytest.mark.built
 @pytest.mark.parametrize("page", [it for it in PAGES if blocks(it, "console")])
 def test_commands(page, tmp_path):
     port = free_port(8080 + PAGES.index(page))
@@ -296,7 +296,7 @@ def test_commands(page, tmp_path):
     assert squeezed(out.read_text(encoding="utf-8")) == squeezed(text)
 
 
-@pytest.mark.programs
+@pytest.mark.built
 def test_what_readme_tries_unproved():
     script = next(re.search(r"^cd crates.*?rt try.*?$", it, re.MULTILINE | re.DOTALL) for it in blocks("README.md", "sh") if "rt try" in it)[0]
     tried = subprocess.run(["sh", "-c", script], capture_output=True, text=True, check=False)

@@ -3,10 +3,8 @@
 
 It looks at added lines alone, and passes code. `tests/docs/sentences.py` draws the same sentences for the same seed.
 
-Works on small repositories of its own. Not part of the gate.
+Works on small repositories of its own.
 """
-# groups: quick
-# wants: python3-pytest git aspell aspell-en aspell-de
 
 import subprocess
 from pathlib import Path
@@ -14,6 +12,8 @@ from pathlib import Path
 import pytest
 
 import prose
+
+pytestmark = [pytest.mark.quick, pytest.mark.wants("git aspell aspell-en aspell-de")]
 
 TESTS = Path(__file__).resolve().parents[1]
 LONG = " ".join(["word"] * 31)

@@ -2,9 +2,8 @@
 # pyflakes, shellcheck, gofmt and go vet have nothing to say, or the reason is noted in place.
 #
 # The shell scripts and bats files of tests/, bin/ and deploy/ are read by shellcheck, the Python there, in examples/ and in bindings/ by pyflakes.
-# The Go of tests/, examples/ and bindings/ is read if Debian's Go is there. Not part of the gate.
-# groups: quick
-# wants: shellcheck pyflakes3
+# The Go of tests/, examples/ and bindings/ is read if Debian's Go is there.
+# pytestmark = [mark.quick, mark.wants("shellcheck pyflakes3")]
 set -eu
 cd "$(dirname -- "$0")/../.."
 

@@ -6,10 +6,8 @@ a reply.
 
 The schema is that of Debian's openapi-specification. The scenes of the table are played, each request at a server of its own, so what a
 reply says of earlier ones comes from the file. Its bytes are those of the rules in Python; status, fields and body are those of the
-description and obey their schema. The faults and their statuses are those of docs/CLIENT.md's table. Not part of the gate.
+description and obey their schema. The faults and their statuses are those of docs/CLIENT.md's table.
 """
-# groups: pages programs quick
-# wants: python3-pytest python3-jsonschema python3-yaml openapi-specification
 
 import json
 import re
@@ -23,6 +21,9 @@ import desk
 import kinds
 from conftest import Reply
 from reference.wire import compact
+
+pytestmark = [pytest.mark.pages, pytest.mark.programs, pytest.mark.quick, pytest.mark.needs("clubdesk"),
+    pytest.mark.wants("python3-jsonschema python3-yaml openapi-specification")]
 
 DOCS = desk.ROOT / "docs"
 SCHEMA = Path("/usr/share/openapi-specification/schemas/v3.0/schema.json")

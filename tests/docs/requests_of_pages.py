@@ -3,10 +3,8 @@
 
 Runs the commands of a page's console blocks, and asks each request of its tables under the pass and at the moment of the table's head. The
 commands in front of a section's first table make the club, without bookings; the section's requests, and the commands behind them, meet a
-copy. Blocks with a server of their own are left to tests/docs/docs_hold.py. Not part of the gate.
+copy. Blocks with a server of their own are left to tests/docs/docs_hold.py.
 """
-# groups: pages
-# wants: python3-pytest openssl
 
 import os
 import re
@@ -20,6 +18,8 @@ import desk
 from conftest import Club
 from kinds import Row
 from reference import wire
+
+pytestmark = [pytest.mark.pages, pytest.mark.needs("clubdesk passtool"), pytest.mark.wants("openssl")]
 
 PART = re.compile(r"^```console\n(?P<block>[^`]*?)^```$|^(?P<section>##.*)|^\| (?P<under>Under `.*)|^\| (?P<asked>`(?:GET|PUT|DELETE|POST) .*)", re.MULTILINE)
 UNDER = re.compile(r"Under `([^`]+)` at (\S+) \|.*")

@@ -2,11 +2,8 @@
 """`passtool` and the server agree with docs/vectors.json: passes, texts that are none, verdicts on caveats, replies to requests.
 
 Each pass in each form, texts that are read as the same pass, the verdict of each caveat on each request, each reply byte for byte. The
-signatures are computed once more by Python's standard library, and V1 and V2 by pymacaroons, if it writes the pass as it is. Not part
-of the gate.
+signatures are computed once more by Python's standard library, and V1 and V2 by pymacaroons, if it writes the pass as it is.
 """
-# groups: pages quick
-# wants: python3-pytest python3-pymacaroons
 
 import itertools
 import json
@@ -18,6 +15,8 @@ import desk
 from conftest import Club
 from kinds import Row
 from reference import passes
+
+pytestmark = [pytest.mark.pages, pytest.mark.quick, pytest.mark.needs("clubdesk passtool"), pytest.mark.wants("python3-pymacaroons")]
 
 VECTORS = json.loads((desk.ROOT / "docs" / "vectors.json").read_text(encoding="utf-8"))
 FORMS = list(passes.FORMS)

@@ -268,7 +268,7 @@ def of_change(root, base, below=""):
             except UnicodeDecodeError:
                 continue
     crates = [it.name for it in (root / "crates").iterdir()]
-    for line in git(root, "log", "--format=%h %s", f"{base}..HEAD").splitlines() if not below else ():
+    for line in git(root, "log", "--no-merges", "--format=%h %s", f"{base}..HEAD").splitlines() if not below else ():
         name, _, subject = line.partition(" ")
         yield from (f"subject: {name}: {fault}: {subject}" for fault in subject_faults(subject, crates))
 

@@ -5,10 +5,9 @@ It runs at a terminal, and what each task changed is compared. Wants root, for a
 
 The clerk knows no command, and uses the menu alone. Names, days and hours are written as people write them, also in commands. If two
 members fit, or something is odd, the office asks. Refusals, lists and usage are in German, too. Ctrl-C in each question changes nothing. Without a terminal a part of a name is none.
-Not part of the gate.
 """
-# groups: package root
-# wants: sudo sqlite3 openssl util-linux bsdutils iproute2 systemd qrencode python3-psutil python3-pexpect
+# pytestmark = [mark.package, mark.root, mark.needs("clubdesk passtool"),
+#     mark.wants("sudo sqlite3 openssl util-linux bsdutils iproute2 systemd qrencode python3-psutil python3-pexpect")]
 
 import datetime
 import fcntl

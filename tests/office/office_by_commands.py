@@ -3,10 +3,10 @@
 
 Each is killed before and after each program that it runs, and while its output isn't taken. Then the same order is given again: the club is
 as one order makes it, and the book has both. A command that outlives its order holds the next one up. The rows of a copy of before each, and
-what `undo` puts back, are compared. Wants root, for a machine of its own (tests/lib/office_room.sh). Not part of the gate.
+what `undo` puts back, are compared. Wants root, for a machine of its own (tests/lib/office_room.sh).
 """
-# groups: package faults root
-# wants: sudo sqlite3 openssl util-linux bsdutils iproute2 systemd python3-psutil
+# pytestmark = [mark.package, mark.faults, mark.root, mark.needs("clubdesk passtool"),
+#     mark.wants("sudo sqlite3 openssl util-linux bsdutils iproute2 systemd python3-psutil")]
 
 import contextlib
 import datetime
@@ -14,11 +14,13 @@ import os
 import shutil
 import sqlite3
 import subprocess
+import sys
 import time
 from pathlib import Path
 
 import psutil
 
+sys.path[:0] = [str(Path(__file__).resolve().parents[1] / it) for it in ("lib", "")]
 from office_checks import book_lines, lines, refused
 from office_room import HOME, ROOM, Service, begun, configure, done, kill, leave, office, rows, same, whole
 

@@ -9,11 +9,11 @@ that a small manager of services runs. Its parts are:
 - office_corrections.py: corrections against show-account, the sheet and the totals; a copy in the club's place, also of a damaged file;
 - office_season.py: a season's points, closures, letters, persons, undo, and files of old years;
 - office_findings.py: forged lines, another's programs, a stopped terminal, a silent journal, a full memory or disk.
-Wants root, for a machine of its own (tests/lib/office_room.sh). Not part of the gate.
+Wants root, for a machine of its own (tests/lib/office_room.sh).
   tests/office/office_holds.py [findings|season]    findings: what others may do, alone; season: a season's club, alone
 """
-# groups: package root
-# wants: sudo sqlite3 openssl util-linux bsdutils iproute2 systemd python3-psutil
+# pytestmark = [mark.package, mark.root, mark.needs("clubdesk passtool"),
+#     mark.wants("sudo sqlite3 openssl util-linux bsdutils iproute2 systemd python3-psutil")]
 
 import sys
 from pathlib import Path

@@ -10,11 +10,11 @@ They are killed beside a running desk, and no total is off. Wants root, for a ma
 - Copies elsewhere, and a restore of one, are killed at random. Each copy with a name there is whole and tested.
 - Points for all, bookings for members who call, and undos are killed at random and given again. Each member is credited once, each slot
   booked once, each correction undone whole.
-Not part of the gate.
+
   tests/office/office_killed.py [KILLS [SEED]]
 """
-# groups: package faults root
-# wants: sudo sqlite3 openssl util-linux bsdutils iproute2 systemd python3-psutil
+# pytestmark = [mark.package, mark.faults, mark.root, mark.needs("clubdesk passtool"),
+#     mark.wants("sudo sqlite3 openssl util-linux bsdutils iproute2 systemd python3-psutil")]
 
 import argparse
 import contextlib

@@ -7,10 +7,9 @@ The copies go by ssh or into a mounted folder, and are tested there. Wants root,
 - A host that is down, a cut transfer, a full disk there and a folder that isn't mounted are said and tried again, and health fails.
 - deploy/check_health asks by the public name, and reads the certificate's days. deploy/metrics counts requests and orders.
 - `clubdesk-setup --from` brings back the club, persons, a season's points, old years and clerks. A repeated lost booking is booked anew.
-Not part of the gate.
 """
-# groups: package root faults
-# wants: sudo sqlite3 openssl util-linux bsdutils iproute2 systemd python3-psutil openssh-server openssh-client curl
+# pytestmark = [mark.package, mark.faults, mark.root, mark.needs("clubdesk passtool"),
+#     mark.wants("sudo sqlite3 openssl util-linux bsdutils iproute2 systemd python3-psutil openssh-server openssh-client curl")]
 
 import contextlib
 import datetime

@@ -6,11 +6,11 @@ It follows a year of 1,500 requests, and the server answers the same before and 
 
 A part of the club's bookings is cancelled, past and to come. The old file is kept byte for byte. Balances, what each key has spent, keys,
 facilities and slots to come are the same by sums. The server answers the same requests with the same bytes. Each
-other command of a season works after it, and the old year is copied elsewhere. Not part of the gate.
+other command of a season works after it, and the old year is copied elsewhere.
   tests/office/office_year.py [REQUESTS]
 """
-# groups: package root
-# wants: sudo sqlite3 openssl util-linux bsdutils iproute2 systemd python3-psutil
+# pytestmark = [mark.package, mark.root, mark.needs("clubdesk passtool"),
+#     mark.wants("sudo sqlite3 openssl util-linux bsdutils iproute2 systemd python3-psutil")]
 
 import argparse
 import hashlib

@@ -3,10 +3,10 @@
 
 An import, `add-member` and the menu's new member make them, under the configuration's names. A letter has their passes as a second half. A spare key
 pays with its member's points, counts for itself, and reaches no booking of its member's. Wants root, for a machine of its own
-(tests/lib/office_room.sh). Not part of the gate.
+(tests/lib/office_room.sh).
 """
-# groups: package root
-# wants: sudo sqlite3 openssl util-linux bsdutils iproute2 systemd qrencode python3-psutil python3-pexpect
+# pytestmark = [mark.package, mark.root, mark.needs("clubdesk passtool"),
+#     mark.wants("sudo sqlite3 openssl util-linux bsdutils iproute2 systemd qrencode python3-psutil python3-pexpect")]
 
 import re
 import sys

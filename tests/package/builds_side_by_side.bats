@@ -3,12 +3,10 @@
 #
 # It goes by the sources' checksum, and two calls build once.
 #
-# Over four small crates and a stand-in for rt, which writes down when it begins and ends. Libraries are built side by side, as many as
-# PROVED_AT_ONCE says, each after those below it; an edit in the course of a build builds again; a build that is stopped ends each rt and
-# leaves no rooms; a program that was there half or was killed doesn't count either; what fails is shown, with status 125. Not part of the
-# gate.
-# groups: package
-# wants: bats
+# Over four small crates and a stub of rt, which writes down when it begins and ends. Libraries are built side by side, as many as
+# PROVED_AT_ONCE says, each after those below it. An edit in the course of a build builds again. A build that is stopped ends each rt and
+# leaves no rooms. A program that was there half or was killed doesn't count either. A failure is shown, with status 125.
+# pytestmark = [mark.package, mark.wants("bats")]
 
 # A clone that was built.
 setup() {

@@ -3,10 +3,7 @@
 
 In real shells, with what bin/completions makes, against `--help` of both programs and of office: for each command those words that begin
 so, its options, the values of its options, files for FILE; of office, which has a club before its command, the clubs that are configured.
-Not part of the gate.
 """
-# groups: package
-# wants: python3-pytest python3-pexpect zsh fish
 
 import os
 import shutil
@@ -18,6 +15,8 @@ import pytest
 
 import desk
 from helps import names_of, options_of, printed, words_of
+
+pytestmark = [pytest.mark.package, pytest.mark.needs("clubdesk passtool"), pytest.mark.wants("python3-pexpect zsh fish")]
 
 COMPLETIONS = desk.ROOT / "bin" / "completions"
 FORMS = {"v1", "v2", "json"}

@@ -4,8 +4,7 @@
 # It installs missing `curl` and `sqlite3` or names them. It ends even a server that doesn't listen, and after a signal.
 #
 # When it can't continue it says why and exits, as root and as another user.
-# groups: pages
-# wants: bats curl sqlite3
+# pytestmark = [mark.pages, mark.needs("clubdesk passtool"), mark.wants("bats curl sqlite3")]
 
 # Makes a folder with this machine's commands, without those that may be missing.
 setup() {

@@ -7,9 +7,7 @@
 # those of the rule in Python. Checks are made of a desk that is well, and of faults.
 #
 # By hand and without systemd, with a mailer of the test's own. A job that is killed leaves nothing that the next one takes for its own.
-# Not part of the gate.
-# groups: package
-# wants: curl sqlite3 openssl procps
+# pytestmark = [mark.package, mark.needs("clubdesk passtool"), mark.wants("curl sqlite3 openssl procps")]
 set -eu
 . "$(dirname -- "$0")/../lib/serving.sh"
 deploy=$(CDPATH='' cd -P -- "$here/../../deploy" && pwd)

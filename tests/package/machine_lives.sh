@@ -7,9 +7,9 @@
 # Debian is made by debootstrap and booted by systemd-nspawn, without a network but loopback. The clerk uses the menu alone. The lines of
 # docs/RUNNING.md under "Copies elsewhere" and "The machine is gone" are given. A third Debian's ssh takes the copies while a client books. At
 # most a minute of bookings is lost, and each is booked anew by its repeat. DEBIAN=FOLDER names a Debian that is there already, as for
-# package_lives.sh. Not part of the gate.
-# groups: package root
-# wants: debootstrap systemd-container dpkg-dev xz-utils util-linux python3-pexpect openssl
+# package_lives.sh.
+# pytestmark = [mark.package, mark.root, mark.needs("clubdesk passtool"),
+#     mark.wants("debootstrap systemd-container dpkg-dev xz-utils util-linux python3-pexpect openssl")]
 # shellcheck disable=SC2016 # a shell of the fresh Debian reads what is quoted
 set -eu
 . "$(dirname -- "$0")/../lib/serving.sh"

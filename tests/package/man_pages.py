@@ -2,10 +2,8 @@
 """The manual pages are clean to `mandoc`, and have the commands, options and statuses of `--help`.
 
 They have no others. That of office is only held against `mandoc` here, and against its `--help` by tests/office/office_holds.py. It refers to
-the pages of sudo, which has to be there. Not part of the gate.
+the pages of sudo, which has to be there.
 """
-# groups: package quick
-# wants: python3-pytest mandoc sudo
 
 import re
 import subprocess
@@ -14,6 +12,8 @@ import pytest
 
 import desk
 from helps import names_of, options_of, printed, words_of
+
+pytestmark = [pytest.mark.package, pytest.mark.quick, pytest.mark.needs("clubdesk passtool"), pytest.mark.wants("mandoc sudo")]
 
 MAN = desk.ROOT / "man"
 

@@ -6,10 +6,10 @@
 # second club in another zone, mail, a machine that boots anew. A clerk without root has her first week: import, who booked, sheet, wrong
 # credit, price, tournament, rain, lost pass, leaving member, restore. The package is upgraded while a client books, upgraded to one whose program
 # opens no club, removed, installed again, and purged: no acknowledged booking is lost, and the clubs' files stay. At the end the archive for
-# other systems, below /usr/local. Wants root, and Debian's mirror for the fresh Debian: DEBIAN=FOLDER names one that is there already, made
-# by `debootstrap --variant=minbase --include=systemd,systemd-sysv bookworm FOLDER`, of which a copy is taken. Not part of the gate.
-# groups: package root
-# wants: debootstrap systemd-container lintian dpkg-dev xz-utils util-linux
+# other systems, below /usr/local. Wants root, and Debian's mirror for the fresh Debian. DEBIAN=FOLDER names one that is there already, made
+# by `debootstrap --variant=minbase --include=systemd,systemd-sysv bookworm FOLDER`. The test takes a copy.
+# pytestmark = [mark.package, mark.root, mark.needs("clubdesk passtool"),
+#     mark.wants("debootstrap systemd-container lintian dpkg-dev xz-utils util-linux")]
 # shellcheck disable=SC2016 # a shell of the fresh Debian reads what is quoted
 set -eu
 . "$(dirname -- "$0")/../lib/serving.sh"

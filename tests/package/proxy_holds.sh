@@ -6,9 +6,9 @@
 # These are the sections "A club", "The pages", "A certificate", "TLS" and "Several clubs". Certbot gets a certificate by nginx's site of the
 # challenges, from an authority of the test's own (Let's Encrypt's pebble). It renews it, and then the site has the new one. Then come the
 # desk's replies and the pages behind nginx with TLS, a slow client, and two clubs at one proxy. Nothing else is answered at the port of the
-# challenges. The limit of requests holds, with its sentence. Not part of the gate.
-# groups: package root
-# wants: sudo sqlite3 openssl util-linux bsdutils iproute2 systemd curl nginx-light certbot pebble qrencode tzdata
+# challenges. The limit of requests holds, with its sentence.
+# pytestmark = [mark.package, mark.root, mark.needs("clubdesk passtool"),
+#     mark.wants("sudo sqlite3 openssl util-linux bsdutils iproute2 systemd curl nginx-light certbot pebble qrencode tzdata")]
 set -eu
 room_net=yes
 . "$(dirname -- "$0")/../lib/office_room.sh"

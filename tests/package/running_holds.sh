@@ -3,9 +3,9 @@
 #
 # Installations are whole or not at all, and units forbid no call of the desk.
 #
-# The units are tried by systemd's own tools. Wants root. Not part of the gate.
-# groups: pages package root
-# wants: curl sqlite3 openssl strace systemd util-linux tzdata
+# The units are tried by systemd's own tools. Wants root.
+# pytestmark = [mark.pages, mark.package, mark.root, mark.needs("clubdesk passtool"),
+#     mark.wants("curl sqlite3 openssl strace systemd util-linux tzdata")]
 set -eu
 . "$(dirname -- "$0")/../lib/serving.sh"
 [ "$(id -u)" = 0 ] || { echo "$0 wants root, for another user and a small disk" >&2; exit 2; }

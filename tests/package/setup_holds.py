@@ -4,10 +4,10 @@
 It looks at modes and owners, repeats and stops at each step, and the way to a first booking. Wants root (tests/lib/office_room.sh).
 
 There are five questions. Given again, also after a stop at each step, the setup changes nothing that is there. The clerk whom it made
-goes on from its end to a member's first booking, with nginx's site in front if nginx is there. Not part of the gate.
+goes on from its end to a member's first booking, with nginx's site in front if nginx is there.
 """
-# groups: package root
-# wants: sudo sqlite3 openssl util-linux bsdutils iproute2 systemd python3-psutil python3-pexpect nginx-light
+# pytestmark = [mark.package, mark.root, mark.needs("clubdesk passtool"),
+#     mark.wants("sudo sqlite3 openssl util-linux bsdutils iproute2 systemd python3-psutil python3-pexpect nginx-light")]
 
 import hashlib
 import json

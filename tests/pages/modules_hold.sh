@@ -3,9 +3,7 @@
 #
 # These are the tests of web/tests, by Node's runner.
 #
-# Not part of the gate.
-# groups: browser quick
-# wants: nodejs
+# pytestmark = [mark.browser, mark.quick, mark.wants("nodejs")]
 set -eu
 cd "$(dirname -- "$0")/../.."
 bin/pages --check

@@ -13,13 +13,13 @@ It runs in Debian's chromium, and in short in Firefox and WebKitGTK, against the
 - a time that is looked for over a week, a booking changed, repeated, for a calendar; days at once by the stored limits of requests;
 - the hall's screen; names for screen readers, contrasts, widths, less motion; that nothing goes to another origin, and nothing runs but
   what the page's policy names; how long a day takes, and how many bytes the pages are as they are sent.
-Not part of the gate.
+
   tests/pages/page_books.py                  all of it
   tests/pages/page_books.py FOLDER [STEP ..]     and pictures of the page into this folder; these functions alone
   KILLS=3 BOOKINGS=20 tests/pages/page_books.py ..     with fewer kills and bookings than 30 and 200
 """
-# groups: browser
-# wants: openssl sqlite3 nginx-light nodejs qrencode zbar-tools curl tzdata chromium chromium-driver python3-selenium firefox-esr webkit2gtk-driver xvfb
+# pytestmark = [mark.browser, mark.needs("clubdesk passtool"),
+#     mark.wants("openssl sqlite3 nginx-light nodejs qrencode zbar-tools curl tzdata chromium chromium-driver python3-selenium firefox-esr webkit2gtk-driver xvfb")]
 
 import atexit
 import base64

@@ -10,12 +10,12 @@ The formats are those of tests/reference:
 - what each choice says and adds, addresses, copying and sharing, a browser that doesn't sign;
 - names for a screen reader, contrasts; that nothing runs but what the page's policy names;
 - in each browser: a pass that is read, narrowed, and handed on by link and QR code, what the page says, and what it shows of the club.
-Not part of the gate.
+
   tests/pages/page_narrows.py            all of it
   tests/pages/page_narrows.py FOLDER     and pictures of the page into this folder
 """
-# groups: browser
-# wants: chromium chromium-driver python3-selenium firefox-esr webkit2gtk-driver xvfb zbar-tools
+# pytestmark = [mark.browser, mark.needs("passtool"),
+#     mark.wants("chromium chromium-driver python3-selenium firefox-esr webkit2gtk-driver xvfb zbar-tools")]
 
 import base64
 import contextlib

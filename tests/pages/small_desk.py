@@ -3,10 +3,8 @@
 
 It is written in JavaScript, and serves four clubs.
 
-The requests are bookings, repeats and cancellations, under narrowed and odd passes, at moments of two days. Not part of the gate.
+The requests are bookings, repeats and cancellations, under narrowed and odd passes, at moments of two days.
 """
-# groups: browser quick
-# wants: python3-pytest nodejs
 
 import json
 import random
@@ -20,6 +18,8 @@ from reference import passes
 from reference.caveats import EPOCH, day_of
 from reference.club import Club, Request, Served
 from reference.wire import STATUSES, TEXTS
+
+pytestmark = [pytest.mark.browser, pytest.mark.quick, pytest.mark.wants("nodejs")]
 
 COUNT = 2000
 ROOTS = {"amy-1": bytes(range(16)), "amy-2": bytes(range(1, 33)), "bob-1": bytes(range(2, 66)), "constructor": bytes(range(3, 19))}

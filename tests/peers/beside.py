@@ -9,15 +9,15 @@ gunicorn adds Date and Server. A plain server in C, which reads once and writes 
 Prints for a booking, its repeat, an account, a slot, a refused pass and a forged one the medians in microseconds, from before the client
 connects to the end of the reply, and clubdesk's ratios; the ratios that are asked for; and the calls of the system that a request costs:
 those of 101 requests less those of one, over 100, by strace. One client asks the servers by turns; it has a processor, and they another,
-if there are two. Not part of the gate.
+if there are two.
 
 Each desk is run as DESK FILE MOMENT < STATEMENTS: the moment in minutes since 1970; a statement a line. It prints the line of ours, and serves
 until it is stopped. It reads a key's older root only if the key's own doesn't sign, as ours does.
 
   tests/peers/beside.py [--desks c,go,flask] [COUNT [ROUNDS [ROWS ..]]]      COUNT requests of each kind in a round; without: 500 7 100 100000
 """
-# groups: speed alone
-# wants: gcc libc6-dev libsqlite3-dev nettle-dev strace golang-go golang-github-mattn-go-sqlite3-dev golang-gopkg-macaroon.v2-dev python3-flask python3-gunicorn
+# pytestmark = [mark.speed, mark.alone, mark.needs("clubdesk"),
+#     mark.wants("gcc libc6-dev libsqlite3-dev nettle-dev strace golang-go golang-github-mattn-go-sqlite3-dev golang-gopkg-macaroon.v2-dev python3-flask python3-gunicorn")]
 
 import argparse
 import os

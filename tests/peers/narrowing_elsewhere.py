@@ -3,12 +3,11 @@
 
 They are drawn by a fixed seed and narrowed by the programs of examples/: Python's standard library and Node.js in V2, pymacaroons and Go's
 macaroon.v2 in V1, V2 and JSON. V1 and V2 are compared byte for byte. JSON may be spelled in more than one way, and pymacaroons writes an
-empty location in V2, which passtool leaves out: these are compared as passtool writes them again. pymacaroons counts the letters of a
-location and of an identifier in V1 and not their bytes, so there it gets the passes alone in which both are ASCII, as those of the desk
-are. Each narrowed pass is signed under its root. Not part of the gate.
+empty location in V2, which passtool leaves out. These are compared as passtool writes them again. In V1 pymacaroons counts the letters of a
+location and of an identifier, not their bytes. So there it gets the passes alone in which both are ASCII, as those of the desk are. Each
+narrowed pass is signed under its root.
 """
-# groups: programs
-# wants: python3-pymacaroons nodejs golang-go golang-gopkg-macaroon.v2-dev
+# pytestmark = [mark.programs, mark.needs("passtool"), mark.wants("python3-pymacaroons nodejs golang-go golang-gopkg-macaroon.v2-dev")]
 
 import os
 import random

@@ -5,14 +5,13 @@ The pass has three caveats, and the time runs from its text on.
 
 In C the library reads each form, and Debian's libmacaroons V1 alone. In Python the module reads each form, and so does pymacaroons. Both other
 libraries are given the three caveats; the module tries them against an ask in a line of its own. Prints the medians of the processor's
-microseconds, over rounds in which each has its turn, and the ratios. Not part of the gate.
+microseconds, over rounds in which each has its turn, and the ratios.
 
 The library is the one that the loader takes for this processor.
 
   tests/peers/passes_beside.py [ROUNDS [COUNT]]      COUNT passes of each kind in a round; without: 11 2000
 """
-# groups: speed alone
-# wants: gcc libc6-dev libmacaroons-dev python3-pymacaroons
+# pytestmark = [mark.speed, mark.alone, mark.needs("pass_c"), mark.wants("gcc libc6-dev libmacaroons-dev python3-pymacaroons")]
 
 import os
 import statistics

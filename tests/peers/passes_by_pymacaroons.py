@@ -4,10 +4,9 @@
 Passes are in V1, V2 and JSON.
 
 The rules are those of tests/reference; the club, requests and caveats are drawn as in tests/desk/hostile.py, by a fixed seed. The other passes
-are narrowed by passtool; pymacaroons reads and writes these too. Not part of the gate.
+are narrowed by passtool; pymacaroons reads and writes these too.
 """
-# groups: programs
-# wants: python3-pymacaroons
+# pytestmark = [mark.programs, mark.needs("clubdesk passtool"), mark.wants("python3-pymacaroons")]
 
 import subprocess
 import sys

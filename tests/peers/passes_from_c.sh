@@ -6,9 +6,8 @@
 # tests/peers/passes_from_c.c is built over the shared library and over the static one, by gcc and by clang. The header is also read as C99 and as C++.
 # The program runs as it is, under valgrind, with AddressSanitizer and UndefinedBehaviorSanitizer, and in eight threads, also under helgrind.
 # Each input ends before a page that can't be touched. Every allocation is refused in its turn: the call says that memory ran out, and the object
-# is empty. Not part of the gate.
-# groups: programs quick
-# wants: gcc g++ clang libc6-dev pkg-config valgrind
+# is empty.
+# pytestmark = [mark.programs, mark.needs("pass_c"), mark.wants("gcc g++ clang libc6-dev pkg-config valgrind")]
 set -eu
 here=$(CDPATH='' cd -P -- "$(dirname -- "$0")" && pwd)
 work=$(mktemp -d)

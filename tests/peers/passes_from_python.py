@@ -5,13 +5,11 @@ They are drawn by a seed: passes of any bytes in each form, with up to 64 caveat
 encodes, are changed, put in, taken out or doubled. Others are cut off, in another alphabet of base64, or have odd names in JSON. Each goes to
 one command of passtool and to the same calls of the library: `show` and every part, `convert`, `narrow`, `verify`. The test compares the output,
 the fault's number, and whether the pass is signed. Caveats are lines of the language or nearly so: the library knows those that `narrow` without
-`--any` takes. Not part of the gate.
+`--any` takes.
 
   tests/peers/passes_from_python.py [--count N] [--seed N]
 """
-# groups: programs
-# groups: quick: --count 3000
-# wants: gcc libc6-dev
+# pytestmark = [mark.programs, mark.needs("passtool pass_c"), mark.wants("gcc libc6-dev")]
 
 import argparse
 import base64

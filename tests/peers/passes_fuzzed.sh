@@ -2,10 +2,8 @@
 # libFuzzer finds no input at which a call of clubpass.h breaks what the header says.
 #
 # For ten minutes, or for as many seconds as the first word says, with a process for each processor, AddressSanitizer and the target
-# tests/peers/passes_from_c/fuzz.c. It begins with the texts of docs/vectors.json, plain and without their base64, and with its caveats. Not part of the
-# gate.
-# groups: faults
-# wants: clang libclang-rt-dev python3
+# tests/peers/passes_from_c/fuzz.c. It begins with the texts of docs/vectors.json, plain and without their base64, and with its caveats.
+# pytestmark = [mark.faults, mark.needs("pass_c"), mark.wants("clang libclang-rt-dev python3")]
 set -eu
 here=$(CDPATH='' cd -P -- "$(dirname -- "$0")" && pwd)
 work=$(mktemp -d)

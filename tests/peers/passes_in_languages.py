@@ -3,10 +3,8 @@
 
 The vectors are each pass in each form, texts that are read as the same pass, texts that are none, and the verdict of each caveat on each request.
 Each pass is also minted and narrowed once more. libmacaroons and pymacaroons narrow and verify passes that the library mints, and the library
-passes that they make. The examples of bindings/ narrow the pass of README. Not part of the gate.
+passes that they make. The examples of bindings/ narrow the pass of README.
 """
-# groups: programs
-# wants: python3-pytest python3-pymacaroons mypy gcc libc6-dev pkg-config golang-go nodejs libmacaroons-dev
 
 import copy
 import ctypes
@@ -27,6 +25,9 @@ from pymacaroons.serializers import JsonSerializer
 
 import desk
 from reference import passes
+
+pytestmark = [pytest.mark.programs, pytest.mark.needs("passtool pass_c"),
+    pytest.mark.wants("python3-pymacaroons mypy gcc libc6-dev pkg-config golang-go nodejs libmacaroons-dev")]
 
 VECTORS = json.loads((desk.ROOT / "docs" / "vectors.json").read_text(encoding="utf-8"))
 NODE = Path("/usr/include/node")

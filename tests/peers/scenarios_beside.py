@@ -5,12 +5,12 @@ They know views, bookings and accounts, under passes in V2 with four kinds of ca
 
 A scenario is played up to the first line that they don't know, such as a cancellation. `clubdesk` carries out commands and listings, over the
 same file. The desk in C writes the same bytes as ours. The desk in Go writes the lines of a head in another order, and is left out if Go is
-missing. Not part of the gate.
+missing.
 
     tests/peers/scenarios_beside.py [FILE ..]
 """
-# groups: programs
-# wants: gcc libc6-dev libsqlite3-dev nettle-dev golang-go golang-github-mattn-go-sqlite3-dev golang-gopkg-macaroon.v2-dev
+# pytestmark = [mark.programs, mark.needs("clubdesk"),
+#     mark.wants("gcc libc6-dev libsqlite3-dev nettle-dev golang-go golang-github-mattn-go-sqlite3-dev golang-gopkg-macaroon.v2-dev")]
 
 import os
 import re
