@@ -1,58 +1,95 @@
 #!/usr/bin/env bats
-# `bin/check` runs `rt ci` and then tests/run, and names what failed.
+# `bin/check` runs `rt ci` and `tests/run quick`, and names what failed.
 #
-# It goes on if `rt ci` fails, and refuses arguments and a path without rt.
+# So does .ci/run. They go on if `rt ci` fails, sum the counts, count a part that breaks or never ends, and refuse arguments and a path without rt.
 #
-# It runs with stubs of rt and tests/run. Not part of the gate.
-# groups: quick
-# wants: bats
+# They run with stubs of rt and tests/run.
+# pytestmark = [mark.quick, mark.wants("bats")]
 
-# A copy of bin/check, with stubs that record their arguments and exit with the status in a file.
+# A copy of both, with stubs that record their arguments, print a line, and exit with a status.
 setup() {
     bats_require_minimum_version 1.5.0
-    mkdir -p "$BATS_TEST_TMPDIR/clone/bin" "$BATS_TEST_TMPDIR/clone/tests" "$BATS_TEST_TMPDIR/path"
+    mkdir -p "$BATS_TEST_TMPDIR/clone/bin" "$BATS_TEST_TMPDIR/clone/.ci" "$BATS_TEST_TMPDIR/clone/tests" "$BATS_TEST_TMPDIR/path"
     cd "$BATS_TEST_TMPDIR"
     cp "$BATS_TEST_DIRNAME/../../bin/check" clone/bin/
-    stub path/rt gate
-    stub clone/tests/run scripts
+    cp "$BATS_TEST_DIRNAME/../../.ci/run" clone/.ci/
+    stub path/rt gate 0 'rt: ok
+123 passed, 0 failed'
+    stub clone/tests/run scripts 0 'passed   0.1 s  lint
+12 passed, 0 failed, 3 skipped'
     PATH=$PWD/path:$PATH
-    exits 0 0
 }
 
-# stub FILE NAME: a program that writes its name, arguments and folder to `calls`, and exits with the status in the file NAME.
+# stub FILE NAME STATUS LINES: a program that writes its name, arguments and folder to `calls`, prints the lines, and exits with the status.
 stub() {
     # shellcheck disable=SC2016 # the stub's shell reads it
-    printf '#!/bin/sh\necho "%s $*, in $(basename "$PWD")" >>%s/calls\nexit "$(cat %s/%s)"\n' "$2" "$PWD" "$PWD" "$2" >"$1"
+    printf '#!/bin/sh\necho "%s $*, in $(basename "$PWD")" >>%s/calls\nprintf "%%s\\n" "%s"\nexit %s\n' "$2" "$PWD" "$4" "$3" >"$1"
     chmod +x "$1"
 }
-exits() { echo "$1" >gate; echo "$2" >scripts; }
-both_ran() { printf 'gate ci, in clone\nscripts , in clone\n' | cmp - calls; }
+both_ran() { printf 'gate ci, in clone\nscripts --built quick, in clone\n' | cmp - calls; }
 
 @test 'both pass' {
-    run -0 clone/bin/check
-    [ "${lines[-1]}" = 'check: every proof and every test passed' ]
+    run -0 --separate-stderr clone/bin/check
+    [ "${lines[-1]}" = '135 passed, 0 failed' ]
+    both_ran
+}
+
+@test 'the same from the top by .ci/run' {
+    run -0 --separate-stderr sh -c 'cd clone && exec .ci/run'
+    [ "${lines[-1]}" = '135 passed, 0 failed' ]
+    [ "${lines[1]}" = '123 passed, 0 failed' ]
     both_ran
 }
 
 @test 'a proof fails' {
-    exits 1 0
-    run -1 clone/bin/check
-    [ "${lines[-1]}" = 'check: failed: rt ci' ]
+    stub path/rt gate 1 '120 passed, 3 failed'
+    run -1 --separate-stderr clone/.ci/run
+    [ "${lines[-1]}" = '132 passed, 3 failed' ]
+    [ "${stderr_lines[-1]}" = 'check: failed: rt ci' ]
     both_ran
 }
 
 @test 'a test fails' {
-    exits 0 1
-    run -1 clone/bin/check
-    [ "${lines[-1]}" = 'check: failed: tests/run' ]
+    stub clone/tests/run scripts 1 '10 passed, 2 failed, 3 skipped'
+    run -1 --separate-stderr clone/.ci/run
+    [ "${lines[-1]}" = '133 passed, 2 failed' ]
+    [ "${stderr_lines[-1]}" = 'check: failed: tests/run quick' ]
     both_ran
 }
 
 @test 'both fail' {
-    exits 3 1
-    run -1 clone/bin/check
-    [ "${lines[-1]}" = 'check: failed: rt ci, tests/run' ]
+    stub path/rt gate 2 '0 passed, 1 failed'
+    stub clone/tests/run scripts 1 '10 passed, 2 failed, 0 skipped'
+    run -1 --separate-stderr clone/.ci/run
+    [ "${lines[-1]}" = '10 passed, 3 failed' ]
+    [ "${stderr_lines[-1]}" = 'check: failed: rt ci, tests/run quick' ]
     both_ran
+}
+
+@test 'a part that prints no counts, or no line' {
+    stub path/rt gate 137 'Killed'
+    stub clone/tests/run scripts 124 ''
+    run -1 --separate-stderr clone/.ci/run
+    [ "${lines[-1]}" = '0 passed, 2 failed' ]
+    stub path/rt gate 0 ''
+    run -1 --separate-stderr clone/.ci/run
+    [ "${lines[-1]}" = '0 passed, 2 failed' ]
+}
+
+@test 'a status that says otherwise than the counts' {
+    stub path/rt gate 1 '123 passed, 0 failed'
+    stub clone/tests/run scripts 0 '10 passed, 2 failed, 0 skipped'
+    run -1 --separate-stderr clone/.ci/run
+    [ "${lines[-1]}" = '133 passed, 3 failed' ]
+}
+
+@test 'tests that never end, and what they leave' {
+    sed -i 's/^MINUTES=.*/MINUTES=0.02/' clone/bin/check
+    # shellcheck disable=SC2016
+    printf '#!/bin/sh\nsleep 300 &\necho $! >left\nwait\n' >clone/tests/run
+    run -1 --separate-stderr timeout 60 clone/.ci/run
+    kill "$(cat clone/left)"
+    [ "${lines[-1]}" = '123 passed, 1 failed' ]
 }
 
 @test 'a path without rt' {
