@@ -23,6 +23,7 @@ import argparse
 import difflib
 import re
 import shutil
+import subprocess
 import sys
 from collections import defaultdict
 from itertools import groupby
@@ -308,7 +309,8 @@ class Audit:
 
     def calls(self):
         """Of each library the calls that our crates make of it, by name, with the promises below which they are made."""
-        kit = Path(shutil.which("rt") or "/").resolve().parent.parent / "rattle"
+        page = subprocess.run(["rt", "doc"], capture_output=True, text=True, check=False).stdout if shutil.which("rt") else ""
+        kit = Path(page.strip() or "/none").parent / "rattle"
         if not kit.is_dir():
             raise Fault("no toolchain: its libraries say which calls are theirs")
         below = {promise.number: self.libraries_below(promise) for promise in self.promises}
