@@ -12,6 +12,7 @@ import signal
 import socket
 import sqlite3
 import subprocess
+import sys
 import time
 from concurrent.futures import ThreadPoolExecutor
 from pathlib import Path
@@ -220,3 +221,20 @@ def paced(whole, step, what):
         yield done
         if (done + step) * 10 // whole > done * 10 // whole:
             print(f"{done + step} of {whole} {what}", flush=True)
+
+
+def serve(program, file, count, moment, *words):
+    """Serves for a shell script, which reads the port, until `count` connections have come or a signal ends this."""
+    with Server(program, file, int(count), "--at", moment, *words) as it:
+
+        def end(*_):
+            it.is_killed = True
+            os.kill(it.process.pid, it.killed_by)
+
+        signal.signal(signal.SIGTERM, end)
+        print(it.port, flush=True)
+        it.process.wait()
+
+
+if __name__ == "__main__":
+    serve(*sys.argv[1:])

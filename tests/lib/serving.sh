@@ -21,15 +21,12 @@ trap leave EXIT
 cd "$work" || exit 2
 mkfifo listening
 
-# serve FILE COUNT MOMENT [WORD..]: starts a server, with further options, which listens at $port once this is done. What it tells on
-# standard error lies in `fault`. `finish` waits for its end.
+# serve FILE COUNT MOMENT [WORD..]: starts a server, with further options, which listens at $port once this is done (tests/lib/desk.py).
+# `fault` has the reason if there is none, FILE.log what it writes on standard error. `finish` waits for its end.
 serve() {
-    file=$1 count=$2 moment=$3
-    shift 3
-    "$desk" serve "$file" --port 0 --count "$count" --at "$moment" "$@" >listening 2>fault &
+    /usr/bin/python3 -B "$here/../lib/desk.py" "$desk" "$@" >listening 2>fault &
     server=$!
-    read -r line <listening || { cat fault >&2; exit 1; }
-    port=${line##*:}
+    read -r port <listening || { cat fault >&2; exit 1; }
 }
 
 finish() {
