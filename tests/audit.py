@@ -33,8 +33,9 @@ sys.dont_write_bytecode = True
 sys.path.insert(0, str(Path(__file__).resolve().parent / "lib"))
 import shown
 from cited import Contracts, citations
-from definitions import COMPUTED, OF_SPECS, ROOT, Book, closure, owner_of
+from definitions import Book, closure, owner_of
 from more_edits import crates_below
+from spec_files import COMPUTED, OF_SPECS, ROOT
 
 PAGE = ROOT / "docs" / "AUDIT.md"
 PROMISES = ROOT / "docs" / "PROMISES.md"

@@ -37,7 +37,7 @@ sys.path.insert(0, str(Path(__file__).resolve().parent / "lib"))
 import more_edits
 import planted
 import prose
-from definitions import spelled_out
+from spec_files import spelled_out
 
 ROOT = Path(__file__).resolve().parent.parent
 os.chdir(ROOT)
