@@ -28,6 +28,15 @@ class NothingLeft(Fault):
     """A refusal since all is done already. An order that was broken off, and is given again, has then come to its end."""
 
 
+class Doubtful(Fault):
+    """A refusal to go on with an order that was broken off. Given once more, the order begins anew."""
+
+
+def doubtful(text, /, **values):
+    why = say(text, **values)
+    return Doubtful(REFUSED, say("refused", why=why), why)
+
+
 def nothing_left(text, /, **values):
     why = say(text, **values)
     return NothingLeft(REFUSED, say("refused", why=why), why)

@@ -2,10 +2,10 @@
 
 import collections
 
-from club_office.faults import USAGE, fault, nothing_left, refusal
+from club_office.faults import USAGE, doubtful, fault, nothing_left, refusal
 from club_office.lists import wants_row
 from club_office.texts import say
-from club_office.values import MOST_CHARGE, MOST_NUMBER, date_of
+from club_office.values import MOST_CHARGE, MOST_CREDIT, MOST_NUMBER, date_of
 
 
 # The weekday of the first day, 1970-01-01, from Monday on.
@@ -108,12 +108,29 @@ def plan_quota(db, words, _now):
 
 def plan_debit(db, words, _now):
     wants_row(db, "members", words.member)
+    return debit(db, words.member, words.points)
+
+
+def plan_rest_of_debit(db, words, left):
+    """Plans the rest of a debit that was broken off, by the member's row in its record. Nobody but the office changes a member's credits."""
+    wants_row(db, "members", words.member)
+    (credited,) = db.execute("SELECT credited FROM members WHERE name = ?", [words.member]).fetchone()
+    (was, is_now), = [[row[1] for row in rows] for table, _, *rows in left["rows"] if table == "members"]
+    if not is_now <= credited <= was or (was - credited) % MOST_CREDIT and credited != is_now:
+        raise doubtful("debited otherwise", member=words.member, moment=left["moment"])
+    return debit(db, words.member, credited - is_now)
+
+
+def debit(db, member, points):
+    """Takes points back, by as many commands as they need."""
     plan = Plan()
-    (balance,) = db.execute("SELECT max(credited - used, 0) FROM members WHERE name = ?", [words.member]).fetchone()
-    if words.points > balance:
-        raise refusal("balance is", member=words.member, balance=balance)
-    plan.tell("balance of", member=words.member, before=balance, then=balance - words.points)
-    plan.change(1, "UPDATE members SET credited = credited - ? WHERE name = ?", words.points, words.member)
+    (balance,) = db.execute("SELECT max(credited - used, 0) FROM members WHERE name = ?", [member]).fetchone()
+    if points > balance:
+        raise refusal("balance is", member=member, balance=balance)
+    plan.tell("balance of", member=member, before=balance, then=balance - points)
+    for begin in range(0, points, MOST_CREDIT):
+        part = min(MOST_CREDIT, points - begin)
+        plan.order(["debit", member, part], Edit("members", (member,), adds={"credited": -part}))
     return plan
 
 

@@ -71,6 +71,10 @@ REFUSALS = {
         "{order}: {said}. Give the order again: what is done isn't done twice",
         "{order}: {said}. Gib den Befehl noch einmal: was getan ist, geschieht nicht zweimal",
     ),
+    "debited otherwise": (
+        "{member} was credited otherwise since this was broken off on {moment}: look at `log {member}`. Given once more, the order begins anew",
+        "{member} bekam etwas anderes, seit das am {moment} abbrach: sieh in `log {member}` nach. Noch einmal gegeben, beginnt der Befehl von vorn",
+    ),
     "order failed": ("{order}: status {status}", "{order}: Status {status}"),
     "journal unread": ("the journal can't be read: {fault}", "das Journal lässt sich nicht lesen: {fault}"),
     # Names.

@@ -128,6 +128,16 @@ class Reopening(Correction):
         return ["reopen-slot", "court-1", day, "10-13"], []
 
 
+class Debit(Correction):
+    """Points that two commands take back."""
+
+    sql = "SELECT credited FROM members WHERE name = 'zoe'"
+
+    def made(self):
+        points = 1_000_000 + self.number
+        return ["debit", "zoe", str(points)], [(rows(self.sql)[0][0] - points,)]
+
+
 def killed_and_given_again(correction, programs):
     """A correction is done, and again after it was killed at each point. Then an undo puts back what the last one changed."""
     words, wanted = correction.next()
@@ -175,9 +185,20 @@ def outlives_its_order(correction, programs):
     same(f"{words}, once its command has ended", (again.returncode, rows(correction.sql)), (0, wanted))
 
 
-def undone(correction, words, before):
+def credited_meanwhile(correction):
+    """A debit isn't gone on with once the member was credited otherwise; given once more, it begins anew."""
+    words, _ = correction.next()
+    killed("3 before", [*words, "--yes"])
+    done("credit", "zoe", "7")
+    refused([*words, "--yes"], 1, "refused: zoe was credited otherwise since this was broken off")
+    before = rows(correction.sql)[0][0]
+    done(*words, "--yes")
+    same(f"{words} begins anew", rows(correction.sql), [(before - int(words[-1]),)])
+
+
+def undone(words, sql, before):
     same(f"{words} is undone", lines("undo", "--yes")[-1], "done")
-    same(f"{words} is undone: the club", rows(correction.sql), before)
+    same(f"{words} is undone: the club", rows(sql), before)
     refused(["undo", "--yes"], 1, "there is no correction to undo")
     whole(f"an undo of {words}")
 
@@ -185,22 +206,28 @@ def undone(correction, words, before):
 def make_club():
     configure()
     done("new")
-    for words in ("add-facility court-1 court 4 200 8 22", "add-member zoe 99", "credit zoe 100000", "add-member amy 5", "credit amy 10000"):
+    for words in ("add-facility court-1 court 4 200 8 22", "add-member zoe 99", "add-member amy 5", "credit amy 10000"):
         done(*words.split())
+    for _ in range(30):
+        done("credit", "zoe", "1000000")
 
 
 make_club()
 put_stoppers()
 server = Service()
 # Each with the programs that it runs: one copies the club, the others are its commands.
-corrections = [(Quota(), 2), (Reopening(), 3)]
-last = [(it, *killed_and_given_again(it, programs)) for it, programs in corrections]
-outlives_its_order(*corrections[0])
+quota, debit = Quota(), Debit()
+for correction, programs in ((quota, 2), (Reopening(), 3), (debit, 3)):
+    words, before = killed_and_given_again(correction, programs)
+outlives_its_order(debit, 3)
+credited_meanwhile(debit)
 same("the server goes on", server.starts, 1)
-same("what works are left", [it for folder in (Path("/dev/shm"), HOME) for it in folder.glob(".office-*")], [])
-words, _ = corrections[0][0].next()
-before = rows(Quota.sql)
-done(*words, "--yes")
-undone(corrections[0][0], words, before)
+same("what is left of copies", [it for folder in (Path("/dev/shm"), HOME) for it in folder.glob(".office-*")], [])
+for correction in (quota, debit):
+    before = rows(correction.sql)
+    words, _ = correction.next()
+    killed("2 after", [*words, "--yes"])
+    done(*words, "--yes")
+    undone(words, correction.sql, before)
 server.stop()
 leave()
