@@ -9,7 +9,7 @@ from club_office.plans import Plan, plan_rest_of_debit
 from club_office.texts import in_language, say
 from club_office.undoing import DONE, add, begin, broken_off, forget_undo, rows_edited
 
-CORRECTIONS = ("set-quota", "reopen-slot", "debit")
+CORRECTIONS = ("set-quota", "debit", "set-facility", "reopen-slot")
 # The status of clubdesk that says nothing of whether a command was done.
 NO_ANSWER = 8
 

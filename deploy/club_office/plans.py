@@ -152,9 +152,8 @@ def plan_facility(db, words, now):
         plan.tell("hours of", facility=words.facility, before=f"{opens}-{shuts}", then=f"{words.hours[0]}-{words.hours[1]}")
         opens, shuts = words.hours
     refuse_unfit(db, words.facility, places, opens, shuts, now)
-    plan.change(
-        1, "UPDATE facilities SET places = ?, price = ?, opens = ?, shuts = ? WHERE name = ?", places, price, opens, shuts, words.facility
-    )
+    numbers = {"places": places, "price": price, "opens": opens, "shuts": shuts}
+    plan.order(["set-facility", words.facility, *numbers.values()], Edit("facilities", (words.facility,), numbers))
     return plan
 
 

@@ -128,6 +128,15 @@ class Reopening(Correction):
         return ["reopen-slot", "court-1", day, "10-13"], []
 
 
+class Prices(Correction):
+    """A price, with the places and hours that the facility has."""
+
+    sql = "SELECT * FROM facilities"
+
+    def made(self):
+        return ["set-facility", "court-1", f"--price={self.number}", f"--hours=7-{10 + self.number}"], [("court-1", "court", 4, self.number, 7, 10 + self.number)]
+
+
 class Debit(Correction):
     """Points that two commands take back."""
 
@@ -139,7 +148,7 @@ class Debit(Correction):
 
 
 def killed_and_given_again(correction, programs):
-    """A correction is done, and again after it was killed at each point. Then an undo puts back what the last one changed."""
+    """A correction is done, and again after it was killed at each point."""
     words, wanted = correction.next()
     command, before = words[0], rows(correction.sql)
     stop_at("0 never")
@@ -149,7 +158,6 @@ def killed_and_given_again(correction, programs):
     same(f"{words}: the copy of before", rows_of_copy(command, correction.sql), before)
     for point in [f"{number} {how}" for number in range(1, programs + 1) for how in ("before", "after")] + ["output"]:
         words, wanted = correction.next()
-        before = rows(correction.sql)
         if point == "output":
             killed_at_its_output([*words, "--yes"])
         else:
@@ -159,7 +167,6 @@ def killed_and_given_again(correction, programs):
         same(f"{what}: the club", rows(correction.sql), wanted)
         same(f"{what}: the book", [line for line in book_lines() if line.endswith(" ".join(words))][-1:], [f"anna 0 {' '.join(words)}"])
     whole(f"{command}, killed")
-    return words, before
 
 
 def rows_of_copy(command, sql):
@@ -217,13 +224,14 @@ put_stoppers()
 server = Service()
 # Each with the programs that it runs: one copies the club, the others are its commands.
 quota, debit = Quota(), Debit()
-for correction, programs in ((quota, 2), (Reopening(), 3), (debit, 3)):
-    words, before = killed_and_given_again(correction, programs)
+prices = Prices()
+for correction, programs in ((quota, 2), (Reopening(), 3), (debit, 3), (prices, 2)):
+    killed_and_given_again(correction, programs)
 outlives_its_order(debit, 3)
 credited_meanwhile(debit)
 same("the server goes on", server.starts, 1)
 same("what is left of copies", [it for folder in (Path("/dev/shm"), HOME) for it in folder.glob(".office-*")], [])
-for correction in (quota, debit):
+for correction in (quota, debit, prices):
     before = rows(correction.sql)
     words, _ = correction.next()
     killed("2 after", [*words, "--yes"])
